@@ -1,0 +1,19 @@
+-- The account of a registrar.
+use Rattle.std.specs.Prelude.{ℕ, ◌+◌, ◌==◌, [], if◌then◌else◌}
+use Rattle.accounts.specs.declared.account.Account.{Account}
+
+-- a counter's next value, which stays at its greatest
+abbrev pub raised : ℕ → ℕ
+raised n = if n == 0xFFFF_FFFF_FFFF_FFFF then n else n + 1
+
+-- no lines, no messages, and nothing counted
+abbrev pub empty_account : Account
+empty_account = record { lines = []; queue = []; commands = 0; messages = 0; serial = 0 }
+
+-- one command more was answered
+abbrev pub counted : Account → Account
+counted a = record a { commands = raised a.commands }
+
+-- one object more was created
+abbrev pub numbered : Account → Account
+numbered a = record a { serial = raised a.serial }

@@ -1,0 +1,77 @@
+//! A registrar's account.
+ghost use Rattle.std.specs.Prelude.{◌≡◌};
+ghost use Rattle.accounts.specs.Account.{raised, empty_account, counted, numbered};
+
+use crate::line::Line;
+use crate::message::Message;
+use basis::list::Seq;
+use std::alloc::Global;
+
+/// What belongs to one registrar alone. Each counter stays at its greatest value.
+#[derive(Clone, Drop)]
+pub struct Account {
+    /// A bag: in the order of the lines themselves, and not of their arrival.
+    pub lines: Seq<Line>,
+    /// In the order of the messages.
+    pub queue: Seq<Message>,
+    /// The commands that were answered.
+    pub commands: u64,
+    /// The messages that commands brought.
+    pub messages: u64,
+    /// The objects that the registrar created.
+    pub serial: u64,
+}
+
+/// The next value of a counter.
+fn raised(counter: u64) -> u64
+    ensures { result ≡ raised counter }
+{
+    if counter == u64::MAX {
+        counter
+    } else {
+        counter + 1
+    }
+}
+
+impl Account {
+    /// An account with nothing in it.
+    pub fn empty(alloc: Global) -> Account
+        ensures { result ≡ empty_account }
+    {
+        Account {
+            lines: Seq::new(alloc),
+            queue: Seq::new(alloc),
+            commands: 0,
+            messages: 0,
+            serial: 0,
+        }
+    }
+
+    /// The number of the next command.
+    pub fn next_command(&self) -> u64
+        ensures { result ≡ raised self.now.commands }
+    {
+        raised(self.commands)
+    }
+
+    /// The number of the next object.
+    pub fn next_serial(&self) -> u64
+        ensures { result ≡ raised self.now.serial }
+    {
+        raised(self.serial)
+    }
+
+    /// Counts a command.
+    pub fn count_command(&mut self)
+        ensures { self.new ≡ counted self.old }
+    {
+        self.commands = raised(self.commands);
+    }
+
+    /// Counts an object.
+    pub fn take_serial(&mut self)
+        ensures { self.new ≡ numbered self.old }
+    {
+        self.serial = raised(self.serial);
+    }
+}

@@ -1,0 +1,10 @@
+//! The accounts of registrars: lines of money, a queue of messages, and counters.
+#![tactic(auto)]
+
+mod account;
+mod line;
+mod message;
+
+pub use account::Account;
+pub use line::{Line, LineKind};
+pub use message::{Message, MessageId, Notice};

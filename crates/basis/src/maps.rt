@@ -1,0 +1,147 @@
+//! Ordered maps as contracts see them: finite maps.
+ghost use Rattle.std.specs.Prelude.{◌≡◌, List, ℕ, IfOk, OnOk, OnErr, None};
+ghost use Rattle.std.specs.Option.{option_copied};
+ghost use Rattle.std.specs.FinMap as map;
+ghost use Rattle.std.specs.Map.Iter.{ShowsInOrder, deref, deref_pair};
+
+use crate::registrar::RegistrarNo;
+use crate::text::Text;
+use std::alloc::{AllocError, Global};
+use std::collections::BTreeMap;
+use std::collections::btree_map::{Iter, Values};
+use std::marker::Model;
+
+/// A map by names.
+#[derive(Drop)]
+pub struct NameMap<V> {
+    tree: BTreeMap<Text, V>,
+}
+
+impl<V> Model for NameMap<V> {
+    ghost use Rattle.std.specs.Ordering.{nat_cmp};
+    ghost use Rattle.std.specs.Cmp.Lexicographic.{slice_cmp};
+    ghost use Rattle.std.specs.FinMap as map;
+    ghost use Rattle.std.specs.Coded.{coded_list, coded_ℕ};
+
+    ghost Value = { map.FinMap (slice_cmp nat_cmp) V };
+
+    ghost coded = { map.code (coded_list coded_ℕ) V.code };
+
+    ghost view = { λ m. map.from_entries m.tree.entries };
+}
+
+impl<V: Drop> NameMap<V> {
+    pub fn new(alloc: Global) -> Self
+        ensures { result ≡ map.empty }
+    {
+        NameMap {
+            tree: BTreeMap::new(alloc),
+        }
+    }
+
+    pub fn get(&self, name: &Text) -> Option<&V>
+        ensures { option_copied result ≡ map.get self.now name.now }
+    {
+        self.tree.get(name)
+    }
+
+    /// The entries, in the order of their names.
+    pub fn iter(&self) -> Iter<'_, Text, V>
+        ensures rest { result ≡ map.entries self.now }
+        ensures runs { ShowsInOrder (deref_pair {K = List ℕ} {X = V}) }
+    {
+        self.tree.iter()
+    }
+
+    /// The values, in the order of their names.
+    pub fn values(&self) -> Values<'_, Text, V>
+        ensures rest { result ≡ map.values self.now }
+        ensures runs { ShowsInOrder (deref {X = V}) }
+    {
+        self.tree.values()
+    }
+
+    /// Puts a value under a name. Only a new name can fail.
+    pub fn insert(&mut self, name: Text, value: V) -> Result<(), AllocError>
+        ensures ok { OnOk result (self.new ≡ map.insert self.old name value) }
+        ensures err { OnErr result (self.new ≡ self.old) }
+        ensures only_new { OnErr result (map.get self.old name ≡ None) }
+    {
+        self.tree.insert(name, value)?;
+        Ok(())
+    }
+
+    pub fn remove(&mut self, name: &Text)
+        ensures { self.new ≡ map.remove self.old name.now }
+    {
+        let _ = self.tree.remove(name);
+    }
+
+    /// The same map in memory of its own. Values have to clone to themselves.
+    pub fn copy(&self) -> Result<Self, AllocError>
+    where
+        V: Clone,
+        requires { (v w : V) → V.is_clone v w → w ≡ v }
+        ensures { IfOk result (λ m. m ≡ self.now) }
+    {
+        Ok(NameMap {
+            tree: self.tree.clone()?,
+        })
+    }
+}
+
+/// A map by registrars' places.
+#[derive(Drop)]
+pub struct PlaceMap<V> {
+    tree: BTreeMap<u32, V>,
+}
+
+impl<V> Model for PlaceMap<V> {
+    ghost use Rattle.std.specs.Ordering.{nat_cmp};
+    ghost use Rattle.std.specs.FinMap as map;
+    ghost use Rattle.std.specs.Coded.{coded_ℕ};
+
+    ghost Value = { map.FinMap nat_cmp V };
+
+    ghost coded = { map.code coded_ℕ V.code };
+
+    ghost view = { λ m. map.from_entries m.tree.entries };
+}
+
+impl<V: Drop> PlaceMap<V> {
+    pub fn new(alloc: Global) -> Self
+        ensures { result ≡ map.empty }
+    {
+        PlaceMap {
+            tree: BTreeMap::new(alloc),
+        }
+    }
+
+    pub fn get(&self, place: RegistrarNo) -> Option<&V>
+        ensures { option_copied result ≡ map.get self.now place }
+    {
+        self.tree.get(&place.place())
+    }
+
+    /// Puts a value at a place. Only a new place can fail.
+    pub fn insert(&mut self, place: RegistrarNo, value: V) -> Result<(), AllocError>
+        ensures ok { OnOk result (self.new ≡ map.insert self.old place value) }
+        ensures err { OnErr result (self.new ≡ self.old) }
+        ensures only_new { OnErr result (map.get self.old place ≡ None) }
+    {
+        self.tree.insert(place.place(), value)?;
+        Ok(())
+    }
+
+    /// The same map in memory of its own. Values have to clone to themselves.
+    pub fn copy(&self) -> Result<Self, AllocError>
+    where
+        V: Clone,
+        requires { (v w : V) → V.is_clone v w → w ≡ v }
+        ensures { IfOk result (λ m. m ≡ self.now) }
+    {
+        Ok(PlaceMap {
+            tree: self.tree.clone()?,
+        })
+    }
+}

@@ -1,0 +1,5 @@
+pub mod Names
+pub mod Reading
+pub mod Rules
+pub mod Address
+pub mod Given

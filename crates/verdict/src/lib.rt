@@ -1,0 +1,13 @@
+//! What a command is answered: the registry as plain maps, what of it a registrar sees, the facts
+//! that a command is judged by, and the rules that refuse it.
+#![tactic(auto)]
+
+mod code;
+mod command;
+mod reply;
+
+pub use code::Code;
+pub use command::{Command, NewDomain, Request};
+pub use reply::{
+    CheckResult, Created, Data, DomainHidden, DomainInfo, Reason, Reply, ServerTag, TransferInfo,
+};

@@ -1,0 +1,87 @@
+//! What a reply says, as plain records.
+
+use crate::code::Code;
+use basis::list::Seq;
+use basis::text::Text;
+use calendar::Moment;
+use objects::{Deletion, DomainFace, Transfer};
+
+/// A reply to a command.
+#[derive(Clone, Drop)]
+pub struct Reply {
+    /// The command's own identifier (`clTRID`), where it was sent well formed.
+    pub tag: Option<Text>,
+    pub code: Code,
+    pub content: Option<Data>,
+    pub server_tag: ServerTag,
+}
+
+/// The registry's identifier of a command (`svTRID`): the caller's id and the number of its command.
+#[derive(Clone, Drop)]
+pub struct ServerTag {
+    pub id: Text,
+    pub number: u64,
+}
+
+/// What a reply tells beside its code.
+#[derive(Clone, Drop)]
+pub enum Data {
+    /// In the order in which the names were sent.
+    Checked(Seq<CheckResult>),
+    Created(Created),
+    Domain(DomainInfo),
+}
+
+/// Whether a name could be created: it could where there is no reason against it.
+#[derive(Clone, Drop)]
+pub struct CheckResult {
+    pub name: Text,
+    pub reason: Option<Reason>,
+}
+
+/// Why a name can't be created.
+#[derive(Clone, Copy, Debug, PartialEq, Eq, Drop)]
+pub enum Reason {
+    /// The zone refuses such names.
+    Policy,
+    /// There is such an object.
+    InUse,
+}
+
+/// A new object. Expiry and charge are a domain's alone.
+#[derive(Clone, Drop)]
+pub struct Created {
+    pub name: Text,
+    pub created: Moment,
+    pub expires: Option<Moment>,
+    /// In whole cents.
+    pub charge: Option<u64>,
+}
+
+/// What info tells of a domain.
+#[derive(Clone, Drop)]
+pub struct DomainInfo {
+    pub face: DomainFace,
+    /// The sponsor's id.
+    pub sponsor: Text,
+    /// The hosts below the domain.
+    pub subordinate: Seq<Text>,
+    pub hidden: Option<DomainHidden>,
+}
+
+/// What the face of a domain leaves out.
+#[derive(Clone, Drop)]
+pub struct DomainHidden {
+    /// Told to the sponsor alone.
+    pub secret: Option<Text>,
+    pub transfer: Option<TransferInfo>,
+    pub deletion: Option<Deletion>,
+}
+
+/// The last transfer of an object, with the ids of both sides.
+#[derive(Clone, Drop)]
+pub struct TransferInfo {
+    pub transfer: Transfer,
+    pub requester: Text,
+    pub loser: Text,
+}
