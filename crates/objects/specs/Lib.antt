@@ -1,0 +1,6 @@
+pub mod Statuses
+pub mod Transfers
+pub mod Domains
+pub mod Contacts
+pub mod Hosts
+pub mod Sight

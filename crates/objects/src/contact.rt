@@ -50,6 +50,6 @@ pub struct ContactFace {
     pub created: Moment,
     pub transferred: Option<Moment>,
     pub updated: Option<Moment>,
-    /// The statuses that were set, and `pendingTransfer`.
+    /// The statuses that are shown, but `linked`.
     pub statuses: Seq<Status>,
 }

@@ -1,12 +1,19 @@
 //! Domains (RFC 5731).
+ghost use Rattle.std.specs.Prelude.{◌≡◌, ◌==◌, ◌||◌, IfOk, filter};
+ghost use Rattle.std.specs.Option.{option_copied};
+ghost use Rattle.objects.specs.Domains.{expiry, shows, shown, face_of};
+ghost use Rattle.objects.specs.Sight.{is_party, is_right, domain_as};
+ghost use Rattle.objects.specs.Transfers as transfers;
 
 use crate::roid::Roid;
-use crate::status::{Rgp, Status};
+use crate::sight::Seen;
+use crate::status::{ALL, Rgp, Status, has_status};
 use crate::transfer::Transfer;
 use basis::list::Seq;
 use basis::registrar::RegistrarNo;
 use basis::text::Text;
 use calendar::Moment;
+use std::alloc::{AllocError, Global};
 
 /// The contacts and hosts that a domain names. The lists are in the order of their bytes, and none
 /// names one thing twice.
@@ -58,4 +65,141 @@ pub struct DomainFace {
     pub statuses: Seq<Status>,
     pub rgp: Seq<Rgp>,
     pub links: Links,
+}
+
+impl Domain {
+    /// The moment to which it is registered.
+    pub fn expiry(&self) -> Moment
+        ensures { result ≡ expiry self.now }
+    {
+        self.created.plus_years_capped(self.years)
+    }
+
+    /// Whether its last transfer is pending.
+    pub fn is_pending_transfer(&self) -> bool
+        ensures { result ≡ transfers.is_pending self.now.transfer }
+    {
+        match &self.transfer {
+            None => false,
+            Some(transfer) => transfer.is_pending(),
+        }
+    }
+
+    /// Whether it shows the status.
+    pub fn shows(&self, status: Status) -> bool
+        ensures { result ≡ shows self.now status }
+    {
+        match status {
+            Status::Inactive => self.links.hosts.is_empty(),
+            Status::Linked => false,
+            Status::Fine => self.has_no_status(),
+            Status::PendingDelete => self.deletion.is_some(),
+            Status::PendingTransfer => self.is_pending_transfer(),
+            _ => has_status(self.statuses.as_slice(), status),
+        }
+    }
+
+    fn has_no_status(&self) -> bool
+        ensures { result ≡ shows self.now Status.Fine }
+    {
+        self.statuses.is_empty()
+            && !self.links.hosts.is_empty()
+            && !self.deletion.is_some()
+            && !self.is_pending_transfer()
+    }
+
+    /// The statuses that it shows.
+    pub fn shown(&self, alloc: Global) -> Result<Seq<Status>, AllocError>
+        ensures { IfOk result (λ statuses. statuses ≡ shown self.now) }
+    {
+        Ok(Seq::from_vec(shown_among(alloc, self, &ALL)?))
+    }
+
+    /// What everyone may know of it.
+    pub fn face(&self, alloc: Global) -> Result<DomainFace, AllocError>
+        ensures { IfOk result (λ face. face ≡ face_of self.now) }
+    {
+        Ok(DomainFace {
+            name: self.name.clone()?,
+            roid: self.roid,
+            sponsor: self.sponsor,
+            created: self.created,
+            expires: self.expiry(),
+            transferred: self.transferred,
+            updated: self.updated,
+            statuses: self.shown(alloc)?,
+            rgp: Seq::new(alloc),
+            links: self.links.clone()?,
+        })
+    }
+
+    /// Whether the registrar sponsors it.
+    pub fn is_sponsored_by(&self, registrar: RegistrarNo) -> bool
+        ensures { result ≡ (self.now.sponsor == registrar) }
+    {
+        self.sponsor == registrar
+    }
+
+    /// Whether the registrar sponsors it or a pending transfer brings it there.
+    fn is_party(&self, registrar: RegistrarNo) -> bool
+        ensures { result ≡ is_party registrar self.now.sponsor self.now.transfer }
+    {
+        if self.sponsor == registrar {
+            return true;
+        }
+        match &self.transfer {
+            None => false,
+            Some(transfer) => transfer.is_incoming(registrar),
+        }
+    }
+
+    /// Whether the secret was presented, and is its own.
+    pub fn is_opened_by(&self, presented: Option<&Text>) -> bool
+        ensures { result ≡ is_right (option_copied presented.entry) self.now.secret }
+    {
+        match presented {
+            None => false,
+            Some(secret) => *secret == self.secret,
+        }
+    }
+
+    fn is_seen_in_full(&self, registrar: RegistrarNo, presented: Option<&Text>) -> bool
+        ensures { result ≡ (is_party registrar self.now.sponsor self.now.transfer || is_right (option_copied presented.entry) self.now.secret) }
+    {
+        self.is_party(registrar) || self.is_opened_by(presented)
+    }
+
+    /// What the registrar sees of it.
+    pub fn seen_by(
+        &self,
+        alloc: Global,
+        registrar: RegistrarNo,
+        presented: Option<&Text>,
+    ) -> Result<Seen<Domain, DomainFace>, AllocError>
+        ensures { IfOk result (λ seen. seen ≡ domain_as registrar (option_copied presented.entry) self.now) }
+    {
+        if self.is_seen_in_full(registrar, presented) {
+            return Ok(Seen::Full(self.clone()?));
+        }
+        match &self.transfer {
+            Some(transfer) if transfer.names(registrar) => {
+                Ok(Seen::Named(self.face(alloc)?, *transfer))
+            }
+            _ => Ok(Seen::Public(self.face(alloc)?)),
+        }
+    }
+}
+
+fn shown_among(
+    alloc: Global,
+    domain: &Domain,
+    statuses: &[Status],
+) -> Result<Vec<Status>, AllocError>
+    ensures { IfOk result (λ found. found.items ≡ filter (shows domain.now) statuses.now) }
+{
+    statuses
+        .iter()
+        .copied()
+        .filter(|status| domain.shows(*status))
+        .collect(alloc)
 }

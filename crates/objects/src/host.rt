@@ -1,4 +1,6 @@
 //! Hosts (RFC 5732).
+ghost use Rattle.std.specs.Prelude.{◌≡◌};
+ghost use Rattle.objects.specs.Hosts as spec;
 
 use crate::roid::Roid;
 use crate::status::Status;
@@ -21,4 +23,16 @@ pub struct Host {
     pub statuses: Seq<Status>,
     /// Addresses in canonical text, in the order of their bytes.
     pub addresses: Seq<Text>,
+}
+
+/// Whether a host's name lies below a domain's.
+pub fn is_below(domain: &Text, host: &Text) -> bool
+    ensures { result ≡ spec.is_below domain.now host.now }
+{
+    let domain = domain.as_str().as_bytes();
+    let host = host.as_str().as_bytes();
+    if host.len() <= domain.len() || !host.ends_with(domain) {
+        return false;
+    }
+    host[host.len() - domain.len() - 1] == b'.'
 }

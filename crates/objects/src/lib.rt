@@ -15,8 +15,8 @@ mod transfer;
 
 pub use contact::{Contact, ContactFace, Postal};
 pub use domain::{Deletion, Domain, DomainFace, Links};
-pub use host::Host;
+pub use host::{Host, is_below};
 pub use roid::{ObjectKind, Roid};
 pub use sight::Seen;
-pub use status::{Rgp, Status};
+pub use status::{Rgp, Status, has_status};
 pub use transfer::{Transfer, TransferState};

@@ -1,4 +1,6 @@
 //! Transfers of objects between registrars (RFC 5730, 2.9.3.4).
+ghost use Rattle.std.specs.Prelude.{◌≡◌, Some};
+ghost use Rattle.objects.specs.Transfers as spec;
 
 use basis::registrar::RegistrarNo;
 use calendar::Moment;
@@ -24,4 +26,34 @@ pub struct Transfer {
     /// When it is due while it is pending, and when it was acted on otherwise.
     pub acted: Moment,
     pub state: TransferState,
+}
+
+impl TransferState {
+    fn is_pending(self) -> bool
+        ensures { result ≡ spec.is_pending_state self }
+    {
+        matches!(self, TransferState::Pending)
+    }
+}
+
+impl Transfer {
+    pub fn is_pending(&self) -> bool
+        ensures { result ≡ spec.is_pending_state self.now.state }
+    {
+        self.state.is_pending()
+    }
+
+    /// Whether it is pending and brings the object to the registrar.
+    pub fn is_incoming(&self, registrar: RegistrarNo) -> bool
+        ensures { result ≡ spec.is_incoming registrar (Some self.now) }
+    {
+        self.is_pending() && self.requester == registrar
+    }
+
+    /// Whether the registrar asked for it or loses the object by it.
+    pub fn names(&self, registrar: RegistrarNo) -> bool
+        ensures { result ≡ spec.names registrar self.now }
+    {
+        self.requester == registrar || self.loser == registrar
+    }
 }

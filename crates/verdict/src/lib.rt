@@ -4,10 +4,16 @@
 
 mod code;
 mod command;
+mod facts;
+mod refusal;
 mod reply;
+mod verdict;
 
 pub use code::Code;
 pub use command::{Command, NewDomain, Request};
+pub use facts::{AccountFacts, DomainFacts, Facts};
+pub use refusal::{Class, CAUSES, Cause, Refusal, first_refusal};
+pub use verdict::{Verdict, id_of, judge};
 pub use reply::{
     CheckResult, Created, Data, DomainHidden, DomainInfo, Reason, Reply, ServerTag, TransferInfo,
 };

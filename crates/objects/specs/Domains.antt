@@ -1,0 +1,46 @@
+-- Domains (RFC 5731).
+use Rattle.std.specs.Prelude.{ℕ, Bool, true, false, not, ◌&&◌, List, [], ◌∷◌, is_some, Option, filter, length, ◌==◌}
+use Rattle.calendar.specs.Moment.{plus_years, capped}
+use Rattle.objects.specs.declared.status.Status.{Status}
+use Rattle.objects.specs.declared.status.Status.TheVariants.{Inactive, Linked, Fine, PendingDelete, PendingTransfer}
+use Rattle.objects.specs.declared.domain.Domain.{Domain}
+use Rattle.objects.specs.declared.domain.DomainFace.{DomainFace}
+use Rattle.objects.specs.Statuses.{all_statuses, has_status}
+use Rattle.objects.specs.Transfers.{is_pending}
+
+-- The moment to which a domain is registered: its years after its creation (RFC 5731, 2.5). What
+-- lies past the last moment counts as the last.
+abbrev pub expiry : Domain → ℕ
+expiry d = capped (plus_years d.created d.years)
+
+abbrev pub is_empty : {A : Type 0} → List A → Bool
+is_empty xs = length xs == 0
+
+-- A domain shows the statuses that were set and those that follow: inactive without hosts,
+-- pendingDelete once deleted, pendingTransfer, and ok where there is no other.
+abbrev pub shows : Domain → Status → Bool
+shows d Inactive = is_empty d.links.hosts
+shows d Linked = false
+shows d Fine = is_empty d.statuses && not (is_empty d.links.hosts) && not (is_some d.deletion) && not (is_pending d.transfer)
+shows d PendingDelete = is_some d.deletion
+shows d PendingTransfer = is_pending d.transfer
+shows d status = has_status d.statuses status
+
+abbrev pub shown : Domain → List Status
+shown d = filter (shows d) all_statuses
+
+-- What everyone may know of a domain. No grace runs and nothing is in redemption as long as no
+-- money is charged and no domain is deleted.
+abbrev pub face_of : Domain → DomainFace
+face_of d = record {
+  name = d.name;
+  roid = d.roid;
+  sponsor = d.sponsor;
+  created = d.created;
+  expires = expiry d;
+  transferred = d.transferred;
+  updated = d.updated;
+  statuses = shown d;
+  rgp = [];
+  links = d.links;
+}

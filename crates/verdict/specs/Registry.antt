@@ -1,0 +1,35 @@
+-- The registry as plain maps.
+use Rattle.std.specs.Prelude.{ℕ, max, unwrap_or}
+use Rattle.std.specs.Ordering.{nat_cmp}
+use Rattle.std.specs.Cmp.Lexicographic.{slice_cmp}
+use Rattle.std.specs.FinMap.{FinMap, get}
+use Rattle.objects.specs.declared.contact.Contact.{Contact}
+use Rattle.objects.specs.declared.host.Host.{Host}
+use Rattle.objects.specs.declared.domain.Domain.{Domain}
+use Rattle.accounts.specs.declared.account.Account.{Account}
+use Rattle.accounts.specs.Account.{empty_account}
+
+-- Contacts, hosts and domains by canonical name, accounts by the place of their registrar, and the
+-- latest moment that was seen.
+pub record Registry : Type 0 where
+  pub contacts : FinMap (slice_cmp nat_cmp) Contact
+  pub hosts : FinMap (slice_cmp nat_cmp) Host
+  pub domains : FinMap (slice_cmp nat_cmp) Domain
+  pub accounts : FinMap nat_cmp Account
+  pub clock : ℕ
+
+-- a registrar's account
+abbrev pub account_of : ℕ → Registry → Account
+account_of r s = unwrap_or (get s.accounts r) empty_account
+
+-- What time does to a registry up to a moment. Nothing lapses yet: a moment moves the clock.
+abbrev pub lapse : ℕ → Registry → Registry
+lapse t s = record s { clock = t }
+
+-- the registry as a call at a moment finds it: a moment before the clock counts as the clock
+abbrev pub lapsed : ℕ → Registry → Registry
+lapsed moment s = lapse (max moment s.clock) s
+
+-- The registry with all that is due by its own clock. Stores with one `now` are one registry.
+abbrev pub now : Registry → Registry
+now s = lapse s.clock s

@@ -1,0 +1,30 @@
+-- What a command is answered.
+use Rattle.std.specs.Prelude.{ℕ, List, Option, Some, None}
+use Rattle.policy.specs.Rules.{PolicyRules}
+use Rattle.verdict.specs.declared.code.Code.{Code}
+use Rattle.verdict.specs.declared.code.Code.TheVariants.{Completed}
+use Rattle.verdict.specs.declared.command.Command.{Command}
+use Rattle.verdict.specs.declared.command.Command.TheVariants.{Bad, Asked}
+use Rattle.verdict.specs.declared.facts.Facts.{Facts}
+use Rattle.verdict.specs.declared.reply.Data.{Data}
+use Rattle.verdict.specs.declared.verdict.Verdict.{Verdict}
+use Rattle.verdict.specs.Refusals.{first_refusal}
+use Rattle.verdict.specs.Rules.{refusals, accepted}
+
+abbrev pub refused : Code → Verdict
+refused code = record { code = code; content = None }
+
+-- the code of the first refusal, or what an accepted command is told
+abbrev pub unless_refused : Option Code → Option Data → Verdict
+unless_refused (Some code) content = refused code
+unless_refused None content = record { code = Completed; content = content }
+
+-- what a registrar's command at a moment is answered
+abbrev pub judged : PolicyRules → ℕ → ℕ → Command → Facts → Verdict
+judged p r t (Bad tag code) f = refused code
+judged p r t (Asked tag request) f = unless_refused (first_refusal (refusals r request f)) (accepted p r t request f)
+
+-- the command's own identifier
+abbrev pub tag_of : Command → Option (List ℕ)
+tag_of (Bad tag code) = tag
+tag_of (Asked tag request) = tag
