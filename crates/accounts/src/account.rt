@@ -22,8 +22,8 @@ pub struct Account {
     pub serial: u64,
 }
 
-/// The next value of a counter.
-fn raised(counter: u64) -> u64
+/// The next value of a counter, which stays at its greatest.
+pub fn raised(counter: u64) -> u64
     ensures { result ≡ raised counter }
 {
     if counter == u64::MAX {
@@ -45,20 +45,6 @@ impl Account {
             messages: 0,
             serial: 0,
         }
-    }
-
-    /// The number of the next command.
-    pub fn next_command(&self) -> u64
-        ensures { result ≡ raised self.now.commands }
-    {
-        raised(self.commands)
-    }
-
-    /// The number of the next object.
-    pub fn next_serial(&self) -> u64
-        ensures { result ≡ raised self.now.serial }
-    {
-        raised(self.serial)
     }
 
     /// Counts a command.

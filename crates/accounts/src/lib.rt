@@ -5,6 +5,6 @@ mod account;
 mod line;
 mod message;
 
-pub use account::Account;
+pub use account::{Account, raised};
 pub use line::{Line, LineKind};
 pub use message::{Message, MessageId, Notice};

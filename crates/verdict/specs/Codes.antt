@@ -1,5 +1,5 @@
 -- The result codes (RFC 5730, 3).
-use Rattle.std.specs.Prelude.{ℕ, List, codes}
+use Rattle.std.specs.Prelude.{ℕ, Bool, nat_lt, List, codes}
 use Rattle.verdict.specs.declared.code.Code.{Code}
 use Rattle.verdict.specs.declared.code.Code.TheVariants.{Completed, CompletedActionPending, CompletedNoMessages, CompletedAckToDequeue, CompletedEndingSession, UnknownCommand, SyntaxError, UseError, ParameterMissing, ParameterRange, ParameterSyntax, UnimplementedVersion, BillingFailure, NotEligibleForRenewal, NotEligibleForTransfer, AuthenticationError, AuthorizationError, InvalidAuthorization, PendingTransfer, NotPendingTransfer, ObjectExists, ObjectMissing, StatusProhibits, AssociationProhibits, ParameterPolicy, DataManagementPolicy, CommandFailed, CommandFailedClosing}
 
@@ -62,3 +62,7 @@ message_of ParameterPolicy = codes "Parameter value policy error"
 message_of DataManagementPolicy = codes "Data management policy violation"
 message_of CommandFailed = codes "Command failed"
 message_of CommandFailedClosing = codes "Command failed; server closing connection"
+
+-- codes below 2000 say that a command was carried out (RFC 5730, 3)
+abbrev pub is_accepted : Code → Bool
+is_accepted code = nat_lt (number_of code) 2000

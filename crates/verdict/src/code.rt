@@ -1,6 +1,6 @@
 //! Result codes (RFC 5730, 3).
 ghost use Rattle.std.specs.Prelude.{◌≡◌};
-ghost use Rattle.verdict.specs.Codes.{number_of, message_of};
+ghost use Rattle.verdict.specs.Codes.{number_of, message_of, is_accepted};
 
 /// A result code.
 #[derive(Clone, Copy, Debug, PartialEq, Eq, Drop)]
@@ -70,6 +70,13 @@ impl Code {
             Code::CommandFailed => 2400,
             Code::CommandFailedClosing => 2500,
         }
+    }
+
+    /// Whether the command was carried out.
+    pub fn is_accepted(self) -> bool
+        ensures { result ≡ is_accepted self }
+    {
+        self.number() < 2000
     }
 
     /// The text of the code.

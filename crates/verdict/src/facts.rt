@@ -2,8 +2,10 @@
 ghost use Rattle.std.specs.Prelude.{◌≡◌, find};
 ghost use Rattle.std.specs.Option.{option_copied};
 ghost use Rattle.std.specs.Str.{bytes_eq};
+ghost use Rattle.accounts.specs.Account.{raised};
 ghost use Rattle.verdict.specs.Facts as spec;
 
+use accounts::raised;
 use basis::list::Seq;
 use basis::text::Text;
 use objects::{Domain, DomainFace, Seen};
@@ -13,6 +15,22 @@ use objects::{Domain, DomainFace, Seen};
 pub struct AccountFacts {
     pub commands: u64,
     pub serial: u64,
+}
+
+impl AccountFacts {
+    /// The number of the caller's next object.
+    pub fn next_serial(&self) -> u64
+        ensures { result ≡ raised self.now.serial }
+    {
+        raised(self.serial)
+    }
+
+    /// The number of the caller's next command.
+    pub fn next_command(&self) -> u64
+        ensures { result ≡ raised self.now.commands }
+    {
+        raised(self.commands)
+    }
 }
 
 /// What the caller sees at a domain's name, and the hosts below that name.

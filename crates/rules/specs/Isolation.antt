@@ -1,0 +1,15 @@
+-- What a registrar can't tell apart stays so.
+use Rattle.std.specs.Prelude.{◌≡◌, ℕ}
+use Rattle.policy.specs.Rules.{PolicyRules}
+use Rattle.rules.specs.Steps.{answer, effect}
+use Rattle.verdict.specs.declared.command.Command.{Command}
+use Rattle.verdict.specs.declared.reply.Reply.{Reply}
+use Rattle.verdict.specs.Registry.{Registry, lapsed, now}
+use Rattle.verdict.specs.View.{view, view_for}
+
+-- A registrar's command at a moment was answered, and one registry became another. In every
+-- registry that shows the registrar the same at that moment, the rules give the same reply, and
+-- what the registrar sees afterwards is the same again.
+pub record IsIsolated (p : PolicyRules) (r : ℕ) (c : Command) (moment : ℕ) (before after : Registry) (reply : Reply) : Type 0 where
+  pub same_reply : (other : Registry) → view_for r c (lapsed moment other) ≡ view_for r c (lapsed moment before) → reply ≡ answer p r c (lapsed moment other)
+  pub same_view : (other : Registry) → view_for r c (lapsed moment other) ≡ view_for r c (lapsed moment before) → view r (now after) ≡ view r (now (effect p r c (lapsed moment other)))

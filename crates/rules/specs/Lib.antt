@@ -1,0 +1,4 @@
+pub mod Changes
+pub mod Decisions
+pub mod Steps
+pub mod Isolation

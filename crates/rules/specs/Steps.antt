@@ -1,0 +1,36 @@
+-- One step of the registry: the rules, applied to what they may see.
+use Rattle.std.specs.Prelude.{ℕ, List, Option}
+use Rattle.accounts.specs.Account.{raised}
+use Rattle.policy.specs.Rules.{PolicyRules}
+use Rattle.rules.specs.declared.decision.Decision.{Decision}
+use Rattle.rules.specs.Changes.{changed_all}
+use Rattle.rules.specs.Decisions.{decided}
+use Rattle.verdict.specs.declared.command.Command.{Command}
+use Rattle.verdict.specs.declared.facts.Facts.{Facts}
+use Rattle.verdict.specs.declared.reply.Reply.{Reply}
+use Rattle.verdict.specs.declared.verdict.Verdict.{Verdict}
+use Rattle.verdict.specs.Facts.{facts}
+use Rattle.verdict.specs.Registry.{Registry, account_of, lapsed}
+use Rattle.verdict.specs.Rules.{id_of}
+use Rattle.verdict.specs.Verdicts.{tag_of}
+
+-- the decision on a registrar's command in a registry
+abbrev pub decision : PolicyRules → ℕ → Command → Registry → Decision
+decision p r c s = decided p r s.clock c (facts r c s)
+
+-- the reply to a verdict, numbered by the caller's own commands
+abbrev pub reply_of : PolicyRules → ℕ → Command → Verdict → ℕ → Reply
+reply_of p r c v commands = record {
+  tag = tag_of c;
+  code = v.code;
+  content = v.content;
+  server_tag = record { id = id_of p r; number = raised commands };
+}
+
+-- what a registrar's command is answered
+abbrev pub answer : PolicyRules → ℕ → Command → Registry → Reply
+answer p r c s = reply_of p r c (decision p r c s).verdict (account_of r s).commands
+
+-- what it leaves
+abbrev pub effect : PolicyRules → ℕ → Command → Registry → Registry
+effect p r c s = changed_all (decision p r c s).changes s
