@@ -8,7 +8,7 @@ use crate::registrar::RegistrarNo;
 use crate::text::Text;
 use std::alloc::{AllocError, Global};
 use std::collections::BTreeMap;
-use std::collections::btree_map::{Iter, Values};
+use std::collections::btree_map::{Iter, Keys, Values};
 use std::marker::Model;
 
 /// A map by names.
@@ -51,6 +51,14 @@ impl<V: Drop> NameMap<V> {
         ensures runs { ShowsInOrder (deref_pair {K = List ℕ} {X = V}) }
     {
         self.tree.iter()
+    }
+
+    /// The names, in their order.
+    pub fn keys(&self) -> Keys<'_, Text, V>
+        ensures rest { result ≡ map.keys self.now }
+        ensures runs { ShowsInOrder (deref {X = List ℕ}) }
+    {
+        self.tree.keys()
     }
 
     /// The values, in the order of their names.
@@ -131,6 +139,12 @@ impl<V: Drop> PlaceMap<V> {
     {
         self.tree.insert(place.place(), value)?;
         Ok(())
+    }
+
+    pub fn remove(&mut self, place: RegistrarNo)
+        ensures { self.new ≡ map.remove self.old place }
+    {
+        let _ = self.tree.remove(&place.place());
     }
 
     /// The same map in memory of its own. Values have to clone to themselves.

@@ -5,6 +5,9 @@ ghost use Rattle.std.specs.Prelude.{◌≡◌};
 ghost use Rattle.std.specs.Option.{option_copied};
 ghost use Rattle.policy.specs.Rules.{id_at};
 
+mod terms;
+pub use terms::Terms;
+
 use basis::list::Seq;
 use basis::registrar::RegistrarNo;
 use basis::text::Text;
@@ -22,11 +25,6 @@ impl Model for Policy {
     ghost Value = { PolicyRules };
 
     ghost view = { λ p. record { ids = p.ids } };
-}
-
-#[derive(Clone, Drop)]
-pub struct Terms {
-    pub ids: Seq<Text>,
 }
 
 impl Policy {

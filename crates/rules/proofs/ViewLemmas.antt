@@ -1,6 +1,6 @@
 -- The facts of a command lie in the view, and each change is seen by the view alone.
 use Rattle.std.proofs.Common.{◌≡◌, ℕ, Bool, true, false, cond, List, [], ◌∷◌, map, filter, Option, Some, None, refl, sym, ap, ◌∙◌}
-use Rattle.std.specs.Prelude.{unwrap_or}
+use Rattle.std.specs.Prelude.{max, unwrap_or}
 use Rattle.std.specs.Cmp.{nat_cmp_total, Equal-is}
 use Rattle.std.specs.Cmp.Lexicographic.{slice_cmp, nat_list_cmp_total}
 use Rattle.std.specs.FinMap.{get, insert, keys, get-insert, nat_cmp-IsAntisymmetric}
@@ -13,8 +13,8 @@ use Rattle.names.specs.Given.{name_of}
 use Rattle.objects.specs.Hosts.{is_below}
 use Rattle.objects.specs.Sight.{contact_as, domain_as}
 use Rattle.rules.specs.declared.decision.Change.{Change}
-use Rattle.rules.specs.declared.decision.Change.TheVariants.{PutDomain, CountCommand, TakeSerial}
-use Rattle.rules.specs.Changes.{changed, changed_all, with_account}
+use Rattle.rules.specs.declared.decision.Change.TheVariants.{MoveClock, OpenAccount, PutDomain, CountCommand, TakeSerial}
+use Rattle.rules.specs.Changes.{changed, changed_all, with_account, itself}
 use Rattle.rules.proofs.SightLemmas.{forget, forget-domain, forget-contact}
 use Rattle.verdict.specs.declared.command.Command.{Command}
 use Rattle.verdict.specs.declared.facts.Facts.{Facts}
@@ -63,6 +63,8 @@ abbrev own : ℕ → ℕ → (Account → Account) → Account → Account
 own r other f a = cond (eq_by_cmp nat_cmp r other) (f a) a
 
 seen_change : ℕ → Change → View → View
+seen_change r (MoveClock t) v = record v { clock = max t v.clock }
+seen_change r (OpenAccount other) v = record v { account = own r other itself v.account }
 seen_change r (PutDomain d) v = record v { domains = insert v.domains d.name (domain_as r None d) }
 seen_change r (CountCommand other) v = record v { account = own r other counted v.account }
 seen_change r (TakeSerial other) v = record v { account = own r other numbered v.account }
@@ -85,6 +87,8 @@ account_of-with_account r other f s =
 -- to make a change and to look is to look and to see the change
 view-changed : (r : ℕ) (change : Change) (s : Registry) → view r (changed change s) ≡ seen_change r change (view r s)
 unfolding seen_change
+view-changed r (MoveClock t) s = refl
+view-changed r (OpenAccount other) s = ap (λ a. record (view r s) { account = a }) (account_of-with_account r other itself s)
 view-changed r (PutDomain d) s = ap (λ m. record (view r s) { domains = m }) (map_values-insert (slice_cmp nat_cmp) nat_list_cmp_total names_apart (λ name. domain_as r None) s.domains d.name d)
 view-changed r (CountCommand other) s = ap (λ a. record (view r s) { account = a }) (account_of-with_account r other counted s)
 view-changed r (TakeSerial other) s = ap (λ a. record (view r s) { account = a }) (account_of-with_account r other numbered s)

@@ -18,6 +18,10 @@ use verdict::{Code, Command, Facts, NewDomain, Request, Verdict, judge};
 pub enum Change {
     /// The domain stands under its name.
     PutDomain(Domain),
+    /// The moment was seen.
+    MoveClock(Moment),
+    /// The registrar has an account.
+    OpenAccount(RegistrarNo),
     /// One command more of the registrar was answered.
     CountCommand(RegistrarNo),
     /// The registrar created one object more.

@@ -2,7 +2,7 @@
 use Rattle.std.specs.Prelude.{ℕ, max, unwrap_or}
 use Rattle.std.specs.Ordering.{nat_cmp}
 use Rattle.std.specs.Cmp.Lexicographic.{slice_cmp}
-use Rattle.std.specs.FinMap.{FinMap, get}
+use Rattle.std.specs.FinMap.{FinMap, empty, get}
 use Rattle.objects.specs.declared.contact.Contact.{Contact}
 use Rattle.objects.specs.declared.host.Host.{Host}
 use Rattle.objects.specs.declared.domain.Domain.{Domain}
@@ -33,3 +33,7 @@ lapsed moment s = lapse (max moment s.clock) s
 -- The registry with all that is due by its own clock. Stores with one `now` are one registry.
 abbrev pub now : Registry → Registry
 now s = lapse s.clock s
+
+-- a registry that was never opened: nothing in it, at the first moment
+abbrev pub blank : Registry
+blank = record { contacts = empty; hosts = empty; domains = empty; accounts = empty; clock = 946_684_800 }

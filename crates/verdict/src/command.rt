@@ -1,9 +1,13 @@
 //! What a registrar asks.
+ghost use Rattle.std.specs.Prelude.{◌≡◌};
+ghost use Rattle.std.specs.Option.{option_copied};
+ghost use Rattle.verdict.specs.Facts.{domains_asked, domains_named, presented, secret_asked};
 
 use crate::code::Code;
 use basis::list::Seq;
 use basis::text::Text;
 use names::GivenName;
+use std::slice;
 
 /// A registrar's command, with the identifier of its own that the reply repeats (`clTRID`).
 #[derive(Clone, Drop)]
@@ -40,4 +44,49 @@ pub struct NewDomain {
     pub tech: Seq<Text>,
     pub hosts: Seq<GivenName>,
     pub secret: Text,
+}
+
+impl Request {
+    /// The domains that it names.
+    fn domains(&self) -> &[GivenName]
+        ensures { result.now ≡ domains_asked self.now }
+    {
+        match self {
+            Request::CheckDomain { names } => names.as_slice(),
+            Request::CreateDomain(new) => slice::from_ref(&new.name),
+            Request::InfoDomain { name, .. } => slice::from_ref(name),
+        }
+    }
+
+    /// The secret that it presents for a domain.
+    fn presented(&self, domain: &Text) -> Option<&Text>
+        ensures { option_copied result ≡ secret_asked self.now domain.now }
+    {
+        match self {
+            Request::InfoDomain { name, secret } if *name.text() == *domain => secret.as_ref(),
+            _ => None,
+        }
+    }
+}
+
+impl Command {
+    /// The domains that it names.
+    pub fn domains(&self) -> &[GivenName]
+        ensures { result.now ≡ domains_named self.now }
+    {
+        match self {
+            Command::Bad { .. } => &[],
+            Command::Asked { request, .. } => request.domains(),
+        }
+    }
+
+    /// The secret that it presents for a domain.
+    pub fn presented(&self, domain: &Text) -> Option<&Text>
+        ensures { option_copied result ≡ presented self.now domain.now }
+    {
+        match self {
+            Command::Bad { .. } => None,
+            Command::Asked { request, .. } => request.presented(domain),
+        }
+    }
 }

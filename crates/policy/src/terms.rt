@@ -1,0 +1,7 @@
+use basis::list::Seq;
+use basis::text::Text;
+
+#[derive(Clone, Drop)]
+pub struct Terms {
+    pub ids: Seq<Text>,
+}

@@ -1,0 +1,12 @@
+//! Where a registry is kept: the trait of such a place, and one in memory.
+#![tactic(auto)]
+
+mod book;
+mod content;
+mod fault;
+mod plain;
+mod undo;
+
+pub use book::Book;
+pub use fault::BookFault;
+pub use plain::PlainBook;

@@ -1,0 +1,213 @@
+//! A book in memory.
+ghost use Rattle.std.specs.Prelude.{◌≡◌, ◌<◌, ◌∷◌, [], length, OnOk, Err};
+ghost use Rattle.store.specs.Book.{FaultLeaves, IsBack, unused, with_changes, with_terms};
+ghost use Rattle.store.specs.Plain.{IsSettled, held, found, plain_state};
+
+use crate::book::Book;
+use crate::content::{Content, copy_terms};
+use crate::fault::BookFault;
+use crate::undo::Undo;
+use basis::list::Seq;
+use basis::maps::{NameMap, PlaceMap};
+use basis::registrar::RegistrarNo;
+use calendar::Moment;
+use policy::Terms;
+use rules::Change;
+use std::alloc::{AllocError, Global};
+use verdict::{Command, Facts};
+
+/// A registry in ordered maps, with what undoes the changes of the open transaction. A change costs
+/// a look-up and a copy of what it replaces; nothing is copied when a transaction begins.
+#[derive(Drop)]
+pub struct PlainBook {
+    content: Content,
+    /// What undoes the transaction's changes, the latest last. Where going back found no memory,
+    /// what is still to be undone, which the next call undoes first.
+    undo: Seq<Undo>,
+    is_open: bool,
+}
+
+impl PlainBook {
+    /// A book with nothing in it, which was never opened.
+    pub fn new(alloc: Global) -> Self
+        ensures { plain_state result ≡ unused }
+    {
+        PlainBook {
+            content: Content {
+                alloc,
+                contacts: NameMap::new(alloc),
+                hosts: NameMap::new(alloc),
+                domains: NameMap::new(alloc),
+                accounts: PlaceMap::new(alloc),
+                clock: Moment::first(),
+                terms: None,
+            },
+            undo: Seq::new(alloc),
+            is_open: false,
+        }
+    }
+
+    /// Undoes what there is to undo, the latest change first.
+    fn undo_all(&mut self) -> Result<(), AllocError>
+        ensures found { found self.new ≡ found self.old }
+        ensures open { self.new.is_open ≡ self.old.is_open }
+        ensures ok { OnOk result (self.new.undo ≡ []) }
+    {
+        while !self.undo.is_empty() {
+            self.undo_latest()?;
+        }
+        Ok(())
+    }
+
+    /// Undoes the latest change.
+    fn undo_latest(&mut self) -> Result<(), AllocError>
+        requires { 0 < length self.old.undo }
+        ensures found { found self.new ≡ found self.old }
+        ensures open { self.new.is_open ≡ self.old.is_open }
+        ensures ok { OnOk result (length self.new.undo < length self.old.undo) }
+    {
+        if let Some(latest) = self.undo.as_slice().last() {
+            self.content.restore(latest)?;
+            self.undo.drop_last();
+        }
+        Ok(())
+    }
+
+    /// Makes a change that can be undone.
+    fn make(&mut self, change: Change) -> Result<(), AllocError>
+        ensures found { found self.new ≡ found self.old }
+        ensures open { self.new.is_open ≡ self.old.is_open }
+        ensures ok { OnOk result (held self.new.content ≡ with_changes (change ∷ []) (held self.old.content)) }
+    {
+        let undo = self.content.undo_of(&change)?;
+        self.undo.push(undo)?;
+        self.content.make(change)
+    }
+}
+
+impl PlainBook {
+    /// Makes changes that can be undone, one after another.
+    fn make_all(&mut self, changes: Seq<Change>) -> Result<(), AllocError>
+        ensures found { found self.new ≡ found self.old }
+        ensures open { self.new.is_open ≡ self.old.is_open }
+        ensures ok { OnOk result (held self.new.content ≡ with_changes changes (held self.old.content)) }
+    {
+        for change in changes.into_vec() {
+            self.make(change)?;
+        }
+        Ok(())
+    }
+
+    /// Puts down terms that can be taken back.
+    fn put_terms(&mut self, terms: Terms) -> Result<(), AllocError>
+        ensures found { found self.new ≡ found self.old }
+        ensures open { self.new.is_open ≡ self.old.is_open }
+        ensures ok { OnOk result (held self.new.content ≡ with_terms terms (held self.old.content)) }
+    {
+        let old = copy_terms(&self.content.terms)?;
+        self.undo.push(Undo::Terms(old))?;
+        self.content.terms = Some(terms);
+        Ok(())
+    }
+
+    /// Goes back, if a transaction is open. What finds no memory is left to the next call.
+    fn give_up(&mut self)
+        ensures { IsBack (plain_state self.old) (plain_state self.new) }
+    {
+        self.is_open = false;
+        let _ = self.undo_all();
+    }
+
+    /// Gives up for want of memory.
+    fn fail<T>(&mut self, error: AllocError) -> Result<T, BookFault>
+        ensures fault { result ≡ Err BookFault.Memory }
+        ensures back { IsBack (plain_state self.old) (plain_state self.new) }
+    {
+        let AllocError = error;
+        self.give_up();
+        Err(BookFault::Memory)
+    }
+
+    /// Undoes what was left to undo, so that what is held is the content.
+    fn settle(&mut self) -> Result<(), BookFault>
+        ensures ok { OnOk result (IsSettled (plain_state self.old) self.new) }
+        ensures fault { FaultLeaves result (plain_state self.old) (plain_state self.new) }
+    {
+        if self.is_open {
+            return Ok(());
+        }
+        match self.undo_all() {
+            Ok(()) => Ok(()),
+            Err(error) => self.fail(error),
+        }
+    }
+}
+
+impl Book for PlainBook {
+    ghost use Rattle.store.specs.Plain.{plain_state};
+
+    ghost state = { plain_state };
+
+    fn active(&self) -> bool {
+        self.is_open
+    }
+
+    fn refusals(&self) -> u64 {
+        0
+    }
+
+    fn clock(&mut self) -> Result<Moment, BookFault> {
+        self.settle()?;
+        Ok(self.content.clock)
+    }
+
+    fn terms(&mut self) -> Result<Option<Terms>, BookFault> {
+        self.settle()?;
+        match copy_terms(&self.content.terms) {
+            Ok(terms) => Ok(terms),
+            Err(error) => self.fail(error),
+        }
+    }
+
+    fn facts_for(
+        &mut self,
+        caller: RegistrarNo,
+        command: &Command,
+    ) -> Result<Facts, BookFault> {
+        self.settle()?;
+        match self.content.facts_for(caller, command) {
+            Ok(facts) => Ok(facts),
+            Err(error) => self.fail(error),
+        }
+    }
+
+    fn begin(&mut self) -> Result<(), BookFault> {
+        self.settle()?;
+        self.is_open = true;
+        Ok(())
+    }
+
+    fn apply(&mut self, changes: Seq<Change>) -> Result<(), BookFault> {
+        match self.make_all(changes) {
+            Ok(()) => Ok(()),
+            Err(error) => self.fail(error),
+        }
+    }
+
+    fn keep_terms(&mut self, terms: Terms) -> Result<(), BookFault> {
+        match self.put_terms(terms) {
+            Ok(()) => Ok(()),
+            Err(error) => self.fail(error),
+        }
+    }
+
+    fn commit(&mut self) -> Result<(), BookFault> {
+        self.undo = Seq::new(self.content.alloc);
+        self.is_open = false;
+        Ok(())
+    }
+
+    fn back(&mut self) {
+        self.give_up();
+    }
+}
