@@ -1,5 +1,5 @@
 -- How a book stands, and what each of its calls leaves.
-use Rattle.std.specs.Prelude.{◌≡◌, ℕ, ◌<◌, ◌⊎◌, Bool, true, false, if◌then◌else◌, Option, Some, None, Result, Ok, Err, List}
+use Rattle.std.specs.Prelude.{◌≡◌, ℕ, ◌<◌, ◌≤◌, ◌⊎◌, Bool, true, false, if◌then◌else◌, Option, Some, None, Result, Ok, Err, List}
 use Rattle.policy.specs.declared.terms.Terms.{Terms}
 use Rattle.rules.specs.declared.decision.Change.{Change}
 use Rattle.rules.specs.Changes.{changed_all}
@@ -25,9 +25,10 @@ pub record BookState : Type 0 where
 abbrev pub HasRefused : BookState → BookState → Type 0
 HasRefused old new = (old.refused < new.refused) ⊎ (new.refused ≡ 0xFFFF_FFFF_FFFF_FFFF)
 
--- nothing wrong was taken since, so nothing wrong was taken before
-abbrev pub StaysClean : BookState → BookState → Type 0
-StaysClean old new = new.is_clean ≡ true → old.is_clean ≡ true
+-- Whatever a call does, refusals stay counted, and what was taken wrongly isn't forgotten.
+pub record Follows (old new : BookState) : Type 0 where
+  pub clean : new.is_clean ≡ true → old.is_clean ≡ true
+  pub counted : old.refused ≤ new.refused
 
 -- what is held once no transaction is open
 abbrev pub home : BookState → Stored
@@ -36,7 +37,7 @@ home s = if s.is_open then s.before else s.content
 -- no transaction is open, and what was held before it is held again
 pub record IsBack (old new : BookState) : Type 0 where
   pub closed : new.is_open ≡ false
-  pub content : new.content ≡ home old
+  pub content : new.is_clean ≡ true → new.content ≡ home old
 
 -- a fault leaves what was held before the transaction, and Store has its cause
 abbrev pub GivesUp : BookFault → BookState → BookState → Type 0

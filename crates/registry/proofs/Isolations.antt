@@ -1,0 +1,14 @@
+-- A step of the rules is isolated.
+use Rattle.std.proofs.Common.{ℕ, Result, Ok, Err, IfOk}
+use Rattle.policy.specs.Rules.{PolicyRules}
+use Rattle.registry.specs.Execution.{IsStep}
+use Rattle.rules.specs.Isolation.{IsIsolated}
+use Rattle.rules.proofs.IsolationLemmas.{isolated}
+use Rattle.verdict.specs.declared.command.Command.{Command}
+use Rattle.verdict.specs.declared.reply.Reply.{Reply}
+use Rattle.verdict.specs.Registry.{Registry}
+
+pub isolated_step : {E : Type 0} (result : Result Reply E) (clean : Type 0) (p : PolicyRules) (r : ℕ) (c : Command) (moment : ℕ) (before after : Registry)
+    → IfOk result (λ reply. clean → IsStep p r c moment before after reply) → IfOk result (λ reply. clean → IsIsolated p r c moment before after reply)
+isolated_step (Ok reply) clean p r c moment before after step = λ taken. isolated p r c moment before after reply (step taken).answered (step taken).left
+isolated_step (Err e) clean p r c moment before after step = tt

@@ -1,0 +1,49 @@
+-- What the calls of the registry leave.
+use Rattle.std.specs.Prelude.{◌≡◌, ℕ, Bool, true, false, Result, Ok, Err}
+use Rattle.policy.specs.Rules.{PolicyRules}
+use Rattle.registry.specs.declared.fault.Fault.{Fault}
+use Rattle.registry.specs.declared.fault.Fault.TheVariants as faults
+use Rattle.rules.specs.Steps.{answer, effect}
+use Rattle.rules.specs.Isolation.{IsIsolated}
+use Rattle.store.specs.Book.{BookState, HasRefused, IsBack, Stored}
+use Rattle.verdict.specs.declared.command.Command.{Command}
+use Rattle.verdict.specs.declared.reply.Reply.{Reply}
+use Rattle.verdict.specs.Registry.{Registry, lapsed, now}
+
+-- the last moment at which a call is taken: 2099-12-31T23:59:59Z
+abbrev pub last_call : ℕ
+last_call = 4_102_444_799
+
+-- The reply is the rules' answer in the registry at that moment, and what is left is their effect.
+pub record IsStep (p : PolicyRules) (r : ℕ) (c : Command) (moment : ℕ) (before after : Registry) (reply : Reply) : Type 0 where
+  pub answered : reply ≡ answer p r c (lapsed moment before)
+  pub left : now after ≡ now (effect p r c (lapsed moment before))
+
+-- what a call that gave up in a transaction leaves: it went back
+abbrev pub GoesBack : Fault → BookState → BookState → Type 0
+GoesBack faults.Memory old new = IsBack old new
+GoesBack faults.Store old new = IsBack old new × HasRefused old new
+GoesBack faults.Moment old new = ⊥
+
+-- the transaction is open still, and can go back as before
+pub record GoesOn (old new : BookState) : Type 0 where
+  pub opened : new.is_open ≡ true
+  pub before : new.is_clean ≡ true → new.before ≡ old.before
+
+-- what a call that gave up leaves, and its cause
+pub record IsUnchanged (old new : BookState) : Type 0 where
+  pub content : new.is_clean ≡ true → new.content ≡ old.content
+
+abbrev pub Fails : Fault → BookState → BookState → Type 0
+Fails faults.Memory old new = IsUnchanged old new
+Fails faults.Store old new = IsUnchanged old new × HasRefused old new
+Fails faults.Moment old new = IsUnchanged old new
+
+-- the same terms, with the registry as a call at a moment finds it
+abbrev pub at_moment : ℕ → Stored → Stored
+at_moment t s = record s { registry = lapsed t s.registry }
+
+-- no transaction is open, and this is held
+pub record Keeps (old new : BookState) (held : Stored) : Type 0 where
+  pub closed : new.is_open ≡ false
+  pub content : new.is_clean ≡ true → new.content ≡ held

@@ -1,0 +1,49 @@
+//! Why a call of the registry gave up.
+ghost use Rattle.std.specs.Prelude.{◌≡◌};
+ghost use Rattle.registry.specs.declared.fault.Fault.TheVariants.{Memory};
+ghost use Rattle.registry.specs.Faults.{of_book};
+
+use std::alloc::AllocError;
+use store::BookFault;
+
+/// Why a call gave up. The registry, its clock and all counters are then as they were before the
+/// call.
+#[derive(Clone, Copy, Debug, PartialEq, Eq, Drop)]
+pub enum Fault {
+    /// Memory ran out.
+    Memory,
+    /// What keeps the book refused.
+    Store,
+    /// The moment is later than 2099-12-31T23:59:59Z.
+    Moment,
+}
+
+impl From<AllocError> for Fault {
+    ghost from_gives = { λ _ fault. fault ≡ Memory };
+
+    fn from(_: AllocError) -> Fault {
+        Fault::Memory
+    }
+}
+
+impl From<BookFault> for Fault {
+    ghost from_gives = { λ error fault. fault ≡ of_book error };
+
+    fn from(error: BookFault) -> Fault {
+        match error {
+            BookFault::Memory => Fault::Memory,
+            BookFault::Store => Fault::Store,
+        }
+    }
+}
+
+/// Why a book can't be opened.
+#[derive(Clone, Copy, Debug, PartialEq, Eq, Drop)]
+pub enum OpenFault {
+    /// It was used under another zone, other reserved labels, days or prices, or other registrars.
+    Policy,
+    /// Memory ran out.
+    Memory,
+    /// What keeps the book refused.
+    Store,
+}

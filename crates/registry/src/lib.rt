@@ -1,0 +1,8 @@
+//! The registry that registrars talk to: one command is one transaction and one step of the rules.
+#![tactic(auto)]
+
+mod fault;
+mod registry;
+
+pub use fault::{Fault, OpenFault};
+pub use registry::Registry;

@@ -1,0 +1,254 @@
+//! The registry.
+ghost use Rattle.std.specs.Prelude.{◌≡◌, ◌≢◌, ◌<◌, ◌∷◌, [], max, true, false, ◌↔◌, IfOk, IfErr, OnOk, Ok, Err};
+ghost use Rattle.policy.specs.Rules.{IsPlace};
+ghost use Rattle.registry.specs.Execution.{IsStep, Fails, GoesBack, Keeps, at_moment, last_call};
+ghost use Rattle.rules.specs.Isolation.{IsIsolated};
+ghost use Rattle.rules.specs.Decisions.{decided};
+ghost use Rattle.rules.specs.Steps.{reply_of};
+ghost use Rattle.verdict.specs.Facts.{facts};
+ghost use Rattle.store.specs.Book.{Commits, Follows, IsSame, Moves, with_changes};
+
+use crate::fault::Fault;
+use basis::list::Seq;
+use basis::registrar::RegistrarNo;
+use calendar::Moment;
+use policy::Policy;
+use basis::text::Text;
+use rules::{Change, decide};
+use std::alloc::{AllocError, Global};
+use store::Book;
+use verdict::{Command, Facts, Reply, ServerTag, Verdict, id_of};
+
+/// The latest moment at which a call is taken: 2099-12-31T23:59:59Z.
+const LAST_CALL: i64 = 4_102_444_799;
+
+/// A registry over a book, run by a policy.
+#[derive(Drop)]
+pub struct Registry<B: Book> {
+    book: B,
+    policy: Policy,
+    alloc: Global,
+    ghost idle: { (B.state book).is_open ≡ false },
+}
+
+impl<B: Book + Drop> Registry<B> {
+    /// The policy that it is run by.
+    pub fn policy(&self) -> &Policy
+        ensures { result.now ≡ self.now.policy }
+    {
+        &self.policy
+    }
+
+    /// Answers a registrar's command at a moment; one before the clock counts as the clock.
+    ///
+    /// The reply, and what the registrar sees afterwards, are those in every registry that the
+    /// registrar can't tell from this one.
+    pub fn execute(
+        &mut self,
+        caller: RegistrarNo,
+        command: &Command,
+        moment: Moment,
+    ) -> Result<Reply, Fault>
+        requires { IsPlace self.old.policy caller }
+        ensures step { IfOk result (λ reply. (B.state self.new.book).is_clean ≡ true → IsStep self.old.policy caller command.now moment (B.state self.old.book).content.registry (B.state self.new.book).content.registry reply) }
+        ensures isolation { IfOk result (λ reply. (B.state self.new.book).is_clean ≡ true → IsIsolated self.old.policy caller command.now moment (B.state self.old.book).content.registry (B.state self.new.book).content.registry reply) }
+        ensures fault { IfErr result (λ fault. Fails fault (B.state self.old.book) (B.state self.new.book)) }
+        ensures late { (result ≡ Err Fault.Moment) ↔ (last_call < moment) }
+        ensures follows { Follows (B.state self.old.book) (B.state self.new.book) }
+        ensures policy { self.new.policy ≡ self.old.policy }
+    {
+        if moment.secs() > LAST_CALL {
+            return Err(Fault::Moment);
+        }
+        self.step(caller, command, moment)
+    }
+
+    /// Answers a command by the rules.
+    fn step(
+        &mut self,
+        caller: RegistrarNo,
+        command: &Command,
+        moment: Moment,
+    ) -> Result<Reply, Fault>
+        ensures step { IfOk result (λ reply. (B.state self.new.book).is_clean ≡ true → IsStep self.old.policy caller command.now moment (B.state self.old.book).content.registry (B.state self.new.book).content.registry reply) }
+        ensures fault { IfErr result (λ fault. Fails fault (B.state self.old.book) (B.state self.new.book)) }
+        ensures early { result ≢ Err Fault.Moment }
+        ensures follows { Follows (B.state self.old.book) (B.state self.new.book) }
+        ensures policy { self.new.policy ≡ self.old.policy }
+    {
+        self.book.begin()?;
+        perform(&mut self.book, self.alloc, caller, command, moment, &self.policy)
+    }
+}
+
+/// Answers a command in an open transaction, and keeps what it did.
+fn perform<B: Book>(
+    book: &mut B,
+    alloc: Global,
+    caller: RegistrarNo,
+    command: &Command,
+    moment: Moment,
+    policy: &Policy,
+) -> Result<Reply, Fault>
+    requires { (B.state book.old).is_open ≡ true }
+    ensures step { IfOk result (λ reply. (B.state book.new).is_clean ≡ true → IsStep policy.now caller command.now moment (B.state book.old).content.registry (B.state book.new).content.registry reply) }
+    ensures closed { (B.state book.new).is_open ≡ false }
+    ensures fault { IfErr result (λ fault. GoesBack fault (B.state book.old) (B.state book.new)) }
+    ensures follows { Follows (B.state book.old) (B.state book.new) }
+{
+    let now = pass_time(book, alloc, moment)?;
+    let facts = facts_for(book, caller, command)?;
+    let prepared = or_back(book, prepare(alloc, &facts, caller, command, now, policy))?;
+    keep(book, prepared.changes)?;
+    Ok(prepared.reply)
+}
+
+/// Lets time pass up to a moment in an open transaction, and gives the clock.
+fn pass_time<B: Book>(book: &mut B, alloc: Global, moment: Moment) -> Result<Moment, Fault>
+    requires { (B.state book.old).is_open ≡ true }
+    ensures moved { OnOk result (Moves (B.state book.old) (B.state book.new) (at_moment moment (B.state book.old).content)) }
+    ensures clock { IfOk result (λ clock. (B.state book.new).is_clean ≡ true → clock ≡ max moment (B.state book.old).content.registry.clock) }
+    ensures fault { IfErr result (λ fault. GoesBack fault (B.state book.old) (B.state book.new)) }
+    ensures follows { Follows (B.state book.old) (B.state book.new) }
+{
+    let passing = or_back(book, passing(alloc, moment))?;
+    apply(book, passing)?;
+    clock(book)
+}
+
+fn passing(alloc: Global, moment: Moment) -> Result<Seq<Change>, AllocError>
+    ensures { IfOk result (λ changes. changes ≡ Change.MoveClock moment ∷ []) }
+{
+    Ok(Seq::from_vec(vec![in alloc; Change::MoveClock(moment)]?))
+}
+
+/// What was made, or back to where the transaction began where memory ran out.
+fn or_back<B: Book, T>(book: &mut B, made: Result<T, AllocError>) -> Result<T, Fault>
+    requires { (B.state book.old).is_open ≡ true }
+    ensures made { IfOk result (λ value. made ≡ Ok value) }
+    ensures same { OnOk result (book.new ≡ book.old) }
+    ensures fault { IfErr result (λ fault. GoesBack fault (B.state book.old) (B.state book.new)) }
+    ensures follows { Follows (B.state book.old) (B.state book.new) }
+{
+    match made {
+        Ok(value) => Ok(value),
+        Err(error) => {
+            book.back();
+            Err(Fault::from(error))
+        }
+    }
+}
+
+/// The clock, in an open transaction.
+fn clock<B: Book>(book: &mut B) -> Result<Moment, Fault>
+    requires { (B.state book.old).is_open ≡ true }
+    ensures found { IfOk result (λ clock. (B.state book.new).is_clean ≡ true → clock ≡ (B.state book.old).content.registry.clock) }
+    ensures same { OnOk result (IsSame (B.state book.old) (B.state book.new)) }
+    ensures fault { IfErr result (λ fault. GoesBack fault (B.state book.old) (B.state book.new)) }
+    ensures follows { Follows (B.state book.old) (B.state book.new) }
+{
+    Ok(book.clock()?)
+}
+
+/// The facts that bear on a command, in an open transaction.
+fn facts_for<B: Book>(
+    book: &mut B,
+    caller: RegistrarNo,
+    command: &Command,
+) -> Result<Facts, Fault>
+    requires { (B.state book.old).is_open ≡ true }
+    ensures found { IfOk result (λ found. (B.state book.new).is_clean ≡ true → found ≡ facts caller command.now (B.state book.old).content.registry) }
+    ensures same { OnOk result (IsSame (B.state book.old) (B.state book.new)) }
+    ensures fault { IfErr result (λ fault. GoesBack fault (B.state book.old) (B.state book.new)) }
+    ensures follows { Follows (B.state book.old) (B.state book.new) }
+{
+    Ok(book.facts_for(caller, command)?)
+}
+
+/// Makes changes in an open transaction.
+fn apply<B: Book>(book: &mut B, changes: Seq<Change>) -> Result<(), Fault>
+    requires { (B.state book.old).is_open ≡ true }
+    ensures ok { OnOk result (Moves (B.state book.old) (B.state book.new) (with_changes changes (B.state book.old).content)) }
+    ensures fault { IfErr result (λ fault. GoesBack fault (B.state book.old) (B.state book.new)) }
+    ensures follows { Follows (B.state book.old) (B.state book.new) }
+{
+    Ok(book.apply(changes)?)
+}
+
+/// Keeps what an open transaction did.
+fn commit<B: Book>(book: &mut B) -> Result<(), Fault>
+    requires { (B.state book.old).is_open ≡ true }
+    ensures ok { OnOk result (Commits (B.state book.old) (B.state book.new)) }
+    ensures fault { IfErr result (λ fault. GoesBack fault (B.state book.old) (B.state book.new)) }
+    ensures follows { Follows (B.state book.old) (B.state book.new) }
+{
+    Ok(book.commit()?)
+}
+
+/// Makes changes in an open transaction and keeps them.
+fn keep<B: Book>(book: &mut B, changes: Seq<Change>) -> Result<(), Fault>
+    requires { (B.state book.old).is_open ≡ true }
+    ensures kept { OnOk result (Keeps (B.state book.old) (B.state book.new) (with_changes changes (B.state book.old).content)) }
+    ensures fault { IfErr result (λ fault. GoesBack fault (B.state book.old) (B.state book.new)) }
+    ensures follows { Follows (B.state book.old) (B.state book.new) }
+{
+    apply(book, changes)?;
+    commit(book)
+}
+
+/// A reply, and the changes that go with it.
+#[derive(Drop)]
+struct Prepared {
+    reply: Reply,
+    changes: Seq<Change>,
+}
+
+/// Decides on a command, and writes the reply.
+fn prepare(
+    alloc: Global,
+    facts: &Facts,
+    caller: RegistrarNo,
+    command: &Command,
+    now: Moment,
+    policy: &Policy,
+) -> Result<Prepared, AllocError>
+    ensures reply { IfOk result (λ prepared. prepared.reply ≡ reply_of policy.now caller command.now (decided policy.now caller now command.now facts.now).verdict facts.now.account.commands) }
+    ensures changes { IfOk result (λ prepared. prepared.changes ≡ (decided policy.now caller now command.now facts.now).changes) }
+{
+    let decision = decide(alloc, facts, caller, command, now, policy)?;
+    Ok(Prepared {
+        reply: reply_to(alloc, policy, caller, command, decision.verdict, facts)?,
+        changes: decision.changes,
+    })
+}
+
+/// The reply to a verdict, numbered by the caller's own commands.
+fn reply_to(
+    alloc: Global,
+    policy: &Policy,
+    caller: RegistrarNo,
+    command: &Command,
+    verdict: Verdict,
+    facts: &Facts,
+) -> Result<Reply, AllocError>
+    ensures { IfOk result (λ reply. reply ≡ reply_of policy.now caller command.now verdict facts.now.account.commands) }
+{
+    Ok(Reply {
+        tag: copy_tag(command.tag())?,
+        code: verdict.code,
+        content: verdict.content,
+        server_tag: ServerTag {
+            id: id_of(alloc, policy, caller)?,
+            number: facts.account.next_command(),
+        },
+    })
+}
+
+fn copy_tag(tag: &Option<Text>) -> Result<Option<Text>, AllocError>
+    ensures { IfOk result (λ copy. copy ≡ tag.now) }
+{
+    match tag {
+        None => Ok(None),
+        Some(tag) => Ok(Some(tag.clone()?)),
+    }
+}
