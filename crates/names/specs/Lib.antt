@@ -1,5 +1,8 @@
-pub mod Names
+pub mod Labels
 pub mod Reading
-pub mod Rules
-pub mod Address
-pub mod Given
+pub mod Canonical
+pub mod Zone
+pub mod GivenName
+pub mod Names
+pub mod Ipv6
+pub mod Addresses

@@ -1,13 +1,16 @@
-//! Names as commands give them.
+//! A name as a command gives it.
 ghost use Rattle.std.specs.Prelude.{◌≡◌};
-ghost use Rattle.names.specs.Given as spec;
+ghost use Rattle.names.specs.GivenName as spec;
 
 use basis::text::Text;
 
-/// A name as a command gives it, in canonical text: one that the zone keeps, or one that it refuses.
+/// A name as a command gives it, in its canonical form: one that the zone keeps, or one that it
+/// refuses. What a command does with a refused name depends on the command.
 #[derive(Clone, Drop)]
 pub enum GivenName {
+    /// The zone keeps such names.
     Kept(Text),
+    /// The zone doesn't keep such names.
     Refused(Text),
 }
 
@@ -22,7 +25,17 @@ impl GivenName {
         }
     }
 
-    /// Whether the zone refuses it.
+    /// The canonical text.
+    pub fn into_text(self) -> Text
+        ensures { result ≡ spec.name_of self }
+    {
+        match self {
+            GivenName::Kept(text) => text,
+            GivenName::Refused(text) => text,
+        }
+    }
+
+    /// Whether the zone refuses the name.
     pub fn is_refused(&self) -> bool
         ensures { result ≡ spec.is_refused self.now }
     {

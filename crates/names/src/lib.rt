@@ -1,16 +1,28 @@
-//! Names of the registry: domain names below its zone.
+//! Names of domains and hosts, and addresses of hosts: which texts are one, in which canonical form
+//! it's kept, and which names the zone keeps.
+//!
+//! A name is looked at in two steps. `NameFault::Syntax` says that a text is no name, and
+//! `NameFault::Policy` that it's a name which the zone doesn't keep. Both stand in the definitions of
+//! `specs/Names.antt`, and those of an address in `specs/Addresses.antt`.
 #![tactic(auto)]
 
 mod address;
+mod canonical;
 mod domain;
 mod fault;
 mod given;
-mod rules;
+mod host;
+mod ipv6;
+mod label;
+#[cfg(test)]
+mod tests;
 mod zone;
 
 pub use address::Address;
+pub use canonical::reads_as_itself;
 pub use domain::DomainName;
 pub use fault::NameFault;
 pub use given::GivenName;
-pub use rules::{is_label, is_name};
-pub use zone::Zone;
+pub use host::HostName;
+pub use label::{is_label, is_name};
+pub use zone::{Zone, superordinate_text};

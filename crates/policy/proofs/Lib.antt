@@ -1,0 +1,4 @@
+pub mod TextLemmas
+pub mod DocumentLemmas
+pub mod TermsLemmas
+pub mod Places

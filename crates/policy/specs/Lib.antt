@@ -1,1 +1,4 @@
+pub mod Keys
 pub mod Rules
+pub mod Reading
+pub mod Terms

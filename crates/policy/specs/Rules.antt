@@ -1,13 +1,95 @@
--- The values of a policy.
-use Rattle.std.specs.Prelude.{ℕ, zero, suc, List, length, ◌≤◌, Option, None, slice_get}
+-- The values of a policy, and what is asked of them.
+use Rattle.std.specs.Prelude.{ℕ, zero, suc, ◌+◌, ◌≤◌, Bool, ◌&&◌, List, length, position, slice_get, Option, None, option_map}
+use Rattle.std.specs.Str.{bytes_eq}
+use Rattle.names.specs.Zone.{ZoneRules}
+use Rattle.policy.specs.declared.days.Days.{Days}
+use Rattle.policy.specs.declared.days.Period.{Period}
+use Rattle.policy.specs.declared.days.Period.TheVariants.{Add, AutoRenew, Renew, Transfer, Redemption, Restore, PendingDelete, Answer, Lock}
+use Rattle.policy.specs.declared.prices.Prices.{Prices}
+use Rattle.policy.specs.declared.soa.Soa.{Soa}
+use Rattle.policy.specs.declared.registrar.Registrar.{Registrar}
 
 pub record PolicyRules : Type 0 where
-  pub ids : List (List ℕ)
+  pub zone : ZoneRules
+  pub days : Days
+  pub prices : Prices
+  pub soa : Soa
+  -- in the order of the file
+  pub registrars : List Registrar
 
--- the id of the registrar at a place, counted from 1
+-- ---- lengths of days, and prices
+
+abbrev pub length_of : Period → Days → ℕ
+length_of Add days = days.add
+length_of AutoRenew days = days.auto_renew
+length_of Renew days = days.renew
+length_of Transfer days = days.transfer
+length_of Redemption days = days.redemption
+length_of Restore days = days.restore
+length_of PendingDelete days = days.pending_delete
+length_of Answer days = days.answer
+length_of Lock days = days.lock
+
+-- the days of a period that begins at a moment, which are the same at every moment
+abbrev pub days_of : Period → ℕ → PolicyRules → ℕ
+days_of period start p = length_of period p.days
+
+abbrev pub IsDayCount : ℕ → Type 0
+IsDayCount n = (1 ≤ n) × (n ≤ 3650)
+
+abbrev pub IsPrice : ℕ → Type 0
+IsPrice cents = cents ≤ 1_000_000_000
+
+pub record AreDays (days : Days) : Type 0 where
+  pub add : IsDayCount days.add
+  pub auto_renew : IsDayCount days.auto_renew
+  pub renew : IsDayCount days.renew
+  pub transfer : IsDayCount days.transfer
+  pub redemption : IsDayCount days.redemption
+  pub restore : IsDayCount days.restore
+  pub pending_delete : IsDayCount days.pending_delete
+  pub answer : IsDayCount days.answer
+  pub lock : IsDayCount days.lock
+
+pub record ArePrices (prices : Prices) : Type 0 where
+  pub create : IsPrice prices.create
+  pub renew : IsPrice prices.renew
+  pub transfer : IsPrice prices.transfer
+
+-- ---- registrars
+
+-- from 1 to 1,000
+abbrev pub IsRegistrarCount : ℕ → Type 0
+IsRegistrarCount n = (1 ≤ n) × (n ≤ 1000)
+
+-- a registrar's place, counted from 1
+abbrev pub IsPlace : PolicyRules → ℕ → Type 0
+IsPlace p place = (1 ≤ place) × (place ≤ length p.registrars)
+
+abbrev pub has_id : List ℕ → Registrar → Bool
+has_id id registrar = bytes_eq registrar.id id
+
+abbrev pub has_login : List ℕ → List ℕ → Registrar → Bool
+has_login id password registrar = has_id id registrar && bytes_eq registrar.password password
+
+-- the place of the first registrar that passes the test
+abbrev pub place_where : (Registrar → Bool) → PolicyRules → Option ℕ
+place_where test p = option_map (λ index. index + 1) (position test p.registrars)
+
+abbrev pub place_of : List ℕ → PolicyRules → Option ℕ
+place_of id p = place_where (has_id id) p
+
+abbrev pub place_of_login : List ℕ → List ℕ → PolicyRules → Option ℕ
+place_of_login id password p = place_where (has_login id password) p
+
+-- the id of the registrar at a place
 abbrev pub id_at : PolicyRules → ℕ → Option (List ℕ)
 id_at p zero = None
-id_at p (suc n) = slice_get p.ids n
+id_at p (suc index) = option_map (λ (registrar : Registrar). registrar.id) (slice_get p.registrars index)
 
-abbrev pub IsPlace : PolicyRules → ℕ → Type 0
-IsPlace p r = (1 ≤ r) × (r ≤ length p.ids)
+-- ---- what is true of every policy
+
+pub record AreSound (days : Days) (prices : Prices) (registrars : List Registrar) : Type 0 where
+  pub days_in_range : AreDays days
+  pub prices_in_range : ArePrices prices
+  pub count : IsRegistrarCount (length registrars)

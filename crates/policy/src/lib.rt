@@ -1,40 +1,31 @@
-//! Stand-in of the policy.
+//! The policy of the registry, as the operator writes it in a TOML file: the zone, the lengths of
+//! its periods in days, its prices in cents, the zone's start of authority, and who may log in.
+//!
+//! [`Policy::read`] takes a whole file or names its first fault, in the order of [`Key`]. Every key
+//! is required, and keys that aren't listed are ignored. [`Terms`] are the part of a policy that
+//! may not change while a registry keeps its book, but for registrars that are added at the end.
+//! Reading takes time linear in the file but for the comparison of each id with those after it, of
+//! which there are at most 1,000.
 #![tactic(auto)]
 
-ghost use Rattle.std.specs.Prelude.{◌≡◌};
-ghost use Rattle.std.specs.Option.{option_copied};
-ghost use Rattle.policy.specs.Rules.{id_at};
-
+mod days;
+mod document;
+mod fault;
+mod key;
+mod policy;
+mod prices;
+mod registrar;
+mod soa;
 mod terms;
+#[cfg(test)]
+mod tests;
+mod texts;
+
+pub use days::{Days, Period};
+pub use fault::PolicyFault;
+pub use key::Key;
+pub use policy::Policy;
+pub use prices::Prices;
+pub use registrar::Registrar;
+pub use soa::Soa;
 pub use terms::Terms;
-
-use basis::list::Seq;
-use basis::registrar::RegistrarNo;
-use basis::text::Text;
-use std::alloc::{AllocError, Global};
-use std::marker::Model;
-
-#[derive(Drop)]
-pub struct Policy {
-    ids: Seq<Text>,
-}
-
-impl Model for Policy {
-    ghost use Rattle.policy.specs.Rules.{PolicyRules};
-
-    ghost Value = { PolicyRules };
-
-    ghost view = { λ p. record { ids = p.ids } };
-}
-
-impl Policy {
-    pub fn id_of(&self, registrar: RegistrarNo) -> Option<&Text>
-        ensures { option_copied result ≡ id_at self.now registrar }
-    {
-        let place = registrar.place();
-        if place == 0 {
-            return None;
-        }
-        self.ids.as_slice().get(place as usize - 1)
-    }
-}

@@ -1,7 +1,43 @@
+//! What a registry's book is used under.
+ghost use Rattle.std.specs.Prelude.{◌≡◌, ◌↔◌, IsTrue};
+ghost use Rattle.policy.specs.Terms as spec;
+
+use crate::{Days, Prices};
 use basis::list::Seq;
 use basis::text::Text;
 
+/// The part of a policy that a registry's book is used under, and that is compared when the book is
+/// opened again.
 #[derive(Clone, Drop)]
 pub struct Terms {
+    /// The label of the zone.
+    pub zone: Text,
+    /// The labels that no domain may have, in the order of the file.
+    pub reserved: Seq<Text>,
+    pub days: Days,
+    pub prices: Prices,
+    /// The registrars' ids in the order of their places.
     pub ids: Seq<Text>,
+}
+
+impl Terms {
+    #[tactic(auto, unfolding(crate::specs::Terms::continues))]
+    fn agrees(&self, earlier: &Terms) -> bool
+        ensures { result ≡ spec.continues self.now earlier.now }
+    {
+        self.zone == earlier.zone
+            && self.reserved.as_slice() == earlier.reserved.as_slice()
+            && self.days == earlier.days
+            && self.prices == earlier.prices
+            && self.ids.as_slice().starts_with(earlier.ids.as_slice())
+    }
+
+    /// Whether a book that was used under earlier terms may be used under these: nothing is new but
+    /// registrars after the earlier ones.
+    pub fn continues(&self, earlier: &Terms) -> bool
+        ensures test { result ≡ spec.continues self.now earlier.now }
+        ensures meaning { IsTrue result ↔ spec.Continues self.now earlier.now }
+    {
+        self.agrees(earlier)
+    }
 }

@@ -1,1 +1,2 @@
 pub mod Isolations
+pub mod OpeningLemmas

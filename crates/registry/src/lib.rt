@@ -2,7 +2,9 @@
 #![tactic(auto)]
 
 mod fault;
+mod opening;
 mod registry;
+mod transaction;
 
 pub use fault::{Fault, OpenFault};
 pub use registry::Registry;

@@ -1,14 +1,16 @@
 //! The registry.
 ghost use Rattle.std.specs.Prelude.{◌≡◌, ◌≢◌, ◌<◌, ◌∷◌, [], max, true, false, ◌↔◌, IfOk, IfErr, OnOk, Ok, Err};
 ghost use Rattle.policy.specs.Rules.{IsPlace};
-ghost use Rattle.registry.specs.Execution.{IsStep, Fails, GoesBack, Keeps, at_moment, last_call};
+ghost use Rattle.registry.specs.Execution.{IsStep, Fails, GoesBack, at_moment, last_call};
 ghost use Rattle.rules.specs.Isolation.{IsIsolated};
+ghost use Rattle.registry.specs.Opening.{Opens, Refuses};
 ghost use Rattle.rules.specs.Decisions.{decided};
 ghost use Rattle.rules.specs.Steps.{reply_of};
-ghost use Rattle.verdict.specs.Facts.{facts};
-ghost use Rattle.store.specs.Book.{Commits, Follows, IsSame, Moves, with_changes};
+ghost use Rattle.store.specs.Book.{Follows, Moves};
 
-use crate::fault::Fault;
+use crate::fault::{Fault, OpenFault};
+use crate::opening::take_up;
+use crate::transaction::{apply, clock, facts_for, keep, or_back};
 use basis::list::Seq;
 use basis::registrar::RegistrarNo;
 use calendar::Moment;
@@ -32,6 +34,31 @@ pub struct Registry<B: Book> {
 }
 
 impl<B: Book + Drop> Registry<B> {
+    /// Opens a book under a policy, and the accounts of the registrars that have none yet. A book
+    /// that was used under another zone, other reserved labels, days or prices, or whose earlier
+    /// registrars aren't the first of the policy, is refused. What is refused is handed back as it
+    /// was.
+    pub fn open(
+        alloc: Global,
+        book: B,
+        policy: Policy,
+    ) -> Result<Registry<B>, (OpenFault, B)>
+        requires { (B.state book).is_open ≡ false }
+        ensures opened { IfOk result (λ registry. Opens policy (B.state book) (B.state registry.book)) }
+        ensures policy { IfOk result (λ registry. registry.policy ≡ policy) }
+        ensures refused { IfErr result (λ refusal. Refuses refusal.0 policy (B.state book) (B.state refusal.1)) }
+    {
+        let mut book = book;
+        match take_up(&mut book, alloc, &policy) {
+            Ok(()) => Ok(Registry {
+                book,
+                policy,
+                alloc,
+            }),
+            Err(fault) => Err((fault, book)),
+        }
+    }
+
     /// The policy that it is run by.
     pub fn policy(&self) -> &Policy
         ensures { result.now ≡ self.now.policy }
@@ -120,80 +147,6 @@ fn passing(alloc: Global, moment: Moment) -> Result<Seq<Change>, AllocError>
     ensures { IfOk result (λ changes. changes ≡ Change.MoveClock moment ∷ []) }
 {
     Ok(Seq::from_vec(vec![in alloc; Change::MoveClock(moment)]?))
-}
-
-/// What was made, or back to where the transaction began where memory ran out.
-fn or_back<B: Book, T>(book: &mut B, made: Result<T, AllocError>) -> Result<T, Fault>
-    requires { (B.state book.old).is_open ≡ true }
-    ensures made { IfOk result (λ value. made ≡ Ok value) }
-    ensures same { OnOk result (book.new ≡ book.old) }
-    ensures fault { IfErr result (λ fault. GoesBack fault (B.state book.old) (B.state book.new)) }
-    ensures follows { Follows (B.state book.old) (B.state book.new) }
-{
-    match made {
-        Ok(value) => Ok(value),
-        Err(error) => {
-            book.back();
-            Err(Fault::from(error))
-        }
-    }
-}
-
-/// The clock, in an open transaction.
-fn clock<B: Book>(book: &mut B) -> Result<Moment, Fault>
-    requires { (B.state book.old).is_open ≡ true }
-    ensures found { IfOk result (λ clock. (B.state book.new).is_clean ≡ true → clock ≡ (B.state book.old).content.registry.clock) }
-    ensures same { OnOk result (IsSame (B.state book.old) (B.state book.new)) }
-    ensures fault { IfErr result (λ fault. GoesBack fault (B.state book.old) (B.state book.new)) }
-    ensures follows { Follows (B.state book.old) (B.state book.new) }
-{
-    Ok(book.clock()?)
-}
-
-/// The facts that bear on a command, in an open transaction.
-fn facts_for<B: Book>(
-    book: &mut B,
-    caller: RegistrarNo,
-    command: &Command,
-) -> Result<Facts, Fault>
-    requires { (B.state book.old).is_open ≡ true }
-    ensures found { IfOk result (λ found. (B.state book.new).is_clean ≡ true → found ≡ facts caller command.now (B.state book.old).content.registry) }
-    ensures same { OnOk result (IsSame (B.state book.old) (B.state book.new)) }
-    ensures fault { IfErr result (λ fault. GoesBack fault (B.state book.old) (B.state book.new)) }
-    ensures follows { Follows (B.state book.old) (B.state book.new) }
-{
-    Ok(book.facts_for(caller, command)?)
-}
-
-/// Makes changes in an open transaction.
-fn apply<B: Book>(book: &mut B, changes: Seq<Change>) -> Result<(), Fault>
-    requires { (B.state book.old).is_open ≡ true }
-    ensures ok { OnOk result (Moves (B.state book.old) (B.state book.new) (with_changes changes (B.state book.old).content)) }
-    ensures fault { IfErr result (λ fault. GoesBack fault (B.state book.old) (B.state book.new)) }
-    ensures follows { Follows (B.state book.old) (B.state book.new) }
-{
-    Ok(book.apply(changes)?)
-}
-
-/// Keeps what an open transaction did.
-fn commit<B: Book>(book: &mut B) -> Result<(), Fault>
-    requires { (B.state book.old).is_open ≡ true }
-    ensures ok { OnOk result (Commits (B.state book.old) (B.state book.new)) }
-    ensures fault { IfErr result (λ fault. GoesBack fault (B.state book.old) (B.state book.new)) }
-    ensures follows { Follows (B.state book.old) (B.state book.new) }
-{
-    Ok(book.commit()?)
-}
-
-/// Makes changes in an open transaction and keeps them.
-fn keep<B: Book>(book: &mut B, changes: Seq<Change>) -> Result<(), Fault>
-    requires { (B.state book.old).is_open ≡ true }
-    ensures kept { OnOk result (Keeps (B.state book.old) (B.state book.new) (with_changes changes (B.state book.old).content)) }
-    ensures fault { IfErr result (λ fault. GoesBack fault (B.state book.old) (B.state book.new)) }
-    ensures follows { Follows (B.state book.old) (B.state book.new) }
-{
-    apply(book, changes)?;
-    commit(book)
 }
 
 /// A reply, and the changes that go with it.

@@ -9,7 +9,7 @@ use Rattle.accounts.specs.declared.account.Account.{Account}
 use Rattle.accounts.specs.Account.{empty_account, counted, numbered}
 use Rattle.basis.specs.Maps.{map_values}
 use Rattle.basis.proofs.MapLemmas.{names_apart, get-map_values, map_values-insert, map_values-twice}
-use Rattle.names.specs.Given.{name_of}
+use Rattle.names.specs.GivenName.{name_of}
 use Rattle.objects.specs.Hosts.{is_below}
 use Rattle.objects.specs.Sight.{contact_as, domain_as}
 use Rattle.rules.specs.declared.decision.Change.{Change}

@@ -4,7 +4,7 @@ use Rattle.std.specs.Ordering.{nat_cmp}
 use Rattle.std.specs.Cmp.Lexicographic.{slice_cmp}
 use Rattle.accounts.specs.Account.{raised}
 use Rattle.basis.specs.Bag.{sorted, precedes}
-use Rattle.names.specs.Given.{name_of}
+use Rattle.names.specs.GivenName.{name_of}
 use Rattle.objects.specs.declared.domain.Domain.{Domain}
 use Rattle.objects.specs.declared.domain.Links.{Links}
 use Rattle.objects.specs.declared.roid.ObjectKind.TheVariants as kinds

@@ -1,6 +1,6 @@
 //! What a command changes.
 ghost use Rattle.std.specs.Prelude.{◌≡◌, ◌∷◌, IfOk, map};
-ghost use Rattle.names.specs.Given.{name_of};
+ghost use Rattle.names.specs.GivenName.{name_of};
 ghost use Rattle.rules.specs.Decisions as spec;
 
 use basis::list::Seq;

@@ -4,7 +4,7 @@ use Rattle.std.specs.FinMap.{get, keys}
 use Rattle.std.specs.Str.{bytes_eq}
 use Rattle.accounts.specs.declared.account.Account.{Account}
 use Rattle.names.specs.declared.given.GivenName.{GivenName}
-use Rattle.names.specs.Given.{name_of}
+use Rattle.names.specs.GivenName.{name_of}
 use Rattle.objects.specs.declared.domain.Domain.{Domain}
 use Rattle.objects.specs.declared.domain.DomainFace.{DomainFace}
 use Rattle.objects.specs.declared.sight.Seen.{Seen}

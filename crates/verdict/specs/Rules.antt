@@ -4,7 +4,7 @@ use Rattle.std.specs.List.{list_any}
 use Rattle.std.specs.Str.{bytes_eq}
 use Rattle.calendar.specs.Moment.{plus_years, capped}
 use Rattle.names.specs.declared.given.GivenName.{GivenName}
-use Rattle.names.specs.Given.{name_of, is_refused}
+use Rattle.names.specs.GivenName.{name_of, is_refused}
 use Rattle.objects.specs.declared.domain.Domain.{Domain}
 use Rattle.objects.specs.declared.domain.DomainFace.{DomainFace}
 use Rattle.objects.specs.declared.sight.Seen.{Seen}

@@ -3,7 +3,7 @@ ghost use Rattle.std.specs.Prelude.{◌≡◌, IfOk, map, option_map, None};
 ghost use Rattle.std.specs.Option.{option_copied};
 ghost use Rattle.std.specs.List.{list_any};
 ghost use Rattle.std.specs.Str.{bytes_eq};
-ghost use Rattle.names.specs.Given.{name_of, is_refused};
+ghost use Rattle.names.specs.GivenName.{name_of, is_refused};
 ghost use Rattle.verdict.specs.Refusals.{first_refusal};
 ghost use Rattle.verdict.specs.Rules as spec;
 ghost use Rattle.verdict.specs.Verdicts.{judged, tag_of};

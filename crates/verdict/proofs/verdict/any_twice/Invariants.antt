@@ -1,5 +1,5 @@
 use Rattle.std.proofs.Common.{◌≡◌, drop}
-use Rattle.names.specs.Given.{name_of}
+use Rattle.names.specs.GivenName.{name_of}
 use Rattle.verdict.specs.Rules.{has_twice}
 use Rattle.verdict.proofs.verdict.any_twice.Given as goal
 

@@ -1,5 +1,5 @@
 use Rattle.std.proofs.Common.{◌≡◌, map, take}
-use Rattle.names.specs.Given.{name_of}
+use Rattle.names.specs.GivenName.{name_of}
 use Rattle.store.specs.Plain.{held}
 use Rattle.verdict.specs.Facts.{domain_facts, presented}
 use Rattle.store.proofs.content.Content.facts_for.Given as goal

@@ -1,0 +1,102 @@
+//! The keys of the policy file.
+ghost use Rattle.std.specs.Prelude.{◌≡◌, option_map, option_copied};
+ghost use Rattle.policy.specs.Keys as spec;
+
+use std::fmt;
+
+/// A key of the policy file, in the order in which faults are looked for.
+#[derive(Clone, Copy, Debug, PartialEq, Eq)]
+pub enum Key {
+    Zone,
+    Reserved,
+    DaysAdd,
+    DaysAutoRenew,
+    DaysRenew,
+    DaysTransfer,
+    DaysRedemption,
+    DaysRestore,
+    DaysPendingDelete,
+    DaysAnswer,
+    DaysLock,
+    PriceCreate,
+    PriceRenew,
+    PriceTransfer,
+    SoaMname,
+    SoaRname,
+    SoaRefresh,
+    SoaRetry,
+    SoaExpire,
+    SoaMinimum,
+    SoaTtl,
+    RegistrarId,
+    RegistrarPassword,
+}
+
+impl Key {
+    /// The table in which the key stands, if it isn't a key of the document.
+    pub fn table(self) -> Option<&'static str>
+        ensures { option_copied result ≡ spec.table_of self }
+    {
+        match self {
+            Key::Zone | Key::Reserved => None,
+            Key::DaysAdd
+            | Key::DaysAutoRenew
+            | Key::DaysRenew
+            | Key::DaysTransfer
+            | Key::DaysRedemption
+            | Key::DaysRestore
+            | Key::DaysPendingDelete
+            | Key::DaysAnswer
+            | Key::DaysLock => Some("days"),
+            Key::PriceCreate | Key::PriceRenew | Key::PriceTransfer => Some("prices"),
+            Key::SoaMname
+            | Key::SoaRname
+            | Key::SoaRefresh
+            | Key::SoaRetry
+            | Key::SoaExpire
+            | Key::SoaMinimum
+            | Key::SoaTtl => Some("soa"),
+            Key::RegistrarId | Key::RegistrarPassword => Some("registrar"),
+        }
+    }
+
+    /// The key's name in its table.
+    pub fn name(self) -> &'static str
+        ensures { result.now ≡ spec.name_of self }
+    {
+        match self {
+            Key::Zone => "zone",
+            Key::Reserved => "reserved",
+            Key::DaysAdd => "add",
+            Key::DaysAutoRenew => "auto_renew",
+            Key::DaysRenew | Key::PriceRenew => "renew",
+            Key::DaysTransfer | Key::PriceTransfer => "transfer",
+            Key::DaysRedemption => "redemption",
+            Key::DaysRestore => "restore",
+            Key::DaysPendingDelete => "pending_delete",
+            Key::DaysAnswer => "answer",
+            Key::DaysLock => "lock",
+            Key::PriceCreate => "create",
+            Key::SoaMname => "mname",
+            Key::SoaRname => "rname",
+            Key::SoaRefresh => "refresh",
+            Key::SoaRetry => "retry",
+            Key::SoaExpire => "expire",
+            Key::SoaMinimum => "minimum",
+            Key::SoaTtl => "ttl",
+            Key::RegistrarId => "id",
+            Key::RegistrarPassword => "password",
+        }
+    }
+}
+
+impl fmt::Display for Key {
+    /// The key with the table before it, as `days.lock`.
+    fn fmt<W: fmt::Write>(&self, f: &mut fmt::Formatter<W>) -> fmt::Result {
+        let name = self.name();
+        match self.table() {
+            Some(table) => write!(f, "{table}.{name}"),
+            None => f.write_str(name),
+        }
+    }
+}

@@ -1,0 +1,192 @@
+//! The policy of the registry.
+ghost use Rattle.std.specs.Prelude.{◌≡◌, ℕ, length, map, option_copied, IfOk, IfSome};
+ghost use Rattle.toml.specs.View.{table_view};
+ghost use Rattle.policy.specs.Reading as spec;
+ghost use Rattle.policy.specs.Reading.{Gives};
+ghost use Rattle.policy.specs.Rules.{AreSound, IsDayCount, IsPlace, IsPrice, IsRegistrarCount, days_of, id_at, place_of, place_of_login};
+ghost use Rattle.policy.specs.Terms.{ids_of, terms_of};
+
+use crate::days::days_at;
+use crate::document::document_of;
+use crate::prices::prices_at;
+use crate::registrar::{index_of, index_of_login, number_at, registrars_at};
+use crate::soa::soa_at;
+use crate::texts::{labels_at, text_at};
+use crate::{Days, Key, Period, PolicyFault, Prices, Registrar, Soa, Terms};
+use basis::list::Seq;
+use basis::registrar::RegistrarNo;
+use basis::text::Text;
+use calendar::Moment;
+use names::Zone;
+use std::alloc::{AllocError, Global};
+use std::marker::Model;
+use toml::Table;
+
+/// The values that a registry is run by.
+#[derive(Drop)]
+pub struct Policy {
+    zone: Zone,
+    days: Days,
+    prices: Prices,
+    soa: Soa,
+    registrars: Seq<Registrar>,
+}
+
+impl Model for Policy {
+    ghost use Rattle.policy.specs.Rules.{AreSound, PolicyRules};
+
+    ghost Value = { PolicyRules };
+
+    ghost view = { λ p. record { zone = p.zone; days = p.days; prices = p.prices; soa = p.soa; registrars = p.registrars } };
+
+    ghost invariant = { λ p. AreSound p.days p.prices p.registrars };
+}
+
+#[tactic(auto, unfolding(crate::specs::Reading::rules_at))]
+fn rules_at(alloc: Global, document: &Table) -> Result<Policy, PolicyFault>
+    ensures { Gives (λ policy. policy) result (spec.rules_at (table_view document.now)) }
+{
+    let label = text_at(alloc, document, Key::Zone)?;
+    let reserved = labels_at(alloc, document, Key::Reserved)?;
+    let days = days_at(document)?;
+    let prices = prices_at(document)?;
+    let soa = soa_at(alloc, document)?;
+    let registrars = registrars_at(alloc, document)?;
+    Ok(Policy {
+        zone: Zone::new(label, Seq::from_vec(reserved)),
+        days,
+        prices,
+        soa,
+        registrars,
+    })
+}
+
+/// The ids of registrars, in their order.
+fn copied_ids(alloc: Global, registrars: &[Registrar]) -> Result<Vec<Text>, AllocError>
+    ensures { IfOk result (λ ids. ids.items ≡ ids_of registrars.now) }
+{
+    let mut ids = Vec::new(alloc);
+    for registrar in registrars {
+        ids.push(registrar.id.clone()?)?;
+    }
+    Ok(ids)
+}
+
+/// A copy of a list of labels.
+fn copied(alloc: Global, labels: &[Text]) -> Result<Vec<Text>, AllocError>
+    ensures { IfOk result (λ copy. copy.items ≡ labels.now) }
+{
+    let mut copy = Vec::new(alloc);
+    for label in labels {
+        copy.push(label.clone()?)?;
+    }
+    Ok(copy)
+}
+
+impl Policy {
+    /// The policy that a file holds, or its first fault in the order of [`Key`]. A key's fault is
+    /// found before that of the next key, and of several registrars one that lacks a key before
+    /// all that is wrong with the key's values.
+    #[tactic(auto, unfolding(crate::specs::Reading::policy_of))]
+    pub fn read(alloc: Global, bytes: &[u8]) -> Result<Policy, PolicyFault>
+        ensures { Gives (λ policy. policy) result (spec.policy_of bytes.now) }
+    {
+        let document = document_of(alloc, bytes)?;
+        rules_at(alloc, &document)
+    }
+
+    /// The zone, and the labels that no domain in it may have.
+    pub fn zone(&self) -> &Zone
+        ensures { result.now ≡ self.now.zone }
+    {
+        &self.zone
+    }
+
+    /// The zone's start of authority.
+    pub fn soa(&self) -> &Soa
+        ensures { result.now ≡ self.now.soa }
+    {
+        &self.soa
+    }
+
+    /// The days of a period that begins at a moment, from 1 to 3,650. They're the same at every
+    /// moment, as long as a policy says nothing of later ones.
+    pub fn days(&self, period: Period, start: Moment) -> u32
+        ensures value { result ≡ days_of period start self.now }
+        ensures range { IsDayCount result }
+    {
+        self.days.length(period)
+    }
+
+    /// The price of a year of a create in cents, from 0 to 1,000,000,000.
+    pub fn create_price(&self) -> u32
+        ensures value { result ≡ self.now.prices.create }
+        ensures range { IsPrice result }
+    {
+        self.prices.create
+    }
+
+    /// The price of a year of a renewal in cents, from 0 to 1,000,000,000.
+    pub fn renew_price(&self) -> u32
+        ensures value { result ≡ self.now.prices.renew }
+        ensures range { IsPrice result }
+    {
+        self.prices.renew
+    }
+
+    /// The price of a transfer in cents, from 0 to 1,000,000,000.
+    pub fn transfer_price(&self) -> u32
+        ensures value { result ≡ self.now.prices.transfer }
+        ensures range { IsPrice result }
+    {
+        self.prices.transfer
+    }
+
+    /// How many registrars there are, from 1 to 1,000.
+    pub fn registrars(&self) -> u32
+        ensures value { result ≡ length self.now.registrars }
+        ensures range { IsRegistrarCount result }
+    {
+        self.registrars.as_slice().len() as u32
+    }
+
+    /// The registrar with this id.
+    pub fn find(&self, id: &str) -> Option<RegistrarNo>
+        ensures value { result ≡ place_of id.now self.now }
+        ensures place { IfSome result (IsPlace self.now) }
+    {
+        let index = index_of(self.registrars.as_slice(), id)?;
+        Some(number_at(index))
+    }
+
+    /// The registrar with this id and password.
+    pub fn login(&self, id: &str, password: &str) -> Option<RegistrarNo>
+        ensures value { result ≡ place_of_login id.now password.now self.now }
+        ensures place { IfSome result (IsPlace self.now) }
+    {
+        let index = index_of_login(self.registrars.as_slice(), id, password)?;
+        Some(number_at(index))
+    }
+
+    /// The id of a registrar. None where the policy has no such place.
+    pub fn id_of(&self, registrar: RegistrarNo) -> Option<&Text>
+        ensures { option_copied result ≡ id_at self.now registrar }
+    {
+        let index = registrar.place().checked_sub(1)?;
+        let found = self.registrars.as_slice().get(index as usize)?;
+        Some(&found.id)
+    }
+
+    /// What a registry's book is used under.
+    pub fn terms(&self, alloc: Global) -> Result<Terms, AllocError>
+        ensures { IfOk result (λ terms. terms ≡ terms_of self.now) }
+    {
+        Ok(Terms {
+            zone: self.zone.label().clone()?,
+            reserved: Seq::from_vec(copied(alloc, self.zone.reserved())?),
+            days: self.days,
+            prices: self.prices,
+            ids: Seq::from_vec(copied_ids(alloc, self.registrars.as_slice())?),
+        })
+    }
+}

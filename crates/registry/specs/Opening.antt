@@ -1,0 +1,50 @@
+-- How a book is opened under a policy.
+use Rattle.std.specs.Prelude.{◌≡◌, ℕ, zero, suc, Bool, true, false, List, [], ◌∷◌, ◌++◌, length, Option, Some, None}
+use Rattle.policy.specs.declared.terms.Terms.{Terms}
+use Rattle.policy.specs.Rules.{PolicyRules}
+use Rattle.policy.specs.Terms.{continues, terms_of}
+use Rattle.registry.specs.declared.fault.OpenFault.{OpenFault}
+use Rattle.registry.specs.declared.fault.OpenFault.TheVariants as refusals
+use Rattle.rules.specs.declared.decision.Change.{Change}
+use Rattle.rules.specs.declared.decision.Change.TheVariants.{OpenAccount}
+use Rattle.rules.specs.Changes.{changed_all}
+use Rattle.store.specs.Book.{BookState, HasRefused, IsBack, Stored}
+
+-- a book that was never opened, or was opened under terms that these continue
+abbrev pub goes_on : Terms → Option Terms → Bool
+goes_on terms None = true
+goes_on terms (Some earlier) = continues terms earlier
+
+-- an account for each of the first n registrars
+unfoldable pub openings : ℕ → List Change
+openings zero = []
+openings (suc n) = openings n ++ OpenAccount (suc n) ∷ []
+
+-- what an opened book holds: the registrars have accounts, and the policy's terms are put down
+abbrev pub opened : PolicyRules → Stored → Stored
+opened p s = record { registry = changed_all (openings (length p.registrars)) s.registry; terms = Some (terms_of p) }
+
+pub record Opens (p : PolicyRules) (old new : BookState) : Type 0 where
+  pub closed : new.is_open ≡ false
+  pub content : new.is_clean ≡ true → new.content ≡ opened p old.content
+  pub fits : new.is_clean ≡ true → goes_on (terms_of p) old.content.terms ≡ true
+
+-- the accounts are there, and the terms put down
+pub record IsOpened (p : PolicyRules) (old new : BookState) : Type 0 where
+  pub closed : new.is_open ≡ false
+  pub content : new.is_clean ≡ true → new.content ≡ opened p old.content
+
+-- a refused book is as it was, and what it is refused for is so
+pub record DoesNotFit (p : PolicyRules) (old new : BookState) : Type 0 where
+  pub back : IsBack old new
+  pub differs : new.is_clean ≡ true → goes_on (terms_of p) old.content.terms ≡ false
+
+abbrev pub Refuses : OpenFault → PolicyRules → BookState → BookState → Type 0
+Refuses refusals.Policy p old new = DoesNotFit p old new
+Refuses refusals.Memory p old new = IsBack old new
+Refuses refusals.Store p old new = IsBack old new × HasRefused old new
+
+-- in a transaction, the book was opened or it went back
+abbrev pub TakesUp : Bool → PolicyRules → BookState → BookState → Type 0
+TakesUp true p old new = Opens p old new
+TakesUp false p old new = DoesNotFit p old new

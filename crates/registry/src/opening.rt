@@ -1,0 +1,100 @@
+//! How a book is opened under a policy.
+ghost use Rattle.std.specs.Prelude.{◌≡◌, true, false, IfOk, IfErr, OnOk};
+ghost use Rattle.policy.specs.Terms.{terms_of};
+ghost use Rattle.registry.specs.Execution.{GoesBack};
+ghost use Rattle.registry.specs.Opening as spec;
+ghost use Rattle.registry.specs.Opening.{IsOpened, Opens, Refuses, TakesUp};
+ghost use Rattle.store.specs.Book.{Follows};
+
+use crate::fault::{Fault, OpenFault};
+use crate::transaction::{apply, commit, keep_terms, or_back, terms};
+use basis::list::Seq;
+use basis::registrar::RegistrarNo;
+use policy::{Policy, Terms};
+use rules::Change;
+use std::alloc::{AllocError, Global};
+use store::{Book, BookFault};
+
+/// Opens a book in one transaction.
+pub(crate) fn take_up<B: Book>(
+    book: &mut B,
+    alloc: Global,
+    policy: &Policy,
+) -> Result<(), OpenFault>
+    requires { (B.state book.old).is_open ≡ false }
+    ensures opened { OnOk result (Opens policy.now (B.state book.old) (B.state book.new)) }
+    ensures refused { IfErr result (λ fault. Refuses fault policy.now (B.state book.old) (B.state book.new)) }
+{
+    match book.begin() {
+        Ok(()) => {}
+        Err(BookFault::Memory) => return Err(OpenFault::Memory),
+        Err(BookFault::Store) => return Err(OpenFault::Store),
+    }
+    match take_up_in_transaction(book, alloc, policy) {
+        Ok(true) => Ok(()),
+        Ok(false) => Err(OpenFault::Policy),
+        Err(Fault::Store) => Err(OpenFault::Store),
+        Err(_) => Err(OpenFault::Memory),
+    }
+}
+
+/// Opens a book, or goes back where the policy doesn't continue the terms that it was used under.
+fn take_up_in_transaction<B: Book>(
+    book: &mut B,
+    alloc: Global,
+    policy: &Policy,
+) -> Result<bool, Fault>
+    requires { (B.state book.old).is_open ≡ true }
+    ensures taken { IfOk result (λ taken. TakesUp taken policy.now (B.state book.old) (B.state book.new)) }
+    ensures fault { IfErr result (λ fault. GoesBack fault (B.state book.old) (B.state book.new)) }
+    ensures follows { Follows (B.state book.old) (B.state book.new) }
+{
+    let earlier = terms(book)?;
+    let own = or_back(book, policy.terms(alloc))?;
+    if !goes_on(&own, &earlier) {
+        book.back();
+        return Ok(false);
+    }
+    install(book, alloc, policy, own)?;
+    Ok(true)
+}
+
+/// Whether a book that was used under the earlier terms, if there are any, goes on under these.
+fn goes_on(terms: &Terms, earlier: &Option<Terms>) -> bool
+    ensures { result ≡ spec.goes_on terms.now earlier.now }
+{
+    match earlier {
+        None => true,
+        Some(earlier) => terms.continues(earlier),
+    }
+}
+
+/// Opens the registrars' accounts, and puts down the terms.
+fn install<B: Book>(
+    book: &mut B,
+    alloc: Global,
+    policy: &Policy,
+    own: Terms,
+) -> Result<(), Fault>
+    requires open { (B.state book.old).is_open ≡ true }
+    requires own { own ≡ terms_of policy.now }
+    ensures opened { OnOk result (IsOpened policy.now (B.state book.old) (B.state book.new)) }
+    ensures fault { IfErr result (λ fault. GoesBack fault (B.state book.old) (B.state book.new)) }
+    ensures follows { Follows (B.state book.old) (B.state book.new) }
+{
+    let accounts = or_back(book, openings(alloc, policy.registrars()))?;
+    apply(book, accounts)?;
+    keep_terms(book, own)?;
+    commit(book)
+}
+
+/// An account for each of the first registrars.
+fn openings(alloc: Global, count: u32) -> Result<Seq<Change>, AllocError>
+    ensures { IfOk result (λ changes. changes ≡ spec.openings count) }
+{
+    let mut changes = Seq::new(alloc);
+    for place in 0..count {
+        changes.push(Change::OpenAccount(RegistrarNo::of_place(place + 1)))?;
+    }
+    Ok(changes)
+}

@@ -1,0 +1,110 @@
+//! The steps of a transaction, each with one kind of fault: it then went back.
+ghost use Rattle.std.specs.Prelude.{◌≡◌, true, IfOk, IfErr, OnOk, Ok};
+ghost use Rattle.registry.specs.Execution.{GoesBack, Keeps};
+ghost use Rattle.store.specs.Book.{Commits, Follows, IsSame, Moves, with_changes, with_terms};
+ghost use Rattle.verdict.specs.Facts.{facts};
+
+use crate::fault::Fault;
+use basis::list::Seq;
+use basis::registrar::RegistrarNo;
+use calendar::Moment;
+use policy::Terms;
+use rules::Change;
+use std::alloc::AllocError;
+use store::Book;
+use verdict::{Command, Facts};
+
+/// What was made, or back to where the transaction began where memory ran out.
+pub(crate) fn or_back<B: Book, T>(book: &mut B, made: Result<T, AllocError>) -> Result<T, Fault>
+    requires { (B.state book.old).is_open ≡ true }
+    ensures made { IfOk result (λ value. made ≡ Ok value) }
+    ensures same { OnOk result (book.new ≡ book.old) }
+    ensures fault { IfErr result (λ fault. GoesBack fault (B.state book.old) (B.state book.new)) }
+    ensures follows { Follows (B.state book.old) (B.state book.new) }
+{
+    match made {
+        Ok(value) => Ok(value),
+        Err(error) => {
+            book.back();
+            Err(Fault::from(error))
+        }
+    }
+}
+
+/// The clock, in an open transaction.
+pub(crate) fn clock<B: Book>(book: &mut B) -> Result<Moment, Fault>
+    requires { (B.state book.old).is_open ≡ true }
+    ensures found { IfOk result (λ clock. (B.state book.new).is_clean ≡ true → clock ≡ (B.state book.old).content.registry.clock) }
+    ensures same { OnOk result (IsSame (B.state book.old) (B.state book.new)) }
+    ensures fault { IfErr result (λ fault. GoesBack fault (B.state book.old) (B.state book.new)) }
+    ensures follows { Follows (B.state book.old) (B.state book.new) }
+{
+    Ok(book.clock()?)
+}
+
+/// The facts that bear on a command, in an open transaction.
+pub(crate) fn facts_for<B: Book>(
+    book: &mut B,
+    caller: RegistrarNo,
+    command: &Command,
+) -> Result<Facts, Fault>
+    requires { (B.state book.old).is_open ≡ true }
+    ensures found { IfOk result (λ found. (B.state book.new).is_clean ≡ true → found ≡ facts caller command.now (B.state book.old).content.registry) }
+    ensures same { OnOk result (IsSame (B.state book.old) (B.state book.new)) }
+    ensures fault { IfErr result (λ fault. GoesBack fault (B.state book.old) (B.state book.new)) }
+    ensures follows { Follows (B.state book.old) (B.state book.new) }
+{
+    Ok(book.facts_for(caller, command)?)
+}
+
+/// Makes changes in an open transaction.
+pub(crate) fn apply<B: Book>(book: &mut B, changes: Seq<Change>) -> Result<(), Fault>
+    requires { (B.state book.old).is_open ≡ true }
+    ensures ok { OnOk result (Moves (B.state book.old) (B.state book.new) (with_changes changes (B.state book.old).content)) }
+    ensures fault { IfErr result (λ fault. GoesBack fault (B.state book.old) (B.state book.new)) }
+    ensures follows { Follows (B.state book.old) (B.state book.new) }
+{
+    Ok(book.apply(changes)?)
+}
+
+/// The terms under which a book was opened, in an open transaction.
+pub(crate) fn terms<B: Book>(book: &mut B) -> Result<Option<Terms>, Fault>
+    requires { (B.state book.old).is_open ≡ true }
+    ensures found { IfOk result (λ terms. (B.state book.new).is_clean ≡ true → terms ≡ (B.state book.old).content.terms) }
+    ensures same { OnOk result (IsSame (B.state book.old) (B.state book.new)) }
+    ensures fault { IfErr result (λ fault. GoesBack fault (B.state book.old) (B.state book.new)) }
+    ensures follows { Follows (B.state book.old) (B.state book.new) }
+{
+    Ok(book.terms()?)
+}
+
+/// Puts down terms in an open transaction.
+pub(crate) fn keep_terms<B: Book>(book: &mut B, terms: Terms) -> Result<(), Fault>
+    requires { (B.state book.old).is_open ≡ true }
+    ensures ok { OnOk result (Moves (B.state book.old) (B.state book.new) (with_terms terms (B.state book.old).content)) }
+    ensures fault { IfErr result (λ fault. GoesBack fault (B.state book.old) (B.state book.new)) }
+    ensures follows { Follows (B.state book.old) (B.state book.new) }
+{
+    Ok(book.keep_terms(terms)?)
+}
+
+/// Keeps what an open transaction did.
+pub(crate) fn commit<B: Book>(book: &mut B) -> Result<(), Fault>
+    requires { (B.state book.old).is_open ≡ true }
+    ensures ok { OnOk result (Commits (B.state book.old) (B.state book.new)) }
+    ensures fault { IfErr result (λ fault. GoesBack fault (B.state book.old) (B.state book.new)) }
+    ensures follows { Follows (B.state book.old) (B.state book.new) }
+{
+    Ok(book.commit()?)
+}
+
+/// Makes changes in an open transaction and keeps them.
+pub(crate) fn keep<B: Book>(book: &mut B, changes: Seq<Change>) -> Result<(), Fault>
+    requires { (B.state book.old).is_open ≡ true }
+    ensures kept { OnOk result (Keeps (B.state book.old) (B.state book.new) (with_changes changes (B.state book.old).content)) }
+    ensures fault { IfErr result (λ fault. GoesBack fault (B.state book.old) (B.state book.new)) }
+    ensures follows { Follows (B.state book.old) (B.state book.new) }
+{
+    apply(book, changes)?;
+    commit(book)
+}
