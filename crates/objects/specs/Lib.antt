@@ -4,3 +4,5 @@ pub mod Domains
 pub mod Contacts
 pub mod Hosts
 pub mod Sight
+pub mod Roid
+pub mod StatusTexts

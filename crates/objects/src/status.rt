@@ -2,6 +2,7 @@
 //! (RFC 3915, 3.1), each in the order of its text's bytes.
 
 ghost use Rattle.std.specs.Prelude.{◌≡◌};
+ghost use Rattle.objects.specs.StatusTexts.{status_text, rgp_text};
 ghost use Rattle.objects.specs.Statuses.{all_statuses, rank_of, is_status, has_status};
 
 /// A status of an object. Those that begin with `Client` are set by the sponsor, those with `Server`
@@ -68,6 +69,29 @@ impl Status {
         }
     }
 
+    /// The status as replies show it.
+    pub fn text(self) -> &'static str
+        ensures { result.now ≡ status_text self }
+    {
+        match self {
+            Status::ClientDeleteProhibited => "clientDeleteProhibited",
+            Status::ClientHold => "clientHold",
+            Status::ClientRenewProhibited => "clientRenewProhibited",
+            Status::ClientTransferProhibited => "clientTransferProhibited",
+            Status::ClientUpdateProhibited => "clientUpdateProhibited",
+            Status::Inactive => "inactive",
+            Status::Linked => "linked",
+            Status::Fine => "ok",
+            Status::PendingDelete => "pendingDelete",
+            Status::PendingTransfer => "pendingTransfer",
+            Status::ServerDeleteProhibited => "serverDeleteProhibited",
+            Status::ServerHold => "serverHold",
+            Status::ServerRenewProhibited => "serverRenewProhibited",
+            Status::ServerTransferProhibited => "serverTransferProhibited",
+            Status::ServerUpdateProhibited => "serverUpdateProhibited",
+        }
+    }
+
     pub fn is(self, other: Status) -> bool
         ensures { result ≡ is_status self other }
     {
@@ -92,4 +116,32 @@ pub enum Rgp {
     RedemptionPeriod,
     RenewPeriod,
     TransferPeriod,
+}
+
+impl Rgp {
+    /// The state as replies show it.
+    pub fn text(self) -> &'static str
+        ensures { result.now ≡ rgp_text self }
+    {
+        match self {
+            Rgp::AddPeriod => "addPeriod",
+            Rgp::AutoRenewPeriod => "autoRenewPeriod",
+            Rgp::PendingDelete => "pendingDelete",
+            Rgp::PendingRestore => "pendingRestore",
+            Rgp::RedemptionPeriod => "redemptionPeriod",
+            Rgp::RenewPeriod => "renewPeriod",
+            Rgp::TransferPeriod => "transferPeriod",
+        }
+    }
+}
+
+#[cfg(test)]
+mod tests {
+    use super::{Rgp, Status};
+
+    #[test]
+    fn shows_states(rt: HostRuntime) {
+        assert_eq!(rt; Status::Fine.text(), "ok");
+        assert_eq!(rt; Rgp::AutoRenewPeriod.text(), "autoRenewPeriod");
+    }
 }
