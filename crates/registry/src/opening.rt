@@ -70,12 +70,7 @@ fn goes_on(terms: &Terms, earlier: &Option<Terms>) -> bool
 }
 
 /// Opens the registrars' accounts, and puts down the terms.
-fn install<B: Book>(
-    book: &mut B,
-    alloc: Global,
-    policy: &Policy,
-    own: Terms,
-) -> Result<(), Fault>
+fn install<B: Book>(book: &mut B, alloc: Global, policy: &Policy, own: Terms) -> Result<(), Fault>
     requires open { (B.state book.old).is_open ≡ true }
     requires own { own ≡ terms_of policy.now }
     ensures opened { OnOk result (IsOpened policy.now (B.state book.old) (B.state book.new)) }

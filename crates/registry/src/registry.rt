@@ -13,9 +13,9 @@ use crate::opening::take_up;
 use crate::transaction::{apply, clock, facts_for, keep, or_back};
 use basis::list::Seq;
 use basis::registrar::RegistrarNo;
+use basis::text::Text;
 use calendar::Moment;
 use policy::Policy;
-use basis::text::Text;
 use rules::{Change, decide};
 use std::alloc::{AllocError, Global};
 use store::Book;
@@ -38,11 +38,7 @@ impl<B: Book + Drop> Registry<B> {
     /// that was used under another zone, other reserved labels, days or prices, or whose earlier
     /// registrars aren't the first of the policy, is refused. What is refused is handed back as it
     /// was.
-    pub fn open(
-        alloc: Global,
-        book: B,
-        policy: Policy,
-    ) -> Result<Registry<B>, (OpenFault, B)>
+    pub fn open(alloc: Global, book: B, policy: Policy) -> Result<Registry<B>, (OpenFault, B)>
         requires { (B.state book).is_open ≡ false }
         ensures opened { IfOk result (λ registry. Opens policy (B.state book) (B.state registry.book)) }
         ensures policy { IfOk result (λ registry. registry.policy ≡ policy) }
@@ -104,7 +100,14 @@ impl<B: Book + Drop> Registry<B> {
         ensures policy { self.new.policy ≡ self.old.policy }
     {
         self.book.begin()?;
-        perform(&mut self.book, self.alloc, caller, command, moment, &self.policy)
+        perform(
+            &mut self.book,
+            self.alloc,
+            caller,
+            command,
+            moment,
+            &self.policy,
+        )
     }
 }
 

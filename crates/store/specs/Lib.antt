@@ -1,3 +1,4 @@
+pub mod Due
 pub mod Book
 pub mod Undo
 pub mod Plain

@@ -1,8 +1,10 @@
 //! The trait of a place where a registry is kept.
 ghost use Rattle.std.specs.Prelude.{◌≡◌, true, false, IfOk, OnOk};
 ghost use Rattle.store.specs.Book.{Follows, FaultLeaves, IsSame, IsBack, Begins, Moves, Commits, with_changes, with_terms};
+ghost use Rattle.store.specs.Due.{due_by};
 ghost use Rattle.verdict.specs.Facts.{facts};
 
+use crate::due::Due;
 use crate::fault::BookFault;
 use basis::list::Seq;
 use basis::registrar::RegistrarNo;
@@ -44,6 +46,14 @@ pub trait Book {
     /// The facts that bear on a registrar's command.
     fn facts_for(&mut self, caller: RegistrarNo, command: &Command) -> Result<Facts, BookFault>
         ensures found { IfOk result (λ found. (state self.new).is_clean ≡ true → found ≡ facts caller command.now (state self.old).content.registry) }
+        ensures same { OnOk result (IsSame (state self.old) (state self.new)) }
+        ensures fault { FaultLeaves result (state self.old) (state self.new) }
+        ensures follows { Follows (state self.old) (state self.new) };
+
+    /// The objects that time changes or removes up to a moment, by the moment of the first change,
+    /// then contacts first, then by name.
+    fn due(&mut self, moment: Moment) -> Result<Seq<Due>, BookFault>
+        ensures found { IfOk result (λ due. (state self.new).is_clean ≡ true → due ≡ due_by moment (state self.old).content.registry) }
         ensures same { OnOk result (IsSame (state self.old) (state self.new)) }
         ensures fault { FaultLeaves result (state self.old) (state self.new) }
         ensures follows { Follows (state self.old) (state self.new) };

@@ -81,9 +81,7 @@ impl Content {
     {
         let seen = match self.domains.get(name) {
             None => None,
-            Some(domain) => {
-                Some(domain.seen_by(self.alloc, caller, command.presented(name))?)
-            }
+            Some(domain) => { Some(domain.seen_by(self.alloc, caller, command.presented(name))?) }
         };
         Ok(DomainFacts {
             name: name.clone()?,

@@ -3,10 +3,12 @@
 
 mod book;
 mod content;
+mod due;
 mod fault;
 mod plain;
 mod undo;
 
 pub use book::Book;
+pub use due::Due;
 pub use fault::BookFault;
 pub use plain::PlainBook;

@@ -5,6 +5,7 @@ ghost use Rattle.store.specs.Plain.{IsSettled, held, found, plain_state};
 
 use crate::book::Book;
 use crate::content::{Content, copy_terms};
+use crate::due::Due;
 use crate::fault::BookFault;
 use crate::undo::Undo;
 use basis::list::Seq;
@@ -169,16 +170,17 @@ impl Book for PlainBook {
         }
     }
 
-    fn facts_for(
-        &mut self,
-        caller: RegistrarNo,
-        command: &Command,
-    ) -> Result<Facts, BookFault> {
+    fn facts_for(&mut self, caller: RegistrarNo, command: &Command) -> Result<Facts, BookFault> {
         self.settle()?;
         match self.content.facts_for(caller, command) {
             Ok(facts) => Ok(facts),
             Err(error) => self.fail(error),
         }
+    }
+
+    fn due(&mut self, _moment: Moment) -> Result<Seq<Due>, BookFault> {
+        self.settle()?;
+        Ok(Seq::new(self.content.alloc))
     }
 
     fn begin(&mut self) -> Result<(), BookFault> {

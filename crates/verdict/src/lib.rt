@@ -12,8 +12,8 @@ mod verdict;
 pub use code::Code;
 pub use command::{Command, NewDomain, Request};
 pub use facts::{AccountFacts, DomainFacts, Facts};
-pub use refusal::{Class, CAUSES, Cause, Refusal, first_refusal};
-pub use verdict::{Verdict, id_of, judge};
+pub use refusal::{CAUSES, Cause, Class, Refusal, first_refusal};
 pub use reply::{
     CheckResult, Created, Data, DomainHidden, DomainInfo, Reason, Reply, ServerTag, TransferInfo,
 };
+pub use verdict::{Verdict, id_of, judge};

@@ -12,9 +12,7 @@ use crate::code::Code;
 use crate::command::{Command, NewDomain, Request};
 use crate::facts::{DomainFacts, Facts};
 use crate::refusal::{Class, Refusal, first_refusal};
-use crate::reply::{
-    CheckResult, Created, Data, DomainHidden, DomainInfo, Reason, TransferInfo,
-};
+use crate::reply::{CheckResult, Created, Data, DomainHidden, DomainInfo, Reason, TransferInfo};
 use basis::list::Seq;
 use basis::registrar::RegistrarNo;
 use basis::text::Text;
@@ -143,11 +141,7 @@ fn tell(
 }
 
 /// Which of the names could be created.
-fn check(
-    alloc: Global,
-    facts: &Facts,
-    names: &[GivenName],
-) -> Result<Vec<CheckResult>, AllocError>
+fn check(alloc: Global, facts: &Facts, names: &[GivenName]) -> Result<Vec<CheckResult>, AllocError>
     ensures { IfOk result (λ results. results.items ≡ map (spec.result_of facts.now) names.now) }
 {
     let mut results = Vec::new(alloc);

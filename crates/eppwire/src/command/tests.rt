@@ -1,4 +1,5 @@
 use super::command_of;
+use basis::list::Seq;
 use basis::text::Text;
 use names::Zone;
 use std::alloc::{AllocError, Global};
@@ -6,9 +7,9 @@ use std::test::Fail;
 use verdict::{Code, Command, Request};
 
 fn zone(alloc: Global) -> Result<Zone, AllocError> {
-    let mut reserved = Vec::new(alloc);
-    reserved.push(String::from_str(alloc, "nic")?)?;
-    Ok(Zone::new(String::from_str(alloc, "test")?, reserved))
+    let mut reserved = Seq::new(alloc);
+    reserved.push(Text::from_str(alloc, "nic")?)?;
+    Ok(Zone::new(Text::from_str(alloc, "test")?, reserved))
 }
 
 #[test]
