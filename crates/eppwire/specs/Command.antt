@@ -12,12 +12,12 @@ use Rattle.verdict.specs.declared.command.Command.TheVariants.{Bad, Asked}
 use Rattle.eppwire.specs.declared.table.Member.TheVariants.{ClTrid}
 use Rattle.eppwire.specs.Kind.{some_and, in_range, has_shape}
 use Rattle.eppwire.specs.Table.{tag}
-use Rattle.eppwire.specs.Form.{member_at, text_at}
+use Rattle.eppwire.specs.Form.{member_at, word_at}
 use Rattle.eppwire.specs.Request.{request_in}
 
 -- the client's identifier, where it is well formed; the reply repeats it whatever else is wrong
 abbrev pub tag_in : Data → Option (List ℕ)
-tag_in d = if some_and (λ v. in_range tag.kind v && has_shape tag.kind v) (member_at ClTrid d) then text_at ClTrid d else None
+tag_in d = if some_and (λ v. in_range tag.kind v && has_shape tag.kind v) (member_at ClTrid d) then word_at ClTrid d else None
 
 abbrev pub command_with : Option (List ℕ) → Result Request Code → Command
 command_with tag (Ok request) = Asked tag request

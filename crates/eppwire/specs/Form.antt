@@ -29,15 +29,15 @@ refuse_unless holds code = if holds then Ok tt else Err code
 abbrev pub member_at : Member → Data → Option Data
 member_at m d = get (text_of m) d
 
-abbrev pub text_at : Member → Data → Option (List ℕ)
-text_at m d = option_and_then as_str (member_at m d)
+abbrev pub word_at : Member → Data → Option (List ℕ)
+word_at m d = option_and_then as_str (member_at m d)
 
 -- the row that cmd and obj choose
 unfoldable pub row_in : Data → Result Row Code
 row_in d = do
-  cmd ← ok_or (text_at members.Cmd d) SyntaxError
+  cmd ← ok_or (word_at members.Cmd d) SyntaxError
   verb ← ok_or (verb_named cmd) UnknownCommand
-  obj ← ok_or (text_at members.Obj d) SyntaxError
+  obj ← ok_or (word_at members.Obj d) SyntaxError
   object ← ok_or (object_named obj) UnknownCommand
   ok_or (row_of verb object) UnknownCommand
 

@@ -3,7 +3,7 @@ ghost use Rattle.std.specs.Prelude.{◌≡◌, IfOk, option_map};
 ghost use Rattle.serde_json.specs.View.{view};
 ghost use Rattle.eppwire.specs.Command as spec;
 
-use crate::form::{member, text};
+use crate::form::{member, word};
 use crate::request::{Fault, request_in};
 use crate::table::{Member, TAG};
 use basis::text::Text;
@@ -43,7 +43,7 @@ fn tag_of(alloc: Global, value: &Value) -> Result<Option<Text>, AllocError>
 {
     match member(value, Member::ClTrid) {
         Some(found) if TAG.kind.is_in_range(found) && TAG.kind.has_shape(found) => {
-            copied(alloc, text(value, Member::ClTrid))
+            copied(alloc, word(value, Member::ClTrid))
         }
         _ => Ok(None),
     }

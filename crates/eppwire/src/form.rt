@@ -24,9 +24,9 @@ pub fn checked_row(value: &Value) -> Result<Row, Code>
 fn row_of(value: &Value) -> Result<Row, Code>
     ensures { result ≡ spec.row_in (view value.now) }
 {
-    let verb = text(value, Member::Cmd).ok_or(Code::SyntaxError)?;
+    let verb = word(value, Member::Cmd).ok_or(Code::SyntaxError)?;
     let verb = Verb::named(verb).ok_or(Code::UnknownCommand)?;
-    let object = text(value, Member::Obj).ok_or(Code::SyntaxError)?;
+    let object = word(value, Member::Obj).ok_or(Code::SyntaxError)?;
     let object = object_named(object).ok_or(Code::UnknownCommand)?;
     Row::of(verb, object).ok_or(Code::UnknownCommand)
 }
@@ -159,8 +159,8 @@ pub fn member(value: &Value, member: Member) -> Option<&Value>
 }
 
 /// The text of a member.
-pub fn text(value: &Value, member: Member) -> Option<&str>
-    ensures { option_map (λ s. s.now) result ≡ spec.text_at member (view value.now) }
+pub fn word(value: &Value, member: Member) -> Option<&str>
+    ensures { option_map (λ s. s.now) result ≡ spec.word_at member (view value.now) }
 {
     value.get(member.text()).and_then(Value::as_str)
 }

@@ -237,11 +237,11 @@ const HOSTS: Field = may!(Top, Hosts, texts!(0, 13, 1, 1000, Name));
 
 const SECRET: Field = must!(Top, Secret, text!(6, 64, Printable));
 
-const SECRET_SHOWN: Field = may!(Top, Secret, text!(6, 64, Printable));
+const PRESENTED_SECRET: Field = may!(Top, Secret, text!(6, 64, Printable));
 
 const CHECK_DOMAIN: [Field; 4] = [CMD, OBJ, TAG, DOMAIN_NAMES];
 
-const INFO_DOMAIN: [Field; 5] = [CMD, OBJ, TAG, DOMAIN_NAME, SECRET_SHOWN];
+const INFO_DOMAIN: [Field; 5] = [CMD, OBJ, TAG, DOMAIN_NAME, PRESENTED_SECRET];
 
 const CREATE_DOMAIN: [Field; 10] = [
     CMD,

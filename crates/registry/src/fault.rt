@@ -5,16 +5,20 @@ ghost use Rattle.registry.specs.Faults.{of_book};
 
 use std::alloc::AllocError;
 use store::BookFault;
+use thiserror::Error;
 
 /// Why a call gave up. The registry, its clock and all counters are then as they were before the
 /// call.
-#[derive(Clone, Copy, Debug, PartialEq, Eq, Drop)]
+#[derive(Clone, Copy, Debug, PartialEq, Eq, Drop, Error)]
 pub enum Fault {
     /// Memory ran out.
+    #[error("out of memory")]
     Memory,
     /// What keeps the book refused.
+    #[error("store fault")]
     Store,
     /// The moment is later than 2099-12-31T23:59:59Z.
+    #[error("moment fault")]
     Moment,
 }
 
@@ -38,12 +42,15 @@ impl From<BookFault> for Fault {
 }
 
 /// Why a book can't be opened.
-#[derive(Clone, Copy, Debug, PartialEq, Eq, Drop)]
+#[derive(Clone, Copy, Debug, PartialEq, Eq, Drop, Error)]
 pub enum OpenFault {
     /// It was used under another zone, other reserved labels, days or prices, or other registrars.
+    #[error("open: policy differs")]
     Policy,
     /// Memory ran out.
+    #[error("out of memory")]
     Memory,
     /// What keeps the book refused.
+    #[error("store fault")]
     Store,
 }

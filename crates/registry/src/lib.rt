@@ -4,6 +4,8 @@
 mod fault;
 mod opening;
 mod registry;
+#[cfg(test)]
+mod tests;
 mod transaction;
 
 pub use fault::{Fault, OpenFault};

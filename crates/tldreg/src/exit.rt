@@ -13,14 +13,12 @@ pub enum Exit {
     Usage,
     /// The first fault of the policy file.
     Policy(PolicyFault),
-    /// The book was used under another policy.
-    PolicyDiffers,
+    /// The book can't be opened.
+    Open(OpenFault),
     /// A line of the script, counted from 1, that isn't of the form.
     Script(u64),
     /// The policy file, standard input or standard output.
     File,
-    /// The book's store.
-    Store,
     Memory,
 }
 
@@ -50,10 +48,9 @@ impl fmt::Display for Exit {
             Exit::Usage => f.write_str("usage: tldreg run|serve|zone|deposit POLICY ..."),
             Exit::Policy(PolicyFault::Memory) => f.write_str("out of memory"),
             Exit::Policy(fault) => write!(f, "policy: {fault}"),
-            Exit::PolicyDiffers => f.write_str("open: policy differs"),
+            Exit::Open(fault) => write!(f, "{fault}"),
             Exit::Script(line) => write!(f, "script: line {line}"),
             Exit::File => f.write_str("file fault"),
-            Exit::Store => f.write_str("store fault"),
             Exit::Memory => f.write_str("out of memory"),
         }
     }
@@ -89,10 +86,6 @@ impl From<PolicyFault> for Exit {
 
 impl From<OpenFault> for Exit {
     fn from(fault: OpenFault) -> Exit {
-        match fault {
-            OpenFault::Policy => Exit::PolicyDiffers,
-            OpenFault::Memory => Exit::Memory,
-            OpenFault::Store => Exit::Store,
-        }
+        Exit::Open(fault)
     }
 }

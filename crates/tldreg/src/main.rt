@@ -4,6 +4,8 @@
 mod exit;
 mod line;
 mod script;
+#[cfg(test)]
+mod tests;
 
 use exit::Exit;
 use script::run_script;

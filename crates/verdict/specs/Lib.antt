@@ -5,3 +5,4 @@ pub mod View
 pub mod Refusals
 pub mod Rules
 pub mod Verdicts
+pub mod WellFormed

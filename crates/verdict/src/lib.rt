@@ -5,6 +5,7 @@
 mod code;
 mod command;
 mod facts;
+mod named;
 mod refusal;
 mod reply;
 mod verdict;

@@ -2,8 +2,7 @@
 ghost use Rattle.std.specs.Prelude.{◌≡◌, IfOk, map, option_map, None};
 ghost use Rattle.std.specs.Option.{option_copied};
 ghost use Rattle.std.specs.List.{list_any};
-ghost use Rattle.std.specs.Str.{bytes_eq};
-ghost use Rattle.names.specs.GivenName.{name_of, is_refused};
+ghost use Rattle.names.specs.GivenName.{is_refused};
 ghost use Rattle.verdict.specs.Refusals.{first_refusal};
 ghost use Rattle.verdict.specs.Rules as spec;
 ghost use Rattle.verdict.specs.Verdicts.{judged, tag_of};
@@ -11,6 +10,7 @@ ghost use Rattle.verdict.specs.Verdicts.{judged, tag_of};
 use crate::code::Code;
 use crate::command::{Command, NewDomain, Request};
 use crate::facts::{DomainFacts, Facts};
+use crate::named::has_twice;
 use crate::refusal::{Class, Refusal, first_refusal};
 use crate::reply::{CheckResult, Created, Data, DomainHidden, DomainInfo, Reason, TransferInfo};
 use basis::list::Seq;
@@ -174,7 +174,7 @@ impl NewDomain {
     {
         self.name.is_refused()
             || any_refused(self.hosts.as_slice())
-            || any_twice(self.hosts.as_slice())
+            || has_twice(self.hosts.as_slice())
             || has_twice(self.admin.as_slice())
             || has_twice(self.tech.as_slice())
     }
@@ -196,42 +196,6 @@ fn any_refused(names: &[GivenName]) -> bool
     ensures { result ≡ list_any is_refused names.now }
 {
     names.iter().any(|name| name.is_refused())
-}
-
-fn is_among(name: &Text, others: &[Text]) -> bool
-    ensures { result ≡ list_any (λ other. bytes_eq other name.now) others.now }
-{
-    others.iter().any(|other| *other == *name)
-}
-
-/// Whether a text stands twice in a list.
-fn has_twice(texts: &[Text]) -> bool
-    ensures { result ≡ spec.has_twice spec.itself texts.now }
-{
-    for (i, text) in texts.iter().enumerate() {
-        if is_among(text, &texts[i + 1..]) {
-            return true;
-        }
-    }
-    false
-}
-
-fn is_given(name: &Text, others: &[GivenName]) -> bool
-    ensures { result ≡ list_any (λ other. bytes_eq (name_of other) name.now) others.now }
-{
-    others.iter().any(|other| *other.text() == *name)
-}
-
-/// Whether a name stands twice in a list.
-fn any_twice(names: &[GivenName]) -> bool
-    ensures { result ≡ spec.has_twice name_of names.now }
-{
-    for (i, name) in names.iter().enumerate() {
-        if is_given(name.text(), &names[i + 1..]) {
-            return true;
-        }
-    }
-    false
 }
 
 /// What info tells of a domain, as far as the caller sees it.

@@ -6,6 +6,7 @@ use std::alloc::{AllocError, Global};
 use std::test::Fail;
 use verdict::{Code, Command, Request};
 
+/// The zone `test`, with `nic` reserved.
 fn zone(alloc: Global) -> Result<Zone, AllocError> {
     let mut reserved = Seq::new(alloc);
     reserved.push(Text::from_str(alloc, "nic")?)?;
