@@ -1,5 +1,5 @@
 -- Contacts (RFC 5733).
-use Rattle.std.specs.Prelude.{Bool, true, false, not, ◌&&◌, List, filter}
+use Rattle.std.specs.Prelude.{Bool, false, not, ◌&&◌, List, filter}
 use Rattle.objects.specs.declared.status.Status.{Status}
 use Rattle.objects.specs.declared.status.Status.TheVariants.{Inactive, Linked, Fine, PendingDelete, PendingTransfer}
 use Rattle.objects.specs.declared.contact.Contact.{Contact}

@@ -1,5 +1,5 @@
 -- Domains (RFC 5731).
-use Rattle.std.specs.Prelude.{ℕ, Bool, true, false, not, ◌&&◌, List, [], ◌∷◌, is_some, Option, filter, length, ◌==◌}
+use Rattle.std.specs.Prelude.{ℕ, Bool, false, not, ◌&&◌, List, [], is_some, filter, length, ◌==◌}
 use Rattle.calendar.specs.Moment.{plus_years, capped}
 use Rattle.objects.specs.declared.status.Status.{Status}
 use Rattle.objects.specs.declared.status.Status.TheVariants.{Inactive, Linked, Fine, PendingDelete, PendingTransfer}

@@ -1,3 +1,6 @@
+ghost use Rattle.std.specs.Prelude.{◌≡◌, false, IfOk};
+ghost use Rattle.store.specs.Plain.{plain_state};
+
 use crate::{Fault, OpenFault, Registry};
 use basis::list::Seq;
 use basis::registrar::RegistrarNo;
@@ -96,7 +99,9 @@ fn moment(secs: i64) -> Result<Moment, Fail> {
 }
 
 /// A book that was used under a policy.
-fn used_under(alloc: Global, text: &str) -> Result<PlainBook, Fail> {
+fn used_under(alloc: Global, text: &str) -> Result<PlainBook, Fail>
+    ensures { IfOk result (λ book. (plain_state book).is_open ≡ false) }
+{
     let terms = policy(alloc, text)?.terms(alloc)?;
     let mut book = PlainBook::new(alloc);
     book.begin()?;

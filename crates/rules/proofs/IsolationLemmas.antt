@@ -1,6 +1,6 @@
 -- Who can't tell two registries apart is answered alike, and can't tell them apart afterwards. No
 -- command is named here: facts are a function of the view, and each change commutes with it.
-use Rattle.std.proofs.Common.{◌≡◌, ℕ, List, refl, sym, ap, ◌∙◌}
+use Rattle.std.proofs.Common.{◌≡◌, ℕ, sym, ap, ◌∙◌}
 use Rattle.policy.specs.Rules.{PolicyRules}
 use Rattle.rules.specs.Changes.{changed_all}
 use Rattle.rules.specs.Decisions.{decided}
@@ -8,7 +8,6 @@ use Rattle.rules.specs.Isolation.{IsIsolated}
 use Rattle.rules.specs.Steps.{answer, decision, effect, reply_of}
 use Rattle.rules.proofs.ViewLemmas.{same_facts, same_view, same_changed_all}
 use Rattle.verdict.specs.declared.command.Command.{Command}
-use Rattle.verdict.specs.declared.facts.Facts.{Facts}
 use Rattle.verdict.specs.declared.reply.Reply.{Reply}
 use Rattle.verdict.specs.Facts.{facts}
 use Rattle.verdict.specs.Registry.{Registry, account_of, lapsed, now}

@@ -18,7 +18,7 @@ use Rattle.rules.specs.Changes.{changed, changed_all, with_account, itself}
 use Rattle.rules.proofs.SightLemmas.{forget, forget-domain, forget-contact}
 use Rattle.verdict.specs.declared.command.Command.{Command}
 use Rattle.verdict.specs.declared.facts.Facts.{Facts}
-use Rattle.verdict.specs.Facts.{facts, digest, domains_named, presented, presented_contact, subordinate}
+use Rattle.verdict.specs.Facts.{facts, digest, domains_named, presented, subordinate}
 use Rattle.verdict.specs.Registry.{Registry, account_of}
 use Rattle.verdict.specs.View.{View, Secrets, view, view_for, view_with, secrets_of}
 

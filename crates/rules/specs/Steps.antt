@@ -1,16 +1,15 @@
 -- One step of the registry: the rules, applied to what they may see.
-use Rattle.std.specs.Prelude.{ℕ, List, Option}
+use Rattle.std.specs.Prelude.{ℕ}
 use Rattle.accounts.specs.Account.{raised}
 use Rattle.policy.specs.Rules.{PolicyRules}
 use Rattle.rules.specs.declared.decision.Decision.{Decision}
 use Rattle.rules.specs.Changes.{changed_all}
 use Rattle.rules.specs.Decisions.{decided}
 use Rattle.verdict.specs.declared.command.Command.{Command}
-use Rattle.verdict.specs.declared.facts.Facts.{Facts}
 use Rattle.verdict.specs.declared.reply.Reply.{Reply}
 use Rattle.verdict.specs.declared.verdict.Verdict.{Verdict}
 use Rattle.verdict.specs.Facts.{facts}
-use Rattle.verdict.specs.Registry.{Registry, account_of, lapsed}
+use Rattle.verdict.specs.Registry.{Registry, account_of}
 use Rattle.verdict.specs.Rules.{id_of}
 use Rattle.verdict.specs.Verdicts.{tag_of}
 

@@ -7,7 +7,7 @@ use Rattle.std.proofs.lemmas.Option.{slice_get_within, slice_get-get_or}
 use Rattle.std.specs.declared.cmp.Ordering.{Ordering}
 use Rattle.std.specs.Cmp.{IsTotalOrder, Equal-is, nat_cmp_total}
 use Rattle.std.specs.Cmp.Lexicographic.{slice_cmp, nat_list_cmp_total}
-use Rattle.std.specs.FinMap.{FinMap, IsAntisymmetric, get, insert, remove, get-insert, get-remove, same_map, nat_cmp-IsAntisymmetric}
+use Rattle.std.specs.FinMap.{FinMap, IsAntisymmetric, get, insert, get-insert, get-remove, same_map, nat_cmp-IsAntisymmetric}
 use Rattle.std.specs.Ordering.{eq_by_cmp, nat_cmp}
 use Rattle.accounts.specs.declared.account.Account.{Account}
 use Rattle.basis.proofs.MapLemmas.{names_apart}
@@ -16,7 +16,6 @@ use Rattle.rules.specs.declared.decision.Change.TheVariants.{MoveClock, OpenAcco
 use Rattle.store.specs.declared.undo.Undo.{Undo}
 use Rattle.store.specs.Book.{Stored, with_changes}
 use Rattle.store.specs.Undo.{restored, undo_of, undone, undone_all}
-use Rattle.verdict.specs.Registry.{Registry}
 
 -- ---- maps
 

@@ -1,5 +1,5 @@
 -- What a `PlainBook` holds.
-use Rattle.std.specs.Prelude.{◌≡◌, Bool, true, if◌then◌else◌}
+use Rattle.std.specs.Prelude.{◌≡◌, true, if◌then◌else◌}
 use Rattle.store.specs.declared.content.Content.{Content}
 use Rattle.store.specs.declared.plain.PlainBook.{PlainBook}
 use Rattle.store.specs.Book.{BookState, Stored}

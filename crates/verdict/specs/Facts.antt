@@ -1,5 +1,5 @@
 -- The facts of a registry that bear on a command of a registrar.
-use Rattle.std.specs.Prelude.{ℕ, Bool, List, [], ◌∷◌, map, filter, Option, Some, None, option_map, option_and_then, is_some, find, if◌then◌else◌}
+use Rattle.std.specs.Prelude.{ℕ, Bool, List, [], ◌∷◌, map, filter, Option, None, option_map, option_and_then, is_some, find, if◌then◌else◌}
 use Rattle.std.specs.FinMap.{get, keys}
 use Rattle.std.specs.Str.{bytes_eq}
 use Rattle.accounts.specs.declared.account.Account.{Account}

@@ -1,8 +1,7 @@
 -- When a value of the registry's maps is a registry. What a registrar may learn is promised of every
 -- value, so no promise asks for this.
-use Rattle.std.specs.Prelude.{◌≡◌, ℕ, ◌≤◌, true, false, List, [], Option, Some, None, IsSome, ◌↔◌}
+use Rattle.std.specs.Prelude.{◌≡◌, ℕ, ◌≤◌, false, List, [], Option, Some, None, IsSome, ◌↔◌}
 use Rattle.std.specs.FinMap.{get}
-use Rattle.accounts.specs.declared.account.Account.{Account}
 use Rattle.names.specs.Zone.{superordinate_of}
 use Rattle.objects.specs.declared.contact.Contact.{Contact}
 use Rattle.objects.specs.declared.domain.Domain.{Domain}

@@ -1,7 +1,7 @@
-use Rattle.std.proofs.Common.{ap, sym, ◌∙◌, ◌++◌, ◌∷◌, [], List}
+use Rattle.std.proofs.Common.{ap, ◌∙◌, ◌++◌, ◌∷◌, [], List}
 use Rattle.store.specs.declared.undo.Undo.{Undo}
-use Rattle.store.specs.Plain.{held, found}
-use Rattle.store.specs.Undo.{undo_of, undone_all}
+use Rattle.store.specs.Plain.{held}
+use Rattle.store.specs.Undo.{undone_all}
 use Rattle.store.proofs.UndoLemmas.{undone_all-tried}
 use Rattle.store.proofs.plain.PlainBook.make.Goals as goal
 

@@ -1,8 +1,8 @@
-use Rattle.std.proofs.Common.{ap, ◌∙◌, ◌++◌, ◌∷◌, [], List, Some}
+use Rattle.std.proofs.Common.{ap, ◌∙◌, ◌++◌, ◌∷◌, [], List}
 use Rattle.store.specs.declared.undo.Undo.{Undo}
 use Rattle.store.specs.declared.undo.Undo.TheVariants as undo
-use Rattle.store.specs.Book.{Stored, with_terms}
-use Rattle.store.specs.Plain.{held, found}
+use Rattle.store.specs.Book.{with_terms}
+use Rattle.store.specs.Plain.{held}
 use Rattle.store.specs.Undo.{undone_all}
 use Rattle.store.proofs.UndoLemmas.{undone_all-push}
 use Rattle.store.proofs.plain.PlainBook.put_terms.Goals as goal
