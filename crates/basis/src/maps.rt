@@ -45,6 +45,13 @@ impl<V: Drop> NameMap<V> {
         self.tree.get(name)
     }
 
+    /// How many names there are.
+    pub fn len(&self) -> usize
+        ensures { result ≡ map.len self.now }
+    {
+        self.tree.len()
+    }
+
     /// The entries, in the order of their names.
     pub fn iter(&self) -> Iter<'_, Text, V>
         ensures rest { result ≡ map.entries self.now }

@@ -1,18 +1,23 @@
 -- A reply has no float.
 use Rattle.std.proofs.Common.{◌≡◌, ℕ, Bool, false, List, [], ◌∷◌, Option, Some, None, refl, map, codes}
-use Rattle.std.specs.Prelude.{◌||◌, IfSome, option_map, decimal}
+use Rattle.std.specs.Prelude.{◌||◌, IfSome, option_map, option_and_then, decimal}
 use Rattle.serde_json.specs.Data.{Data, string, array}
 use Rattle.serde_json.specs.View.{items_of}
 use Rattle.serde_json.specs.Written.{has_float, members_have_float}
+use Rattle.verdict.specs.declared.code.Code.{Code}
 use Rattle.verdict.specs.declared.reply.Reply.{Reply}
 use Rattle.verdict.specs.declared.reply.Data as the_data
-use Rattle.verdict.specs.declared.reply.Data.TheVariants.{Checked, Created, Domain}
+use Rattle.verdict.specs.declared.reply.Data.TheVariants.{Checked, Created, Contact, Domain, Host}
 use Rattle.verdict.specs.declared.reply.CheckResult.{CheckResult}
+use Rattle.verdict.specs.declared.reply.ContactInfo.{ContactInfo}
 use Rattle.verdict.specs.declared.reply.DomainInfo.{DomainInfo}
+use Rattle.verdict.specs.declared.reply.HostInfo.{HostInfo}
 use Rattle.verdict.specs.declared.reply.TransferInfo.{TransferInfo}
+use Rattle.objects.specs.declared.contact.Postal.{Postal}
 use Rattle.objects.specs.StatusTexts.{status_text, rgp_text}
 use Rattle.eppwire.specs.Members.{members_with, texts_value, moment_value}
-use Rattle.eppwire.specs.Reply.{reason_text, checked_members, checked_value, checks_value, created_members, transfer_members, transfer_value, domain_members, data_value, reply_members, reply_value, deleted_of, restore_requested_of, secret_of, transfer_of}
+use Rattle.eppwire.specs.Order.{settled_value, answer_members, answer_value}
+use Rattle.eppwire.specs.Reply.{reason_text, checked_members, checked_value, checks_value, created_members, transfer_members, transfer_value, postal_members, postal_value, contact_transfer_of, contact_members, host_members, domain_members, data_value, reply_members, reply_value, deleted_of, restore_requested_of, secret_of, transfer_of}
 
 abbrev pub IsPlain : Data → Type 0
 IsPlain d = has_float d ≡ false
@@ -52,6 +57,48 @@ checked_plain c = members_plain (checked_members c) (refl, (refl, (maybe_plain (
 
 transfer_plain : (t : TransferInfo) → IsPlain (transfer_value t)
 transfer_plain t = members_plain (transfer_members t) (refl, (refl, (refl, (refl, (refl, tt)))))
+
+postal_plain : (p : Postal) → IsPlain (postal_value p)
+postal_plain p = members_plain (postal_members p) (refl, (refl, (refl, (maybe_text p.org, (maybe_text p.pc, (maybe_text p.sp, (texts p.street, tt)))))))
+
+contact_plain : (c : ContactInfo) → ArePlain (contact_members c)
+contact_plain c = (
+  refl,
+  (
+    refl,
+    (
+      maybe_plain (λ h. string h.mail) c.hidden (λ h. refl),
+      (
+        refl,
+        (
+          maybe_plain (λ h. postal_value h.postal) c.hidden (λ h. postal_plain h.postal),
+          (
+            refl,
+            (
+              maybe_text (option_and_then (λ h. h.secret) c.hidden),
+              (
+                texts (map status_text c.face.statuses),
+                (
+                  maybe_moment c.face.transferred,
+                  (
+                    maybe_plain transfer_value (contact_transfer_of c) transfer_plain,
+                    (maybe_moment c.face.updated, (maybe_text (option_and_then (λ h. h.voice) c.hidden), tt)),
+                  ),
+                ),
+              ),
+            ),
+          ),
+        ),
+      ),
+    ),
+  ),
+)
+
+host_plain : (h : HostInfo) → ArePlain (host_members h)
+host_plain h = (
+  texts h.face.addresses,
+  (refl, (refl, (refl, (refl, (texts (map status_text h.face.statuses), (maybe_moment h.face.updated, tt)))))),
+)
 
 domain_plain : (d : DomainInfo) → ArePlain (domain_members d)
 domain_plain d = (
@@ -107,7 +154,12 @@ domain_plain d = (
 data_plain : (d : the_data.Data) → IsPlain (data_value d)
 data_plain (Checked results) = members_plain ((codes "results", Some (checks_value results)) ∷ []) (items_plain checked_value results checked_plain, tt)
 data_plain (Created c) = members_plain (created_members c) (maybe_plain (λ cents. string (decimal cents)) c.charge (λ n. refl), (refl, (maybe_moment c.expires, (refl, tt))))
+data_plain (Contact c) = members_plain (contact_members c) (contact_plain c)
+data_plain (Host h) = members_plain (host_members h) (host_plain h)
 data_plain (Domain d) = members_plain (domain_members d) (domain_plain d)
 
 pub reply_plain : (r : Reply) → IsPlain (reply_value r)
 reply_plain r = members_plain (reply_members r) (maybe_text r.tag, (refl, (maybe_plain data_value r.content data_plain, (refl, (refl, tt)))))
+
+pub answer_plain : (code : Code) (done : Option ℕ) → IsPlain (answer_value code done)
+answer_plain code done = members_plain (answer_members code done) (refl, (maybe_plain settled_value done (λ n. refl), (refl, tt)))

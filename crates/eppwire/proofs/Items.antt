@@ -2,8 +2,8 @@
 use Rattle.std.proofs.Common.{◌≡◌, suc, Bool, List, [], ◌∷◌, length, map, Option, Some, None, option_map, Ok, refl, sym, ap, ◌∙◌}
 use Rattle.std.specs.Option.{ok_or}
 use Rattle.std.specs.Result.{result_map_both}
-use Rattle.std.specs.Prelude.{◌&&◌}
-use Rattle.std.specs.List.{list_all}
+use Rattle.std.specs.Prelude.{◌&&◌, ◌||◌}
+use Rattle.std.specs.List.{list_all, list_any}
 use Rattle.serde_json.specs.Data.{Data, Items}
 use Rattle.serde_json.specs.Find.{as_array}
 use Rattle.serde_json.specs.View.{view, items_view}
@@ -11,7 +11,7 @@ use Rattle.serde_json.specs.declared.value.Value.{Value}
 use Rattle.verdict.specs.declared.code.Code.{Code}
 use Rattle.verdict.specs.declared.code.Code.TheVariants.{SyntaxError}
 use Rattle.eppwire.specs.Kind.{items_list, of_items, some_and}
-use Rattle.eppwire.specs.Request.{items_in}
+use Rattle.eppwire.specs.Reading.{items_in}
 
 pub items_list-items_view : (vs : List Value) → items_list (items_view vs) ≡ map view vs
 items_list-items_view [] = refl
@@ -20,6 +20,10 @@ items_list-items_view (v ∷ vs) = ap (λ (ds : List Data). view v ∷ ds) (item
 pub list_all-map : (p : Data → Bool) (vs : List Value) → list_all p (map view vs) ≡ list_all (λ v. p (view v)) vs
 list_all-map p [] = refl
 list_all-map p (v ∷ vs) = ap (λ (b : Bool). p (view v) && b) (list_all-map p vs)
+
+pub list_any_map : (p : Data → Bool) (vs : List Value) → list_any p (map view vs) ≡ list_any (λ v. p (view v)) vs
+list_any_map p [] = refl
+list_any_map p (v ∷ vs) = ap (λ (b : Bool). p (view v) || b) (list_any_map p vs)
 
 pub length-map_view : (vs : List Value) → length (map view vs) ≡ length vs
 length-map_view [] = refl

@@ -1,5 +1,5 @@
 -- The form of a command, and the first fault of it (RFC 5730, 3).
-use Rattle.std.specs.Prelude.{ℕ, ◌&&◌, ◌||◌, Bool, true, false, not, if◌then◌else◌, List, [], ◌∷◌, Option, Some, None, option_and_then, is_some, is_none, Result, Ok, Err, ok_or, bytes_eq, ⊤}
+use Rattle.std.specs.Prelude.{ℕ, ◌&&◌, ◌||◌, ◌==◌, Bool, true, false, not, if◌then◌else◌, List, [], ◌∷◌, length, Option, Some, None, option_and_then, is_some, is_none, Result, Ok, Err, ok_or, bytes_eq, ⊤}
 use Rattle.std.specs.List.{list_all, list_any}
 use Rattle.serde_json.specs.Data.{Data, Members, no_members, member}
 use Rattle.serde_json.specs.Find.{get, as_str, as_object}
@@ -12,8 +12,8 @@ use Rattle.eppwire.specs.declared.table.Place.TheVariants.{Top, Postal, Add, Rem
 use Rattle.eppwire.specs.declared.table.Row.{Row}
 use Rattle.eppwire.specs.declared.table.Field.{Field}
 use Rattle.eppwire.specs.declared.kind.Kind.{Kind}
-use Rattle.eppwire.specs.Kind.{has_type, in_range, has_shape}
-use Rattle.eppwire.specs.Table.{text_of, verb_named, object_named, row_of, fields_of}
+use Rattle.eppwire.specs.Kind.{some_and, of_items, has_type, in_range, has_shape}
+use Rattle.eppwire.specs.Table.{text_of, verb_named, object_named, row_of, fields_of, is_update}
 
 -- one step after another, up to the first fault
 infixl 10 ◌>>=◌
@@ -52,9 +52,13 @@ part_at Rem d = member_at members.Rem d
 part_at Chg d = member_at members.Chg d
 part_at ChgPostal d = option_and_then (member_at members.Postal) (member_at members.Chg d)
 
+-- the value of a member that stands at a place
+abbrev pub value_at : Place → Member → Data → Option Data
+value_at place m d = option_and_then (member_at m) (part_at place d)
+
 -- the value of a field
 abbrev pub value_of : Field → Data → Option Data
-value_of f d = option_and_then (member_at f.member) (part_at f.place d)
+value_of f d = value_at f.place f.member d
 
 abbrev pub members_list : Members → List (List ℕ × Data)
 members_list no_members = []
@@ -93,6 +97,21 @@ has_only fields d = list_all (λ place. none_or (knows fields place) (part_at pl
 abbrev pub has_all : List Field → Data → Bool
 has_all fields d = list_all (λ f. not f.required || (is_none (part_at f.place d) || is_some (value_of f d))) fields
 
+abbrev pub is_empty_list : Data → Bool
+is_empty_list d = of_items (λ ds. length ds == 0) d
+
+-- a part of an update says something where one of its members isn't an empty list
+unfoldable pub says_something : Data → Bool
+says_something part = list_any (λ m. not (is_empty_list m.1)) (members_in (as_object part))
+
+-- an update has to change something (RFC 5731, 3.2.5; RFC 5732, 3.2.5; RFC 5733, 3.2.5)
+abbrev pub changes : Data → Bool
+changes d = list_any (λ place. some_and says_something (part_at place d)) (Add ∷ Rem ∷ Chg ∷ [])
+
+-- nothing that the row asks for is missing
+abbrev pub is_complete : Row → Data → Bool
+is_complete row d = has_all (fields_of row) d && (not (is_update row) || changes d)
+
 -- each field that is there passes the test of its kind
 abbrev pub each : (Kind → Data → Bool) → List Field → Data → Bool
 each test fields d = list_all (λ f. none_or (test f.kind) (value_of f d)) fields
@@ -102,7 +121,7 @@ each test fields d = list_all (λ f. none_or (test f.kind) (value_of f d)) field
 unfoldable pub form_of : Row → Data → Result ⊤ Code
 form_of row d = do
   _ ← refuse_unless (has_only (fields_of row) d) SyntaxError
-  _ ← refuse_unless (has_all (fields_of row) d) ParameterMissing
+  _ ← refuse_unless (is_complete row d) ParameterMissing
   _ ← refuse_unless (each in_range (fields_of row) d) ParameterRange
   refuse_unless (each has_shape (fields_of row) d) ParameterSyntax
 

@@ -1,8 +1,13 @@
 pub mod Kind
 pub mod Table
 pub mod Form
+pub mod Reading
+pub mod Contact
+pub mod Domain
+pub mod Host
 pub mod Request
 pub mod Command
 pub mod Members
 pub mod Item
 pub mod Reply
+pub mod Order

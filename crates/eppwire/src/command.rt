@@ -4,7 +4,8 @@ ghost use Rattle.serde_json.specs.View.{view};
 ghost use Rattle.eppwire.specs.Command as spec;
 
 use crate::form::{member, word};
-use crate::request::{Fault, request_in};
+use crate::reading::Fault;
+use crate::request::request_in;
 use crate::table::{Member, TAG};
 use basis::text::Text;
 use names::Zone;
@@ -58,5 +59,9 @@ fn copied(alloc: Global, text: Option<&str>) -> Result<Option<Text>, AllocError>
     }
 }
 
+#[cfg(test)]
+mod asked;
+#[cfg(test)]
+mod bounds;
 #[cfg(test)]
 mod tests;

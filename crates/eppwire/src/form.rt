@@ -1,11 +1,11 @@
 //! The form of a command: its row, and what its members have to be.
 ghost use Rattle.std.specs.Prelude.{◌≡◌, ◌||◌, not, is_none, is_some, string_bytes, option_map};
-ghost use Rattle.std.specs.List.{list_all};
+ghost use Rattle.std.specs.List.{list_all, list_any};
 ghost use Rattle.serde_json.specs.View.{view};
 ghost use Rattle.eppwire.specs.Kind.{in_range, has_shape};
 ghost use Rattle.eppwire.specs.Form as spec;
 
-use crate::table::{Field, Member, PLACES, Place, Row, Verb, object_named};
+use crate::table::{CHANGES, Field, Member, PLACES, Place, Row, Verb, object_named};
 use serde_json::{Map, Value};
 use verdict::Code;
 
@@ -40,7 +40,7 @@ fn check(row: Row, value: &Value) -> Result<(), Code>
     if !are_known(fields, value) {
         return Err(Code::SyntaxError);
     }
-    if !are_there(fields, value) {
+    if !is_complete(row, value) {
         return Err(Code::ParameterMissing);
     }
     if !are_in_range(fields, value) {
@@ -53,7 +53,7 @@ fn check(row: Row, value: &Value) -> Result<(), Code>
 }
 
 /// No member is strange or of another JSON type.
-fn are_known(fields: &[Field], value: &Value) -> bool
+pub fn are_known(fields: &[Field], value: &Value) -> bool
     ensures { result ≡ spec.has_only fields.now (view value.now) }
 {
     PLACES.iter().all(|place| match part(value, *place) {
@@ -93,8 +93,51 @@ fn same_place(a: Place, b: Place) -> bool
     a == b
 }
 
+/// Nothing that the row asks for is missing.
+fn is_complete(row: Row, value: &Value) -> bool
+    ensures { result ≡ spec.is_complete row (view value.now) }
+{
+    are_there(row.fields(), value) && (!row.is_update() || changes(value))
+}
+
+/// Whether an update changes something.
+fn changes(value: &Value) -> bool
+    ensures { result ≡ spec.changes (view value.now) }
+{
+    CHANGES.iter().any(|place| match part(value, *place) {
+        Some(part) => says_something(part),
+        None => false,
+    })
+}
+
+/// Whether a part of an update has a member that isn't an empty list.
+#[tactic(auto, unfolding(crate::specs::Form::says_something))]
+fn says_something(part: &Value) -> bool
+    ensures { result ≡ spec.says_something (view part.now) }
+{
+    match part.as_object() {
+        Some(members) => any_says(members),
+        None => false,
+    }
+}
+
+fn any_says(members: &Map<String, Value>) -> bool
+    ensures { result ≡ list_any (λ m. not (spec.is_empty_list (view m.1))) members.now.entries }
+{
+    members.iter().any(|(_, value)| !is_empty_list(value))
+}
+
+fn is_empty_list(value: &Value) -> bool
+    ensures { result ≡ spec.is_empty_list (view value.now) }
+{
+    match value.as_array() {
+        Some(items) => items.is_empty(),
+        None => false,
+    }
+}
+
 /// Each required field is there, where its place is.
-fn are_there(fields: &[Field], value: &Value) -> bool
+pub fn are_there(fields: &[Field], value: &Value) -> bool
     ensures { result ≡ spec.has_all fields.now (view value.now) }
 {
     fields.iter().all(|field| is_there(*field, value))
@@ -125,7 +168,7 @@ fn are_shaped(fields: &[Field], value: &Value) -> bool
 }
 
 /// The part of a command that a place is.
-fn part(value: &Value, place: Place) -> Option<&Value>
+pub fn part(value: &Value, place: Place) -> Option<&Value>
     ensures { option_map (λ v. view v.now) result ≡ spec.part_at place (view value.now) }
 {
     match place {
@@ -145,8 +188,15 @@ fn part(value: &Value, place: Place) -> Option<&Value>
 fn found(value: &Value, field: Field) -> Option<&Value>
     ensures { option_map (λ v. view v.now) result ≡ spec.value_of field (view value.now) }
 {
-    match part(value, field.place) {
-        Some(part) => member(part, field.member),
+    value_at(value, field.place, field.member)
+}
+
+/// The value of a member that stands at a place.
+pub fn value_at(value: &Value, place: Place, at: Member) -> Option<&Value>
+    ensures { option_map (λ v. view v.now) result ≡ spec.value_at place at (view value.now) }
+{
+    match part(value, place) {
+        Some(part) => member(part, at),
         None => None,
     }
 }

@@ -1,5 +1,5 @@
 //! The kinds of members: a JSON type, a range and a shape.
-ghost use Rattle.std.specs.Prelude.{◌≡◌};
+ghost use Rattle.std.specs.Prelude.{◌≡◌, ◌<◌, IfSome, length, position};
 ghost use Rattle.std.specs.List.{list_all};
 ghost use Rattle.serde_json.specs.View.{view};
 ghost use Rattle.eppwire.specs.Kind as spec;
@@ -21,17 +21,22 @@ impl Limits {
     }
 }
 
-/// Which bytes a text may have.
+/// What a text may be.
 #[derive(Clone, Copy, Debug, PartialEq, Eq)]
 pub enum Shape {
-    /// Any text.
+    /// Any text. A name, an address and a status have a rule of their own, which is asked where they
+    /// are read.
     Free,
-    /// A name: the rule of names is asked where it is read.
-    Name,
+    /// No control characters of ASCII.
+    Line,
     /// Bytes 33 to 126.
     Printable,
     /// ASCII letters, digits and hyphens.
     Handle,
+    /// A country's code: two capitals (RFC 5733, 2.4).
+    Country,
+    /// A telephone number, as `+49.30123` (RFC 5733, 2.5).
+    Voice,
 }
 
 impl Shape {
@@ -39,17 +44,76 @@ impl Shape {
         ensures { result ≡ spec.byte_fits self byte }
     {
         match self {
-            Shape::Free | Shape::Name => true,
+            Shape::Line => byte >= 32 && byte != 127,
             Shape::Printable => byte >= 33 && byte <= 126,
             Shape::Handle => byte.is_ascii_alphanumeric() || byte == b'-',
+            Shape::Free | Shape::Country | Shape::Voice => true,
         }
+    }
+
+    fn all_allowed(self, text: &[u8]) -> bool
+        ensures { result ≡ list_all (spec.byte_fits self) text.now }
+    {
+        text.iter().all(|byte| self.allows(*byte))
     }
 
     fn fits(self, text: &[u8]) -> bool
         ensures { result ≡ spec.text_fits self text.now }
     {
-        text.iter().all(|byte| self.allows(*byte))
+        match self {
+            Shape::Country => is_country(text),
+            Shape::Voice => is_voice(text),
+            _ => self.all_allowed(text),
+        }
     }
+}
+
+fn is_country(text: &[u8]) -> bool
+    ensures { result ≡ spec.is_country text.now }
+{
+    match text {
+        [a, b] => a.is_ascii_uppercase() && b.is_ascii_uppercase(),
+        _ => false,
+    }
+}
+
+fn is_voice(text: &[u8]) -> bool
+    ensures { result ≡ spec.is_voice text.now }
+{
+    match text {
+        [first, rest @ ..] => *first == b'+' && is_dialled(rest),
+        [] => false,
+    }
+}
+
+fn is_dialled(text: &[u8]) -> bool
+    ensures { result ≡ spec.is_dialled text.now }
+{
+    match first_dot(text) {
+        Some(dot) => is_number(3, &text[..dot]) && is_number(14, &text[dot + 1..]),
+        None => false,
+    }
+}
+
+fn first_dot(text: &[u8]) -> Option<usize>
+    ensures first { result ≡ position spec.is_dot text.now }
+    ensures within { IfSome result (λ dot. dot < length text.now) }
+{
+    text.iter().position(|byte| *byte == b'.')
+}
+
+/// Whether a text is one to so many digits.
+fn is_number(most: u64, text: &[u8]) -> bool
+    ensures { result ≡ spec.is_number most text.now }
+{
+    let len = Limits { least: 1, most };
+    len.contain(text.len() as u64) && are_digits(text)
+}
+
+fn are_digits(text: &[u8]) -> bool
+    ensures { result ≡ list_all spec.is_digit text.now }
+{
+    text.iter().all(|byte| byte.is_ascii_digit())
 }
 
 /// What a member has to be.

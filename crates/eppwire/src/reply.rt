@@ -1,5 +1,6 @@
 //! A reply as a payload.
-ghost use Rattle.std.specs.Prelude.{◌≡◌, IfOk, decimal, option_map};
+ghost use Rattle.std.specs.Prelude.{◌≡◌, IfOk, decimal, option_and_then, option_map};
+ghost use Rattle.objects.specs.Roid.{roid_text};
 ghost use Rattle.std.specs.Option.{option_copied};
 ghost use Rattle.serde_json.specs.Data.{string};
 ghost use Rattle.serde_json.specs.View.{view};
@@ -8,10 +9,13 @@ ghost use Rattle.eppwire.specs.Reply as spec;
 
 use crate::item::{Item, object};
 use calendar::Moment;
-use objects::{Deletion, TransferState};
+use objects::{Deletion, Postal, Roid, TransferState};
 use serde_json::Value;
 use std::alloc::{AllocError, Global};
-use verdict::{CheckResult, Created, Data, DomainInfo, Reason, Reply, ServerTag, TransferInfo};
+use verdict::{
+    CheckResult, ContactInfo, Created, Data, DomainInfo, HostInfo, Reason, Reply, ServerTag,
+    TransferInfo,
+};
 
 /// The text of a reply: one object in compact JSON, its members in the order of their names.
 pub fn reply_bytes(alloc: Global, reply: &Reply) -> Result<Vec<u8>, AllocError>
@@ -55,7 +59,9 @@ fn data_value(alloc: Global, content: &Data) -> Result<Value, AllocError>
             object(alloc, vec![in alloc; ("results", Item::Given(results))]?)
         }
         Data::Created(created) => created_value(alloc, created),
+        Data::Contact(info) => contact_value(alloc, info),
         Data::Domain(info) => domain_value(alloc, info),
+        Data::Host(info) => host_value(alloc, info),
     }
 }
 
@@ -117,12 +123,116 @@ fn cents_value(alloc: Global, cents: u64) -> Result<Value, AllocError>
     Ok(Value::String(format!(in alloc; "{cents}")?))
 }
 
+fn roid_value(alloc: Global, roid: Roid) -> Result<Value, AllocError>
+    ensures { IfOk result (λ v. view v ≡ string (roid_text roid)) }
+{
+    Value::try_from_str(alloc, roid.text(alloc)?.as_str())
+}
+
+fn postal_value(alloc: Global, postal: &Postal) -> Result<Value, AllocError>
+    ensures { IfOk result (λ v. view v ≡ spec.postal_value postal.now) }
+{
+    let members = vec![in alloc;
+        ("cc", Item::Text(&postal.cc)),
+        ("city", Item::Text(&postal.city)),
+        ("name", Item::Text(&postal.name)),
+        ("org", Item::MaybeText(&postal.org)),
+        ("pc", Item::MaybeText(&postal.pc)),
+        ("sp", Item::MaybeText(&postal.sp)),
+        ("street", Item::Texts(&postal.street)),
+    ]?;
+    object(alloc, members)
+}
+
+fn contact_value(alloc: Global, info: &ContactInfo) -> Result<Value, AllocError>
+    ensures { IfOk result (λ v. view v ≡ spec.contact_value info.now) }
+{
+    let face = &info.face;
+    let roid = roid_value(alloc, face.roid)?;
+    let postal = match &info.hidden {
+        Some(hidden) => Item::Given(postal_value(alloc, &hidden.postal)?),
+        None => Item::Absent,
+    };
+    let transfer = match contact_transfer_of(info) {
+        Some(transfer) => Item::Given(transfer_value(alloc, transfer)?),
+        None => Item::Absent,
+    };
+    let members = vec![in alloc;
+        ("clID", Item::Text(&info.sponsor)),
+        ("crDate", Item::Time(face.created)),
+        ("mail", mail_of(info)),
+        ("name", Item::Text(&face.name)),
+        ("postal", postal),
+        ("roid", Item::Given(roid)),
+        ("secret", contact_secret_of(info)),
+        ("status", Item::Statuses(&face.statuses)),
+        ("trDate", Item::MaybeTime(face.transferred)),
+        ("transfer", transfer),
+        ("upDate", Item::MaybeTime(face.updated)),
+        ("voice", voice_of(info)),
+    ]?;
+    object(alloc, members)
+}
+
+fn mail_of(info: &ContactInfo) -> Item<'_>
+    ensures { item_value result ≡ option_map (λ h. string h.mail) info.now.hidden }
+{
+    match &info.hidden {
+        Some(hidden) => Item::Text(&hidden.mail),
+        None => Item::Absent,
+    }
+}
+
+fn contact_secret_of(info: &ContactInfo) -> Item<'_>
+    ensures { item_value result ≡ option_map string (option_and_then (λ h. h.secret) info.now.hidden) }
+{
+    match &info.hidden {
+        Some(hidden) => Item::MaybeText(&hidden.secret),
+        None => Item::Absent,
+    }
+}
+
+fn voice_of(info: &ContactInfo) -> Item<'_>
+    ensures { item_value result ≡ option_map string (option_and_then (λ h. h.voice) info.now.hidden) }
+{
+    match &info.hidden {
+        Some(hidden) => Item::MaybeText(&hidden.voice),
+        None => Item::Absent,
+    }
+}
+
+fn contact_transfer_of(info: &ContactInfo) -> Option<&TransferInfo>
+    ensures { option_copied result ≡ spec.contact_transfer_of info.now }
+{
+    match &info.hidden {
+        Some(hidden) => hidden.transfer.as_ref(),
+        None => None,
+    }
+}
+
+fn host_value(alloc: Global, info: &HostInfo) -> Result<Value, AllocError>
+    ensures { IfOk result (λ v. view v ≡ spec.host_value info.now) }
+{
+    let face = &info.face;
+    let roid = roid_value(alloc, face.roid)?;
+    let members = vec![in alloc;
+        ("addrs", Item::Texts(&face.addresses)),
+        ("clID", Item::Text(&info.sponsor)),
+        ("crDate", Item::Time(face.created)),
+        ("name", Item::Text(&face.name)),
+        ("roid", Item::Given(roid)),
+        ("status", Item::Statuses(&face.statuses)),
+        ("upDate", Item::MaybeTime(face.updated)),
+    ]?;
+    object(alloc, members)
+}
+
 fn domain_value(alloc: Global, info: &DomainInfo) -> Result<Value, AllocError>
     ensures { IfOk result (λ v. view v ≡ spec.domain_value info.now) }
 {
     let face = &info.face;
     let links = &face.links;
-    let roid = Value::try_from_str(alloc, face.roid.text(alloc)?.as_str())?;
+    let roid = roid_value(alloc, face.roid)?;
     let transfer = match transfer_of(info) {
         Some(transfer) => Item::Given(transfer_value(alloc, transfer)?),
         None => Item::Absent,

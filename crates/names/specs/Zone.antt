@@ -58,6 +58,13 @@ domain_at zone label = label ++ 46 ∷ zone.label
 unfoldable pub superordinate_of : ZoneRules → List ℕ → Option (List ℕ)
 superordinate_of zone host = option_map (domain_at zone) (superordinate_label zone host)
 
+-- the last two labels of a name of at least three: of a host in the zone, its superordinate domain
+unfoldable pub last_two_of : List ℕ → Option (List ℕ)
+last_two_of host = do
+  upper ← cut_last host
+  lower ← cut_last upper.0
+  Some (lower.1 ++ 46 ∷ upper.1)
+
 -- a host whose last label isn't the zone's is external; another has a superordinate domain that the zone keeps
 abbrev pub keeps_by_last : ZoneRules → List ℕ → Option (List ℕ × List ℕ) → Bool
 keeps_by_last zone host (Some parts) = not (bytes_eq parts.1 zone.label) || allows zone (superordinate_label zone host)

@@ -25,4 +25,4 @@ pub use fault::NameFault;
 pub use given::GivenName;
 pub use host::HostName;
 pub use label::{is_label, is_name};
-pub use zone::{Zone, superordinate_text};
+pub use zone::{Zone, last_two_labels, superordinate_text};

@@ -1,5 +1,6 @@
 pub mod Statuses
 pub mod Transfers
+pub mod Links
 pub mod Domains
 pub mod Contacts
 pub mod Hosts

@@ -1,12 +1,19 @@
 //! Contacts (RFC 5733).
+ghost use Rattle.std.specs.Prelude.{◌≡◌, ◌==◌, ◌||◌, IfOk, filter};
+ghost use Rattle.std.specs.Option.{option_copied};
+ghost use Rattle.objects.specs.Contacts as spec;
+ghost use Rattle.objects.specs.Sight.{is_party, is_right, contact_as};
+ghost use Rattle.objects.specs.Transfers as transfers;
 
 use crate::roid::Roid;
-use crate::status::Status;
+use crate::sight::{self, Seen};
+use crate::status::{ALL, Status, has_status};
 use crate::transfer::Transfer;
 use basis::list::Seq;
 use basis::registrar::RegistrarNo;
 use basis::text::Text;
 use calendar::Moment;
+use std::alloc::{AllocError, Global};
 
 /// A postal address (RFC 5733, 2.4), in its internationalized form.
 #[derive(Clone, Drop)]
@@ -52,4 +59,164 @@ pub struct ContactFace {
     pub updated: Option<Moment>,
     /// The statuses that are shown, but `linked`.
     pub statuses: Seq<Status>,
+}
+
+impl Postal {
+    /// The same in memory of its own.
+    pub fn copy(&self) -> Result<Postal, AllocError>
+        ensures { IfOk result (λ copy. copy ≡ self.now) }
+    {
+        Ok(Postal {
+            name: self.name.clone()?,
+            org: copied(&self.org)?,
+            street: self.street.clone()?,
+            city: self.city.clone()?,
+            sp: copied(&self.sp)?,
+            pc: copied(&self.pc)?,
+            cc: self.cc.clone()?,
+        })
+    }
+}
+
+/// A copy of a text, if there is one.
+fn copied(text: &Option<Text>) -> Result<Option<Text>, AllocError>
+    ensures { IfOk result (λ copy. copy ≡ text.now) }
+{
+    match text {
+        None => Ok(None),
+        Some(text) => Ok(Some(text.clone()?)),
+    }
+}
+
+impl Contact {
+    /// Whether its last transfer is pending.
+    pub fn is_pending_transfer(&self) -> bool
+        ensures { result ≡ transfers.is_pending self.now.transfer }
+    {
+        match &self.transfer {
+            None => false,
+            Some(transfer) => transfer.is_pending(),
+        }
+    }
+
+    /// Whether it shows the status, told whether it is linked.
+    pub fn shows(&self, linked: bool, status: Status) -> bool
+        ensures { result ≡ spec.contact_shows linked self.now status }
+    {
+        match status {
+            Status::Inactive => false,
+            Status::Linked => linked,
+            Status::Fine => self.statuses.is_empty() && !self.is_pending_transfer(),
+            Status::PendingDelete => false,
+            Status::PendingTransfer => self.is_pending_transfer(),
+            _ => has_status(self.statuses.as_slice(), status),
+        }
+    }
+
+    /// What everyone may know of it.
+    pub fn face(&self, alloc: Global) -> Result<ContactFace, AllocError>
+        ensures { IfOk result (λ face. face ≡ spec.contact_face_of self.now) }
+    {
+        Ok(ContactFace {
+            name: self.name.clone()?,
+            roid: self.roid,
+            sponsor: self.sponsor,
+            created: self.created,
+            transferred: self.transferred,
+            updated: self.updated,
+            statuses: shown_contact(alloc, self, false)?,
+        })
+    }
+
+    /// Whether the registrar sponsors it.
+    pub fn is_sponsored_by(&self, registrar: RegistrarNo) -> bool
+        ensures { result ≡ (self.now.sponsor == registrar) }
+    {
+        self.sponsor == registrar
+    }
+
+    /// Whether the secret was presented, and is its own.
+    pub fn is_opened_by(&self, presented: Option<&Text>) -> bool
+        ensures { result ≡ is_right (option_copied presented.entry) self.now.secret }
+    {
+        sight::is_right(presented, &self.secret)
+    }
+
+    fn is_seen_in_full(&self, registrar: RegistrarNo, presented: Option<&Text>) -> bool
+        ensures { result ≡ (is_party registrar self.now.sponsor self.now.transfer || is_right (option_copied presented.entry) self.now.secret) }
+    {
+        sight::is_seen_in_full(
+            registrar,
+            self.sponsor,
+            &self.transfer,
+            presented,
+            &self.secret,
+        )
+    }
+
+    /// The same in memory of its own.
+    pub fn copy(&self) -> Result<Contact, AllocError>
+        ensures { IfOk result (λ copy. copy ≡ self.now) }
+    {
+        Ok(Contact {
+            name: self.name.clone()?,
+            roid: self.roid,
+            sponsor: self.sponsor,
+            created: self.created,
+            transferred: self.transferred,
+            updated: self.updated,
+            statuses: self.statuses.clone()?,
+            secret: self.secret.clone()?,
+            postal: self.postal.copy()?,
+            voice: copied(&self.voice)?,
+            mail: self.mail.clone()?,
+            transfer: self.transfer,
+        })
+    }
+
+    /// What the registrar sees of it.
+    pub fn seen_by(
+        &self,
+        alloc: Global,
+        registrar: RegistrarNo,
+        presented: Option<&Text>,
+    ) -> Result<Seen<Contact, ContactFace>, AllocError>
+        ensures { IfOk result (λ seen. seen ≡ contact_as registrar (option_copied presented.entry) self.now) }
+    {
+        if self.is_seen_in_full(registrar, presented) {
+            return Ok(Seen::Full(self.copy()?));
+        }
+        match &self.transfer {
+            Some(transfer) if transfer.names(registrar) => {
+                Ok(Seen::Named(self.face(alloc)?, *transfer))
+            }
+            _ => Ok(Seen::Public(self.face(alloc)?)),
+        }
+    }
+}
+
+/// The statuses that a contact shows, told whether it is linked.
+pub fn shown_contact(
+    alloc: Global,
+    contact: &Contact,
+    linked: bool,
+) -> Result<Seq<Status>, AllocError>
+    ensures { IfOk result (λ statuses. statuses ≡ spec.contact_shown linked contact.now) }
+{
+    Ok(Seq::from_vec(shown_among(alloc, contact, linked, &ALL)?))
+}
+
+fn shown_among(
+    alloc: Global,
+    contact: &Contact,
+    linked: bool,
+    statuses: &[Status],
+) -> Result<Vec<Status>, AllocError>
+    ensures { IfOk result (λ found. found.items ≡ filter (spec.contact_shows linked contact.now) statuses.now) }
+{
+    statuses
+        .iter()
+        .copied()
+        .filter(|status| contact.shows(linked, *status))
+        .collect(alloc)
 }

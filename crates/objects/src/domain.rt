@@ -6,7 +6,7 @@ ghost use Rattle.objects.specs.Sight.{is_party, is_right, domain_as};
 ghost use Rattle.objects.specs.Transfers as transfers;
 
 use crate::roid::Roid;
-use crate::sight::Seen;
+use crate::sight::{self, Seen};
 use crate::status::{ALL, Rgp, Status, has_status};
 use crate::transfer::Transfer;
 use basis::list::Seq;
@@ -141,32 +141,29 @@ impl Domain {
     }
 
     /// Whether the registrar sponsors it or a pending transfer brings it there.
-    fn is_party(&self, registrar: RegistrarNo) -> bool
+    pub fn is_held_by(&self, registrar: RegistrarNo) -> bool
         ensures { result ≡ is_party registrar self.now.sponsor self.now.transfer }
     {
-        if self.sponsor == registrar {
-            return true;
-        }
-        match &self.transfer {
-            None => false,
-            Some(transfer) => transfer.is_incoming(registrar),
-        }
+        sight::is_party(registrar, self.sponsor, &self.transfer)
     }
 
     /// Whether the secret was presented, and is its own.
     pub fn is_opened_by(&self, presented: Option<&Text>) -> bool
         ensures { result ≡ is_right (option_copied presented.entry) self.now.secret }
     {
-        match presented {
-            None => false,
-            Some(secret) => *secret == self.secret,
-        }
+        sight::is_right(presented, &self.secret)
     }
 
     fn is_seen_in_full(&self, registrar: RegistrarNo, presented: Option<&Text>) -> bool
         ensures { result ≡ (is_party registrar self.now.sponsor self.now.transfer || is_right (option_copied presented.entry) self.now.secret) }
     {
-        self.is_party(registrar) || self.is_opened_by(presented)
+        sight::is_seen_in_full(
+            registrar,
+            self.sponsor,
+            &self.transfer,
+            presented,
+            &self.secret,
+        )
     }
 
     /// What the registrar sees of it.

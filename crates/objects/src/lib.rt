@@ -8,15 +8,17 @@
 mod contact;
 mod domain;
 mod host;
+mod links;
 mod roid;
 mod sight;
 mod status;
 mod transfer;
 
-pub use contact::{Contact, ContactFace, Postal};
+pub use contact::{Contact, ContactFace, Postal, shown_contact};
 pub use domain::{Deletion, Domain, DomainFace, Links};
-pub use host::{Host, is_below};
+pub use host::{Host, HostFace, is_below, shown_host};
+pub use links::{has_name, in_order};
 pub use roid::{ObjectKind, Roid};
 pub use sight::Seen;
-pub use status::{Rgp, Status, has_status};
+pub use status::{Rgp, Status, amended_statuses, has_status, with_linked};
 pub use transfer::{Transfer, TransferState};

@@ -1,6 +1,11 @@
 //! What one registrar sees of an object.
+ghost use Rattle.std.specs.Prelude.{◌≡◌, ◌||◌};
+ghost use Rattle.std.specs.Option.{option_copied};
+ghost use Rattle.objects.specs.Sight as spec;
 
 use crate::transfer::Transfer;
+use basis::registrar::RegistrarNo;
+use basis::text::Text;
 
 /// What a registrar sees of an object: all of it; its face and the record of the last transfer, which
 /// names the registrar; or its face alone.
@@ -9,4 +14,44 @@ pub enum Seen<O, F> {
     Full(O),
     Named(F, Transfer),
     Public(F),
+}
+
+/// Whether the registrar sponsors an object or a pending transfer brings it there.
+pub(crate) fn is_party(
+    registrar: RegistrarNo,
+    sponsor: RegistrarNo,
+    transfer: &Option<Transfer>,
+) -> bool
+    ensures { result ≡ spec.is_party registrar sponsor transfer.now }
+{
+    if sponsor == registrar {
+        return true;
+    }
+    match transfer {
+        None => false,
+        Some(transfer) => transfer.is_incoming(registrar),
+    }
+}
+
+/// Whether a secret was presented, and is this one.
+pub(crate) fn is_right(presented: Option<&Text>, secret: &Text) -> bool
+    ensures { result ≡ spec.is_right (option_copied presented.entry) secret.now }
+{
+    match presented {
+        None => false,
+        Some(presented) => *presented == *secret,
+    }
+}
+
+/// Whether the registrar sees an object in full, which has this sponsor, transfer and secret.
+pub(crate) fn is_seen_in_full(
+    registrar: RegistrarNo,
+    sponsor: RegistrarNo,
+    transfer: &Option<Transfer>,
+    presented: Option<&Text>,
+    secret: &Text,
+) -> bool
+    ensures { result ≡ (spec.is_party registrar sponsor transfer.now || spec.is_right (option_copied presented.entry) secret.now) }
+{
+    is_party(registrar, sponsor, transfer) || is_right(presented, secret)
 }

@@ -5,8 +5,8 @@ use Rattle.policy.specs.Rules.{PolicyRules}
 use Rattle.policy.specs.Terms.{continues, terms_of}
 use Rattle.registry.specs.declared.fault.OpenFault.{OpenFault}
 use Rattle.registry.specs.declared.fault.OpenFault.TheVariants as refusals
-use Rattle.rules.specs.declared.decision.Change.{Change}
-use Rattle.rules.specs.declared.decision.Change.TheVariants.{OpenAccount}
+use Rattle.rules.specs.declared.change.Change.{Change}
+use Rattle.rules.specs.declared.change.Change.TheVariants.{OpenAccount}
 use Rattle.rules.specs.Changes.{changed_all}
 use Rattle.store.specs.Book.{BookState, HasRefused, IsBack, Stored}
 

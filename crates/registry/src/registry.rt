@@ -1,5 +1,6 @@
 //! The registry.
 ghost use Rattle.std.specs.Prelude.{◌≡◌, ◌≢◌, ◌<◌, ◌∷◌, [], max, true, false, ◌↔◌, IfOk, IfErr, OnOk, Ok, Err};
+ghost use Rattle.accounts.specs.Account.{raised};
 ghost use Rattle.policy.specs.Rules.{IsPlace};
 ghost use Rattle.registry.specs.Execution.{IsStep, Fails, GoesBack, at_moment, last_call};
 ghost use Rattle.rules.specs.Isolation.{IsIsolated};
@@ -7,6 +8,8 @@ ghost use Rattle.registry.specs.Opening.{Opens, Refuses};
 ghost use Rattle.rules.specs.Decisions.{decided};
 ghost use Rattle.rules.specs.Steps.{reply_of};
 ghost use Rattle.store.specs.Book.{Follows, Moves};
+ghost use Rattle.verdict.specs.Told.{id_of};
+ghost use Rattle.verdict.specs.Verdicts.{tag_of};
 
 use crate::fault::{Fault, OpenFault};
 use crate::opening::take_up;
@@ -189,15 +192,38 @@ fn reply_to(
 ) -> Result<Reply, AllocError>
     ensures { IfOk result (λ reply. reply ≡ reply_of policy.now caller command.now verdict facts.now.account.commands) }
 {
+    let (tag, server_tag) = match tags(alloc, policy, caller, command, facts) {
+        Ok(tags) => tags,
+        Err(error) => {
+            drop(verdict);
+            return Err(error);
+        }
+    };
     Ok(Reply {
-        tag: copy_tag(command.tag())?,
+        tag,
         code: verdict.code,
         content: verdict.content,
-        server_tag: ServerTag {
-            id: id_of(alloc, policy, caller)?,
-            number: facts.account.next_command(),
-        },
+        server_tag,
     })
+}
+
+/// The command's own identifier, and the registry's.
+fn tags(
+    alloc: Global,
+    policy: &Policy,
+    caller: RegistrarNo,
+    command: &Command,
+    facts: &Facts,
+) -> Result<(Option<Text>, ServerTag), AllocError>
+    ensures tag { IfOk result (λ tags. tags.0 ≡ tag_of command.now) }
+    ensures server_tag { IfOk result (λ tags. tags.1 ≡ record { id = id_of policy.now caller; number = raised facts.now.account.commands }) }
+{
+    let tag = copy_tag(command.tag())?;
+    let server_tag = ServerTag {
+        id: id_of(alloc, policy, caller)?,
+        number: facts.account.next_command(),
+    };
+    Ok((tag, server_tag))
 }
 
 fn copy_tag(tag: &Option<Text>) -> Result<Option<Text>, AllocError>

@@ -120,10 +120,17 @@ fn answers_commands(rt: HostRuntime) -> Result<(), Fail> {
     let Ok(mut registry) = Registry::open(alloc, PlainBook::new(alloc), policy) else {
         return Err(Fail::from("refused"));
     };
-    let reply = registry.execute(alfa, &check(alloc)?, moment(1_830_297_600)?)?;
-    assert!(rt; reply.code == Code::Completed);
-    assert_eq!(rt; reply.server_tag.number, 1);
-    assert_eq!(rt; reply.server_tag.id.as_str(), "alfa");
+    let now = moment(1_830_297_600)?;
+    let command = check(alloc)?;
+    let answered = registry.execute(alfa, &command, now);
+    drop(command);
+    let reply = answered?;
+    let (code, number) = (reply.code, reply.server_tag.number);
+    let is_alfas = reply.server_tag.id.as_str() == "alfa";
+    drop(reply);
+    assert!(rt; code == Code::Completed);
+    assert_eq!(rt; number, 1);
+    assert!(rt; is_alfas);
     Ok(())
 }
 
@@ -137,8 +144,13 @@ fn refuses_a_moment_after_2099(rt: HostRuntime) -> Result<(), Fail> {
     let Ok(mut registry) = Registry::open(alloc, PlainBook::new(alloc), policy) else {
         return Err(Fail::from("refused"));
     };
-    let late = registry.execute(alfa, &check(alloc)?, moment(4_102_444_800)?);
-    assert!(rt; matches!(&late, Err(Fault::Moment)));
+    let now = moment(4_102_444_800)?;
+    let command = check(alloc)?;
+    let answered = registry.execute(alfa, &command, now);
+    drop(command);
+    let is_late = matches!(&answered, Err(Fault::Moment));
+    drop(answered);
+    assert!(rt; is_late);
     Ok(())
 }
 

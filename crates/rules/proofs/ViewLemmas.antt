@@ -1,44 +1,119 @@
 -- The facts of a command lie in the view, and each change is seen by the view alone.
-use Rattle.std.proofs.Common.{◌≡◌, ℕ, Bool, true, false, cond, List, [], ◌∷◌, map, filter, Option, Some, None, refl, sym, ap, ◌∙◌}
-use Rattle.std.specs.Prelude.{max, unwrap_or}
+use Rattle.std.proofs.Common.{◌≡◌, ℕ, suc, Bool, true, false, cond, List, [], ◌∷◌, map, filter, length, Option, Some, None, refl, sym, ap, ◌∙◌}
+use Rattle.std.specs.Prelude.{◌||◌, is_some, max, option_map, unwrap_or}
+use Rattle.std.specs.List.{list_any}
 use Rattle.std.specs.Cmp.{nat_cmp_total, Equal-is}
 use Rattle.std.specs.Cmp.Lexicographic.{slice_cmp, nat_list_cmp_total}
-use Rattle.std.specs.FinMap.{get, insert, keys, get-insert, nat_cmp-IsAntisymmetric}
+use Rattle.std.specs.FinMap.{FinMap, get, insert, remove, entries, keys, values, get-insert, nat_cmp-IsAntisymmetric}
 use Rattle.std.specs.Ordering.{eq_by_cmp, nat_cmp}
 use Rattle.accounts.specs.declared.account.Account.{Account}
 use Rattle.accounts.specs.Account.{empty_account, counted, numbered}
 use Rattle.basis.specs.Maps.{map_values}
-use Rattle.basis.proofs.MapLemmas.{names_apart, get-map_values, map_values-insert, map_values-twice}
-use Rattle.names.specs.GivenName.{name_of}
+use Rattle.basis.proofs.MapLemmas.{names_apart, entries-map_values, get-map_values, map_values-insert, map_values-remove, map_values-twice, map-twice}
+use Rattle.objects.specs.declared.contact.Contact.{Contact}
+use Rattle.objects.specs.declared.contact.ContactFace.{ContactFace}
+use Rattle.objects.specs.declared.domain.Domain.{Domain}
+use Rattle.objects.specs.declared.domain.DomainFace.{DomainFace}
+use Rattle.objects.specs.declared.domain.Links.{Links}
+use Rattle.objects.specs.declared.sight.Seen.{Seen}
 use Rattle.objects.specs.Hosts.{is_below}
-use Rattle.objects.specs.Sight.{contact_as, domain_as}
-use Rattle.rules.specs.declared.decision.Change.{Change}
-use Rattle.rules.specs.declared.decision.Change.TheVariants.{MoveClock, OpenAccount, PutDomain, CountCommand, TakeSerial}
-use Rattle.rules.specs.Changes.{changed, changed_all, with_account, itself}
-use Rattle.rules.proofs.SightLemmas.{forget, forget-domain, forget-contact}
+use Rattle.objects.specs.Links.{links_seen, names_contact, names_host}
+use Rattle.objects.specs.Sight.{contact_as, domain_as, is_party}
+use Rattle.rules.specs.declared.change.Change.{Change}
+use Rattle.rules.specs.declared.change.Change.TheVariants.{MoveClock, OpenAccount, PutContact, DropContact, PutDomain, PutHost, DropHost, Relink, CountCommand, TakeSerial}
+use Rattle.rules.specs.Changes.{changed, changed_all, with_account, itself, relinked}
+use Rattle.rules.proofs.SightLemmas.{forget, forget-domain, forget-contact, holds_seen, holds-seen, links-seen, relinked_seen, seen-relinked, superordinate_seen, superordinate-seen}
 use Rattle.verdict.specs.declared.command.Command.{Command}
-use Rattle.verdict.specs.declared.facts.Facts.{Facts}
-use Rattle.verdict.specs.Facts.{facts, digest, domains_named, presented, subordinate}
+use Rattle.verdict.specs.Facts.{Finds, facts, facts_by, finds, held, presented, presented_contact, subordinate, superordinate_of_domain}
 use Rattle.verdict.specs.Registry.{Registry, account_of}
 use Rattle.verdict.specs.View.{View, Secrets, view, view_for, view_with, secrets_of}
 
 -- ---- the facts lie in the view
 
-facts_of : Command → View → Facts
-facts_of c v = record {
-  account = digest v.account;
-  domains = map (λ name. record { name = name_of name; seen = get v.domains (name_of name); subordinate = filter (is_below (name_of name)) (keys v.hosts) }) (domains_named c);
+some-map : {A B : Type 0} (f : A → B) (o : Option A) → is_some (option_map f o) ≡ is_some o
+some-map f None = refl
+some-map f (Some x) = refl
+
+-- what is found in a view
+finds_in : ℕ → View → Finds
+finds_in r v = record {
+  account = v.account;
+  contact = λ name. get v.contacts name;
+  domain = λ name. get v.domains name;
+  host = λ name. get v.hosts name;
+  superordinate = λ name. option_map superordinate_seen (get v.domains name);
+  has_contact = λ name. is_some (get v.contacts name);
+  has_host = λ name. is_some (get v.hosts name);
+  contact_is_linked = λ name. list_any (λ seen. names_contact name (links_seen seen)) (values v.domains);
+  host_is_linked = λ name. list_any (λ seen. names_host name (links_seen seen)) (values v.domains);
+  hosts_below = λ name. filter (is_below name) (keys v.hosts);
+  domains_held = length (filter (holds_seen r) (values v.domains));
 }
 
-facts-view : (r : ℕ) (c : Command) (s : Registry) → facts r c s ≡ facts_of c (view_for r c s)
-unfolding facts_of
-facts-view r c s = λ i. record {
-  account = digest (account_of r s);
-  domains = map (λ name. record { name = name_of name; seen = sym (get-map_values (slice_cmp nat_cmp) nat_list_cmp_total names_apart (λ n. domain_as r (presented c n)) s.domains (name_of name)) i; subordinate = subordinate s (name_of name) }) (domains_named c);
-}
+module _ (r : ℕ) (c : Command) (s : Registry) where
+  abbrev sight : List ℕ → Domain → Seen Domain DomainFace
+  sight name = domain_as r (presented c name)
+
+  contact-found : (name : List ℕ) → get (view_for r c s).contacts name ≡ option_map (contact_as r (presented_contact c name)) (get s.contacts name)
+  contact-found name = get-map_values (slice_cmp nat_cmp) nat_list_cmp_total names_apart (λ n. contact_as r (presented_contact c n)) s.contacts name
+
+  contact-there : (name : List ℕ) → is_some (get (view_for r c s).contacts name) ≡ is_some (get s.contacts name)
+  contact-there name = ap (λ (o : Option (Seen Contact ContactFace)). is_some o) (contact-found name) ∙ some-map (contact_as r (presented_contact c name)) (get s.contacts name)
+
+  domain-found : (name : List ℕ) → get (view_for r c s).domains name ≡ option_map (sight name) (get s.domains name)
+  domain-found name = get-map_values (slice_cmp nat_cmp) nat_list_cmp_total names_apart sight s.domains name
+
+  superordinate-found : (name : List ℕ) → option_map superordinate_seen (get (view_for r c s).domains name) ≡ option_map superordinate_of_domain (get s.domains name)
+  superordinate-found name = ap (option_map superordinate_seen) (domain-found name) ∙ map-twice (sight name) superordinate_seen superordinate_of_domain (superordinate-seen r (presented c name)) (get s.domains name)
+
+  -- the values that are seen
+  values-found : values (view_for r c s).domains ≡ map (λ (e : List ℕ × Domain). sight e.0 e.1) (entries s.domains)
+  values-found =
+      ap (λ (es : List (List ℕ × Seen Domain DomainFace)). map (λ (e : List ℕ × Seen Domain DomainFace). e.1) es) (entries-map_values (slice_cmp nat_cmp) sight nat_list_cmp_total names_apart s.domains)
+      ∙ pairs-map (entries s.domains)
+    where
+      pairs-map : (es : List (List ℕ × Domain)) → map (λ (e : List ℕ × Seen Domain DomainFace). e.1) (map (λ (e : List ℕ × Domain). (e.0, sight e.0 e.1)) es) ≡ map (λ (e : List ℕ × Domain). sight e.0 e.1) es
+      pairs-map [] = refl
+      pairs-map (e ∷ es) = ap (λ (rest : List (Seen Domain DomainFace)). sight e.0 e.1 ∷ rest) (pairs-map es)
+
+  -- a test of what all see of a domain
+  any-found : (test : Links → Bool) → list_any (λ seen. test (links_seen seen)) (values (view_for r c s).domains) ≡ list_any (λ d. test d.links) (values s.domains)
+  any-found test = ap (list_any (λ seen. test (links_seen seen))) values-found ∙ by (entries s.domains)
+    where
+      by : (es : List (List ℕ × Domain)) → list_any (λ seen. test (links_seen seen)) (map (λ (e : List ℕ × Domain). sight e.0 e.1) es) ≡ list_any (λ d. test d.links) (map (λ (e : List ℕ × Domain). e.1) es)
+      by [] = refl
+      by (e ∷ es) = λ i. test (links-seen r (presented c e.0) e.1 i) || by es i
+
+  held-found : length (filter (holds_seen r) (values (view_for r c s).domains)) ≡ held r s
+  held-found = ap (λ (seen : List (Seen Domain DomainFace)). length (filter (holds_seen r) seen)) values-found ∙ by (entries s.domains)
+    where
+      one : (d : Domain) (seen : Seen Domain DomainFace) (ds : List Domain) (rest : List (Seen Domain DomainFace)) (b : Bool) → holds_seen r seen ≡ b → is_party r d.sponsor d.transfer ≡ b
+          → length (filter (holds_seen r) rest) ≡ length (filter (λ d. is_party r d.sponsor d.transfer) ds) → length (filter (holds_seen r) (seen ∷ rest)) ≡ length (filter (λ d. is_party r d.sponsor d.transfer) (d ∷ ds))
+      one d seen ds rest true e f more = rw (e, f) (ap suc more)
+      one d seen ds rest false e f more = rw (e, f) more
+
+      by : (es : List (List ℕ × Domain)) → length (filter (holds_seen r) (map (λ (e : List ℕ × Domain). sight e.0 e.1) es)) ≡ length (filter (λ d. is_party r d.sponsor d.transfer) (map (λ (e : List ℕ × Domain). e.1) es))
+      by [] = refl
+      by (e ∷ es) = one e.1 (sight e.0 e.1) _ _ (is_party r e.1.sponsor e.1.transfer) (holds-seen r (presented c e.0) e.1) refl (by es)
+
+  finds-view : finds r c s ≡ finds_in r (view_for r c s)
+  unfolding finds_in
+  finds-view = λ i. record {
+    account = account_of r s;
+    contact = λ name. sym (contact-found name) i;
+    domain = λ name. sym (domain-found name) i;
+    host = λ name. get s.hosts name;
+    superordinate = λ name. sym (superordinate-found name) i;
+    has_contact = λ name. sym (contact-there name) i;
+    has_host = λ name. is_some (get s.hosts name);
+    contact_is_linked = λ name. sym (any-found (names_contact name)) i;
+    host_is_linked = λ name. sym (any-found (names_host name)) i;
+    hosts_below = subordinate s;
+    domains_held = sym held-found i;
+  }
 
 pub same_facts : (r : ℕ) (c : Command) (s t : Registry) → view_for r c s ≡ view_for r c t → facts r c s ≡ facts r c t
-same_facts r c s t alike = facts-view r c s ∙ ap (facts_of c) alike ∙ sym (facts-view r c t)
+same_facts r c s t alike = ap (λ found. facts_by found c) (finds-view r c s ∙ ap (finds_in r) alike ∙ sym (finds-view r c t))
 
 -- ---- what is seen without the secrets of a command
 
@@ -65,7 +140,12 @@ own r other f a = cond (eq_by_cmp nat_cmp r other) (f a) a
 seen_change : ℕ → Change → View → View
 seen_change r (MoveClock t) v = record v { clock = max t v.clock }
 seen_change r (OpenAccount other) v = record v { account = own r other itself v.account }
+seen_change r (PutContact c) v = record v { contacts = insert v.contacts c.name (contact_as r None c) }
+seen_change r (DropContact name) v = record v { contacts = remove v.contacts name }
 seen_change r (PutDomain d) v = record v { domains = insert v.domains d.name (domain_as r None d) }
+seen_change r (PutHost h) v = record v { hosts = insert v.hosts h.name h }
+seen_change r (DropHost name) v = record v { hosts = remove v.hosts name }
+seen_change r (Relink old new) v = record v { domains = map_values (λ name. relinked_seen old new) v.domains }
 seen_change r (CountCommand other) v = record v { account = own r other counted v.account }
 seen_change r (TakeSerial other) v = record v { account = own r other numbered v.account }
 
@@ -84,11 +164,22 @@ account_of-with_account r other f s =
     ∙ found-or (eq_by_cmp nat_cmp r other) (f (account_of other s)) empty_account (get s.accounts r)
     ∙ own-account f s r other (eq_by_cmp nat_cmp r other) refl
 
+relinked-view : (r : ℕ) (old new : List ℕ) (m : FinMap (slice_cmp nat_cmp) Domain)
+    → map_values (λ (name : List ℕ). domain_as r None) (map_values (λ (name : List ℕ). relinked old new) m) ≡ map_values (λ (name : List ℕ). relinked_seen old new) (map_values (λ (name : List ℕ). domain_as r None) m)
+relinked-view r old new m =
+    map_values-twice (slice_cmp nat_cmp) nat_list_cmp_total names_apart (λ name. relinked old new) (λ name. domain_as r None) (λ name d. domain_as r None (relinked old new d)) (λ name d. refl) m
+    ∙ sym (map_values-twice (slice_cmp nat_cmp) nat_list_cmp_total names_apart (λ name. domain_as r None) (λ name. relinked_seen old new) (λ name d. domain_as r None (relinked old new d)) (λ name d. sym (seen-relinked r None old new d)) m)
+
 -- to make a change and to look is to look and to see the change
 view-changed : (r : ℕ) (change : Change) (s : Registry) → view r (changed change s) ≡ seen_change r change (view r s)
 unfolding seen_change
 view-changed r (MoveClock t) s = refl
 view-changed r (OpenAccount other) s = ap (λ a. record (view r s) { account = a }) (account_of-with_account r other itself s)
+view-changed r (PutContact c) s = ap (λ m. record (view r s) { contacts = m }) (map_values-insert (slice_cmp nat_cmp) nat_list_cmp_total names_apart (λ name. contact_as r None) s.contacts c.name c)
+view-changed r (DropContact name) s = ap (λ m. record (view r s) { contacts = m }) (map_values-remove (slice_cmp nat_cmp) nat_list_cmp_total names_apart (λ name. contact_as r None) s.contacts name)
+view-changed r (PutHost h) s = refl
+view-changed r (DropHost name) s = refl
+view-changed r (Relink old new) s = ap (λ m. record (view r s) { domains = m }) (relinked-view r old new s.domains)
 view-changed r (PutDomain d) s = ap (λ m. record (view r s) { domains = m }) (map_values-insert (slice_cmp nat_cmp) nat_list_cmp_total names_apart (λ name. domain_as r None) s.domains d.name d)
 view-changed r (CountCommand other) s = ap (λ a. record (view r s) { account = a }) (account_of-with_account r other counted s)
 view-changed r (TakeSerial other) s = ap (λ a. record (view r s) { account = a }) (account_of-with_account r other numbered s)

@@ -1,10 +1,18 @@
 -- The changes of a registry.
-use Rattle.std.specs.Prelude.{ℕ, List, fold}
-use Rattle.std.specs.FinMap.{insert}
+use Rattle.std.specs.Prelude.{ℕ, List, filter, not, fold, if◌then◌else◌}
+use Rattle.std.specs.FinMap.{insert, remove}
+use Rattle.std.specs.Ordering.{nat_cmp}
+use Rattle.std.specs.Cmp.Lexicographic.{slice_cmp}
+use Rattle.std.specs.Str.{bytes_eq}
 use Rattle.accounts.specs.declared.account.Account.{Account}
 use Rattle.accounts.specs.Account.{counted, numbered}
-use Rattle.rules.specs.declared.decision.Change.{Change}
-use Rattle.rules.specs.declared.decision.Change.TheVariants.{MoveClock, OpenAccount, PutDomain, CountCommand, TakeSerial}
+use Rattle.basis.specs.Bag.{add, precedes}
+use Rattle.basis.specs.Maps.{map_values}
+use Rattle.objects.specs.declared.domain.Domain.{Domain}
+use Rattle.objects.specs.declared.domain.Links.{Links}
+use Rattle.objects.specs.Links.{has_name}
+use Rattle.rules.specs.declared.change.Change.{Change}
+use Rattle.rules.specs.declared.change.Change.TheVariants.{MoveClock, OpenAccount, PutContact, DropContact, PutDomain, PutHost, DropHost, Relink, CountCommand, TakeSerial}
 use Rattle.verdict.specs.Registry.{Registry, account_of, lapsed}
 
 -- one registrar's account is changed
@@ -14,12 +22,27 @@ with_account r f s = record s { accounts = insert s.accounts r (f (account_of r 
 abbrev pub itself : Account → Account
 itself account = account
 
+-- among a domain's hosts, one stands under its new name
+abbrev pub renamed : List ℕ → List ℕ → List (List ℕ) → List (List ℕ)
+renamed old new hosts = if has_name hosts old then add (precedes (slice_cmp nat_cmp)) new (filter (λ host. not (bytes_eq host old)) hosts) else hosts
+
+abbrev pub relinked_links : List ℕ → List ℕ → Links → Links
+relinked_links old new links = record links { hosts = renamed old new links.hosts }
+
+abbrev pub relinked : List ℕ → List ℕ → Domain → Domain
+relinked old new d = record d { links = relinked_links old new d.links }
+
 -- One change. Time passes by a change too, and an account that is opened and was there stays as it
 -- is.
 abbrev pub changed : Change → Registry → Registry
 changed (MoveClock t) s = lapsed t s
 changed (OpenAccount r) s = with_account r itself s
+changed (PutContact c) s = record s { contacts = insert s.contacts c.name c }
+changed (DropContact name) s = record s { contacts = remove s.contacts name }
 changed (PutDomain d) s = record s { domains = insert s.domains d.name d }
+changed (PutHost h) s = record s { hosts = insert s.hosts h.name h }
+changed (DropHost name) s = record s { hosts = remove s.hosts name }
+changed (Relink old new) s = record s { domains = map_values (λ name. relinked old new) s.domains }
 changed (CountCommand r) s = with_account r counted s
 changed (TakeSerial r) s = with_account r numbered s
 

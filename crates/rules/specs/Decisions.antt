@@ -1,40 +1,73 @@
 -- What a command is answered and what it changes, by the facts that bear on it.
-use Rattle.std.specs.Prelude.{ℕ, List, [], ◌∷◌, map, None, if◌then◌else◌}
-use Rattle.std.specs.Ordering.{nat_cmp}
-use Rattle.std.specs.Cmp.Lexicographic.{slice_cmp}
+use Rattle.std.specs.Prelude.{ℕ, List, [], ◌∷◌, map, Option, Some, None, if◌then◌else◌}
 use Rattle.accounts.specs.Account.{raised}
-use Rattle.basis.specs.Bag.{sorted, precedes}
+use Rattle.names.specs.declared.given.GivenName.{GivenName}
 use Rattle.names.specs.GivenName.{name_of}
+use Rattle.names.specs.Zone.{ZoneRules}
+use Rattle.objects.specs.declared.contact.Contact.{Contact}
+use Rattle.objects.specs.declared.contact.ContactFace.{ContactFace}
 use Rattle.objects.specs.declared.domain.Domain.{Domain}
+use Rattle.objects.specs.declared.domain.DomainFace.{DomainFace}
 use Rattle.objects.specs.declared.domain.Links.{Links}
+use Rattle.objects.specs.declared.host.Host.{Host}
+use Rattle.objects.specs.declared.roid.ObjectKind.{ObjectKind}
 use Rattle.objects.specs.declared.roid.ObjectKind.TheVariants as kinds
+use Rattle.objects.specs.declared.roid.Roid.{Roid}
+use Rattle.objects.specs.declared.sight.Seen.{Seen}
+use Rattle.objects.specs.declared.sight.Seen.TheVariants.{Full, Named, Public}
+use Rattle.objects.specs.Links.{in_order}
+use Rattle.objects.specs.Statuses.{amended_statuses}
 use Rattle.policy.specs.Rules.{PolicyRules}
-use Rattle.rules.specs.declared.decision.Change.{Change}
-use Rattle.rules.specs.declared.decision.Change.TheVariants.{PutDomain, CountCommand, TakeSerial}
+use Rattle.rules.specs.declared.change.Change.{Change}
+use Rattle.rules.specs.declared.change.Change.TheVariants.{PutContact, DropContact, PutDomain, PutHost, DropHost, Relink, CountCommand, TakeSerial}
 use Rattle.rules.specs.declared.decision.Decision.{Decision}
 use Rattle.verdict.specs.declared.code.Code.{Code}
 use Rattle.verdict.specs.declared.command.Command.{Command}
 use Rattle.verdict.specs.declared.command.Command.TheVariants.{Bad, Asked}
+use Rattle.verdict.specs.declared.command.ContactUpdate.{ContactUpdate}
+use Rattle.verdict.specs.declared.command.DomainUpdate.{DomainUpdate}
+use Rattle.verdict.specs.declared.command.HostUpdate.{HostUpdate}
+use Rattle.verdict.specs.declared.command.NewContact.{NewContact}
 use Rattle.verdict.specs.declared.command.NewDomain.{NewDomain}
+use Rattle.verdict.specs.declared.command.NewHost.{NewHost}
 use Rattle.verdict.specs.declared.command.Request.{Request}
-use Rattle.verdict.specs.declared.command.Request.TheVariants.{CheckDomain, CreateDomain, InfoDomain}
+use Rattle.verdict.specs.declared.command.Request.TheVariants as requests
 use Rattle.verdict.specs.declared.facts.Facts.{Facts}
 use Rattle.verdict.specs.declared.verdict.Verdict.{Verdict}
 use Rattle.verdict.specs.Codes.{is_accepted}
+use Rattle.verdict.specs.Conditions.{final_name, is_inside, or_else}
+use Rattle.verdict.specs.Facts.{contact_seen, domain_seen, host_seen}
+use Rattle.verdict.specs.Lists.{amended, itself}
 use Rattle.verdict.specs.Verdicts.{judged}
 
--- names in the order of their bytes
-abbrev pub in_order : List (List ℕ) → List (List ℕ)
-in_order names = sorted (precedes (slice_cmp nat_cmp)) names
+-- ---- new objects: its own serial's ROID, and nothing set, transferred or deleted
+
+abbrev pub new_roid : ObjectKind → ℕ → Facts → Roid
+new_roid kind r f = record { kind = kind; creator = r; serial = raised f.account.serial }
+
+abbrev pub new_contact : ℕ → ℕ → Facts → NewContact → Contact
+new_contact r t f new = record {
+  name = new.name;
+  roid = new_roid kinds.Contact r f;
+  sponsor = r;
+  created = t;
+  transferred = None;
+  updated = None;
+  statuses = [];
+  secret = new.secret;
+  postal = new.postal;
+  voice = new.voice;
+  mail = new.mail;
+  transfer = None;
+}
 
 abbrev pub new_links : NewDomain → Links
 new_links new = record { registrant = new.registrant; admin = in_order new.admin; tech = in_order new.tech; hosts = in_order (map name_of new.hosts) }
 
--- The domain that its creator gets: its own serial's ROID, and nothing set, transferred or deleted.
 abbrev pub new_domain : ℕ → ℕ → Facts → NewDomain → Domain
 new_domain r t f new = record {
   name = name_of new.name;
-  roid = record { kind = kinds.Domain; creator = r; serial = raised f.account.serial };
+  roid = new_roid kinds.Domain r f;
   sponsor = r;
   created = t;
   years = new.years;
@@ -47,19 +80,109 @@ new_domain r t f new = record {
   deletion = None;
 }
 
+-- a host in the zone has no registrar of its own, another has who gave it its name
+abbrev pub by_of : ZoneRules → ℕ → List ℕ → Option ℕ
+by_of zone r name = if is_inside zone name then None else Some r
+
+abbrev pub new_host : ZoneRules → ℕ → ℕ → Facts → NewHost → Host
+new_host zone r t f new = record {
+  name = name_of new.name;
+  roid = new_roid kinds.Host r f;
+  by = by_of zone r (name_of new.name);
+  created = t;
+  updated = None;
+  statuses = [];
+  addresses = in_order new.addresses;
+}
+
+-- ---- updated objects: what isn't given stays
+
+abbrev pub or_old : {A : Type 0} → Option A → A → A
+or_old (Some new) old = new
+or_old None old = old
+
+abbrev pub updated_contact : ℕ → ContactUpdate → Contact → Contact
+updated_contact t u c = record c {
+  updated = Some t;
+  statuses = amended_statuses c.statuses u.rem u.add;
+  secret = or_old u.secret c.secret;
+  postal = or_old u.postal c.postal;
+  voice = or_else u.voice c.voice;
+  mail = or_old u.mail c.mail;
+}
+
+abbrev pub updated_links : DomainUpdate → Links → Links
+updated_links u links = record {
+  registrant = or_old u.registrant links.registrant;
+  admin = amended itself links.admin u.rem.admin u.add.admin;
+  tech = amended itself links.tech u.rem.tech u.add.tech;
+  hosts = amended name_of links.hosts u.rem.hosts u.add.hosts;
+}
+
+abbrev pub updated_domain : ℕ → DomainUpdate → Domain → Domain
+updated_domain t u d = record d {
+  updated = Some t;
+  statuses = amended_statuses d.statuses u.rem.statuses u.add.statuses;
+  secret = or_old u.secret d.secret;
+  links = updated_links u d.links;
+}
+
+-- who gave a host its name: another where the update renames it
+abbrev pub updated_by : ZoneRules → ℕ → Option GivenName → Option ℕ → Option ℕ
+updated_by zone r None by = by
+updated_by zone r (Some name) by = by_of zone r (name_of name)
+
+abbrev pub updated_host : ZoneRules → ℕ → ℕ → HostUpdate → Host → Host
+updated_host zone r t u h = record h {
+  name = final_name u u.new_name;
+  by = updated_by zone r u.new_name h.by;
+  updated = Some t;
+  statuses = amended_statuses h.statuses u.rem.statuses u.add.statuses;
+  addresses = amended itself h.addresses u.rem.addresses u.add.addresses;
+}
+
+-- ---- changes
+
+abbrev pub contact_changes : ℕ → ContactUpdate → Option (Seen Contact ContactFace) → List Change
+contact_changes t u None = []
+contact_changes t u (Some (Full c)) = PutContact (updated_contact t u c) ∷ []
+contact_changes t u (Some (Named face transfer)) = []
+contact_changes t u (Some (Public face)) = []
+
+abbrev pub domain_changes : ℕ → DomainUpdate → Option (Seen Domain DomainFace) → List Change
+domain_changes t u None = []
+domain_changes t u (Some (Full d)) = PutDomain (updated_domain t u d) ∷ []
+domain_changes t u (Some (Named face transfer)) = []
+domain_changes t u (Some (Public face)) = []
+
+-- under a new name, a host is linked as before
+abbrev pub renaming : List ℕ → Host → Option GivenName → List Change
+renaming old h None = PutHost h ∷ []
+renaming old h (Some name) = DropHost old ∷ PutHost h ∷ Relink old (name_of name) ∷ []
+
+abbrev pub host_changes : ZoneRules → ℕ → ℕ → HostUpdate → Option Host → List Change
+host_changes zone r t u None = []
+host_changes zone r t u (Some h) = renaming (name_of u.name) (updated_host zone r t u h) u.new_name
+
 -- what an accepted command changes
-abbrev pub changes_of : ℕ → ℕ → Request → Facts → List Change
-changes_of r t (CheckDomain names) f = []
-changes_of r t (CreateDomain new) f = PutDomain (new_domain r t f new) ∷ TakeSerial r ∷ []
-changes_of r t (InfoDomain name secret) f = []
+unfoldable pub changes_of : ZoneRules → ℕ → ℕ → Request → Facts → List Change
+changes_of zone r t (requests.CreateContact new) f = PutContact (new_contact r t f new) ∷ TakeSerial r ∷ []
+changes_of zone r t (requests.CreateDomain new) f = PutDomain (new_domain r t f new) ∷ TakeSerial r ∷ []
+changes_of zone r t (requests.CreateHost new) f = PutHost (new_host zone r t f new) ∷ TakeSerial r ∷ []
+changes_of zone r t (requests.DeleteContact name) f = DropContact name ∷ []
+changes_of zone r t (requests.DeleteHost name) f = DropHost (name_of name) ∷ []
+changes_of zone r t (requests.UpdateContact u) f = contact_changes t u (contact_seen f u.name)
+changes_of zone r t (requests.UpdateDomain u) f = domain_changes t u (domain_seen f (name_of u.name))
+changes_of zone r t (requests.UpdateHost u) f = host_changes zone r t u (host_seen f (name_of u.name))
+changes_of zone r t _ f = []
 
 -- a refused command changes nothing but the caller's counter
-abbrev pub changes_after : ℕ → ℕ → Command → Facts → Code → List Change
-changes_after r t (Bad tag code) f answered = []
-changes_after r t (Asked tag request) f answered = if is_accepted answered then changes_of r t request f else []
+unfoldable pub changes_after : ZoneRules → ℕ → ℕ → Command → Facts → Code → List Change
+changes_after zone r t (Bad tag code) f answered = []
+changes_after zone r t (Asked tag request) f answered = if is_accepted answered then changes_of zone r t request f else []
 
-abbrev pub decided_with : ℕ → ℕ → Command → Facts → Verdict → Decision
-decided_with r t c f v = record { verdict = v; changes = CountCommand r ∷ changes_after r t c f v.code }
+abbrev pub decided_with : ZoneRules → ℕ → ℕ → Command → Facts → Verdict → Decision
+decided_with zone r t c f v = record { verdict = v; changes = CountCommand r ∷ changes_after zone r t c f v.code }
 
 abbrev pub decided : PolicyRules → ℕ → ℕ → Command → Facts → Decision
-decided p r t c f = decided_with r t c f (judged p r t c f)
+decided p r t c f = decided_with p.zone r t c f (judged p r t c f)

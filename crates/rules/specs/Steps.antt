@@ -10,7 +10,7 @@ use Rattle.verdict.specs.declared.reply.Reply.{Reply}
 use Rattle.verdict.specs.declared.verdict.Verdict.{Verdict}
 use Rattle.verdict.specs.Facts.{facts}
 use Rattle.verdict.specs.Registry.{Registry, account_of}
-use Rattle.verdict.specs.Rules.{id_of}
+use Rattle.verdict.specs.Told.{id_of}
 use Rattle.verdict.specs.Verdicts.{tag_of}
 
 -- the decision on a registrar's command in a registry

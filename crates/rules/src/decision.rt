@@ -1,32 +1,22 @@
-//! What a command changes.
-ghost use Rattle.std.specs.Prelude.{◌≡◌, ◌∷◌, IfOk, map};
-ghost use Rattle.names.specs.GivenName.{name_of};
+//! What a command is answered, and what it changes.
+ghost use Rattle.std.specs.Prelude.{◌≡◌, ◌∷◌, ◌++◌, [], IfOk, IsOk, OnOk};
+ghost use Rattle.std.specs.Option.{option_copied};
 ghost use Rattle.rules.specs.Decisions as spec;
 
+use crate::change::Change;
+use crate::created::{new_contact, new_domain, new_host};
+use crate::updated::{updated_contact, updated_domain, updated_host};
 use basis::list::Seq;
 use basis::registrar::RegistrarNo;
 use basis::text::Text;
 use calendar::Moment;
-use names::GivenName;
-use objects::{Domain, Links, ObjectKind, Roid};
+use names::{GivenName, Zone};
+use objects::{Contact, ContactFace, Domain, DomainFace, Host, Seen};
 use policy::Policy;
 use std::alloc::{AllocError, Global};
-use verdict::{Code, Command, Facts, NewDomain, Request, Verdict, judge};
-
-/// One change of the registry. What belongs to an account is an operation and never a value.
-#[derive(Drop)]
-pub enum Change {
-    /// The domain stands under its name.
-    PutDomain(Domain),
-    /// The moment was seen.
-    MoveClock(Moment),
-    /// The registrar has an account.
-    OpenAccount(RegistrarNo),
-    /// One command more of the registrar was answered.
-    CountCommand(RegistrarNo),
-    /// The registrar created one object more.
-    TakeSerial(RegistrarNo),
-}
+use verdict::{
+    Code, Command, ContactUpdate, DomainUpdate, Facts, HostUpdate, Request, Verdict, judge,
+};
 
 /// What a command is answered, and the changes that it makes, in order.
 #[derive(Drop)]
@@ -47,14 +37,61 @@ pub fn decide(
     ensures { IfOk result (λ decision. decision ≡ spec.decided policy.now caller moment command.now facts.now) }
 {
     let verdict = judge(alloc, facts, caller, command, moment, policy)?;
-    let changes = changes_after(alloc, facts, caller, command, moment, verdict.code)?;
-    Ok(Decision {
-        verdict,
-        changes: Seq::from_vec(changes),
-    })
+    let code = verdict.code;
+    let changes = all_changes(alloc, facts, caller, command, moment, code, policy);
+    finish(verdict, changes)
 }
 
-/// What a command changes that was answered this code.
+fn finish(
+    verdict: Verdict,
+    changes: Result<Vec<Change>, AllocError>,
+) -> Result<Decision, AllocError>
+    ensures verdict { IfOk result (λ decision. decision.verdict ≡ verdict) }
+    ensures changes { IfOk result (λ decision. IfOk changes (λ made. decision.changes ≡ made.items)) }
+    ensures made { OnOk result (IsOk changes) }
+{
+    match changes {
+        Ok(changes) => Ok(Decision {
+            verdict,
+            changes: Seq::from_vec(changes),
+        }),
+        Err(error) => {
+            drop(verdict);
+            Err(error)
+        }
+    }
+}
+
+fn all_changes(
+    alloc: Global,
+    facts: &Facts,
+    caller: RegistrarNo,
+    command: &Command,
+    moment: Moment,
+    answered: Code,
+    policy: &Policy,
+) -> Result<Vec<Change>, AllocError>
+    ensures { IfOk result (λ changes. changes.items ≡ Change.CountCommand caller ∷ spec.changes_after policy.now.zone caller moment command.now facts.now answered) }
+{
+    let rest = changes_after(alloc, facts, caller, command, moment, answered, policy)?;
+    with_count(alloc, caller, rest)
+}
+
+/// The changes, after the one that counts the caller's command.
+fn with_count(
+    alloc: Global,
+    caller: RegistrarNo,
+    mut rest: Vec<Change>,
+) -> Result<Vec<Change>, AllocError>
+    ensures { IfOk result (λ changes. changes.items ≡ Change.CountCommand caller ∷ rest.items) }
+{
+    let mut changes = vec![in alloc; Change::CountCommand(caller)]?;
+    changes.append(&mut rest)?;
+    Ok(changes)
+}
+
+/// What a command changes that was answered this code, beside its caller's counter.
+#[tactic(auto, unfolding(crate::specs::Decisions::changes_after))]
 fn changes_after(
     alloc: Global,
     facts: &Facts,
@@ -62,98 +99,146 @@ fn changes_after(
     command: &Command,
     moment: Moment,
     answered: Code,
+    policy: &Policy,
 ) -> Result<Vec<Change>, AllocError>
-    ensures { IfOk result (λ changes. changes.items ≡ Change.CountCommand caller ∷ spec.changes_after caller moment command.now facts.now answered) }
+    ensures { IfOk result (λ changes. changes.items ≡ spec.changes_after policy.now.zone caller moment command.now facts.now answered) }
 {
     match command {
         Command::Asked { request, .. } if answered.is_accepted() => {
-            accept(alloc, facts, caller, request, moment)
+            accept(alloc, facts, caller, request, moment, policy.zone())
         }
-        _ => Ok(vec![in alloc; Change::CountCommand(caller)]?),
+        _ => Ok(Vec::new(alloc)),
     }
 }
 
 /// What an accepted command changes.
+#[tactic(auto, unfolding(crate::specs::Decisions::changes_of))]
 fn accept(
     alloc: Global,
     facts: &Facts,
     caller: RegistrarNo,
     request: &Request,
     moment: Moment,
+    zone: &Zone,
 ) -> Result<Vec<Change>, AllocError>
-    ensures { IfOk result (λ changes. changes.items ≡ Change.CountCommand caller ∷ spec.changes_of caller moment request.now facts.now) }
+    ensures { IfOk result (λ changes. changes.items ≡ spec.changes_of zone.now caller moment request.now facts.now) }
 {
     match request {
+        Request::CreateContact(new) => {
+            let contact = new_contact(alloc, facts, caller, new, moment)?;
+            created(alloc, caller, Change::PutContact(contact))
+        }
         Request::CreateDomain(new) => {
             let domain = new_domain(alloc, facts, caller, new, moment)?;
-            Ok(vec![in alloc;
-                Change::CountCommand(caller),
-                Change::PutDomain(domain),
-                Change::TakeSerial(caller),
-            ]?)
+            created(alloc, caller, Change::PutDomain(domain))
         }
-        Request::CheckDomain { .. } | Request::InfoDomain { .. } => {
-            Ok(vec![in alloc; Change::CountCommand(caller)]?)
+        Request::CreateHost(new) => {
+            let host = new_host(alloc, facts, caller, new, moment, zone)?;
+            created(alloc, caller, Change::PutHost(host))
         }
+        Request::DeleteContact { name } => {
+            let change = Change::DropContact(name.clone()?);
+            Ok(vec![in alloc; change]?)
+        }
+        Request::DeleteHost { name } => {
+            let change = Change::DropHost(name.text().clone()?);
+            Ok(vec![in alloc; change]?)
+        }
+        Request::UpdateContact(update) => {
+            update_contact(alloc, update, facts.contact_seen(&update.name), moment)
+        }
+        Request::UpdateDomain(update) => update_domain(
+            alloc,
+            update,
+            facts.domain_seen(update.name.text()),
+            moment,
+        ),
+        Request::UpdateHost(update) => update_host(
+            alloc,
+            caller,
+            update,
+            facts.host_seen(update.name.text()),
+            moment,
+            zone,
+        ),
+        _ => Ok(Vec::new(alloc)),
     }
 }
 
-fn new_domain(
+/// A new object takes its creator's next number.
+fn created(alloc: Global, caller: RegistrarNo, put: Change) -> Result<Vec<Change>, AllocError>
+    ensures { IfOk result (λ changes. changes.items ≡ put ∷ Change.TakeSerial caller ∷ []) }
+{
+    Ok(vec![in alloc; put, Change::TakeSerial(caller)]?)
+}
+
+fn update_contact(
     alloc: Global,
-    facts: &Facts,
-    caller: RegistrarNo,
-    new: &NewDomain,
+    update: &ContactUpdate,
+    seen: Option<&Seen<Contact, ContactFace>>,
     moment: Moment,
-) -> Result<Domain, AllocError>
-    ensures { IfOk result (λ domain. domain ≡ spec.new_domain caller moment facts.now new.now) }
+) -> Result<Vec<Change>, AllocError>
+    ensures { IfOk result (λ changes. changes.items ≡ spec.contact_changes moment update.now (option_copied seen.entry)) }
 {
-    Ok(Domain {
-        name: new.name.text().clone()?,
-        roid: Roid {
-            kind: ObjectKind::Domain,
-            creator: caller,
-            serial: facts.account.next_serial(),
-        },
-        sponsor: caller,
-        created: moment,
-        years: new.years,
-        transferred: None,
-        updated: None,
-        statuses: Seq::new(alloc),
-        secret: new.secret.clone()?,
-        links: new_links(alloc, new)?,
-        transfer: None,
-        deletion: None,
-    })
-}
-
-fn new_links(alloc: Global, new: &NewDomain) -> Result<Links, AllocError>
-    ensures { IfOk result (λ links. links ≡ spec.new_links new.now) }
-{
-    Ok(Links {
-        registrant: new.registrant.clone()?,
-        admin: in_order(alloc, new.admin.as_slice())?,
-        tech: in_order(alloc, new.tech.as_slice())?,
-        hosts: Seq::sorted(alloc, texts_of(alloc, new.hosts.as_slice())?)?,
-    })
-}
-
-fn in_order(alloc: Global, names: &[Text]) -> Result<Seq<Text>, AllocError>
-    ensures { IfOk result (λ list. list ≡ spec.in_order names.now) }
-{
-    let mut copies = Vec::new(alloc);
-    for name in names {
-        copies.push(name.clone()?)?;
+    match seen {
+        Some(Seen::Full(contact)) => {
+            let contact = updated_contact(alloc, update, contact, moment)?;
+            Ok(vec![in alloc; Change::PutContact(contact)]?)
+        }
+        _ => Ok(Vec::new(alloc)),
     }
-    Seq::sorted(alloc, copies)
 }
 
-fn texts_of(alloc: Global, names: &[GivenName]) -> Result<Vec<Text>, AllocError>
-    ensures { IfOk result (λ texts. texts.items ≡ map name_of names.now) }
+fn update_domain(
+    alloc: Global,
+    update: &DomainUpdate,
+    seen: Option<&Seen<Domain, DomainFace>>,
+    moment: Moment,
+) -> Result<Vec<Change>, AllocError>
+    ensures { IfOk result (λ changes. changes.items ≡ spec.domain_changes moment update.now (option_copied seen.entry)) }
 {
-    let mut texts = Vec::new(alloc);
-    for name in names {
-        texts.push(name.text().clone()?)?;
+    match seen {
+        Some(Seen::Full(domain)) => {
+            let domain = updated_domain(alloc, update, domain, moment)?;
+            Ok(vec![in alloc; Change::PutDomain(domain)]?)
+        }
+        _ => Ok(Vec::new(alloc)),
     }
-    Ok(texts)
+}
+
+fn update_host(
+    alloc: Global,
+    caller: RegistrarNo,
+    update: &HostUpdate,
+    host: Option<&Host>,
+    moment: Moment,
+    zone: &Zone,
+) -> Result<Vec<Change>, AllocError>
+    ensures { IfOk result (λ changes. changes.items ≡ spec.host_changes zone.now caller moment update.now (option_copied host.entry)) }
+{
+    let Some(host) = host else {
+        return Ok(Vec::new(alloc));
+    };
+    let updated = updated_host(alloc, caller, update, host, moment, zone)?;
+    put_host(alloc, update.name.text(), updated, update.new_name.as_ref())
+}
+
+/// Under a new name, a host is linked as before.
+fn put_host(
+    alloc: Global,
+    old: &Text,
+    host: Host,
+    new_name: Option<&GivenName>,
+) -> Result<Vec<Change>, AllocError>
+    ensures { IfOk result (λ changes. changes.items ≡ spec.renaming old.now host (option_copied new_name.entry)) }
+{
+    let Some(new) = new_name else {
+        return Ok(vec![in alloc; Change::PutHost(host)]?);
+    };
+    let (dropped, from, to) = (old.clone()?, old.clone()?, new.text().clone()?);
+    Ok(vec![in alloc;
+        Change::DropHost(dropped),
+        Change::PutHost(host),
+        Change::Relink(from, to),
+    ]?)
 }

@@ -1,6 +1,10 @@
 //! What a command changes, as a list of changes of the registry.
 #![tactic(auto)]
 
+mod change;
+mod created;
 mod decision;
+mod updated;
 
-pub use decision::{Change, Decision, decide};
+pub use change::Change;
+pub use decision::{Decision, decide};

@@ -1,1 +1,2 @@
-pub mod UndoLemmas
+pub mod EditLemmas
+pub mod HeldLemmas

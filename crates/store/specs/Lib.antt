@@ -1,4 +1,5 @@
 pub mod Due
 pub mod Book
-pub mod Undo
+pub mod Edits
+pub mod Found
 pub mod Plain

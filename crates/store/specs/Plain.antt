@@ -3,7 +3,7 @@ use Rattle.std.specs.Prelude.{◌≡◌, true, if◌then◌else◌}
 use Rattle.store.specs.declared.content.Content.{Content}
 use Rattle.store.specs.declared.plain.PlainBook.{PlainBook}
 use Rattle.store.specs.Book.{BookState, Stored}
-use Rattle.store.specs.Undo.{undone_all}
+use Rattle.store.specs.Edits.{undone_all}
 
 abbrev pub held : Content → Stored
 held c = record {

@@ -1,24 +1,33 @@
 //! A registry in ordered maps.
-ghost use Rattle.std.specs.Prelude.{◌≡◌, ◌∷◌, [], IfOk, OnOk, OnErr};
-ghost use Rattle.std.specs.FinMap as map;
-ghost use Rattle.store.specs.Book.{with_changes};
+ghost use Rattle.std.specs.Prelude.{◌≡◌, ◌||◌, if◌then◌else◌, ◌∷◌, [], map, nat_le, not, false, is_some, option_map, option_and_then, Some, None, IfOk, OnOk, OnErr};
+ghost use Rattle.std.specs.List.{list_any};
+ghost use Rattle.std.specs.Option.{option_copied};
+ghost use Rattle.std.specs.FinMap as finmap;
+ghost use Rattle.names.specs.GivenName.{name_of};
+ghost use Rattle.store.specs.Edits as spec;
+ghost use Rattle.store.specs.Found as found;
 ghost use Rattle.store.specs.Plain.{held};
-ghost use Rattle.store.specs.Undo.{undo_of, undone};
-ghost use Rattle.verdict.specs.Facts.{digest, domain_facts, facts, presented, subordinate};
+ghost use Rattle.verdict.specs.Facts as facts;
 ghost use Rattle.verdict.specs.Registry.{account_of};
 
-use crate::undo::Undo;
+use crate::edit::{
+    Edit, copy_account, copy_contact, copy_domain, copy_host, copy_terms, put_named,
+};
+use crate::relinked::relinked;
 use accounts::Account;
 use basis::list::Seq;
 use basis::maps::{NameMap, PlaceMap};
 use basis::registrar::RegistrarNo;
 use basis::text::Text;
 use calendar::Moment;
+use names::{GivenName, last_two_labels};
 use objects::{Contact, Domain, Host, is_below};
 use policy::Terms;
 use rules::Change;
 use std::alloc::{AllocError, Global};
-use verdict::{AccountFacts, Command, DomainFacts, Facts};
+use verdict::{
+    AccountFacts, Command, ContactFacts, DomainFacts, Facts, HostFacts, Request, Superordinate,
+};
 
 #[derive(Drop)]
 pub(crate) struct Content {
@@ -43,7 +52,7 @@ impl Content {
     }
 
     fn account_facts(&self, registrar: RegistrarNo) -> AccountFacts
-        ensures { result ≡ digest (account_of registrar (held self.now).registry) }
+        ensures { result ≡ facts.digest (account_of registrar (held self.now).registry) }
     {
         match self.accounts.get(registrar) {
             Some(account) => AccountFacts {
@@ -56,19 +65,85 @@ impl Content {
             },
         }
     }
+}
 
-    /// The facts that bear on a registrar's command.
+// ---- the facts of a command
+
+/// A registrar that holds so many domains gets no other.
+const HOLDING_LIMIT: usize = 1_000_000;
+
+impl Content {
+    /// The facts that bear on a registrar's command. Each name costs a look-up. What domains name and
+    /// which hosts lie below one is looked for through all of them, for info and delete alone.
     pub fn facts_for(&self, caller: RegistrarNo, command: &Command) -> Result<Facts, AllocError>
-        ensures { IfOk result (λ found. found ≡ facts caller command.now (held self.now).registry) }
+        ensures { IfOk result (λ it. it ≡ facts.facts caller command.now (held self.now).registry) }
+    {
+        Ok(Facts {
+            account: self.account_facts(caller),
+            contacts: Seq::from_vec(self.contacts_for(caller, command)?),
+            domains: Seq::from_vec(self.domains_for(caller, command)?),
+            hosts: Seq::from_vec(self.hosts_for(command)?),
+            renamed: self.renamed_for(command)?,
+            lacks_link: self.lacks_link(command),
+            is_full: command.asks_room() && self.is_full(caller),
+        })
+    }
+
+    fn contacts_for(
+        &self,
+        caller: RegistrarNo,
+        command: &Command,
+    ) -> Result<Vec<ContactFacts>, AllocError>
+        ensures { IfOk result (λ it. it.items ≡ map (facts.contact_facts (facts.finds caller command.now (held self.now).registry) command.now) (facts.asked [] facts.contacts_asked command.now)) }
+    {
+        let mut contacts = Vec::new(self.alloc);
+        for name in command.contacts() {
+            contacts.push(self.contact_facts(caller, command, name)?)?;
+        }
+        Ok(contacts)
+    }
+
+    fn contact_facts(
+        &self,
+        caller: RegistrarNo,
+        command: &Command,
+        name: &Text,
+    ) -> Result<ContactFacts, AllocError>
+        ensures { IfOk result (λ known. known ≡ facts.contact_facts (facts.finds caller command.now (held self.now).registry) command.now name.now) }
+    {
+        let presented = command.presented_for_contact(name);
+        let seen = match self.contacts.get(name) {
+            None => None,
+            Some(contact) => Some(contact.seen_by(self.alloc, caller, presented)?),
+        };
+        Ok(ContactFacts {
+            name: name.clone()?,
+            seen,
+            linked: command.asks_around() && self.is_linked_contact(name),
+        })
+    }
+
+    /// Whether a domain names the contact.
+    fn is_linked_contact(&self, name: &Text) -> bool
+        ensures { result ≡ facts.is_linked_contact (held self.now).registry name.now }
+    {
+        self.domains
+            .values()
+            .any(|domain| domain.links.names_contact(name))
+    }
+
+    fn domains_for(
+        &self,
+        caller: RegistrarNo,
+        command: &Command,
+    ) -> Result<Vec<DomainFacts>, AllocError>
+        ensures { IfOk result (λ it. it.items ≡ map (λ name. facts.domain_facts (facts.finds caller command.now (held self.now).registry) command.now (name_of name)) (facts.asked [] facts.domains_asked command.now)) }
     {
         let mut domains = Vec::new(self.alloc);
         for name in command.domains() {
             domains.push(self.domain_facts(caller, command, name.text())?)?;
         }
-        Ok(Facts {
-            account: self.account_facts(caller),
-            domains: Seq::from_vec(domains),
-        })
+        Ok(domains)
     }
 
     fn domain_facts(
@@ -77,22 +152,33 @@ impl Content {
         command: &Command,
         name: &Text,
     ) -> Result<DomainFacts, AllocError>
-        ensures { IfOk result (λ known. known ≡ domain_facts (presented command.now) caller (held self.now).registry name.now) }
+        ensures { IfOk result (λ known. known ≡ facts.domain_facts (facts.finds caller command.now (held self.now).registry) command.now name.now) }
     {
         let seen = match self.domains.get(name) {
             None => None,
-            Some(domain) => { Some(domain.seen_by(self.alloc, caller, command.presented(name))?) }
+            Some(domain) => Some(domain.seen_by(self.alloc, caller, command.presented(name))?),
         };
         Ok(DomainFacts {
             name: name.clone()?,
             seen,
-            subordinate: Seq::from_vec(self.subordinate(name)?),
+            subordinate: Seq::from_vec(self.hosts_around(command, name)?),
         })
+    }
+
+    /// The hosts below a domain, where the command asks.
+    fn hosts_around(&self, command: &Command, domain: &Text) -> Result<Vec<Text>, AllocError>
+        ensures { IfOk result (λ names. names.items ≡ (if facts.asked false facts.asks_around command.now then facts.subordinate (held self.now).registry domain.now else [])) }
+    {
+        if command.asks_around() {
+            self.subordinate(domain)
+        } else {
+            Ok(Vec::new(self.alloc))
+        }
     }
 
     /// The hosts below a domain, in the order of their names.
     fn subordinate(&self, domain: &Text) -> Result<Vec<Text>, AllocError>
-        ensures { IfOk result (λ names. names.items ≡ subordinate (held self.now).registry domain.now) }
+        ensures { IfOk result (λ names. names.items ≡ facts.subordinate (held self.now).registry domain.now) }
     {
         let mut names = Vec::new(self.alloc);
         for name in self.hosts.keys() {
@@ -103,137 +189,264 @@ impl Content {
         Ok(names)
     }
 
-    /// What undoes a change.
-    pub fn undo_of(&self, change: &Change) -> Result<Undo, AllocError>
-        ensures { IfOk result (λ undo. undo ≡ undo_of change.now (held self.now).registry) }
+    fn hosts_for(&self, command: &Command) -> Result<Vec<HostFacts>, AllocError>
+        ensures { IfOk result (λ it. it.items ≡ map (λ name. found.host_facts_in command.now (held self.now).registry (name_of name)) (facts.asked [] facts.hosts_asked command.now)) }
     {
-        match change {
-            Change::MoveClock(_) => Ok(Undo::Clock(self.clock)),
-            Change::OpenAccount(registrar) => self.account_undo(*registrar),
-            Change::CountCommand(registrar) => self.account_undo(*registrar),
-            Change::TakeSerial(registrar) => self.account_undo(*registrar),
-            Change::PutDomain(domain) => {
-                let old = match self.domains.get(&domain.name) {
-                    Some(old) => Some(copy_domain(old)?),
-                    None => None,
-                };
-                Ok(Undo::Domain(domain.name.clone()?, old))
-            }
+        let mut hosts = Vec::new(self.alloc);
+        for name in command.hosts() {
+            hosts.push(self.host_facts(command, name.text())?)?;
+        }
+        Ok(hosts)
+    }
+
+    fn renamed_for(&self, command: &Command) -> Result<Option<HostFacts>, AllocError>
+        ensures { IfOk result (λ it. it ≡ option_map (λ name. found.host_facts_in command.now (held self.now).registry (name_of name)) (facts.asked None facts.new_host_asked command.now)) }
+    {
+        match command.new_host() {
+            None => Ok(None),
+            Some(name) => Ok(Some(self.host_facts(command, name.text())?)),
         }
     }
 
-    fn account_undo(&self, registrar: RegistrarNo) -> Result<Undo, AllocError>
-        ensures { IfOk result (λ undo. undo ≡ Undo.Account registrar (map.get (held self.now).registry.accounts registrar)) }
+    fn host_facts(&self, command: &Command, name: &Text) -> Result<HostFacts, AllocError>
+        ensures { IfOk result (λ known. known ≡ found.host_facts_in command.now (held self.now).registry name.now) }
     {
-        let old = match self.accounts.get(registrar) {
-            Some(old) => Some(copy_account(old)?),
-            None => None,
-        };
-        Ok(Undo::Account(registrar, old))
+        Ok(HostFacts {
+            name: name.clone()?,
+            host: copy_host(self.hosts.get(name))?,
+            superordinate: self.superordinate(name)?,
+            linked: command.asks_around() && self.is_linked_host(name),
+        })
     }
 
-    /// Makes a change.
-    pub fn make(&mut self, change: Change) -> Result<(), AllocError>
-        ensures ok { OnOk result (held self.new ≡ with_changes (change ∷ []) (held self.old)) }
-        ensures err { OnErr result (held self.new ≡ held self.old) }
+    /// What the domain is of a host's last two labels, as far as its hosts hang on it.
+    fn superordinate(&self, host: &Text) -> Result<Option<Superordinate>, AllocError>
+        ensures { IfOk result (λ above. above ≡ found.superordinate_in (held self.now).registry host.now) }
+    {
+        match last_two_labels(self.alloc, host)? {
+            None => Ok(None),
+            Some(domain) => Ok(self.superordinate_at(&domain)),
+        }
+    }
+
+    fn superordinate_at(&self, domain: &Text) -> Option<Superordinate>
+        ensures { result ≡ option_map facts.superordinate_of_domain (finmap.get (held self.now).registry.domains domain.now) }
+    {
+        match self.domains.get(domain) {
+            None => None,
+            Some(domain) => Some(Superordinate {
+                sponsor: domain.sponsor,
+                is_deleted: domain.deletion.is_some(),
+            }),
+        }
+    }
+
+    /// Whether a domain names the host.
+    fn is_linked_host(&self, name: &Text) -> bool
+        ensures { result ≡ facts.is_linked_host (held self.now).registry name.now }
+    {
+        self.domains
+            .values()
+            .any(|domain| domain.links.names_host(name))
+    }
+
+    /// Whether a contact or host isn't there that a domain is to name from now on.
+    fn lacks_link(&self, command: &Command) -> bool
+        ensures { result ≡ facts.asked false (found.links_fail_in (held self.now).registry) command.now }
+    {
+        match command.request() {
+            Some(Request::CreateDomain(new)) => {
+                self.lacks_contact(&new.registrant)
+                    || self.lacks_contacts(new.admin.as_slice())
+                    || self.lacks_contacts(new.tech.as_slice())
+                    || self.lacks_hosts(new.hosts.as_slice())
+            }
+            Some(Request::UpdateDomain(update)) => {
+                self.lacks_registrant(&update.registrant)
+                    || self.lacks_contacts(update.add.admin.as_slice())
+                    || self.lacks_contacts(update.add.tech.as_slice())
+                    || self.lacks_hosts(update.add.hosts.as_slice())
+            }
+            _ => false,
+        }
+    }
+
+    fn lacks_contact(&self, name: &Text) -> bool
+        ensures { result ≡ not (found.has_contact (held self.now).registry name.now) }
+    {
+        self.contacts.get(name).is_none()
+    }
+
+    fn lacks_registrant(&self, name: &Option<Text>) -> bool
+        ensures { result ≡ is_some (option_and_then (λ it. if found.has_contact (held self.now).registry it then None else Some it) name.now) }
+    {
+        match name {
+            None => false,
+            Some(name) => self.lacks_contact(name),
+        }
+    }
+
+    fn lacks_contacts(&self, names: &[Text]) -> bool
+        ensures { result ≡ list_any (λ name. not (found.has_contact (held self.now).registry name)) names.now }
+    {
+        names.iter().any(|name| self.lacks_contact(name))
+    }
+
+    fn lacks_host(&self, name: &Text) -> bool
+        ensures { result ≡ not (found.has_host (held self.now).registry name.now) }
+    {
+        self.hosts.get(name).is_none()
+    }
+
+    fn lacks_hosts(&self, names: &[GivenName]) -> bool
+        ensures { result ≡ list_any (λ name. not (found.has_host (held self.now).registry (name_of name))) names.now }
+    {
+        names.iter().any(|name| self.lacks_host(name.text()))
+    }
+
+    /// Whether the registrar holds as many domains as it may. Where there aren't so many at all, none
+    /// is looked at.
+    fn is_full(&self, caller: RegistrarNo) -> bool
+        ensures { result ≡ nat_le facts.holding_limit (facts.held caller (held self.now).registry) }
+    {
+        if self.domains.len() < HOLDING_LIMIT {
+            return false;
+        }
+        self.count_held(caller) >= HOLDING_LIMIT
+    }
+
+    fn count_held(&self, caller: RegistrarNo) -> usize
+        ensures { result ≡ facts.held caller (held self.now).registry }
+    {
+        self.domains
+            .values()
+            .filter(|domain| domain.is_held_by(caller))
+            .count()
+    }
+}
+
+// ---- changes
+
+impl Content {
+    /// The edits that make a change.
+    pub fn edits_of(&self, change: Change) -> Result<Vec<Edit>, AllocError>
+        ensures { IfOk result (λ edits. edits.items ≡ spec.edits_of change (held self.now).registry) }
     {
         match change {
-            Change::MoveClock(moment) => {
-                self.clock = moment.later(self.clock);
-                Ok(())
-            }
+            Change::MoveClock(moment) => self.one(Edit::Clock(moment.later(self.clock))),
             Change::OpenAccount(registrar) => {
                 let account = self.account(registrar)?;
-                self.accounts.insert(registrar, account)
+                self.one(Edit::Account(registrar, Some(account)))
             }
             Change::CountCommand(registrar) => {
                 let mut account = self.account(registrar)?;
                 account.count_command();
-                self.accounts.insert(registrar, account)
+                self.one(Edit::Account(registrar, Some(account)))
             }
             Change::TakeSerial(registrar) => {
                 let mut account = self.account(registrar)?;
                 account.take_serial();
-                self.accounts.insert(registrar, account)
+                self.one(Edit::Account(registrar, Some(account)))
             }
-            Change::PutDomain(domain) => self.domains.insert(domain.name.clone()?, domain),
+            Change::PutContact(contact) => {
+                let name = contact.name.clone()?;
+                self.one(Edit::Contact(name, Some(contact)))
+            }
+            Change::DropContact(name) => self.one(Edit::Contact(name, None)),
+            Change::PutDomain(domain) => {
+                let name = domain.name.clone()?;
+                self.one(Edit::Domain(name, Some(domain)))
+            }
+            Change::PutHost(host) => {
+                let name = host.name.clone()?;
+                self.one(Edit::Host(name, Some(host)))
+            }
+            Change::DropHost(name) => self.one(Edit::Host(name, None)),
+            Change::Relink(old, new) => self.relinks(&old, &new),
         }
     }
 
-    /// Undoes a change.
-    pub fn restore(&mut self, undo: &Undo) -> Result<(), AllocError>
-        ensures ok { OnOk result (held self.new ≡ undone undo.now (held self.old)) }
+    fn one(&self, edit: Edit) -> Result<Vec<Edit>, AllocError>
+        ensures { IfOk result (λ edits. edits.items ≡ edit ∷ []) }
+    {
+        Ok(vec![in self.alloc; edit]?)
+    }
+
+    /// The domains that name a host, each with the host's new name.
+    fn relinks(&self, old: &Text, new: &Text) -> Result<Vec<Edit>, AllocError>
+        ensures { IfOk result (λ edits. edits.items ≡ spec.edits_of (Change.Relink old.now new.now) (held self.now).registry) }
+    {
+        let mut edits = Vec::new(self.alloc);
+        for (name, domain) in self.domains.iter() {
+            if domain.links.names_host(old) {
+                let domain = relinked(self.alloc, old, new, domain)?;
+                edits.push(Edit::Domain(name.clone()?, Some(domain)))?;
+            }
+        }
+        Ok(edits)
+    }
+
+    /// What takes an edit back.
+    pub fn inverse(&self, edit: &Edit) -> Result<Edit, AllocError>
+        ensures { IfOk result (λ inverse. inverse ≡ spec.inverse edit.now (held self.now)) }
+    {
+        match edit {
+            Edit::Clock(_) => Ok(Edit::Clock(self.clock)),
+            Edit::Account(registrar, _) => {
+                let old = copy_account(self.accounts.get(*registrar))?;
+                Ok(Edit::Account(*registrar, old))
+            }
+            Edit::Contact(name, _) => {
+                let old = copy_contact(self.contacts.get(name))?;
+                Ok(Edit::Contact(name.clone()?, old))
+            }
+            Edit::Domain(name, _) => {
+                let old = copy_domain(self.domains.get(name))?;
+                Ok(Edit::Domain(name.clone()?, old))
+            }
+            Edit::Host(name, _) => {
+                let old = copy_host(self.hosts.get(name))?;
+                Ok(Edit::Host(name.clone()?, old))
+            }
+            Edit::Terms(_) => Ok(Edit::Terms(copy_terms(&self.terms)?)),
+        }
+    }
+
+    /// Makes an edit.
+    pub fn set(&mut self, edit: Edit) -> Result<(), AllocError>
+        ensures ok { OnOk result (held self.new ≡ spec.edited edit (held self.old)) }
         ensures err { OnErr result (held self.new ≡ held self.old) }
     {
-        match undo {
-            Undo::Clock(moment) => {
-                self.clock = *moment;
+        match edit {
+            Edit::Clock(moment) => {
+                self.clock = moment;
                 Ok(())
             }
-            Undo::Account(registrar, old) => self.restore_account(*registrar, old),
-            Undo::Domain(name, old) => self.restore_domain(name, old),
-            Undo::Terms(old) => {
-                self.terms = copy_terms(old)?;
+            Edit::Account(registrar, value) => self.set_account(registrar, value),
+            Edit::Contact(name, value) => put_named(&mut self.contacts, name, value),
+            Edit::Domain(name, value) => put_named(&mut self.domains, name, value),
+            Edit::Host(name, value) => put_named(&mut self.hosts, name, value),
+            Edit::Terms(terms) => {
+                self.terms = terms;
                 Ok(())
             }
         }
     }
 
-    fn restore_account(
+    fn set_account(
         &mut self,
         registrar: RegistrarNo,
-        old: &Option<Account>,
+        value: Option<Account>,
     ) -> Result<(), AllocError>
-        ensures ok { OnOk result (held self.new ≡ undone (Undo.Account registrar old.now) (held self.old)) }
+        ensures ok { OnOk result (held self.new ≡ spec.edited (Edit.Account registrar value) (held self.old)) }
         ensures err { OnErr result (held self.new ≡ held self.old) }
     {
-        match old {
+        match value {
             None => {
                 self.accounts.remove(registrar);
                 Ok(())
             }
-            Some(account) => {
-                let copy = copy_account(account)?;
-                self.accounts.insert(registrar, copy)
-            }
+            Some(account) => self.accounts.insert(registrar, account),
         }
-    }
-
-    fn restore_domain(&mut self, name: &Text, old: &Option<Domain>) -> Result<(), AllocError>
-        ensures ok { OnOk result (held self.new ≡ undone (Undo.Domain name.now old.now) (held self.old)) }
-        ensures err { OnErr result (held self.new ≡ held self.old) }
-    {
-        match old {
-            None => {
-                self.domains.remove(name);
-                Ok(())
-            }
-            Some(domain) => {
-                let copy = copy_domain(domain)?;
-                self.domains.insert(name.clone()?, copy)
-            }
-        }
-    }
-}
-
-fn copy_account(account: &Account) -> Result<Account, AllocError>
-    ensures { IfOk result (λ copy. copy ≡ account.now) }
-{
-    account.clone()
-}
-
-fn copy_domain(domain: &Domain) -> Result<Domain, AllocError>
-    ensures { IfOk result (λ copy. copy ≡ domain.now) }
-{
-    domain.clone()
-}
-
-/// A copy of the terms, if there are any.
-pub(crate) fn copy_terms(terms: &Option<Terms>) -> Result<Option<Terms>, AllocError>
-    ensures { IfOk result (λ copy. copy ≡ terms.now) }
-{
-    match terms {
-        None => Ok(None),
-        Some(terms) => Ok(Some(terms.clone()?)),
     }
 }

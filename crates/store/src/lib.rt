@@ -4,9 +4,10 @@
 mod book;
 mod content;
 mod due;
+mod edit;
 mod fault;
 mod plain;
-mod undo;
+mod relinked;
 
 pub use book::Book;
 pub use due::Due;

@@ -1,13 +1,14 @@
 //! A book in memory.
 ghost use Rattle.std.specs.Prelude.{◌≡◌, ◌<◌, ◌∷◌, [], length, OnOk, Err};
 ghost use Rattle.store.specs.Book.{FaultLeaves, IsBack, unused, with_changes, with_terms};
+ghost use Rattle.store.specs.Edits.{edited, edited_all};
 ghost use Rattle.store.specs.Plain.{IsSettled, held, found, plain_state};
 
 use crate::book::Book;
-use crate::content::{Content, copy_terms};
+use crate::content::Content;
 use crate::due::Due;
+use crate::edit::{Edit, copy_terms};
 use crate::fault::BookFault;
-use crate::undo::Undo;
 use basis::list::Seq;
 use basis::maps::{NameMap, PlaceMap};
 use basis::registrar::RegistrarNo;
@@ -24,7 +25,7 @@ pub struct PlainBook {
     content: Content,
     /// What undoes the transaction's changes, the latest last. Where going back found no memory,
     /// what is still to be undone, which the next call undoes first.
-    undo: Seq<Undo>,
+    undo: Seq<Edit>,
     is_open: bool,
 }
 
@@ -60,7 +61,7 @@ impl PlainBook {
         Ok(())
     }
 
-    /// Undoes the latest change.
+    /// Undoes the latest edit.
     fn undo_latest(&mut self) -> Result<(), AllocError>
         requires { 0 < length self.old.undo }
         ensures found { found self.new ≡ found self.old }
@@ -68,8 +69,32 @@ impl PlainBook {
         ensures ok { OnOk result (length self.new.undo < length self.old.undo) }
     {
         if let Some(latest) = self.undo.as_slice().last() {
-            self.content.restore(latest)?;
+            let copy = latest.copy()?;
+            self.content.set(copy)?;
             self.undo.drop_last();
+        }
+        Ok(())
+    }
+
+    /// Makes an edit that can be undone.
+    fn set(&mut self, edit: Edit) -> Result<(), AllocError>
+        ensures found { found self.new ≡ found self.old }
+        ensures open { self.new.is_open ≡ self.old.is_open }
+        ensures ok { OnOk result (held self.new.content ≡ edited edit (held self.old.content)) }
+    {
+        let inverse = self.content.inverse(&edit)?;
+        self.undo.push(inverse)?;
+        self.content.set(edit)
+    }
+
+    /// Makes edits that can be undone, one after another.
+    fn set_all(&mut self, edits: Vec<Edit>) -> Result<(), AllocError>
+        ensures found { found self.new ≡ found self.old }
+        ensures open { self.new.is_open ≡ self.old.is_open }
+        ensures ok { OnOk result (held self.new.content ≡ edited_all edits.items (held self.old.content)) }
+    {
+        for edit in edits {
+            self.set(edit)?;
         }
         Ok(())
     }
@@ -80,9 +105,8 @@ impl PlainBook {
         ensures open { self.new.is_open ≡ self.old.is_open }
         ensures ok { OnOk result (held self.new.content ≡ with_changes (change ∷ []) (held self.old.content)) }
     {
-        let undo = self.content.undo_of(&change)?;
-        self.undo.push(undo)?;
-        self.content.make(change)
+        let edits = self.content.edits_of(change)?;
+        self.set_all(edits)
     }
 }
 
@@ -105,10 +129,7 @@ impl PlainBook {
         ensures open { self.new.is_open ≡ self.old.is_open }
         ensures ok { OnOk result (held self.new.content ≡ with_terms terms (held self.old.content)) }
     {
-        let old = copy_terms(&self.content.terms)?;
-        self.undo.push(Undo::Terms(old))?;
-        self.content.terms = Some(terms);
-        Ok(())
+        self.set(Edit::Terms(Some(terms)))
     }
 
     /// Goes back, if a transaction is open. What finds no memory is left to the next call.

@@ -94,7 +94,11 @@ fn answer_line<W: Write>(
         return Err(Exit::Script(number));
     };
     match answer(alloc, registry, line.caller, line.payload, line.moment) {
-        Some(reply) => writer.write_all(&reply_bytes(alloc, &reply)?)?,
+        Some(reply) => {
+            let bytes = reply_bytes(alloc, &reply);
+            drop(reply);
+            writer.write_all(&bytes?)?;
+        }
         None => writer.write_all(COMMAND_FAILED)?,
     }
     writer.write_all(b"\n")?;
@@ -112,5 +116,7 @@ fn answer(
     requires { IsPlace registry.old.policy caller }
 {
     let command = command_of(alloc, payload, registry.policy().zone()).ok()?;
-    registry.execute(caller, &command, moment).ok()
+    let reply = registry.execute(caller, &command, moment);
+    drop(command);
+    reply.ok()
 }

@@ -1,5 +1,16 @@
 //! Worked rows, through `run_script`: what a script prints, and how the program ends.
 
+mod bounds;
+mod codes;
+mod contacts;
+mod domains;
+mod hosts;
+mod limits;
+mod lists;
+mod name_forms;
+mod statuses;
+mod updates;
+
 use crate::exit::Exit;
 use crate::script::run_script;
 use std::alloc::Global;
@@ -46,21 +57,23 @@ password = "pass-beta"
 
 /// A script, what it prints, and the line of standard error.
 #[derive(Clone, Copy)]
-struct Row {
-    script: &'static str,
-    printed: &'static str,
-    end: &'static str,
+pub(super) struct Row {
+    pub script: &'static str,
+    pub printed: &'static str,
+    pub end: &'static str,
 }
 
-/// A check, a create on 29 February, and the sponsor's info.
+/// A check, a contact, a create on 29 February that names it, and the sponsor's info.
 const FIRST_PATH: Row = Row {
     script: r#"2028-01-01T00:00:00Z alfa {"cmd":"check","names":["a.test","nic.test"],"obj":"domain"}
+2028-01-01T00:00:00Z alfa {"cmd":"create","mail":"ann@alfa.example","name":"c-alfa","obj":"contact","postal":{"cc":"DE","city":"Town","name":"Ann","street":["Road 1"]},"secret":"key-alfa"}
 2028-02-29T00:00:00Z alfa {"cmd":"create","name":"foo.test","obj":"domain","registrant":"c-alfa","secret":"foo-secret"}
 2028-06-01T00:00:00Z alfa {"cmd":"info","name":"foo.test","obj":"domain"}
 "#,
     printed: r#"{"code":1000,"data":{"results":[{"avail":true,"name":"a.test"},{"avail":false,"name":"nic.test","reason":"policy"}]},"msg":"Command completed successfully","svTRID":"alfa-1"}
-{"code":1000,"data":{"charge":"0","crDate":"2028-02-29T00:00:00Z","exDate":"2029-02-28T00:00:00Z","name":"foo.test"},"msg":"Command completed successfully","svTRID":"alfa-2"}
-{"code":1000,"data":{"admin":[],"clID":"alfa","crDate":"2028-02-29T00:00:00Z","exDate":"2029-02-28T00:00:00Z","hosts":[],"name":"foo.test","registrant":"c-alfa","rgp":[],"roid":"D1_1-REG","secret":"foo-secret","status":["inactive"],"subordinate":[],"tech":[]},"msg":"Command completed successfully","svTRID":"alfa-3"}
+{"code":1000,"data":{"crDate":"2028-01-01T00:00:00Z","name":"c-alfa"},"msg":"Command completed successfully","svTRID":"alfa-2"}
+{"code":1000,"data":{"charge":"0","crDate":"2028-02-29T00:00:00Z","exDate":"2029-02-28T00:00:00Z","name":"foo.test"},"msg":"Command completed successfully","svTRID":"alfa-3"}
+{"code":1000,"data":{"admin":[],"clID":"alfa","crDate":"2028-02-29T00:00:00Z","exDate":"2029-02-28T00:00:00Z","hosts":[],"name":"foo.test","registrant":"c-alfa","rgp":[],"roid":"D1_2-REG","secret":"foo-secret","status":["inactive"],"subordinate":[],"tech":[]},"msg":"Command completed successfully","svTRID":"alfa-4"}
 "#,
     end: "",
 };
@@ -81,6 +94,7 @@ const CHECKS: Row = Row {
 /// Another registrar's info: without a secret, with the right one, with a wrong one.
 const SECRETS: Row = Row {
     script: r#"2028-01-01T00:00:00Z alfa {"cmd":"check","names":["a.test","nic.test"],"obj":"domain"}
+2028-01-01T00:00:00Z alfa {"cmd":"create","mail":"ann@alfa.example","name":"c-alfa","obj":"contact","postal":{"cc":"DE","city":"Town","name":"Ann","street":["Road 1"]},"secret":"key-alfa"}
 2028-02-29T00:00:00Z alfa {"cmd":"create","name":"foo.test","obj":"domain","registrant":"c-alfa","secret":"foo-secret"}
 2028-06-01T00:00:00Z alfa {"cmd":"info","name":"foo.test","obj":"domain"}
 2028-06-01T00:00:00Z beta {"cmd":"info","name":"foo.test","obj":"domain"}
@@ -89,19 +103,21 @@ const SECRETS: Row = Row {
 2028-06-01T00:00:00Z alfa {"cmd":"info","name":"foo.test","obj":"domain","secret":"foo-secreT"}
 "#,
     printed: r#"{"code":1000,"data":{"results":[{"avail":true,"name":"a.test"},{"avail":false,"name":"nic.test","reason":"policy"}]},"msg":"Command completed successfully","svTRID":"alfa-1"}
-{"code":1000,"data":{"charge":"0","crDate":"2028-02-29T00:00:00Z","exDate":"2029-02-28T00:00:00Z","name":"foo.test"},"msg":"Command completed successfully","svTRID":"alfa-2"}
-{"code":1000,"data":{"admin":[],"clID":"alfa","crDate":"2028-02-29T00:00:00Z","exDate":"2029-02-28T00:00:00Z","hosts":[],"name":"foo.test","registrant":"c-alfa","rgp":[],"roid":"D1_1-REG","secret":"foo-secret","status":["inactive"],"subordinate":[],"tech":[]},"msg":"Command completed successfully","svTRID":"alfa-3"}
-{"code":1000,"data":{"admin":[],"clID":"alfa","crDate":"2028-02-29T00:00:00Z","exDate":"2029-02-28T00:00:00Z","hosts":[],"name":"foo.test","registrant":"c-alfa","rgp":[],"roid":"D1_1-REG","status":["inactive"],"subordinate":[],"tech":[]},"msg":"Command completed successfully","svTRID":"beta-1"}
-{"code":1000,"data":{"admin":[],"clID":"alfa","crDate":"2028-02-29T00:00:00Z","exDate":"2029-02-28T00:00:00Z","hosts":[],"name":"foo.test","registrant":"c-alfa","rgp":[],"roid":"D1_1-REG","status":["inactive"],"subordinate":[],"tech":[]},"msg":"Command completed successfully","svTRID":"beta-2"}
+{"code":1000,"data":{"crDate":"2028-01-01T00:00:00Z","name":"c-alfa"},"msg":"Command completed successfully","svTRID":"alfa-2"}
+{"code":1000,"data":{"charge":"0","crDate":"2028-02-29T00:00:00Z","exDate":"2029-02-28T00:00:00Z","name":"foo.test"},"msg":"Command completed successfully","svTRID":"alfa-3"}
+{"code":1000,"data":{"admin":[],"clID":"alfa","crDate":"2028-02-29T00:00:00Z","exDate":"2029-02-28T00:00:00Z","hosts":[],"name":"foo.test","registrant":"c-alfa","rgp":[],"roid":"D1_2-REG","secret":"foo-secret","status":["inactive"],"subordinate":[],"tech":[]},"msg":"Command completed successfully","svTRID":"alfa-4"}
+{"code":1000,"data":{"admin":[],"clID":"alfa","crDate":"2028-02-29T00:00:00Z","exDate":"2029-02-28T00:00:00Z","hosts":[],"name":"foo.test","registrant":"c-alfa","rgp":[],"roid":"D1_2-REG","status":["inactive"],"subordinate":[],"tech":[]},"msg":"Command completed successfully","svTRID":"beta-1"}
+{"code":1000,"data":{"admin":[],"clID":"alfa","crDate":"2028-02-29T00:00:00Z","exDate":"2029-02-28T00:00:00Z","hosts":[],"name":"foo.test","registrant":"c-alfa","rgp":[],"roid":"D1_2-REG","status":["inactive"],"subordinate":[],"tech":[]},"msg":"Command completed successfully","svTRID":"beta-2"}
 {"code":2202,"msg":"Invalid authorization information","svTRID":"beta-3"}
-{"code":1000,"data":{"admin":[],"clID":"alfa","crDate":"2028-02-29T00:00:00Z","exDate":"2029-02-28T00:00:00Z","hosts":[],"name":"foo.test","registrant":"c-alfa","rgp":[],"roid":"D1_1-REG","secret":"foo-secret","status":["inactive"],"subordinate":[],"tech":[]},"msg":"Command completed successfully","svTRID":"alfa-4"}
+{"code":1000,"data":{"admin":[],"clID":"alfa","crDate":"2028-02-29T00:00:00Z","exDate":"2029-02-28T00:00:00Z","hosts":[],"name":"foo.test","registrant":"c-alfa","rgp":[],"roid":"D1_2-REG","secret":"foo-secret","status":["inactive"],"subordinate":[],"tech":[]},"msg":"Command completed successfully","svTRID":"alfa-5"}
 "#,
     end: "",
 };
 
-/// Each code that the three commands are refused with.
+/// Codes that check, create and info of a domain are refused with, and forms that are none.
 const REFUSALS: Row = Row {
-    script: r#"2028-02-29T00:00:00Z alfa {"cmd":"create","name":"foo.test","obj":"domain","registrant":"c-alfa","secret":"foo-secret"}
+    script: r#"2028-02-29T00:00:00Z alfa {"cmd":"create","mail":"ann@alfa.example","name":"c-alfa","obj":"contact","postal":{"cc":"DE","city":"Town","name":"Ann","street":["Road 1"]},"secret":"key-alfa"}
+2028-02-29T00:00:00Z alfa {"cmd":"create","name":"foo.test","obj":"domain","registrant":"c-alfa","secret":"foo-secret"}
 2028-03-01T00:00:00Z alfa {"cmd":"create","name":"FOO.test","obj":"domain","registrant":"c-alfa","secret":"foo-secret"}
 2028-03-01T00:00:00Z alfa {"cmd":"create","name":"nic.test","obj":"domain","registrant":"c-alfa","secret":"foo-secret"}
 2028-03-01T00:00:00Z alfa {"cmd":"create","name":"foo.test","obj":"domain","registrant":"c-alfa","secret":"foo-secret","hosts":["ns1.foo.test","NS1.foo.test"]}
@@ -116,20 +132,21 @@ const REFUSALS: Row = Row {
 2028-03-01T00:00:00Z alfa {"cmd":"delete","obj":"domain","name":"foo.test"}
 2028-03-01T00:00:00Z alfa 
 "#,
-    printed: r#"{"code":1000,"data":{"charge":"0","crDate":"2028-02-29T00:00:00Z","exDate":"2029-02-28T00:00:00Z","name":"foo.test"},"msg":"Command completed successfully","svTRID":"alfa-1"}
-{"code":2302,"msg":"Object exists","svTRID":"alfa-2"}
-{"code":2306,"msg":"Parameter value policy error","svTRID":"alfa-3"}
+    printed: r#"{"code":1000,"data":{"crDate":"2028-02-29T00:00:00Z","name":"c-alfa"},"msg":"Command completed successfully","svTRID":"alfa-1"}
+{"code":1000,"data":{"charge":"0","crDate":"2028-02-29T00:00:00Z","exDate":"2029-02-28T00:00:00Z","name":"foo.test"},"msg":"Command completed successfully","svTRID":"alfa-2"}
+{"code":2302,"msg":"Object exists","svTRID":"alfa-3"}
 {"code":2306,"msg":"Parameter value policy error","svTRID":"alfa-4"}
-{"code":2303,"msg":"Object does not exist","svTRID":"alfa-5"}
-{"code":2306,"msg":"Parameter value policy error","svTRID":"alfa-6"}
-{"code":2000,"msg":"Unknown command","svTRID":"alfa-7"}
-{"code":2001,"msg":"Command syntax error","svTRID":"alfa-8"}
+{"code":2306,"msg":"Parameter value policy error","svTRID":"alfa-5"}
+{"code":2303,"msg":"Object does not exist","svTRID":"alfa-6"}
+{"code":2306,"msg":"Parameter value policy error","svTRID":"alfa-7"}
+{"code":2000,"msg":"Unknown command","svTRID":"alfa-8"}
 {"code":2001,"msg":"Command syntax error","svTRID":"alfa-9"}
-{"clTRID":"tag-1","code":2003,"msg":"Required parameter missing","svTRID":"alfa-10"}
-{"code":2004,"msg":"Parameter value range error","svTRID":"alfa-11"}
-{"code":2005,"msg":"Parameter value syntax error","svTRID":"alfa-12"}
-{"code":2000,"msg":"Unknown command","svTRID":"alfa-13"}
-{"code":2001,"msg":"Command syntax error","svTRID":"alfa-14"}
+{"code":2001,"msg":"Command syntax error","svTRID":"alfa-10"}
+{"clTRID":"tag-1","code":2003,"msg":"Required parameter missing","svTRID":"alfa-11"}
+{"code":2004,"msg":"Parameter value range error","svTRID":"alfa-12"}
+{"code":2005,"msg":"Parameter value syntax error","svTRID":"alfa-13"}
+{"code":2000,"msg":"Unknown command","svTRID":"alfa-14"}
+{"code":2001,"msg":"Command syntax error","svTRID":"alfa-15"}
 "#,
     end: "",
 };
@@ -138,28 +155,45 @@ const REFUSALS: Row = Row {
 const MOMENTS: Row = Row {
     script: r#"2100-01-01T00:00:00Z alfa {"cmd":"check","names":["a.test"],"obj":"domain"}
 2099-12-31T23:59:59Z alfa {"cmd":"check","names":["a.test"],"obj":"domain"}
+2028-01-01T00:00:00Z beta {"cmd":"create","mail":"bo@beta.example","name":"c-beta","obj":"contact","postal":{"cc":"DE","city":"Town","name":"Ann","street":["Road 1"]},"secret":"key-beta"}
 2028-01-01T00:00:00Z beta {"cmd":"create","name":"a.test","obj":"domain","registrant":"c-beta","secret":"key-of-a","years":10}
 "#,
     printed: r#"{"code":2400,"msg":"Command failed","svTRID":"ANON"}
 {"code":1000,"data":{"results":[{"avail":true,"name":"a.test"}]},"msg":"Command completed successfully","svTRID":"alfa-1"}
-{"code":1000,"data":{"charge":"0","crDate":"2099-12-31T23:59:59Z","exDate":"2109-12-31T23:59:59Z","name":"a.test"},"msg":"Command completed successfully","svTRID":"beta-1"}
+{"code":1000,"data":{"crDate":"2099-12-31T23:59:59Z","name":"c-beta"},"msg":"Command completed successfully","svTRID":"beta-1"}
+{"code":1000,"data":{"charge":"0","crDate":"2099-12-31T23:59:59Z","exDate":"2109-12-31T23:59:59Z","name":"a.test"},"msg":"Command completed successfully","svTRID":"beta-2"}
 "#,
     end: "",
 };
 
-/// Names in their canonical form, lists in the order of bytes, an own tag, and a serial that a refused create doesn't take.
+/// Names in their canonical form, lists in the order of bytes, an own tag, and a serial that a refused create doesn't
+/// take.
 const LISTS: Row = Row {
-    script: r#"2028-03-01T00:00:00Z alfa {"clTRID":"tag-1","cmd":"create","name":"B\u00fccher.test","obj":"domain","registrant":"c-alfa","secret":"foo-secret","admin":["c-two","c-one"],"tech":["c-bb","c-aa"],"hosts":["ns2.example.net","NS1.example.net"],"years":2}
+    script: r#"2028-03-01T00:00:00Z alfa {"cmd":"create","mail":"ann@alfa.example","name":"c-alfa","obj":"contact","postal":{"cc":"DE","city":"Town","name":"Ann","street":["Road 1"]},"secret":"key-alfa"}
+2028-03-01T00:00:00Z alfa {"cmd":"create","mail":"ann@alfa.example","name":"c-one","obj":"contact","postal":{"cc":"DE","city":"Town","name":"Ann","street":["Road 1"]},"secret":"key-alfa"}
+2028-03-01T00:00:00Z alfa {"cmd":"create","mail":"ann@alfa.example","name":"c-two","obj":"contact","postal":{"cc":"DE","city":"Town","name":"Ann","street":["Road 1"]},"secret":"key-alfa"}
+2028-03-01T00:00:00Z alfa {"cmd":"create","mail":"ann@alfa.example","name":"c-aa","obj":"contact","postal":{"cc":"DE","city":"Town","name":"Ann","street":["Road 1"]},"secret":"key-alfa"}
+2028-03-01T00:00:00Z alfa {"cmd":"create","mail":"ann@alfa.example","name":"c-bb","obj":"contact","postal":{"cc":"DE","city":"Town","name":"Ann","street":["Road 1"]},"secret":"key-alfa"}
+2028-03-01T00:00:00Z alfa {"cmd":"create","name":"NS1.example.net","obj":"host"}
+2028-03-01T00:00:00Z alfa {"cmd":"create","name":"ns2.example.net","obj":"host"}
+2028-03-01T00:00:00Z alfa {"clTRID":"tag-1","cmd":"create","name":"B\u00fccher.test","obj":"domain","registrant":"c-alfa","secret":"foo-secret","admin":["c-two","c-one"],"tech":["c-bb","c-aa"],"hosts":["ns2.example.net","NS1.example.net"],"years":2}
 2028-03-01T00:00:00Z alfa {"cmd":"create","name":"xn--bcher-kva.test","obj":"domain","registrant":"c-alfa","secret":"foo-secret"}
 2028-03-01T00:00:00Z alfa {"cmd":"create","name":"b.test","obj":"domain","registrant":"c-alfa","secret":"foo-secret"}
 2028-06-01T00:00:00Z beta {"cmd":"info","name":"b\u00fccher.test","obj":"domain"}
 2028-06-01T00:00:00Z beta {"cmd":"info","name":"b.test","obj":"domain"}
 "#,
-    printed: r#"{"clTRID":"tag-1","code":1000,"data":{"charge":"0","crDate":"2028-03-01T00:00:00Z","exDate":"2030-03-01T00:00:00Z","name":"xn--bcher-kva.test"},"msg":"Command completed successfully","svTRID":"alfa-1"}
-{"code":2302,"msg":"Object exists","svTRID":"alfa-2"}
-{"code":1000,"data":{"charge":"0","crDate":"2028-03-01T00:00:00Z","exDate":"2029-03-01T00:00:00Z","name":"b.test"},"msg":"Command completed successfully","svTRID":"alfa-3"}
-{"code":1000,"data":{"admin":["c-one","c-two"],"clID":"alfa","crDate":"2028-03-01T00:00:00Z","exDate":"2030-03-01T00:00:00Z","hosts":["ns1.example.net","ns2.example.net"],"name":"xn--bcher-kva.test","registrant":"c-alfa","rgp":[],"roid":"D1_1-REG","status":["ok"],"subordinate":[],"tech":["c-aa","c-bb"]},"msg":"Command completed successfully","svTRID":"beta-1"}
-{"code":1000,"data":{"admin":[],"clID":"alfa","crDate":"2028-03-01T00:00:00Z","exDate":"2029-03-01T00:00:00Z","hosts":[],"name":"b.test","registrant":"c-alfa","rgp":[],"roid":"D1_2-REG","status":["inactive"],"subordinate":[],"tech":[]},"msg":"Command completed successfully","svTRID":"beta-2"}
+    printed: r#"{"code":1000,"data":{"crDate":"2028-03-01T00:00:00Z","name":"c-alfa"},"msg":"Command completed successfully","svTRID":"alfa-1"}
+{"code":1000,"data":{"crDate":"2028-03-01T00:00:00Z","name":"c-one"},"msg":"Command completed successfully","svTRID":"alfa-2"}
+{"code":1000,"data":{"crDate":"2028-03-01T00:00:00Z","name":"c-two"},"msg":"Command completed successfully","svTRID":"alfa-3"}
+{"code":1000,"data":{"crDate":"2028-03-01T00:00:00Z","name":"c-aa"},"msg":"Command completed successfully","svTRID":"alfa-4"}
+{"code":1000,"data":{"crDate":"2028-03-01T00:00:00Z","name":"c-bb"},"msg":"Command completed successfully","svTRID":"alfa-5"}
+{"code":1000,"data":{"crDate":"2028-03-01T00:00:00Z","name":"ns1.example.net"},"msg":"Command completed successfully","svTRID":"alfa-6"}
+{"code":1000,"data":{"crDate":"2028-03-01T00:00:00Z","name":"ns2.example.net"},"msg":"Command completed successfully","svTRID":"alfa-7"}
+{"clTRID":"tag-1","code":1000,"data":{"charge":"0","crDate":"2028-03-01T00:00:00Z","exDate":"2030-03-01T00:00:00Z","name":"xn--bcher-kva.test"},"msg":"Command completed successfully","svTRID":"alfa-8"}
+{"code":2302,"msg":"Object exists","svTRID":"alfa-9"}
+{"code":1000,"data":{"charge":"0","crDate":"2028-03-01T00:00:00Z","exDate":"2029-03-01T00:00:00Z","name":"b.test"},"msg":"Command completed successfully","svTRID":"alfa-10"}
+{"code":1000,"data":{"admin":["c-one","c-two"],"clID":"alfa","crDate":"2028-03-01T00:00:00Z","exDate":"2030-03-01T00:00:00Z","hosts":["ns1.example.net","ns2.example.net"],"name":"xn--bcher-kva.test","registrant":"c-alfa","rgp":[],"roid":"D1_8-REG","status":["ok"],"subordinate":[],"tech":["c-aa","c-bb"]},"msg":"Command completed successfully","svTRID":"beta-1"}
+{"code":1000,"data":{"admin":[],"clID":"alfa","crDate":"2028-03-01T00:00:00Z","exDate":"2029-03-01T00:00:00Z","hosts":[],"name":"b.test","registrant":"c-alfa","rgp":[],"roid":"D1_9-REG","status":["inactive"],"subordinate":[],"tech":[]},"msg":"Command completed successfully","svTRID":"beta-2"}
 "#,
     end: "",
 };
@@ -192,7 +226,7 @@ const UNREADABLE_MOMENT: Row = Row {
     end: "script: line 1",
 };
 
-fn check(rt: &(impl Abort + AllocGlobal), row: &Row) -> Result<(), Fail> {
+pub(super) fn check(rt: &(impl Abort + AllocGlobal), row: &Row) -> Result<(), Fail> {
     let alloc = rt.alloc();
     let mut printed = Vec::new(alloc);
     let exit = run_script(

@@ -3,6 +3,9 @@ pub mod Registry
 pub mod Facts
 pub mod View
 pub mod Refusals
+pub mod Lists
+pub mod Conditions
 pub mod Rules
+pub mod Told
 pub mod Verdicts
 pub mod WellFormed

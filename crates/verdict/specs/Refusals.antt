@@ -46,5 +46,5 @@ causes =
     ∷ cause Money codes.BillingFailure ∷ []
 
 -- the first class that applies answers; inside a class, the first code in the order of causes
-abbrev pub first_refusal : List Refusal → Option Code
+unfoldable pub first_refusal : List Refusal → Option Code
 first_refusal rows = option_map (λ cause. cause.code) (find (λ cause. list_any (applies cause) rows) causes)

@@ -1,139 +1,106 @@
--- The rules: for which causes each command is refused, as a table, and what it is answered otherwise.
-use Rattle.std.specs.Prelude.{ℕ, Bool, false, not, ◌&&◌, ◌||◌, ◌==◌, List, [], ◌∷◌, map, Option, Some, None, option_map, option_and_then, unwrap_or, if◌then◌else◌}
-use Rattle.std.specs.List.{list_any}
-use Rattle.std.specs.Str.{bytes_eq}
-use Rattle.calendar.specs.Moment.{plus_years, capped}
+-- The rules: for which causes each command is refused, as a table (RFC 5730, 3; RFC 5731 to 5733).
+use Rattle.std.specs.Prelude.{ℕ, Bool, not, ◌||◌, is_some, is_none, List, [], ◌∷◌, Option}
 use Rattle.names.specs.declared.given.GivenName.{GivenName}
 use Rattle.names.specs.GivenName.{name_of, is_refused}
-use Rattle.objects.specs.declared.domain.Domain.{Domain}
-use Rattle.objects.specs.declared.domain.DomainFace.{DomainFace}
-use Rattle.objects.specs.declared.sight.Seen.{Seen}
-use Rattle.objects.specs.declared.sight.Seen.TheVariants.{Full, Named, Public}
-use Rattle.objects.specs.declared.transfer.Transfer.{Transfer}
-use Rattle.objects.specs.Domains.{face_of}
-use Rattle.objects.specs.Sight.{is_right}
-use Rattle.policy.specs.Rules.{PolicyRules, id_at}
+use Rattle.objects.specs.StatusTexts.{status_text}
+use Rattle.names.specs.Zone.{ZoneRules}
+use Rattle.policy.specs.Rules.{PolicyRules}
 use Rattle.verdict.specs.declared.code.Code.{Code}
 use Rattle.verdict.specs.declared.code.Code.TheVariants as codes
-use Rattle.verdict.specs.declared.command.NewDomain.{NewDomain}
+use Rattle.verdict.specs.declared.command.ContactUpdate.{ContactUpdate}
+use Rattle.verdict.specs.declared.command.DomainUpdate.{DomainUpdate}
+use Rattle.verdict.specs.declared.command.HostUpdate.{HostUpdate}
+use Rattle.verdict.specs.declared.command.NewHost.{NewHost}
 use Rattle.verdict.specs.declared.command.Request.{Request}
-use Rattle.verdict.specs.declared.command.Request.TheVariants.{CheckDomain, CreateDomain, InfoDomain}
-use Rattle.verdict.specs.declared.facts.DomainFacts.{DomainFacts}
+use Rattle.verdict.specs.declared.command.Request.TheVariants.{CheckContact, CheckDomain, CheckHost, InfoContact, InfoDomain, InfoHost, CreateContact, CreateDomain, CreateHost, DeleteContact, DeleteHost, UpdateContact, UpdateDomain, UpdateHost}
 use Rattle.verdict.specs.declared.facts.Facts.{Facts}
 use Rattle.verdict.specs.declared.refusal.Class.{Class}
 use Rattle.verdict.specs.declared.refusal.Class.TheVariants as classes
 use Rattle.verdict.specs.declared.refusal.Refusal.{Refusal}
-use Rattle.verdict.specs.declared.reply.CheckResult.{CheckResult}
-use Rattle.verdict.specs.declared.reply.Created.{Created}
-use Rattle.verdict.specs.declared.reply.Data.{Data}
-use Rattle.verdict.specs.declared.reply.Data.TheVariants as told
-use Rattle.verdict.specs.declared.reply.DomainInfo.{DomainInfo}
-use Rattle.verdict.specs.declared.reply.Reason.{Reason}
-use Rattle.verdict.specs.declared.reply.Reason.TheVariants.{Policy, InUse}
-use Rattle.verdict.specs.declared.reply.TransferInfo.{TransferInfo}
-use Rattle.verdict.specs.Facts.{has_domain, seen_at, domain_at}
-
--- ---- conditions
-
--- a list names one thing twice, of items that are known by their texts
-abbrev pub has_twice : {A : Type 0} → (A → List ℕ) → List A → Bool
-has_twice text [] = false
-has_twice text (item ∷ items) = list_any (λ other. bytes_eq (text other) (text item)) items || has_twice text items
-
-abbrev pub itself : List ℕ → List ℕ
-itself text = text
-
--- the zone refuses the domain or one of the hosts, or a list names one thing twice
-abbrev pub has_bad_names : NewDomain → Bool
-has_bad_names new =
-    is_refused new.name || list_any is_refused new.hosts
-    || has_twice name_of new.hosts || has_twice itself new.admin || has_twice itself new.tech
-
--- the registrar sponsors what it sees
-abbrev pub is_own : ℕ → Seen Domain DomainFace → Bool
-is_own r (Full d) = d.sponsor == r
-is_own r (Named face t) = false
-is_own r (Public face) = false
-
--- what is seen opens with the secret: who presents the right one sees all
-abbrev pub is_opened : Option (List ℕ) → Seen Domain DomainFace → Bool
-is_opened secret (Full d) = is_right secret d.secret
-is_opened secret (Named face t) = false
-is_opened secret (Public face) = false
-
--- a secret is presented by another than the sponsor, and isn't right
-abbrev pub presents_wrong : ℕ → Option (List ℕ) → Option (Seen Domain DomainFace) → Bool
-presents_wrong r None seen = false
-presents_wrong r (Some secret) None = false
-presents_wrong r (Some secret) (Some seen) = not (is_own r seen) && not (is_opened (Some secret) seen)
-
--- ---- the table of refusals
+use Rattle.verdict.specs.Conditions.{holds_of, has_bad_names, has_bad_lists, renames_badly, contact_sponsor, contact_secret, domain_sponsor, domain_secret, is_anothers, host_is_anothers, presents_wrong, has_no_superordinate, superordinate_is_anothers, superordinate_is_deleted, has_stray_addresses, contact_seen_shows, domain_seen_shows, host_seen_shows, is_pending, prohibits_delete, prohibits_update, contact_amiss, domain_amiss, host_amiss}
+use Rattle.verdict.specs.Facts.{contact_at, contact_seen, domain_seen, host_at, host_seen, new_name_seen}
+use Rattle.verdict.specs.Lists.{has_twice, itself}
 
 abbrev pub row : Class → Code → Bool → Refusal
 row class code holds = record { class = class; code = code; holds = holds }
 
-abbrev pub refusals : ℕ → Request → Facts → List Refusal
-refusals r (CheckDomain names) f = []
-refusals r (CreateDomain new) f =
-    row classes.Names codes.ParameterPolicy (has_bad_names new)
-    ∷ row classes.Presence codes.ObjectExists (has_domain f (name_of new.name)) ∷ []
-refusals r (InfoDomain name secret) f =
+abbrev pub contact_info : ℕ → List ℕ → Option (List ℕ) → Facts → List Refusal
+contact_info r name secret f =
+    row classes.Presence codes.ObjectMissing (is_none (contact_seen f name))
+    ∷ row classes.Secret codes.InvalidAuthorization (presents_wrong contact_sponsor contact_secret r secret (contact_seen f name)) ∷ []
+
+abbrev pub contact_deletion : ℕ → List ℕ → Facts → List Refusal
+contact_deletion r name f =
+    row classes.Presence codes.ObjectMissing (is_none (contact_seen f name))
+    ∷ row classes.Party codes.AuthorizationError (is_anothers contact_sponsor r (contact_seen f name))
+    ∷ row classes.Status codes.StatusProhibits (prohibits_delete contact_seen_shows (contact_seen f name))
+    ∷ row classes.Association codes.AssociationProhibits (holds_of (λ known. known.linked) (contact_at f name)) ∷ []
+
+abbrev pub host_deletion : ℕ → GivenName → Facts → List Refusal
+host_deletion r name f =
     row classes.Names codes.ParameterPolicy (is_refused name)
-    ∷ row classes.Presence codes.ObjectMissing (not (has_domain f (name_of name)))
-    ∷ row classes.Secret codes.InvalidAuthorization (presents_wrong r secret (seen_at f (name_of name))) ∷ []
+    ∷ row classes.Presence codes.ObjectMissing (is_none (host_seen f (name_of name)))
+    ∷ row classes.Party codes.AuthorizationError (host_is_anothers r (host_at f (name_of name)))
+    ∷ row classes.Status codes.StatusProhibits (prohibits_delete host_seen_shows (host_seen f (name_of name)))
+    ∷ row classes.Association codes.AssociationProhibits (holds_of (λ known. known.linked) (host_at f (name_of name))) ∷ []
 
--- ---- what is told where none of them holds
+abbrev pub host_creation : ZoneRules → ℕ → NewHost → Facts → List Refusal
+host_creation zone r new f =
+    row classes.Names codes.ParameterPolicy (is_refused new.name || has_twice itself new.addresses)
+    ∷ row classes.Presence codes.ObjectExists (is_some (host_seen f (name_of new.name)))
+    ∷ row classes.Presence codes.ObjectMissing (holds_of (has_no_superordinate zone) (host_at f (name_of new.name)))
+    ∷ row classes.Party codes.AuthorizationError (holds_of (superordinate_is_anothers zone r) (host_at f (name_of new.name)))
+    ∷ row classes.Status codes.StatusProhibits (holds_of (superordinate_is_deleted zone) (host_at f (name_of new.name)))
+    ∷ row classes.Eligibility codes.ParameterPolicy (has_stray_addresses zone (name_of new.name) new.addresses) ∷ []
 
--- the id of the registrar at a place
-abbrev pub id_of : PolicyRules → ℕ → List ℕ
-id_of p r = unwrap_or (id_at p r) []
+abbrev pub contact_update : ℕ → ContactUpdate → Facts → List Refusal
+contact_update r u f =
+    row classes.Names codes.ParameterPolicy (has_twice status_text u.add || has_twice status_text u.rem)
+    ∷ row classes.Presence codes.ObjectMissing (is_none (contact_seen f u.name))
+    ∷ row classes.Party codes.AuthorizationError (is_anothers contact_sponsor r (contact_seen f u.name))
+    ∷ row classes.Status codes.StatusProhibits (is_pending contact_seen_shows (contact_seen f u.name) || prohibits_update contact_seen_shows u.rem (contact_seen f u.name))
+    ∷ row classes.Eligibility codes.ParameterPolicy (holds_of (contact_amiss u) (contact_seen f u.name)) ∷ []
 
--- why a name can't be created
-abbrev pub reason_of : Facts → GivenName → Option Reason
-reason_of f name = if is_refused name then Some Policy else if has_domain f (name_of name) then Some InUse else None
+abbrev pub domain_update : ℕ → DomainUpdate → Facts → List Refusal
+domain_update r u f =
+    row classes.Names codes.ParameterPolicy (is_refused u.name || (has_bad_lists u.add || has_bad_lists u.rem))
+    ∷ row classes.Presence codes.ObjectMissing (is_none (domain_seen f (name_of u.name)) || f.lacks_link)
+    ∷ row classes.Party codes.AuthorizationError (is_anothers domain_sponsor r (domain_seen f (name_of u.name)))
+    ∷ row classes.Status codes.StatusProhibits (is_pending domain_seen_shows (domain_seen f (name_of u.name)) || prohibits_update domain_seen_shows u.rem.statuses (domain_seen f (name_of u.name)))
+    ∷ row classes.Eligibility codes.ParameterPolicy (holds_of (domain_amiss u) (domain_seen f (name_of u.name))) ∷ []
 
-abbrev pub result_of : Facts → GivenName → CheckResult
-result_of f name = record { name = name_of name; reason = reason_of f name }
+abbrev pub host_update : ZoneRules → ℕ → HostUpdate → Facts → List Refusal
+host_update zone r u f =
+    row classes.Names codes.ParameterPolicy (renames_badly u)
+    ∷ row classes.Presence codes.ObjectExists (is_some (new_name_seen f))
+    ∷ row classes.Presence codes.ObjectMissing (is_none (host_seen f (name_of u.name)) || holds_of (has_no_superordinate zone) f.renamed)
+    ∷ row classes.Party codes.AuthorizationError (host_is_anothers r (host_at f (name_of u.name)) || holds_of (superordinate_is_anothers zone r) f.renamed)
+    ∷ row classes.Status codes.StatusProhibits (prohibits_update host_seen_shows u.rem.statuses (host_seen f (name_of u.name)) || holds_of (superordinate_is_deleted zone) f.renamed)
+    ∷ row classes.Eligibility codes.ParameterPolicy (holds_of (host_amiss zone u) (host_seen f (name_of u.name))) ∷ []
 
--- Prices count as 0 as long as accounts have no money.
-abbrev pub created : ℕ → NewDomain → Created
-created t new = record {
-  name = name_of new.name;
-  created = t;
-  expires = Some (capped (plus_years t new.years));
-  charge = Some 0;
-}
-
-abbrev pub transfer_told : PolicyRules → Transfer → TransferInfo
-transfer_told p t = record { transfer = t; requester = id_of p t.requester; loser = id_of p t.loser }
-
--- the face alone
-abbrev pub told_face : PolicyRules → List (List ℕ) → DomainFace → DomainInfo
-told_face p subordinate face = record { face = face; sponsor = id_of p face.sponsor; subordinate = subordinate; hidden = None }
-
--- the full record, with the secret or without it
-abbrev pub told_full : PolicyRules → List (List ℕ) → Option (List ℕ) → Domain → DomainInfo
-told_full p subordinate secret d = record {
-  face = face_of d;
-  sponsor = id_of p d.sponsor;
-  subordinate = subordinate;
-  hidden = Some (record { secret = secret; transfer = option_map (transfer_told p) d.transfer; deletion = d.deletion });
-}
-
--- The sponsor is told all; who presents the right secret all but the secret; another the face.
-abbrev pub told_domain : PolicyRules → ℕ → Option (List ℕ) → List (List ℕ) → Seen Domain DomainFace → DomainInfo
-told_domain p r secret subordinate (Full d) =
-    if d.sponsor == r then told_full p subordinate (Some d.secret) d
-    else if is_right secret d.secret then told_full p subordinate None d
-    else told_face p subordinate (face_of d)
-told_domain p r secret subordinate (Named face t) = told_face p subordinate face
-told_domain p r secret subordinate (Public face) = told_face p subordinate face
-
-abbrev pub told_known : PolicyRules → ℕ → Option (List ℕ) → DomainFacts → Option DomainInfo
-told_known p r secret known = option_map (told_domain p r secret known.subordinate) known.seen
-
--- the data of an accepted command
-abbrev pub accepted : PolicyRules → ℕ → ℕ → Request → Facts → Option Data
-accepted p r t (CheckDomain names) f = Some (told.Checked (map (result_of f) names))
-accepted p r t (CreateDomain new) f = Some (told.Created (created t new))
-accepted p r t (InfoDomain name secret) f = option_map told.Domain (option_and_then (told_known p r secret) (domain_at f (name_of name)))
+-- the causes on which each command is refused
+abbrev pub refusals : PolicyRules → ℕ → Request → Facts → List Refusal
+refusals p r (CheckContact names) f = []
+refusals p r (CheckDomain names) f = []
+refusals p r (CheckHost names) f = []
+refusals p r (InfoContact name secret) f = contact_info r name secret f
+refusals p r (InfoDomain name secret) f =
+    row classes.Names codes.ParameterPolicy (is_refused name)
+    ∷ row classes.Presence codes.ObjectMissing (is_none (domain_seen f (name_of name)))
+    ∷ row classes.Secret codes.InvalidAuthorization (presents_wrong domain_sponsor domain_secret r secret (domain_seen f (name_of name))) ∷ []
+refusals p r (InfoHost name) f =
+    row classes.Names codes.ParameterPolicy (is_refused name)
+    ∷ row classes.Presence codes.ObjectMissing (is_none (host_seen f (name_of name))) ∷ []
+refusals p r (CreateContact new) f =
+    row classes.Presence codes.ObjectExists (is_some (contact_seen f new.name)) ∷ []
+refusals p r (CreateDomain new) f =
+    row classes.Names codes.ParameterPolicy (has_bad_names new)
+    ∷ row classes.Presence codes.ObjectExists (is_some (domain_seen f (name_of new.name)))
+    ∷ row classes.Presence codes.ObjectMissing f.lacks_link
+    ∷ row classes.Eligibility codes.DataManagementPolicy f.is_full ∷ []
+refusals p r (CreateHost new) f = host_creation p.zone r new f
+refusals p r (DeleteContact name) f = contact_deletion r name f
+refusals p r (DeleteHost name) f = host_deletion r name f
+refusals p r (UpdateContact update) f = contact_update r update f
+refusals p r (UpdateDomain update) f = domain_update r update f
+refusals p r (UpdateHost update) f = host_update p.zone r update f

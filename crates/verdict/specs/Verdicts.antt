@@ -9,7 +9,8 @@ use Rattle.verdict.specs.declared.facts.Facts.{Facts}
 use Rattle.verdict.specs.declared.reply.Data.{Data}
 use Rattle.verdict.specs.declared.verdict.Verdict.{Verdict}
 use Rattle.verdict.specs.Refusals.{first_refusal}
-use Rattle.verdict.specs.Rules.{refusals, accepted}
+use Rattle.verdict.specs.Rules.{refusals}
+use Rattle.verdict.specs.Told.{accepted}
 
 abbrev pub refused : Code → Verdict
 refused code = record { code = code; content = None }
@@ -20,9 +21,9 @@ unless_refused (Some code) content = refused code
 unless_refused None content = record { code = Completed; content = content }
 
 -- what a registrar's command at a moment is answered
-abbrev pub judged : PolicyRules → ℕ → ℕ → Command → Facts → Verdict
+unfoldable pub judged : PolicyRules → ℕ → ℕ → Command → Facts → Verdict
 judged p r t (Bad tag code) f = refused code
-judged p r t (Asked tag request) f = unless_refused (first_refusal (refusals r request f)) (accepted p r t request f)
+judged p r t (Asked tag request) f = unless_refused (first_refusal (refusals p r request f)) (accepted p r t request f)
 
 -- the command's own identifier
 abbrev pub tag_of : Command → Option (List ℕ)

@@ -1,12 +1,13 @@
 //! What a registrar asks.
-ghost use Rattle.std.specs.Prelude.{◌≡◌};
+ghost use Rattle.std.specs.Prelude.{◌≡◌, [], None, Some, false};
 ghost use Rattle.std.specs.Option.{option_copied};
-ghost use Rattle.verdict.specs.Facts.{domains_asked, domains_named, presented, secret_asked};
+ghost use Rattle.verdict.specs.Facts as spec;
 
 use crate::code::Code;
 use basis::list::Seq;
 use basis::text::Text;
 use names::GivenName;
+use objects::{Postal, Status};
 use std::slice;
 
 /// A registrar's command, with the identifier of its own that the reply repeats (`clTRID`).
@@ -21,17 +22,62 @@ pub enum Command {
 /// What a well formed command asks for.
 #[derive(Clone, Drop)]
 pub enum Request {
+    /// Which of the names could be created (RFC 5733, 3.1.1).
+    CheckContact {
+        names: Seq<Text>,
+    },
     /// Which of the names could be created (RFC 5731, 3.1.1).
     CheckDomain {
         names: Seq<GivenName>,
     },
-    /// A new domain (RFC 5731, 3.2.1).
-    CreateDomain(NewDomain),
+    /// Which of the names could be created (RFC 5732, 3.1.1).
+    CheckHost {
+        names: Seq<GivenName>,
+    },
+    /// What a contact is (RFC 5733, 3.1.2), with its secret where that is presented.
+    InfoContact {
+        name: Text,
+        secret: Option<Text>,
+    },
     /// What a domain is (RFC 5731, 3.1.2), with its secret where that is presented.
     InfoDomain {
         name: GivenName,
         secret: Option<Text>,
     },
+    /// What a host is (RFC 5732, 3.1.2).
+    InfoHost {
+        name: GivenName,
+    },
+    /// A new contact (RFC 5733, 3.2.1).
+    CreateContact(NewContact),
+    /// A new domain (RFC 5731, 3.2.1).
+    CreateDomain(NewDomain),
+    /// A new host (RFC 5732, 3.2.1).
+    CreateHost(NewHost),
+    /// A contact is to go (RFC 5733, 3.2.2).
+    DeleteContact {
+        name: Text,
+    },
+    /// A host is to go (RFC 5732, 3.2.2).
+    DeleteHost {
+        name: GivenName,
+    },
+    /// A contact is to change (RFC 5733, 3.2.5).
+    UpdateContact(ContactUpdate),
+    /// A domain is to change (RFC 5731, 3.2.5).
+    UpdateDomain(DomainUpdate),
+    /// A host is to change (RFC 5732, 3.2.5).
+    UpdateHost(HostUpdate),
+}
+
+/// What a new contact is to have.
+#[derive(Clone, Drop)]
+pub struct NewContact {
+    pub name: Text,
+    pub postal: Postal,
+    pub voice: Option<Text>,
+    pub mail: Text,
+    pub secret: Text,
 }
 
 /// What a new domain is to have. The lists stand as they were sent.
@@ -46,33 +92,181 @@ pub struct NewDomain {
     pub secret: Text,
 }
 
+/// What a new host is to have. The addresses stand as they were sent, in canonical text.
+#[derive(Clone, Drop)]
+pub struct NewHost {
+    pub name: GivenName,
+    pub addresses: Seq<Text>,
+}
+
+/// What of a contact is to change. What isn't given stays.
+#[derive(Clone, Drop)]
+pub struct ContactUpdate {
+    pub name: Text,
+    /// Statuses to set.
+    pub add: Seq<Status>,
+    /// Statuses to take away.
+    pub rem: Seq<Status>,
+    pub postal: Option<Postal>,
+    pub voice: Option<Text>,
+    pub mail: Option<Text>,
+    pub secret: Option<Text>,
+}
+
+/// What of a domain is to change. What isn't given stays.
+#[derive(Clone, Drop)]
+pub struct DomainUpdate {
+    pub name: GivenName,
+    pub add: DomainLists,
+    pub rem: DomainLists,
+    pub registrant: Option<Text>,
+    pub secret: Option<Text>,
+}
+
+/// What an update adds to the lists of a domain, or removes from them, as it was sent.
+#[derive(Clone, Drop)]
+pub struct DomainLists {
+    pub hosts: Seq<GivenName>,
+    pub admin: Seq<Text>,
+    pub tech: Seq<Text>,
+    pub statuses: Seq<Status>,
+}
+
+/// What of a host is to change. What isn't given stays.
+#[derive(Clone, Drop)]
+pub struct HostUpdate {
+    pub name: GivenName,
+    pub add: HostLists,
+    pub rem: HostLists,
+    pub new_name: Option<GivenName>,
+}
+
+/// What an update adds to the lists of a host, or removes from them, as it was sent: addresses in
+/// canonical text.
+#[derive(Clone, Drop)]
+pub struct HostLists {
+    pub addresses: Seq<Text>,
+    pub statuses: Seq<Status>,
+}
+
 impl Request {
-    /// The domains that it names.
+    /// The contacts that it acts on.
+    fn contacts(&self) -> &[Text]
+        ensures { result.now ≡ spec.contacts_asked self.now }
+    {
+        match self {
+            Request::CheckContact { names } => names.as_slice(),
+            Request::InfoContact { name, .. } => slice::from_ref(name),
+            Request::CreateContact(new) => slice::from_ref(&new.name),
+            Request::DeleteContact { name } => slice::from_ref(name),
+            Request::UpdateContact(update) => slice::from_ref(&update.name),
+            _ => &[],
+        }
+    }
+
+    /// The domains that it acts on.
     fn domains(&self) -> &[GivenName]
-        ensures { result.now ≡ domains_asked self.now }
+        ensures { result.now ≡ spec.domains_asked self.now }
     {
         match self {
             Request::CheckDomain { names } => names.as_slice(),
-            Request::CreateDomain(new) => slice::from_ref(&new.name),
             Request::InfoDomain { name, .. } => slice::from_ref(name),
+            Request::CreateDomain(new) => slice::from_ref(&new.name),
+            Request::UpdateDomain(update) => slice::from_ref(&update.name),
+            _ => &[],
         }
+    }
+
+    /// The hosts that it acts on.
+    fn hosts(&self) -> &[GivenName]
+        ensures { result.now ≡ spec.hosts_asked self.now }
+    {
+        match self {
+            Request::CheckHost { names } => names.as_slice(),
+            Request::InfoHost { name } => slice::from_ref(name),
+            Request::CreateHost(new) => slice::from_ref(&new.name),
+            Request::DeleteHost { name } => slice::from_ref(name),
+            Request::UpdateHost(update) => slice::from_ref(&update.name),
+            _ => &[],
+        }
+    }
+
+    /// The name that a host is to have.
+    fn new_host(&self) -> Option<&GivenName>
+        ensures { option_copied result ≡ spec.new_host_asked self.now }
+    {
+        match self {
+            Request::UpdateHost(update) => update.new_name.as_ref(),
+            _ => None,
+        }
+    }
+
+    /// Whether it asks what domains name, or which hosts lie below one.
+    fn asks_around(&self) -> bool
+        ensures { result ≡ spec.asks_around self.now }
+    {
+        matches!(
+            self,
+            Request::InfoContact { .. }
+                | Request::InfoDomain { .. }
+                | Request::InfoHost { .. }
+                | Request::DeleteContact { .. }
+                | Request::DeleteHost { .. }
+        )
+    }
+
+    /// Whether it gives the registrar one domain more to hold.
+    fn asks_room(&self) -> bool
+        ensures { result ≡ spec.asks_room self.now }
+    {
+        matches!(self, Request::CreateDomain(_))
     }
 
     /// The secret that it presents for a domain.
     fn presented(&self, domain: &Text) -> Option<&Text>
-        ensures { option_copied result ≡ secret_asked self.now domain.now }
+        ensures { option_copied result ≡ spec.secret_asked self.now domain.now }
     {
         match self {
             Request::InfoDomain { name, secret } if *name.text() == *domain => secret.as_ref(),
             _ => None,
         }
     }
+
+    /// The secret that it presents for a contact.
+    fn presented_for_contact(&self, contact: &Text) -> Option<&Text>
+        ensures { option_copied result ≡ spec.contact_secret_asked self.now contact.now }
+    {
+        match self {
+            Request::InfoContact { name, secret } if *name == *contact => secret.as_ref(),
+            _ => None,
+        }
+    }
 }
 
 impl Command {
-    /// The domains that it names.
+    /// What a well formed command asks for.
+    pub fn request(&self) -> Option<&Request>
+        ensures { option_copied result ≡ spec.asked None (λ request. Some request) self.now }
+    {
+        match self {
+            Command::Bad { .. } => None,
+            Command::Asked { request, .. } => Some(request),
+        }
+    }
+
+    /// The contacts that it acts on.
+    pub fn contacts(&self) -> &[Text]
+        ensures { result.now ≡ spec.asked [] spec.contacts_asked self.now }
+    {
+        match self {
+            Command::Bad { .. } => &[],
+            Command::Asked { request, .. } => request.contacts(),
+        }
+    }
+
+    /// The domains that it acts on.
     pub fn domains(&self) -> &[GivenName]
-        ensures { result.now ≡ domains_named self.now }
+        ensures { result.now ≡ spec.asked [] spec.domains_asked self.now }
     {
         match self {
             Command::Bad { .. } => &[],
@@ -80,13 +274,63 @@ impl Command {
         }
     }
 
+    /// The hosts that it acts on.
+    pub fn hosts(&self) -> &[GivenName]
+        ensures { result.now ≡ spec.asked [] spec.hosts_asked self.now }
+    {
+        match self {
+            Command::Bad { .. } => &[],
+            Command::Asked { request, .. } => request.hosts(),
+        }
+    }
+
+    /// The name that a host is to have.
+    pub fn new_host(&self) -> Option<&GivenName>
+        ensures { option_copied result ≡ spec.asked None spec.new_host_asked self.now }
+    {
+        match self {
+            Command::Bad { .. } => None,
+            Command::Asked { request, .. } => request.new_host(),
+        }
+    }
+
+    /// Whether it asks what domains name, or which hosts lie below one.
+    pub fn asks_around(&self) -> bool
+        ensures { result ≡ spec.asked false spec.asks_around self.now }
+    {
+        match self {
+            Command::Bad { .. } => false,
+            Command::Asked { request, .. } => request.asks_around(),
+        }
+    }
+
+    /// Whether it gives the registrar one domain more to hold.
+    pub fn asks_room(&self) -> bool
+        ensures { result ≡ spec.asked false spec.asks_room self.now }
+    {
+        match self {
+            Command::Bad { .. } => false,
+            Command::Asked { request, .. } => request.asks_room(),
+        }
+    }
+
     /// The secret that it presents for a domain.
     pub fn presented(&self, domain: &Text) -> Option<&Text>
-        ensures { option_copied result ≡ presented self.now domain.now }
+        ensures { option_copied result ≡ spec.presented self.now domain.now }
     {
         match self {
             Command::Bad { .. } => None,
             Command::Asked { request, .. } => request.presented(domain),
+        }
+    }
+
+    /// The secret that it presents for a contact.
+    pub fn presented_for_contact(&self, contact: &Text) -> Option<&Text>
+        ensures { option_copied result ≡ spec.presented_contact self.now contact.now }
+    {
+        match self {
+            Command::Bad { .. } => None,
+            Command::Asked { request, .. } => request.presented_for_contact(contact),
         }
     }
 }

@@ -1,14 +1,16 @@
 //! What a command is judged by.
-ghost use Rattle.std.specs.Prelude.{◌≡◌, find};
+ghost use Rattle.std.specs.Prelude.{◌≡◌, is_some};
 ghost use Rattle.std.specs.Option.{option_copied};
-ghost use Rattle.std.specs.Str.{bytes_eq};
 ghost use Rattle.accounts.specs.Account.{raised};
+ghost use Rattle.verdict.specs.Conditions.{holds_of};
 ghost use Rattle.verdict.specs.Facts as spec;
 
+use crate::named::{Named, find_named};
 use accounts::raised;
 use basis::list::Seq;
+use basis::registrar::RegistrarNo;
 use basis::text::Text;
-use objects::{Domain, DomainFace, Seen};
+use objects::{Contact, ContactFace, Domain, DomainFace, Host, Seen};
 
 /// The caller's account, as far as commands hang on it.
 #[derive(Clone, Copy, Drop)]
@@ -33,7 +35,15 @@ impl AccountFacts {
     }
 }
 
-/// What the caller sees at a domain's name, and the hosts below that name.
+/// What the caller sees at a contact's name, and whether a domain names it, where the command asks.
+#[derive(Drop)]
+pub struct ContactFacts {
+    pub name: Text,
+    pub seen: Option<Seen<Contact, ContactFace>>,
+    pub linked: bool,
+}
+
+/// What the caller sees at a domain's name, and the hosts below that name, where the command asks.
 #[derive(Drop)]
 pub struct DomainFacts {
     pub name: Text,
@@ -41,24 +51,97 @@ pub struct DomainFacts {
     pub subordinate: Seq<Text>,
 }
 
+/// What everyone may know of a superordinate domain.
+#[derive(Clone, Copy, Drop)]
+pub struct Superordinate {
+    pub sponsor: RegistrarNo,
+    pub is_deleted: bool,
+}
+
+/// What there is at a host's name and at its last two labels, and whether a domain names it, where
+/// the command asks.
+#[derive(Drop)]
+pub struct HostFacts {
+    pub name: Text,
+    pub host: Option<Host>,
+    pub superordinate: Option<Superordinate>,
+    pub linked: bool,
+}
+
 /// The facts of a registry that bear on one command. They hold nothing that the caller may not see.
 #[derive(Drop)]
 pub struct Facts {
     pub account: AccountFacts,
+    pub contacts: Seq<ContactFacts>,
     pub domains: Seq<DomainFacts>,
+    pub hosts: Seq<HostFacts>,
+    /// At the name that a host is to have.
+    pub renamed: Option<HostFacts>,
+    /// Whether a contact or host isn't there that a domain is to name from now on.
+    pub lacks_link: bool,
+    /// Whether the caller holds as many domains as it may, where the command gives it another.
+    pub is_full: bool,
+}
+
+impl Named for ContactFacts {
+    ghost name = { λ known. known.name };
+
+    fn name(&self) -> &Text {
+        &self.name
+    }
+}
+
+impl Named for DomainFacts {
+    ghost name = { λ known. known.name };
+
+    fn name(&self) -> &Text {
+        &self.name
+    }
+}
+
+impl Named for HostFacts {
+    ghost name = { λ known. known.name };
+
+    fn name(&self) -> &Text {
+        &self.name
+    }
 }
 
 impl Facts {
+    /// What is known at a contact's name.
+    pub fn contact(&self, name: &Text) -> Option<&ContactFacts>
+        ensures { option_copied result ≡ spec.contact_at self.now name.now }
+    {
+        find_named(self.contacts.as_slice(), name)
+    }
+
     /// What is known at a domain's name.
     pub fn domain(&self, name: &Text) -> Option<&DomainFacts>
         ensures { option_copied result ≡ spec.domain_at self.now name.now }
     {
-        find_domain(self.domains.as_slice(), name)
+        find_named(self.domains.as_slice(), name)
+    }
+
+    /// What is known at a host's name.
+    pub fn host(&self, name: &Text) -> Option<&HostFacts>
+        ensures { option_copied result ≡ spec.host_at self.now name.now }
+    {
+        find_named(self.hosts.as_slice(), name)
+    }
+
+    /// What is seen at a contact's name.
+    pub fn contact_seen(&self, name: &Text) -> Option<&Seen<Contact, ContactFace>>
+        ensures { option_copied result ≡ spec.contact_seen self.now name.now }
+    {
+        match self.contact(name) {
+            None => None,
+            Some(known) => known.seen.as_ref(),
+        }
     }
 
     /// What is seen at a domain's name.
-    pub fn seen(&self, name: &Text) -> Option<&Seen<Domain, DomainFace>>
-        ensures { option_copied result ≡ spec.seen_at self.now name.now }
+    pub fn domain_seen(&self, name: &Text) -> Option<&Seen<Domain, DomainFace>>
+        ensures { option_copied result ≡ spec.domain_seen self.now name.now }
     {
         match self.domain(name) {
             None => None,
@@ -66,16 +149,43 @@ impl Facts {
         }
     }
 
-    /// Whether there is such a domain.
-    pub fn has_domain(&self, name: &Text) -> bool
-        ensures { result ≡ spec.has_domain self.now name.now }
+    /// The host of a name.
+    pub fn host_seen(&self, name: &Text) -> Option<&Host>
+        ensures { option_copied result ≡ spec.host_seen self.now name.now }
     {
-        self.seen(name).is_some()
+        match self.host(name) {
+            None => None,
+            Some(known) => known.host.as_ref(),
+        }
     }
-}
 
-fn find_domain<'a>(domains: &'a [DomainFacts], name: &Text) -> Option<&'a DomainFacts>
-    ensures { option_copied result ≡ find (λ known. bytes_eq known.name name.now) domains.now }
-{
-    domains.iter().find(|known| known.name == *name)
+    /// Whether there is a host of the new name already.
+    pub(crate) fn new_name_exists(&self) -> bool
+        ensures { result ≡ is_some (spec.new_name_seen self.now) }
+    {
+        match &self.renamed {
+            None => false,
+            Some(known) => known.host.is_some(),
+        }
+    }
+
+    /// Whether a domain names the contact, where the command asks.
+    pub(crate) fn contact_is_linked(&self, name: &Text) -> bool
+        ensures { result ≡ holds_of (λ known. known.linked) (spec.contact_at self.now name.now) }
+    {
+        match self.contact(name) {
+            None => false,
+            Some(known) => known.linked,
+        }
+    }
+
+    /// Whether a domain names the host, where the command asks.
+    pub(crate) fn host_is_linked(&self, name: &Text) -> bool
+        ensures { result ≡ holds_of (λ known. known.linked) (spec.host_at self.now name.now) }
+    {
+        match self.host(name) {
+            None => false,
+            Some(known) => known.linked,
+        }
+    }
 }

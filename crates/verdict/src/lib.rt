@@ -4,17 +4,27 @@
 
 mod code;
 mod command;
+mod conditions;
 mod facts;
 mod named;
+mod order;
 mod refusal;
 mod reply;
+mod told;
 mod verdict;
 
 pub use code::Code;
-pub use command::{Command, NewDomain, Request};
-pub use facts::{AccountFacts, DomainFacts, Facts};
+pub use command::{
+    Command, ContactUpdate, DomainLists, DomainUpdate, HostLists, HostUpdate, NewContact,
+    NewDomain, NewHost, Request,
+};
+pub use facts::{AccountFacts, ContactFacts, DomainFacts, Facts, HostFacts, Superordinate};
+pub use named::{Named, amended_names};
+pub use order::{Order, StatusOrder};
 pub use refusal::{CAUSES, Cause, Class, Refusal, first_refusal};
 pub use reply::{
-    CheckResult, Created, Data, DomainHidden, DomainInfo, Reason, Reply, ServerTag, TransferInfo,
+    CheckResult, ContactHidden, ContactInfo, Created, Data, DomainHidden, DomainInfo, HostInfo,
+    Reason, Reply, ServerTag, TransferInfo,
 };
-pub use verdict::{Verdict, id_of, judge};
+pub use told::id_of;
+pub use verdict::{Verdict, judge};

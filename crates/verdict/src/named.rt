@@ -1,14 +1,20 @@
-//! Items that are known by their names.
-ghost use Rattle.std.specs.Prelude.{◌≡◌};
+//! Lists of items that are known by their names.
+ghost use Rattle.std.specs.Prelude.{◌≡◌, ◌+◌, find, length, nat_lt, not, IfOk};
 ghost use Rattle.std.specs.List.{list_any};
+ghost use Rattle.std.specs.Option.{option_copied};
 ghost use Rattle.std.specs.Str.{bytes_eq};
-ghost use Rattle.verdict.specs.Rules as spec;
+ghost use Rattle.objects.specs.Links as links;
+ghost use Rattle.objects.specs.StatusTexts.{status_text};
+ghost use Rattle.verdict.specs.Lists as spec;
 
+use basis::list::Seq;
 use basis::text::Text;
 use names::GivenName;
+use objects::{Status, has_name};
+use std::alloc::{AllocError, Global};
 
-/// An item of a command's list.
-pub(crate) trait Named {
+/// An item of a list.
+pub trait Named {
     ghost use Rattle.std.specs.Prelude.{List, ℕ};
 
     /// The name that it is known by.
@@ -19,7 +25,7 @@ pub(crate) trait Named {
 }
 
 impl Named for Text {
-    ghost use Rattle.verdict.specs.Rules.{itself};
+    ghost use Rattle.verdict.specs.Lists.{itself};
 
     ghost name = { itself };
 
@@ -38,10 +44,18 @@ impl Named for GivenName {
     }
 }
 
-fn is_among<T: Named>(name: &Text, others: &[T]) -> bool
-    ensures { result ≡ list_any (λ other. bytes_eq (T.name other) name.now) others.now }
+/// The item that is known by a name.
+pub(crate) fn find_named<'a, T: Named>(items: &'a [T], name: &Text) -> Option<&'a T>
+    ensures { option_copied result ≡ find (λ item. bytes_eq (T.name item) name.now) items.now }
 {
-    others.iter().any(|other| *other.name() == *name)
+    items.iter().find(|item| *item.name() == *name)
+}
+
+/// Whether an item of the list is known by the name.
+pub(crate) fn is_among<T: Named>(name: &Text, items: &[T]) -> bool
+    ensures { result ≡ spec.is_among T.name items.now name.now }
+{
+    items.iter().any(|other| *other.name() == *name)
 }
 
 /// Whether a list names one thing twice.
@@ -54,4 +68,85 @@ pub(crate) fn has_twice<T: Named>(items: &[T]) -> bool
         }
     }
     false
+}
+
+/// Whether something is added that is there, or removed that isn't, or there are more than the limit
+/// afterwards.
+pub(crate) fn is_amiss<T: Named>(limit: usize, old: &[Text], removed: &[T], added: &[T]) -> bool
+    ensures { result ≡ spec.is_amiss T.name limit old.now removed.now added.now }
+{
+    any_there(old, added)
+        || any_not_there(old, removed)
+        || is_over(limit, count_kept(old, removed), added.len())
+}
+
+fn any_there<T: Named>(old: &[Text], items: &[T]) -> bool
+    ensures { result ≡ list_any (λ item. links.has_name old.now (T.name item)) items.now }
+{
+    items.iter().any(|item| has_name(old, item.name()))
+}
+
+fn any_not_there<T: Named>(old: &[Text], items: &[T]) -> bool
+    ensures { result ≡ list_any (λ item. not (links.has_name old.now (T.name item))) items.now }
+{
+    items.iter().any(|item| !has_name(old, item.name()))
+}
+
+fn is_over(limit: usize, kept: usize, added: usize) -> bool
+    ensures { result ≡ nat_lt limit (kept + added) }
+{
+    kept > limit || added > limit - kept
+}
+
+/// How many of an object's names an update doesn't remove.
+pub(crate) fn count_kept<T: Named>(old: &[Text], removed: &[T]) -> usize
+    ensures { result ≡ length (spec.kept T.name old.now removed.now) }
+{
+    old.iter().filter(|name| !is_among(name, removed)).count()
+}
+
+/// The names that an object has after an update, in the order of their bytes.
+pub fn amended_names<T: Named>(
+    alloc: Global,
+    old: &[Text],
+    removed: &[T],
+    added: &[T],
+) -> Result<Seq<Text>, AllocError>
+    ensures { IfOk result (λ names. names ≡ spec.amended T.name old.now removed.now added.now) }
+{
+    let mut names = kept_names(alloc, old, removed)?;
+    for item in added {
+        names.push(item.name().clone()?)?;
+    }
+    Seq::sorted(alloc, names)
+}
+
+fn kept_names<T: Named>(alloc: Global, old: &[Text], removed: &[T]) -> Result<Vec<Text>, AllocError>
+    ensures { IfOk result (λ names. names.items ≡ spec.kept T.name old.now removed.now) }
+{
+    let mut names = Vec::new(alloc);
+    for name in old {
+        if !is_among(name, removed) {
+            names.push(name.clone()?)?;
+        }
+    }
+    Ok(names)
+}
+
+/// Whether a list names one status twice.
+pub(crate) fn has_status_twice(statuses: &[Status]) -> bool
+    ensures { result ≡ spec.has_twice status_text statuses.now }
+{
+    for (i, status) in statuses.iter().enumerate() {
+        if is_text_among(status.text(), &statuses[i + 1..]) {
+            return true;
+        }
+    }
+    false
+}
+
+fn is_text_among(text: &str, statuses: &[Status]) -> bool
+    ensures { result ≡ spec.is_among status_text statuses.now text.now }
+{
+    statuses.iter().any(|other| other.text() == text)
 }

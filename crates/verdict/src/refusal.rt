@@ -105,6 +105,7 @@ fn find_cause<'a>(causes: &'a [Cause], rows: &[Refusal]) -> Option<&'a Cause>
 }
 
 /// The code that answers, of a command with these rows.
+#[tactic(auto, unfolding(crate::specs::Refusals::first_refusal))]
 pub fn first_refusal(rows: &[Refusal]) -> Option<Code>
     ensures { result ≡ spec.first_refusal rows.now }
 {

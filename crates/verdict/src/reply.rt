@@ -4,7 +4,7 @@ use crate::code::Code;
 use basis::list::Seq;
 use basis::text::Text;
 use calendar::Moment;
-use objects::{Deletion, DomainFace, Transfer};
+use objects::{ContactFace, Deletion, DomainFace, HostFace, Postal, Transfer};
 
 /// A reply to a command.
 #[derive(Clone, Drop)]
@@ -29,7 +29,9 @@ pub enum Data {
     /// In the order in which the names were sent.
     Checked(Seq<CheckResult>),
     Created(Created),
+    Contact(ContactInfo),
     Domain(DomainInfo),
+    Host(HostInfo),
 }
 
 /// Whether a name could be created: it could where there is no reason against it.
@@ -56,6 +58,35 @@ pub struct Created {
     pub expires: Option<Moment>,
     /// In whole cents.
     pub charge: Option<u64>,
+}
+
+/// What info tells of a contact.
+#[derive(Clone, Drop)]
+pub struct ContactInfo {
+    /// With `linked` among its statuses while a domain names it.
+    pub face: ContactFace,
+    /// The sponsor's id.
+    pub sponsor: Text,
+    pub hidden: Option<ContactHidden>,
+}
+
+/// What the face of a contact leaves out.
+#[derive(Clone, Drop)]
+pub struct ContactHidden {
+    /// Told to the sponsor alone.
+    pub secret: Option<Text>,
+    pub postal: Postal,
+    pub voice: Option<Text>,
+    pub mail: Text,
+    pub transfer: Option<TransferInfo>,
+}
+
+/// What info tells of a host.
+#[derive(Clone, Drop)]
+pub struct HostInfo {
+    pub face: HostFace,
+    /// The sponsor's id.
+    pub sponsor: Text,
 }
 
 /// What info tells of a domain.

@@ -1,24 +1,26 @@
 //! What a command is answered.
-ghost use Rattle.std.specs.Prelude.{◌≡◌, IfOk, map, option_map, None};
+ghost use Rattle.std.specs.Prelude.{◌≡◌, IfOk, None};
 ghost use Rattle.std.specs.Option.{option_copied};
-ghost use Rattle.std.specs.List.{list_any};
-ghost use Rattle.names.specs.GivenName.{is_refused};
 ghost use Rattle.verdict.specs.Refusals.{first_refusal};
 ghost use Rattle.verdict.specs.Rules as spec;
 ghost use Rattle.verdict.specs.Verdicts.{judged, tag_of};
 
 use crate::code::Code;
-use crate::command::{Command, NewDomain, Request};
-use crate::facts::{DomainFacts, Facts};
-use crate::named::has_twice;
+use crate::command::{Command, ContactUpdate, DomainUpdate, HostUpdate, NewHost, Request};
+use crate::conditions::{
+    has_no_superordinate, has_stray_addresses, host_is_anothers, is_anothers, is_pending,
+    presents_wrong, prohibits_delete, prohibits_update, superordinate_is_anothers,
+    superordinate_is_deleted,
+};
+use crate::facts::Facts;
+use crate::named::{has_status_twice, has_twice};
 use crate::refusal::{Class, Refusal, first_refusal};
-use crate::reply::{CheckResult, Created, Data, DomainHidden, DomainInfo, Reason, TransferInfo};
-use basis::list::Seq;
+use crate::reply::Data;
+use crate::told::tell;
 use basis::registrar::RegistrarNo;
 use basis::text::Text;
 use calendar::Moment;
-use names::GivenName;
-use objects::{Domain, DomainFace, Seen, Transfer};
+use names::{GivenName, Zone};
 use policy::Policy;
 use std::alloc::{AllocError, Global};
 
@@ -40,6 +42,7 @@ macro_rules! row {
 }
 
 /// What a registrar's command at a moment is answered, by the facts that bear on it.
+#[tactic(auto, unfolding(crate::specs::Verdicts::judged))]
 pub fn judge(
     alloc: Global,
     facts: &Facts,
@@ -52,7 +55,7 @@ pub fn judge(
 {
     match command {
         Command::Bad { code, .. } => Ok(refused(*code)),
-        Command::Asked { request, .. } => match refusal_of(facts, caller, request) {
+        Command::Asked { request, .. } => match refusal_of(facts, caller, request, policy) {
             Some(code) => Ok(refused(code)),
             None => Ok(Verdict {
                 code: Code::Completed,
@@ -72,242 +75,249 @@ fn refused(code: Code) -> Verdict
 }
 
 /// The code with which a well formed command is refused.
-fn refusal_of(facts: &Facts, caller: RegistrarNo, request: &Request) -> Option<Code>
-    ensures { result ≡ first_refusal (spec.refusals caller request.now facts.now) }
-{
-    match request {
-        Request::CheckDomain { .. } => first_refusal(&[]),
-        Request::CreateDomain(new) => first_refusal(&[
-            row!(Names, ParameterPolicy, new.has_bad_names()),
-            row!(Presence, ObjectExists, facts.has_domain(new.name.text())),
-        ]),
-        Request::InfoDomain { name, secret } => first_refusal(&[
-            row!(Names, ParameterPolicy, name.is_refused()),
-            row!(Presence, ObjectMissing, !facts.has_domain(name.text())),
-            row!(
-                Secret,
-                InvalidAuthorization,
-                presents_wrong(caller, secret.as_ref(), facts.seen(name.text()))
-            ),
-        ]),
-    }
-}
-
-/// Whether another than the sponsor presents a secret that isn't right.
-fn presents_wrong(
-    caller: RegistrarNo,
-    secret: Option<&Text>,
-    seen: Option<&Seen<Domain, DomainFace>>,
-) -> bool
-    ensures { result ≡ spec.presents_wrong caller (option_copied secret.entry) (option_copied seen.entry) }
-{
-    let Some(presented) = secret else {
-        return false;
-    };
-    match seen {
-        None => false,
-        Some(Seen::Full(domain)) => {
-            !domain.is_sponsored_by(caller) && !domain.is_opened_by(Some(presented))
-        }
-        Some(_) => true,
-    }
-}
-
-/// What an accepted command is told.
-fn tell(
-    alloc: Global,
+fn refusal_of(
     facts: &Facts,
     caller: RegistrarNo,
     request: &Request,
-    moment: Moment,
     policy: &Policy,
-) -> Result<Option<Data>, AllocError>
-    ensures { IfOk result (λ content. content ≡ spec.accepted policy.now caller moment request.now facts.now) }
+) -> Option<Code>
+    ensures { result ≡ first_refusal (spec.refusals policy.now caller request.now facts.now) }
 {
     match request {
-        Request::CheckDomain { names } => {
-            let results = check(alloc, facts, names.as_slice())?;
-            Ok(Some(Data::Checked(Seq::from_vec(results))))
+        Request::CheckContact { .. } | Request::CheckDomain { .. } | Request::CheckHost { .. } => {
+            first_refusal(&[])
         }
-        Request::CreateDomain(new) => Ok(Some(Data::Created(new.created(moment)?))),
-        Request::InfoDomain { name, secret } => match facts.domain(name.text()) {
-            None => Ok(None),
-            Some(known) => match tell_known(alloc, policy, caller, secret.as_ref(), known)? {
-                None => Ok(None),
-                Some(info) => Ok(Some(Data::Domain(info))),
-            },
-        },
+        Request::InfoContact { name, secret } => {
+            refusal_of_contact_info(facts, caller, name, secret.as_ref())
+        }
+        Request::InfoDomain { name, secret } => first_refusal(&[
+            row!(Names, ParameterPolicy, name.is_refused()),
+            row!(
+                Presence,
+                ObjectMissing,
+                facts.domain_seen(name.text()).is_none()
+            ),
+            row!(
+                Secret,
+                InvalidAuthorization,
+                presents_wrong(caller, secret.as_ref(), facts.domain_seen(name.text()))
+            ),
+        ]),
+        Request::InfoHost { name } => first_refusal(&[
+            row!(Names, ParameterPolicy, name.is_refused()),
+            row!(
+                Presence,
+                ObjectMissing,
+                facts.host_seen(name.text()).is_none()
+            ),
+        ]),
+        Request::CreateContact(new) => first_refusal(&[row!(
+            Presence,
+            ObjectExists,
+            facts.contact_seen(&new.name).is_some()
+        )]),
+        Request::CreateDomain(new) => first_refusal(&[
+            row!(Names, ParameterPolicy, new.has_bad_names()),
+            row!(
+                Presence,
+                ObjectExists,
+                facts.domain_seen(new.name.text()).is_some()
+            ),
+            row!(Presence, ObjectMissing, facts.lacks_link),
+            row!(Eligibility, DataManagementPolicy, facts.is_full),
+        ]),
+        Request::CreateHost(new) => refusal_of_host_creation(facts, caller, new, policy.zone()),
+        Request::DeleteContact { name } => refusal_of_contact_deletion(facts, caller, name),
+        Request::DeleteHost { name } => refusal_of_host_deletion(facts, caller, name),
+        Request::UpdateContact(update) => refusal_of_contact_update(facts, caller, update),
+        Request::UpdateDomain(update) => refusal_of_domain_update(facts, caller, update),
+        Request::UpdateHost(update) => {
+            refusal_of_host_update(facts, caller, update, policy.zone())
+        }
     }
 }
 
-/// Which of the names could be created.
-fn check(alloc: Global, facts: &Facts, names: &[GivenName]) -> Result<Vec<CheckResult>, AllocError>
-    ensures { IfOk result (λ results. results.items ≡ map (spec.result_of facts.now) names.now) }
-{
-    let mut results = Vec::new(alloc);
-    for name in names {
-        results.push(CheckResult {
-            name: name.text().clone()?,
-            reason: reason_against(facts, name),
-        })?;
-    }
-    Ok(results)
-}
-
-/// Why a name can't be created.
-fn reason_against(facts: &Facts, name: &GivenName) -> Option<Reason>
-    ensures { result ≡ spec.reason_of facts.now name.now }
-{
-    if name.is_refused() {
-        Some(Reason::Policy)
-    } else if facts.has_domain(name.text()) {
-        Some(Reason::InUse)
-    } else {
-        None
-    }
-}
-
-impl NewDomain {
-    /// Whether the zone refuses one of its names, or a list names one thing twice.
-    fn has_bad_names(&self) -> bool
-        ensures { result ≡ spec.has_bad_names self.now }
-    {
-        self.name.is_refused()
-            || any_refused(self.hosts.as_slice())
-            || has_twice(self.hosts.as_slice())
-            || has_twice(self.admin.as_slice())
-            || has_twice(self.tech.as_slice())
-    }
-
-    /// What its creator is told of it.
-    fn created(&self, moment: Moment) -> Result<Created, AllocError>
-        ensures { IfOk result (λ created. created ≡ spec.created moment self.now) }
-    {
-        Ok(Created {
-            name: self.name.text().clone()?,
-            created: moment,
-            expires: Some(moment.plus_years_capped(self.years)),
-            charge: Some(0),
-        })
-    }
-}
-
-fn any_refused(names: &[GivenName]) -> bool
-    ensures { result ≡ list_any is_refused names.now }
-{
-    names.iter().any(|name| name.is_refused())
-}
-
-/// What info tells of a domain, as far as the caller sees it.
-fn tell_known(
-    alloc: Global,
-    policy: &Policy,
+fn refusal_of_contact_info(
+    facts: &Facts,
     caller: RegistrarNo,
+    name: &Text,
     secret: Option<&Text>,
-    known: &DomainFacts,
-) -> Result<Option<DomainInfo>, AllocError>
-    ensures { IfOk result (λ info. info ≡ spec.told_known policy.now caller (option_copied secret.entry) known.now) }
+) -> Option<Code>
+    ensures { result ≡ first_refusal (spec.contact_info caller name.now (option_copied secret.entry) facts.now) }
 {
-    match &known.seen {
-        None => Ok(None),
-        Some(seen) => Ok(Some(tell_domain(
-            alloc,
-            policy,
-            caller,
-            secret,
-            &known.subordinate,
-            seen,
-        )?)),
-    }
+    let seen = facts.contact_seen(name);
+    first_refusal(&[
+        row!(Presence, ObjectMissing, seen.is_none()),
+        row!(
+            Secret,
+            InvalidAuthorization,
+            presents_wrong(caller, secret, seen)
+        ),
+    ])
 }
 
-fn tell_domain(
-    alloc: Global,
-    policy: &Policy,
+fn refusal_of_host_creation(
+    facts: &Facts,
     caller: RegistrarNo,
-    secret: Option<&Text>,
-    subordinate: &Seq<Text>,
-    seen: &Seen<Domain, DomainFace>,
-) -> Result<DomainInfo, AllocError>
-    ensures { IfOk result (λ info. info ≡ spec.told_domain policy.now caller (option_copied secret.entry) subordinate.now seen.now) }
+    new: &NewHost,
+    zone: &Zone,
+) -> Option<Code>
+    ensures { result ≡ first_refusal (spec.host_creation zone.now caller new.now facts.now) }
 {
-    match seen {
-        Seen::Full(domain) if domain.is_sponsored_by(caller) => {
-            let own = domain.secret.clone()?;
-            tell_full(alloc, policy, subordinate, Some(own), domain)
-        }
-        Seen::Full(domain) if domain.is_opened_by(secret) => {
-            tell_full(alloc, policy, subordinate, None, domain)
-        }
-        Seen::Full(domain) => tell_face(alloc, policy, subordinate, domain.face(alloc)?),
-        Seen::Named(face, _) => tell_face(alloc, policy, subordinate, face.clone()?),
-        Seen::Public(face) => tell_face(alloc, policy, subordinate, face.clone()?),
-    }
+    let name = new.name.text();
+    let addresses = new.addresses.as_slice();
+    let known = facts.host(name);
+    first_refusal(&[
+        row!(
+            Names,
+            ParameterPolicy,
+            new.name.is_refused() || has_twice(addresses)
+        ),
+        row!(Presence, ObjectExists, facts.host_seen(name).is_some()),
+        row!(Presence, ObjectMissing, has_no_superordinate(zone, known)),
+        row!(
+            Party,
+            AuthorizationError,
+            superordinate_is_anothers(zone, caller, known)
+        ),
+        row!(
+            Status,
+            StatusProhibits,
+            superordinate_is_deleted(zone, known)
+        ),
+        row!(
+            Eligibility,
+            ParameterPolicy,
+            has_stray_addresses(zone, name, addresses)
+        ),
+    ])
 }
 
-fn tell_face(
-    alloc: Global,
-    policy: &Policy,
-    subordinate: &Seq<Text>,
-    face: DomainFace,
-) -> Result<DomainInfo, AllocError>
-    ensures { IfOk result (λ info. info ≡ spec.told_face policy.now subordinate.now face) }
+fn refusal_of_contact_deletion(facts: &Facts, caller: RegistrarNo, name: &Text) -> Option<Code>
+    ensures { result ≡ first_refusal (spec.contact_deletion caller name.now facts.now) }
 {
-    let sponsor = id_of(alloc, policy, face.sponsor)?;
-    Ok(DomainInfo {
-        face,
-        sponsor,
-        subordinate: subordinate.clone()?,
-        hidden: None,
-    })
+    let seen = facts.contact_seen(name);
+    first_refusal(&[
+        row!(Presence, ObjectMissing, seen.is_none()),
+        row!(Party, AuthorizationError, is_anothers(caller, seen)),
+        row!(Status, StatusProhibits, prohibits_delete(seen)),
+        row!(
+            Association,
+            AssociationProhibits,
+            facts.contact_is_linked(name)
+        ),
+    ])
 }
 
-fn tell_full(
-    alloc: Global,
-    policy: &Policy,
-    subordinate: &Seq<Text>,
-    secret: Option<Text>,
-    domain: &Domain,
-) -> Result<DomainInfo, AllocError>
-    ensures { IfOk result (λ info. info ≡ spec.told_full policy.now subordinate.now secret domain.now) }
+fn refusal_of_host_deletion(facts: &Facts, caller: RegistrarNo, name: &GivenName) -> Option<Code>
+    ensures { result ≡ first_refusal (spec.host_deletion caller name.now facts.now) }
 {
-    Ok(DomainInfo {
-        face: domain.face(alloc)?,
-        sponsor: id_of(alloc, policy, domain.sponsor)?,
-        subordinate: subordinate.clone()?,
-        hidden: Some(DomainHidden {
-            secret,
-            transfer: tell_transfer(alloc, policy, domain.transfer)?,
-            deletion: domain.deletion,
-        }),
-    })
+    let text = name.text();
+    first_refusal(&[
+        row!(Names, ParameterPolicy, name.is_refused()),
+        row!(Presence, ObjectMissing, facts.host_seen(text).is_none()),
+        row!(
+            Party,
+            AuthorizationError,
+            host_is_anothers(caller, facts.host(text))
+        ),
+        row!(
+            Status,
+            StatusProhibits,
+            prohibits_delete(facts.host_seen(text))
+        ),
+        row!(
+            Association,
+            AssociationProhibits,
+            facts.host_is_linked(text)
+        ),
+    ])
 }
 
-fn tell_transfer(
-    alloc: Global,
-    policy: &Policy,
-    transfer: Option<Transfer>,
-) -> Result<Option<TransferInfo>, AllocError>
-    ensures { IfOk result (λ info. info ≡ option_map (spec.transfer_told policy.now) transfer) }
+fn refusal_of_contact_update(
+    facts: &Facts,
+    caller: RegistrarNo,
+    update: &ContactUpdate,
+) -> Option<Code>
+    ensures { result ≡ first_refusal (spec.contact_update caller update.now facts.now) }
 {
-    match transfer {
-        None => Ok(None),
-        Some(transfer) => Ok(Some(TransferInfo {
-            transfer,
-            requester: id_of(alloc, policy, transfer.requester)?,
-            loser: id_of(alloc, policy, transfer.loser)?,
-        })),
-    }
+    let seen = facts.contact_seen(&update.name);
+    let (add, rem) = (update.add.as_slice(), update.rem.as_slice());
+    first_refusal(&[
+        row!(
+            Names,
+            ParameterPolicy,
+            has_status_twice(add) || has_status_twice(rem)
+        ),
+        row!(Presence, ObjectMissing, seen.is_none()),
+        row!(Party, AuthorizationError, is_anothers(caller, seen)),
+        row!(
+            Status,
+            StatusProhibits,
+            is_pending(seen) || prohibits_update(rem, seen)
+        ),
+        row!(Eligibility, ParameterPolicy, update.is_amiss(seen)),
+    ])
 }
 
-/// The id of a registrar of the policy.
-pub fn id_of(alloc: Global, policy: &Policy, registrar: RegistrarNo) -> Result<Text, AllocError>
-    ensures { IfOk result (λ id. id ≡ spec.id_of policy.now registrar) }
+fn refusal_of_domain_update(
+    facts: &Facts,
+    caller: RegistrarNo,
+    update: &DomainUpdate,
+) -> Option<Code>
+    ensures { result ≡ first_refusal (spec.domain_update caller update.now facts.now) }
 {
-    match policy.id_of(registrar) {
-        Some(id) => id.clone(),
-        None => Ok(Text::from_string(String::new(alloc))),
-    }
+    let seen = facts.domain_seen(update.name.text());
+    first_refusal(&[
+        row!(
+            Names,
+            ParameterPolicy,
+            update.name.is_refused() || update.add.are_bad() || update.rem.are_bad()
+        ),
+        row!(Presence, ObjectMissing, seen.is_none() || facts.lacks_link),
+        row!(Party, AuthorizationError, is_anothers(caller, seen)),
+        row!(
+            Status,
+            StatusProhibits,
+            is_pending(seen) || prohibits_update(update.rem.statuses.as_slice(), seen)
+        ),
+        row!(Eligibility, ParameterPolicy, update.is_amiss(seen)),
+    ])
+}
+
+fn refusal_of_host_update(
+    facts: &Facts,
+    caller: RegistrarNo,
+    update: &HostUpdate,
+    zone: &Zone,
+) -> Option<Code>
+    ensures { result ≡ first_refusal (spec.host_update zone.now caller update.now facts.now) }
+{
+    let name = update.name.text();
+    let seen = facts.host_seen(name);
+    let renamed = facts.renamed.as_ref();
+    first_refusal(&[
+        row!(Names, ParameterPolicy, update.has_bad_names()),
+        row!(Presence, ObjectExists, facts.new_name_exists()),
+        row!(
+            Presence,
+            ObjectMissing,
+            seen.is_none() || has_no_superordinate(zone, renamed)
+        ),
+        row!(
+            Party,
+            AuthorizationError,
+            host_is_anothers(caller, facts.host(name))
+                || superordinate_is_anothers(zone, caller, renamed)
+        ),
+        row!(
+            Status,
+            StatusProhibits,
+            prohibits_update(update.rem.statuses.as_slice(), seen)
+                || superordinate_is_deleted(zone, renamed)
+        ),
+        row!(Eligibility, ParameterPolicy, update.is_amiss(zone, seen)),
+    ])
 }
 
 impl Command {

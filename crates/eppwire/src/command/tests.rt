@@ -1,3 +1,4 @@
+use super::bounds::answer;
 use super::command_of;
 use basis::list::Seq;
 use basis::text::Text;
@@ -7,7 +8,7 @@ use std::test::Fail;
 use verdict::{Code, Command, Request};
 
 /// The zone `test`, with `nic` reserved.
-fn zone(alloc: Global) -> Result<Zone, AllocError> {
+pub(super) fn zone(alloc: Global) -> Result<Zone, AllocError> {
     let mut reserved = Seq::new(alloc);
     reserved.push(Text::from_str(alloc, "nic")?)?;
     Ok(Zone::new(Text::from_str(alloc, "test")?, reserved))
@@ -24,22 +25,16 @@ fn commands_of_no_row(rt: HostRuntime) -> Result<(), Fail> {
         (r#"{"cmd":"sing"}"#, Code::UnknownCommand),
         (r#"{"cmd":"check"}"#, Code::SyntaxError),
         (r#"{"cmd":"check","obj":1}"#, Code::SyntaxError),
-        (r#"{"cmd":"info","obj":"host","x":1}"#, Code::UnknownCommand),
+        (
+            r#"{"cmd":"delete","obj":"domain","x":1}"#,
+            Code::UnknownCommand,
+        ),
         (r#"{"cmd":"info","obj":"moon"}"#, Code::UnknownCommand),
     ] {
-        let command = command_of(rt.alloc(), payload.as_bytes(), &zone)?;
-        assert!(rt; matches!(&command, Command::Bad { code, .. } if *code == wanted));
+        assert!(rt; answer(rt.alloc(), &zone, payload.as_bytes())? == wanted);
     }
-    let command = command_of(rt.alloc(), b"{\"cmd\":\"\xFF\"}", &zone)?;
-    assert!(rt;
-        matches!(
-            &command,
-            Command::Bad {
-                code: Code::SyntaxError,
-                ..
-            }
-        )
-    );
+    let broken = answer(rt.alloc(), &zone, b"{\"cmd\":\"\xFF\"}")?;
+    assert!(rt; broken == Code::SyntaxError);
     Ok(())
 }
 
@@ -77,8 +72,7 @@ fn faults_in_order(rt: HostRuntime) -> Result<(), Fail> {
         ),
     ] {
         let payload = format!(in alloc; r#"{{"cmd":"create","obj":"domain",{rest}"#)?;
-        let command = command_of(alloc, payload.as_bytes(), &zone)?;
-        assert!(rt; matches!(&command, Command::Bad { code, .. } if *code == wanted));
+        assert!(rt; answer(alloc, &zone, payload.as_bytes())? == wanted);
     }
     Ok(())
 }
@@ -99,6 +93,7 @@ fn tags(rt: HostRuntime) -> Result<(), Fail> {
             Command::Asked { .. } => None,
         };
         assert_eq!(rt; tag.map(Text::as_str), wanted);
+        drop(command);
     }
     Ok(())
 }
@@ -111,6 +106,7 @@ fn check_of_two_names(rt: HostRuntime) -> Result<(), Fail> {
     assert!(rt;
         matches!(&command, Command::Asked { request: Request::CheckDomain { names }, .. } if names.as_slice().len() == 2)
     );
+    drop(command);
     Ok(())
 }
 
@@ -123,6 +119,7 @@ fn create_of_one_year(rt: HostRuntime) -> Result<(), Fail> {
     assert!(rt;
         matches!(&command, Command::Asked { request: Request::CreateDomain(domain), .. } if domain.years == 1 && domain.name.text().as_str() == "foo.test")
     );
+    drop(command);
     Ok(())
 }
 
@@ -134,5 +131,6 @@ fn info_with_secret(rt: HostRuntime) -> Result<(), Fail> {
     assert!(rt;
         matches!(&command, Command::Asked { request: Request::InfoDomain { name, secret: Some(_) }, .. } if name.is_refused())
     );
+    drop(command);
     Ok(())
 }

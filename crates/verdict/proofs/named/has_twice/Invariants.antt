@@ -1,5 +1,5 @@
 use Rattle.std.proofs.Common.{◌≡◌, drop}
-use Rattle.verdict.specs.Rules.{has_twice}
+use Rattle.verdict.specs.Lists.{has_twice}
 use Rattle.verdict.proofs.named.has_twice.Given as goal
 
 -- nothing before this place stands again after it

@@ -1,0 +1,110 @@
+//! What a command on a contact asks for (RFC 5733, 3).
+ghost use Rattle.serde_json.specs.View.{view};
+ghost use Rattle.eppwire.specs.Reading.{Gives};
+ghost use Rattle.eppwire.specs.Contact as spec;
+
+use crate::form::part;
+use crate::reading::{Fault, maybe_text_at, statuses_at, text_at, texts_at};
+use crate::table::{Member, Place};
+use objects::{ObjectKind, Postal};
+use serde_json::Value;
+use std::alloc::Global;
+use verdict::{ContactUpdate, NewContact, Request};
+
+#[tactic(auto, unfolding(crate::specs::Contact::check_contact))]
+pub fn check_contact(alloc: Global, value: &Value) -> Result<Request, Fault>
+    ensures { Gives result (spec.check_contact (view value.now)) }
+{
+    let names = texts_at(alloc, Place::Top, Member::Names, value)?;
+    Ok(Request::CheckContact { names })
+}
+
+#[tactic(auto, unfolding(crate::specs::Contact::info_contact))]
+pub fn info_contact(alloc: Global, value: &Value) -> Result<Request, Fault>
+    ensures { Gives result (spec.info_contact (view value.now)) }
+{
+    let name = text_at(alloc, Place::Top, Member::Name, value)?;
+    let secret = maybe_text_at(alloc, Place::Top, Member::Secret, value)?;
+    Ok(Request::InfoContact { name, secret })
+}
+
+#[tactic(auto, unfolding(crate::specs::Contact::create_contact))]
+pub fn create_contact(alloc: Global, value: &Value) -> Result<Request, Fault>
+    ensures { Gives result (spec.create_contact (view value.now)) }
+{
+    let name = text_at(alloc, Place::Top, Member::Name, value)?;
+    let postal = postal_at(alloc, Place::Postal, value)?;
+    let voice = maybe_text_at(alloc, Place::Top, Member::Voice, value)?;
+    let mail = text_at(alloc, Place::Top, Member::Mail, value)?;
+    let secret = text_at(alloc, Place::Top, Member::Secret, value)?;
+    Ok(Request::CreateContact(NewContact {
+        name,
+        postal,
+        voice,
+        mail,
+        secret,
+    }))
+}
+
+#[tactic(auto, unfolding(crate::specs::Contact::delete_contact))]
+pub fn delete_contact(alloc: Global, value: &Value) -> Result<Request, Fault>
+    ensures { Gives result (spec.delete_contact (view value.now)) }
+{
+    let name = text_at(alloc, Place::Top, Member::Name, value)?;
+    Ok(Request::DeleteContact { name })
+}
+
+#[tactic(auto, unfolding(crate::specs::Contact::update_contact))]
+pub fn update_contact(alloc: Global, value: &Value) -> Result<Request, Fault>
+    ensures { Gives result (spec.update_contact (view value.now)) }
+{
+    let name = text_at(alloc, Place::Top, Member::Name, value)?;
+    let kind = ObjectKind::Contact;
+    let add = statuses_at(alloc, kind, Place::Add, Member::Statuses, value)?;
+    let rem = statuses_at(alloc, kind, Place::Rem, Member::Statuses, value)?;
+    let postal = maybe_postal_at(alloc, Place::ChgPostal, value)?;
+    let voice = maybe_text_at(alloc, Place::Chg, Member::Voice, value)?;
+    let mail = maybe_text_at(alloc, Place::Chg, Member::Mail, value)?;
+    let secret = maybe_text_at(alloc, Place::Chg, Member::Secret, value)?;
+    Ok(Request::UpdateContact(ContactUpdate {
+        name,
+        add,
+        rem,
+        postal,
+        voice,
+        mail,
+        secret,
+    }))
+}
+
+/// The postal address at a place.
+#[tactic(auto, unfolding(crate::specs::Contact::postal_at))]
+fn postal_at(alloc: Global, place: Place, value: &Value) -> Result<Postal, Fault>
+    ensures { Gives result (spec.postal_at place (view value.now)) }
+{
+    let name = text_at(alloc, place, Member::Name, value)?;
+    let org = maybe_text_at(alloc, place, Member::Org, value)?;
+    let street = texts_at(alloc, place, Member::Street, value)?;
+    let city = text_at(alloc, place, Member::City, value)?;
+    let sp = maybe_text_at(alloc, place, Member::Sp, value)?;
+    let pc = maybe_text_at(alloc, place, Member::Pc, value)?;
+    let cc = text_at(alloc, place, Member::Cc, value)?;
+    Ok(Postal {
+        name,
+        org,
+        street,
+        city,
+        sp,
+        pc,
+        cc,
+    })
+}
+
+fn maybe_postal_at(alloc: Global, place: Place, value: &Value) -> Result<Option<Postal>, Fault>
+    ensures { Gives result (spec.maybe_postal_at place (view value.now)) }
+{
+    let Some(_) = part(value, place) else {
+        return Ok(None);
+    };
+    Ok(Some(postal_at(alloc, place, value)?))
+}

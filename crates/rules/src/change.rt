@@ -1,0 +1,32 @@
+//! The changes of a registry.
+
+use basis::registrar::RegistrarNo;
+use basis::text::Text;
+use calendar::Moment;
+use objects::{Contact as ContactRecord, Domain as DomainRecord, Host as HostRecord};
+
+/// One change of the registry. It has a value for the object that a command names, and is an
+/// operation on everything else.
+#[derive(Drop)]
+pub enum Change {
+    /// The contact stands under its name.
+    PutContact(ContactRecord),
+    /// There is no such contact any more.
+    DropContact(Text),
+    /// The domain stands under its name.
+    PutDomain(DomainRecord),
+    /// The host stands under its name.
+    PutHost(HostRecord),
+    /// There is no such host any more.
+    DropHost(Text),
+    /// Every domain that names the first host names the second in its place.
+    Relink(Text, Text),
+    /// The moment was seen.
+    MoveClock(Moment),
+    /// The registrar has an account.
+    OpenAccount(RegistrarNo),
+    /// One command more of the registrar was answered.
+    CountCommand(RegistrarNo),
+    /// The registrar created one object more.
+    TakeSerial(RegistrarNo),
+}

@@ -1,0 +1,176 @@
+//! Updated objects: what an update doesn't give stays.
+ghost use Rattle.std.specs.Prelude.{◌≡◌, IfOk};
+ghost use Rattle.std.specs.Option.{option_copied};
+ghost use Rattle.verdict.specs.Conditions.{or_else};
+ghost use Rattle.rules.specs.Decisions as spec;
+
+use crate::created::{by_of, copied};
+use basis::registrar::RegistrarNo;
+use basis::text::Text;
+use calendar::Moment;
+use names::{GivenName, Zone};
+use objects::{Contact, Domain, Host, Links, Postal, amended_statuses};
+use std::alloc::{AllocError, Global};
+use verdict::{ContactUpdate, DomainUpdate, HostUpdate, amended_names};
+
+/// A copy of the new text, or of the old one where there is none.
+fn or_old(new: &Option<Text>, old: &Text) -> Result<Text, AllocError>
+    ensures { IfOk result (λ text. text ≡ spec.or_old new.now old.now) }
+{
+    match new {
+        Some(new) => new.clone(),
+        None => old.clone(),
+    }
+}
+
+fn or_old_postal(new: &Option<Postal>, old: &Postal) -> Result<Postal, AllocError>
+    ensures { IfOk result (λ postal. postal ≡ spec.or_old new.now old.now) }
+{
+    match new {
+        Some(new) => new.copy(),
+        None => old.copy(),
+    }
+}
+
+fn or_else(new: &Option<Text>, old: &Option<Text>) -> Result<Option<Text>, AllocError>
+    ensures { IfOk result (λ text. text ≡ or_else new.now old.now) }
+{
+    match new {
+        Some(new) => Ok(Some(new.clone()?)),
+        None => copied(old),
+    }
+}
+
+pub(crate) fn updated_contact(
+    alloc: Global,
+    update: &ContactUpdate,
+    contact: &Contact,
+    moment: Moment,
+) -> Result<Contact, AllocError>
+    ensures { IfOk result (λ updated. updated ≡ spec.updated_contact moment update.now contact.now) }
+{
+    let statuses = amended_statuses(
+        alloc,
+        contact.statuses.as_slice(),
+        update.rem.as_slice(),
+        update.add.as_slice(),
+    )?;
+    Ok(Contact {
+        name: contact.name.clone()?,
+        roid: contact.roid,
+        sponsor: contact.sponsor,
+        created: contact.created,
+        transferred: contact.transferred,
+        updated: Some(moment),
+        statuses,
+        secret: or_old(&update.secret, &contact.secret)?,
+        postal: or_old_postal(&update.postal, &contact.postal)?,
+        voice: or_else(&update.voice, &contact.voice)?,
+        mail: or_old(&update.mail, &contact.mail)?,
+        transfer: contact.transfer,
+    })
+}
+
+pub(crate) fn updated_domain(
+    alloc: Global,
+    update: &DomainUpdate,
+    domain: &Domain,
+    moment: Moment,
+) -> Result<Domain, AllocError>
+    ensures { IfOk result (λ updated. updated ≡ spec.updated_domain moment update.now domain.now) }
+{
+    let statuses = amended_statuses(
+        alloc,
+        domain.statuses.as_slice(),
+        update.rem.statuses.as_slice(),
+        update.add.statuses.as_slice(),
+    )?;
+    Ok(Domain {
+        name: domain.name.clone()?,
+        roid: domain.roid,
+        sponsor: domain.sponsor,
+        created: domain.created,
+        years: domain.years,
+        transferred: domain.transferred,
+        updated: Some(moment),
+        statuses,
+        secret: or_old(&update.secret, &domain.secret)?,
+        links: updated_links(alloc, update, &domain.links)?,
+        transfer: domain.transfer,
+        deletion: domain.deletion,
+    })
+}
+
+fn updated_links(alloc: Global, update: &DomainUpdate, links: &Links) -> Result<Links, AllocError>
+    ensures { IfOk result (λ updated. updated ≡ spec.updated_links update.now links.now) }
+{
+    let (add, rem) = (&update.add, &update.rem);
+    Ok(Links {
+        registrant: or_old(&update.registrant, &links.registrant)?,
+        admin: amended_names(
+            alloc,
+            links.admin.as_slice(),
+            rem.admin.as_slice(),
+            add.admin.as_slice(),
+        )?,
+        tech: amended_names(
+            alloc,
+            links.tech.as_slice(),
+            rem.tech.as_slice(),
+            add.tech.as_slice(),
+        )?,
+        hosts: amended_names(
+            alloc,
+            links.hosts.as_slice(),
+            rem.hosts.as_slice(),
+            add.hosts.as_slice(),
+        )?,
+    })
+}
+
+/// Who gave a host its name.
+fn updated_by(
+    zone: &Zone,
+    caller: RegistrarNo,
+    new_name: Option<&GivenName>,
+    by: Option<RegistrarNo>,
+) -> Option<RegistrarNo>
+    ensures { result ≡ spec.updated_by zone.now caller (option_copied new_name.entry) by }
+{
+    match new_name {
+        None => by,
+        Some(name) => by_of(zone, caller, name.text()),
+    }
+}
+
+pub(crate) fn updated_host(
+    alloc: Global,
+    caller: RegistrarNo,
+    update: &HostUpdate,
+    host: &Host,
+    moment: Moment,
+    zone: &Zone,
+) -> Result<Host, AllocError>
+    ensures { IfOk result (λ updated. updated ≡ spec.updated_host zone.now caller moment update.now host.now) }
+{
+    let statuses = amended_statuses(
+        alloc,
+        host.statuses.as_slice(),
+        update.rem.statuses.as_slice(),
+        update.add.statuses.as_slice(),
+    )?;
+    Ok(Host {
+        name: update.final_name().clone()?,
+        roid: host.roid,
+        by: updated_by(zone, caller, update.new_name.as_ref(), host.by),
+        created: host.created,
+        updated: Some(moment),
+        statuses,
+        addresses: amended_names(
+            alloc,
+            host.addresses.as_slice(),
+            update.rem.addresses.as_slice(),
+            update.add.addresses.as_slice(),
+        )?,
+    })
+}

@@ -1,0 +1,202 @@
+-- To take an edit back is to go back, and the edits of a change make it.
+use Rattle.std.proofs.Common.{◌≡◌, ℕ, ◌+◌, ◌-◌, ◌<◌, length, take, get_or, arith, Bool, true, false, cond, not, ◌&&◌, T, map, filter, List, [], ◌∷◌, ◌++◌, Option, Some, None, Result, Ok, Err, OnOk, OnErr, refl, sym, ap, ◌∙◌}
+use Rattle.std.specs.Prelude.{option_map, slice_get}
+use Rattle.std.specs.Ordering.{is_lt}
+use Rattle.std.specs.Str.{bytes_eq}
+use Rattle.std.proofs.Math.Seq.{take-length}
+use Rattle.std.proofs.lemmas.List.{take_more}
+use Rattle.std.proofs.lemmas.Option.{slice_get_within, slice_get-get_or}
+use Rattle.std.specs.declared.cmp.Ordering.{Ordering}
+use Rattle.std.specs.declared.cmp.Ordering.TheVariants.{Less, Equal, Greater}
+use Rattle.std.specs.Cmp.{IsTotalOrder, Equal-is, nat_cmp_total}
+use Rattle.std.specs.Cmp.Lexicographic.{slice_cmp, nat_list_cmp_total}
+use Rattle.std.specs.FinMap.{FinMap, IsAntisymmetric, entries, entries_sorted, find, get, get-entries, insert, is_sorted, get-insert, get-remove, same_map, nat_cmp-IsAntisymmetric}
+use Rattle.std.specs.FinMap.Entries.{below_all}
+use Rattle.std.specs.Ordering.{eq_by_cmp, nat_cmp}
+use Rattle.basis.specs.Bag.{add, precedes}
+use Rattle.basis.specs.Maps.{map_values}
+use Rattle.basis.proofs.MapLemmas.{names_apart, get-map_values}
+use Rattle.objects.specs.declared.domain.Domain.{Domain}
+use Rattle.objects.specs.Links.{names_host}
+use Rattle.rules.specs.Changes.{relinked}
+use Rattle.rules.specs.declared.change.Change.{Change}
+use Rattle.rules.specs.declared.change.Change.TheVariants.{MoveClock, OpenAccount, PutContact, DropContact, PutDomain, PutHost, DropHost, Relink, CountCommand, TakeSerial}
+use Rattle.store.specs.declared.edit.Edit.{Edit}
+use Rattle.store.specs.declared.edit.Edit.TheVariants as edit
+use Rattle.store.specs.Book.{Stored, with_changes}
+use Rattle.store.specs.Edits.{put, edited, edited_all, edits_of, inverse, undone_all}
+
+-- ---- entries in order
+
+and-left : (a b : Bool) → T (a && b) → T a
+and-left true b h = tt
+and-left false b h = elim h [ ]
+
+and-right : (a b : Bool) → T (a && b) → T b
+and-right true b h = h
+and-right false b h = elim h [ ]
+
+-- a key below all others isn't among them
+find-below : {X : Type 0} (R : List ℕ → List ℕ → Ordering) (k : List ℕ) (es : List (List ℕ × X)) → T (below_all R k es) → find R k es ≡ None
+find-below R k [] h = refl
+find-below {X} R k (e ∷ es) h = by (R k e.0) refl (and-left _ _ h) (find-below R k es (and-right _ _ h))
+  where
+    by : (r : Ordering) → R k e.0 ≡ r → T (is_lt r) → find R k es ≡ None → find R k (e ∷ es) ≡ None
+    by Less f t more = rw f more
+    by Equal f t more = absurd t
+    by Greater f t more = absurd t
+
+-- ---- maps
+
+module _ {K X : Type 0} (R : K → K → Ordering) (o : IsTotalOrder R) (apart : IsAntisymmetric R) where
+  get-put : (m : FinMap R X) (k : K) (value : Option X) (q : K) → get (put m k value) q ≡ cond (eq_by_cmp R q k) value (get m q)
+  get-put m k None q = get-remove o m k q
+  get-put m k (Some x) q = get-insert o m k x q
+
+  as-before : (m : FinMap R X) (k q : K) (value : Option X) (b : Bool) → eq_by_cmp R q k ≡ b → cond b (get m k) (cond b value (get m q)) ≡ get m q
+  as-before m k q value true e = ap (get m) (sym (apart q k ((Equal-is (R q k)).0 e)))
+  as-before m k q value false e = refl
+
+  put-back : (m : FinMap R X) (k : K) (value : Option X) → put (put m k value) k (get m k) ≡ m
+  put-back m k value = same_map o apart _ _ (λ q.
+      get-put (put m k value) k (get m k) q ∙ ap (cond (eq_by_cmp R q k) (get m k)) (get-put m k value q) ∙ as-before m k q value (eq_by_cmp R q k) refl)
+
+  still-before : (m : FinMap R X) (k q : K) (b : Bool) → eq_by_cmp R q k ≡ b → cond b (get m k) (get m q) ≡ get m q
+  still-before m k q true e = ap (get m) (sym (apart q k ((Equal-is (R q k)).0 e)))
+  still-before m k q false e = refl
+
+  put-same : (m : FinMap R X) (k : K) → put m k (get m k) ≡ m
+  put-same m k = same_map o apart _ _ (λ q. get-put m k (get m k) q ∙ still-before m k q (eq_by_cmp R q k) refl)
+
+-- ---- one edit
+
+-- what takes an edit back goes back from where that leads
+edited-back : (e : Edit) (s : Stored) → edited (inverse e s) (edited e s) ≡ s
+edited-back (edit.Clock t) s = refl
+edited-back (edit.Account r value) s = ap (λ m. record s { registry = record s.registry { accounts = m } }) (put-back nat_cmp nat_cmp_total nat_cmp-IsAntisymmetric s.registry.accounts r value)
+edited-back (edit.Contact name value) s = ap (λ m. record s { registry = record s.registry { contacts = m } }) (put-back (slice_cmp nat_cmp) nat_list_cmp_total names_apart s.registry.contacts name value)
+edited-back (edit.Domain name value) s = ap (λ m. record s { registry = record s.registry { domains = m } }) (put-back (slice_cmp nat_cmp) nat_list_cmp_total names_apart s.registry.domains name value)
+edited-back (edit.Host name value) s = ap (λ m. record s { registry = record s.registry { hosts = m } }) (put-back (slice_cmp nat_cmp) nat_list_cmp_total names_apart s.registry.hosts name value)
+edited-back (edit.Terms value) s = refl
+
+-- and leaves what wasn't edited
+edited-same : (e : Edit) (s : Stored) → edited (inverse e s) s ≡ s
+edited-same (edit.Clock t) s = refl
+edited-same (edit.Account r value) s = ap (λ m. record s { registry = record s.registry { accounts = m } }) (put-same nat_cmp nat_cmp_total nat_cmp-IsAntisymmetric s.registry.accounts r)
+edited-same (edit.Contact name value) s = ap (λ m. record s { registry = record s.registry { contacts = m } }) (put-same (slice_cmp nat_cmp) nat_list_cmp_total names_apart s.registry.contacts name)
+edited-same (edit.Domain name value) s = ap (λ m. record s { registry = record s.registry { domains = m } }) (put-same (slice_cmp nat_cmp) nat_list_cmp_total names_apart s.registry.domains name)
+edited-same (edit.Host name value) s = ap (λ m. record s { registry = record s.registry { hosts = m } }) (put-same (slice_cmp nat_cmp) nat_list_cmp_total names_apart s.registry.hosts name)
+edited-same (edit.Terms value) s = refl
+
+-- ---- all edits
+
+-- the latest is undone first
+pub undone_all-push : (us : List Edit) (u : Edit) (s : Stored) → undone_all (us ++ u ∷ []) s ≡ undone_all us (edited u s)
+undone_all-push [] u s = refl
+undone_all-push (v ∷ us) u s = ap (edited v) (undone_all-push us u s)
+
+-- an edit that was made or not goes back to where it began
+tried : {A E : Type 0} (r : Result A E) (e : Edit) (s t : Stored) → OnOk r (t ≡ edited e s) → OnErr r (t ≡ s) → edited (inverse e s) t ≡ s
+tried (Ok a) e s t made kept = ap (edited (inverse e s)) made ∙ edited-back e s
+tried (Err f) e s t made kept = ap (edited (inverse e s)) kept ∙ edited-same e s
+
+pub undone_all-tried : {A E : Type 0} (r : Result A E) (us : List Edit) (e : Edit) (s t : Stored) → OnOk r (t ≡ edited e s) → OnErr r (t ≡ s)
+    → undone_all (us ++ inverse e s ∷ []) t ≡ undone_all us s
+undone_all-tried r us e s t made kept = undone_all-push us (inverse e s) t ∙ ap (undone_all us) (tried r e s t made kept)
+
+-- ---- the latest edit
+
+-- a list is what stands before its last item, and that
+front-last : {A : Type 0} (xs : List A) (x : A) → slice_get xs (length xs - 1) ≡ Some x → xs ≡ take (length xs - 1) xs ++ x ∷ []
+front-last {A} xs x e =
+    let within : length xs - 1 < length xs = slice_get_within xs (length xs - 1) x e in
+    let read : Some (get_or xs (length xs - 1) x) ≡ Some x = sym (slice_get-get_or xs (length xs - 1) x within) ∙ e in
+    let is : get_or xs (length xs - 1) x ≡ x = cc in
+    let whole : length xs - 1 + 1 ≡ length xs = omega arith in
+    sym (take-length xs) ∙ ap (λ n. take n xs) (sym whole) ∙ take_more xs (length xs - 1) x within ∙ ap (λ (y : A). take (length xs - 1) xs ++ y ∷ []) is
+
+pub undone_all-latest : (us : List Edit) (u : Edit) (s t : Stored) → slice_get us (length us - 1) ≡ Some u → t ≡ edited u s → undone_all (take (length us - 1) us) t ≡ undone_all us s
+undone_all-latest us u s t last e =
+    ap (undone_all (take (length us - 1) us)) e ∙ sym (undone_all-push (take (length us - 1) us) u s) ∙ ap (λ (vs : List Edit). undone_all vs s) (sym (front-last us u last))
+
+-- ---- the edits of a change make it
+
+-- edits of those domains that pass a test
+edits_where : (Domain → Bool) → (Domain → Domain) → List (List ℕ × Domain) → List Edit
+edits_where test f es = map (λ (e : List ℕ × Domain). edit.Domain e.0 (Some (f e.1))) (filter (λ (e : List ℕ × Domain). test e.1) es)
+
+-- the domains after them
+domains_after : (Domain → Bool) → (Domain → Domain) → List (List ℕ × Domain) → FinMap (slice_cmp nat_cmp) Domain → FinMap (slice_cmp nat_cmp) Domain
+domains_after test f [] m = m
+domains_after test f (e ∷ es) m = domains_after test f es (cond (test e.1) (insert m e.0 (f e.1)) m)
+
+with_domains : Stored → FinMap (slice_cmp nat_cmp) Domain → Stored
+with_domains s m = record s { registry = record s.registry { domains = m } }
+
+edited-where : (test : Domain → Bool) (f : Domain → Domain) (es : List (List ℕ × Domain)) (s : Stored) → edited_all (edits_where test f es) s ≡ with_domains s (domains_after test f es s.registry.domains)
+unfolding edits_where domains_after with_domains
+edited-where test f [] s = refl
+edited-where test f (e ∷ es) s = by (test e.1) refl (edited-where test f es)
+  where
+    by : (b : Bool) → test e.1 ≡ b → ((s : Stored) → edited_all (edits_where test f es) s ≡ with_domains s (domains_after test f es s.registry.domains))
+      → edited_all (edits_where test f (e ∷ es)) s ≡ with_domains s (domains_after test f (e ∷ es) s.registry.domains)
+    by true t more = rw t (more (edited (edit.Domain e.0 (Some (f e.1))) s))
+    by false t more = rw t (more s)
+
+-- what a name has after them
+after : (Domain → Bool) → (Domain → Domain) → Option Domain → Option Domain → Option Domain
+after test f (Some d) now = cond (test d) (Some (f d)) now
+after test f None now = now
+
+get-after : (test : Domain → Bool) (f : Domain → Domain) (es : List (List ℕ × Domain)) → T (is_sorted (slice_cmp nat_cmp) es) → (m : FinMap (slice_cmp nat_cmp) Domain) (q : List ℕ)
+    → get (domains_after test f es m) q ≡ after test f (find (slice_cmp nat_cmp) q es) (get m q)
+unfolding domains_after after
+get-after test f [] h m q = refl
+get-after test f (e ∷ es) h m q = by (test e.1) refl (eq_by_cmp (slice_cmp nat_cmp) q e.0) refl (λ n. get-after test f es (and-right _ _ h) n q)
+  where
+    gone : eq_by_cmp (slice_cmp nat_cmp) q e.0 ≡ true → find (slice_cmp nat_cmp) q es ≡ None
+    gone t = ap (λ (k : List ℕ). find (slice_cmp nat_cmp) k es) (names_apart q e.0 ((Equal-is (slice_cmp nat_cmp q e.0)).0 t)) ∙ find-below (slice_cmp nat_cmp) e.0 es (and-left _ _ h)
+    by : (b : Bool) → test e.1 ≡ b → (c : Bool) → eq_by_cmp (slice_cmp nat_cmp) q e.0 ≡ c
+      → ((n : FinMap (slice_cmp nat_cmp) Domain) → get (domains_after test f es n) q ≡ after test f (find (slice_cmp nat_cmp) q es) (get n q))
+      → get (domains_after test f (e ∷ es) m) q ≡ after test f (find (slice_cmp nat_cmp) q (e ∷ es)) (get m q)
+    by true u true t more = rw (u, t) (more _ ∙ ap (λ (o : Option Domain). after test f o (get (insert m e.0 (f e.1)) q)) (gone t) ∙ get-insert nat_list_cmp_total m e.0 (f e.1) q ∙ ap (λ (c : Bool). cond c (Some (f e.1)) (get m q)) t ∙ sym (ap (λ (b : Bool). cond b (Some (f e.1)) (get m q)) u))
+    by true u false t more = rw (u, t) (more _ ∙ ap (after test f (find (slice_cmp nat_cmp) q es)) (get-insert nat_list_cmp_total m e.0 (f e.1) q ∙ ap (λ (c : Bool). cond c (Some (f e.1)) (get m q)) t))
+    by false u true t more = rw (u, t) (more _ ∙ ap (λ (o : Option Domain). after test f o (get m q)) (gone t) ∙ sym (ap (λ (b : Bool). cond b (Some (f e.1)) (get m q)) u))
+    by false u false t more = rw (u, t) (more _)
+
+after-same : (test : Domain → Bool) (f : Domain → Domain) → ((d : Domain) → test d ≡ false → f d ≡ d) → (o : Option Domain) → after test f o o ≡ option_map f o
+unfolding after
+after-same test f still None = refl
+after-same test f still (Some d) = by (test d) refl
+  where
+    by : (b : Bool) → test d ≡ b → cond b (Some (f d)) (Some d) ≡ Some (f d)
+    by true t = refl
+    by false t = ap (λ (d : Domain). Some d) (sym (still d t))
+
+mapped : (test : Domain → Bool) (f : Domain → Domain) → ((d : Domain) → test d ≡ false → f d ≡ d) → (m : FinMap (slice_cmp nat_cmp) Domain) → domains_after test f (entries m) m ≡ map_values (λ name. f) m
+mapped test f still m = same_map nat_list_cmp_total names_apart _ _ (λ q.
+    get-after test f (entries m) (entries_sorted m) m q
+    ∙ ap (λ (o : Option Domain). after test f o (get m q)) (sym (get-entries m q)) ∙ after-same test f still (get m q)
+    ∙ sym (get-map_values (slice_cmp nat_cmp) nat_list_cmp_total names_apart (λ name. f) m q))
+
+not-linked : (old new : List ℕ) (d : Domain) → names_host old d.links ≡ false → relinked old new d ≡ d
+not-linked old new d e = ap (λ (b : Bool). record d { links = record d.links { hosts = cond b (add (precedes (slice_cmp nat_cmp)) new (filter (λ host. not (bytes_eq host old)) d.links.hosts)) d.links.hosts } }) e
+
+pub made : (c : Change) (s : Stored) → edited_all (edits_of c s.registry) s ≡ with_changes (c ∷ []) s
+unfolding edits_where with_domains
+made (MoveClock t) s = refl
+made (OpenAccount r) s = refl
+made (PutContact c) s = refl
+made (DropContact name) s = refl
+made (PutDomain d) s = refl
+made (PutHost h) s = refl
+made (DropHost name) s = refl
+made (Relink old new) s =
+    edited-where (λ (d : Domain). names_host old d.links) (relinked old new) (entries s.registry.domains) s
+    ∙ ap (with_domains s) (mapped (λ (d : Domain). names_host old d.links) (relinked old new) (not-linked old new) s.registry.domains)
+made (CountCommand r) s = refl
+made (TakeSerial r) s = refl
+
+pub made-by : {A E : Type 0} (r : Result A E) (edits : List Edit) (c : Change) (s t : Stored) → edits ≡ edits_of c s.registry → OnOk r (t ≡ edited_all edits s) → OnOk r (t ≡ with_changes (c ∷ []) s)
+made-by (Ok a) edits c s t e done = done ∙ ap (λ (es : List Edit). edited_all es s) e ∙ made c s
+made-by (Err f) edits c s t e done = tt

@@ -1,0 +1,8 @@
+use Rattle.std.proofs.Common.{◌≡◌, map, take}
+use Rattle.names.specs.GivenName.{name_of}
+use Rattle.store.specs.Plain.{held}
+use Rattle.verdict.specs.Facts.{domain_facts, finds}
+use Rattle.store.proofs.content.Content.domains_for.Given as goal
+
+abbrev pub invariant-loop-name : goal.invariant-loop-name
+invariant-loop-name l = l.domains.items ≡ map (λ name. domain_facts (finds l.caller l.command (held l.self).registry) l.command (name_of name)) (take l.name-index l.name-items)

@@ -1,0 +1,137 @@
+//! Values at keys.
+ghost use Rattle.std.specs.Prelude.{◌≡◌, IfOk, OnErr, OnOk};
+ghost use Rattle.std.specs.Option.{option_copied};
+ghost use Rattle.store.specs.Edits.{put};
+
+use accounts::Account as AccountRecord;
+use basis::maps::NameMap;
+use basis::registrar::RegistrarNo;
+use basis::text::Text;
+use calendar::Moment;
+use objects::{Contact as ContactRecord, Domain as DomainRecord, Host as HostRecord};
+use policy::Terms as BookTerms;
+use std::alloc::AllocError;
+
+/// What a key is to have: a value, or none.
+#[derive(Drop)]
+pub(crate) enum Edit {
+    Clock(Moment),
+    Account(RegistrarNo, Option<AccountRecord>),
+    Contact(Text, Option<ContactRecord>),
+    Domain(Text, Option<DomainRecord>),
+    Host(Text, Option<HostRecord>),
+    Terms(Option<BookTerms>),
+}
+
+impl Edit {
+    /// The same in memory of its own.
+    pub fn copy(&self) -> Result<Edit, AllocError>
+        ensures { IfOk result (λ copy. copy ≡ self.now) }
+    {
+        match self {
+            Edit::Clock(moment) => Ok(Edit::Clock(*moment)),
+            Edit::Account(registrar, value) => {
+                Ok(Edit::Account(*registrar, copy_account(value.as_ref())?))
+            }
+            Edit::Contact(name, value) => {
+                let name = name.clone()?;
+                Ok(Edit::Contact(name, copy_contact(value.as_ref())?))
+            }
+            Edit::Domain(name, value) => {
+                let name = name.clone()?;
+                Ok(Edit::Domain(name, copy_domain(value.as_ref())?))
+            }
+            Edit::Host(name, value) => {
+                let name = name.clone()?;
+                Ok(Edit::Host(name, copy_host(value.as_ref())?))
+            }
+            Edit::Terms(terms) => Ok(Edit::Terms(copy_terms(terms)?)),
+        }
+    }
+}
+
+/// Puts a value under a name, or takes away what stands there.
+pub(crate) fn put_named<V: Drop>(
+    map: &mut NameMap<V>,
+    name: Text,
+    value: Option<V>,
+) -> Result<(), AllocError>
+    ensures ok { OnOk result (map.new ≡ put map.old name value) }
+    ensures err { OnErr result (map.new ≡ map.old) }
+{
+    match value {
+        None => {
+            map.remove(&name);
+            Ok(())
+        }
+        Some(value) => map.insert(name, value),
+    }
+}
+
+pub(crate) fn copy_account(
+    account: Option<&AccountRecord>,
+) -> Result<Option<AccountRecord>, AllocError>
+    ensures { IfOk result (λ copy. copy ≡ option_copied account.entry) }
+{
+    match account {
+        None => Ok(None),
+        Some(account) => Ok(Some(account_clone(account)?)),
+    }
+}
+
+fn account_clone(account: &AccountRecord) -> Result<AccountRecord, AllocError>
+    ensures { IfOk result (λ copy. copy ≡ account.now) }
+{
+    account.clone()
+}
+
+pub(crate) fn copy_contact(
+    contact: Option<&ContactRecord>,
+) -> Result<Option<ContactRecord>, AllocError>
+    ensures { IfOk result (λ copy. copy ≡ option_copied contact.entry) }
+{
+    match contact {
+        None => Ok(None),
+        Some(contact) => Ok(Some(contact.copy()?)),
+    }
+}
+
+pub(crate) fn copy_domain(domain: Option<&DomainRecord>) -> Result<Option<DomainRecord>, AllocError>
+    ensures { IfOk result (λ copy. copy ≡ option_copied domain.entry) }
+{
+    match domain {
+        None => Ok(None),
+        Some(domain) => Ok(Some(domain_clone(domain)?)),
+    }
+}
+
+pub(crate) fn domain_clone(domain: &DomainRecord) -> Result<DomainRecord, AllocError>
+    ensures { IfOk result (λ copy. copy ≡ domain.now) }
+{
+    domain.clone()
+}
+
+pub(crate) fn copy_host(host: Option<&HostRecord>) -> Result<Option<HostRecord>, AllocError>
+    ensures { IfOk result (λ copy. copy ≡ option_copied host.entry) }
+{
+    match host {
+        None => Ok(None),
+        Some(host) => Ok(Some(host_clone(host)?)),
+    }
+}
+
+fn host_clone(host: &HostRecord) -> Result<HostRecord, AllocError>
+    ensures { IfOk result (λ copy. copy ≡ host.now) }
+{
+    host.clone()
+}
+
+/// A copy of the terms, if there are any.
+pub(crate) fn copy_terms(terms: &Option<BookTerms>) -> Result<Option<BookTerms>, AllocError>
+    ensures { IfOk result (λ copy. copy ≡ terms.now) }
+{
+    match terms {
+        None => Ok(None),
+        Some(terms) => Ok(Some(terms.clone()?)),
+    }
+}

@@ -1,0 +1,201 @@
+-- The conditions on which commands are refused.
+use Rattle.std.specs.Prelude.{ℕ, Bool, false, not, ◌&&◌, ◌||◌, ◌==◌, ◌+◌, List, [], ◌∷◌, Option, Some, None, is_some, is_none, option_map, length}
+use Rattle.std.specs.List.{list_any}
+use Rattle.names.specs.declared.given.GivenName.{GivenName}
+use Rattle.names.specs.GivenName.{name_of, is_refused}
+use Rattle.names.specs.Zone.{ZoneRules, superordinate_of}
+use Rattle.objects.specs.declared.contact.Contact.{Contact}
+use Rattle.objects.specs.declared.contact.ContactFace.{ContactFace}
+use Rattle.objects.specs.declared.domain.Domain.{Domain}
+use Rattle.objects.specs.declared.domain.DomainFace.{DomainFace}
+use Rattle.objects.specs.declared.host.Host.{Host}
+use Rattle.objects.specs.declared.sight.Seen.{Seen}
+use Rattle.objects.specs.declared.sight.Seen.TheVariants.{Full, Named, Public}
+use Rattle.objects.specs.declared.status.Status.{Status}
+use Rattle.objects.specs.declared.status.Status.TheVariants.{ClientDeleteProhibited, ClientUpdateProhibited, PendingDelete, PendingTransfer, ServerDeleteProhibited, ServerUpdateProhibited}
+use Rattle.objects.specs.Contacts.{contact_shows}
+use Rattle.objects.specs.Domains.{shows}
+use Rattle.objects.specs.Hosts.{host_shows}
+use Rattle.objects.specs.Sight.{is_right}
+use Rattle.objects.specs.Statuses.{has_status}
+use Rattle.objects.specs.StatusTexts.{status_text}
+use Rattle.verdict.specs.declared.command.ContactUpdate.{ContactUpdate}
+use Rattle.verdict.specs.declared.command.DomainLists.{DomainLists}
+use Rattle.verdict.specs.declared.command.DomainUpdate.{DomainUpdate}
+use Rattle.verdict.specs.declared.command.HostLists.{HostLists}
+use Rattle.verdict.specs.declared.command.HostUpdate.{HostUpdate}
+use Rattle.verdict.specs.declared.command.NewDomain.{NewDomain}
+use Rattle.verdict.specs.declared.facts.HostFacts.{HostFacts}
+use Rattle.verdict.specs.declared.facts.Superordinate.{Superordinate}
+use Rattle.verdict.specs.Lists.{has_twice, is_amiss, itself, kept}
+
+abbrev pub holds_of : {A : Type 0} → (A → Bool) → Option A → Bool
+holds_of test None = false
+holds_of test (Some x) = test x
+
+-- ---- names and lists
+
+abbrev pub any_refused : List GivenName → Bool
+any_refused names = list_any is_refused names
+
+-- the zone refuses the domain or one of the hosts, or a list names one thing twice
+abbrev pub has_bad_names : NewDomain → Bool
+has_bad_names new =
+    is_refused new.name || any_refused new.hosts
+    || has_twice name_of new.hosts || has_twice itself new.admin || has_twice itself new.tech
+
+abbrev pub has_bad_lists : DomainLists → Bool
+has_bad_lists lists =
+    any_refused lists.hosts || has_twice name_of lists.hosts || has_twice itself lists.admin
+    || has_twice itself lists.tech || has_twice status_text lists.statuses
+
+abbrev pub has_bad_addresses : HostLists → Bool
+has_bad_addresses lists = has_twice itself lists.addresses || has_twice status_text lists.statuses
+
+-- the zone refuses a name of the host, or a list names one thing twice
+abbrev pub renames_badly : HostUpdate → Bool
+renames_badly update = is_refused update.name || (holds_of is_refused update.new_name || (has_bad_addresses update.add || has_bad_addresses update.rem))
+
+-- ---- who sponsors what is seen
+
+abbrev pub contact_sponsor : Contact → ℕ
+contact_sponsor c = c.sponsor
+
+abbrev pub contact_secret : Contact → List ℕ
+contact_secret c = c.secret
+
+abbrev pub domain_sponsor : Domain → ℕ
+domain_sponsor d = d.sponsor
+
+abbrev pub domain_secret : Domain → List ℕ
+domain_secret d = d.secret
+
+-- the registrar sponsors what it sees
+abbrev pub is_own : {O F : Type 0} → (O → ℕ) → ℕ → Seen O F → Bool
+is_own sponsor r (Full o) = sponsor o == r
+is_own sponsor r (Named face t) = false
+is_own sponsor r (Public face) = false
+
+-- another sponsors it
+abbrev pub is_anothers : {O F : Type 0} → (O → ℕ) → ℕ → Option (Seen O F) → Bool
+is_anothers sponsor r seen = holds_of (λ it. not (is_own sponsor r it)) seen
+
+-- what is seen opens with the secret: who presents the right one sees all
+abbrev pub is_opened : {O F : Type 0} → (O → List ℕ) → Option (List ℕ) → Seen O F → Bool
+is_opened secret_of secret (Full o) = is_right secret (secret_of o)
+is_opened secret_of secret (Named face t) = false
+is_opened secret_of secret (Public face) = false
+
+-- a secret is presented by another than the sponsor, and isn't right
+abbrev pub presents_wrong : {O F : Type 0} → (O → ℕ) → (O → List ℕ) → ℕ → Option (List ℕ) → Option (Seen O F) → Bool
+presents_wrong sponsor secret_of r None seen = false
+presents_wrong sponsor secret_of r (Some secret) None = false
+presents_wrong sponsor secret_of r (Some secret) (Some seen) = not (is_own sponsor r seen) && not (is_opened secret_of (Some secret) seen)
+
+abbrev pub or_else : {A : Type 0} → Option A → Option A → Option A
+or_else (Some x) other = Some x
+or_else None other = other
+
+-- the sponsor of a host: of one in the zone, its superordinate domain's
+abbrev pub host_sponsor : HostFacts → Host → Option ℕ
+host_sponsor known h = or_else h.by (option_map (λ above. above.sponsor) known.superordinate)
+
+abbrev pub is_registrar : ℕ → Option ℕ → Bool
+is_registrar r sponsor = holds_of (λ it. it == r) sponsor
+
+-- another sponsors the host
+abbrev pub host_is_anothers : ℕ → Option HostFacts → Bool
+host_is_anothers r known = holds_of (λ it. holds_of (λ h. not (is_registrar r (host_sponsor it h))) it.host) known
+
+-- ---- the superordinate domain of a host that is to have a name (RFC 5732, 3.2.1)
+
+-- the name lies in the zone
+abbrev pub is_inside : ZoneRules → List ℕ → Bool
+is_inside zone name = is_some (superordinate_of zone name)
+
+abbrev pub has_no_superordinate : ZoneRules → HostFacts → Bool
+has_no_superordinate zone known = is_inside zone known.name && is_none known.superordinate
+
+abbrev pub superordinate_is_anothers : ZoneRules → ℕ → HostFacts → Bool
+superordinate_is_anothers zone r known = is_inside zone known.name && holds_of (λ above. not (above.sponsor == r)) known.superordinate
+
+abbrev pub superordinate_is_deleted : ZoneRules → HostFacts → Bool
+superordinate_is_deleted zone known = is_inside zone known.name && holds_of (λ above. above.is_deleted) known.superordinate
+
+-- a host outside the zone has no addresses here
+abbrev pub has_stray_addresses : ZoneRules → List ℕ → List (List ℕ) → Bool
+has_stray_addresses zone name addresses = not (is_inside zone name) && not (length addresses == 0)
+
+-- ---- statuses that are shown
+
+unfoldable pub contact_seen_shows : Seen Contact ContactFace → Status → Bool
+contact_seen_shows (Full c) status = contact_shows false c status
+contact_seen_shows (Named face t) status = has_status face.statuses status
+contact_seen_shows (Public face) status = has_status face.statuses status
+
+unfoldable pub domain_seen_shows : Seen Domain DomainFace → Status → Bool
+domain_seen_shows (Full d) status = shows d status
+domain_seen_shows (Named face t) status = has_status face.statuses status
+domain_seen_shows (Public face) status = has_status face.statuses status
+
+unfoldable pub host_seen_shows : Host → Status → Bool
+host_seen_shows h status = host_shows false h status
+
+-- it shows one of these
+abbrev pub shows_any : {S : Type 0} → (S → Status → Bool) → List Status → Option S → Bool
+shows_any shown statuses seen = holds_of (λ it. list_any (shown it) statuses) seen
+
+-- what prohibits that an object goes
+abbrev pub delete_prohibitions : List Status
+delete_prohibitions = PendingTransfer ∷ ClientDeleteProhibited ∷ ServerDeleteProhibited ∷ []
+
+abbrev pub prohibits_delete : {S : Type 0} → (S → Status → Bool) → Option S → Bool
+prohibits_delete shown seen = shows_any shown delete_prohibitions seen
+
+-- what prohibits that an object changes, beside its sponsor's and the operator's word
+abbrev pub is_pending : {S : Type 0} → (S → Status → Bool) → Option S → Bool
+is_pending shown seen = shows_any shown (PendingDelete ∷ PendingTransfer ∷ []) seen
+
+-- An update is prohibited, but the sponsor may take its own prohibition away with it (RFC 5731,
+-- 3.2.5).
+abbrev pub prohibits_update : {S : Type 0} → (S → Status → Bool) → List Status → Option S → Bool
+prohibits_update shown removed seen =
+    holds_of (λ it. shown it ServerUpdateProhibited || (shown it ClientUpdateProhibited && not (has_status removed ClientUpdateProhibited))) seen
+
+-- ---- what an update adds and removes
+
+-- a status is added that is set, or removed that isn't
+abbrev pub statuses_amiss : List Status → List Status → List Status → Bool
+statuses_amiss old removed added = list_any (has_status old) added || list_any (λ status. not (has_status old status)) removed
+
+abbrev pub contact_amiss : ContactUpdate → Seen Contact ContactFace → Bool
+contact_amiss update (Full c) = statuses_amiss c.statuses update.rem update.add
+contact_amiss update (Named face t) = false
+contact_amiss update (Public face) = false
+
+abbrev pub lists_amiss : DomainUpdate → Domain → Bool
+lists_amiss update d =
+    is_amiss name_of 13 d.links.hosts update.rem.hosts update.add.hosts
+    || (is_amiss itself 4 d.links.admin update.rem.admin update.add.admin
+    || (is_amiss itself 4 d.links.tech update.rem.tech update.add.tech
+    || statuses_amiss d.statuses update.rem.statuses update.add.statuses))
+
+abbrev pub domain_amiss : DomainUpdate → Seen Domain DomainFace → Bool
+domain_amiss update (Full d) = lists_amiss update d
+domain_amiss update (Named face t) = false
+domain_amiss update (Public face) = false
+
+abbrev pub final_name : HostUpdate → Option GivenName → List ℕ
+final_name update None = name_of update.name
+final_name update (Some name) = name_of name
+
+-- after the update a host outside the zone has an address
+abbrev pub leaves_stray_addresses : ZoneRules → HostUpdate → Host → Bool
+leaves_stray_addresses zone update h =
+    not (is_inside zone (final_name update update.new_name))
+    && not (length (kept itself h.addresses update.rem.addresses) + length update.add.addresses == 0)
+
+abbrev pub host_amiss : ZoneRules → HostUpdate → Host → Bool
+host_amiss zone update h =
+    is_amiss itself 13 h.addresses update.rem.addresses update.add.addresses
+    || (statuses_amiss h.statuses update.rem.statuses update.add.statuses || leaves_stray_addresses zone update h)

@@ -1,0 +1,147 @@
+-- What an accepted command is told.
+use Rattle.std.specs.Prelude.{ℕ, Bool, List, [], map, Option, Some, None, is_some, option_map, option_and_then, unwrap_or, if◌then◌else◌, ◌==◌}
+use Rattle.calendar.specs.Moment.{plus_years, capped}
+use Rattle.names.specs.declared.given.GivenName.{GivenName}
+use Rattle.names.specs.GivenName.{name_of, is_refused}
+use Rattle.objects.specs.declared.contact.Contact.{Contact}
+use Rattle.objects.specs.declared.contact.ContactFace.{ContactFace}
+use Rattle.objects.specs.declared.domain.Domain.{Domain}
+use Rattle.objects.specs.declared.domain.DomainFace.{DomainFace}
+use Rattle.objects.specs.declared.host.Host.{Host}
+use Rattle.objects.specs.declared.sight.Seen.{Seen}
+use Rattle.objects.specs.declared.sight.Seen.TheVariants.{Full, Named, Public}
+use Rattle.objects.specs.declared.transfer.Transfer.{Transfer}
+use Rattle.objects.specs.Contacts.{contact_face_of}
+use Rattle.objects.specs.Domains.{face_of}
+use Rattle.objects.specs.Hosts.{host_face_of}
+use Rattle.objects.specs.Sight.{is_right}
+use Rattle.objects.specs.Statuses.{with_linked}
+use Rattle.policy.specs.Rules.{PolicyRules, id_at}
+use Rattle.verdict.specs.declared.command.NewDomain.{NewDomain}
+use Rattle.verdict.specs.declared.command.Request.{Request}
+use Rattle.verdict.specs.declared.command.Request.TheVariants as requests
+use Rattle.verdict.specs.declared.facts.ContactFacts.{ContactFacts}
+use Rattle.verdict.specs.declared.facts.DomainFacts.{DomainFacts}
+use Rattle.verdict.specs.declared.facts.HostFacts.{HostFacts}
+use Rattle.verdict.specs.declared.facts.Facts.{Facts}
+use Rattle.verdict.specs.declared.reply.CheckResult.{CheckResult}
+use Rattle.verdict.specs.declared.reply.ContactInfo.{ContactInfo}
+use Rattle.verdict.specs.declared.reply.Created.{Created}
+use Rattle.verdict.specs.declared.reply.Data.{Data}
+use Rattle.verdict.specs.declared.reply.Data.TheVariants as told
+use Rattle.verdict.specs.declared.reply.DomainInfo.{DomainInfo}
+use Rattle.verdict.specs.declared.reply.HostInfo.{HostInfo}
+use Rattle.verdict.specs.declared.reply.Reason.{Reason}
+use Rattle.verdict.specs.declared.reply.Reason.TheVariants.{Policy, InUse}
+use Rattle.verdict.specs.declared.reply.TransferInfo.{TransferInfo}
+use Rattle.verdict.specs.Conditions.{host_sponsor}
+use Rattle.verdict.specs.Facts.{contact_at, contact_seen, domain_at, domain_seen, host_at, host_seen}
+
+-- the id of the registrar at a place
+abbrev pub id_of : PolicyRules → ℕ → List ℕ
+id_of p r = unwrap_or (id_at p r) []
+
+-- ---- check
+
+abbrev pub in_use : Bool → Option Reason
+in_use taken = if taken then Some InUse else None
+
+-- why a name can't be created
+abbrev pub reason_of : (List ℕ → Bool) → GivenName → Option Reason
+reason_of is_taken name = if is_refused name then Some Policy else in_use (is_taken (name_of name))
+
+abbrev pub result_of : (List ℕ → Bool) → GivenName → CheckResult
+result_of is_taken name = record { name = name_of name; reason = reason_of is_taken name }
+
+abbrev pub contact_result : Facts → List ℕ → CheckResult
+contact_result f name = record { name = name; reason = in_use (is_some (contact_seen f name)) }
+
+abbrev pub domain_result : Facts → GivenName → CheckResult
+domain_result f name = result_of (λ text. is_some (domain_seen f text)) name
+
+abbrev pub host_result : Facts → GivenName → CheckResult
+host_result f name = result_of (λ text. is_some (host_seen f text)) name
+
+-- ---- create
+
+abbrev pub created_plain : ℕ → List ℕ → Created
+created_plain t name = record { name = name; created = t; expires = None; charge = None }
+
+-- Prices count as 0 as long as accounts have no money.
+abbrev pub created_domain : ℕ → NewDomain → Created
+created_domain t new = record {
+  name = name_of new.name;
+  created = t;
+  expires = Some (capped (plus_years t new.years));
+  charge = Some 0;
+}
+
+-- ---- info of contacts and domains: the sponsor is told all; who presents the right secret all but
+-- the secret; another the face
+
+abbrev pub transfer_told : PolicyRules → Transfer → TransferInfo
+transfer_told p t = record { transfer = t; requester = id_of p t.requester; loser = id_of p t.loser }
+
+abbrev pub contact_told_face : PolicyRules → Bool → ContactFace → ContactInfo
+contact_told_face p linked face = record {
+  face = record face { statuses = with_linked linked face.statuses };
+  sponsor = id_of p face.sponsor;
+  hidden = None;
+}
+
+abbrev pub contact_told_full : PolicyRules → Bool → Option (List ℕ) → Contact → ContactInfo
+contact_told_full p linked secret c = record (contact_told_face p linked (contact_face_of c)) {
+  hidden = Some (record { secret = secret; postal = c.postal; voice = c.voice; mail = c.mail; transfer = option_map (transfer_told p) c.transfer });
+}
+
+abbrev pub told_contact : PolicyRules → ℕ → Option (List ℕ) → Bool → Seen Contact ContactFace → ContactInfo
+told_contact p r secret linked (Full c) =
+    if c.sponsor == r then contact_told_full p linked (Some c.secret) c
+    else if is_right secret c.secret then contact_told_full p linked None c
+    else contact_told_face p linked (contact_face_of c)
+told_contact p r secret linked (Named face t) = contact_told_face p linked face
+told_contact p r secret linked (Public face) = contact_told_face p linked face
+
+abbrev pub contact_told : PolicyRules → ℕ → Option (List ℕ) → ContactFacts → Option ContactInfo
+contact_told p r secret known = option_map (told_contact p r secret known.linked) known.seen
+
+abbrev pub domain_told_face : PolicyRules → List (List ℕ) → DomainFace → DomainInfo
+domain_told_face p subordinate face = record { face = face; sponsor = id_of p face.sponsor; subordinate = subordinate; hidden = None }
+
+abbrev pub domain_told_full : PolicyRules → List (List ℕ) → Option (List ℕ) → Domain → DomainInfo
+domain_told_full p subordinate secret d = record (domain_told_face p subordinate (face_of d)) {
+  hidden = Some (record { secret = secret; transfer = option_map (transfer_told p) d.transfer; deletion = d.deletion });
+}
+
+abbrev pub told_domain : PolicyRules → ℕ → Option (List ℕ) → List (List ℕ) → Seen Domain DomainFace → DomainInfo
+told_domain p r secret subordinate (Full d) =
+    if d.sponsor == r then domain_told_full p subordinate (Some d.secret) d
+    else if is_right secret d.secret then domain_told_full p subordinate None d
+    else domain_told_face p subordinate (face_of d)
+told_domain p r secret subordinate (Named face t) = domain_told_face p subordinate face
+told_domain p r secret subordinate (Public face) = domain_told_face p subordinate face
+
+abbrev pub domain_told : PolicyRules → ℕ → Option (List ℕ) → DomainFacts → Option DomainInfo
+domain_told p r secret known = option_map (told_domain p r secret known.subordinate) known.seen
+
+-- ---- info of hosts: all are told all
+
+abbrev pub told_host : PolicyRules → HostFacts → Host → HostInfo
+told_host p known h = let sponsor : ℕ = unwrap_or (host_sponsor known h) 0 in record { face = host_face_of sponsor known.linked h; sponsor = id_of p sponsor }
+
+abbrev pub host_told : PolicyRules → HostFacts → Option HostInfo
+host_told p known = option_map (told_host p known) known.host
+
+-- ---- the data of an accepted command
+
+abbrev pub accepted : PolicyRules → ℕ → ℕ → Request → Facts → Option Data
+accepted p r t (requests.CheckContact names) f = Some (told.Checked (map (contact_result f) names))
+accepted p r t (requests.CheckDomain names) f = Some (told.Checked (map (domain_result f) names))
+accepted p r t (requests.CheckHost names) f = Some (told.Checked (map (host_result f) names))
+accepted p r t (requests.InfoContact name secret) f = option_map told.Contact (option_and_then (contact_told p r secret) (contact_at f name))
+accepted p r t (requests.InfoDomain name secret) f = option_map told.Domain (option_and_then (domain_told p r secret) (domain_at f (name_of name)))
+accepted p r t (requests.InfoHost name) f = option_map told.Host (option_and_then (host_told p) (host_at f (name_of name)))
+accepted p r t (requests.CreateContact new) f = Some (told.Created (created_plain t new.name))
+accepted p r t (requests.CreateDomain new) f = Some (told.Created (created_domain t new))
+accepted p r t (requests.CreateHost new) f = Some (told.Created (created_plain t (name_of new.name)))
+accepted p r t _ f = None

@@ -1,0 +1,412 @@
+//! What an accepted command is told.
+ghost use Rattle.std.specs.Prelude.{◌≡◌, IfOk, map, option_and_then, option_map, unwrap_or};
+ghost use Rattle.std.specs.Option.{option_copied};
+ghost use Rattle.verdict.specs.Told as spec;
+
+use crate::command::{NewDomain, Request};
+use crate::facts::{ContactFacts, DomainFacts, Facts, HostFacts};
+use crate::reply::{
+    CheckResult, ContactHidden, ContactInfo, Created, Data, DomainHidden, DomainInfo, HostInfo,
+    Reason, TransferInfo,
+};
+use basis::list::Seq;
+use basis::registrar::RegistrarNo;
+use basis::text::Text;
+use calendar::Moment;
+use names::GivenName;
+use objects::{Contact, ContactFace, Domain, DomainFace, Host, Seen, Transfer, with_linked};
+use policy::Policy;
+use std::alloc::{AllocError, Global};
+
+/// What an accepted command is told.
+pub(crate) fn tell(
+    alloc: Global,
+    facts: &Facts,
+    caller: RegistrarNo,
+    request: &Request,
+    moment: Moment,
+    policy: &Policy,
+) -> Result<Option<Data>, AllocError>
+    ensures { IfOk result (λ content. content ≡ spec.accepted policy.now caller moment request.now facts.now) }
+{
+    match request {
+        Request::CheckContact { names } => {
+            let results = check_contacts(alloc, facts, names.as_slice())?;
+            Ok(Some(Data::Checked(Seq::from_vec(results))))
+        }
+        Request::CheckDomain { names } => {
+            let results = check_domains(alloc, facts, names.as_slice())?;
+            Ok(Some(Data::Checked(Seq::from_vec(results))))
+        }
+        Request::CheckHost { names } => {
+            let results = check_hosts(alloc, facts, names.as_slice())?;
+            Ok(Some(Data::Checked(Seq::from_vec(results))))
+        }
+        Request::InfoContact { name, secret } => {
+            tell_contact_at(alloc, policy, caller, secret.as_ref(), facts.contact(name))
+        }
+        Request::InfoDomain { name, secret } => tell_domain_at(
+            alloc,
+            policy,
+            caller,
+            secret.as_ref(),
+            facts.domain(name.text()),
+        ),
+        Request::InfoHost { name } => tell_host_at(alloc, policy, facts.host(name.text())),
+        Request::CreateContact(new) => Ok(Some(Data::Created(created_plain(&new.name, moment)?))),
+        Request::CreateDomain(new) => Ok(Some(Data::Created(new.created(moment)?))),
+        Request::CreateHost(new) => {
+            Ok(Some(Data::Created(created_plain(new.name.text(), moment)?)))
+        }
+        _ => Ok(None),
+    }
+}
+
+// ---- check
+
+fn in_use(taken: bool) -> Option<Reason>
+    ensures { result ≡ spec.in_use taken }
+{
+    if taken { Some(Reason::InUse) } else { None }
+}
+
+/// Why a name can't be created, told whether it is taken.
+fn reason_against(name: &GivenName, taken: bool) -> Option<Reason>
+    ensures { result ≡ spec.reason_of (λ text. taken) name.now }
+{
+    if name.is_refused() {
+        Some(Reason::Policy)
+    } else {
+        in_use(taken)
+    }
+}
+
+fn check_contacts(
+    alloc: Global,
+    facts: &Facts,
+    names: &[Text],
+) -> Result<Vec<CheckResult>, AllocError>
+    ensures { IfOk result (λ results. results.items ≡ map (spec.contact_result facts.now) names.now) }
+{
+    let mut results = Vec::new(alloc);
+    for name in names {
+        results.push(CheckResult {
+            name: name.clone()?,
+            reason: in_use(facts.contact_seen(name).is_some()),
+        })?;
+    }
+    Ok(results)
+}
+
+fn check_domains(
+    alloc: Global,
+    facts: &Facts,
+    names: &[GivenName],
+) -> Result<Vec<CheckResult>, AllocError>
+    ensures { IfOk result (λ results. results.items ≡ map (spec.domain_result facts.now) names.now) }
+{
+    let mut results = Vec::new(alloc);
+    for name in names {
+        results.push(CheckResult {
+            name: name.text().clone()?,
+            reason: reason_against(name, facts.domain_seen(name.text()).is_some()),
+        })?;
+    }
+    Ok(results)
+}
+
+fn check_hosts(
+    alloc: Global,
+    facts: &Facts,
+    names: &[GivenName],
+) -> Result<Vec<CheckResult>, AllocError>
+    ensures { IfOk result (λ results. results.items ≡ map (spec.host_result facts.now) names.now) }
+{
+    let mut results = Vec::new(alloc);
+    for name in names {
+        results.push(CheckResult {
+            name: name.text().clone()?,
+            reason: reason_against(name, facts.host_seen(name.text()).is_some()),
+        })?;
+    }
+    Ok(results)
+}
+
+// ---- create
+
+fn created_plain(name: &Text, moment: Moment) -> Result<Created, AllocError>
+    ensures { IfOk result (λ created. created ≡ spec.created_plain moment name.now) }
+{
+    Ok(Created {
+        name: name.clone()?,
+        created: moment,
+        expires: None,
+        charge: None,
+    })
+}
+
+impl NewDomain {
+    /// What its creator is told of it.
+    fn created(&self, moment: Moment) -> Result<Created, AllocError>
+        ensures { IfOk result (λ created. created ≡ spec.created_domain moment self.now) }
+    {
+        Ok(Created {
+            name: self.name.text().clone()?,
+            created: moment,
+            expires: Some(moment.plus_years_capped(self.years)),
+            charge: Some(0),
+        })
+    }
+}
+
+// ---- info of contacts
+
+fn tell_contact_at(
+    alloc: Global,
+    policy: &Policy,
+    caller: RegistrarNo,
+    secret: Option<&Text>,
+    known: Option<&ContactFacts>,
+) -> Result<Option<Data>, AllocError>
+    ensures { IfOk result (λ content. content ≡ option_map Data.Contact (option_and_then (spec.contact_told policy.now caller (option_copied secret.entry)) (option_copied known.entry))) }
+{
+    let Some(known) = known else {
+        return Ok(None);
+    };
+    match &known.seen {
+        None => Ok(None),
+        Some(seen) => {
+            let info = tell_contact(alloc, policy, caller, secret, known.linked, seen)?;
+            Ok(Some(Data::Contact(info)))
+        }
+    }
+}
+
+fn tell_contact(
+    alloc: Global,
+    policy: &Policy,
+    caller: RegistrarNo,
+    secret: Option<&Text>,
+    linked: bool,
+    seen: &Seen<Contact, ContactFace>,
+) -> Result<ContactInfo, AllocError>
+    ensures { IfOk result (λ info. info ≡ spec.told_contact policy.now caller (option_copied secret.entry) linked seen.now) }
+{
+    match seen {
+        Seen::Full(contact) if contact.is_sponsored_by(caller) => {
+            let own = contact.secret.clone()?;
+            tell_contact_full(alloc, policy, linked, Some(own), contact)
+        }
+        Seen::Full(contact) if contact.is_opened_by(secret) => {
+            tell_contact_full(alloc, policy, linked, None, contact)
+        }
+        Seen::Full(contact) => tell_contact_face(alloc, policy, linked, contact.face(alloc)?),
+        Seen::Named(face, _) => tell_contact_face(alloc, policy, linked, face.clone()?),
+        Seen::Public(face) => tell_contact_face(alloc, policy, linked, face.clone()?),
+    }
+}
+
+fn tell_contact_face(
+    alloc: Global,
+    policy: &Policy,
+    linked: bool,
+    face: ContactFace,
+) -> Result<ContactInfo, AllocError>
+    ensures { IfOk result (λ info. info ≡ spec.contact_told_face policy.now linked face) }
+{
+    let sponsor = id_of(alloc, policy, face.sponsor)?;
+    let statuses = with_linked(alloc, linked, face.statuses.as_slice())?;
+    Ok(ContactInfo {
+        face: ContactFace { statuses, ..face },
+        sponsor,
+        hidden: None,
+    })
+}
+
+fn tell_contact_full(
+    alloc: Global,
+    policy: &Policy,
+    linked: bool,
+    secret: Option<Text>,
+    contact: &Contact,
+) -> Result<ContactInfo, AllocError>
+    ensures { IfOk result (λ info. info ≡ spec.contact_told_full policy.now linked secret contact.now) }
+{
+    let shown = tell_contact_face(alloc, policy, linked, contact.face(alloc)?)?;
+    Ok(ContactInfo {
+        face: shown.face,
+        sponsor: shown.sponsor,
+        hidden: Some(ContactHidden {
+            secret,
+            postal: contact.postal.copy()?,
+            voice: copied(&contact.voice)?,
+            mail: contact.mail.clone()?,
+            transfer: tell_transfer(alloc, policy, contact.transfer)?,
+        }),
+    })
+}
+
+fn copied(text: &Option<Text>) -> Result<Option<Text>, AllocError>
+    ensures { IfOk result (λ copy. copy ≡ text.now) }
+{
+    match text {
+        None => Ok(None),
+        Some(text) => Ok(Some(text.clone()?)),
+    }
+}
+
+// ---- info of domains
+
+fn tell_domain_at(
+    alloc: Global,
+    policy: &Policy,
+    caller: RegistrarNo,
+    secret: Option<&Text>,
+    known: Option<&DomainFacts>,
+) -> Result<Option<Data>, AllocError>
+    ensures { IfOk result (λ content. content ≡ option_map Data.Domain (option_and_then (spec.domain_told policy.now caller (option_copied secret.entry)) (option_copied known.entry))) }
+{
+    let Some(known) = known else {
+        return Ok(None);
+    };
+    match &known.seen {
+        None => Ok(None),
+        Some(seen) => {
+            let below = &known.subordinate;
+            let info = tell_domain(alloc, policy, caller, secret, below, seen)?;
+            Ok(Some(Data::Domain(info)))
+        }
+    }
+}
+
+fn tell_domain(
+    alloc: Global,
+    policy: &Policy,
+    caller: RegistrarNo,
+    secret: Option<&Text>,
+    subordinate: &Seq<Text>,
+    seen: &Seen<Domain, DomainFace>,
+) -> Result<DomainInfo, AllocError>
+    ensures { IfOk result (λ info. info ≡ spec.told_domain policy.now caller (option_copied secret.entry) subordinate.now seen.now) }
+{
+    match seen {
+        Seen::Full(domain) if domain.is_sponsored_by(caller) => {
+            let own = domain.secret.clone()?;
+            tell_domain_full(alloc, policy, subordinate, Some(own), domain)
+        }
+        Seen::Full(domain) if domain.is_opened_by(secret) => {
+            tell_domain_full(alloc, policy, subordinate, None, domain)
+        }
+        Seen::Full(domain) => tell_domain_face(alloc, policy, subordinate, domain.face(alloc)?),
+        Seen::Named(face, _) => tell_domain_face(alloc, policy, subordinate, face.clone()?),
+        Seen::Public(face) => tell_domain_face(alloc, policy, subordinate, face.clone()?),
+    }
+}
+
+fn tell_domain_face(
+    alloc: Global,
+    policy: &Policy,
+    subordinate: &Seq<Text>,
+    face: DomainFace,
+) -> Result<DomainInfo, AllocError>
+    ensures { IfOk result (λ info. info ≡ spec.domain_told_face policy.now subordinate.now face) }
+{
+    let sponsor = id_of(alloc, policy, face.sponsor)?;
+    Ok(DomainInfo {
+        face,
+        sponsor,
+        subordinate: subordinate.clone()?,
+        hidden: None,
+    })
+}
+
+fn tell_domain_full(
+    alloc: Global,
+    policy: &Policy,
+    subordinate: &Seq<Text>,
+    secret: Option<Text>,
+    domain: &Domain,
+) -> Result<DomainInfo, AllocError>
+    ensures { IfOk result (λ info. info ≡ spec.domain_told_full policy.now subordinate.now secret domain.now) }
+{
+    Ok(DomainInfo {
+        face: domain.face(alloc)?,
+        sponsor: id_of(alloc, policy, domain.sponsor)?,
+        subordinate: subordinate.clone()?,
+        hidden: Some(DomainHidden {
+            secret,
+            transfer: tell_transfer(alloc, policy, domain.transfer)?,
+            deletion: domain.deletion,
+        }),
+    })
+}
+
+fn tell_transfer(
+    alloc: Global,
+    policy: &Policy,
+    transfer: Option<Transfer>,
+) -> Result<Option<TransferInfo>, AllocError>
+    ensures { IfOk result (λ info. info ≡ option_map (spec.transfer_told policy.now) transfer) }
+{
+    match transfer {
+        None => Ok(None),
+        Some(transfer) => Ok(Some(TransferInfo {
+            transfer,
+            requester: id_of(alloc, policy, transfer.requester)?,
+            loser: id_of(alloc, policy, transfer.loser)?,
+        })),
+    }
+}
+
+// ---- info of hosts
+
+fn tell_host_at(
+    alloc: Global,
+    policy: &Policy,
+    known: Option<&HostFacts>,
+) -> Result<Option<Data>, AllocError>
+    ensures { IfOk result (λ content. content ≡ option_map Data.Host (option_and_then (spec.host_told policy.now) (option_copied known.entry))) }
+{
+    let Some(known) = known else {
+        return Ok(None);
+    };
+    match &known.host {
+        None => Ok(None),
+        Some(host) => Ok(Some(Data::Host(tell_host(alloc, policy, known, host)?))),
+    }
+}
+
+fn tell_host(
+    alloc: Global,
+    policy: &Policy,
+    known: &HostFacts,
+    host: &Host,
+) -> Result<HostInfo, AllocError>
+    ensures { IfOk result (λ info. info ≡ spec.told_host policy.now known.now host.now) }
+{
+    let sponsor = sponsor_or_none(known.sponsor(host));
+    Ok(HostInfo {
+        face: host.face(alloc, sponsor, known.linked)?,
+        sponsor: id_of(alloc, policy, sponsor)?,
+    })
+}
+
+/// A host without a superordinate domain would have no sponsor.
+fn sponsor_or_none(sponsor: Option<RegistrarNo>) -> RegistrarNo
+    ensures { result ≡ unwrap_or sponsor 0 }
+{
+    match sponsor {
+        Some(sponsor) => sponsor,
+        None => RegistrarNo::of_place(0),
+    }
+}
+
+/// The id of a registrar of the policy.
+pub fn id_of(alloc: Global, policy: &Policy, registrar: RegistrarNo) -> Result<Text, AllocError>
+    ensures { IfOk result (λ id. id ≡ spec.id_of policy.now registrar) }
+{
+    match policy.id_of(registrar) {
+        Some(id) => id.clone(),
+        None => Ok(Text::from_string(String::new(alloc))),
+    }
+}
