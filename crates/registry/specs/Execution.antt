@@ -3,10 +3,13 @@ use Rattle.std.specs.Prelude.{◌≡◌, ℕ, Bool, true, false, Result, Ok, Err
 use Rattle.policy.specs.Rules.{PolicyRules}
 use Rattle.registry.specs.declared.fault.Fault.{Fault}
 use Rattle.registry.specs.declared.fault.Fault.TheVariants as faults
-use Rattle.rules.specs.Steps.{answer, effect}
+use Rattle.registry.specs.declared.registry.Prepared.{Prepared}
+use Rattle.rules.specs.Decisions.{decided}
+use Rattle.rules.specs.Steps.{answer, effect, reply_of}
 use Rattle.rules.specs.Isolation.{IsIsolated}
 use Rattle.store.specs.Book.{BookState, HasRefused, IsBack, Stored}
 use Rattle.verdict.specs.declared.command.Command.{Command}
+use Rattle.verdict.specs.declared.facts.Facts.{Facts}
 use Rattle.verdict.specs.declared.reply.Reply.{Reply}
 use Rattle.verdict.specs.Registry.{Registry, lapsed, now}
 
@@ -18,6 +21,11 @@ last_call = 4_102_444_799
 pub record IsStep (p : PolicyRules) (r : ℕ) (c : Command) (moment : ℕ) (before after : Registry) (reply : Reply) : Type 0 where
   pub answered : reply ≡ answer p r c (lapsed moment before)
   pub left : now after ≡ now (effect p r c (lapsed moment before))
+
+-- a reply and changes that are the rules' by the facts
+pub record IsPrepared (p : PolicyRules) (r : ℕ) (c : Command) (t : ℕ) (f : Facts) (prepared : Prepared) : Type 0 where
+  pub reply : prepared.reply ≡ reply_of p r c (decided p r t c f).verdict f.account.commands
+  pub changes : prepared.changes ≡ (decided p r t c f).changes
 
 -- what a call that gave up in a transaction leaves: it went back
 abbrev pub GoesBack : Fault → BookState → BookState → Type 0

@@ -2,12 +2,12 @@
 ghost use Rattle.std.specs.Prelude.{◌≡◌, ◌≢◌, ◌<◌, ◌∷◌, [], max, true, false, ◌↔◌, IfOk, IfErr, OnOk, Ok, Err};
 ghost use Rattle.accounts.specs.Account.{raised};
 ghost use Rattle.policy.specs.Rules.{IsPlace};
-ghost use Rattle.registry.specs.Execution.{IsStep, Fails, GoesBack, at_moment, last_call};
+ghost use Rattle.registry.specs.Execution.{IsPrepared, IsStep, Fails, GoesBack, Keeps, at_moment, last_call};
 ghost use Rattle.rules.specs.Isolation.{IsIsolated};
 ghost use Rattle.registry.specs.Opening.{Opens, Refuses};
-ghost use Rattle.rules.specs.Decisions.{decided};
 ghost use Rattle.rules.specs.Steps.{reply_of};
-ghost use Rattle.store.specs.Book.{Follows, Moves};
+ghost use Rattle.store.specs.Book.{Follows, IsSame, Moves, with_changes};
+ghost use Rattle.verdict.specs.Facts.{facts};
 ghost use Rattle.verdict.specs.Told.{id_of};
 ghost use Rattle.verdict.specs.Verdicts.{tag_of};
 
@@ -130,10 +130,8 @@ fn perform<B: Book>(
     ensures follows { Follows (B.state book.old) (B.state book.new) }
 {
     let now = pass_time(book, alloc, moment)?;
-    let facts = facts_for(book, caller, command)?;
-    let prepared = or_back(book, prepare(alloc, &facts, caller, command, now, policy))?;
-    keep(book, prepared.changes)?;
-    Ok(prepared.reply)
+    let prepared = prepare(book, alloc, caller, command, now, policy)?;
+    keep_prepared(book, prepared)
 }
 
 /// Lets time pass up to a moment in an open transaction, and gives the clock.
@@ -162,8 +160,29 @@ struct Prepared {
     changes: Seq<Change>,
 }
 
-/// Decides on a command, and writes the reply.
-fn prepare(
+/// Decides on a command in an open transaction, and writes the reply.
+fn prepare<B: Book>(
+    book: &mut B,
+    alloc: Global,
+    caller: RegistrarNo,
+    command: &Command,
+    now: Moment,
+    policy: &Policy,
+) -> Result<Prepared, Fault>
+    requires { (B.state book.old).is_open ≡ true }
+    ensures prepared { IfOk result (λ prepared. (B.state book.new).is_clean ≡ true → IsPrepared policy.now caller command.now now (facts caller command.now (B.state book.old).content.registry) prepared) }
+    ensures same { OnOk result (IsSame (B.state book.old) (B.state book.new)) }
+    ensures fault { IfErr result (λ fault. GoesBack fault (B.state book.old) (B.state book.new)) }
+    ensures follows { Follows (B.state book.old) (B.state book.new) }
+{
+    let facts = facts_for(book, caller, command)?;
+    let prepared = prepared_by(alloc, &facts, caller, command, now, policy);
+    drop(facts);
+    or_back(book, prepared)
+}
+
+/// Decides on a command by the facts that bear on it, and writes the reply.
+fn prepared_by(
     alloc: Global,
     facts: &Facts,
     caller: RegistrarNo,
@@ -171,14 +190,31 @@ fn prepare(
     now: Moment,
     policy: &Policy,
 ) -> Result<Prepared, AllocError>
-    ensures reply { IfOk result (λ prepared. prepared.reply ≡ reply_of policy.now caller command.now (decided policy.now caller now command.now facts.now).verdict facts.now.account.commands) }
-    ensures changes { IfOk result (λ prepared. prepared.changes ≡ (decided policy.now caller now command.now facts.now).changes) }
+    ensures { IfOk result (λ prepared. IsPrepared policy.now caller command.now now facts.now prepared) }
 {
     let decision = decide(alloc, facts, caller, command, now, policy)?;
     Ok(Prepared {
         reply: reply_to(alloc, policy, caller, command, decision.verdict, facts)?,
         changes: decision.changes,
     })
+}
+
+/// Makes the changes in an open transaction and keeps them, and gives the reply.
+fn keep_prepared<B: Book>(book: &mut B, prepared: Prepared) -> Result<Reply, Fault>
+    requires { (B.state book.old).is_open ≡ true }
+    ensures reply { IfOk result (λ reply. reply ≡ prepared.reply) }
+    ensures kept { OnOk result (Keeps (B.state book.old) (B.state book.new) (with_changes prepared.changes (B.state book.old).content)) }
+    ensures fault { IfErr result (λ fault. GoesBack fault (B.state book.old) (B.state book.new)) }
+    ensures follows { Follows (B.state book.old) (B.state book.new) }
+{
+    let Prepared { reply, changes } = prepared;
+    match keep(book, changes) {
+        Ok(()) => Ok(reply),
+        Err(fault) => {
+            drop(reply);
+            Err(fault)
+        }
+    }
 }
 
 /// The reply to a verdict, numbered by the caller's own commands.

@@ -139,7 +139,7 @@ edited-where test f [] s = refl
 edited-where test f (e ∷ es) s = by (test e.1) refl (edited-where test f es)
   where
     by : (b : Bool) → test e.1 ≡ b → ((s : Stored) → edited_all (edits_where test f es) s ≡ with_domains s (domains_after test f es s.registry.domains))
-      → edited_all (edits_where test f (e ∷ es)) s ≡ with_domains s (domains_after test f (e ∷ es) s.registry.domains)
+        → edited_all (edits_where test f (e ∷ es)) s ≡ with_domains s (domains_after test f (e ∷ es) s.registry.domains)
     by true t more = rw t (more (edited (edit.Domain e.0 (Some (f e.1))) s))
     by false t more = rw t (more s)
 
@@ -156,9 +156,10 @@ get-after test f (e ∷ es) h m q = by (test e.1) refl (eq_by_cmp (slice_cmp nat
   where
     gone : eq_by_cmp (slice_cmp nat_cmp) q e.0 ≡ true → find (slice_cmp nat_cmp) q es ≡ None
     gone t = ap (λ (k : List ℕ). find (slice_cmp nat_cmp) k es) (names_apart q e.0 ((Equal-is (slice_cmp nat_cmp q e.0)).0 t)) ∙ find-below (slice_cmp nat_cmp) e.0 es (and-left _ _ h)
+
     by : (b : Bool) → test e.1 ≡ b → (c : Bool) → eq_by_cmp (slice_cmp nat_cmp) q e.0 ≡ c
-      → ((n : FinMap (slice_cmp nat_cmp) Domain) → get (domains_after test f es n) q ≡ after test f (find (slice_cmp nat_cmp) q es) (get n q))
-      → get (domains_after test f (e ∷ es) m) q ≡ after test f (find (slice_cmp nat_cmp) q (e ∷ es)) (get m q)
+        → ((n : FinMap (slice_cmp nat_cmp) Domain) → get (domains_after test f es n) q ≡ after test f (find (slice_cmp nat_cmp) q es) (get n q))
+        → get (domains_after test f (e ∷ es) m) q ≡ after test f (find (slice_cmp nat_cmp) q (e ∷ es)) (get m q)
     by true u true t more = rw (u, t) (more _ ∙ ap (λ (o : Option Domain). after test f o (get (insert m e.0 (f e.1)) q)) (gone t) ∙ get-insert nat_list_cmp_total m e.0 (f e.1) q ∙ ap (λ (c : Bool). cond c (Some (f e.1)) (get m q)) t ∙ sym (ap (λ (b : Bool). cond b (Some (f e.1)) (get m q)) u))
     by true u false t more = rw (u, t) (more _ ∙ ap (after test f (find (slice_cmp nat_cmp) q es)) (get-insert nat_list_cmp_total m e.0 (f e.1) q ∙ ap (λ (c : Bool). cond c (Some (f e.1)) (get m q)) t))
     by false u true t more = rw (u, t) (more _ ∙ ap (λ (o : Option Domain). after test f o (get m q)) (gone t) ∙ sym (ap (λ (b : Bool). cond b (Some (f e.1)) (get m q)) u))
