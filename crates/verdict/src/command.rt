@@ -11,7 +11,7 @@ use objects::{Postal, Status};
 use std::slice;
 
 /// A registrar's command, with the identifier of its own that the reply repeats (`clTRID`).
-#[derive(Clone, Drop)]
+#[derive(Drop)]
 pub enum Command {
     /// A payload whose form is refused.
     Bad { tag: Option<Text>, code: Code },
@@ -20,7 +20,7 @@ pub enum Command {
 }
 
 /// What a well formed command asks for.
-#[derive(Clone, Drop)]
+#[derive(Drop)]
 pub enum Request {
     /// Which of the names could be created (RFC 5733, 3.1.1).
     CheckContact {
@@ -71,7 +71,7 @@ pub enum Request {
 }
 
 /// What a new contact is to have.
-#[derive(Clone, Drop)]
+#[derive(Drop)]
 pub struct NewContact {
     pub name: Text,
     pub postal: Postal,
@@ -81,7 +81,7 @@ pub struct NewContact {
 }
 
 /// What a new domain is to have. The lists stand as they were sent.
-#[derive(Clone, Drop)]
+#[derive(Drop)]
 pub struct NewDomain {
     pub name: GivenName,
     pub years: u32,
@@ -93,14 +93,14 @@ pub struct NewDomain {
 }
 
 /// What a new host is to have. The addresses stand as they were sent, in canonical text.
-#[derive(Clone, Drop)]
+#[derive(Drop)]
 pub struct NewHost {
     pub name: GivenName,
     pub addresses: Seq<Text>,
 }
 
 /// What of a contact is to change. What isn't given stays.
-#[derive(Clone, Drop)]
+#[derive(Drop)]
 pub struct ContactUpdate {
     pub name: Text,
     /// Statuses to set.
@@ -114,7 +114,7 @@ pub struct ContactUpdate {
 }
 
 /// What of a domain is to change. What isn't given stays.
-#[derive(Clone, Drop)]
+#[derive(Drop)]
 pub struct DomainUpdate {
     pub name: GivenName,
     pub add: DomainLists,
@@ -124,7 +124,7 @@ pub struct DomainUpdate {
 }
 
 /// What an update adds to the lists of a domain, or removes from them, as it was sent.
-#[derive(Clone, Drop)]
+#[derive(Drop)]
 pub struct DomainLists {
     pub hosts: Seq<GivenName>,
     pub admin: Seq<Text>,
@@ -133,7 +133,7 @@ pub struct DomainLists {
 }
 
 /// What of a host is to change. What isn't given stays.
-#[derive(Clone, Drop)]
+#[derive(Drop)]
 pub struct HostUpdate {
     pub name: GivenName,
     pub add: HostLists,
@@ -143,7 +143,7 @@ pub struct HostUpdate {
 
 /// What an update adds to the lists of a host, or removes from them, as it was sent: addresses in
 /// canonical text.
-#[derive(Clone, Drop)]
+#[derive(Drop)]
 pub struct HostLists {
     pub addresses: Seq<Text>,
     pub statuses: Seq<Status>,

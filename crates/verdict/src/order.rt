@@ -5,14 +5,14 @@ use basis::text::Text;
 use objects::{ObjectKind, Status};
 
 /// An order of the operator.
-#[derive(Clone, Drop)]
+#[derive(Drop)]
 pub enum Order {
     /// Statuses of an object are to be set or taken away.
     Status(StatusOrder),
 }
 
 /// Which statuses of which object.
-#[derive(Clone, Drop)]
+#[derive(Drop)]
 pub struct StatusOrder {
     pub kind: ObjectKind,
     /// The object's name as it was sent.

@@ -7,7 +7,7 @@ use calendar::Moment;
 use objects::{ContactFace, Deletion, DomainFace, HostFace, Postal, Transfer};
 
 /// A reply to a command.
-#[derive(Clone, Drop)]
+#[derive(Drop)]
 pub struct Reply {
     /// The command's own identifier (`clTRID`), where it was sent well formed.
     pub tag: Option<Text>,
@@ -17,14 +17,14 @@ pub struct Reply {
 }
 
 /// The registry's identifier of a command (`svTRID`): the caller's id and the number of its command.
-#[derive(Clone, Drop)]
+#[derive(Drop)]
 pub struct ServerTag {
     pub id: Text,
     pub number: u64,
 }
 
 /// What a reply tells beside its code.
-#[derive(Clone, Drop)]
+#[derive(Drop)]
 pub enum Data {
     /// In the order in which the names were sent.
     Checked(Seq<CheckResult>),
@@ -35,7 +35,7 @@ pub enum Data {
 }
 
 /// Whether a name could be created: it could where there is no reason against it.
-#[derive(Clone, Drop)]
+#[derive(Drop)]
 pub struct CheckResult {
     pub name: Text,
     pub reason: Option<Reason>,
@@ -51,7 +51,7 @@ pub enum Reason {
 }
 
 /// A new object. Expiry and charge are a domain's alone.
-#[derive(Clone, Drop)]
+#[derive(Drop)]
 pub struct Created {
     pub name: Text,
     pub created: Moment,
@@ -61,7 +61,7 @@ pub struct Created {
 }
 
 /// What info tells of a contact.
-#[derive(Clone, Drop)]
+#[derive(Drop)]
 pub struct ContactInfo {
     /// With `linked` among its statuses while a domain names it.
     pub face: ContactFace,
@@ -71,7 +71,7 @@ pub struct ContactInfo {
 }
 
 /// What the face of a contact leaves out.
-#[derive(Clone, Drop)]
+#[derive(Drop)]
 pub struct ContactHidden {
     /// Told to the sponsor alone.
     pub secret: Option<Text>,
@@ -82,7 +82,7 @@ pub struct ContactHidden {
 }
 
 /// What info tells of a host.
-#[derive(Clone, Drop)]
+#[derive(Drop)]
 pub struct HostInfo {
     pub face: HostFace,
     /// The sponsor's id.
@@ -90,7 +90,7 @@ pub struct HostInfo {
 }
 
 /// What info tells of a domain.
-#[derive(Clone, Drop)]
+#[derive(Drop)]
 pub struct DomainInfo {
     pub face: DomainFace,
     /// The sponsor's id.
@@ -101,7 +101,7 @@ pub struct DomainInfo {
 }
 
 /// What the face of a domain leaves out.
-#[derive(Clone, Drop)]
+#[derive(Drop)]
 pub struct DomainHidden {
     /// Told to the sponsor alone.
     pub secret: Option<Text>,
@@ -110,7 +110,7 @@ pub struct DomainHidden {
 }
 
 /// The last transfer of an object, with the ids of both sides.
-#[derive(Clone, Drop)]
+#[derive(Drop)]
 pub struct TransferInfo {
     pub transfer: Transfer,
     pub requester: Text,

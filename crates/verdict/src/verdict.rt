@@ -25,7 +25,7 @@ use policy::Policy;
 use std::alloc::{AllocError, Global};
 
 /// The code that a command is answered, and what it is told.
-#[derive(Clone, Drop)]
+#[derive(Drop)]
 pub struct Verdict {
     pub code: Code,
     pub content: Option<Data>,
