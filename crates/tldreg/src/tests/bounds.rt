@@ -95,7 +95,7 @@ const STREET: Row = Row {
 2029-01-01T00:00:00Z alfa {"chg":{"postal":{"cc":"AZ","city":"Town","name":"Ann","street":["Road 1"]}},"cmd":"update","name":"c-alfa","obj":"contact"}
 2029-01-01T00:00:00Z alfa {"chg":{"postal":{"cc":"DEU","city":"Town","name":"Ann","street":["Road 1"]}},"cmd":"update","name":"c-alfa","obj":"contact"}
 2029-01-01T00:00:00Z alfa {"chg":{"postal":{"cc":"de","city":"Town","name":"Ann","street":["Road 1"]}},"cmd":"update","name":"c-alfa","obj":"contact"}
-2029-01-01T00:00:00Z alfa {"chg":{"postal":{"cc":"D1","city":"Town","name":"Ann","street":["Road 1"]}},"cmd":"update","name":"c-alfa","obj":"contact"}
+2029-01-01T00:00:00Z alfa {"chg":{"postal":{"cc":"E1","city":"Town","name":"Ann","street":["Road 1"]}},"cmd":"update","name":"c-alfa","obj":"contact"}
 2029-01-01T00:00:00Z alfa {"chg":{"postal":{"cc":"DDDDDDDDDDDDDDDDDDDDDDDDDDDDDDDDDDDDDDDDDDDDDDDDDDDDDDDDDDDDDDDDDDDDDDDDDDDDDDDDDDDDDDDDDDDDDDDDDDDDDDDDDDDDDDDDDDDDDDDDDDDDDDDDDDDDDDDDDDDDDDDDDDDDDDDDDDDDDDDDDDDDDDDDDDDDDDDDDDDDDDDDDDDDDDDDDDDDDDDDDDDDDDDDDDDDDDDDDDDDDDDDDDDDDDDDDDDDDDDDDDDDDDDDDDDDDDD","city":"Town","name":"Ann","street":["Road 1"]}},"cmd":"update","name":"c-alfa","obj":"contact"}
 2029-01-01T00:00:00Z alfa {"chg":{"postal":{"cc":"DDDDDDDDDDDDDDDDDDDDDDDDDDDDDDDDDDDDDDDDDDDDDDDDDDDDDDDDDDDDDDDDDDDDDDDDDDDDDDDDDDDDDDDDDDDDDDDDDDDDDDDDDDDDDDDDDDDDDDDDDDDDDDDDDDDDDDDDDDDDDDDDDDDDDDDDDDDDDDDDDDDDDDDDDDDDDDDDDDDDDDDDDDDDDDDDDDDDDDDDDDDDDDDDDDDDDDDDDDDDDDDDDDDDDDDDDDDDDDDDDDDDDDDDDDDDDDDD","city":"Town","name":"Ann","street":["Road 1"]}},"cmd":"update","name":"c-alfa","obj":"contact"}
 "#,
