@@ -1,0 +1,9 @@
+-- Who sends the lines of a script.
+use Rattle.policy.specs.Rules.{PolicyRules, IsPlace}
+use Rattle.tldreg.specs.declared.line.Sender.{Sender}
+use Rattle.tldreg.specs.declared.line.Sender.TheVariants.{Registrar, Operator}
+
+-- the operator, or a registrar of the policy
+abbrev pub IsKnown : PolicyRules → Sender → Type 0
+IsKnown p (Registrar r) = IsPlace p r
+IsKnown p Operator = Unit {0}
