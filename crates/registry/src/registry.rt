@@ -1,5 +1,5 @@
 //! The registry.
-ghost use Rattle.std.specs.Prelude.{◌≡◌, ◌≢◌, ◌<◌, true, false, ◌↔◌, IfOk, IfErr, OnOk, Ok, Err};
+ghost use Rattle.std.specs.Prelude.{◌≡◌, ◌≢◌, ◌<◌, nat_lt, true, false, ◌↔◌, IfOk, IfErr, OnOk, Ok, Err};
 ghost use Rattle.accounts.specs.Account.{raised};
 ghost use Rattle.policy.specs.Rules.{IsPlace};
 ghost use Rattle.registry.specs.Execution.{IsPrepared, IsStep, IsOrderStep, Fails, GoesBack, Keeps, last_call};
@@ -27,6 +27,13 @@ use verdict::{Code, Command, Facts, Order, Reply, ServerTag, Verdict, id_of};
 
 /// The latest moment at which a call is taken: 2099-12-31T23:59:59Z.
 const LAST_CALL: i64 = 4_102_444_799;
+
+/// Whether no call is taken at the moment any more.
+fn is_late(moment: Moment) -> bool
+    ensures { result ≡ nat_lt last_call moment }
+{
+    moment.secs() > LAST_CALL
+}
 
 /// A registry over a book, run by a policy.
 #[derive(Drop)]
@@ -84,7 +91,7 @@ impl<B: Book + Drop> Registry<B> {
         ensures follows { Follows (B.state self.old.book) (B.state self.new.book) }
         ensures policy { self.new.policy ≡ self.old.policy }
     {
-        if moment.secs() > LAST_CALL {
+        if is_late(moment) {
             return Err(Fault::Moment);
         }
         self.step(caller, command, moment)
@@ -100,7 +107,7 @@ impl<B: Book + Drop> Registry<B> {
         ensures follows { Follows (B.state self.old.book) (B.state self.new.book) }
         ensures policy { self.new.policy ≡ self.old.policy }
     {
-        if moment.secs() > LAST_CALL {
+        if is_late(moment) {
             return Err(Fault::Moment);
         }
         self.order_step(order, moment)

@@ -1,6 +1,6 @@
 //! A line of a script: `MOMENT CALLER JSON`, with single blanks.
 ghost use Rattle.std.specs.Prelude.{◌≡◌, IfSome};
-ghost use Rattle.tldreg.specs.Senders.{IsKnown};
+ghost use Rattle.tldreg.specs.Senders.{IsKnown, registrar_of};
 
 use basis::registrar::RegistrarNo;
 use calendar::Moment;
@@ -26,6 +26,16 @@ impl Sender {
             return Some(Sender::Operator);
         }
         Some(Sender::Registrar(policy.find(text)?))
+    }
+
+    /// The registrar, or `None` of the operator.
+    pub fn registrar(self) -> Option<RegistrarNo>
+        ensures { result ≡ registrar_of self }
+    {
+        match self {
+            Sender::Registrar(registrar) => Some(registrar),
+            Sender::Operator => None,
+        }
     }
 }
 

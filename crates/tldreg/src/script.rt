@@ -3,7 +3,7 @@ ghost use Rattle.std.specs.Prelude.{◌≡◌};
 ghost use Rattle.policy.specs.Rules.{IsPlace};
 
 use crate::exit::Exit;
-use crate::line::{Line, Sender};
+use crate::line::Line;
 use basis::registrar::RegistrarNo;
 use calendar::Moment;
 use eppwire::{command_of, order_bytes, order_of, reply_bytes};
@@ -93,9 +93,9 @@ fn answer_line<W: Write>(
     let Some(line) = Line::read(registry.policy(), text) else {
         return Err(Exit::Script(number));
     };
-    let answered = match line.sender {
-        Sender::Registrar(caller) => answer_command(alloc, registry, caller, &line),
-        Sender::Operator => answer_order(alloc, registry, number, &line),
+    let answered = match line.sender.registrar() {
+        Some(caller) => answer_command(alloc, registry, caller, &line),
+        None => answer_order(alloc, registry, number, &line),
     };
     match answered? {
         Some(bytes) => writer.write_all(&bytes)?,
