@@ -17,7 +17,7 @@ use crate::order::carry_out;
 use crate::transaction::{facts_for, keep, or_back, pass_time};
 use basis::list::Seq;
 use basis::registrar::RegistrarNo;
-use basis::text::Text;
+use basis::text::{Text, copied};
 use calendar::Moment;
 use policy::Policy;
 use rules::{Change, decide};
@@ -271,19 +271,10 @@ fn tags(
     ensures tag { IfOk result (λ tags. tags.0 ≡ tag_of command.now) }
     ensures server_tag { IfOk result (λ tags. tags.1 ≡ record { id = id_of policy.now caller; number = raised facts.now.account.commands }) }
 {
-    let tag = copy_tag(command.tag())?;
+    let tag = copied(command.tag())?;
     let server_tag = ServerTag {
         id: id_of(alloc, policy, caller)?,
         number: facts.account.next_command(),
     };
     Ok((tag, server_tag))
-}
-
-fn copy_tag(tag: &Option<Text>) -> Result<Option<Text>, AllocError>
-    ensures { IfOk result (λ copy. copy ≡ tag.now) }
-{
-    match tag {
-        None => Ok(None),
-        Some(tag) => Ok(Some(tag.clone()?)),
-    }
 }

@@ -17,7 +17,8 @@ use Rattle.verdict.specs.Codes.{is_accepted}
 use Rattle.verdict.specs.Orders.{object_ordered, order_code}
 use Rattle.verdict.specs.Registry.{Registry}
 
-abbrev ordered : StatusOrder → List Status → List Status
+-- the statuses that an order leaves
+abbrev pub ordered : StatusOrder → List Status → List Status
 ordered o statuses = amended_statuses statuses o.rem o.add
 
 -- The object with the statuses that an order leaves. An order isn't an update: it sets no date of

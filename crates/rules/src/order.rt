@@ -1,12 +1,11 @@
 //! What an order of the operator is answered, and what it changes.
 ghost use Rattle.std.specs.Prelude.{◌≡◌, ◌∷◌, [], IfOk};
-ghost use Rattle.objects.specs.Statuses.{amended_statuses as amended};
 ghost use Rattle.rules.specs.Orders as spec;
 ghost use Rattle.verdict.specs.Orders.{order_code};
 
 use crate::change::Change;
 use basis::list::Seq;
-use objects::{Contact, Domain, Host, Status, amended_statuses};
+use objects::{Status, amended_statuses};
 use std::alloc::{AllocError, Global};
 use verdict::{Code, Object, StatusOrder};
 
@@ -54,47 +53,27 @@ fn put_ordered(alloc: Global, order: &StatusOrder, object: Object) -> Result<Cha
     ensures { IfOk result (λ change. change ≡ spec.put_ordered order.now object) }
 {
     match object {
-        Object::Contact(contact) => Ok(Change::PutContact(contact_ordered(alloc, order, contact)?)),
-        Object::Domain(domain) => Ok(Change::PutDomain(domain_ordered(alloc, order, domain)?)),
-        Object::Host(host) => Ok(Change::PutHost(host_ordered(alloc, order, host)?)),
+        Object::Contact(mut contact) => {
+            contact.statuses = ordered(alloc, order, contact.statuses.as_slice())?;
+            Ok(Change::PutContact(contact))
+        }
+        Object::Domain(mut domain) => {
+            domain.statuses = ordered(alloc, order, domain.statuses.as_slice())?;
+            Ok(Change::PutDomain(domain))
+        }
+        Object::Host(mut host) => {
+            host.statuses = ordered(alloc, order, host.statuses.as_slice())?;
+            Ok(Change::PutHost(host))
+        }
     }
 }
 
-fn statuses_ordered(
+fn ordered(
     alloc: Global,
     order: &StatusOrder,
     old: &[Status],
 ) -> Result<Seq<Status>, AllocError>
-    ensures { IfOk result (λ statuses. statuses ≡ amended old.now order.now.rem order.now.add) }
+    ensures { IfOk result (λ statuses. statuses ≡ spec.ordered order.now old.now) }
 {
     amended_statuses(alloc, old, order.rem.as_slice(), order.add.as_slice())
-}
-
-fn contact_ordered(
-    alloc: Global,
-    order: &StatusOrder,
-    mut contact: Contact,
-) -> Result<Contact, AllocError>
-    ensures { IfOk result (λ it. it ≡ record contact { statuses = amended contact.statuses order.now.rem order.now.add }) }
-{
-    contact.statuses = statuses_ordered(alloc, order, contact.statuses.as_slice())?;
-    Ok(contact)
-}
-
-fn domain_ordered(
-    alloc: Global,
-    order: &StatusOrder,
-    mut domain: Domain,
-) -> Result<Domain, AllocError>
-    ensures { IfOk result (λ it. it ≡ record domain { statuses = amended domain.statuses order.now.rem order.now.add }) }
-{
-    domain.statuses = statuses_ordered(alloc, order, domain.statuses.as_slice())?;
-    Ok(domain)
-}
-
-fn host_ordered(alloc: Global, order: &StatusOrder, mut host: Host) -> Result<Host, AllocError>
-    ensures { IfOk result (λ it. it ≡ record host { statuses = amended host.statuses order.now.rem order.now.add }) }
-{
-    host.statuses = statuses_ordered(alloc, order, host.statuses.as_slice())?;
-    Ok(host)
 }
