@@ -6,3 +6,5 @@ pub mod GrowthLemmas
 pub mod KeepingLemmas
 pub mod RowLemmas
 pub mod LinkLemmas
+pub mod StandInLemmas
+pub mod CommandLemmas

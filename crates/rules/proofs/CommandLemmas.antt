@@ -1,0 +1,159 @@
+-- What each command that isn't refused changes keeps a registry well formed.
+use Rattle.std.proofs.Common.{◌≡◌, ◌≢◌, inl, inr, ℕ, ◌<◌, ◌≤◌, ◌+◌, ◌==◌, Bool, true, false, cond, not, ◌&&◌, ◌||◌, List, [], ◌∷◌, Option, Some, None, IsSome, is_none, is_some, option_and_then, option_map, refl, sym, ap, subst, ◌∙◌, arith, eqb-true}
+use Rattle.std.specs.Cmp.{nat_cmp_total, eq_by_cmp_equiv}
+use Rattle.std.specs.Cmp.Lexicographic.{bytes_decides}
+use Rattle.std.specs.FinMap.{get}
+use Rattle.std.specs.Ordering.{eq_by_cmp, nat_cmp}
+use Rattle.std.specs.Str.{bytes_eq}
+use Rattle.accounts.specs.declared.account.Account.{Account}
+use Rattle.accounts.specs.Account.{counted, numbered, raised}
+use Rattle.names.specs.declared.given.GivenName.{GivenName}
+use Rattle.names.specs.GivenName.{name_of}
+use Rattle.names.specs.Zone.{last_two_of, superordinate_of}
+use Rattle.names.proofs.LastTwoLemmas.{last_two-superordinate}
+use Rattle.objects.specs.declared.contact.Contact.{Contact}
+use Rattle.objects.specs.declared.contact.ContactFace.{ContactFace}
+use Rattle.objects.specs.declared.domain.Domain.{Domain}
+use Rattle.objects.specs.declared.domain.DomainFace.{DomainFace}
+use Rattle.objects.specs.declared.host.Host.{Host}
+use Rattle.objects.specs.declared.roid.ObjectKind.{ObjectKind}
+use Rattle.objects.specs.declared.roid.ObjectKind.TheVariants as kinds
+use Rattle.objects.specs.declared.roid.Roid.{Roid}
+use Rattle.objects.specs.declared.sight.Seen.{Seen}
+use Rattle.objects.specs.declared.sight.Seen.TheVariants.{Full, Named, Public}
+use Rattle.objects.specs.declared.transfer.Transfer.{Transfer}
+use Rattle.objects.specs.Contacts.{contact_face_of}
+use Rattle.objects.specs.Domains.{face_of}
+use Rattle.objects.specs.Links.{names_contact, names_host}
+use Rattle.objects.specs.Sight.{contact_as, domain_as, is_party, is_right, outside}
+use Rattle.objects.specs.Statuses.{amended_statuses}
+use Rattle.objects.specs.Transfers.{names}
+use Rattle.policy.specs.Rules.{PolicyRules, IsPlace}
+use Rattle.rules.specs.declared.change.Change.{Change}
+use Rattle.rules.specs.declared.change.Change.TheVariants.{DropContact, DropHost, PutContact, PutDomain, PutHost, TakeSerial}
+use Rattle.rules.specs.Changes.{changed, changed_all, with_account}
+use Rattle.rules.specs.Decisions.{by_of, contact_changes, domain_changes, host_changes, new_contact, new_domain, new_host, new_links, new_roid, or_old, renaming, updated_contact, updated_domain, updated_host, updated_by, updated_links}
+use Rattle.rules.proofs.KeepingLemmas.{IsUndeleted, contact_roid, drop-contact, drop-host, host_roid, domain_roid, kept-account, put-contact, put-domain, put-host, rename-host}
+use Rattle.rules.proofs.LinkLemmas.{new-contacts, new-hosts, updated-contacts, updated-hosts}
+use Rattle.rules.proofs.NamedLemmas.{is-there, value-fails}
+use Rattle.rules.proofs.RowLemmas.{neither, row-fails}
+use Rattle.rules.proofs.StandInLemmas.{contact-updated, domain-updated, host-updated, kept-put-contact, kept-put-domain, kept-put-host}
+use Rattle.rules.proofs.ViewLemmas.{account_of-with_account}
+use Rattle.verdict.specs.declared.command.Command.{Command}
+use Rattle.verdict.specs.declared.command.Command.TheVariants.{Asked}
+use Rattle.verdict.specs.declared.command.ContactUpdate.{ContactUpdate}
+use Rattle.verdict.specs.declared.command.DomainUpdate.{DomainUpdate}
+use Rattle.verdict.specs.declared.command.HostUpdate.{HostUpdate}
+use Rattle.verdict.specs.declared.command.NewContact.{NewContact}
+use Rattle.verdict.specs.declared.command.NewDomain.{NewDomain}
+use Rattle.verdict.specs.declared.command.NewHost.{NewHost}
+use Rattle.verdict.specs.declared.command.Request.{Request}
+use Rattle.verdict.specs.declared.command.Request.TheVariants as requests
+use Rattle.verdict.specs.declared.facts.Facts.{Facts}
+use Rattle.verdict.specs.declared.facts.HostFacts.{HostFacts}
+use Rattle.verdict.specs.Conditions.{final_name, has_no_superordinate, holds_of, or_else, superordinate_is_deleted}
+use Rattle.verdict.specs.Facts.{Finds, contact_facts, contact_seen, domain_seen, facts, finds, host_facts, host_seen, is_linked_contact, is_linked_host, superordinate_of_domain}
+use Rattle.verdict.specs.Refusals.{first_refusal}
+use Rattle.verdict.specs.Registry.{Registry, account_of}
+use Rattle.verdict.specs.Rules.{refusals}
+use Rattle.verdict.specs.WellFormed.{BelongsTo, HasBeen, HasRoid, IsContactOf, IsDomainOf, IsHostOf, IsRegistry}
+
+-- ---- what is seen in full is the object itself
+
+full-is : {O F : Type 0} (r : ℕ) (o : O) (face : F) (t : Option Transfer) (b : Bool) (x : O) → cond b (Full o) (outside r face t) ≡ Full x → o ≡ x
+full-is r o face t true x e = cc
+full-is r o face None false x e = absurd cc
+full-is {O} {F} r o face (Some t) false x e = by (names r t) e
+  where
+    by : (b : Bool) → (let seen : Seen O F = cond b (Named face t) (Public face) in seen ≡ Full x) → o ≡ x
+    by true e = absurd cc
+    by false e = absurd cc
+
+contact-full : (r : ℕ) (presented : Option (List ℕ)) (found : Option Contact) (c : Contact) → option_map (contact_as r presented) found ≡ Some (Full c) → found ≡ Some c
+contact-full r presented None c e = absurd cc
+contact-full r presented (Some o) c e =
+    let same : contact_as r presented o ≡ Full c = cc in
+    ap (λ (x : Contact). Some x) (full-is r o (contact_face_of o) o.transfer (is_party r o.sponsor o.transfer || is_right presented o.secret) c same)
+
+domain-full : (r : ℕ) (presented : Option (List ℕ)) (found : Option Domain) (d : Domain) → option_map (domain_as r presented) found ≡ Some (Full d) → found ≡ Some d
+domain-full r presented None d e = absurd cc
+domain-full r presented (Some o) d e =
+    let same : domain_as r presented o ≡ Full d = cc in
+    ap (λ (x : Domain). Some x) (full-is r o (face_of o) o.transfer (is_party r o.sponsor o.transfer || is_right presented o.secret) d same)
+
+-- ---- what is found first in a list of one, by its own name
+
+at-itself : {A : Type 0} (name : List ℕ) (known : A) → (let found : Option A = cond (bytes_eq name name) (Some known) None in found ≡ Some known)
+at-itself name known = ap (λ (b : Bool). let found : Option _ = cond b (Some known) None in found) ((bytes_decides name name).1 refl)
+
+-- ---- serials
+
+raised-next : (n : ℕ) → n < 4_611_686_018_427_387_904 → raised n ≡ n + 1
+raised-next n small = by (n == 0xFFFF_FFFF_FFFF_FFFF) refl
+  where
+    by : (b : Bool) → (n == 0xFFFF_FFFF_FFFF_FFFF) ≡ b → cond b n (n + 1) ≡ n + 1
+    by true is = absurd (omega (arith, eqb-true n 0xFFFF_FFFF_FFFF_FFFF is))
+    by false is = refl
+
+account-after : (r : ℕ) (f : Account → Account) (s : Registry) → account_of r (with_account r f s) ≡ f (account_of r s)
+account-after r f s = account_of-with_account r r f s ∙ ap (λ (b : Bool). cond b (f (account_of r s)) (account_of r s)) ((eq_by_cmp_equiv nat_cmp_total).refl r)
+
+module _ (p : PolicyRules) (r : ℕ) (tag : Option (List ℕ)) (s : Registry) (place : IsPlace p r) (is : IsRegistry p s) where
+  -- the registry once the command is counted
+  abbrev after_count : Registry
+  after_count = with_account r counted s
+
+  pub kept-counted : IsRegistry p after_count
+  kept-counted = kept-account p r counted (λ a. omega arith) s place is
+
+  -- ---- creates: the serial is taken first, and then the object put, which leaves the same
+
+  module _ (small : (account_of r s).serial < 4_611_686_018_427_387_904) where
+    abbrev numbered_too : Registry
+    numbered_too = with_account r numbered after_count
+
+    numbered-rises : (a : Account) → a.serial ≤ (numbered a).serial
+    numbered-rises a = by (a.serial == 0xFFFF_FFFF_FFFF_FFFF)
+      where
+        by : (b : Bool) → a.serial ≤ cond b a.serial (a.serial + 1)
+        by true = omega arith
+        by false = omega arith
+
+    kept-numbered : IsRegistry p numbered_too
+    kept-numbered = kept-account p r numbered numbered-rises after_count place kept-counted
+
+    serial-after : (account_of r numbered_too).serial ≡ raised (account_of r s).serial
+    serial-after = ap (λ (a : Account). a.serial) (account-after r numbered after_count) ∙ ap (λ (a : Account). raised a.serial) (account-after r counted s)
+
+    module _ (kind : ObjectKind) (request : Request) where
+      abbrev given : Roid
+      given = new_roid kind r (facts r (Asked tag request) s)
+
+      has-given : HasRoid p numbered_too kind given
+      has-given = record { kind_is = refl; creator = place; serial = omega (arith, serial-after) }
+
+      -- no object has it yet
+      ungiven : (other : ObjectKind) (roid : Roid) → HasRoid p s other roid → roid ≢ given
+      ungiven other roid has same =
+          let at : roid.serial ≤ (account_of r s).serial = subst (λ (q : ℕ). roid.serial ≤ (account_of q s).serial) (ap (λ (x : Roid). x.creator) same) has.serial in
+          let next : roid.serial ≡ raised (account_of r s).serial = ap (λ (x : Roid). x.serial) same in
+          omega (arith, raised-next (account_of r s).serial small)
+
+    pub kept-new-contact : (new : NewContact) → let f : Facts = facts r (Asked tag (requests.CreateContact new)) s in IsRegistry p (changed_all (PutContact (new_contact r s.clock f new) ∷ TakeSerial r ∷ []) after_count)
+    kept-new-contact new =
+        let request : Request = requests.CreateContact new in
+        put-contact p numbered_too kept-numbered new.name (new_contact r s.clock (facts r (Asked tag request) s) new)
+        (record { named = refl; roid = has-given kinds.Contact request; sponsor = place; created = omega arith; transferred = tt; updated = tt; transfer = tt })
+        (λ n x at same. absurd (ungiven kinds.Contact request kinds.Contact x.roid (is.contacts n x at).roid same))
+
+    pub kept-new-domain : (new : NewDomain) → let f : Facts = facts r (Asked tag (requests.CreateDomain new)) s in f.lacks_link ≡ false
+        → IsRegistry p (changed_all (PutDomain (new_domain r s.clock f new) ∷ TakeSerial r ∷ []) after_count)
+    kept-new-domain new linked =
+        let request : Request = requests.CreateDomain new in
+        put-domain p numbered_too kept-numbered (name_of new.name) (new_domain r s.clock (facts r (Asked tag request) s) new)
+        (record {
+            named = refl; roid = has-given kinds.Domain request; sponsor = place; created = omega arith; transferred = tt; updated = tt; transfer = tt; deletion = tt;
+            contacts = new-contacts (λ name. is_some (get s.contacts name)) (λ name. is_some (get s.hosts name)) new linked;
+            hosts = new-hosts (λ name. is_some (get s.contacts name)) (λ name. is_some (get s.hosts name)) new linked;
+        })
+        (λ n x at same. absurd (ungiven kinds.Domain request kinds.Domain x.roid (is.domains n x at).roid same))
