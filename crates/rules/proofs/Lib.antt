@@ -8,3 +8,4 @@ pub mod RowLemmas
 pub mod LinkLemmas
 pub mod StandInLemmas
 pub mod CommandLemmas
+pub mod WellFormedLemmas
