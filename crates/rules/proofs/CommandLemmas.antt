@@ -1,9 +1,8 @@
 -- What each command that isn't refused changes keeps a registry well formed.
-use Rattle.std.proofs.Common.{◌≡◌, ◌≢◌, inl, inr, ℕ, ◌<◌, ◌≤◌, ◌+◌, ◌==◌, Bool, true, false, cond, not, ◌&&◌, ◌||◌, List, [], ◌∷◌, Option, Some, None, IsSome, is_none, is_some, option_and_then, option_map, refl, sym, ap, ap₂, subst, ◌∙◌, arith, eqb-true}
+use Rattle.std.proofs.Common.{◌≡◌, ◌≢◌, inr, ℕ, ◌<◌, ◌≤◌, ◌+◌, ◌==◌, Bool, true, false, cond, ◌&&◌, ◌||◌, List, [], ◌∷◌, Option, Some, None, IsSome, is_none, is_some, option_and_then, option_map, refl, sym, ap, ap₂, subst, ◌∙◌, arith, eqb-true}
 use Rattle.std.specs.Cmp.{nat_cmp_total, eq_by_cmp_equiv}
 use Rattle.std.specs.Cmp.Lexicographic.{bytes_decides}
 use Rattle.std.specs.FinMap.{get}
-use Rattle.std.specs.Ordering.{eq_by_cmp, nat_cmp}
 use Rattle.std.specs.Str.{bytes_eq}
 use Rattle.accounts.specs.declared.account.Account.{Account}
 use Rattle.accounts.specs.Account.{counted, numbered, raised}
@@ -29,15 +28,14 @@ use Rattle.objects.specs.Sight.{contact_as, domain_as, is_party, is_right, outsi
 use Rattle.objects.specs.Statuses.{amended_statuses}
 use Rattle.objects.specs.Transfers.{names}
 use Rattle.policy.specs.Rules.{PolicyRules, IsPlace}
-use Rattle.rules.specs.declared.change.Change.{Change}
 use Rattle.rules.specs.declared.change.Change.TheVariants.{DropContact, DropHost, PutContact, PutDomain, PutHost, TakeSerial}
-use Rattle.rules.specs.Changes.{changed, changed_all, with_account}
-use Rattle.rules.specs.Decisions.{by_of, contact_changes, domain_changes, host_changes, new_contact, new_domain, new_host, new_links, new_roid, or_old, renaming, updated_contact, updated_domain, updated_host, updated_by, updated_links}
-use Rattle.rules.proofs.KeepingLemmas.{IsUndeleted, contact_roid, drop-contact, drop-host, host_roid, domain_roid, kept-account, put-contact, put-domain, put-host, rename-host}
+use Rattle.rules.specs.Changes.{changed_all, with_account}
+use Rattle.rules.specs.Decisions.{by_of, contact_changes, domain_changes, host_changes, new_contact, new_domain, new_host, new_roid, renaming, updated_contact, updated_domain, updated_by}
+use Rattle.rules.proofs.KeepingLemmas.{IsUndeleted, drop-contact, drop-host, kept-account, put-contact, put-domain, put-host, rename-host}
 use Rattle.rules.proofs.LinkLemmas.{new-contacts, new-hosts, updated-contacts, updated-hosts}
-use Rattle.rules.proofs.NamedLemmas.{is-there, value-fails}
+use Rattle.rules.proofs.NamedLemmas.{value-fails}
 use Rattle.rules.proofs.RowLemmas.{neither, row-fails}
-use Rattle.rules.proofs.StandInLemmas.{contact-updated, domain-updated, host-updated, kept-put-contact, kept-put-domain, kept-put-host}
+use Rattle.rules.proofs.StandInLemmas.{contact-updated, domain-updated, kept-put-contact, kept-put-domain, kept-put-host}
 use Rattle.rules.proofs.ViewLemmas.{account_of-with_account}
 use Rattle.verdict.specs.declared.command.Command.{Command}
 use Rattle.verdict.specs.declared.command.Command.TheVariants.{Asked}
@@ -58,7 +56,7 @@ use Rattle.verdict.specs.Lists.{amended, itself}
 use Rattle.verdict.specs.Refusals.{first_refusal}
 use Rattle.verdict.specs.Registry.{Registry, account_of}
 use Rattle.verdict.specs.Rules.{refusals}
-use Rattle.verdict.specs.WellFormed.{BelongsTo, HasBeen, HasRoid, IsContactOf, IsDomainOf, IsHostOf, IsRegistry}
+use Rattle.verdict.specs.WellFormed.{BelongsTo, HasRoid, IsRegistry}
 
 -- ---- what is seen in full is the object itself
 
@@ -177,9 +175,16 @@ module _ (p : PolicyRules) (r : ℕ) (tag : Option (List ℕ)) (s : Registry) (p
         let request : Request = requests.CreateDomain new in
         put-domain p numbered_too kept-numbered (name_of new.name) (new_domain r s.clock (facts r (Asked tag request) s) new)
         (record {
-            named = refl; roid = has-given kinds.Domain request; sponsor = place; created = omega arith; transferred = tt; updated = tt; transfer = tt; deletion = tt;
-            contacts = new-contacts (λ name. is_some (get s.contacts name)) (λ name. is_some (get s.hosts name)) new linked;
-            hosts = new-hosts (λ name. is_some (get s.contacts name)) (λ name. is_some (get s.hosts name)) new linked;
+          named = refl;
+          roid = has-given kinds.Domain request;
+          sponsor = place;
+          created = omega arith;
+          transferred = tt;
+          updated = tt;
+          transfer = tt;
+          deletion = tt;
+          contacts = new-contacts (λ name. is_some (get s.contacts name)) (λ name. is_some (get s.hosts name)) new linked;
+          hosts = new-hosts (λ name. is_some (get s.contacts name)) (λ name. is_some (get s.hosts name)) new linked;
         })
         (λ n x at same. absurd (ungiven kinds.Domain request kinds.Domain x.roid (is.domains n x at).roid same))
 
@@ -205,16 +210,16 @@ module _ (p : PolicyRules) (r : ℕ) (tag : Option (List ℕ)) (s : Registry) (p
   kept-contact-deletion name taken =
       let c : Command = Asked tag (requests.DeleteContact name) in
       let free : is_linked_contact s name ≡ false =
-          sym (ap (holds_of (λ known. known.linked)) (at-itself name (contact_facts (finds r c s) c name)))
-          ∙ row-fails (refusals p r (requests.DeleteContact name) (facts r c s)) taken 8 3 _ _ refl refl refl in
+      sym (ap (holds_of (λ known. known.linked)) (at-itself name (contact_facts (finds r c s) c name)))
+      ∙ row-fails (refusals p r (requests.DeleteContact name) (facts r c s)) taken 8 3 _ _ refl refl refl in
       drop-contact p after_count kept-counted name (λ n d at. unlinked (names_contact name d.links) (value-fails (λ d. names_contact name d.links) s.domains n d at free))
 
   pub kept-host-deletion : (name : GivenName) → first_refusal (refusals p r (requests.DeleteHost name) (facts r (Asked tag (requests.DeleteHost name)) s)) ≡ None → IsRegistry p (changed_all (DropHost (name_of name) ∷ []) after_count)
   kept-host-deletion name taken =
       let c : Command = Asked tag (requests.DeleteHost name) in
       let free : is_linked_host s (name_of name) ≡ false =
-          sym (ap (holds_of (λ known. known.linked)) (at-itself (name_of name) (host_facts (finds r c s) c (name_of name))))
-          ∙ row-fails (refusals p r (requests.DeleteHost name) (facts r c s)) taken 8 4 _ _ refl refl refl in
+      sym (ap (holds_of (λ known. known.linked)) (at-itself (name_of name) (host_facts (finds r c s) c (name_of name))))
+      ∙ row-fails (refusals p r (requests.DeleteHost name) (facts r c s)) taken 8 4 _ _ refl refl refl in
       drop-host p after_count kept-counted (name_of name) (λ n d at. unlinked (names_host (name_of name) d.links) (value-fails (λ d. names_host (name_of name) d.links) s.domains n d at free))
 
   -- ---- updates of contacts and domains
@@ -253,9 +258,9 @@ module _ (p : PolicyRules) (r : ℕ) (tag : Option (List ℕ)) (s : Registry) (p
           let k = is.domains (name_of u.name) d at in
           kept-put-domain p after_count kept-counted (name_of u.name) d new at refl
           (domain-updated p after_count (name_of u.name) d (Some s.clock) new.statuses new.secret new.links (omega arith)
-              (updated-contacts (λ name. is_some (get s.contacts name)) (λ name. is_some (get s.hosts name)) u d.links linked k.contacts)
-              (updated-hosts (λ name. is_some (get s.contacts name)) (λ name. is_some (get s.hosts name)) u d.links linked k.hosts)
-              (kept-counted.domains (name_of u.name) d at))
+          (updated-contacts (λ name. is_some (get s.contacts name)) (λ name. is_some (get s.hosts name)) u d.links linked k.contacts)
+          (updated-hosts (λ name. is_some (get s.contacts name)) (λ name. is_some (get s.hosts name)) u d.links linked k.hosts)
+          (kept-counted.domains (name_of u.name) d at))
       by (Some (Named face transfer)) e = kept-counted
       by (Some (Public face)) e = kept-counted
 

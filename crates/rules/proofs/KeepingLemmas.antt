@@ -1,23 +1,19 @@
 -- Each change keeps a registry well formed, where what it puts or takes away fits.
-use Rattle.std.proofs.Common.{◌≡◌, ◌≢◌, ◌↔◌, ◌⊎◌, inl, inr, ⊎_elim, ℕ, ◌≤◌, Bool, true, false, cond, not, ◌||◌, List, [], ◌∷◌, filter, Option, Some, None, IsSome, is_some, refl, sym, ap, subst, subst₂, ◌∙◌, arith}
+use Rattle.std.proofs.Common.{◌≡◌, ◌≢◌, ◌↔◌, ◌⊎◌, inl, inr, ⊎_elim, ℕ, ◌≤◌, Bool, true, false, cond, not, ◌||◌, List, [], ◌∷◌, filter, Some, IsSome, is_some, refl, sym, ap, subst, subst₂, ◌∙◌, arith}
 use Rattle.std.specs.Cmp.{nat_cmp_total, Equal-is, eq_by_cmp_equiv}
 use Rattle.std.specs.Cmp.Lexicographic.{slice_cmp, bytes_decides}
 use Rattle.std.specs.FinMap.{FinMap, get, insert, remove, get-insert, nat_cmp-IsAntisymmetric}
-use Rattle.std.specs.List.{list_any}
 use Rattle.std.specs.Ordering.{eq_by_cmp, nat_cmp}
 use Rattle.std.specs.Str.{bytes_eq}
 use Rattle.accounts.specs.declared.account.Account.{Account}
-use Rattle.accounts.specs.Account.{counted, numbered}
 use Rattle.basis.specs.Bag.{add, precedes}
 use Rattle.basis.specs.Maps.{map_values}
 use Rattle.basis.proofs.BagLaws.{any-add}
 use Rattle.names.specs.Zone.{superordinate_of}
 use Rattle.objects.specs.declared.contact.Contact.{Contact}
 use Rattle.objects.specs.declared.domain.Domain.{Domain}
-use Rattle.objects.specs.declared.domain.Links.{Links}
 use Rattle.objects.specs.declared.host.Host.{Host}
 use Rattle.objects.specs.declared.roid.Roid.{Roid}
-use Rattle.objects.specs.declared.status.Status.{Status}
 use Rattle.objects.specs.Links.{has_name, names_contact, names_host}
 use Rattle.policy.specs.Rules.{PolicyRules, IsPlace}
 use Rattle.rules.specs.declared.change.Change.TheVariants.{PutContact, DropContact, PutDomain, PutHost, DropHost, Relink}
@@ -26,7 +22,7 @@ use Rattle.rules.proofs.GrowthLemmas.{Grows, contact-grown, domain-grown, host-g
 use Rattle.rules.proofs.NamedLemmas.{drop-cases, drop-keeps, drop-there, is-there, put-cases, put-is, put-keeps, put-there, remade-cases, remade-keeps}
 use Rattle.rules.proofs.ViewLemmas.{account_of-with_account}
 use Rattle.verdict.specs.Registry.{Registry, account_of, lapsed}
-use Rattle.verdict.specs.WellFormed.{HasBeen, IsContactOf, IsDomainOf, IsHostOf, IsRegistry}
+use Rattle.verdict.specs.WellFormed.{IsContactOf, IsDomainOf, IsHostOf, IsRegistry}
 
 -- ---- the clock and the accounts
 
@@ -182,8 +178,8 @@ module _ (p : PolicyRules) (s : Registry) (is : IsRegistry p s) where
         hosts = at-put (IsHostOf p (changed (PutHost h) s)) s.hosts h.name h (host-grown p p s _ grows (λ domain there. there) h.name h (subst (λ (n : List ℕ). IsHostOf p s n h) (sym fits.named) fits)) (λ n x at. host-grown p p s _ grows (λ domain there. there) n x (is.hosts n x at));
         domains = λ n d at. let k = is.domains n d at in same-domain s.contacts hosts s.domains n d k
             (λ host there. ⊎_elim
-                (λ same. ⊎_elim (λ before. inl (subst (λ (q : List ℕ). IsSome (get s.hosts q)) (sym (same ∙ fits.named)) before)) (λ other. inr (subst (λ (q : List ℕ). IsSome d.deletion → superordinate_of p.zone q ≢ Some d.name) (sym (same ∙ fits.named)) (other n d at))) free)
-                (λ before. inl before) (put-there s.hosts h.name h host there))
+            (λ same. ⊎_elim (λ before. inl (subst (λ (q : List ℕ). IsSome (get s.hosts q)) (sym (same ∙ fits.named)) before)) (λ other. inr (subst (λ (q : List ℕ). IsSome d.deletion → superordinate_of p.zone q ≢ Some d.name) (sym (same ∙ fits.named)) (other n d at))) free)
+            (λ before. inl before) (put-there s.hosts h.name h host there))
             k.contacts (λ host named. put-keeps s.hosts h.name h host (k.hosts host named));
         contact_roids = is.contact_roids;
         host_roids = apart-put host_roid s.hosts is.host_roids h.name h (λ n x at same. own n x at same ∙ sym fits.named);
@@ -268,15 +264,15 @@ module _ (p : PolicyRules) (s : Registry) (is : IsRegistry p s) where
       let apart : AreApart host_roid left = apart-drop host_roid s.hosts is.host_roids old in
       let own : IsItsOwn host_roid left h.name h.roid = λ n x at alike. let before = drop-cases s.hosts old n x at in absurd (before.0 (is.host_roids n old x o before.1 at-old (alike ∙ same))) in
       let one : (n : List ℕ) (d : Domain) → get s.domains n ≡ Some d → IsDomainOf p t n (relinked old h.name d) = λ n d at.
-          let k = is.domains n d at in
-          domain-grown p p s t grows n d (relinked_links old h.name d.links)
-          (λ host now. ⊎_elim (λ new. inr (subst (λ (q : List ℕ). IsSome d.deletion → superordinate_of p.zone q ≢ Some d.name) (sym new) (free n d at))) (λ before. inl (drop-there s.hosts old host before)) (put-there left h.name h host now))
-          k.contacts
-          (λ host named. ⊎_elim
-              (λ new. subst (λ (q : List ℕ). IsSome (get hosts q)) (sym new) (is-there (get hosts h.name) h (put-is left h.name h)))
-              (λ other. put-keeps left h.name h host (drop-keeps s.hosts old host other.0 (k.hosts host other.1)))
-              (renamed-listed old h.name d.links.hosts host named))
-          k in
+      let k = is.domains n d at in
+      domain-grown p p s t grows n d (relinked_links old h.name d.links)
+      (λ host now. ⊎_elim (λ new. inr (subst (λ (q : List ℕ). IsSome d.deletion → superordinate_of p.zone q ≢ Some d.name) (sym new) (free n d at))) (λ before. inl (drop-there s.hosts old host before)) (put-there left h.name h host now))
+      k.contacts
+      (λ host named. ⊎_elim
+      (λ new. subst (λ (q : List ℕ). IsSome (get hosts q)) (sym new) (is-there (get hosts h.name) h (put-is left h.name h)))
+      (λ other. put-keeps left h.name h host (drop-keeps s.hosts old host other.0 (k.hosts host other.1)))
+      (renamed-listed old h.name d.links.hosts host named))
+      k in
       record {
         accounts = is.accounts;
         contacts = λ n c at. contact-grown p p s t grows n c (is.contacts n c at);

@@ -8,7 +8,6 @@ use Rattle.std.specs.Str.{bytes_eq}
 use Rattle.std.proofs.lemmas.List.Folds.{list_any-append}
 use Rattle.basis.specs.Bag.{add, precedes}
 use Rattle.basis.proofs.BagLaws.{any-add}
-use Rattle.names.specs.declared.given.GivenName.{GivenName}
 use Rattle.names.specs.GivenName.{name_of}
 use Rattle.objects.specs.declared.domain.Links.{Links}
 use Rattle.objects.specs.Links.{has_name, in_order, names_contact, names_host}
@@ -88,7 +87,7 @@ module _ (there : List ℕ → Bool) where
   amended-there text old removed added name before none e =
       ⊎_elim (λ left. before (filter-has (λ n. not (is_among text removed n)) old name left)) (λ new. listed text added name none new)
       (either (has_name (kept text old removed) name) (has_name (map text added) name)
-          (sym (list_any-append (λ other. bytes_eq other name) (kept text old removed) (map text added)) ∙ sym (in_order-has (kept text old removed ++ map text added) name) ∙ e))
+      (sym (list_any-append (λ other. bytes_eq other name) (kept text old removed) (map text added)) ∙ sym (in_order-has (kept text old removed ++ map text added) name) ∙ e))
 
   ordered-there : {A : Type 0} (text : A → List ℕ) (items : List A) (name : List ℕ) → list_any (λ item. not (there (text item))) items ≡ false → has_name (in_order (map text items)) name ≡ true → there name ≡ true
   ordered-there text items name none e = listed text items name none (sym (in_order-has (map text items) name) ∙ e)
@@ -156,9 +155,9 @@ module _ (contact host : List ℕ → Bool) where
         let tech : Bool = has_name links.tech name in
         ⊎_elim (λ first. registrant-there u.registrant name given-passes.0 (λ was. before name (or-first (bytes_eq links.registrant name) (admin || tech) was)) first)
         (λ rest. ⊎_elim
-            (λ in-admin. amended-there contact itself links.admin u.rem.admin u.add.admin name (λ was. before name (or-second (bytes_eq links.registrant name) (admin || tech) (or-first admin tech was))) added-pass.0 in-admin)
-            (λ in-tech. amended-there contact itself links.tech u.rem.tech u.add.tech name (λ was. before name (or-second (bytes_eq links.registrant name) (admin || tech) (or-second admin tech was))) last-added-pass.0 in-tech)
-            (either (has_name (updated_links u links).admin name) (has_name (updated_links u links).tech name) rest))
+        (λ in-admin. amended-there contact itself links.admin u.rem.admin u.add.admin name (λ was. before name (or-second (bytes_eq links.registrant name) (admin || tech) (or-first admin tech was))) added-pass.0 in-admin)
+        (λ in-tech. amended-there contact itself links.tech u.rem.tech u.add.tech name (λ was. before name (or-second (bytes_eq links.registrant name) (admin || tech) (or-second admin tech was))) last-added-pass.0 in-tech)
+        (either (has_name (updated_links u links).admin name) (has_name (updated_links u links).tech name) rest))
         (either (bytes_eq (updated_links u links).registrant name) _ e)
 
     pub updated-hosts : ((name : List ℕ) → names_host name links ≡ true → host name ≡ true) → (name : List ℕ) → names_host name (updated_links u links) ≡ true → host name ≡ true

@@ -1,6 +1,6 @@
 -- An object that stands in for another at its name, and agrees with it in what a registry asks, keeps
 -- a registry well formed.
-use Rattle.std.proofs.Common.{◌≡◌, inl, ℕ, true, List, Option, Some, None, IsSome, refl, ap, ◌∙◌}
+use Rattle.std.proofs.Common.{◌≡◌, inl, ℕ, true, List, Option, Some, None, IsSome, refl, ◌∙◌}
 use Rattle.std.specs.FinMap.{get}
 use Rattle.objects.specs.declared.contact.Contact.{Contact}
 use Rattle.objects.specs.declared.contact.Postal.{Postal}
