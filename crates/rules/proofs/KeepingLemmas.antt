@@ -21,7 +21,7 @@ use Rattle.rules.specs.Changes.{changed, with_account, relinked, relinked_links,
 use Rattle.rules.proofs.GrowthLemmas.{Grows, contact-grown, domain-grown, host-grown}
 use Rattle.rules.proofs.NamedLemmas.{drop-cases, drop-keeps, drop-there, is-there, put-cases, put-is, put-keeps, put-there, remade-cases, remade-keeps}
 use Rattle.rules.proofs.ViewLemmas.{account_of-with_account}
-use Rattle.verdict.specs.Registry.{Registry, account_of, lapsed}
+use Rattle.verdict.specs.Registry.{Registry, account_of, lapsed, now}
 use Rattle.verdict.specs.WellFormed.{IsContactOf, IsDomainOf, IsHostOf, IsRegistry}
 
 -- ---- the clock and the accounts
@@ -44,6 +44,10 @@ kept-grown p q s accounts clock grows places is =
 -- time passes
 pub kept-lapsed : (p : PolicyRules) (moment : ℕ) (s : Registry) → IsRegistry p s → IsRegistry p (lapsed moment s)
 kept-lapsed p moment s is = kept-grown p p s s.accounts (lapsed moment s).clock (record { zone = refl; place = λ r place. place; clock = omega arith; serial = λ r. omega arith }) is.accounts is
+
+-- what is due by its own clock is done: nothing is yet
+pub kept-now : (p : PolicyRules) (s : Registry) → IsRegistry p s → IsRegistry p (now s)
+kept-now p s is = is
 
 serial-risen : (f : Account → Account) → ((a : Account) → a.serial ≤ (f a).serial) → (r other : ℕ) (s : Registry) → (account_of r s).serial ≤ (account_of r (with_account other f s)).serial
 serial-risen f rises r other s = subst (λ (a : Account). (account_of r s).serial ≤ a.serial) (sym (account_of-with_account r other f s)) (by (eq_by_cmp nat_cmp r other))
