@@ -1,2 +1,4 @@
 pub mod Isolations
 pub mod OpeningLemmas
+pub mod StepsKept
+pub mod OpenedLemmas

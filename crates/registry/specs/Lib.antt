@@ -1,3 +1,4 @@
 pub mod Faults
 pub mod Execution
 pub mod Opening
+pub mod WellFormed

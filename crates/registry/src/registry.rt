@@ -5,6 +5,7 @@ ghost use Rattle.policy.specs.Rules.{IsPlace};
 ghost use Rattle.registry.specs.Execution.{IsPrepared, IsStep, IsOrderStep, Fails, GoesBack, Keeps, last_call};
 ghost use Rattle.rules.specs.Isolation.{IsIsolated};
 ghost use Rattle.registry.specs.Opening.{Opens, Refuses};
+ghost use Rattle.registry.specs.WellFormed.{OpensWellFormed, StaysWellFormed};
 ghost use Rattle.rules.specs.Steps.{reply_of};
 ghost use Rattle.store.specs.Book.{Follows, IsSame, with_changes};
 ghost use Rattle.verdict.specs.Facts.{facts};
@@ -48,11 +49,12 @@ impl<B: Book + Drop> Registry<B> {
     /// Opens a book under a policy, and the accounts of the registrars that have none yet. A book
     /// that was used under another zone, other reserved labels, days or prices, or whose earlier
     /// registrars aren't the first of the policy, is refused. What is refused is handed back as it
-    /// was.
+    /// was. A new book, or one of a well formed registry, is opened as a well formed registry.
     pub fn open(alloc: Global, book: B, policy: Policy) -> Result<Registry<B>, (OpenFault, B)>
         requires { (B.state book).is_open ≡ false }
         ensures opened { IfOk result (λ registry. Opens policy (B.state book) (B.state registry.book)) }
         ensures policy { IfOk result (λ registry. registry.policy ≡ policy) }
+        ensures well_formed { IfOk result (λ registry. (B.state registry.book).is_clean ≡ true → OpensWellFormed policy (B.state book).content (B.state registry.book).content) }
         ensures refused { IfErr result (λ refusal. Refuses refusal.0 policy (B.state book) (B.state refusal.1)) }
     {
         let mut book = book;
@@ -76,7 +78,7 @@ impl<B: Book + Drop> Registry<B> {
     /// Answers a registrar's command at a moment; one before the clock counts as the clock.
     ///
     /// The reply, and what the registrar sees afterwards, are those in every registry that the
-    /// registrar can't tell from this one.
+    /// registrar can't tell from this one. A well formed registry stays well formed.
     pub fn execute(
         &mut self,
         caller: RegistrarNo,
@@ -86,6 +88,7 @@ impl<B: Book + Drop> Registry<B> {
         requires { IsPlace self.old.policy caller }
         ensures step { IfOk result (λ reply. (B.state self.new.book).is_clean ≡ true → IsStep self.old.policy caller command.now moment (B.state self.old.book).content.registry (B.state self.new.book).content.registry reply) }
         ensures isolation { IfOk result (λ reply. (B.state self.new.book).is_clean ≡ true → IsIsolated self.old.policy caller command.now moment (B.state self.old.book).content.registry (B.state self.new.book).content.registry reply) }
+        ensures well_formed { IfOk result (λ reply. (B.state self.new.book).is_clean ≡ true → StaysWellFormed self.old.policy caller (B.state self.old.book).content.registry (B.state self.new.book).content.registry) }
         ensures fault { IfErr result (λ fault. Fails fault (B.state self.old.book) (B.state self.new.book)) }
         ensures late { (result ≡ Err Fault.Moment) ↔ (last_call < moment) }
         ensures follows { Follows (B.state self.old.book) (B.state self.new.book) }

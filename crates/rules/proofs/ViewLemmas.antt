@@ -134,7 +134,7 @@ same_view r c s t alike = sym (forget-view_with (secrets_of c) r s) ∙ ap (forg
 
 -- ---- each change, as it is seen
 
-abbrev own : ℕ → ℕ → (Account → Account) → Account → Account
+abbrev pub own : ℕ → ℕ → (Account → Account) → Account → Account
 own r other f a = cond (eq_by_cmp nat_cmp r other) (f a) a
 
 seen_change : ℕ → Change → View → View
@@ -158,7 +158,7 @@ own-account : (f : Account → Account) (s : Registry) (r other : ℕ) (b : Bool
 own-account f s r other true e = ap (λ q. f (account_of q s)) (sym (nat_cmp-IsAntisymmetric r other ((Equal-is (nat_cmp r other)).0 e)))
 own-account f s r other false e = refl
 
-account_of-with_account : (r other : ℕ) (f : Account → Account) (s : Registry) → account_of r (with_account other f s) ≡ own r other f (account_of r s)
+pub account_of-with_account : (r other : ℕ) (f : Account → Account) (s : Registry) → account_of r (with_account other f s) ≡ own r other f (account_of r s)
 account_of-with_account r other f s =
     ap (λ o. unwrap_or o empty_account) (get-insert nat_cmp_total s.accounts other (f (account_of other s)) r)
     ∙ found-or (eq_by_cmp nat_cmp r other) (f (account_of other s)) empty_account (get s.accounts r)

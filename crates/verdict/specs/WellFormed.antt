@@ -1,6 +1,6 @@
 -- When a value of the registry's maps is a registry. What a registrar may learn is promised of every
--- value, so no promise asks for this.
-use Rattle.std.specs.Prelude.{◌≡◌, ℕ, ◌≤◌, false, List, [], Option, Some, None, IsSome, ◌↔◌}
+-- value, so no promise of that asks for this: it is what the steps of the registry keep.
+use Rattle.std.specs.Prelude.{◌≡◌, ◌≢◌, ℕ, ◌≤◌, true, false, List, Option, Some, None, IsSome, ◌↔◌}
 use Rattle.std.specs.FinMap.{get}
 use Rattle.names.specs.Zone.{superordinate_of}
 use Rattle.objects.specs.declared.contact.Contact.{Contact}
@@ -11,9 +11,9 @@ use Rattle.objects.specs.declared.roid.ObjectKind.{ObjectKind}
 use Rattle.objects.specs.declared.roid.ObjectKind.TheVariants as kinds
 use Rattle.objects.specs.declared.roid.Roid.{Roid}
 use Rattle.objects.specs.declared.transfer.Transfer.{Transfer}
+use Rattle.objects.specs.Links.{names_contact, names_host}
 use Rattle.objects.specs.Transfers.{is_pending, is_pending_state}
 use Rattle.policy.specs.Rules.{PolicyRules, IsPlace}
-use Rattle.verdict.specs.Facts.{subordinate}
 use Rattle.verdict.specs.Registry.{Registry, account_of}
 
 -- the ROID of an object of this kind: its creator's own number for it (RFC 5730, 2.8)
@@ -39,15 +39,15 @@ IsLastTransfer p s None = Unit {0}
 IsLastTransfer p s (Some t) = IsTransfer p s t
 
 -- a deleted domain has neither subordinate hosts nor a pending transfer (RFC 5731, 3.2.2)
-pub record IsDeleted (s : Registry) (d : Domain) (deletion : Deletion) : Type 0 where
+pub record IsDeleted (p : PolicyRules) (s : Registry) (d : Domain) (deletion : Deletion) : Type 0 where
   pub deleted : deletion.deleted ≤ s.clock
   pub requested : HasBeen s deletion.restore_requested
-  pub hosts : subordinate s d.name ≡ []
+  pub hosts : (host : List ℕ) → IsSome (get s.hosts host) → superordinate_of p.zone host ≢ Some d.name
   pub transfer : is_pending d.transfer ≡ false
 
-abbrev pub IsDeletion : Registry → Domain → Option Deletion → Type 0
-IsDeletion s d None = Unit {0}
-IsDeletion s d (Some deletion) = IsDeleted s d deletion
+abbrev pub IsDeletion : PolicyRules → Registry → Domain → Option Deletion → Type 0
+IsDeletion p s d None = Unit {0}
+IsDeletion p s d (Some deletion) = IsDeleted p s d deletion
 
 pub record IsContactOf (p : PolicyRules) (s : Registry) (name : List ℕ) (c : Contact) : Type 0 where
   pub named : c.name ≡ name
@@ -71,6 +71,7 @@ pub record IsHostOf (p : PolicyRules) (s : Registry) (name : List ℕ) (h : Host
   pub created : h.created ≤ s.clock
   pub updated : HasBeen s h.updated
 
+-- a domain names only contacts and hosts that are there (RFC 5731, 3.2.1)
 pub record IsDomainOf (p : PolicyRules) (s : Registry) (name : List ℕ) (d : Domain) : Type 0 where
   pub named : d.name ≡ name
   pub roid : HasRoid p s kinds.Domain d.roid
@@ -79,10 +80,12 @@ pub record IsDomainOf (p : PolicyRules) (s : Registry) (name : List ℕ) (d : Do
   pub transferred : HasBeen s d.transferred
   pub updated : HasBeen s d.updated
   pub transfer : IsLastTransfer p s d.transfer
-  pub deletion : IsDeletion s d d.deletion
+  pub deletion : IsDeletion p s d d.deletion
+  pub contacts : (contact : List ℕ) → names_contact contact d.links ≡ true → IsSome (get s.contacts contact)
+  pub hosts : (host : List ℕ) → names_host host d.links ≡ true → IsSome (get s.hosts host)
 
--- Exactly the policy's registrars have accounts, each object stands under its name, and no two of a
--- kind share a ROID. That links name what is there enters with contacts and hosts.
+-- Exactly the policy's registrars have accounts, each object stands under its name, domains name what
+-- is there, and no two objects of a kind share a ROID.
 pub record IsRegistry (p : PolicyRules) (s : Registry) : Type 0 where
   pub accounts : (r : ℕ) → IsSome (get s.accounts r) ↔ IsPlace p r
   pub contacts : (name : List ℕ) (c : Contact) → get s.contacts name ≡ Some c → IsContactOf p s name c

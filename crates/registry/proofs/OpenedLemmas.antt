@@ -1,0 +1,120 @@
+-- What is opened is a registry of the policy.
+use Rattle.std.proofs.Common.{◌≡◌, ◌↔◌, ◌⊎◌, inl, inr, ⊎_elim, ℕ, zero, suc, ◌+◌, ◌≤◌, Bool, true, false, cond, List, [], ◌∷◌, ◌++◌, length, Option, Some, None, IsSome, is_some, refl, sym, ap, subst, ◌∙◌, arith, length-append}
+use lib.ListN.{length-map}
+use Rattle.std.specs.declared.cmp.Ordering.{Ordering}
+use Rattle.std.specs.Cmp.Lexicographic.{slice_cmp}
+use Rattle.std.specs.FinMap.{FinMap, empty, get, get-empty, insert}
+use Rattle.std.specs.Ordering.{eq_by_cmp, nat_cmp}
+use Rattle.accounts.specs.declared.account.Account.{Account}
+use Rattle.policy.specs.declared.registrar.Registrar.{Registrar}
+use Rattle.policy.specs.Rules.{PolicyRules, IsPlace}
+use Rattle.policy.specs.Terms.{Continues, ids_of, terms_of}
+use Rattle.policy.proofs.TermsLemmas.{continues-Decides}
+use Rattle.registry.specs.Opening.{Opens, goes_on, opened, openings}
+use Rattle.registry.specs.WellFormed.{HoldsRegistry, OpensWellFormed}
+use Rattle.rules.specs.declared.change.Change.{Change}
+use Rattle.rules.specs.declared.change.Change.TheVariants.{OpenAccount}
+use Rattle.rules.specs.Changes.{changed, changed_all, itself, with_account}
+use Rattle.rules.proofs.GrowthLemmas.{Grows}
+use Rattle.rules.proofs.KeepingLemmas.{kept-grown, placed}
+use Rattle.rules.proofs.ViewLemmas.{account_of-with_account}
+use Rattle.store.specs.Book.{BookState, Stored}
+use Rattle.verdict.specs.Registry.{Registry, account_of, blank}
+use Rattle.verdict.specs.WellFormed.{IsRegistry}
+
+-- ---- the accounts, once those of the first n registrars are open
+
+accounts-after : ℕ → Registry → FinMap nat_cmp Account
+accounts-after zero s = s.accounts
+accounts-after (suc n) s = (with_account (suc n) itself (record s { accounts = accounts-after n s })).accounts
+
+changed_all-push : (changes : List Change) (change : Change) (s : Registry) → changed_all (changes ++ change ∷ []) s ≡ changed change (changed_all changes s)
+changed_all-push [] change s = refl
+changed_all-push (first ∷ changes) change s = changed_all-push changes change (changed first s)
+
+changed-openings : (n : ℕ) (s : Registry) → changed_all (openings n) s ≡ record s { accounts = accounts-after n s }
+unfolding openings accounts-after
+changed-openings zero s = refl
+changed-openings (suc n) s = changed_all-push (openings n) (OpenAccount (suc n)) s ∙ ap (λ (t : Registry). changed (OpenAccount (suc n)) t) (changed-openings n s)
+
+-- each account that was there is as it was
+same-account : (n r : ℕ) (s : Registry) → account_of r (record s { accounts = accounts-after n s }) ≡ account_of r s
+unfolding accounts-after
+same-account zero r s = refl
+same-account (suc n) r s = account_of-with_account r (suc n) itself (record s { accounts = accounts-after n s }) ∙ by (eq_by_cmp nat_cmp r (suc n)) ∙ same-account n r s
+  where
+    by : (b : Bool) → (let a : Account = account_of r (record s { accounts = accounts-after n s }) in cond b (itself a) a ≡ a)
+    by true = refl
+    by false = refl
+
+-- whose accounts there are
+places-after : (n r : ℕ) (s : Registry) → IsSome (get (accounts-after n s) r) ↔ (IsSome (get s.accounts r) ⊎ ((1 ≤ r) × (r ≤ n)))
+unfolding accounts-after
+places-after zero r s = (λ there. inl there, ⊎_elim (λ there. there) (λ place. absurd (omega (arith, place.0, place.1))))
+places-after (suc n) r s =
+    let put = placed (accounts-after n s) (suc n) (account_of (suc n) (record s { accounts = accounts-after n s })) r in
+    let before = places-after n r s in (
+      λ there. ⊎_elim (λ same. inr (omega (arith, same), omega (arith, same))) (λ old. ⊎_elim (λ was. inl was) (λ place. inr (place.0, omega (arith, place.1))) (before.0 old)) (put.0 there),
+      λ which. ⊎_elim (λ was. put.1 (inr (before.1 (inl was)))) (λ place. ⊎_elim (λ first. put.1 (inr (before.1 (inr (place.0, first))))) (λ same. put.1 (inl same)) (last place.1)) which,
+    )
+  where
+    last : r ≤ suc n → (r ≤ n) ⊎ (r ≡ suc n)
+    last le = grind arith
+
+-- ---- a registry is opened under a policy that continues its own
+
+kept-opened : (p q : PolicyRules) (s : Registry) → q.zone ≡ p.zone → length q.registrars ≤ length p.registrars → IsRegistry q s → IsRegistry p (changed_all (openings (length p.registrars)) s)
+kept-opened p q s zone more is =
+    let n : ℕ = length p.registrars in
+    let grows : Grows q p s (record s { accounts = accounts-after n s }) = record {
+      zone = zone;
+      place = λ r place. (place.0, omega (arith, place.1, more));
+      clock = omega arith;
+      serial = λ r. omega (arith, ap (λ (a : Account). a.serial) (same-account n r s));
+    } in
+    let places : (r : ℕ) → IsSome (get (accounts-after n s) r) ↔ IsPlace p r = λ r.
+    (λ there. ⊎_elim (λ was. grows.place r ((is.accounts r).0 was)) (λ place. place) ((places-after n r s).0 there), λ place. (places-after n r s).1 (inr place)) in
+    subst (IsRegistry p) (sym (changed-openings n s)) (kept-grown q p s (accounts-after n s) s.clock grows places is)
+
+-- ---- what was never opened is the registry of a policy without registrars
+
+abbrev without_registrars : PolicyRules → PolicyRules
+without_registrars p = record p { registrars = [] }
+
+nothing-at : {K X : Type 0} (R : K → K → Ordering) (k : K) (x : X) → get (empty {X = X} {R = R}) k ≡ Some x → ⊥
+nothing-at R k x at = let never : None ≡ Some x = sym (get-empty R k) ∙ at in cc
+
+nobody-there : (r : ℕ) → IsSome (get blank.accounts r) → ⊥
+nobody-there r there = let never : false ≡ true = sym (ap is_some (get-empty nat_cmp r)) ∙ there in cc
+
+blank-is : (p : PolicyRules) → IsRegistry (without_registrars p) blank
+blank-is p = record {
+  accounts = λ r. (λ there. absurd (nobody-there r there), λ place. absurd (omega (arith, place.0, place.1)));
+  contacts = λ name c at. absurd (nothing-at (slice_cmp nat_cmp) name c at);
+  hosts = λ name h at. absurd (nothing-at (slice_cmp nat_cmp) name h at);
+  domains = λ name d at. absurd (nothing-at (slice_cmp nat_cmp) name d at);
+  contact_roids = λ a b x y at-a at-b same. absurd (nothing-at (slice_cmp nat_cmp) a x at-a);
+  host_roids = λ a b x y at-a at-b same. absurd (nothing-at (slice_cmp nat_cmp) a x at-a);
+  domain_roids = λ a b x y at-a at-b same. absurd (nothing-at (slice_cmp nat_cmp) a x at-a);
+}
+
+-- ---- a book is opened
+
+fewer : (p q : PolicyRules) (added : List (List ℕ)) → ids_of p.registrars ≡ ids_of q.registrars ++ added → length q.registrars ≤ length p.registrars
+fewer p q added ids =
+    let whole : length (ids_of p.registrars) ≡ length (ids_of q.registrars) + length added = ap length ids ∙ length-append (ids_of q.registrars) added in
+    let of_p : length (ids_of p.registrars) ≡ length p.registrars = length-map p.registrars (λ (registrar : Registrar). registrar.id) in
+    let of_q : length (ids_of q.registrars) ≡ length q.registrars = length-map q.registrars (λ (registrar : Registrar). registrar.id) in
+    omega arith
+
+held-opened : (p : PolicyRules) (held : Stored) → goes_on (terms_of p) held.terms ≡ true → HoldsRegistry held → IsRegistry p (opened p held).registry
+held-opened p held fits (inl e) =
+    subst (λ (held : Stored). IsRegistry p (opened p held).registry) (sym e) (kept-opened p (without_registrars p) blank refl (omega arith) (blank-is p))
+held-opened p held fits (inr before) =
+    let q : PolicyRules = before.0 in
+    let same : Continues (terms_of p) (terms_of q) = (continues-Decides (terms_of p) (terms_of q)).0 (sym (ap (goes_on (terms_of p)) before.1) ∙ fits) in
+    let zone : q.zone ≡ p.zone = λ i. record { label = sym same.zone i; reserved = sym same.reserved i } in
+    kept-opened p q held.registry zone (fewer p q same.ids.0 same.ids.1) before.2
+
+pub opens-kept : (p : PolicyRules) (old new : BookState) → Opens p old new → new.is_clean ≡ true → OpensWellFormed p old.content new.content
+opens-kept p old new opens clean holds = subst (λ (held : Stored). IsRegistry p held.registry) (sym (opens.content clean)) (held-opened p old.content (opens.fits clean) holds)

@@ -1,0 +1,22 @@
+-- A step of the rules leaves a registry.
+use Rattle.std.proofs.Common.{◌≡◌, ℕ, Result, Ok, Err, IfOk, sym, subst}
+use Rattle.policy.specs.Rules.{PolicyRules, IsPlace}
+use Rattle.registry.specs.Execution.{IsStep}
+use Rattle.registry.specs.WellFormed.{StaysWellFormed}
+use Rattle.rules.specs.Steps.{effect}
+use Rattle.rules.proofs.KeepingLemmas.{kept-lapsed, kept-now}
+use Rattle.rules.proofs.WellFormedLemmas.{kept-effect}
+use Rattle.verdict.specs.declared.command.Command.{Command}
+use Rattle.verdict.specs.declared.reply.Reply.{Reply}
+use Rattle.verdict.specs.Registry.{Registry, lapsed, now}
+use Rattle.verdict.specs.WellFormed.{IsRegistry}
+
+stays : (p : PolicyRules) (r : ℕ) (c : Command) (moment : ℕ) (before after : Registry) → IsPlace p r → now after ≡ now (effect p r c (lapsed moment before)) → StaysWellFormed p r before after
+stays p r c moment before after place left is small =
+    let passed : Registry = lapsed moment before in
+    subst (IsRegistry p) (sym left) (kept-now p (effect p r c passed) (kept-effect p r c passed place (kept-lapsed p moment before is) small))
+
+pub kept_step : {E : Type 0} (result : Result Reply E) (clean : Type 0) (p : PolicyRules) (r : ℕ) (c : Command) (moment : ℕ) (before after : Registry) → IsPlace p r
+    → IfOk result (λ reply. clean → IsStep p r c moment before after reply) → IfOk result (λ reply. clean → StaysWellFormed p r before after)
+kept_step (Ok reply) clean p r c moment before after place step = λ taken. stays p r c moment before after place (step taken).left
+kept_step (Err e) clean p r c moment before after place step = tt

@@ -1,0 +1,309 @@
+-- What each command that isn't refused changes keeps a registry well formed.
+use Rattle.std.proofs.Common.{◌≡◌, ◌≢◌, inr, ℕ, ◌<◌, ◌≤◌, ◌+◌, ◌==◌, Bool, true, false, cond, ◌&&◌, ◌||◌, List, [], ◌∷◌, Option, Some, None, IsSome, is_none, is_some, option_and_then, option_map, refl, sym, ap, ap₂, subst, ◌∙◌, arith, eqb-true}
+use Rattle.std.specs.Cmp.{nat_cmp_total, eq_by_cmp_equiv}
+use Rattle.std.specs.Cmp.Lexicographic.{bytes_decides}
+use Rattle.std.specs.FinMap.{get}
+use Rattle.std.specs.Str.{bytes_eq}
+use Rattle.accounts.specs.declared.account.Account.{Account}
+use Rattle.accounts.specs.Account.{counted, numbered, raised}
+use Rattle.names.specs.declared.given.GivenName.{GivenName}
+use Rattle.names.specs.GivenName.{name_of}
+use Rattle.names.specs.Zone.{last_two_of, superordinate_of}
+use Rattle.names.proofs.LastTwoLemmas.{last_two-superordinate}
+use Rattle.objects.specs.declared.contact.Contact.{Contact}
+use Rattle.objects.specs.declared.contact.ContactFace.{ContactFace}
+use Rattle.objects.specs.declared.domain.Domain.{Domain}
+use Rattle.objects.specs.declared.domain.DomainFace.{DomainFace}
+use Rattle.objects.specs.declared.host.Host.{Host}
+use Rattle.objects.specs.declared.roid.ObjectKind.{ObjectKind}
+use Rattle.objects.specs.declared.roid.ObjectKind.TheVariants as kinds
+use Rattle.objects.specs.declared.roid.Roid.{Roid}
+use Rattle.objects.specs.declared.sight.Seen.{Seen}
+use Rattle.objects.specs.declared.sight.Seen.TheVariants.{Full, Named, Public}
+use Rattle.objects.specs.declared.transfer.Transfer.{Transfer}
+use Rattle.objects.specs.Contacts.{contact_face_of}
+use Rattle.objects.specs.Domains.{face_of}
+use Rattle.objects.specs.Links.{names_contact, names_host}
+use Rattle.objects.specs.Sight.{contact_as, domain_as, is_party, is_right, outside}
+use Rattle.objects.specs.Statuses.{amended_statuses}
+use Rattle.objects.specs.Transfers.{names}
+use Rattle.policy.specs.Rules.{PolicyRules, IsPlace}
+use Rattle.rules.specs.declared.change.Change.TheVariants.{DropContact, DropHost, PutContact, PutDomain, PutHost, TakeSerial}
+use Rattle.rules.specs.Changes.{changed_all, with_account}
+use Rattle.rules.specs.Decisions.{by_of, contact_changes, domain_changes, host_changes, new_contact, new_domain, new_host, new_roid, renaming, updated_contact, updated_domain, updated_by}
+use Rattle.rules.proofs.KeepingLemmas.{IsUndeleted, drop-contact, drop-host, kept-account, put-contact, put-domain, put-host, rename-host}
+use Rattle.rules.proofs.LinkLemmas.{new-contacts, new-hosts, updated-contacts, updated-hosts}
+use Rattle.rules.proofs.NamedLemmas.{value-fails}
+use Rattle.rules.proofs.RowLemmas.{neither, row-fails}
+use Rattle.rules.proofs.StandInLemmas.{contact-updated, domain-updated, kept-put-contact, kept-put-domain, kept-put-host}
+use Rattle.rules.proofs.ViewLemmas.{account_of-with_account}
+use Rattle.verdict.specs.declared.command.Command.{Command}
+use Rattle.verdict.specs.declared.command.Command.TheVariants.{Asked}
+use Rattle.verdict.specs.declared.command.ContactUpdate.{ContactUpdate}
+use Rattle.verdict.specs.declared.command.DomainUpdate.{DomainUpdate}
+use Rattle.verdict.specs.declared.command.HostUpdate.{HostUpdate}
+use Rattle.verdict.specs.declared.command.NewContact.{NewContact}
+use Rattle.verdict.specs.declared.command.NewDomain.{NewDomain}
+use Rattle.verdict.specs.declared.command.NewHost.{NewHost}
+use Rattle.verdict.specs.declared.command.Request.{Request}
+use Rattle.verdict.specs.declared.command.Request.TheVariants as requests
+use Rattle.verdict.specs.declared.facts.Facts.{Facts}
+use Rattle.verdict.specs.declared.facts.HostFacts.{HostFacts}
+use Rattle.verdict.specs.declared.facts.Superordinate.{Superordinate}
+use Rattle.verdict.specs.Conditions.{final_name, has_no_superordinate, holds_of, host_seen_shows, prohibits_update, superordinate_is_deleted}
+use Rattle.verdict.specs.Facts.{contact_facts, contact_seen, domain_facts, domain_seen, facts, finds, host_facts, host_seen, is_linked_contact, is_linked_host, superordinate_of_domain}
+use Rattle.verdict.specs.Lists.{amended, itself}
+use Rattle.verdict.specs.Refusals.{first_refusal}
+use Rattle.verdict.specs.Registry.{Registry, account_of}
+use Rattle.verdict.specs.Rules.{refusals}
+use Rattle.verdict.specs.WellFormed.{BelongsTo, HasRoid, IsRegistry}
+
+-- ---- what is seen in full is the object itself
+
+full-is : {O F : Type 0} (r : ℕ) (o : O) (face : F) (t : Option Transfer) (b : Bool) (x : O) → cond b (Full o) (outside r face t) ≡ Full x → o ≡ x
+full-is r o face t true x e = cc
+full-is r o face None false x e = absurd cc
+full-is {O} {F} r o face (Some t) false x e = by (names r t) e
+  where
+    by : (b : Bool) → (let seen : Seen O F = cond b (Named face t) (Public face) in seen ≡ Full x) → o ≡ x
+    by true e = absurd cc
+    by false e = absurd cc
+
+contact-full : (r : ℕ) (presented : Option (List ℕ)) (found : Option Contact) (c : Contact) → option_map (contact_as r presented) found ≡ Some (Full c) → found ≡ Some c
+contact-full r presented None c e = absurd cc
+contact-full r presented (Some o) c e =
+    let same : contact_as r presented o ≡ Full c = cc in
+    ap (λ (x : Contact). Some x) (full-is r o (contact_face_of o) o.transfer (is_party r o.sponsor o.transfer || is_right presented o.secret) c same)
+
+domain-full : (r : ℕ) (presented : Option (List ℕ)) (found : Option Domain) (d : Domain) → option_map (domain_as r presented) found ≡ Some (Full d) → found ≡ Some d
+domain-full r presented None d e = absurd cc
+domain-full r presented (Some o) d e =
+    let same : domain_as r presented o ≡ Full d = cc in
+    ap (λ (x : Domain). Some x) (full-is r o (face_of o) o.transfer (is_party r o.sponsor o.transfer || is_right presented o.secret) d same)
+
+-- ---- what is found first in a list of one, by its own name
+
+at-itself : {A : Type 0} (name : List ℕ) (known : A) → (let found : Option A = cond (bytes_eq name name) (Some known) None in found ≡ Some known)
+at-itself name known = ap (λ (b : Bool). let found : Option _ = cond b (Some known) None in found) ((bytes_decides name name).1 refl)
+
+-- ---- serials
+
+raised-next : (n : ℕ) → n < 4_611_686_018_427_387_904 → raised n ≡ n + 1
+raised-next n small = by (n == 0xFFFF_FFFF_FFFF_FFFF) refl
+  where
+    by : (b : Bool) → (n == 0xFFFF_FFFF_FFFF_FFFF) ≡ b → cond b n (n + 1) ≡ n + 1
+    by true is = absurd (omega (arith, eqb-true n 0xFFFF_FFFF_FFFF_FFFF is))
+    by false is = refl
+
+account-after : (r : ℕ) (f : Account → Account) (s : Registry) → account_of r (with_account r f s) ≡ f (account_of r s)
+account-after r f s = account_of-with_account r r f s ∙ ap (λ (b : Bool). cond b (f (account_of r s)) (account_of r s)) ((eq_by_cmp_equiv nat_cmp_total).refl r)
+
+module _ (p : PolicyRules) (r : ℕ) (tag : Option (List ℕ)) (s : Registry) (place : IsPlace p r) (is : IsRegistry p s) where
+  -- the registry once the command is counted
+  abbrev after_count : Registry
+  after_count = with_account r counted s
+
+  pub kept-counted : IsRegistry p after_count
+  kept-counted = kept-account p r counted (λ a. omega arith) s place is
+
+  -- ---- a name that a host is to have (RFC 5732, 3.2.1)
+
+  abbrev found_above : Option (List ℕ) → Option Superordinate
+  found_above domain = option_and_then (λ n. option_map superordinate_of_domain (get s.domains n)) domain
+
+  domain-there : (o : Option Domain) → is_none (option_map superordinate_of_domain o) ≡ false → IsSome o
+  domain-there None e = absurd cc
+  domain-there (Some d) e = refl
+
+  belongs-new : (name : List ℕ) → (is_some (superordinate_of p.zone name) && is_none (found_above (last_two_of name))) ≡ false → BelongsTo p s (superordinate_of p.zone name) (by_of p.zone r name)
+  belongs-new name based = by (superordinate_of p.zone name) refl based
+    where
+      by : (o : Option (List ℕ)) → superordinate_of p.zone name ≡ o → (is_some o && is_none (found_above (last_two_of name))) ≡ false → BelongsTo p s o (cond (is_some o) None (Some r))
+      by None e based = place
+      by (Some domain) e based = (domain-there (get s.domains domain) (sym (ap (λ (o : Option (List ℕ)). is_none (found_above o)) (last_two-superordinate p.zone name domain e)) ∙ based), refl)
+
+  undeleted-new : (name : List ℕ) → (is_some (superordinate_of p.zone name) && holds_of (λ above. above.is_deleted) (found_above (last_two_of name))) ≡ false → IsUndeleted p s name
+  undeleted-new name alive n d at deleted e =
+      let last : last_two_of name ≡ Some n = last_two-superordinate p.zone name d.name e ∙ ap (λ (q : List ℕ). Some q) (is.domains n d at).named in
+      let found : found_above (last_two_of name) ≡ Some (superordinate_of_domain d) = ap found_above last ∙ ap (option_map superordinate_of_domain) at in
+      let never : true ≡ false = sym deleted ∙ sym (ap₂ (λ (o : Option (List ℕ)) (x : Option Superordinate). is_some o && holds_of (λ above. above.is_deleted) x) e found) ∙ alive in
+      absurd cc
+
+  -- ---- creates: the serial is taken first, and then the object put, which leaves the same
+
+  module _ (small : (account_of r s).serial < 4_611_686_018_427_387_904) where
+    abbrev numbered_too : Registry
+    numbered_too = with_account r numbered after_count
+
+    numbered-rises : (a : Account) → a.serial ≤ (numbered a).serial
+    numbered-rises a = by (a.serial == 0xFFFF_FFFF_FFFF_FFFF)
+      where
+        by : (b : Bool) → a.serial ≤ cond b a.serial (a.serial + 1)
+        by true = omega arith
+        by false = omega arith
+
+    kept-numbered : IsRegistry p numbered_too
+    kept-numbered = kept-account p r numbered numbered-rises after_count place kept-counted
+
+    serial-after : (account_of r numbered_too).serial ≡ raised (account_of r s).serial
+    serial-after = ap (λ (a : Account). a.serial) (account-after r numbered after_count) ∙ ap (λ (a : Account). raised a.serial) (account-after r counted s)
+
+    module _ (kind : ObjectKind) (request : Request) where
+      abbrev given : Roid
+      given = new_roid kind r (facts r (Asked tag request) s)
+
+      has-given : HasRoid p numbered_too kind given
+      has-given = record { kind_is = refl; creator = place; serial = omega (arith, serial-after) }
+
+      -- no object has it yet
+      ungiven : (other : ObjectKind) (roid : Roid) → HasRoid p s other roid → roid ≢ given
+      ungiven other roid has same =
+          let at : roid.serial ≤ (account_of r s).serial = subst (λ (q : ℕ). roid.serial ≤ (account_of q s).serial) (ap (λ (x : Roid). x.creator) same) has.serial in
+          let next : roid.serial ≡ raised (account_of r s).serial = ap (λ (x : Roid). x.serial) same in
+          omega (arith, raised-next (account_of r s).serial small)
+
+    pub kept-new-contact : (new : NewContact) → let f : Facts = facts r (Asked tag (requests.CreateContact new)) s in IsRegistry p (changed_all (PutContact (new_contact r s.clock f new) ∷ TakeSerial r ∷ []) after_count)
+    kept-new-contact new =
+        let request : Request = requests.CreateContact new in
+        put-contact p numbered_too kept-numbered new.name (new_contact r s.clock (facts r (Asked tag request) s) new)
+        (record { named = refl; roid = has-given kinds.Contact request; sponsor = place; created = omega arith; transferred = tt; updated = tt; transfer = tt })
+        (λ n x at same. absurd (ungiven kinds.Contact request kinds.Contact x.roid (is.contacts n x at).roid same))
+
+    pub kept-new-domain : (new : NewDomain) → let f : Facts = facts r (Asked tag (requests.CreateDomain new)) s in f.lacks_link ≡ false
+        → IsRegistry p (changed_all (PutDomain (new_domain r s.clock f new) ∷ TakeSerial r ∷ []) after_count)
+    kept-new-domain new linked =
+        let request : Request = requests.CreateDomain new in
+        put-domain p numbered_too kept-numbered (name_of new.name) (new_domain r s.clock (facts r (Asked tag request) s) new)
+        (record {
+          named = refl;
+          roid = has-given kinds.Domain request;
+          sponsor = place;
+          created = omega arith;
+          transferred = tt;
+          updated = tt;
+          transfer = tt;
+          deletion = tt;
+          contacts = new-contacts (λ name. is_some (get s.contacts name)) (λ name. is_some (get s.hosts name)) new linked;
+          hosts = new-hosts (λ name. is_some (get s.contacts name)) (λ name. is_some (get s.hosts name)) new linked;
+        })
+        (λ n x at same. absurd (ungiven kinds.Domain request kinds.Domain x.roid (is.domains n x at).roid same))
+
+    pub kept-new-host : (new : NewHost) → let f : Facts = facts r (Asked tag (requests.CreateHost new)) s in first_refusal (refusals p r (requests.CreateHost new) f) ≡ None
+        → IsRegistry p (changed_all (PutHost (new_host p.zone r s.clock f new) ∷ TakeSerial r ∷ []) after_count)
+    kept-new-host new taken =
+        let request : Request = requests.CreateHost new in
+        let c : Command = Asked tag request in
+        let known : HostFacts = host_facts (finds r c s) c (name_of new.name) in
+        let based : has_no_superordinate p.zone known ≡ false = sym (ap (holds_of (has_no_superordinate p.zone)) (at-itself (name_of new.name) known)) ∙ row-fails (refusals p r request (facts r c s)) taken 2 2 _ _ refl refl refl in
+        let alive : superordinate_is_deleted p.zone known ≡ false = sym (ap (holds_of (superordinate_is_deleted p.zone)) (at-itself (name_of new.name) known)) ∙ row-fails (refusals p r request (facts r c s)) taken 7 4 _ _ refl refl refl in
+        put-host p numbered_too kept-numbered (name_of new.name) (new_host p.zone r s.clock (facts r c s) new)
+        (record { named = refl; roid = has-given kinds.Host request; belongs = belongs-new (name_of new.name) based; created = omega arith; updated = tt })
+        (λ n x at same. absurd (ungiven kinds.Host request kinds.Host x.roid (is.hosts n x at).roid same))
+        (inr (undeleted-new (name_of new.name) alive))
+
+  -- ---- deletes
+
+  unlinked : (linked : Bool) → linked ≡ false → linked ≢ true
+  unlinked linked e f = let never : false ≡ true = sym e ∙ f in absurd cc
+
+  pub kept-contact-deletion : (name : List ℕ) → first_refusal (refusals p r (requests.DeleteContact name) (facts r (Asked tag (requests.DeleteContact name)) s)) ≡ None → IsRegistry p (changed_all (DropContact name ∷ []) after_count)
+  kept-contact-deletion name taken =
+      let c : Command = Asked tag (requests.DeleteContact name) in
+      let free : is_linked_contact s name ≡ false =
+      sym (ap (holds_of (λ known. known.linked)) (at-itself name (contact_facts (finds r c s) c name)))
+      ∙ row-fails (refusals p r (requests.DeleteContact name) (facts r c s)) taken 8 3 _ _ refl refl refl in
+      drop-contact p after_count kept-counted name (λ n d at. unlinked (names_contact name d.links) (value-fails (λ d. names_contact name d.links) s.domains n d at free))
+
+  pub kept-host-deletion : (name : GivenName) → first_refusal (refusals p r (requests.DeleteHost name) (facts r (Asked tag (requests.DeleteHost name)) s)) ≡ None → IsRegistry p (changed_all (DropHost (name_of name) ∷ []) after_count)
+  kept-host-deletion name taken =
+      let c : Command = Asked tag (requests.DeleteHost name) in
+      let free : is_linked_host s (name_of name) ≡ false =
+      sym (ap (holds_of (λ known. known.linked)) (at-itself (name_of name) (host_facts (finds r c s) c (name_of name))))
+      ∙ row-fails (refusals p r (requests.DeleteHost name) (facts r c s)) taken 8 4 _ _ refl refl refl in
+      drop-host p after_count kept-counted (name_of name) (λ n d at. unlinked (names_host (name_of name) d.links) (value-fails (λ d. names_host (name_of name) d.links) s.domains n d at free))
+
+  -- ---- updates of contacts and domains
+
+  abbrev asked_contact : ContactUpdate → Command
+  asked_contact u = Asked tag (requests.UpdateContact u)
+
+  pub kept-contact-update : (u : ContactUpdate) → IsRegistry p (changed_all (contact_changes s.clock u (contact_seen (facts r (Asked tag (requests.UpdateContact u)) s) u.name)) after_count)
+  kept-contact-update u = by (contact_seen (facts r (asked_contact u) s) u.name) (ap (option_and_then (λ known. known.seen)) (at-itself u.name (contact_facts (finds r (asked_contact u) s) (asked_contact u) u.name)))
+    where
+      by : (seen : Option (Seen Contact ContactFace)) → seen ≡ option_map (contact_as r None) (get s.contacts u.name) → IsRegistry p (changed_all (contact_changes s.clock u seen) after_count)
+      by None e = kept-counted
+      by (Some (Full o)) e =
+          let at : get s.contacts u.name ≡ Some o = contact-full r None (get s.contacts u.name) o (sym e) in
+          let new : Contact = updated_contact s.clock u o in
+          kept-put-contact p after_count kept-counted u.name o new at refl
+          (contact-updated p after_count u.name o (Some s.clock) new.statuses new.secret new.postal new.voice new.mail (omega arith) (kept-counted.contacts u.name o at))
+      by (Some (Named face transfer)) e = kept-counted
+      by (Some (Public face)) e = kept-counted
+
+  abbrev asked_domain : DomainUpdate → Command
+  asked_domain u = Asked tag (requests.UpdateDomain u)
+
+  pub kept-domain-update : (u : DomainUpdate) → first_refusal (refusals p r (requests.UpdateDomain u) (facts r (Asked tag (requests.UpdateDomain u)) s)) ≡ None
+      → IsRegistry p (changed_all (domain_changes s.clock u (domain_seen (facts r (Asked tag (requests.UpdateDomain u)) s) (name_of u.name))) after_count)
+  kept-domain-update u taken = by (domain_seen (facts r (asked_domain u) s) (name_of u.name)) (ap (option_and_then (λ known. known.seen)) (at-itself (name_of u.name) (domain_facts (finds r (asked_domain u) s) (asked_domain u) (name_of u.name))))
+    where
+      linked : (facts r (asked_domain u) s).lacks_link ≡ false
+      linked = (neither (is_none (domain_seen (facts r (asked_domain u) s) (name_of u.name))) (facts r (asked_domain u) s).lacks_link (row-fails (refusals p r (requests.UpdateDomain u) (facts r (asked_domain u) s)) taken 2 1 _ _ refl refl refl)).1
+
+      by : (seen : Option (Seen Domain DomainFace)) → seen ≡ option_map (domain_as r None) (get s.domains (name_of u.name)) → IsRegistry p (changed_all (domain_changes s.clock u seen) after_count)
+      by None e = kept-counted
+      by (Some (Full d)) e =
+          let at : get s.domains (name_of u.name) ≡ Some d = domain-full r None (get s.domains (name_of u.name)) d (sym e) in
+          let new : Domain = updated_domain s.clock u d in
+          let k = is.domains (name_of u.name) d at in
+          kept-put-domain p after_count kept-counted (name_of u.name) d new at refl
+          (domain-updated p after_count (name_of u.name) d (Some s.clock) new.statuses new.secret new.links (omega arith)
+          (updated-contacts (λ name. is_some (get s.contacts name)) (λ name. is_some (get s.hosts name)) u d.links linked k.contacts)
+          (updated-hosts (λ name. is_some (get s.contacts name)) (λ name. is_some (get s.hosts name)) u d.links linked k.hosts)
+          (kept-counted.domains (name_of u.name) d at))
+      by (Some (Named face transfer)) e = kept-counted
+      by (Some (Public face)) e = kept-counted
+
+  -- ---- updates of hosts
+
+  abbrev asked_host : HostUpdate → Command
+  asked_host u = Asked tag (requests.UpdateHost u)
+
+  abbrev known_new : HostUpdate → Option GivenName → Option HostFacts
+  known_new u given = option_map (λ name. host_facts (finds r (asked_host u) s) (asked_host u) (name_of name)) given
+
+  -- the host, where this new name is given
+  abbrev host_with : HostUpdate → Host → Option GivenName → Host
+  host_with u h given = record h {
+    name = final_name u given;
+    by = updated_by p.zone r given h.by;
+    updated = Some s.clock;
+    statuses = amended_statuses h.statuses u.rem.statuses u.add.statuses;
+    addresses = amended itself h.addresses u.rem.addresses u.add.addresses;
+  }
+
+  kept-renaming : (u : HostUpdate) (h : Host) → get s.hosts (name_of u.name) ≡ Some h → (given : Option GivenName)
+      → holds_of (has_no_superordinate p.zone) (known_new u given) ≡ false → holds_of (superordinate_is_deleted p.zone) (known_new u given) ≡ false
+      → IsRegistry p (changed_all (renaming (name_of u.name) (host_with u h given) given) after_count)
+  kept-renaming u h at None based alive =
+      let k = kept-counted.hosts (name_of u.name) h at in
+      kept-put-host p after_count kept-counted (name_of u.name) h (host_with u h None) at refl (record { named = refl; roid = k.roid; belongs = k.belongs; created = k.created; updated = omega arith })
+  kept-renaming u h at (Some name) based alive =
+      let k = kept-counted.hosts (name_of u.name) h at in
+      rename-host p after_count kept-counted (name_of u.name) h (host_with u h (Some name)) at refl
+      (record { named = refl; roid = k.roid; belongs = belongs-new (name_of name) based; created = k.created; updated = omega arith })
+      (undeleted-new (name_of name) alive)
+
+  pub kept-host-update : (u : HostUpdate) → first_refusal (refusals p r (requests.UpdateHost u) (facts r (Asked tag (requests.UpdateHost u)) s)) ≡ None
+      → IsRegistry p (changed_all (host_changes p.zone r s.clock u (host_seen (facts r (Asked tag (requests.UpdateHost u)) s) (name_of u.name))) after_count)
+  kept-host-update u taken = by (host_seen (facts r (asked_host u) s) (name_of u.name)) (ap (option_and_then (λ known. known.host)) (at-itself (name_of u.name) (host_facts (finds r (asked_host u) s) (asked_host u) (name_of u.name))))
+    where
+      based : holds_of (has_no_superordinate p.zone) (known_new u u.new_name) ≡ false
+      based = (neither (is_none (host_seen (facts r (asked_host u) s) (name_of u.name))) (holds_of (has_no_superordinate p.zone) (known_new u u.new_name)) (row-fails (refusals p r (requests.UpdateHost u) (facts r (asked_host u) s)) taken 2 2 _ _ refl refl refl)).1
+
+      alive : holds_of (superordinate_is_deleted p.zone) (known_new u u.new_name) ≡ false
+      alive = (neither (prohibits_update host_seen_shows u.rem.statuses (host_seen (facts r (asked_host u) s) (name_of u.name))) (holds_of (superordinate_is_deleted p.zone) (known_new u u.new_name)) (row-fails (refusals p r (requests.UpdateHost u) (facts r (asked_host u) s)) taken 7 4 _ _ refl refl refl)).1
+
+      by : (seen : Option Host) → seen ≡ get s.hosts (name_of u.name) → IsRegistry p (changed_all (host_changes p.zone r s.clock u seen) after_count)
+      by None e = kept-counted
+      by (Some h) e = kept-renaming u h (sym e) u.new_name based alive

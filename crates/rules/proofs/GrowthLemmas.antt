@@ -1,0 +1,99 @@
+-- What is so of an object stays so while the clock and the accounts' serials grow.
+use Rattle.std.proofs.Common.{◌≡◌, ◌≢◌, ◌⊎◌, ⊎_elim, ℕ, ◌≤◌, true, List, Option, Some, None, IsSome, refl, subst, arith}
+use Rattle.std.specs.FinMap.{get}
+use Rattle.names.specs.Zone.{ZoneRules, superordinate_of}
+use Rattle.objects.specs.declared.contact.Contact.{Contact}
+use Rattle.objects.specs.declared.domain.Deletion.{Deletion}
+use Rattle.objects.specs.declared.domain.Domain.{Domain}
+use Rattle.objects.specs.declared.domain.Links.{Links}
+use Rattle.objects.specs.declared.host.Host.{Host}
+use Rattle.objects.specs.declared.roid.ObjectKind.{ObjectKind}
+use Rattle.objects.specs.declared.roid.Roid.{Roid}
+use Rattle.objects.specs.declared.transfer.Transfer.{Transfer}
+use Rattle.objects.specs.Links.{names_contact, names_host}
+use Rattle.policy.specs.Rules.{PolicyRules, IsPlace}
+use Rattle.verdict.specs.Registry.{Registry, account_of}
+use Rattle.verdict.specs.WellFormed.{BelongsTo, HasBeen, HasRoid, IsContactOf, IsDeletion, IsDomainOf, IsHostOf, IsLastTransfer}
+
+-- A registry under a policy becomes another, under a policy of the same zone with at least its
+-- registrars: the clock and each account's serial stand where they stood, or later.
+pub record Grows (p q : PolicyRules) (s t : Registry) : Type 0 where
+  pub zone : p.zone ≡ q.zone
+  pub place : (r : ℕ) → IsPlace p r → IsPlace q r
+  pub clock : s.clock ≤ t.clock
+  pub serial : (r : ℕ) → (account_of r s).serial ≤ (account_of r t).serial
+
+module _ (p q : PolicyRules) (s t : Registry) (grows : Grows p q s t) where
+  roid-grown : (kind : ObjectKind) (roid : Roid) → HasRoid p s kind roid → HasRoid q t kind roid
+  roid-grown kind roid h = record { kind_is = h.kind_is; creator = grows.place _ h.creator; serial = omega (arith, h.serial, grows.serial roid.creator) }
+
+  been-grown : (moment : Option ℕ) → HasBeen s moment → HasBeen t moment
+  been-grown None h = tt
+  been-grown (Some moment) h = omega (arith, grows.clock)
+
+  transfer-grown : (transfer : Option Transfer) → IsLastTransfer p s transfer → IsLastTransfer q t transfer
+  transfer-grown None h = tt
+  transfer-grown (Some transfer) h = record {
+    requester = grows.place _ h.requester;
+    loser = grows.place _ h.loser;
+    requested = omega (arith, h.requested, grows.clock);
+    acted = λ ended. omega (arith, h.acted ended, grows.clock);
+  }
+
+  pub contact-grown : (name : List ℕ) (c : Contact) → IsContactOf p s name c → IsContactOf q t name c
+  contact-grown name c h = record {
+    named = h.named;
+    roid = roid-grown _ c.roid h.roid;
+    sponsor = grows.place _ h.sponsor;
+    created = omega (arith, h.created, grows.clock);
+    transferred = been-grown c.transferred h.transferred;
+    updated = been-grown c.updated h.updated;
+    transfer = transfer-grown c.transfer h.transfer;
+  }
+
+  -- the domains that were there are
+  module _ (there : (domain : List ℕ) → IsSome (get s.domains domain) → IsSome (get t.domains domain)) where
+    belongs-grown : (above : Option (List ℕ)) (by : Option ℕ) → BelongsTo p s above by → BelongsTo q t above by
+    belongs-grown (Some domain) by h = (there domain h.0, h.1)
+    belongs-grown None None h = h
+    belongs-grown None (Some registrar) h = grows.place registrar h
+
+    pub host-grown : (name : List ℕ) (h : Host) → IsHostOf p s name h → IsHostOf q t name h
+    host-grown name h is = record {
+      named = is.named;
+      roid = roid-grown _ h.roid is.roid;
+      belongs = subst (λ (zone : ZoneRules). BelongsTo q t (superordinate_of zone name) h.by) grows.zone (belongs-grown (superordinate_of p.zone name) h.by is.belongs);
+      created = omega (arith, is.created, grows.clock);
+      updated = been-grown h.updated is.updated;
+    }
+
+  -- a host that wasn't there doesn't lie below a deleted domain
+  abbrev pub IsFree : Domain → Type 0
+  IsFree d = (host : List ℕ) → IsSome (get t.hosts host) → IsSome (get s.hosts host) ⊎ (IsSome d.deletion → superordinate_of p.zone host ≢ Some d.name)
+
+  deletion-grown : (d : Domain) (links : Links) → IsFree d → (deletion : Option Deletion) → (IsSome deletion → IsSome d.deletion) → IsDeletion p s d deletion → IsDeletion q t (record d { links = links }) deletion
+  deletion-grown d links free None is h = tt
+  deletion-grown d links free (Some deletion) is h = record {
+    deleted = omega (arith, h.deleted, grows.clock);
+    requested = been-grown deletion.restore_requested h.requested;
+    hosts = λ host there. subst (λ (zone : ZoneRules). superordinate_of zone host ≢ Some d.name) grows.zone (⊎_elim (λ before. h.hosts host before) (λ other. other (is refl)) (free host there));
+    transfer = h.transfer;
+  }
+
+  -- a domain, with links to what is there
+  pub domain-grown : (name : List ℕ) (d : Domain) (links : Links) → IsFree d
+      → ((contact : List ℕ) → names_contact contact links ≡ true → IsSome (get t.contacts contact))
+      → ((host : List ℕ) → names_host host links ≡ true → IsSome (get t.hosts host))
+      → IsDomainOf p s name d → IsDomainOf q t name (record d { links = links })
+  domain-grown name d links free contacts hosts h = record {
+    named = h.named;
+    roid = roid-grown _ d.roid h.roid;
+    sponsor = grows.place _ h.sponsor;
+    created = omega (arith, h.created, grows.clock);
+    transferred = been-grown d.transferred h.transferred;
+    updated = been-grown d.updated h.updated;
+    transfer = transfer-grown d.transfer h.transfer;
+    deletion = deletion-grown d links free d.deletion (λ is. is) h.deletion;
+    contacts = contacts;
+    hosts = hosts;
+  }

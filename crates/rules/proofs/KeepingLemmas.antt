@@ -1,0 +1,288 @@
+-- Each change keeps a registry well formed, where what it puts or takes away fits.
+use Rattle.std.proofs.Common.{◌≡◌, ◌≢◌, ◌↔◌, ◌⊎◌, inl, inr, ⊎_elim, ℕ, ◌≤◌, Bool, true, false, cond, not, ◌||◌, List, [], ◌∷◌, filter, Some, IsSome, is_some, refl, sym, ap, subst, subst₂, ◌∙◌, arith}
+use Rattle.std.specs.Cmp.{nat_cmp_total, Equal-is, eq_by_cmp_equiv}
+use Rattle.std.specs.Cmp.Lexicographic.{slice_cmp, bytes_decides}
+use Rattle.std.specs.FinMap.{FinMap, get, insert, remove, get-insert, nat_cmp-IsAntisymmetric}
+use Rattle.std.specs.Ordering.{eq_by_cmp, nat_cmp}
+use Rattle.std.specs.Str.{bytes_eq}
+use Rattle.accounts.specs.declared.account.Account.{Account}
+use Rattle.basis.specs.Bag.{add, precedes}
+use Rattle.basis.specs.Maps.{map_values}
+use Rattle.basis.proofs.BagLaws.{any-add}
+use Rattle.names.specs.Zone.{superordinate_of}
+use Rattle.objects.specs.declared.contact.Contact.{Contact}
+use Rattle.objects.specs.declared.domain.Domain.{Domain}
+use Rattle.objects.specs.declared.host.Host.{Host}
+use Rattle.objects.specs.declared.roid.Roid.{Roid}
+use Rattle.objects.specs.Links.{has_name, names_contact, names_host}
+use Rattle.policy.specs.Rules.{PolicyRules, IsPlace}
+use Rattle.rules.specs.declared.change.Change.TheVariants.{PutContact, DropContact, PutDomain, PutHost, DropHost, Relink}
+use Rattle.rules.specs.Changes.{changed, with_account, relinked, relinked_links, renamed}
+use Rattle.rules.proofs.GrowthLemmas.{Grows, contact-grown, domain-grown, host-grown}
+use Rattle.rules.proofs.NamedLemmas.{drop-cases, drop-keeps, drop-there, is-there, put-cases, put-is, put-keeps, put-there, remade-cases, remade-keeps}
+use Rattle.rules.proofs.ViewLemmas.{account_of-with_account}
+use Rattle.verdict.specs.Registry.{Registry, account_of, lapsed, now}
+use Rattle.verdict.specs.WellFormed.{IsContactOf, IsDomainOf, IsHostOf, IsRegistry}
+
+-- ---- the clock and the accounts
+
+-- A policy and a registry grow, and the objects stay.
+pub kept-grown : (p q : PolicyRules) (s : Registry) (accounts : FinMap nat_cmp Account) (clock : ℕ) → Grows p q s (record s { accounts = accounts; clock = clock })
+    → ((r : ℕ) → IsSome (get accounts r) ↔ IsPlace q r) → IsRegistry p s → IsRegistry q (record s { accounts = accounts; clock = clock })
+kept-grown p q s accounts clock grows places is =
+    let t : Registry = record s { accounts = accounts; clock = clock } in
+    record {
+      accounts = places;
+      contacts = λ name c at. contact-grown p q s t grows name c (is.contacts name c at);
+      hosts = λ name h at. host-grown p q s t grows (λ domain there. there) name h (is.hosts name h at);
+      domains = λ name d at. let k = is.domains name d at in domain-grown p q s t grows name d d.links (λ host there. inl there) k.contacts k.hosts k;
+      contact_roids = is.contact_roids;
+      host_roids = is.host_roids;
+      domain_roids = is.domain_roids;
+    }
+
+-- time passes
+pub kept-lapsed : (p : PolicyRules) (moment : ℕ) (s : Registry) → IsRegistry p s → IsRegistry p (lapsed moment s)
+kept-lapsed p moment s is = kept-grown p p s s.accounts (lapsed moment s).clock (record { zone = refl; place = λ r place. place; clock = omega arith; serial = λ r. omega arith }) is.accounts is
+
+-- what is due by its own clock is done: nothing is yet
+pub kept-now : (p : PolicyRules) (s : Registry) → IsRegistry p s → IsRegistry p (now s)
+kept-now p s is = is
+
+serial-risen : (f : Account → Account) → ((a : Account) → a.serial ≤ (f a).serial) → (r other : ℕ) (s : Registry) → (account_of r s).serial ≤ (account_of r (with_account other f s)).serial
+serial-risen f rises r other s = subst (λ (a : Account). (account_of r s).serial ≤ a.serial) (sym (account_of-with_account r other f s)) (by (eq_by_cmp nat_cmp r other))
+  where
+    by : (b : Bool) → (account_of r s).serial ≤ (cond b (f (account_of r s)) (account_of r s)).serial
+    by true = rises (account_of r s)
+    by false = omega arith
+
+-- a registrar's account is put
+pub placed : (accounts : FinMap nat_cmp Account) (r : ℕ) (a : Account) (q : ℕ) → IsSome (get (insert accounts r a) q) ↔ ((q ≡ r) ⊎ IsSome (get accounts q))
+placed accounts r a q = by (eq_by_cmp nat_cmp q r) refl (ap is_some (get-insert nat_cmp_total accounts r a q))
+  where
+    by : (b : Bool) → eq_by_cmp nat_cmp q r ≡ b → is_some (get (insert accounts r a) q) ≡ is_some (cond b (Some a) (get accounts q)) → IsSome (get (insert accounts r a) q) ↔ ((q ≡ r) ⊎ IsSome (get accounts q))
+    by true same e = (λ there. inl (nat_cmp-IsAntisymmetric q r ((Equal-is (nat_cmp q r)).0 same)), λ either. e)
+    by false same e = (λ there. inr (sym e ∙ there), ⊎_elim (λ is. absurd (let never : true ≡ false = sym ((eq_by_cmp_equiv nat_cmp_total).refl r) ∙ ap (λ (n : ℕ). eq_by_cmp nat_cmp n r) (sym is) ∙ same in cc)) (λ there. e ∙ there))
+
+-- an account of the policy changes, and its serial doesn't fall
+pub kept-account : (p : PolicyRules) (r : ℕ) (f : Account → Account) → ((a : Account) → a.serial ≤ (f a).serial) → (s : Registry) → IsPlace p r → IsRegistry p s → IsRegistry p (with_account r f s)
+kept-account p r f rises s place is =
+    let accounts : FinMap nat_cmp Account = insert s.accounts r (f (account_of r s)) in
+    kept-grown p p s accounts s.clock (record { zone = refl; place = λ q place. place; clock = omega arith; serial = λ q. serial-risen f rises q r s })
+    (λ q. (λ there. ⊎_elim (λ same. subst (IsPlace p) (sym same) place) (is.accounts q).0 ((placed s.accounts r (f (account_of r s)) q).0 there), λ of. (placed s.accounts r (f (account_of r s)) q).1 (inr ((is.accounts q).1 of)))) is
+
+-- ---- ROIDs
+
+-- no two share a ROID
+abbrev pub AreApart : {X : Type 0} → (X → Roid) → FinMap (slice_cmp nat_cmp) X → Type 0
+AreApart {X} roid_of m = (a b : List ℕ) (x y : X) → get m a ≡ Some x → get m b ≡ Some y → roid_of x ≡ roid_of y → a ≡ b
+
+-- a ROID stands at no other name
+abbrev pub IsItsOwn : {X : Type 0} → (X → Roid) → FinMap (slice_cmp nat_cmp) X → List ℕ → Roid → Type 0
+IsItsOwn {X} roid_of m k roid = (n : List ℕ) (x : X) → get m n ≡ Some x → roid_of x ≡ roid → n ≡ k
+
+module _ {X : Type 0} (roid_of : X → Roid) (m : FinMap (slice_cmp nat_cmp) X) (apart : AreApart roid_of m) where
+  apart-put : (k : List ℕ) (v : X) → IsItsOwn roid_of m k (roid_of v) → AreApart roid_of (insert m k v)
+  apart-put k v own a b x y at-a at-b same = ⊎_elim
+      (λ first. ⊎_elim (λ second. first.0 ∙ sym second.0) (λ second. first.0 ∙ sym (own b y second (sym same ∙ ap roid_of (sym first.1)))) (put-cases m k v b y at-b))
+      (λ first. ⊎_elim (λ second. own a x first (same ∙ ap roid_of (sym second.1)) ∙ sym second.0) (λ second. apart a b x y first second same) (put-cases m k v b y at-b))
+      (put-cases m k v a x at-a)
+
+  apart-drop : (k : List ℕ) → AreApart roid_of (remove m k)
+  apart-drop k a b x y at-a at-b same = apart a b x y (drop-cases m k a x at-a).1 (drop-cases m k b y at-b).1 same
+
+  apart-remade : (f : X → X) → ((x : X) → roid_of (f x) ≡ roid_of x) → AreApart roid_of (map_values (λ name. f) m)
+  apart-remade f keeps a b x y at-a at-b same =
+      let first = remade-cases f m a x at-a in
+      let second = remade-cases f m b y at-b in
+      apart a b first.0 second.0 first.1 second.1 (sym (keeps first.0) ∙ ap roid_of first.2 ∙ same ∙ ap roid_of (sym second.2) ∙ keeps second.0)
+
+-- what is so of all at their names and of what is put
+at-put : {X : Type 0} (P : List ℕ → X → Type 0) (m : FinMap (slice_cmp nat_cmp) X) (k : List ℕ) (v : X) → P k v → ((n : List ℕ) (x : X) → get m n ≡ Some x → P n x) → (n : List ℕ) (x : X) → get (insert m k v) n ≡ Some x → P n x
+at-put P m k v new old n x at = ⊎_elim (λ put. subst₂ P (sym put.0) put.1 new) (λ before. old n x before) (put-cases m k v n x at)
+
+abbrev pub contact_roid : Contact → Roid
+contact_roid c = c.roid
+
+abbrev pub host_roid : Host → Roid
+host_roid h = h.roid
+
+abbrev pub domain_roid : Domain → Roid
+domain_roid d = d.roid
+
+-- ---- objects are put and taken away
+
+abbrev Contacts : Type 0
+Contacts = FinMap (slice_cmp nat_cmp) Contact
+
+abbrev Hosts : Type 0
+Hosts = FinMap (slice_cmp nat_cmp) Host
+
+abbrev Domains : Type 0
+Domains = FinMap (slice_cmp nat_cmp) Domain
+
+abbrev with_objects : Contacts → Hosts → Domains → Registry → Registry
+with_objects contacts hosts domains s = record s { contacts = contacts; hosts = hosts; domains = domains }
+
+-- neither the clock nor an account changes
+same-time : (p : PolicyRules) (s : Registry) (contacts : Contacts) (hosts : Hosts) (domains : Domains) → Grows p p s (with_objects contacts hosts domains s)
+same-time p s contacts hosts domains = record { zone = refl; place = λ r place. place; clock = omega arith; serial = λ r. omega arith }
+
+-- no deleted domain is the superordinate domain of a host of this name
+abbrev pub IsUndeleted : PolicyRules → Registry → List ℕ → Type 0
+IsUndeleted p s host = (n : List ℕ) (d : Domain) → get s.domains n ≡ Some d → IsSome d.deletion → superordinate_of p.zone host ≢ Some d.name
+
+module _ (p : PolicyRules) (s : Registry) (is : IsRegistry p s) where
+  -- the same domain, where contacts and hosts are there that were
+  same-domain : (contacts : Contacts) (hosts : Hosts) (domains : Domains) (name : List ℕ) (d : Domain) → IsDomainOf p s name d
+      → ((host : List ℕ) → IsSome (get hosts host) → IsSome (get s.hosts host) ⊎ (IsSome d.deletion → superordinate_of p.zone host ≢ Some d.name))
+      → ((contact : List ℕ) → names_contact contact d.links ≡ true → IsSome (get contacts contact))
+      → ((host : List ℕ) → names_host host d.links ≡ true → IsSome (get hosts host))
+      → IsDomainOf p (with_objects contacts hosts domains s) name d
+  same-domain contacts hosts domains name d of free there-contacts there-hosts =
+      domain-grown p p s (with_objects contacts hosts domains s) (same-time p s contacts hosts domains) name d d.links free there-contacts there-hosts of
+
+  pub put-contact : (name : List ℕ) (c : Contact) → IsContactOf p s name c → IsItsOwn contact_roid s.contacts name c.roid → IsRegistry p (changed (PutContact c) s)
+  put-contact name c fits own =
+      let contacts : Contacts = insert s.contacts c.name c in
+      let grows : Grows p p s (changed (PutContact c) s) = same-time p s contacts s.hosts s.domains in
+      record {
+        accounts = is.accounts;
+        contacts = at-put (IsContactOf p (changed (PutContact c) s)) s.contacts c.name c (contact-grown p p s _ grows c.name c (subst (λ (n : List ℕ). IsContactOf p s n c) (sym fits.named) fits)) (λ n x at. contact-grown p p s _ grows n x (is.contacts n x at));
+        hosts = λ n h at. host-grown p p s _ grows (λ domain there. there) n h (is.hosts n h at);
+        domains = λ n d at. let k = is.domains n d at in same-domain contacts s.hosts s.domains n d k (λ host there. inl there) (λ contact named. put-keeps s.contacts c.name c contact (k.contacts contact named)) k.hosts;
+        contact_roids = apart-put contact_roid s.contacts is.contact_roids c.name c (λ n x at same. own n x at same ∙ sym fits.named);
+        host_roids = is.host_roids;
+        domain_roids = is.domain_roids;
+      }
+
+  -- a contact that no domain names
+  pub drop-contact : (name : List ℕ) → ((n : List ℕ) (d : Domain) → get s.domains n ≡ Some d → names_contact name d.links ≢ true) → IsRegistry p (changed (DropContact name) s)
+  drop-contact name unnamed =
+      let contacts : Contacts = remove s.contacts name in
+      let grows : Grows p p s (changed (DropContact name) s) = same-time p s contacts s.hosts s.domains in
+      record {
+        accounts = is.accounts;
+        contacts = λ n c at. contact-grown p p s _ grows n c (is.contacts n c (drop-cases s.contacts name n c at).1);
+        hosts = λ n h at. host-grown p p s _ grows (λ domain there. there) n h (is.hosts n h at);
+        domains = λ n d at. let k = is.domains n d at in same-domain contacts s.hosts s.domains n d k (λ host there. inl there)
+            (λ contact named. drop-keeps s.contacts name contact (λ same. unnamed n d at (ap (λ (q : List ℕ). names_contact q d.links) (sym same) ∙ named)) (k.contacts contact named)) k.hosts;
+        contact_roids = apart-drop contact_roid s.contacts is.contact_roids name;
+        host_roids = is.host_roids;
+        domain_roids = is.domain_roids;
+      }
+
+  pub put-host : (name : List ℕ) (h : Host) → IsHostOf p s name h → IsItsOwn host_roid s.hosts name h.roid → IsSome (get s.hosts name) ⊎ IsUndeleted p s name → IsRegistry p (changed (PutHost h) s)
+  put-host name h fits own free =
+      let hosts : Hosts = insert s.hosts h.name h in
+      let grows : Grows p p s (changed (PutHost h) s) = same-time p s s.contacts hosts s.domains in
+      record {
+        accounts = is.accounts;
+        contacts = λ n c at. contact-grown p p s _ grows n c (is.contacts n c at);
+        hosts = at-put (IsHostOf p (changed (PutHost h) s)) s.hosts h.name h (host-grown p p s _ grows (λ domain there. there) h.name h (subst (λ (n : List ℕ). IsHostOf p s n h) (sym fits.named) fits)) (λ n x at. host-grown p p s _ grows (λ domain there. there) n x (is.hosts n x at));
+        domains = λ n d at. let k = is.domains n d at in same-domain s.contacts hosts s.domains n d k
+            (λ host there. ⊎_elim
+            (λ same. ⊎_elim (λ before. inl (subst (λ (q : List ℕ). IsSome (get s.hosts q)) (sym (same ∙ fits.named)) before)) (λ other. inr (subst (λ (q : List ℕ). IsSome d.deletion → superordinate_of p.zone q ≢ Some d.name) (sym (same ∙ fits.named)) (other n d at))) free)
+            (λ before. inl before) (put-there s.hosts h.name h host there))
+            k.contacts (λ host named. put-keeps s.hosts h.name h host (k.hosts host named));
+        contact_roids = is.contact_roids;
+        host_roids = apart-put host_roid s.hosts is.host_roids h.name h (λ n x at same. own n x at same ∙ sym fits.named);
+        domain_roids = is.domain_roids;
+      }
+
+  -- a host that no domain names
+  pub drop-host : (name : List ℕ) → ((n : List ℕ) (d : Domain) → get s.domains n ≡ Some d → names_host name d.links ≢ true) → IsRegistry p (changed (DropHost name) s)
+  drop-host name unnamed =
+      let hosts : Hosts = remove s.hosts name in
+      let grows : Grows p p s (changed (DropHost name) s) = same-time p s s.contacts hosts s.domains in
+      record {
+        accounts = is.accounts;
+        contacts = λ n c at. contact-grown p p s _ grows n c (is.contacts n c at);
+        hosts = λ n h at. host-grown p p s _ grows (λ domain there. there) n h (is.hosts n h (drop-cases s.hosts name n h at).1);
+        domains = λ n d at. let k = is.domains n d at in same-domain s.contacts hosts s.domains n d k (λ host there. inl (drop-there s.hosts name host there)) k.contacts
+            (λ host named. drop-keeps s.hosts name host (λ same. unnamed n d at (ap (λ (q : List ℕ). names_host q d.links) (sym same) ∙ named)) (k.hosts host named));
+        contact_roids = is.contact_roids;
+        host_roids = apart-drop host_roid s.hosts is.host_roids name;
+        domain_roids = is.domain_roids;
+      }
+
+  pub put-domain : (name : List ℕ) (d : Domain) → IsDomainOf p s name d → IsItsOwn domain_roid s.domains name d.roid → IsRegistry p (changed (PutDomain d) s)
+  put-domain name d fits own =
+      let domains : Domains = insert s.domains d.name d in
+      let grows : Grows p p s (changed (PutDomain d) s) = same-time p s s.contacts s.hosts domains in
+      let same : (n : List ℕ) (x : Domain) → IsDomainOf p s n x → IsDomainOf p (changed (PutDomain d) s) n x = λ n x k. same-domain s.contacts s.hosts domains n x k (λ host there. inl there) k.contacts k.hosts in
+      record {
+        accounts = is.accounts;
+        contacts = λ n c at. contact-grown p p s _ grows n c (is.contacts n c at);
+        hosts = λ n h at. host-grown p p s _ grows (λ domain there. put-keeps s.domains d.name d domain there) n h (is.hosts n h at);
+        domains = at-put (IsDomainOf p (changed (PutDomain d) s)) s.domains d.name d (same d.name d (subst (λ (n : List ℕ). IsDomainOf p s n d) (sym fits.named) fits)) (λ n x at. same n x (is.domains n x at));
+        contact_roids = is.contact_roids;
+        host_roids = is.host_roids;
+        domain_roids = apart-put domain_roid s.domains is.domain_roids d.name d (λ n x at same. own n x at same ∙ sym fits.named);
+      }
+
+-- ---- a host gets a new name
+
+kept-listed : (old : List ℕ) (hosts : List (List ℕ)) (n : List ℕ) → has_name (filter (λ host. not (bytes_eq host old)) hosts) n ≡ true → (n ≢ old) × (has_name hosts n ≡ true)
+kept-listed old [] n e = absurd cc
+kept-listed old (x ∷ xs) n e = by (bytes_eq x old) refl e (kept-listed old xs n)
+  where
+    more : (n ≢ old) × (has_name xs n ≡ true) → (n ≢ old) × (has_name (x ∷ xs) n ≡ true)
+    more rest = (rest.0, either (bytes_eq x n) rest.1)
+      where
+        either : (b : Bool) → has_name xs n ≡ true → (b || has_name xs n) ≡ true
+        either true e = refl
+        either false e = e
+
+    first : (b : Bool) → bytes_eq x n ≡ b → bytes_eq x old ≡ false → (b || has_name (filter (λ host. not (bytes_eq host old)) xs) n) ≡ true → (has_name (filter (λ host. not (bytes_eq host old)) xs) n ≡ true → (n ≢ old) × (has_name xs n ≡ true)) → (n ≢ old) × (has_name (x ∷ xs) n ≡ true)
+    first true is other e rest = (λ same. let never : true ≡ false = sym is ∙ ap (bytes_eq x) same ∙ other in cc, ap (λ (b : Bool). b || has_name xs n) is)
+    first false is other e rest = more (rest e)
+
+    by : (b : Bool) → bytes_eq x old ≡ b → has_name (cond (not b) (x ∷ filter (λ host. not (bytes_eq host old)) xs) (filter (λ host. not (bytes_eq host old)) xs)) n ≡ true → (has_name (filter (λ host. not (bytes_eq host old)) xs) n ≡ true → (n ≢ old) × (has_name xs n ≡ true)) → (n ≢ old) × (has_name (x ∷ xs) n ≡ true)
+    by true is e rest = more (rest e)
+    by false is e rest = first (bytes_eq x n) refl is e rest
+
+-- what a domain names after a host's renaming: its new name, or another name from before
+renamed-listed : (old new : List ℕ) (hosts : List (List ℕ)) (n : List ℕ) → has_name (renamed old new hosts) n ≡ true → (n ≡ new) ⊎ ((n ≢ old) × (has_name hosts n ≡ true))
+renamed-listed old new hosts n e = by (has_name hosts old) refl e
+  where
+    either : (b : Bool) → bytes_eq new n ≡ b → (b || has_name (filter (λ host. not (bytes_eq host old)) hosts) n) ≡ true → (n ≡ new) ⊎ ((n ≢ old) × (has_name hosts n ≡ true))
+    either true is e = inl (sym ((bytes_decides new n).0 is))
+    either false is e = inr (kept-listed old hosts n e)
+
+    by : (b : Bool) → has_name hosts old ≡ b → has_name (cond b (add (precedes (slice_cmp nat_cmp)) new (filter (λ host. not (bytes_eq host old)) hosts)) hosts) n ≡ true → (n ≡ new) ⊎ ((n ≢ old) × (has_name hosts n ≡ true))
+    by true is e = either (bytes_eq new n) refl (sym (any-add (precedes (slice_cmp nat_cmp)) (λ other. bytes_eq other n) new (filter (λ host. not (bytes_eq host old)) hosts)) ∙ e)
+    by false is e = inr (λ same. let never : true ≡ false = sym e ∙ ap (has_name hosts) same ∙ is in cc, e)
+
+module _ (p : PolicyRules) (s : Registry) (is : IsRegistry p s) where
+  -- A host goes from one name to another, and domains that named it name it still.
+  pub rename-host : (old : List ℕ) (o h : Host) → get s.hosts old ≡ Some o → h.roid ≡ o.roid → IsHostOf p s h.name h → IsUndeleted p s h.name
+      → IsRegistry p (changed (Relink old h.name) (changed (PutHost h) (changed (DropHost old) s)))
+  rename-host old o h at-old same fits free =
+      let left : Hosts = remove s.hosts old in
+      let hosts : Hosts = insert left h.name h in
+      let domains : Domains = map_values (λ name. relinked old h.name) s.domains in
+      let t : Registry = with_objects s.contacts hosts domains s in
+      let grows : Grows p p s t = same-time p s s.contacts hosts domains in
+      let there : (n : List ℕ) → IsSome (get s.domains n) → IsSome (get domains n) = λ n. remade-keeps (relinked old h.name) s.domains n in
+      let apart : AreApart host_roid left = apart-drop host_roid s.hosts is.host_roids old in
+      let own : IsItsOwn host_roid left h.name h.roid = λ n x at alike. let before = drop-cases s.hosts old n x at in absurd (before.0 (is.host_roids n old x o before.1 at-old (alike ∙ same))) in
+      let one : (n : List ℕ) (d : Domain) → get s.domains n ≡ Some d → IsDomainOf p t n (relinked old h.name d) = λ n d at.
+      let k = is.domains n d at in
+      domain-grown p p s t grows n d (relinked_links old h.name d.links)
+      (λ host now. ⊎_elim (λ new. inr (subst (λ (q : List ℕ). IsSome d.deletion → superordinate_of p.zone q ≢ Some d.name) (sym new) (free n d at))) (λ before. inl (drop-there s.hosts old host before)) (put-there left h.name h host now))
+      k.contacts
+      (λ host named. ⊎_elim
+      (λ new. subst (λ (q : List ℕ). IsSome (get hosts q)) (sym new) (is-there (get hosts h.name) h (put-is left h.name h)))
+      (λ other. put-keeps left h.name h host (drop-keeps s.hosts old host other.0 (k.hosts host other.1)))
+      (renamed-listed old h.name d.links.hosts host named))
+      k in
+      record {
+        accounts = is.accounts;
+        contacts = λ n c at. contact-grown p p s t grows n c (is.contacts n c at);
+        hosts = at-put (IsHostOf p t) left h.name h (host-grown p p s t grows there h.name h fits) (λ n x at. host-grown p p s t grows there n x (is.hosts n x (drop-cases s.hosts old n x at).1));
+        domains = λ n d at. let before = remade-cases (relinked old h.name) s.domains n d at in subst (IsDomainOf p t n) before.2 (one n before.0 before.1);
+        contact_roids = is.contact_roids;
+        host_roids = apart-put host_roid left apart h.name h own;
+        domain_roids = apart-remade domain_roid s.domains is.domain_roids (relinked old h.name) (λ d. refl);
+      }

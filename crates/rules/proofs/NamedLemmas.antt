@@ -1,0 +1,109 @@
+-- What stands at a name after a map by names was changed.
+use Rattle.std.proofs.Common.{◌≡◌, ◌≢◌, ◌⊎◌, inl, inr, ⊎_elim, ℕ, Bool, true, false, cond, ◌||◌, List, [], ◌∷◌, map, Option, Some, None, IsSome, is_some, option_map, refl, sym, ap, ◌∙◌}
+use Rattle.std.specs.Cmp.{Equal-is, eq_by_cmp_equiv}
+use Rattle.std.specs.Cmp.Lexicographic.{slice_cmp, nat_list_cmp_total}
+use Rattle.std.specs.FinMap.{FinMap, entries, find, get, get-entries, insert, remove, values, get-insert, get-remove}
+use Rattle.std.specs.List.{list_any}
+use Rattle.std.specs.Ordering.{eq_by_cmp, nat_cmp}
+use Rattle.std.proofs.lemmas.Option.{same_Some}
+use Rattle.basis.specs.Maps.{map_values}
+use Rattle.basis.proofs.MapLemmas.{names_apart, get-map_values}
+
+-- what is some value is there
+pub is-there : {X : Type 0} (o : Option X) (x : X) → o ≡ Some x → IsSome o
+is-there o x e = ap is_some e
+
+-- what is there is some value
+pub there-is : {X : Type 0} (o : Option X) → IsSome o → (x : X) × (o ≡ Some x)
+there-is None e = absurd cc
+there-is (Some x) e = (x, refl)
+
+same_name : (n k : List ℕ) → eq_by_cmp (slice_cmp nat_cmp) n k ≡ true → n ≡ k
+same_name n k e = names_apart n k ((Equal-is (slice_cmp nat_cmp n k)).0 e)
+
+itself : (k : List ℕ) → eq_by_cmp (slice_cmp nat_cmp) k k ≡ true
+itself k = (eq_by_cmp_equiv nat_list_cmp_total).refl k
+
+module _ {X : Type 0} (m : FinMap (slice_cmp nat_cmp) X) (k : List ℕ) where
+  -- ---- a value is put at a name
+
+  pub put-cases : (v : X) (n : List ℕ) (x : X) → get (insert m k v) n ≡ Some x → ((n ≡ k) × (v ≡ x)) ⊎ (get m n ≡ Some x)
+  put-cases v n x e = by (eq_by_cmp (slice_cmp nat_cmp) n k) refl (sym (get-insert nat_list_cmp_total m k v n) ∙ e)
+    where
+      by : (b : Bool) → eq_by_cmp (slice_cmp nat_cmp) n k ≡ b → cond b (Some v) (get m n) ≡ Some x → ((n ≡ k) × (v ≡ x)) ⊎ (get m n ≡ Some x)
+      by true same e = inl (same_name n k same, same_Some v x e)
+      by false same e = inr e
+
+  pub put-is : (v : X) → get (insert m k v) k ≡ Some v
+  put-is v = get-insert nat_list_cmp_total m k v k ∙ ap (λ (b : Bool). cond b (Some v) (get m k)) (itself k)
+
+  -- what was there is there still
+  pub put-keeps : (v : X) (n : List ℕ) → IsSome (get m n) → IsSome (get (insert m k v) n)
+  put-keeps v n there = ap is_some (get-insert nat_list_cmp_total m k v n) ∙ by (eq_by_cmp (slice_cmp nat_cmp) n k)
+    where
+      by : (b : Bool) → is_some (cond b (Some v) (get m n)) ≡ true
+      by true = refl
+      by false = there
+
+  -- what is there was put, or was there
+  pub put-there : (v : X) (n : List ℕ) → IsSome (get (insert m k v) n) → (n ≡ k) ⊎ IsSome (get m n)
+  put-there v n there =
+      let found = there-is (get (insert m k v) n) there in
+      ⊎_elim (λ put. inl put.0) (λ before. inr (is-there (get m n) found.0 before)) (put-cases v n found.0 found.1)
+
+  -- ---- a name is taken away
+
+  pub drop-cases : (n : List ℕ) (x : X) → get (remove m k) n ≡ Some x → (n ≢ k) × (get m n ≡ Some x)
+  drop-cases n x e = by (eq_by_cmp (slice_cmp nat_cmp) n k) refl (sym (get-remove nat_list_cmp_total m k n) ∙ e)
+    where
+      by : (b : Bool) → eq_by_cmp (slice_cmp nat_cmp) n k ≡ b → cond b None (get m n) ≡ Some x → (n ≢ k) × (get m n ≡ Some x)
+      by true same e = absurd cc
+      by false same e = (λ is. let never : true ≡ false = sym (itself k) ∙ ap (λ (q : List ℕ). eq_by_cmp (slice_cmp nat_cmp) q k) (sym is) ∙ same in cc, e)
+
+  pub drop-keeps : (n : List ℕ) → n ≢ k → IsSome (get m n) → IsSome (get (remove m k) n)
+  drop-keeps n other there = ap is_some (get-remove nat_list_cmp_total m k n) ∙ by (eq_by_cmp (slice_cmp nat_cmp) n k) refl
+    where
+      by : (b : Bool) → eq_by_cmp (slice_cmp nat_cmp) n k ≡ b → is_some (cond b None (get m n)) ≡ true
+      by true same = absurd (other (same_name n k same))
+      by false same = there
+
+  pub drop-there : (n : List ℕ) → IsSome (get (remove m k) n) → IsSome (get m n)
+  drop-there n there =
+      let found = there-is (get (remove m k) n) there in
+      is-there (get m n) found.0 (drop-cases n found.0 found.1).1
+
+-- ---- each value is made anew
+
+module _ {X : Type 0} (f : X → X) (m : FinMap (slice_cmp nat_cmp) X) (n : List ℕ) where
+  pub remade-get : get (map_values (λ name. f) m) n ≡ option_map f (get m n)
+  remade-get = get-map_values (slice_cmp nat_cmp) nat_list_cmp_total names_apart (λ name. f) m n
+
+  pub remade-cases : (y : X) → get (map_values (λ name. f) m) n ≡ Some y → (x : X) × (get m n ≡ Some x) × (f x ≡ y)
+  remade-cases y e = by (get m n) refl (sym remade-get ∙ e)
+    where
+      by : (o : Option X) → get m n ≡ o → option_map f o ≡ Some y → (x : X) × (get m n ≡ Some x) × (f x ≡ y)
+      by None at e = absurd cc
+      by (Some x) at e = (x, at, same_Some (f x) y e)
+
+  pub remade-keeps : IsSome (get m n) → IsSome (get (map_values (λ name. f) m) n)
+  remade-keeps there = let found = there-is (get m n) there in ap is_some (remade-get ∙ ap (option_map f) found.1)
+
+-- ---- a test of all values
+
+or-parts : (a b : Bool) → (a || b) ≡ false → (a ≡ false) × (b ≡ false)
+or-parts true b e = absurd cc
+or-parts false b e = (refl, e)
+
+found-fails : {X : Type 0} (test : X → Bool) (n : List ℕ) (x : X) (es : List (List ℕ × X)) → find (slice_cmp nat_cmp) n es ≡ Some x → list_any test (map (λ (e : List ℕ × X). e.1) es) ≡ false → test x ≡ false
+found-fails test n x [] e none = absurd cc
+found-fails {X} test n x (p ∷ es) e none =
+    let parts = or-parts (test p.1) (list_any test (map (λ (e : List ℕ × X). e.1) es)) none in
+    by (eq_by_cmp (slice_cmp nat_cmp) n p.0) e parts.0 (λ found. found-fails test n x es found parts.1)
+  where
+    by : (b : Bool) → cond b (Some p.1) (find (slice_cmp nat_cmp) n es) ≡ Some x → test p.1 ≡ false → (find (slice_cmp nat_cmp) n es ≡ Some x → test x ≡ false) → test x ≡ false
+    by true e first more = ap test (sym (same_Some p.1 x e)) ∙ first
+    by false e first more = more e
+
+-- what none of a map's values passes, no value passes that stands at a name
+pub value-fails : {X : Type 0} (test : X → Bool) (m : FinMap (slice_cmp nat_cmp) X) (n : List ℕ) (x : X) → get m n ≡ Some x → list_any test (values m) ≡ false → test x ≡ false
+value-fails test m n x e none = found-fails test n x (entries m) (sym (get-entries m n) ∙ e) none

@@ -1,0 +1,89 @@
+-- An object that stands in for another at its name, and agrees with it in what a registry asks, keeps
+-- a registry well formed.
+use Rattle.std.proofs.Common.{◌≡◌, inl, ℕ, true, List, Option, Some, None, IsSome, refl, ◌∙◌}
+use Rattle.std.specs.FinMap.{get}
+use Rattle.objects.specs.declared.contact.Contact.{Contact}
+use Rattle.objects.specs.declared.contact.Postal.{Postal}
+use Rattle.objects.specs.declared.domain.Deletion.{Deletion}
+use Rattle.objects.specs.declared.domain.Domain.{Domain}
+use Rattle.objects.specs.declared.domain.Links.{Links}
+use Rattle.objects.specs.declared.host.Host.{Host}
+use Rattle.objects.specs.declared.status.Status.{Status}
+use Rattle.objects.specs.Links.{names_contact, names_host}
+use Rattle.policy.specs.Rules.{PolicyRules}
+use Rattle.rules.specs.declared.change.Change.TheVariants.{PutContact, PutDomain, PutHost}
+use Rattle.rules.specs.Changes.{changed}
+use Rattle.rules.proofs.KeepingLemmas.{put-contact, put-domain, put-host}
+use Rattle.rules.proofs.NamedLemmas.{is-there}
+use Rattle.verdict.specs.Registry.{Registry}
+use Rattle.verdict.specs.WellFormed.{HasBeen, IsContactOf, IsDeletion, IsDomainOf, IsHostOf, IsRegistry}
+
+module _ (p : PolicyRules) (s : Registry) (is : IsRegistry p s) (name : List ℕ) where
+  pub kept-put-contact : (c other : Contact) → get s.contacts name ≡ Some c → other.roid ≡ c.roid → IsContactOf p s name other → IsRegistry p (changed (PutContact other) s)
+  kept-put-contact c other at same fits = put-contact p s is name other fits (λ n x at-n alike. is.contact_roids n name x c at-n at (alike ∙ same))
+
+  pub kept-put-domain : (d other : Domain) → get s.domains name ≡ Some d → other.roid ≡ d.roid → IsDomainOf p s name other → IsRegistry p (changed (PutDomain other) s)
+  kept-put-domain d other at same fits = put-domain p s is name other fits (λ n x at-n alike. is.domain_roids n name x d at-n at (alike ∙ same))
+
+  pub kept-put-host : (h other : Host) → get s.hosts name ≡ Some h → other.roid ≡ h.roid → IsHostOf p s name other → IsRegistry p (changed (PutHost other) s)
+  kept-put-host h other at same fits = put-host p s is name other fits (λ n x at-n alike. is.host_roids n name x h at-n at (alike ∙ same)) (inl (is-there (get s.hosts name) h at))
+
+module _ (p : PolicyRules) (s : Registry) (name : List ℕ) where
+  -- a contact with other content, last updated at another moment
+  pub contact-updated : (c : Contact) (updated : Option ℕ) (statuses : List Status) (secret : List ℕ) (postal : Postal) (voice : Option (List ℕ)) (mail : List ℕ) → HasBeen s updated
+      → IsContactOf p s name c → IsContactOf p s name (record c { updated = updated; statuses = statuses; secret = secret; postal = postal; voice = voice; mail = mail })
+  contact-updated c updated statuses secret postal voice mail been k = record {
+    named = k.named;
+    roid = k.roid;
+    sponsor = k.sponsor;
+    created = k.created;
+    transferred = k.transferred;
+    updated = been;
+    transfer = k.transfer;
+  }
+
+  deletion-same : (d : Domain) (updated : Option ℕ) (statuses : List Status) (secret : List ℕ) (links : Links) (deletion : Option Deletion)
+      → IsDeletion p s d deletion → IsDeletion p s (record d { updated = updated; statuses = statuses; secret = secret; links = links }) deletion
+  deletion-same d updated statuses secret links None k = tt
+  deletion-same d updated statuses secret links (Some deletion) k = record { deleted = k.deleted; requested = k.requested; hosts = k.hosts; transfer = k.transfer }
+
+  -- a domain with other content, which names what is there
+  pub domain-updated : (d : Domain) (updated : Option ℕ) (statuses : List Status) (secret : List ℕ) (links : Links) → HasBeen s updated
+      → ((contact : List ℕ) → names_contact contact links ≡ true → IsSome (get s.contacts contact))
+      → ((host : List ℕ) → names_host host links ≡ true → IsSome (get s.hosts host))
+      → IsDomainOf p s name d → IsDomainOf p s name (record d { updated = updated; statuses = statuses; secret = secret; links = links })
+  domain-updated d updated statuses secret links been contacts hosts k = record {
+    named = k.named;
+    roid = k.roid;
+    sponsor = k.sponsor;
+    created = k.created;
+    transferred = k.transferred;
+    updated = been;
+    transfer = k.transfer;
+    deletion = deletion-same d updated statuses secret links d.deletion k.deletion;
+    contacts = contacts;
+    hosts = hosts;
+  }
+
+  -- a host with other content, of the same name
+  pub host-updated : (h : Host) (updated : Option ℕ) (statuses : List Status) (addresses : List (List ℕ)) → HasBeen s updated
+      → IsHostOf p s name h → IsHostOf p s name (record h { updated = updated; statuses = statuses; addresses = addresses })
+  host-updated h updated statuses addresses been k = record { named = k.named; roid = k.roid; belongs = k.belongs; created = k.created; updated = been }
+
+-- ---- other statuses are set on an object
+
+module _ (p : PolicyRules) (s : Registry) (is : IsRegistry p s) (name : List ℕ) (statuses : List Status) where
+  pub kept-contact-statuses : (c : Contact) → get s.contacts name ≡ Some c → IsRegistry p (changed (PutContact (record c { statuses = statuses })) s)
+  kept-contact-statuses c at =
+      let k = is.contacts name c at in
+      kept-put-contact p s is name c (record c { statuses = statuses }) at refl (contact-updated p s name c c.updated statuses c.secret c.postal c.voice c.mail k.updated k)
+
+  pub kept-domain-statuses : (d : Domain) → get s.domains name ≡ Some d → IsRegistry p (changed (PutDomain (record d { statuses = statuses })) s)
+  kept-domain-statuses d at =
+      let k = is.domains name d at in
+      kept-put-domain p s is name d (record d { statuses = statuses }) at refl (domain-updated p s name d d.updated statuses d.secret d.links k.updated k.contacts k.hosts k)
+
+  pub kept-host-statuses : (h : Host) → get s.hosts name ≡ Some h → IsRegistry p (changed (PutHost (record h { statuses = statuses })) s)
+  kept-host-statuses h at =
+      let k = is.hosts name h at in
+      kept-put-host p s is name h (record h { statuses = statuses }) at refl (host-updated p s name h h.updated statuses h.addresses k.updated k)
