@@ -5,7 +5,7 @@ ghost use Rattle.policy.specs.Rules.{IsPlace};
 ghost use Rattle.registry.specs.Execution.{IsPrepared, IsStep, IsOrderStep, Fails, GoesBack, Keeps, last_call};
 ghost use Rattle.rules.specs.Isolation.{IsIsolated};
 ghost use Rattle.registry.specs.Opening.{Opens, Refuses};
-ghost use Rattle.registry.specs.WellFormed.{OpensWellFormed, StaysWellFormed};
+ghost use Rattle.registry.specs.WellFormed.{KeepsWellFormed, OpensWellFormed, StaysWellFormed};
 ghost use Rattle.rules.specs.Steps.{reply_of};
 ghost use Rattle.store.specs.Book.{Follows, IsSame, with_changes};
 ghost use Rattle.verdict.specs.Facts.{facts};
@@ -103,8 +103,10 @@ impl<B: Book + Drop> Registry<B> {
     /// Carries out an order of the operator at a moment; one before the clock counts as the clock.
     /// It is answered `Completed`, `ObjectMissing` where its object isn't there or its name doesn't
     /// read, `StatusProhibits` where it comes too late, or `ParameterPolicy` where a status is amiss.
+    /// A well formed registry stays well formed.
     pub fn operator(&mut self, order: &Order, moment: Moment) -> Result<Code, Fault>
         ensures step { IfOk result (λ code. (B.state self.new.book).is_clean ≡ true → IsOrderStep self.old.policy order.now moment (B.state self.old.book).content.registry (B.state self.new.book).content.registry code) }
+        ensures well_formed { IfOk result (λ code. (B.state self.new.book).is_clean ≡ true → KeepsWellFormed self.old.policy (B.state self.old.book).content.registry (B.state self.new.book).content.registry) }
         ensures fault { IfErr result (λ fault. Fails fault (B.state self.old.book) (B.state self.new.book)) }
         ensures late { (result ≡ Err Fault.Moment) ↔ (last_call < moment) }
         ensures follows { Follows (B.state self.old.book) (B.state self.new.book) }
