@@ -104,6 +104,7 @@ impl Moment {
     pub fn plus_years_capped(&self, years: u32) -> Moment
         ensures { result ≡ capped (plus_years self.now years) }
     {
+        // Shows the prover the field, and so that it is within the range.
         let from = self.secs;
         match self.plus_years(years) {
             Ok(sum) => sum,

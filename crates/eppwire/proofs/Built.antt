@@ -10,7 +10,7 @@ use Rattle.std.specs.declared.cmp.Ordering.{Ordering}
 use Rattle.std.specs.declared.cmp.Ordering.TheVariants.{Less, Equal, Greater}
 use Rattle.std.specs.Cmp.Lexicographic.{slice_cmp}
 use Rattle.serde_json.specs.Data.{Data, Members, member, put}
-use Rattle.eppwire.specs.Members.{members_with, in_order}
+use Rattle.eppwire.specs.Members.{members_with, are_in_order}
 
 and_first : (a b : Bool) → (a && b) ≡ true → a ≡ true
 and_first true b e = refl
@@ -32,12 +32,12 @@ put_first k d [] e = refl
 put_first k d ((l, None) ∷ ms) e = put_first k d ms (and_second _ _ e)
 put_first k d ((l, Some f) ∷ ms) e = rw (lt_less (slice_cmp nat_cmp k l) (and_first _ _ e)) refl
 
-in_order_tail : (xs ys : List (List ℕ × Option Data)) → in_order (xs ++ ys) ≡ true → in_order ys ≡ true
+in_order_tail : (xs ys : List (List ℕ × Option Data)) → are_in_order (xs ++ ys) ≡ true → are_in_order ys ≡ true
 in_order_tail [] ys e = e
 in_order_tail (x ∷ xs) ys e = in_order_tail xs ys (and_second _ _ e)
 
 -- the last member that is left goes before those that were put
-pub put_next : (left done : List (List ℕ × Option Data)) (k : List ℕ) (o : Option Data) (d : Data) (ms : Members) → in_order (left ++ (k, o) ∷ done) ≡ true
+pub put_next : (left done : List (List ℕ × Option Data)) (k : List ℕ) (o : Option Data) (d : Data) (ms : Members) → are_in_order (left ++ (k, o) ∷ done) ≡ true
     → ms ≡ members_with done → put k d ms ≡ member k d (members_with done)
 put_next left done k o d ms order e =
     ap (put k d) e ∙ put_first k d done (and_first _ _ (in_order_tail left ((k, o) ∷ done) order))

@@ -22,7 +22,7 @@ use Rattle.eppwire.specs.Table.{order_fields, object_named}
 use Rattle.eppwire.specs.Reading.{required, items_in, text_at}
 use Rattle.eppwire.specs.Members.{members_with}
 
--- ---- an order (RFC 5731, 2.3: the server has statuses of its own, and may override a client's)
+-- ---- an order (RFC 5731, 2.3: the statuses that begin with server are the server's alone)
 
 -- the status that a text names
 abbrev pub status_told : Data → Option the_status.Status
@@ -81,7 +81,7 @@ order_in payload = option_and_then order_of_data (if is_utf8 payload then read p
 abbrev pub settled_value : ℕ → Data
 settled_value done = object (members_with ((codes "done", Some (number (unsigned done))) ∷ []))
 
--- with the number of objects that were settled, where that was asked
+-- with a number of objects where the order counts them; `status` doesn't
 abbrev pub answer_members : Code → Option ℕ → List (List ℕ × Option Data)
 answer_members code done =
     (codes "code", Some (number (unsigned (number_of code))))

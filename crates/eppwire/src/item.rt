@@ -3,7 +3,7 @@ ghost use Rattle.std.specs.Prelude.{◌≡◌, IfOk, IsTrue, List, ℕ, map, opt
 ghost use Rattle.serde_json.specs.Data.{object};
 ghost use Rattle.serde_json.specs.View.{view};
 ghost use Rattle.eppwire.specs.Item.{item_value};
-ghost use Rattle.eppwire.specs.Members.{in_order, members_with, texts_value, moment_value};
+ghost use Rattle.eppwire.specs.Members.{are_in_order, members_with, texts_value, moment_value};
 
 use basis::list::Seq;
 use basis::text::Text;
@@ -36,7 +36,7 @@ pub fn object(
     alloc: Global,
     mut members: Vec<(&'static str, Item<'_>)>,
 ) -> Result<Value, AllocError>
-    requires { IsTrue (in_order (map (λ m. (m.0.now, item_value m.1)) members.items)) }
+    requires { IsTrue (are_in_order (map (λ m. (m.0.now, item_value m.1)) members.items)) }
     ensures { IfOk result (λ v. view v ≡ object (members_with (map (λ m. (m.0.now, item_value m.1)) members.entry.items))) }
 {
     let mut built = Map::new(alloc);

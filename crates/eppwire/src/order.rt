@@ -118,7 +118,8 @@ fn statuses_told(alloc: Global, items: &[Value]) -> Result<Seq<Status>, AllocErr
     Ok(statuses)
 }
 
-/// The answer to an order, with the number of objects that were settled where that was asked.
+/// The answer to an order: its code and the code's text, and a number of objects where the order
+/// counts them. `status` counts none.
 pub fn order_bytes(alloc: Global, code: Code, done: Option<u32>) -> Result<Vec<u8>, AllocError>
     ensures { IfOk result (λ bytes. bytes.items ≡ spec.answer_text code done) }
 {

@@ -30,7 +30,7 @@ is_ipv4 text = (length (octets_of text) == 4) && list_all is_dec_octet (octets_o
 unfoldable pub ipv4_of : List ℕ → Result (List ℕ) NameFault
 ipv4_of text = if is_ipv4 text then Ok text else Err Syntax
 
--- it's an IPv6 address
+-- such a text is read as IPv6, every other as IPv4
 abbrev pub has_colon : List ℕ → Bool
 has_colon text = list_any is_colon text
 

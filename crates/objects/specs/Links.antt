@@ -1,4 +1,4 @@
--- What a domain names (RFC 5731, 2.4; RFC 5732, 1.1).
+-- What a domain names (RFC 5731, 1.1 and 2.2; RFC 5732, 1.1).
 use Rattle.std.specs.Prelude.{ℕ, Bool, ◌||◌, List}
 use Rattle.std.specs.List.{list_any}
 use Rattle.std.specs.Ordering.{nat_cmp}

@@ -15,8 +15,8 @@ use basis::text::Text;
 use calendar::Moment;
 use std::alloc::{AllocError, Global};
 
-/// The contacts and hosts that a domain names. The lists are in the order of their bytes, and none
-/// names one thing twice.
+/// The contacts and hosts that a domain names. Commands keep each list in the order of its bytes, and
+/// refuse one that names one thing twice; a value of this type may be otherwise.
 #[derive(Clone, Drop)]
 pub struct Links {
     pub registrant: Text,

@@ -42,15 +42,11 @@ GoesBack faults.Memory old new = IsBack old new
 GoesBack faults.Store old new = IsBack old new × HasRefused old new
 GoesBack faults.Moment old new = ⊥
 
--- the transaction is open still, and can go back as before
-pub record GoesOn (old new : BookState) : Type 0 where
-  pub opened : new.is_open ≡ true
-  pub before : new.is_clean ≡ true → new.before ≡ old.before
-
--- what a call that gave up leaves, and its cause
+-- what was held is held
 pub record IsUnchanged (old new : BookState) : Type 0 where
   pub content : new.is_clean ≡ true → new.content ≡ old.content
 
+-- what a call that gave up leaves; with Store, what keeps the book refused again
 abbrev pub Fails : Fault → BookState → BookState → Type 0
 Fails faults.Memory old new = IsUnchanged old new
 Fails faults.Store old new = IsUnchanged old new × HasRefused old new

@@ -1,4 +1,6 @@
-//! The registry that registrars talk to: one command is one transaction and one step of the rules.
+//! The registry that registrars and the operator talk to: one command or order is one transaction
+//! and one step of the rules. What a registrar is answered hangs on nothing that it may not see: the
+//! clause `isolation` of [`Registry::execute`].
 #![tactic(auto)]
 
 mod fault;

@@ -30,7 +30,7 @@ use Rattle.objects.specs.Transfers.{names}
 use Rattle.policy.specs.Rules.{PolicyRules, IsPlace}
 use Rattle.rules.specs.declared.change.Change.TheVariants.{DropContact, DropHost, PutContact, PutDomain, PutHost, TakeSerial}
 use Rattle.rules.specs.Changes.{changed_all, with_account}
-use Rattle.rules.specs.Decisions.{by_of, contact_changes, domain_changes, host_changes, new_contact, new_domain, new_host, new_roid, renaming, updated_contact, updated_domain, updated_by}
+use Rattle.rules.specs.Decisions.{by_of, contact_changes, domain_changes, host_changes, new_contact, new_domain, new_host, new_roid, renaming, updated_contact, updated_domain, by_after}
 use Rattle.rules.proofs.KeepingLemmas.{IsUndeleted, drop-contact, drop-host, kept-account, put-contact, put-domain, put-host, rename-host}
 use Rattle.rules.proofs.LinkLemmas.{new-contacts, new-hosts, updated-contacts, updated-hosts}
 use Rattle.rules.proofs.NamedLemmas.{value-fails}
@@ -276,7 +276,7 @@ module _ (p : PolicyRules) (r : ℕ) (tag : Option (List ℕ)) (s : Registry) (p
   abbrev host_with : HostUpdate → Host → Option GivenName → Host
   host_with u h given = record h {
     name = final_name u given;
-    by = updated_by p.zone r given h.by;
+    by = by_after p.zone r given h.by;
     updated = Some s.clock;
     statuses = amended_statuses h.statuses u.rem.statuses u.add.statuses;
     addresses = amended itself h.addresses u.rem.addresses u.add.addresses;

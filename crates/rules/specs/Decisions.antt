@@ -80,7 +80,8 @@ new_domain r t f new = record {
   deletion = None;
 }
 
--- a host in the zone has no registrar of its own, another has who gave it its name
+-- a host in the zone has no registrar of its own; an external one has the registrar that gave it its
+-- name
 abbrev pub by_of : ZoneRules → ℕ → List ℕ → Option ℕ
 by_of zone r name = if is_inside zone name then None else Some r
 
@@ -127,15 +128,15 @@ updated_domain t u d = record d {
   links = updated_links u d.links;
 }
 
--- who gave a host its name: another where the update renames it
-abbrev pub updated_by : ZoneRules → ℕ → Option GivenName → Option ℕ → Option ℕ
-updated_by zone r None by = by
-updated_by zone r (Some name) by = by_of zone r (name_of name)
+-- the same after an update, which may rename the host
+abbrev pub by_after : ZoneRules → ℕ → Option GivenName → Option ℕ → Option ℕ
+by_after zone r None by = by
+by_after zone r (Some name) by = by_of zone r (name_of name)
 
 abbrev pub updated_host : ZoneRules → ℕ → ℕ → HostUpdate → Host → Host
 updated_host zone r t u h = record h {
   name = final_name u u.new_name;
-  by = updated_by zone r u.new_name h.by;
+  by = by_after zone r u.new_name h.by;
   updated = Some t;
   statuses = amended_statuses h.statuses u.rem.statuses u.add.statuses;
   addresses = amended itself h.addresses u.rem.addresses u.add.addresses;

@@ -94,7 +94,8 @@ fn texts_of(alloc: Global, names: &[GivenName]) -> Result<Vec<Text>, AllocError>
     Ok(texts)
 }
 
-/// A host in the zone has no registrar of its own, another has who gave it its name.
+/// A host in the zone has no registrar of its own; an external one has the registrar that gave it its
+/// name.
 pub(crate) fn by_of(zone: &Zone, caller: RegistrarNo, name: &Text) -> Option<RegistrarNo>
     ensures { result ≡ spec.by_of zone.now caller name.now }
 {

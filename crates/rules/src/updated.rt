@@ -128,14 +128,14 @@ fn updated_links(alloc: Global, update: &DomainUpdate, links: &Links) -> Result<
     })
 }
 
-/// Who gave a host its name.
-fn updated_by(
+/// The registrar that gave an external host its name, after an update that may rename it.
+fn by_after(
     zone: &Zone,
     caller: RegistrarNo,
     new_name: Option<&GivenName>,
     by: Option<RegistrarNo>,
 ) -> Option<RegistrarNo>
-    ensures { result ≡ spec.updated_by zone.now caller (option_copied new_name.entry) by }
+    ensures { result ≡ spec.by_after zone.now caller (option_copied new_name.entry) by }
 {
     match new_name {
         None => by,
@@ -162,7 +162,7 @@ pub(crate) fn updated_host(
     Ok(Host {
         name: update.final_name().clone()?,
         roid: host.roid,
-        by: updated_by(zone, caller, update.new_name.as_ref(), host.by),
+        by: by_after(zone, caller, update.new_name.as_ref(), host.by),
         created: host.created,
         updated: Some(moment),
         statuses,

@@ -39,7 +39,7 @@ pub(crate) struct Content {
 
 impl Content {
     fn account_facts(&self, registrar: RegistrarNo) -> AccountFacts
-        ensures { result ≡ facts.digest (account_of registrar (held self.now).registry) }
+        ensures { result ≡ facts.account_facts (account_of registrar (held self.now).registry) }
     {
         match self.accounts.get(registrar) {
             Some(account) => AccountFacts {

@@ -44,17 +44,17 @@ has_bad_names new =
     is_refused new.name || any_refused new.hosts
     || has_twice name_of new.hosts || has_twice itself new.admin || has_twice itself new.tech
 
-abbrev pub has_bad_lists : DomainLists → Bool
-has_bad_lists lists =
+abbrev pub has_bad_domain_lists : DomainLists → Bool
+has_bad_domain_lists lists =
     any_refused lists.hosts || has_twice name_of lists.hosts || has_twice itself lists.admin
     || has_twice itself lists.tech || has_twice status_text lists.statuses
 
-abbrev pub has_bad_addresses : HostLists → Bool
-has_bad_addresses lists = has_twice itself lists.addresses || has_twice status_text lists.statuses
+abbrev pub has_bad_host_lists : HostLists → Bool
+has_bad_host_lists lists = has_twice itself lists.addresses || has_twice status_text lists.statuses
 
 -- the zone refuses a name of the host, or a list names one thing twice
-abbrev pub renames_badly : HostUpdate → Bool
-renames_badly update = is_refused update.name || (holds_of is_refused update.new_name || (has_bad_addresses update.add || has_bad_addresses update.rem))
+abbrev pub has_bad_update_names : HostUpdate → Bool
+has_bad_update_names update = is_refused update.name || (holds_of is_refused update.new_name || (has_bad_host_lists update.add || has_bad_host_lists update.rem))
 
 -- ---- who sponsors what is seen
 
@@ -152,9 +152,9 @@ delete_prohibitions = PendingTransfer ∷ ClientDeleteProhibited ∷ ServerDelet
 abbrev pub prohibits_delete : {S : Type 0} → (S → Status → Bool) → Option S → Bool
 prohibits_delete shown seen = shows_any shown delete_prohibitions seen
 
--- what prohibits that an object changes, beside its sponsor's and the operator's word
-abbrev pub is_pending : {S : Type 0} → (S → Status → Bool) → Option S → Bool
-is_pending shown seen = shows_any shown (PendingDelete ∷ PendingTransfer ∷ []) seen
+-- a deletion or a transfer of it is pending (RFC 5730, 2.9.3.4; RFC 5731, 3.2.2)
+abbrev pub has_pending_action : {S : Type 0} → (S → Status → Bool) → Option S → Bool
+has_pending_action shown seen = shows_any shown (PendingDelete ∷ PendingTransfer ∷ []) seen
 
 -- An update is prohibited, but the sponsor may take its own prohibition away with it (RFC 5731,
 -- 3.2.5).

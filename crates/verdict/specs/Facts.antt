@@ -58,7 +58,7 @@ abbrev pub new_host_asked : Request → Option GivenName
 new_host_asked (requests.UpdateHost update) = update.new_name
 new_host_asked _ = None
 
--- of the tests of a contact's and a host's name, one fails of what a domain is to name from now on
+-- a contact or host that a domain is to name from now on fails its test
 abbrev pub links_fail : (List ℕ → Bool) → (List ℕ → Bool) → Request → Bool
 links_fail contact host (requests.CreateDomain new) =
     not (contact new.registrant) || (list_any (λ name. not (contact name)) new.admin || (list_any (λ name. not (contact name)) new.tech
@@ -161,8 +161,8 @@ finds r c s = record {
 
 -- ---- the facts
 
-abbrev pub digest : Account → AccountFacts
-digest a = record { commands = a.commands; serial = a.serial }
+abbrev pub account_facts : Account → AccountFacts
+account_facts a = record { commands = a.commands; serial = a.serial }
 
 abbrev pub contact_facts : Finds → Command → List ℕ → ContactFacts
 contact_facts found c name = record {
@@ -193,7 +193,7 @@ holding_limit = 1_000_000
 -- the facts of a command, by what is found
 abbrev pub facts_by : Finds → Command → Facts
 facts_by found c = record {
-  account = digest found.account;
+  account = account_facts found.account;
   contacts = map (contact_facts found c) (asked [] contacts_asked c);
   domains = map (λ name. domain_facts found c (name_of name)) (asked [] domains_asked c);
   hosts = map (λ name. host_facts found c (name_of name)) (asked [] hosts_asked c);

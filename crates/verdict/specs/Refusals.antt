@@ -9,6 +9,8 @@ use Rattle.verdict.specs.declared.refusal.Cause.{Cause}
 use Rattle.verdict.specs.declared.refusal.Refusal.{Refusal}
 use Rattle.verdict.specs.Codes.{number_of}
 
+-- a class's place in the order of refusals; the session and the form of a command stand first and
+-- second
 abbrev pub class_number : Class → ℕ
 class_number Names = 3
 class_number Presence = 4

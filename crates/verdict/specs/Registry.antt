@@ -30,7 +30,8 @@ lapse t s = record s { clock = t }
 abbrev pub lapsed : ℕ → Registry → Registry
 lapsed moment s = lapse (max moment s.clock) s
 
--- The registry with all that is due by its own clock. Stores with one `now` are one registry.
+-- The registry with all that is due by its own clock: itself, since nothing lapses yet. Two values
+-- with one `now` are the same registry.
 abbrev pub now : Registry → Registry
 now s = lapse s.clock s
 

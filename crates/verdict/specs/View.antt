@@ -40,7 +40,7 @@ view_with secrets r s = record {
   domains = map_values (λ name. domain_as r (secrets.domains name)) s.domains;
 }
 
--- the secrets of a command: info, transfer request and transfer query present one
+-- the secrets of a command: info of a contact or a domain may present one
 abbrev pub secrets_of : Command → Secrets
 secrets_of c = record { contacts = presented_contact c; domains = presented c }
 

@@ -43,7 +43,7 @@ impl NewDomain {
 impl DomainLists {
     /// Whether the zone refuses one of its hosts, or a list names one thing twice.
     pub(crate) fn are_bad(&self) -> bool
-        ensures { result ≡ spec.has_bad_lists self.now }
+        ensures { result ≡ spec.has_bad_domain_lists self.now }
     {
         any_refused(self.hosts.as_slice())
             || has_twice(self.hosts.as_slice())
@@ -56,7 +56,7 @@ impl DomainLists {
 impl HostLists {
     /// Whether a list names one thing twice.
     pub(crate) fn are_bad(&self) -> bool
-        ensures { result ≡ spec.has_bad_addresses self.now }
+        ensures { result ≡ spec.has_bad_host_lists self.now }
     {
         has_twice(self.addresses.as_slice()) || has_status_twice(self.statuses.as_slice())
     }
@@ -74,7 +74,7 @@ fn refuses_new(name: Option<&GivenName>) -> bool
 impl HostUpdate {
     /// Whether the zone refuses a name of the host, or a list names one thing twice.
     pub(crate) fn has_bad_names(&self) -> bool
-        ensures { result ≡ spec.renames_badly self.now }
+        ensures { result ≡ spec.has_bad_update_names self.now }
     {
         self.name.is_refused()
             || refuses_new(self.new_name.as_ref())
@@ -337,8 +337,8 @@ pub(crate) fn prohibits_delete<S: Shows>(seen: Option<&S>) -> bool
 }
 
 /// Whether a deletion or a transfer of it is pending.
-pub(crate) fn is_pending<S: Shows>(seen: Option<&S>) -> bool
-    ensures { result ≡ spec.is_pending S.shown (option_copied seen.entry) }
+pub(crate) fn has_pending_action<S: Shows>(seen: Option<&S>) -> bool
+    ensures { result ≡ spec.has_pending_action S.shown (option_copied seen.entry) }
 {
     shows_any(&[Status::PendingDelete, Status::PendingTransfer], seen)
 }

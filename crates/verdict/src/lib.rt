@@ -1,5 +1,5 @@
-//! What a command is answered: the registry as plain maps, what of it a registrar sees, the facts
-//! that a command is judged by, and the rules that refuse it.
+//! What a command or an order is answered: the registry as plain maps, what of it a registrar sees,
+//! the facts that a command is judged by, and the rules that refuse it.
 #![tactic(auto)]
 
 mod code;

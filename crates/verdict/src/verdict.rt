@@ -6,9 +6,11 @@ ghost use Rattle.verdict.specs.Rules as spec;
 ghost use Rattle.verdict.specs.Verdicts.{judged, tag_of};
 
 use crate::code::Code;
-use crate::command::{Command, ContactUpdate, DomainUpdate, HostUpdate, NewHost, Request};
+use crate::command::{
+    Command, ContactUpdate, DomainUpdate, HostUpdate, NewDomain, NewHost, Request,
+};
 use crate::conditions::{
-    has_no_superordinate, has_stray_addresses, host_is_anothers, is_anothers, is_pending,
+    has_no_superordinate, has_stray_addresses, host_is_anothers, is_anothers, has_pending_action,
     presents_wrong, prohibits_delete, prohibits_update, superordinate_is_anothers,
     superordinate_is_deleted,
 };
@@ -90,42 +92,16 @@ fn refusal_of(
         Request::InfoContact { name, secret } => {
             refusal_of_contact_info(facts, caller, name, secret.as_ref())
         }
-        Request::InfoDomain { name, secret } => first_refusal(&[
-            row!(Names, ParameterPolicy, name.is_refused()),
-            row!(
-                Presence,
-                ObjectMissing,
-                facts.domain_seen(name.text()).is_none()
-            ),
-            row!(
-                Secret,
-                InvalidAuthorization,
-                presents_wrong(caller, secret.as_ref(), facts.domain_seen(name.text()))
-            ),
-        ]),
-        Request::InfoHost { name } => first_refusal(&[
-            row!(Names, ParameterPolicy, name.is_refused()),
-            row!(
-                Presence,
-                ObjectMissing,
-                facts.host_seen(name.text()).is_none()
-            ),
-        ]),
+        Request::InfoDomain { name, secret } => {
+            refusal_of_domain_info(facts, caller, name, secret.as_ref())
+        }
+        Request::InfoHost { name } => refusal_of_host_info(facts, name),
         Request::CreateContact(new) => first_refusal(&[row!(
             Presence,
             ObjectExists,
             facts.contact_seen(&new.name).is_some()
         )]),
-        Request::CreateDomain(new) => first_refusal(&[
-            row!(Names, ParameterPolicy, new.has_bad_names()),
-            row!(
-                Presence,
-                ObjectExists,
-                facts.domain_seen(new.name.text()).is_some()
-            ),
-            row!(Presence, ObjectMissing, facts.lacks_link),
-            row!(Eligibility, DataManagementPolicy, facts.is_full),
-        ]),
+        Request::CreateDomain(new) => refusal_of_domain_creation(facts, new),
         Request::CreateHost(new) => refusal_of_host_creation(facts, caller, new, policy.zone()),
         Request::DeleteContact { name } => refusal_of_contact_deletion(facts, caller, name),
         Request::DeleteHost { name } => refusal_of_host_deletion(facts, caller, name),
@@ -193,6 +169,48 @@ fn refusal_of_host_creation(
     ])
 }
 
+fn refusal_of_domain_info(
+    facts: &Facts,
+    caller: RegistrarNo,
+    name: &GivenName,
+    secret: Option<&Text>,
+) -> Option<Code>
+    ensures { result ≡ first_refusal (spec.domain_info caller name.now (option_copied secret.entry) facts.now) }
+{
+    let seen = facts.domain_seen(name.text());
+    first_refusal(&[
+        row!(Names, ParameterPolicy, name.is_refused()),
+        row!(Presence, ObjectMissing, seen.is_none()),
+        row!(
+            Secret,
+            InvalidAuthorization,
+            presents_wrong(caller, secret, seen)
+        ),
+    ])
+}
+
+fn refusal_of_host_info(facts: &Facts, name: &GivenName) -> Option<Code>
+    ensures { result ≡ first_refusal (spec.host_info name.now facts.now) }
+{
+    let host = facts.host_seen(name.text());
+    first_refusal(&[
+        row!(Names, ParameterPolicy, name.is_refused()),
+        row!(Presence, ObjectMissing, host.is_none()),
+    ])
+}
+
+fn refusal_of_domain_creation(facts: &Facts, new: &NewDomain) -> Option<Code>
+    ensures { result ≡ first_refusal (spec.domain_creation new.now facts.now) }
+{
+    let seen = facts.domain_seen(new.name.text());
+    first_refusal(&[
+        row!(Names, ParameterPolicy, new.has_bad_names()),
+        row!(Presence, ObjectExists, seen.is_some()),
+        row!(Presence, ObjectMissing, facts.lacks_link),
+        row!(Eligibility, DataManagementPolicy, facts.is_full),
+    ])
+}
+
 fn refusal_of_contact_deletion(facts: &Facts, caller: RegistrarNo, name: &Text) -> Option<Code>
     ensures { result ≡ first_refusal (spec.contact_deletion caller name.now facts.now) }
 {
@@ -254,7 +272,7 @@ fn refusal_of_contact_update(
         row!(
             Status,
             StatusProhibits,
-            is_pending(seen) || prohibits_update(rem, seen)
+            has_pending_action(seen) || prohibits_update(rem, seen)
         ),
         row!(Eligibility, ParameterPolicy, update.is_amiss(seen)),
     ])
@@ -279,7 +297,7 @@ fn refusal_of_domain_update(
         row!(
             Status,
             StatusProhibits,
-            is_pending(seen) || prohibits_update(update.rem.statuses.as_slice(), seen)
+            has_pending_action(seen) || prohibits_update(update.rem.statuses.as_slice(), seen)
         ),
         row!(Eligibility, ParameterPolicy, update.is_amiss(seen)),
     ])

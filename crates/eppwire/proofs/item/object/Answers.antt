@@ -2,7 +2,7 @@ use Rattle.std.proofs.Common.{◌≡◌, ◌∙◌, ◌∷◌, Some, ap, sym, tr
 use Rattle.std.specs.Prelude.{option_map}
 use Rattle.serde_json.specs.View.{view}
 use Rattle.eppwire.specs.Item.{item_value}
-use Rattle.eppwire.specs.Members.{in_order, members_with, with_some}
+use Rattle.eppwire.specs.Members.{are_in_order, members_with, with_some}
 use Rattle.eppwire.proofs.Built.{seen, popped, put_next}
 use Rattle.eppwire.proofs.item.object.Goals as goal
 
@@ -14,7 +14,7 @@ members-preserved-in-Continue-branch-3 c =
     let name = c.in-Some.name.now in
     let said : item_value item ≡ Some d = sym c.in_ok-value.ensures ∙ ap (option_map view) c.in-Some-2.is in
     let all = popped (seen c.args.members.items) c.members.members.items c.pop.new.self.items c.in-Some.name item g.done g.all c.in-Some.ensures.items in
-    let order : in_order (seen c.args.members.items) ≡ true = search rules in
+    let order : are_in_order (seen c.args.members.items) ≡ true = search rules in
     record {
       done = (name, item_value item) ∷ g.done;
       all = all;
