@@ -43,6 +43,16 @@ impl Text {
     }
 }
 
+/// A copy of a text, if there is one.
+pub fn copied(text: &Option<Text>) -> Result<Option<Text>, AllocError>
+    ensures { IfOk result (λ copy. copy ≡ text.now) }
+{
+    match text {
+        None => Ok(None),
+        Some(text) => Ok(Some(text.clone()?)),
+    }
+}
+
 impl PartialEq for Text {
     ghost use Rattle.std.specs.Str.{bytes_eq};
     ghost use Rattle.std.specs.Cmp as Cmp;

@@ -11,7 +11,7 @@ use crate::status::{ALL, Status, has_status};
 use crate::transfer::Transfer;
 use basis::list::Seq;
 use basis::registrar::RegistrarNo;
-use basis::text::Text;
+use basis::text::{Text, copied};
 use calendar::Moment;
 use std::alloc::{AllocError, Global};
 
@@ -75,16 +75,6 @@ impl Postal {
             pc: copied(&self.pc)?,
             cc: self.cc.clone()?,
         })
-    }
-}
-
-/// A copy of a text, if there is one.
-fn copied(text: &Option<Text>) -> Result<Option<Text>, AllocError>
-    ensures { IfOk result (λ copy. copy ≡ text.now) }
-{
-    match text {
-        None => Ok(None),
-        Some(text) => Ok(Some(text.clone()?)),
     }
 }
 

@@ -1,12 +1,16 @@
--- A step of the rules leaves a registry.
+-- A step of the rules leaves a well formed registry.
 use Rattle.std.proofs.Common.{◌≡◌, ℕ, Result, Ok, Err, IfOk, sym, subst}
 use Rattle.policy.specs.Rules.{PolicyRules, IsPlace}
-use Rattle.registry.specs.Execution.{IsStep}
-use Rattle.registry.specs.WellFormed.{StaysWellFormed}
+use Rattle.registry.specs.Execution.{IsOrderStep, IsStep}
+use Rattle.registry.specs.WellFormed.{KeepsWellFormed, StaysWellFormed}
+use Rattle.rules.specs.Orders.{order_effect}
 use Rattle.rules.specs.Steps.{effect}
 use Rattle.rules.proofs.KeepingLemmas.{kept-lapsed, kept-now}
+use Rattle.rules.proofs.OrderLemmas.{kept-order}
 use Rattle.rules.proofs.WellFormedLemmas.{kept-effect}
+use Rattle.verdict.specs.declared.code.Code.{Code}
 use Rattle.verdict.specs.declared.command.Command.{Command}
+use Rattle.verdict.specs.declared.order.Order.{Order}
 use Rattle.verdict.specs.declared.reply.Reply.{Reply}
 use Rattle.verdict.specs.Registry.{Registry, lapsed, now}
 use Rattle.verdict.specs.WellFormed.{IsRegistry}
@@ -20,3 +24,13 @@ pub kept_step : {E : Type 0} (result : Result Reply E) (clean : Type 0) (p : Pol
     → IfOk result (λ reply. clean → IsStep p r c moment before after reply) → IfOk result (λ reply. clean → StaysWellFormed p r before after)
 kept_step (Ok reply) clean p r c moment before after place step = λ taken. stays p r c moment before after place (step taken).left
 kept_step (Err e) clean p r c moment before after place step = tt
+
+kept-after-order : (p : PolicyRules) (order : Order) (moment : ℕ) (before after : Registry) → now after ≡ now (order_effect p.zone order (lapsed moment before)) → KeepsWellFormed p before after
+kept-after-order p order moment before after left is =
+    let passed : Registry = lapsed moment before in
+    subst (IsRegistry p) (sym left) (kept-now p (order_effect p.zone order passed) (kept-order p order passed (kept-lapsed p moment before is)))
+
+pub kept_order_step : {E : Type 0} (result : Result Code E) (clean : Type 0) (p : PolicyRules) (order : Order) (moment : ℕ) (before after : Registry)
+    → IfOk result (λ code. clean → IsOrderStep p order moment before after code) → IfOk result (λ code. clean → KeepsWellFormed p before after)
+kept_order_step (Ok code) clean p order moment before after step = λ taken. kept-after-order p order moment before after (step taken).left
+kept_order_step (Err e) clean p order moment before after step = tt

@@ -5,11 +5,14 @@ use Rattle.registry.specs.declared.fault.Fault.{Fault}
 use Rattle.registry.specs.declared.fault.Fault.TheVariants as faults
 use Rattle.registry.specs.declared.registry.Prepared.{Prepared}
 use Rattle.rules.specs.Decisions.{decided}
+use Rattle.rules.specs.Orders.{order_answer, order_effect}
 use Rattle.rules.specs.Steps.{answer, effect, reply_of}
 use Rattle.rules.specs.Isolation.{IsIsolated}
 use Rattle.store.specs.Book.{BookState, HasRefused, IsBack, Stored}
+use Rattle.verdict.specs.declared.code.Code.{Code}
 use Rattle.verdict.specs.declared.command.Command.{Command}
 use Rattle.verdict.specs.declared.facts.Facts.{Facts}
+use Rattle.verdict.specs.declared.order.Order.{Order}
 use Rattle.verdict.specs.declared.reply.Reply.{Reply}
 use Rattle.verdict.specs.Registry.{Registry, lapsed, now}
 
@@ -21,6 +24,12 @@ last_call = 4_102_444_799
 pub record IsStep (p : PolicyRules) (r : ℕ) (c : Command) (moment : ℕ) (before after : Registry) (reply : Reply) : Type 0 where
   pub answered : reply ≡ answer p r c (lapsed moment before)
   pub left : now after ≡ now (effect p r c (lapsed moment before))
+
+-- The code is the rules' answer to an order in the registry at that moment, and what is left is the
+-- order's effect.
+pub record IsOrderStep (p : PolicyRules) (order : Order) (moment : ℕ) (before after : Registry) (code : Code) : Type 0 where
+  pub answered : code ≡ order_answer p.zone order (lapsed moment before)
+  pub left : now after ≡ now (order_effect p.zone order (lapsed moment before))
 
 -- a reply and changes that are the rules' by the facts
 pub record IsPrepared (p : PolicyRules) (r : ℕ) (c : Command) (t : ℕ) (f : Facts) (prepared : Prepared) : Type 0 where

@@ -11,6 +11,10 @@ use Rattle.verdict.specs.WellFormed.{IsRegistry}
 abbrev pub StaysWellFormed : PolicyRules → ℕ → Registry → Registry → Type 0
 StaysWellFormed p r before after = IsRegistry p before → (account_of r before).serial < 4_611_686_018_427_387_904 → IsRegistry p (now after)
 
+-- an order on a well formed registry leaves one; it creates nothing
+abbrev pub KeepsWellFormed : PolicyRules → Registry → Registry → Type 0
+KeepsWellFormed p before after = IsRegistry p before → IsRegistry p (now after)
+
 -- a book that was never opened, or holds a well formed registry of a policy under whose terms it
 -- was opened
 abbrev pub HoldsRegistry : Stored → Type 0

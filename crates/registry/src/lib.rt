@@ -3,6 +3,7 @@
 
 mod fault;
 mod opening;
+mod order;
 mod registry;
 #[cfg(test)]
 mod tests;

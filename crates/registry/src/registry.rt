@@ -1,32 +1,40 @@
 //! The registry.
-ghost use Rattle.std.specs.Prelude.{◌≡◌, ◌≢◌, ◌<◌, ◌∷◌, [], max, true, false, ◌↔◌, IfOk, IfErr, OnOk, Ok, Err};
+ghost use Rattle.std.specs.Prelude.{◌≡◌, ◌≢◌, ◌<◌, nat_lt, true, false, ◌↔◌, IfOk, IfErr, OnOk, Ok, Err};
 ghost use Rattle.accounts.specs.Account.{raised};
 ghost use Rattle.policy.specs.Rules.{IsPlace};
-ghost use Rattle.registry.specs.Execution.{IsPrepared, IsStep, Fails, GoesBack, Keeps, at_moment, last_call};
+ghost use Rattle.registry.specs.Execution.{IsPrepared, IsStep, IsOrderStep, Fails, GoesBack, Keeps, last_call};
 ghost use Rattle.rules.specs.Isolation.{IsIsolated};
 ghost use Rattle.registry.specs.Opening.{Opens, Refuses};
-ghost use Rattle.registry.specs.WellFormed.{OpensWellFormed, StaysWellFormed};
+ghost use Rattle.registry.specs.WellFormed.{KeepsWellFormed, OpensWellFormed, StaysWellFormed};
 ghost use Rattle.rules.specs.Steps.{reply_of};
-ghost use Rattle.store.specs.Book.{Follows, IsSame, Moves, with_changes};
+ghost use Rattle.store.specs.Book.{Follows, IsSame, with_changes};
 ghost use Rattle.verdict.specs.Facts.{facts};
 ghost use Rattle.verdict.specs.Told.{id_of};
 ghost use Rattle.verdict.specs.Verdicts.{tag_of};
 
 use crate::fault::{Fault, OpenFault};
 use crate::opening::take_up;
-use crate::transaction::{apply, clock, facts_for, keep, or_back};
+use crate::order::carry_out;
+use crate::transaction::{facts_for, keep, or_back, pass_time};
 use basis::list::Seq;
 use basis::registrar::RegistrarNo;
-use basis::text::Text;
+use basis::text::{Text, copied};
 use calendar::Moment;
 use policy::Policy;
 use rules::{Change, decide};
 use std::alloc::{AllocError, Global};
 use store::Book;
-use verdict::{Command, Facts, Reply, ServerTag, Verdict, id_of};
+use verdict::{Code, Command, Facts, Order, Reply, ServerTag, Verdict, id_of};
 
 /// The latest moment at which a call is taken: 2099-12-31T23:59:59Z.
 const LAST_CALL: i64 = 4_102_444_799;
+
+/// Whether no call is taken at the moment any more.
+fn is_late(moment: Moment) -> bool
+    ensures { result ≡ nat_lt last_call moment }
+{
+    moment.secs() > LAST_CALL
+}
 
 /// A registry over a book, run by a policy.
 #[derive(Drop)]
@@ -86,10 +94,40 @@ impl<B: Book + Drop> Registry<B> {
         ensures follows { Follows (B.state self.old.book) (B.state self.new.book) }
         ensures policy { self.new.policy ≡ self.old.policy }
     {
-        if moment.secs() > LAST_CALL {
+        if is_late(moment) {
             return Err(Fault::Moment);
         }
         self.step(caller, command, moment)
+    }
+
+    /// Carries out an order of the operator at a moment; one before the clock counts as the clock.
+    /// It is answered `Completed`, `ObjectMissing` where its object isn't there or its name doesn't
+    /// read, `StatusProhibits` where it comes too late, or `ParameterPolicy` where a status is amiss.
+    /// A well formed registry stays well formed.
+    pub fn operator(&mut self, order: &Order, moment: Moment) -> Result<Code, Fault>
+        ensures step { IfOk result (λ code. (B.state self.new.book).is_clean ≡ true → IsOrderStep self.old.policy order.now moment (B.state self.old.book).content.registry (B.state self.new.book).content.registry code) }
+        ensures well_formed { IfOk result (λ code. (B.state self.new.book).is_clean ≡ true → KeepsWellFormed self.old.policy (B.state self.old.book).content.registry (B.state self.new.book).content.registry) }
+        ensures fault { IfErr result (λ fault. Fails fault (B.state self.old.book) (B.state self.new.book)) }
+        ensures late { (result ≡ Err Fault.Moment) ↔ (last_call < moment) }
+        ensures follows { Follows (B.state self.old.book) (B.state self.new.book) }
+        ensures policy { self.new.policy ≡ self.old.policy }
+    {
+        if is_late(moment) {
+            return Err(Fault::Moment);
+        }
+        self.order_step(order, moment)
+    }
+
+    /// Carries out an order by the rules.
+    fn order_step(&mut self, order: &Order, moment: Moment) -> Result<Code, Fault>
+        ensures step { IfOk result (λ code. (B.state self.new.book).is_clean ≡ true → IsOrderStep self.old.policy order.now moment (B.state self.old.book).content.registry (B.state self.new.book).content.registry code) }
+        ensures fault { IfErr result (λ fault. Fails fault (B.state self.old.book) (B.state self.new.book)) }
+        ensures early { result ≢ Err Fault.Moment }
+        ensures follows { Follows (B.state self.old.book) (B.state self.new.book) }
+        ensures policy { self.new.policy ≡ self.old.policy }
+    {
+        self.book.begin()?;
+        carry_out(&mut self.book, self.alloc, order, moment, &self.policy)
     }
 
     /// Answers a command by the rules.
@@ -135,25 +173,6 @@ fn perform<B: Book>(
     let now = pass_time(book, alloc, moment)?;
     let prepared = prepare(book, alloc, caller, command, now, policy)?;
     keep_prepared(book, prepared)
-}
-
-/// Lets time pass up to a moment in an open transaction, and gives the clock.
-fn pass_time<B: Book>(book: &mut B, alloc: Global, moment: Moment) -> Result<Moment, Fault>
-    requires { (B.state book.old).is_open ≡ true }
-    ensures moved { OnOk result (Moves (B.state book.old) (B.state book.new) (at_moment moment (B.state book.old).content)) }
-    ensures clock { IfOk result (λ clock. (B.state book.new).is_clean ≡ true → clock ≡ max moment (B.state book.old).content.registry.clock) }
-    ensures fault { IfErr result (λ fault. GoesBack fault (B.state book.old) (B.state book.new)) }
-    ensures follows { Follows (B.state book.old) (B.state book.new) }
-{
-    let passing = or_back(book, passing(alloc, moment))?;
-    apply(book, passing)?;
-    clock(book)
-}
-
-fn passing(alloc: Global, moment: Moment) -> Result<Seq<Change>, AllocError>
-    ensures { IfOk result (λ changes. changes ≡ Change.MoveClock moment ∷ []) }
-{
-    Ok(Seq::from_vec(vec![in alloc; Change::MoveClock(moment)]?))
 }
 
 /// A reply, and the changes that go with it.
@@ -257,19 +276,10 @@ fn tags(
     ensures tag { IfOk result (λ tags. tags.0 ≡ tag_of command.now) }
     ensures server_tag { IfOk result (λ tags. tags.1 ≡ record { id = id_of policy.now caller; number = raised facts.now.account.commands }) }
 {
-    let tag = copy_tag(command.tag())?;
+    let tag = copied(command.tag())?;
     let server_tag = ServerTag {
         id: id_of(alloc, policy, caller)?,
         number: facts.account.next_command(),
     };
     Ok((tag, server_tag))
-}
-
-fn copy_tag(tag: &Option<Text>) -> Result<Option<Text>, AllocError>
-    ensures { IfOk result (λ copy. copy ≡ tag.now) }
-{
-    match tag {
-        None => Ok(None),
-        Some(tag) => Ok(Some(tag.clone()?)),
-    }
 }

@@ -1,18 +1,21 @@
 //! The steps of a transaction, each with one kind of fault: it then went back.
-ghost use Rattle.std.specs.Prelude.{◌≡◌, true, IfOk, IfErr, OnOk, Ok};
-ghost use Rattle.registry.specs.Execution.{GoesBack, Keeps};
+ghost use Rattle.std.specs.Prelude.{◌≡◌, ◌∷◌, [], max, true, IfOk, IfErr, OnOk, Ok};
+ghost use Rattle.registry.specs.Execution.{GoesBack, Keeps, at_moment};
 ghost use Rattle.store.specs.Book.{Commits, Follows, IsSame, Moves, with_changes, with_terms};
 ghost use Rattle.verdict.specs.Facts.{facts};
+ghost use Rattle.verdict.specs.Orders.{object_at};
 
 use crate::fault::Fault;
 use basis::list::Seq;
 use basis::registrar::RegistrarNo;
+use basis::text::Text;
 use calendar::Moment;
+use objects::ObjectKind;
 use policy::Terms;
 use rules::Change;
-use std::alloc::AllocError;
+use std::alloc::{AllocError, Global};
 use store::Book;
-use verdict::{Command, Facts};
+use verdict::{Command, Facts, Object};
 
 /// What was made, or back to where the transaction began where memory ran out.
 pub(crate) fn or_back<B: Book, T>(book: &mut B, made: Result<T, AllocError>) -> Result<T, Fault>
@@ -55,6 +58,21 @@ pub(crate) fn facts_for<B: Book>(
     ensures follows { Follows (B.state book.old) (B.state book.new) }
 {
     Ok(book.facts_for(caller, command)?)
+}
+
+/// The object of a kind that stands under a name, in an open transaction.
+pub(crate) fn object_at<B: Book>(
+    book: &mut B,
+    kind: ObjectKind,
+    name: &Text,
+) -> Result<Option<Object>, Fault>
+    requires { (B.state book.old).is_open ≡ true }
+    ensures found { IfOk result (λ found. (B.state book.new).is_clean ≡ true → found ≡ object_at (B.state book.old).content.registry kind name.now) }
+    ensures same { OnOk result (IsSame (B.state book.old) (B.state book.new)) }
+    ensures fault { IfErr result (λ fault. GoesBack fault (B.state book.old) (B.state book.new)) }
+    ensures follows { Follows (B.state book.old) (B.state book.new) }
+{
+    Ok(book.object_at(kind, name)?)
 }
 
 /// Makes changes in an open transaction.
@@ -107,4 +125,27 @@ pub(crate) fn keep<B: Book>(book: &mut B, changes: Seq<Change>) -> Result<(), Fa
 {
     apply(book, changes)?;
     commit(book)
+}
+
+/// Lets time pass up to a moment in an open transaction, and gives the clock.
+pub(crate) fn pass_time<B: Book>(
+    book: &mut B,
+    alloc: Global,
+    moment: Moment,
+) -> Result<Moment, Fault>
+    requires { (B.state book.old).is_open ≡ true }
+    ensures moved { OnOk result (Moves (B.state book.old) (B.state book.new) (at_moment moment (B.state book.old).content)) }
+    ensures clock { IfOk result (λ clock. (B.state book.new).is_clean ≡ true → clock ≡ max moment (B.state book.old).content.registry.clock) }
+    ensures fault { IfErr result (λ fault. GoesBack fault (B.state book.old) (B.state book.new)) }
+    ensures follows { Follows (B.state book.old) (B.state book.new) }
+{
+    let passing = or_back(book, passing(alloc, moment))?;
+    apply(book, passing)?;
+    clock(book)
+}
+
+fn passing(alloc: Global, moment: Moment) -> Result<Seq<Change>, AllocError>
+    ensures { IfOk result (λ changes. changes ≡ Change.MoveClock moment ∷ []) }
+{
+    Ok(Seq::from_vec(vec![in alloc; Change::MoveClock(moment)]?))
 }

@@ -10,3 +10,4 @@ pub mod LinkLemmas
 pub mod StandInLemmas
 pub mod CommandLemmas
 pub mod WellFormedLemmas
+pub mod OrderLemmas

@@ -1,4 +1,5 @@
 pub mod Changes
 pub mod Decisions
 pub mod Steps
+pub mod Orders
 pub mod Isolation

@@ -5,7 +5,7 @@ ghost use Rattle.rules.specs.Decisions as spec;
 
 use basis::list::Seq;
 use basis::registrar::RegistrarNo;
-use basis::text::Text;
+use basis::text::{Text, copied};
 use calendar::Moment;
 use names::{GivenName, Zone};
 use objects::{Contact, Domain, Host, Links, ObjectKind, Roid, in_order};
@@ -46,16 +46,6 @@ pub(crate) fn new_contact(
         mail: new.mail.clone()?,
         transfer: None,
     })
-}
-
-/// A copy of a text, if there is one.
-pub(crate) fn copied(text: &Option<Text>) -> Result<Option<Text>, AllocError>
-    ensures { IfOk result (λ copy. copy ≡ text.now) }
-{
-    match text {
-        None => Ok(None),
-        Some(text) => Ok(Some(text.clone()?)),
-    }
 }
 
 pub(crate) fn new_domain(

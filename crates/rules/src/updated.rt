@@ -4,9 +4,9 @@ ghost use Rattle.std.specs.Option.{option_copied};
 ghost use Rattle.verdict.specs.Conditions.{or_else};
 ghost use Rattle.rules.specs.Decisions as spec;
 
-use crate::created::{by_of, copied};
+use crate::created::by_of;
 use basis::registrar::RegistrarNo;
-use basis::text::Text;
+use basis::text::{Text, copied};
 use calendar::Moment;
 use names::{GivenName, Zone};
 use objects::{Contact, Domain, Host, Links, Postal, amended_statuses};

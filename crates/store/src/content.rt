@@ -1,19 +1,16 @@
 //! A registry in ordered maps.
-ghost use Rattle.std.specs.Prelude.{◌≡◌, ◌||◌, if◌then◌else◌, ◌∷◌, [], map, nat_le, not, false, is_some, option_map, option_and_then, Some, None, IfOk, OnOk, OnErr};
+ghost use Rattle.std.specs.Prelude.{◌≡◌, ◌||◌, if◌then◌else◌, [], map, nat_le, not, false, is_some, option_map, option_and_then, Some, None, IfOk};
 ghost use Rattle.std.specs.List.{list_any};
 ghost use Rattle.std.specs.Option.{option_copied};
 ghost use Rattle.std.specs.FinMap as finmap;
 ghost use Rattle.names.specs.GivenName.{name_of};
-ghost use Rattle.store.specs.Edits as spec;
 ghost use Rattle.store.specs.Found as found;
 ghost use Rattle.store.specs.Plain.{held};
 ghost use Rattle.verdict.specs.Facts as facts;
+ghost use Rattle.verdict.specs.Orders as orders;
 ghost use Rattle.verdict.specs.Registry.{account_of};
 
-use crate::edit::{
-    Edit, copy_account, copy_contact, copy_domain, copy_host, copy_terms, put_named,
-};
-use crate::relinked::relinked;
+use crate::edit::{copy_contact, copy_domain, copy_host};
 use accounts::Account;
 use basis::list::Seq;
 use basis::maps::{NameMap, PlaceMap};
@@ -21,12 +18,12 @@ use basis::registrar::RegistrarNo;
 use basis::text::Text;
 use calendar::Moment;
 use names::{GivenName, last_two_labels};
-use objects::{Contact, Domain, Host, is_below};
+use objects::{Contact, Domain, Host, ObjectKind, is_below};
 use policy::Terms;
-use rules::Change;
 use std::alloc::{AllocError, Global};
 use verdict::{
-    AccountFacts, Command, ContactFacts, DomainFacts, Facts, HostFacts, Request, Superordinate,
+    AccountFacts, Command, ContactFacts, DomainFacts, Facts, HostFacts, Object, Request,
+    Superordinate,
 };
 
 #[derive(Drop)]
@@ -41,16 +38,6 @@ pub(crate) struct Content {
 }
 
 impl Content {
-    /// A copy of a registrar's account, which is empty where it was never opened.
-    fn account(&self, registrar: RegistrarNo) -> Result<Account, AllocError>
-        ensures { IfOk result (λ account. account ≡ account_of registrar (held self.now).registry) }
-    {
-        match self.accounts.get(registrar) {
-            Some(account) => account.clone(),
-            None => Ok(Account::empty(self.alloc)),
-        }
-    }
-
     fn account_facts(&self, registrar: RegistrarNo) -> AccountFacts
         ensures { result ≡ facts.digest (account_of registrar (held self.now).registry) }
     {
@@ -325,128 +312,26 @@ impl Content {
     }
 }
 
-// ---- changes
+// ---- the object of an order
 
 impl Content {
-    /// The edits that make a change.
-    pub fn edits_of(&self, change: Change) -> Result<Vec<Edit>, AllocError>
-        ensures { IfOk result (λ edits. edits.items ≡ spec.edits_of change (held self.now).registry) }
+    /// The object of a kind that stands under a name.
+    pub fn object_at(&self, kind: ObjectKind, name: &Text) -> Result<Option<Object>, AllocError>
+        ensures { IfOk result (λ it. it ≡ orders.object_at (held self.now).registry kind name.now) }
     {
-        match change {
-            Change::MoveClock(moment) => self.one(Edit::Clock(moment.later(self.clock))),
-            Change::OpenAccount(registrar) => {
-                let account = self.account(registrar)?;
-                self.one(Edit::Account(registrar, Some(account)))
-            }
-            Change::CountCommand(registrar) => {
-                let mut account = self.account(registrar)?;
-                account.count_command();
-                self.one(Edit::Account(registrar, Some(account)))
-            }
-            Change::TakeSerial(registrar) => {
-                let mut account = self.account(registrar)?;
-                account.take_serial();
-                self.one(Edit::Account(registrar, Some(account)))
-            }
-            Change::PutContact(contact) => {
-                let name = contact.name.clone()?;
-                self.one(Edit::Contact(name, Some(contact)))
-            }
-            Change::DropContact(name) => self.one(Edit::Contact(name, None)),
-            Change::PutDomain(domain) => {
-                let name = domain.name.clone()?;
-                self.one(Edit::Domain(name, Some(domain)))
-            }
-            Change::PutHost(host) => {
-                let name = host.name.clone()?;
-                self.one(Edit::Host(name, Some(host)))
-            }
-            Change::DropHost(name) => self.one(Edit::Host(name, None)),
-            Change::Relink(old, new) => self.relinks(&old, &new),
-        }
-    }
-
-    fn one(&self, edit: Edit) -> Result<Vec<Edit>, AllocError>
-        ensures { IfOk result (λ edits. edits.items ≡ edit ∷ []) }
-    {
-        Ok(vec![in self.alloc; edit]?)
-    }
-
-    /// The domains that name a host, each with the host's new name.
-    fn relinks(&self, old: &Text, new: &Text) -> Result<Vec<Edit>, AllocError>
-        ensures { IfOk result (λ edits. edits.items ≡ spec.edits_of (Change.Relink old.now new.now) (held self.now).registry) }
-    {
-        let mut edits = Vec::new(self.alloc);
-        for (name, domain) in self.domains.iter() {
-            if domain.links.names_host(old) {
-                let domain = relinked(self.alloc, old, new, domain)?;
-                edits.push(Edit::Domain(name.clone()?, Some(domain)))?;
-            }
-        }
-        Ok(edits)
-    }
-
-    /// What takes an edit back.
-    pub fn inverse(&self, edit: &Edit) -> Result<Edit, AllocError>
-        ensures { IfOk result (λ inverse. inverse ≡ spec.inverse edit.now (held self.now)) }
-    {
-        match edit {
-            Edit::Clock(_) => Ok(Edit::Clock(self.clock)),
-            Edit::Account(registrar, _) => {
-                let old = copy_account(self.accounts.get(*registrar))?;
-                Ok(Edit::Account(*registrar, old))
-            }
-            Edit::Contact(name, _) => {
-                let old = copy_contact(self.contacts.get(name))?;
-                Ok(Edit::Contact(name.clone()?, old))
-            }
-            Edit::Domain(name, _) => {
-                let old = copy_domain(self.domains.get(name))?;
-                Ok(Edit::Domain(name.clone()?, old))
-            }
-            Edit::Host(name, _) => {
-                let old = copy_host(self.hosts.get(name))?;
-                Ok(Edit::Host(name.clone()?, old))
-            }
-            Edit::Terms(_) => Ok(Edit::Terms(copy_terms(&self.terms)?)),
-        }
-    }
-
-    /// Makes an edit.
-    pub fn set(&mut self, edit: Edit) -> Result<(), AllocError>
-        ensures ok { OnOk result (held self.new ≡ spec.edited edit (held self.old)) }
-        ensures err { OnErr result (held self.new ≡ held self.old) }
-    {
-        match edit {
-            Edit::Clock(moment) => {
-                self.clock = moment;
-                Ok(())
-            }
-            Edit::Account(registrar, value) => self.set_account(registrar, value),
-            Edit::Contact(name, value) => put_named(&mut self.contacts, name, value),
-            Edit::Domain(name, value) => put_named(&mut self.domains, name, value),
-            Edit::Host(name, value) => put_named(&mut self.hosts, name, value),
-            Edit::Terms(terms) => {
-                self.terms = terms;
-                Ok(())
-            }
-        }
-    }
-
-    fn set_account(
-        &mut self,
-        registrar: RegistrarNo,
-        value: Option<Account>,
-    ) -> Result<(), AllocError>
-        ensures ok { OnOk result (held self.new ≡ spec.edited (Edit.Account registrar value) (held self.old)) }
-        ensures err { OnErr result (held self.new ≡ held self.old) }
-    {
-        match value {
-            None => {
-                self.accounts.remove(registrar);
-                Ok(())
-            }
-            Some(account) => self.accounts.insert(registrar, account),
+        match kind {
+            ObjectKind::Contact => match copy_contact(self.contacts.get(name))? {
+                None => Ok(None),
+                Some(contact) => Ok(Some(Object::Contact(contact))),
+            },
+            ObjectKind::Domain => match copy_domain(self.domains.get(name))? {
+                None => Ok(None),
+                Some(domain) => Ok(Some(Object::Domain(domain))),
+            },
+            ObjectKind::Host => match copy_host(self.hosts.get(name))? {
+                None => Ok(None),
+                Some(host) => Ok(Some(Object::Host(host))),
+            },
         }
     }
 }

@@ -2,6 +2,7 @@
 #![tactic(auto)]
 
 mod book;
+mod changing;
 mod content;
 mod due;
 mod edit;

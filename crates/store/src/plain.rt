@@ -12,11 +12,13 @@ use crate::fault::BookFault;
 use basis::list::Seq;
 use basis::maps::{NameMap, PlaceMap};
 use basis::registrar::RegistrarNo;
+use basis::text::Text;
 use calendar::Moment;
+use objects::ObjectKind;
 use policy::Terms;
 use rules::Change;
 use std::alloc::{AllocError, Global};
-use verdict::{Command, Facts};
+use verdict::{Command, Facts, Object};
 
 /// A registry in ordered maps, with what undoes the changes of the open transaction. A change costs
 /// a look-up and a copy of what it replaces; nothing is copied when a transaction begins.
@@ -195,6 +197,14 @@ impl Book for PlainBook {
         self.settle()?;
         match self.content.facts_for(caller, command) {
             Ok(facts) => Ok(facts),
+            Err(error) => self.fail(error),
+        }
+    }
+
+    fn object_at(&mut self, kind: ObjectKind, name: &Text) -> Result<Option<Object>, BookFault> {
+        self.settle()?;
+        match self.content.object_at(kind, name) {
+            Ok(object) => Ok(object),
             Err(error) => self.fail(error),
         }
     }

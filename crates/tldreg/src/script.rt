@@ -6,7 +6,7 @@ use crate::exit::Exit;
 use crate::line::Line;
 use basis::registrar::RegistrarNo;
 use calendar::Moment;
-use eppwire::{command_of, reply_bytes};
+use eppwire::{command_of, order_bytes, order_of, reply_bytes};
 use policy::Policy;
 use registry::Registry;
 use std::alloc::Global;
@@ -93,20 +93,57 @@ fn answer_line<W: Write>(
     let Some(line) = Line::read(registry.policy(), text) else {
         return Err(Exit::Script(number));
     };
-    match answer(alloc, registry, line.caller, line.payload, line.moment) {
-        Some(reply) => {
-            let bytes = reply_bytes(alloc, &reply);
-            drop(reply);
-            writer.write_all(&bytes?)?;
-        }
+    let answered = match line.sender.registrar() {
+        Some(caller) => answer_command(alloc, registry, caller, &line),
+        None => answer_order(alloc, registry, number, &line),
+    };
+    match answered? {
+        Some(bytes) => writer.write_all(&bytes)?,
         None => writer.write_all(COMMAND_FAILED)?,
     }
     writer.write_all(b"\n")?;
     Ok(())
 }
 
+/// What a registrar's command is answered, unless the call gave up or the command found no memory.
+fn answer_command(
+    alloc: Global,
+    registry: &mut Registry<PlainBook>,
+    caller: RegistrarNo,
+    line: &Line<'_>,
+) -> Result<Option<Vec<u8>>, Exit>
+    requires { IsPlace registry.old.policy caller }
+{
+    let Some(reply) = reply_to(alloc, registry, caller, line.payload, line.moment) else {
+        return Ok(None);
+    };
+    let bytes = reply_bytes(alloc, &reply);
+    drop(reply);
+    Ok(Some(bytes?))
+}
+
+/// What an order is answered, unless the call gave up or the order found no memory.
+fn answer_order(
+    alloc: Global,
+    registry: &mut Registry<PlainBook>,
+    number: u64,
+    line: &Line<'_>,
+) -> Result<Option<Vec<u8>>, Exit> {
+    let order = match order_of(alloc, line.payload) {
+        Ok(Some(order)) => order,
+        Ok(None) => return Err(Exit::Script(number)),
+        Err(_) => return Ok(None),
+    };
+    let code = registry.operator(&order, line.moment);
+    drop(order);
+    match code {
+        Ok(code) => Ok(Some(order_bytes(alloc, code, None)?)),
+        Err(_) => Ok(None),
+    }
+}
+
 /// The reply to a payload, unless the call gave up or the command found no memory.
-fn answer(
+fn reply_to(
     alloc: Global,
     registry: &mut Registry<PlainBook>,
     caller: RegistrarNo,

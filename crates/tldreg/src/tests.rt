@@ -8,6 +8,7 @@ mod hosts;
 mod limits;
 mod lists;
 mod name_forms;
+mod operator;
 mod statuses;
 mod updates;
 

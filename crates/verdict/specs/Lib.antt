@@ -8,4 +8,5 @@ pub mod Conditions
 pub mod Rules
 pub mod Told
 pub mod Verdicts
+pub mod Orders
 pub mod WellFormed

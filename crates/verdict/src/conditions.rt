@@ -360,7 +360,7 @@ pub(crate) fn prohibits_update<S: Shows>(removed: &[Status], seen: Option<&S>) -
 // ---- what an update adds and removes
 
 /// Whether a status is added that is set, or removed that isn't.
-fn statuses_amiss(old: &[Status], removed: &[Status], added: &[Status]) -> bool
+pub(crate) fn statuses_amiss(old: &[Status], removed: &[Status], added: &[Status]) -> bool
     ensures { result ≡ spec.statuses_amiss old.now removed.now added.now }
 {
     any_set(old, added) || any_not_set(old, removed)

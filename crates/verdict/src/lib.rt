@@ -20,7 +20,7 @@ pub use command::{
 };
 pub use facts::{AccountFacts, ContactFacts, DomainFacts, Facts, HostFacts, Superordinate};
 pub use named::{Named, amended_names};
-pub use order::{Order, StatusOrder};
+pub use order::{Object, Order, StatusOrder};
 pub use refusal::{CAUSES, Cause, Class, Refusal, first_refusal};
 pub use reply::{
     CheckResult, ContactHidden, ContactInfo, Created, Data, DomainHidden, DomainInfo, HostInfo,

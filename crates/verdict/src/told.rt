@@ -11,7 +11,7 @@ use crate::reply::{
 };
 use basis::list::Seq;
 use basis::registrar::RegistrarNo;
-use basis::text::Text;
+use basis::text::{Text, copied};
 use calendar::Moment;
 use names::GivenName;
 use objects::{Contact, ContactFace, Domain, DomainFace, Host, Seen, Transfer, with_linked};
@@ -244,15 +244,6 @@ fn tell_contact_full(
             transfer: tell_transfer(alloc, policy, contact.transfer)?,
         }),
     })
-}
-
-fn copied(text: &Option<Text>) -> Result<Option<Text>, AllocError>
-    ensures { IfOk result (λ copy. copy ≡ text.now) }
-{
-    match text {
-        None => Ok(None),
-        Some(text) => Ok(Some(text.clone()?)),
-    }
 }
 
 // ---- info of domains

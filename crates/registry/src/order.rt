@@ -1,0 +1,73 @@
+//! How an order of the operator is carried out.
+ghost use Rattle.std.specs.Prelude.{◌≡◌, true, false, IfOk, IfErr, OnOk};
+ghost use Rattle.registry.specs.Execution.{GoesBack, IsOrderStep, Keeps};
+ghost use Rattle.rules.specs.Orders.{status_decision};
+ghost use Rattle.store.specs.Book.{Follows, IsSame, with_changes};
+ghost use Rattle.verdict.specs.Orders.{object_ordered};
+
+use crate::fault::Fault;
+use crate::transaction::{keep, object_at, or_back, pass_time};
+use calendar::Moment;
+use policy::Policy;
+use rules::{OrderDecision, decide_order};
+use std::alloc::Global;
+use store::Book;
+use verdict::{Code, Object, Order, StatusOrder};
+
+/// Carries out an order in an open transaction, and keeps what it did.
+pub(crate) fn carry_out<B: Book>(
+    book: &mut B,
+    alloc: Global,
+    order: &Order,
+    moment: Moment,
+    policy: &Policy,
+) -> Result<Code, Fault>
+    requires { (B.state book.old).is_open ≡ true }
+    ensures step { IfOk result (λ code. (B.state book.new).is_clean ≡ true → IsOrderStep policy.now order.now moment (B.state book.old).content.registry (B.state book.new).content.registry code) }
+    ensures closed { (B.state book.new).is_open ≡ false }
+    ensures fault { IfErr result (λ fault. GoesBack fault (B.state book.old) (B.state book.new)) }
+    ensures follows { Follows (B.state book.old) (B.state book.new) }
+{
+    pass_time(book, alloc, moment)?;
+    match order {
+        Order::Status(order) => set_statuses(book, alloc, order, policy),
+    }
+}
+
+/// Sets and takes away statuses in an open transaction, and keeps them.
+fn set_statuses<B: Book>(
+    book: &mut B,
+    alloc: Global,
+    order: &StatusOrder,
+    policy: &Policy,
+) -> Result<Code, Fault>
+    requires { (B.state book.old).is_open ≡ true }
+    ensures code { IfOk result (λ code. (B.state book.new).is_clean ≡ true → code ≡ (status_decision policy.now.zone order.now (B.state book.old).content.registry).code) }
+    ensures kept { OnOk result (Keeps (B.state book.old) (B.state book.new) (with_changes (status_decision policy.now.zone order.now (B.state book.old).content.registry).changes (B.state book.old).content)) }
+    ensures fault { IfErr result (λ fault. GoesBack fault (B.state book.old) (B.state book.new)) }
+    ensures follows { Follows (B.state book.old) (B.state book.new) }
+{
+    let object = object_ordered(book, alloc, order, policy)?;
+    let OrderDecision { code, changes } = or_back(book, decide_order(alloc, order, object))?;
+    keep(book, changes)?;
+    Ok(code)
+}
+
+/// The object that an order names, in an open transaction.
+fn object_ordered<B: Book>(
+    book: &mut B,
+    alloc: Global,
+    order: &StatusOrder,
+    policy: &Policy,
+) -> Result<Option<Object>, Fault>
+    requires { (B.state book.old).is_open ≡ true }
+    ensures found { IfOk result (λ object. (B.state book.new).is_clean ≡ true → object ≡ object_ordered policy.now.zone order.now (B.state book.old).content.registry) }
+    ensures same { OnOk result (IsSame (B.state book.old) (B.state book.new)) }
+    ensures fault { IfErr result (λ fault. GoesBack fault (B.state book.old) (B.state book.new)) }
+    ensures follows { Follows (B.state book.old) (B.state book.new) }
+{
+    match or_back(book, order.object_name(alloc, policy.zone()))? {
+        None => Ok(None),
+        Some(name) => object_at(book, order.kind, &name),
+    }
+}

@@ -1,0 +1,48 @@
+-- An order of the operator keeps a registry well formed.
+use Rattle.std.proofs.Common.{◌≡◌, ℕ, Bool, true, false, cond, List, [], Option, Some, None, option_map, refl}
+use Rattle.std.specs.Prelude.{option_and_then}
+use Rattle.std.specs.FinMap.{get}
+use Rattle.objects.specs.declared.contact.Contact.{Contact}
+use Rattle.objects.specs.declared.domain.Domain.{Domain}
+use Rattle.objects.specs.declared.host.Host.{Host}
+use Rattle.objects.specs.declared.roid.ObjectKind.{ObjectKind}
+use Rattle.objects.specs.declared.roid.ObjectKind.TheVariants as kinds
+use Rattle.policy.specs.Rules.{PolicyRules}
+use Rattle.rules.specs.Changes.{changed_all}
+use Rattle.rules.specs.Orders.{order_changes, order_effect, ordered}
+use Rattle.rules.proofs.StandInLemmas.{kept-contact-statuses, kept-domain-statuses, kept-host-statuses}
+use Rattle.verdict.specs.declared.order.Object.TheVariants as objects
+use Rattle.verdict.specs.declared.order.Order.{Order}
+use Rattle.verdict.specs.declared.order.Order.TheVariants as orders
+use Rattle.verdict.specs.declared.order.StatusOrder.{StatusOrder}
+use Rattle.verdict.specs.Codes.{is_accepted}
+use Rattle.verdict.specs.Orders.{name_ordered, object_at, object_ordered, order_code}
+use Rattle.verdict.specs.Registry.{Registry}
+use Rattle.verdict.specs.WellFormed.{IsRegistry}
+
+module _ (p : PolicyRules) (s : Registry) (is : IsRegistry p s) (o : StatusOrder) where
+  at-contact : (name : List ℕ) (found : Option Contact) → get s.contacts name ≡ found → IsRegistry p (changed_all (order_changes o (option_map objects.Contact found)) s)
+  at-contact name None at = is
+  at-contact name (Some c) at = kept-contact-statuses p s is name (ordered o c.statuses) c at
+
+  at-domain : (name : List ℕ) (found : Option Domain) → get s.domains name ≡ found → IsRegistry p (changed_all (order_changes o (option_map objects.Domain found)) s)
+  at-domain name None at = is
+  at-domain name (Some d) at = kept-domain-statuses p s is name (ordered o d.statuses) d at
+
+  at-host : (name : List ℕ) (found : Option Host) → get s.hosts name ≡ found → IsRegistry p (changed_all (order_changes o (option_map objects.Host found)) s)
+  at-host name None at = is
+  at-host name (Some h) at = kept-host-statuses p s is name (ordered o h.statuses) h at
+
+  at-name : (kind : ObjectKind) (name : Option (List ℕ)) → IsRegistry p (changed_all (order_changes o (option_and_then (object_at s kind) name)) s)
+  at-name kind None = is
+  at-name kinds.Contact (Some name) = at-contact name (get s.contacts name) refl
+  at-name kinds.Domain (Some name) = at-domain name (get s.domains name) refl
+  at-name kinds.Host (Some name) = at-host name (get s.hosts name) refl
+
+  -- a refused order changes nothing
+  at-code : (accepted : Bool) → IsRegistry p (changed_all (cond accepted (order_changes o (object_ordered p.zone o s)) []) s)
+  at-code true = at-name o.kind (name_ordered p.zone o)
+  at-code false = is
+
+pub kept-order : (p : PolicyRules) (order : Order) (s : Registry) → IsRegistry p s → IsRegistry p (order_effect p.zone order s)
+kept-order p (orders.Status o) s is = at-code p s is o (is_accepted (order_code o (object_ordered p.zone o s)))

@@ -1,0 +1,52 @@
+-- What an order of the operator is answered and what it changes.
+use Rattle.std.specs.Prelude.{ℕ, List, [], ◌∷◌, Option, Some, None, if◌then◌else◌}
+use Rattle.names.specs.Zone.{ZoneRules}
+use Rattle.objects.specs.declared.status.Status.{Status}
+use Rattle.objects.specs.Statuses.{amended_statuses}
+use Rattle.rules.specs.declared.change.Change.{Change}
+use Rattle.rules.specs.declared.change.Change.TheVariants.{PutContact, PutDomain, PutHost}
+use Rattle.rules.specs.declared.order.OrderDecision.{OrderDecision}
+use Rattle.rules.specs.Changes.{changed_all}
+use Rattle.verdict.specs.declared.code.Code.{Code}
+use Rattle.verdict.specs.declared.order.Object.{Object}
+use Rattle.verdict.specs.declared.order.Object.TheVariants as objects
+use Rattle.verdict.specs.declared.order.Order.{Order}
+use Rattle.verdict.specs.declared.order.Order.TheVariants as orders
+use Rattle.verdict.specs.declared.order.StatusOrder.{StatusOrder}
+use Rattle.verdict.specs.Codes.{is_accepted}
+use Rattle.verdict.specs.Orders.{object_ordered, order_code}
+use Rattle.verdict.specs.Registry.{Registry}
+
+-- the statuses that an order leaves
+abbrev pub ordered : StatusOrder → List Status → List Status
+ordered o statuses = amended_statuses statuses o.rem o.add
+
+-- The object with the statuses that an order leaves. An order isn't an update: it sets no date of
+-- change (RFC 5731, 3.2.5, has the sponsor's alone).
+abbrev pub put_ordered : StatusOrder → Object → Change
+put_ordered o (objects.Contact c) = PutContact (record c { statuses = ordered o c.statuses })
+put_ordered o (objects.Domain d) = PutDomain (record d { statuses = ordered o d.statuses })
+put_ordered o (objects.Host h) = PutHost (record h { statuses = ordered o h.statuses })
+
+abbrev pub order_changes : StatusOrder → Option Object → List Change
+order_changes o None = []
+order_changes o (Some object) = put_ordered o object ∷ []
+
+-- a refused order changes nothing
+abbrev pub decided_order : StatusOrder → Option Object → Code → OrderDecision
+decided_order o object code = record { code = code; changes = if is_accepted code then order_changes o object else [] }
+
+abbrev pub status_decision : ZoneRules → StatusOrder → Registry → OrderDecision
+status_decision zone o s = decided_order o (object_ordered zone o s) (order_code o (object_ordered zone o s))
+
+-- the decision on an order in a registry
+abbrev pub order_decision : ZoneRules → Order → Registry → OrderDecision
+order_decision zone (orders.Status o) s = status_decision zone o s
+
+-- what an order is answered
+abbrev pub order_answer : ZoneRules → Order → Registry → Code
+order_answer zone order s = (order_decision zone order s).code
+
+-- what it leaves
+abbrev pub order_effect : ZoneRules → Order → Registry → Registry
+order_effect zone order s = changed_all (order_decision zone order s).changes s
