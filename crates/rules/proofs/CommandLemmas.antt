@@ -4,6 +4,7 @@ use Rattle.std.specs.Cmp.{nat_cmp_total, eq_by_cmp_equiv}
 use Rattle.std.specs.Cmp.Lexicographic.{bytes_decides}
 use Rattle.std.specs.FinMap.{get}
 use Rattle.std.specs.Str.{bytes_eq}
+use Rattle.std.proofs.lemmas.Bool.{or_parts}
 use Rattle.accounts.specs.declared.account.Account.{Account}
 use Rattle.accounts.specs.Account.{counted, numbered, raised}
 use Rattle.names.specs.declared.given.GivenName.{GivenName}
@@ -34,7 +35,7 @@ use Rattle.rules.specs.Decisions.{by_of, contact_changes, domain_changes, host_c
 use Rattle.rules.proofs.KeepingLemmas.{IsUndeleted, drop-contact, drop-host, kept-account, put-contact, put-domain, put-host, rename-host}
 use Rattle.rules.proofs.LinkLemmas.{new-contacts, new-hosts, updated-contacts, updated-hosts}
 use Rattle.rules.proofs.NamedLemmas.{value-fails}
-use Rattle.rules.proofs.RowLemmas.{neither, row-fails}
+use Rattle.rules.proofs.RowLemmas.{row-fails}
 use Rattle.rules.proofs.StandInLemmas.{contact-updated, domain-updated, kept-put-contact, kept-put-domain, kept-put-host}
 use Rattle.rules.proofs.ViewLemmas.{account_of-with_account}
 use Rattle.verdict.specs.declared.command.Command.{Command}
@@ -248,7 +249,7 @@ module _ (p : PolicyRules) (r : ℕ) (tag : Option (List ℕ)) (s : Registry) (p
   kept-domain-update u taken = by (domain_seen (facts r (asked_domain u) s) (name_of u.name)) (ap (option_and_then (λ known. known.seen)) (at-itself (name_of u.name) (domain_facts (finds r (asked_domain u) s) (asked_domain u) (name_of u.name))))
     where
       linked : (facts r (asked_domain u) s).lacks_link ≡ false
-      linked = (neither (is_none (domain_seen (facts r (asked_domain u) s) (name_of u.name))) (facts r (asked_domain u) s).lacks_link (row-fails (refusals p r (requests.UpdateDomain u) (facts r (asked_domain u) s)) taken 2 1 _ _ refl refl refl)).1
+      linked = (or_parts (is_none (domain_seen (facts r (asked_domain u) s) (name_of u.name))) (facts r (asked_domain u) s).lacks_link (row-fails (refusals p r (requests.UpdateDomain u) (facts r (asked_domain u) s)) taken 2 1 _ _ refl refl refl)).1
 
       by : (seen : Option (Seen Domain DomainFace)) → seen ≡ option_map (domain_as r None) (get s.domains (name_of u.name)) → IsRegistry p (changed_all (domain_changes s.clock u seen) after_count)
       by None e = kept-counted
@@ -299,10 +300,10 @@ module _ (p : PolicyRules) (r : ℕ) (tag : Option (List ℕ)) (s : Registry) (p
   kept-host-update u taken = by (host_seen (facts r (asked_host u) s) (name_of u.name)) (ap (option_and_then (λ known. known.host)) (at-itself (name_of u.name) (host_facts (finds r (asked_host u) s) (asked_host u) (name_of u.name))))
     where
       based : holds_of (has_no_superordinate p.zone) (known_new u u.new_name) ≡ false
-      based = (neither (is_none (host_seen (facts r (asked_host u) s) (name_of u.name))) (holds_of (has_no_superordinate p.zone) (known_new u u.new_name)) (row-fails (refusals p r (requests.UpdateHost u) (facts r (asked_host u) s)) taken 2 2 _ _ refl refl refl)).1
+      based = (or_parts (is_none (host_seen (facts r (asked_host u) s) (name_of u.name))) (holds_of (has_no_superordinate p.zone) (known_new u u.new_name)) (row-fails (refusals p r (requests.UpdateHost u) (facts r (asked_host u) s)) taken 2 2 _ _ refl refl refl)).1
 
       alive : holds_of (superordinate_is_deleted p.zone) (known_new u u.new_name) ≡ false
-      alive = (neither (prohibits_update host_seen_shows u.rem.statuses (host_seen (facts r (asked_host u) s) (name_of u.name))) (holds_of (superordinate_is_deleted p.zone) (known_new u u.new_name)) (row-fails (refusals p r (requests.UpdateHost u) (facts r (asked_host u) s)) taken 7 4 _ _ refl refl refl)).1
+      alive = (or_parts (prohibits_update host_seen_shows u.rem.statuses (host_seen (facts r (asked_host u) s) (name_of u.name))) (holds_of (superordinate_is_deleted p.zone) (known_new u u.new_name)) (row-fails (refusals p r (requests.UpdateHost u) (facts r (asked_host u) s)) taken 7 4 _ _ refl refl refl)).1
 
       by : (seen : Option Host) → seen ≡ get s.hosts (name_of u.name) → IsRegistry p (changed_all (host_changes p.zone r s.clock u seen) after_count)
       by None e = kept-counted

@@ -1,10 +1,11 @@
 -- Each change keeps a registry well formed, where what it puts or takes away fits.
-use Rattle.std.proofs.Common.{◌≡◌, ◌≢◌, ◌↔◌, ◌⊎◌, inl, inr, ⊎_elim, ℕ, ◌≤◌, Bool, true, false, cond, not, ◌||◌, List, [], ◌∷◌, filter, Some, IsSome, is_some, refl, sym, ap, subst, subst₂, ◌∙◌, arith}
+use Rattle.std.proofs.Common.{◌≡◌, ◌≢◌, ◌↔◌, ◌⊎◌, inl, inr, ⊎_elim, ℕ, ◌≤◌, Bool, true, false, cond, not, List, filter, Some, IsSome, is_some, refl, sym, ap, subst, subst₂, ◌∙◌, arith}
 use Rattle.std.specs.Cmp.{nat_cmp_total, Equal-is, eq_by_cmp_equiv}
 use Rattle.std.specs.Cmp.Lexicographic.{slice_cmp, bytes_decides}
 use Rattle.std.specs.FinMap.{FinMap, get, insert, remove, get-insert, nat_cmp-IsAntisymmetric}
 use Rattle.std.specs.Ordering.{eq_by_cmp, nat_cmp}
 use Rattle.std.specs.Str.{bytes_eq}
+use Rattle.std.proofs.lemmas.Bool.{and_parts, not-true, or_cases}
 use Rattle.accounts.specs.declared.account.Account.{Account}
 use Rattle.basis.specs.Bag.{add, precedes}
 use Rattle.basis.specs.Maps.{map_values}
@@ -19,6 +20,7 @@ use Rattle.policy.specs.Rules.{PolicyRules, IsPlace}
 use Rattle.rules.specs.declared.change.Change.TheVariants.{PutContact, DropContact, PutDomain, PutHost, DropHost, Relink}
 use Rattle.rules.specs.Changes.{changed, with_account, relinked, relinked_links, renamed}
 use Rattle.rules.proofs.GrowthLemmas.{Grows, contact-grown, domain-grown, host-grown}
+use Rattle.rules.proofs.NameListLemmas.{has_name-filter}
 use Rattle.rules.proofs.NamedLemmas.{drop-cases, drop-keeps, drop-there, is-there, put-cases, put-is, put-keeps, put-there, remade-cases, remade-keeps}
 use Rattle.rules.proofs.ViewLemmas.{account_of-with_account}
 use Rattle.verdict.specs.Registry.{Registry, account_of, lapsed, now}
@@ -224,34 +226,16 @@ module _ (p : PolicyRules) (s : Registry) (is : IsRegistry p s) where
 -- ---- a host gets a new name
 
 kept-listed : (old : List ℕ) (hosts : List (List ℕ)) (n : List ℕ) → has_name (filter (λ host. not (bytes_eq host old)) hosts) n ≡ true → (n ≢ old) × (has_name hosts n ≡ true)
-kept-listed old [] n e = absurd cc
-kept-listed old (x ∷ xs) n e = by (bytes_eq x old) refl e (kept-listed old xs n)
-  where
-    more : (n ≢ old) × (has_name xs n ≡ true) → (n ≢ old) × (has_name (x ∷ xs) n ≡ true)
-    more rest = (rest.0, either (bytes_eq x n) rest.1)
-      where
-        either : (b : Bool) → has_name xs n ≡ true → (b || has_name xs n) ≡ true
-        either true e = refl
-        either false e = e
-
-    first : (b : Bool) → bytes_eq x n ≡ b → bytes_eq x old ≡ false → (b || has_name (filter (λ host. not (bytes_eq host old)) xs) n) ≡ true → (has_name (filter (λ host. not (bytes_eq host old)) xs) n ≡ true → (n ≢ old) × (has_name xs n ≡ true)) → (n ≢ old) × (has_name (x ∷ xs) n ≡ true)
-    first true is other e rest = (λ same. let never : true ≡ false = sym is ∙ ap (bytes_eq x) same ∙ other in cc, ap (λ (b : Bool). b || has_name xs n) is)
-    first false is other e rest = more (rest e)
-
-    by : (b : Bool) → bytes_eq x old ≡ b → has_name (cond (not b) (x ∷ filter (λ host. not (bytes_eq host old)) xs) (filter (λ host. not (bytes_eq host old)) xs)) n ≡ true → (has_name (filter (λ host. not (bytes_eq host old)) xs) n ≡ true → (n ≢ old) × (has_name xs n ≡ true)) → (n ≢ old) × (has_name (x ∷ xs) n ≡ true)
-    by true is e rest = more (rest e)
-    by false is e rest = first (bytes_eq x n) refl is e rest
+kept-listed old hosts n e =
+    let parts = and_parts (not (bytes_eq n old)) (has_name hosts n) (sym (has_name-filter (λ host. not (bytes_eq host old)) hosts n) ∙ e) in
+    (λ same. let never : true ≡ false = sym ((bytes_decides n old).1 same) ∙ not-true (bytes_eq n old) parts.0 in cc, parts.1)
 
 -- what a domain names after a host's renaming: its new name, or another name from before
 renamed-listed : (old new : List ℕ) (hosts : List (List ℕ)) (n : List ℕ) → has_name (renamed old new hosts) n ≡ true → (n ≡ new) ⊎ ((n ≢ old) × (has_name hosts n ≡ true))
 renamed-listed old new hosts n e = by (has_name hosts old) refl e
   where
-    either : (b : Bool) → bytes_eq new n ≡ b → (b || has_name (filter (λ host. not (bytes_eq host old)) hosts) n) ≡ true → (n ≡ new) ⊎ ((n ≢ old) × (has_name hosts n ≡ true))
-    either true is e = inl (sym ((bytes_decides new n).0 is))
-    either false is e = inr (kept-listed old hosts n e)
-
     by : (b : Bool) → has_name hosts old ≡ b → has_name (cond b (add (precedes (slice_cmp nat_cmp)) new (filter (λ host. not (bytes_eq host old)) hosts)) hosts) n ≡ true → (n ≡ new) ⊎ ((n ≢ old) × (has_name hosts n ≡ true))
-    by true is e = either (bytes_eq new n) refl (sym (any-add (precedes (slice_cmp nat_cmp)) (λ other. bytes_eq other n) new (filter (λ host. not (bytes_eq host old)) hosts)) ∙ e)
+    by true is e = ⊎_elim (λ first. inl (sym ((bytes_decides new n).0 first))) (λ rest. inr (kept-listed old hosts n rest)) (or_cases (bytes_eq new n) (has_name (filter (λ host. not (bytes_eq host old)) hosts) n) (sym (any-add (precedes (slice_cmp nat_cmp)) (λ other. bytes_eq other n) new (filter (λ host. not (bytes_eq host old)) hosts)) ∙ e))
     by false is e = inr (λ same. let never : true ≡ false = sym e ∙ ap (has_name hosts) same ∙ is in cc, e)
 
 module _ (p : PolicyRules) (s : Registry) (is : IsRegistry p s) where

@@ -1,6 +1,7 @@
 pub mod SightLemmas
 pub mod ViewLemmas
 pub mod IsolationLemmas
+pub mod NameListLemmas
 pub mod NamedLemmas
 pub mod GrowthLemmas
 pub mod KeepingLemmas

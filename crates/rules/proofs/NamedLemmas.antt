@@ -1,10 +1,11 @@
 -- What stands at a name after a map by names was changed.
-use Rattle.std.proofs.Common.{◌≡◌, ◌≢◌, ◌⊎◌, inl, inr, ⊎_elim, ℕ, Bool, true, false, cond, ◌||◌, List, [], ◌∷◌, map, Option, Some, None, IsSome, is_some, option_map, refl, sym, ap, ◌∙◌}
+use Rattle.std.proofs.Common.{◌≡◌, ◌≢◌, ◌⊎◌, inl, inr, ⊎_elim, ℕ, Bool, true, false, cond, List, [], ◌∷◌, map, Option, Some, None, IsSome, is_some, option_map, refl, sym, ap, ◌∙◌}
 use Rattle.std.specs.Cmp.{Equal-is, eq_by_cmp_equiv}
 use Rattle.std.specs.Cmp.Lexicographic.{slice_cmp, nat_list_cmp_total}
 use Rattle.std.specs.FinMap.{FinMap, entries, find, get, get-entries, insert, remove, values, get-insert, get-remove}
 use Rattle.std.specs.List.{list_any}
 use Rattle.std.specs.Ordering.{eq_by_cmp, nat_cmp}
+use Rattle.std.proofs.lemmas.Bool.{or_parts}
 use Rattle.std.proofs.lemmas.Option.{same_Some}
 use Rattle.basis.specs.Maps.{map_values}
 use Rattle.basis.proofs.MapLemmas.{names_apart, get-map_values}
@@ -90,14 +91,10 @@ module _ {X : Type 0} (f : X → X) (m : FinMap (slice_cmp nat_cmp) X) (n : List
 
 -- ---- a test of all values
 
-or-parts : (a b : Bool) → (a || b) ≡ false → (a ≡ false) × (b ≡ false)
-or-parts true b e = absurd cc
-or-parts false b e = (refl, e)
-
 found-fails : {X : Type 0} (test : X → Bool) (n : List ℕ) (x : X) (es : List (List ℕ × X)) → find (slice_cmp nat_cmp) n es ≡ Some x → list_any test (map (λ (e : List ℕ × X). e.1) es) ≡ false → test x ≡ false
 found-fails test n x [] e none = absurd cc
 found-fails {X} test n x (p ∷ es) e none =
-    let parts = or-parts (test p.1) (list_any test (map (λ (e : List ℕ × X). e.1) es)) none in
+    let parts = or_parts (test p.1) (list_any test (map (λ (e : List ℕ × X). e.1) es)) none in
     by (eq_by_cmp (slice_cmp nat_cmp) n p.0) e parts.0 (λ found. found-fails test n x es found parts.1)
   where
     by : (b : Bool) → cond b (Some p.1) (find (slice_cmp nat_cmp) n es) ≡ Some x → test p.1 ≡ false → (find (slice_cmp nat_cmp) n es ≡ Some x → test x ≡ false) → test x ≡ false
