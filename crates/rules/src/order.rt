@@ -68,11 +68,7 @@ fn put_ordered(alloc: Global, order: &StatusOrder, object: Object) -> Result<Cha
     }
 }
 
-fn ordered(
-    alloc: Global,
-    order: &StatusOrder,
-    old: &[Status],
-) -> Result<Seq<Status>, AllocError>
+fn ordered(alloc: Global, order: &StatusOrder, old: &[Status]) -> Result<Seq<Status>, AllocError>
     ensures { IfOk result (λ statuses. statuses ≡ spec.ordered order.now old.now) }
 {
     amended_statuses(alloc, old, order.rem.as_slice(), order.add.as_slice())

@@ -10,7 +10,7 @@ use crate::command::{
     Command, ContactUpdate, DomainUpdate, HostUpdate, NewDomain, NewHost, Request,
 };
 use crate::conditions::{
-    has_no_superordinate, has_stray_addresses, host_is_anothers, is_anothers, has_pending_action,
+    has_no_superordinate, has_pending_action, has_stray_addresses, host_is_anothers, is_anothers,
     presents_wrong, prohibits_delete, prohibits_update, superordinate_is_anothers,
     superordinate_is_deleted,
 };
@@ -132,43 +132,6 @@ fn refusal_of_contact_info(
     ])
 }
 
-fn refusal_of_host_creation(
-    facts: &Facts,
-    caller: RegistrarNo,
-    new: &NewHost,
-    zone: &Zone,
-) -> Option<Code>
-    ensures { result ≡ first_refusal (spec.host_creation zone.now caller new.now facts.now) }
-{
-    let name = new.name.text();
-    let addresses = new.addresses.as_slice();
-    let known = facts.host(name);
-    first_refusal(&[
-        row!(
-            Names,
-            ParameterPolicy,
-            new.name.is_refused() || has_twice(addresses)
-        ),
-        row!(Presence, ObjectExists, facts.host_seen(name).is_some()),
-        row!(Presence, ObjectMissing, has_no_superordinate(zone, known)),
-        row!(
-            Party,
-            AuthorizationError,
-            superordinate_is_anothers(zone, caller, known)
-        ),
-        row!(
-            Status,
-            StatusProhibits,
-            superordinate_is_deleted(zone, known)
-        ),
-        row!(
-            Eligibility,
-            ParameterPolicy,
-            has_stray_addresses(zone, name, addresses)
-        ),
-    ])
-}
-
 fn refusal_of_domain_info(
     facts: &Facts,
     caller: RegistrarNo,
@@ -208,6 +171,43 @@ fn refusal_of_domain_creation(facts: &Facts, new: &NewDomain) -> Option<Code>
         row!(Presence, ObjectExists, seen.is_some()),
         row!(Presence, ObjectMissing, facts.lacks_link),
         row!(Eligibility, DataManagementPolicy, facts.is_full),
+    ])
+}
+
+fn refusal_of_host_creation(
+    facts: &Facts,
+    caller: RegistrarNo,
+    new: &NewHost,
+    zone: &Zone,
+) -> Option<Code>
+    ensures { result ≡ first_refusal (spec.host_creation zone.now caller new.now facts.now) }
+{
+    let name = new.name.text();
+    let addresses = new.addresses.as_slice();
+    let known = facts.host(name);
+    first_refusal(&[
+        row!(
+            Names,
+            ParameterPolicy,
+            new.name.is_refused() || has_twice(addresses)
+        ),
+        row!(Presence, ObjectExists, facts.host_seen(name).is_some()),
+        row!(Presence, ObjectMissing, has_no_superordinate(zone, known)),
+        row!(
+            Party,
+            AuthorizationError,
+            superordinate_is_anothers(zone, caller, known)
+        ),
+        row!(
+            Status,
+            StatusProhibits,
+            superordinate_is_deleted(zone, known)
+        ),
+        row!(
+            Eligibility,
+            ParameterPolicy,
+            has_stray_addresses(zone, name, addresses)
+        ),
     ])
 }
 
