@@ -1,15 +1,10 @@
 -- Statuses that are shown are those that pass the test of being shown.
-use Rattle.std.proofs.Common.{◌≡◌, ℕ, Bool, true, false, ◌&&◌, ◌||◌, not, List, [], ◌∷◌, filter, refl, sym, ap, ◌∙◌, eqb-true}
-use Rattle.std.specs.List.{list_any}
+use Rattle.std.proofs.Common.{◌≡◌, ℕ, Bool, true, false, ◌&&◌, filter, refl, sym, ap, ◌∙◌, eqb-true}
 use Rattle.std.specs.Prelude.{slice_get, unwrap_or}
 use Rattle.std.proofs.lemmas.Map.Views.{any-filter_same}
-use Rattle.objects.specs.declared.contact.Contact.{Contact}
-use Rattle.objects.specs.declared.domain.Domain.{Domain}
 use Rattle.objects.specs.declared.status.Status.{Status}
 use Rattle.objects.specs.declared.status.Status.TheVariants.{ClientDeleteProhibited, ClientHold, ClientRenewProhibited, ClientTransferProhibited, ClientUpdateProhibited, Inactive, Linked, Fine, PendingDelete, PendingTransfer, ServerDeleteProhibited, ServerHold, ServerRenewProhibited, ServerTransferProhibited, ServerUpdateProhibited}
-use Rattle.objects.specs.Contacts.{contact_shown, contact_shows}
-use Rattle.objects.specs.Domains.{shown, shows}
-use Rattle.objects.specs.Statuses.{all_statuses, rank_of, is_status, has_status, with_linked}
+use Rattle.objects.specs.Statuses.{all_statuses, rank_of, is_status, has_status}
 
 status_at : ℕ → Status
 status_at n = unwrap_or (slice_get all_statuses n) Fine

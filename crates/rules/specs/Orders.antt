@@ -1,5 +1,5 @@
 -- What an order of the operator is answered and what it changes.
-use Rattle.std.specs.Prelude.{ℕ, List, [], ◌∷◌, Option, Some, None, if◌then◌else◌}
+use Rattle.std.specs.Prelude.{List, [], ◌∷◌, Option, Some, None, if◌then◌else◌}
 use Rattle.names.specs.Zone.{ZoneRules}
 use Rattle.objects.specs.declared.status.Status.{Status}
 use Rattle.objects.specs.Statuses.{amended_statuses}

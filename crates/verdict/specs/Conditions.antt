@@ -26,7 +26,6 @@ use Rattle.verdict.specs.declared.command.HostLists.{HostLists}
 use Rattle.verdict.specs.declared.command.HostUpdate.{HostUpdate}
 use Rattle.verdict.specs.declared.command.NewDomain.{NewDomain}
 use Rattle.verdict.specs.declared.facts.HostFacts.{HostFacts}
-use Rattle.verdict.specs.declared.facts.Superordinate.{Superordinate}
 use Rattle.verdict.specs.Lists.{has_twice, is_amiss, itself, kept}
 
 abbrev pub holds_of : {A : Type 0} → (A → Bool) → Option A → Bool

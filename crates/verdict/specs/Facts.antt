@@ -1,5 +1,5 @@
 -- The facts of a registry that bear on a command of a registrar.
-use Rattle.std.specs.Prelude.{ℕ, Bool, true, false, not, ◌||◌, ◌&&◌, nat_le, List, [], ◌∷◌, map, filter, length, Option, Some, None, option_map, option_and_then, is_some, is_none, find, if◌then◌else◌}
+use Rattle.std.specs.Prelude.{ℕ, Bool, true, false, not, ◌||◌, ◌&&◌, nat_le, List, [], ◌∷◌, map, filter, length, Option, Some, None, option_map, option_and_then, is_some, find, if◌then◌else◌}
 use Rattle.std.specs.FinMap.{get, keys, values}
 use Rattle.std.specs.List.{list_any}
 use Rattle.std.specs.Str.{bytes_eq}

@@ -16,8 +16,6 @@ use Rattle.verdict.specs.declared.code.Code.{Code}
 use Rattle.verdict.specs.declared.code.Code.TheVariants as codes
 use Rattle.verdict.specs.declared.order.Object.{Object}
 use Rattle.verdict.specs.declared.order.Object.TheVariants as objects
-use Rattle.verdict.specs.declared.order.Order.{Order}
-use Rattle.verdict.specs.declared.order.Order.TheVariants.{Status}
 use Rattle.verdict.specs.declared.order.StatusOrder.{StatusOrder}
 use Rattle.verdict.specs.declared.refusal.Class.TheVariants as classes
 use Rattle.verdict.specs.declared.refusal.Refusal.{Refusal}

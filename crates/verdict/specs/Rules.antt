@@ -1,5 +1,5 @@
 -- The rules: for which causes each command is refused, as a table (RFC 5730, 3; RFC 5731 to 5733).
-use Rattle.std.specs.Prelude.{ℕ, Bool, not, ◌||◌, is_some, is_none, List, [], ◌∷◌, Option}
+use Rattle.std.specs.Prelude.{ℕ, Bool, ◌||◌, is_some, is_none, List, [], ◌∷◌, Option}
 use Rattle.names.specs.declared.given.GivenName.{GivenName}
 use Rattle.names.specs.GivenName.{name_of, is_refused}
 use Rattle.objects.specs.StatusTexts.{status_text}
