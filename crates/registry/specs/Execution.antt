@@ -42,7 +42,7 @@ GoesBack faults.Memory old new = IsBack old new
 GoesBack faults.Store old new = IsBack old new × HasRefused old new
 GoesBack faults.Moment old new = ⊥
 
--- what was held is held
+-- the book holds what it held
 pub record IsUnchanged (old new : BookState) : Type 0 where
   pub content : new.is_clean ≡ true → new.content ≡ old.content
 

@@ -21,8 +21,7 @@ use Rattle.verdict.specs.Registry.{Registry}
 abbrev pub ordered : StatusOrder → List Status → List Status
 ordered o statuses = amended_statuses statuses o.rem o.add
 
--- The object with the statuses that an order leaves. An order isn't an update of the sponsor's, and
--- sets no date of the last one.
+-- the object with the statuses that an order leaves; the date of its sponsor's last update stays
 abbrev pub put_ordered : StatusOrder → Object → Change
 put_ordered o (objects.Contact c) = PutContact (record c { statuses = ordered o c.statuses })
 put_ordered o (objects.Domain d) = PutDomain (record d { statuses = ordered o d.statuses })
