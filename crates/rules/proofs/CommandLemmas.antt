@@ -1,5 +1,5 @@
 -- What each command that isn't refused changes keeps a registry well formed.
-use Rattle.std.proofs.Common.{◌≡◌, ◌≢◌, inr, ℕ, ◌<◌, ◌≤◌, ◌+◌, ◌==◌, Bool, true, false, cond, ◌&&◌, ◌||◌, List, [], ◌∷◌, Option, Some, None, IsSome, is_none, is_some, option_and_then, option_map, refl, sym, ap, ap₂, subst, ◌∙◌, arith, eqb-true}
+use Rattle.std.proofs.Common.{◌≡◌, ◌≢◌, inl, inr, ℕ, ◌<◌, ◌≤◌, ◌+◌, ◌==◌, Bool, true, false, cond, ◌&&◌, ◌||◌, List, [], ◌∷◌, Option, Some, None, IsSome, is_none, is_some, option_and_then, option_map, refl, sym, ap, ap₂, subst, ◌∙◌, arith, eqb-true}
 use Rattle.std.specs.Cmp.{nat_cmp_total, eq_by_cmp_equiv}
 use Rattle.std.specs.Cmp.Lexicographic.{bytes_decides}
 use Rattle.std.specs.FinMap.{get}
@@ -35,7 +35,7 @@ use Rattle.rules.specs.Decisions.{by_of, contact_changes, domain_changes, host_c
 use Rattle.rules.proofs.KeepingLemmas.{IsUndeleted, drop-contact, drop-host, kept-account, put-contact, put-domain, put-host, rename-host}
 use Rattle.rules.proofs.LinkLemmas.{new-contacts, new-hosts, updated-contacts, updated-hosts}
 use Rattle.rules.proofs.NamedLemmas.{value-fails}
-use Rattle.rules.proofs.RowLemmas.{row-fails}
+use Rattle.verdict.proofs.RowLemmas.{unrefused}
 use Rattle.rules.proofs.StandInLemmas.{contact-updated, domain-updated, kept-put-contact, kept-put-domain, kept-put-host}
 use Rattle.rules.proofs.ViewLemmas.{account_of-with_account}
 use Rattle.verdict.specs.declared.command.Command.{Command}
@@ -51,12 +51,12 @@ use Rattle.verdict.specs.declared.command.Request.TheVariants as requests
 use Rattle.verdict.specs.declared.facts.Facts.{Facts}
 use Rattle.verdict.specs.declared.facts.HostFacts.{HostFacts}
 use Rattle.verdict.specs.declared.facts.Superordinate.{Superordinate}
-use Rattle.verdict.specs.Conditions.{final_name, has_no_superordinate, holds_of, host_seen_shows, prohibits_update, superordinate_is_deleted}
+use Rattle.verdict.specs.declared.rules.Condition.TheVariants as conditions
+use Rattle.verdict.specs.Conditions.{contact_is_linked, final_name, has_no_superordinate, holds_of, superordinate_is_deleted}
 use Rattle.verdict.specs.Facts.{contact_facts, contact_seen, domain_facts, domain_seen, facts, finds, host_facts, host_seen, is_linked_contact, is_linked_host, superordinate_of_domain}
 use Rattle.verdict.specs.Lists.{amended, itself}
-use Rattle.verdict.specs.Refusals.{first_refusal}
 use Rattle.verdict.specs.Registry.{Registry, account_of}
-use Rattle.verdict.specs.Rules.{refusals}
+use Rattle.verdict.specs.Rules.{refusal_of}
 use Rattle.verdict.specs.WellFormed.{BelongsTo, HasRoid, IsRegistry}
 
 -- ---- what is seen in full is the object itself
@@ -189,14 +189,14 @@ module _ (p : PolicyRules) (r : ℕ) (tag : Option (List ℕ)) (s : Registry) (p
         })
         (λ n x at same. absurd (ungiven kinds.Domain request kinds.Domain x.roid (is.domains n x at).roid same))
 
-    pub kept-new-host : (new : NewHost) → let f : Facts = facts r (Asked tag (requests.CreateHost new)) s in first_refusal (refusals p r (requests.CreateHost new) f) ≡ None
+    pub kept-new-host : (new : NewHost) → let f : Facts = facts r (Asked tag (requests.CreateHost new)) s in refusal_of p r (requests.CreateHost new) f ≡ None
         → IsRegistry p (changed_all (PutHost (new_host p.zone r s.clock f new) ∷ TakeSerial r ∷ []) after_count)
     kept-new-host new taken =
         let request : Request = requests.CreateHost new in
         let c : Command = Asked tag request in
         let known : HostFacts = host_facts (finds r c s) c (name_of new.name) in
-        let based : has_no_superordinate p.zone known ≡ false = sym (ap (holds_of (has_no_superordinate p.zone)) (at-itself (name_of new.name) known)) ∙ row-fails (refusals p r request (facts r c s)) taken 2 2 _ _ refl refl refl in
-        let alive : superordinate_is_deleted p.zone known ≡ false = sym (ap (holds_of (superordinate_is_deleted p.zone)) (at-itself (name_of new.name) known)) ∙ row-fails (refusals p r request (facts r c s)) taken 7 4 _ _ refl refl refl in
+        let based : has_no_superordinate p.zone known ≡ false = sym (ap (holds_of (has_no_superordinate p.zone)) (at-itself (name_of new.name) known)) ∙ unrefused p r request (facts r c s) taken conditions.SuperordinateIsMissing (search (inl, inr) depth 20) in
+        let alive : superordinate_is_deleted p.zone known ≡ false = sym (ap (holds_of (superordinate_is_deleted p.zone)) (at-itself (name_of new.name) known)) ∙ unrefused p r request (facts r c s) taken conditions.SuperordinateIsDeleted (search (inl, inr) depth 20) in
         put-host p numbered_too kept-numbered (name_of new.name) (new_host p.zone r s.clock (facts r c s) new)
         (record { named = refl; roid = has-given kinds.Host request; belongs = belongs-new (name_of new.name) based; created = omega arith; updated = tt })
         (λ n x at same. absurd (ungiven kinds.Host request kinds.Host x.roid (is.hosts n x at).roid same))
@@ -207,20 +207,20 @@ module _ (p : PolicyRules) (r : ℕ) (tag : Option (List ℕ)) (s : Registry) (p
   unlinked : (linked : Bool) → linked ≡ false → linked ≢ true
   unlinked linked e f = let never : false ≡ true = sym e ∙ f in absurd cc
 
-  pub kept-contact-deletion : (name : List ℕ) → first_refusal (refusals p r (requests.DeleteContact name) (facts r (Asked tag (requests.DeleteContact name)) s)) ≡ None → IsRegistry p (changed_all (DropContact name ∷ []) after_count)
+  pub kept-contact-deletion : (name : List ℕ) → refusal_of p r (requests.DeleteContact name) (facts r (Asked tag (requests.DeleteContact name)) s) ≡ None → IsRegistry p (changed_all (DropContact name ∷ []) after_count)
   kept-contact-deletion name taken =
       let c : Command = Asked tag (requests.DeleteContact name) in
       let free : is_linked_contact s name ≡ false =
       sym (ap (holds_of (λ known. known.linked)) (at-itself name (contact_facts (finds r c s) c name)))
-      ∙ row-fails (refusals p r (requests.DeleteContact name) (facts r c s)) taken 8 3 _ _ refl refl refl in
+      ∙ (or_parts (contact_is_linked (requests.DeleteContact name) (facts r c s)) false (unrefused p r (requests.DeleteContact name) (facts r c s) taken conditions.IsLinked (search (inl, inr) depth 20))).0 in
       drop-contact p after_count kept-counted name (λ n d at. unlinked (names_contact name d.links) (value-fails (λ d. names_contact name d.links) s.domains n d at free))
 
-  pub kept-host-deletion : (name : GivenName) → first_refusal (refusals p r (requests.DeleteHost name) (facts r (Asked tag (requests.DeleteHost name)) s)) ≡ None → IsRegistry p (changed_all (DropHost (name_of name) ∷ []) after_count)
+  pub kept-host-deletion : (name : GivenName) → refusal_of p r (requests.DeleteHost name) (facts r (Asked tag (requests.DeleteHost name)) s) ≡ None → IsRegistry p (changed_all (DropHost (name_of name) ∷ []) after_count)
   kept-host-deletion name taken =
       let c : Command = Asked tag (requests.DeleteHost name) in
       let free : is_linked_host s (name_of name) ≡ false =
       sym (ap (holds_of (λ known. known.linked)) (at-itself (name_of name) (host_facts (finds r c s) c (name_of name))))
-      ∙ row-fails (refusals p r (requests.DeleteHost name) (facts r c s)) taken 8 4 _ _ refl refl refl in
+      ∙ unrefused p r (requests.DeleteHost name) (facts r c s) taken conditions.IsLinked (search (inl, inr) depth 20) in
       drop-host p after_count kept-counted (name_of name) (λ n d at. unlinked (names_host (name_of name) d.links) (value-fails (λ d. names_host (name_of name) d.links) s.domains n d at free))
 
   -- ---- updates of contacts and domains
@@ -244,12 +244,12 @@ module _ (p : PolicyRules) (r : ℕ) (tag : Option (List ℕ)) (s : Registry) (p
   abbrev asked_domain : DomainUpdate → Command
   asked_domain u = Asked tag (requests.UpdateDomain u)
 
-  pub kept-domain-update : (u : DomainUpdate) → first_refusal (refusals p r (requests.UpdateDomain u) (facts r (Asked tag (requests.UpdateDomain u)) s)) ≡ None
+  pub kept-domain-update : (u : DomainUpdate) → refusal_of p r (requests.UpdateDomain u) (facts r (Asked tag (requests.UpdateDomain u)) s) ≡ None
       → IsRegistry p (changed_all (domain_changes s.clock u (domain_seen (facts r (Asked tag (requests.UpdateDomain u)) s) (name_of u.name))) after_count)
   kept-domain-update u taken = by (domain_seen (facts r (asked_domain u) s) (name_of u.name)) (ap (option_and_then (λ known. known.seen)) (at-itself (name_of u.name) (domain_facts (finds r (asked_domain u) s) (asked_domain u) (name_of u.name))))
     where
       linked : (facts r (asked_domain u) s).lacks_link ≡ false
-      linked = (or_parts (is_none (domain_seen (facts r (asked_domain u) s) (name_of u.name))) (facts r (asked_domain u) s).lacks_link (row-fails (refusals p r (requests.UpdateDomain u) (facts r (asked_domain u) s)) taken 2 1 _ _ refl refl refl)).1
+      linked = unrefused p r (requests.UpdateDomain u) (facts r (asked_domain u) s) taken conditions.LinkIsMissing (search (inl, inr) depth 20)
 
       by : (seen : Option (Seen Domain DomainFace)) → seen ≡ option_map (domain_as r None) (get s.domains (name_of u.name)) → IsRegistry p (changed_all (domain_changes s.clock u seen) after_count)
       by None e = kept-counted
@@ -295,15 +295,15 @@ module _ (p : PolicyRules) (r : ℕ) (tag : Option (List ℕ)) (s : Registry) (p
       (record { named = refl; roid = k.roid; belongs = belongs-new (name_of name) based; created = k.created; updated = omega arith })
       (undeleted-new (name_of name) alive)
 
-  pub kept-host-update : (u : HostUpdate) → first_refusal (refusals p r (requests.UpdateHost u) (facts r (Asked tag (requests.UpdateHost u)) s)) ≡ None
+  pub kept-host-update : (u : HostUpdate) → refusal_of p r (requests.UpdateHost u) (facts r (Asked tag (requests.UpdateHost u)) s) ≡ None
       → IsRegistry p (changed_all (host_changes p.zone r s.clock u (host_seen (facts r (Asked tag (requests.UpdateHost u)) s) (name_of u.name))) after_count)
   kept-host-update u taken = by (host_seen (facts r (asked_host u) s) (name_of u.name)) (ap (option_and_then (λ known. known.host)) (at-itself (name_of u.name) (host_facts (finds r (asked_host u) s) (asked_host u) (name_of u.name))))
     where
       based : holds_of (has_no_superordinate p.zone) (known_new u u.new_name) ≡ false
-      based = (or_parts (is_none (host_seen (facts r (asked_host u) s) (name_of u.name))) (holds_of (has_no_superordinate p.zone) (known_new u u.new_name)) (row-fails (refusals p r (requests.UpdateHost u) (facts r (asked_host u) s)) taken 2 2 _ _ refl refl refl)).1
+      based = unrefused p r (requests.UpdateHost u) (facts r (asked_host u) s) taken conditions.SuperordinateIsMissing (search (inl, inr) depth 20)
 
       alive : holds_of (superordinate_is_deleted p.zone) (known_new u u.new_name) ≡ false
-      alive = (or_parts (prohibits_update host_seen_shows u.rem.statuses (host_seen (facts r (asked_host u) s) (name_of u.name))) (holds_of (superordinate_is_deleted p.zone) (known_new u u.new_name)) (row-fails (refusals p r (requests.UpdateHost u) (facts r (asked_host u) s)) taken 7 4 _ _ refl refl refl)).1
+      alive = unrefused p r (requests.UpdateHost u) (facts r (asked_host u) s) taken conditions.SuperordinateIsDeleted (search (inl, inr) depth 20)
 
       by : (seen : Option Host) → seen ≡ get s.hosts (name_of u.name) → IsRegistry p (changed_all (host_changes p.zone r s.clock u seen) after_count)
       by None e = kept-counted

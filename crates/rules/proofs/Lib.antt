@@ -5,7 +5,6 @@ pub mod NameListLemmas
 pub mod NamedLemmas
 pub mod GrowthLemmas
 pub mod KeepingLemmas
-pub mod RowLemmas
 pub mod LinkLemmas
 pub mod StandInLemmas
 pub mod CommandLemmas

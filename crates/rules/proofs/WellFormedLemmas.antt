@@ -1,5 +1,5 @@
 -- Each step of the rules keeps a registry well formed.
-use Rattle.std.proofs.Common.{◌≡◌, ℕ, ◌<◌, Bool, cond, List, [], Option, Some, None, refl, sym, subst}
+use Rattle.std.proofs.Common.{◌≡◌, ℕ, ◌<◌, Bool, cond, List, [], Option, Some, None, inl, inr, refl, sym, subst}
 use Rattle.accounts.specs.Account.{counted}
 use Rattle.policy.specs.Rules.{PolicyRules, IsPlace}
 use Rattle.rules.specs.declared.change.Change.{Change}
@@ -7,24 +7,24 @@ use Rattle.rules.specs.Changes.{changed_all, with_account}
 use Rattle.rules.specs.Decisions.{changes_after, changes_of}
 use Rattle.rules.specs.Steps.{effect}
 use Rattle.rules.proofs.CommandLemmas.{kept-contact-deletion, kept-contact-update, kept-counted, kept-domain-update, kept-host-deletion, kept-host-update, kept-new-contact, kept-new-domain, kept-new-host}
-use Rattle.rules.proofs.RowLemmas.{refusing, row-fails}
+use Rattle.verdict.proofs.RowLemmas.{refusing, unrefused}
 use Rattle.verdict.specs.declared.code.Code.{Code}
 use Rattle.verdict.specs.declared.command.Command.{Command}
 use Rattle.verdict.specs.declared.command.Command.TheVariants.{Asked, Bad}
 use Rattle.verdict.specs.declared.command.Request.{Request}
 use Rattle.verdict.specs.declared.command.Request.TheVariants.{CheckContact, CheckDomain, CheckHost, InfoContact, InfoDomain, InfoHost, CreateContact, CreateDomain, CreateHost, DeleteContact, DeleteHost, UpdateContact, UpdateDomain, UpdateHost}
 use Rattle.verdict.specs.declared.reply.Data.{Data}
+use Rattle.verdict.specs.declared.rules.Condition.TheVariants.{LinkIsMissing}
 use Rattle.verdict.specs.Codes.{is_accepted}
 use Rattle.verdict.specs.Facts.{facts}
-use Rattle.verdict.specs.Refusals.{first_refusal}
 use Rattle.verdict.specs.Registry.{Registry, account_of}
-use Rattle.verdict.specs.Rules.{refusals}
+use Rattle.verdict.specs.Rules.{refusal_of}
 use Rattle.verdict.specs.Told.{accepted}
 use Rattle.verdict.specs.Verdicts.{judged, unless_refused}
 use Rattle.verdict.specs.WellFormed.{IsRegistry}
 
 module _ (p : PolicyRules) (r : ℕ) (tag : Option (List ℕ)) (s : Registry) (place : IsPlace p r) (is : IsRegistry p s) (small : (account_of r s).serial < 4_611_686_018_427_387_904) where
-  kept-accepted : (request : Request) → first_refusal (refusals p r request (facts r (Asked tag request) s)) ≡ None
+  kept-accepted : (request : Request) → refusal_of p r request (facts r (Asked tag request) s) ≡ None
       → IsRegistry p (changed_all (changes_of p.zone r s.clock request (facts r (Asked tag request) s)) (with_account r counted s))
   unfolding changes_of
   kept-accepted (CheckContact names) taken = kept-counted p r tag s place is
@@ -34,7 +34,7 @@ module _ (p : PolicyRules) (r : ℕ) (tag : Option (List ℕ)) (s : Registry) (p
   kept-accepted (InfoDomain name secret) taken = kept-counted p r tag s place is
   kept-accepted (InfoHost name) taken = kept-counted p r tag s place is
   kept-accepted (CreateContact new) taken = kept-new-contact p r tag s place is small new
-  kept-accepted (CreateDomain new) taken = kept-new-domain p r tag s place is small new (row-fails (refusals p r (CreateDomain new) (facts r (Asked tag (CreateDomain new)) s)) taken 2 2 _ _ refl refl refl)
+  kept-accepted (CreateDomain new) taken = kept-new-domain p r tag s place is small new (unrefused p r (CreateDomain new) (facts r (Asked tag (CreateDomain new)) s) taken LinkIsMissing (search (inl, inr) depth 20))
   kept-accepted (CreateHost new) taken = kept-new-host p r tag s place is small new taken
   kept-accepted (DeleteContact name) taken = kept-contact-deletion p r tag s place is name taken
   kept-accepted (DeleteHost name) taken = kept-host-deletion p r tag s place is name taken
@@ -43,13 +43,13 @@ module _ (p : PolicyRules) (r : ℕ) (tag : Option (List ℕ)) (s : Registry) (p
   kept-accepted (UpdateHost u) taken = kept-host-update p r tag s place is u taken
 
   -- a refused command changes nothing but the caller's counter
-  kept-judged : (request : Request) (content : Option Data) (refusal : Option Code) → first_refusal (refusals p r request (facts r (Asked tag request) s)) ≡ refusal
+  kept-judged : (request : Request) (content : Option Data) (refusal : Option Code) → refusal_of p r request (facts r (Asked tag request) s) ≡ refusal
       → IsRegistry p (changed_all (cond (is_accepted (unless_refused refusal content).code) (changes_of p.zone r s.clock request (facts r (Asked tag request) s)) []) (with_account r counted s))
   kept-judged request content None taken = kept-accepted request taken
   kept-judged request content (Some code) refused =
       let changes : List Change = changes_of p.zone r s.clock request (facts r (Asked tag request) s) in
       subst (λ (b : Bool). IsRegistry p (changed_all (cond b changes []) (with_account r counted s)))
-      (sym (refusing (refusals p r request (facts r (Asked tag request) s)) code refused)) (kept-counted p r tag s place is)
+      (sym (refusing p r request (facts r (Asked tag request) s) code refused)) (kept-counted p r tag s place is)
 
 -- A registrar's command leaves a registry well formed, but that a serial at its greatest would be
 -- given twice.
@@ -57,4 +57,4 @@ pub kept-effect : (p : PolicyRules) (r : ℕ) (c : Command) (s : Registry) → I
 unfolding judged changes_after
 kept-effect p r (Bad tag code) s place is small = kept-counted p r tag s place is
 kept-effect p r (Asked tag request) s place is small =
-    kept-judged p r tag s place is small request (accepted p r s.clock request (facts r (Asked tag request) s)) (first_refusal (refusals p r request (facts r (Asked tag request) s))) refl
+    kept-judged p r tag s place is small request (accepted p r s.clock request (facts r (Asked tag request) s)) (refusal_of p r request (facts r (Asked tag request) s)) refl

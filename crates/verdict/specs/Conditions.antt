@@ -1,6 +1,6 @@
 -- The conditions on which commands are refused.
-use Rattle.std.specs.Prelude.{ℕ, Bool, false, not, ◌&&◌, ◌||◌, ◌==◌, ◌+◌, List, [], ◌∷◌, Option, Some, None, is_some, is_none, option_map, length}
-use Rattle.std.specs.List.{list_any}
+use Rattle.std.specs.Prelude.{ℕ, Bool, false, not, ◌&&◌, ◌||◌, ◌==◌, ◌+◌, List, [], Option, Some, None, is_some, is_none, option_and_then, option_map, length}
+use Rattle.std.specs.List.{list_any, slice_get}
 use Rattle.names.specs.declared.given.GivenName.{GivenName}
 use Rattle.names.specs.GivenName.{name_of, is_refused}
 use Rattle.names.specs.Zone.{ZoneRules, superordinate_of}
@@ -12,7 +12,6 @@ use Rattle.objects.specs.declared.host.Host.{Host}
 use Rattle.objects.specs.declared.sight.Seen.{Seen}
 use Rattle.objects.specs.declared.sight.Seen.TheVariants.{Full, Named, Public}
 use Rattle.objects.specs.declared.status.Status.{Status}
-use Rattle.objects.specs.declared.status.Status.TheVariants.{ClientDeleteProhibited, ClientUpdateProhibited, PendingDelete, PendingTransfer, ServerDeleteProhibited, ServerUpdateProhibited}
 use Rattle.objects.specs.Contacts.{contact_shows}
 use Rattle.objects.specs.Domains.{shows}
 use Rattle.objects.specs.Hosts.{host_shows}
@@ -25,7 +24,14 @@ use Rattle.verdict.specs.declared.command.DomainUpdate.{DomainUpdate}
 use Rattle.verdict.specs.declared.command.HostLists.{HostLists}
 use Rattle.verdict.specs.declared.command.HostUpdate.{HostUpdate}
 use Rattle.verdict.specs.declared.command.NewDomain.{NewDomain}
+use Rattle.policy.specs.Rules.{PolicyRules}
+use Rattle.verdict.specs.declared.command.Request.{Request}
+use Rattle.verdict.specs.declared.command.Request.TheVariants as requests
+use Rattle.verdict.specs.declared.facts.Facts.{Facts}
 use Rattle.verdict.specs.declared.facts.HostFacts.{HostFacts}
+use Rattle.verdict.specs.declared.rules.Condition.{Condition}
+use Rattle.verdict.specs.declared.rules.Condition.TheVariants.{NamesAreBad, IsThere, IsMissing, LinkIsMissing, NewNameIsTaken, SuperordinateIsMissing, IsAnothers, SuperordinateIsAnothers, SecretIsWrong, Shows, StillShows, SuperordinateIsDeleted, IsLinked, ChangeDoesNotFit, AddressesAreStray, IsFull}
+use Rattle.verdict.specs.Facts.{contact_at, contact_seen, contacts_asked, domain_seen, domains_asked, host_at, host_seen, hosts_asked, new_name_seen}
 use Rattle.verdict.specs.Lists.{has_twice, is_amiss, itself, kept}
 
 abbrev pub holds_of : {A : Type 0} → (A → Bool) → Option A → Bool
@@ -140,26 +146,9 @@ domain_seen_shows (Public face) status = has_status face.statuses status
 unfoldable pub host_seen_shows : Host → Status → Bool
 host_seen_shows h status = host_shows false h status
 
--- it shows one of these
-abbrev pub shows_any : {S : Type 0} → (S → Status → Bool) → List Status → Option S → Bool
-shows_any shown statuses seen = holds_of (λ it. list_any (shown it) statuses) seen
-
--- what prohibits that an object goes
-abbrev pub delete_prohibitions : List Status
-delete_prohibitions = PendingTransfer ∷ ClientDeleteProhibited ∷ ServerDeleteProhibited ∷ []
-
-abbrev pub prohibits_delete : {S : Type 0} → (S → Status → Bool) → Option S → Bool
-prohibits_delete shown seen = shows_any shown delete_prohibitions seen
-
--- a deletion or a transfer of it is pending (RFC 5730, 2.9.3.4; RFC 5731, 3.2.2)
-abbrev pub has_pending_action : {S : Type 0} → (S → Status → Bool) → Option S → Bool
-has_pending_action shown seen = shows_any shown (PendingDelete ∷ PendingTransfer ∷ []) seen
-
--- An update is prohibited, but the sponsor may take its own prohibition away with it (RFC 5731,
--- 3.2.5).
-abbrev pub prohibits_update : {S : Type 0} → (S → Status → Bool) → List Status → Option S → Bool
-prohibits_update shown removed seen =
-    holds_of (λ it. shown it ServerUpdateProhibited || (shown it ClientUpdateProhibited && not (has_status removed ClientUpdateProhibited))) seen
+-- it shows the status
+abbrev pub is_shown : {S : Type 0} → (S → Status → Bool) → Status → Option S → Bool
+is_shown shown status seen = holds_of (λ it. shown it status) seen
 
 -- ---- what an update adds and removes
 
@@ -198,3 +187,102 @@ abbrev pub host_amiss : ZoneRules → HostUpdate → Host → Bool
 host_amiss zone update h =
     is_amiss itself 13 h.addresses update.rem.addresses update.add.addresses
     || (statuses_amiss h.statuses update.rem.statuses update.add.statuses || leaves_stray_addresses zone update h)
+
+-- ---- each condition
+
+-- the zone refuses a name that is given, or a list names one thing twice
+abbrev pub names_are_bad : Request → Bool
+names_are_bad (requests.InfoDomain name secret) = is_refused name
+names_are_bad (requests.InfoHost name) = is_refused name
+names_are_bad (requests.CreateDomain new) = has_bad_names new
+names_are_bad (requests.CreateHost new) = is_refused new.name || has_twice itself new.addresses
+names_are_bad (requests.DeleteHost name) = is_refused name
+names_are_bad (requests.UpdateContact u) = has_twice status_text u.add || has_twice status_text u.rem
+names_are_bad (requests.UpdateDomain u) = is_refused u.name || (has_bad_domain_lists u.add || has_bad_domain_lists u.rem)
+names_are_bad (requests.UpdateHost u) = has_bad_update_names u
+names_are_bad _ = false
+
+-- an update adds what is there, removes what isn't, or leaves too much
+abbrev pub change_does_not_fit : ZoneRules → Request → Facts → Bool
+change_does_not_fit zone (requests.UpdateContact u) f = holds_of (contact_amiss u) (contact_seen f u.name)
+change_does_not_fit zone (requests.UpdateDomain u) f = holds_of (domain_amiss u) (domain_seen f (name_of u.name))
+change_does_not_fit zone (requests.UpdateHost u) f = holds_of (host_amiss zone u) (host_seen f (name_of u.name))
+change_does_not_fit zone _ f = false
+
+abbrev pub addresses_are_stray : ZoneRules → Request → Bool
+addresses_are_stray zone (requests.CreateHost new) = has_stray_addresses zone (name_of new.name) new.addresses
+addresses_are_stray zone _ = false
+
+-- the statuses that an update takes away
+abbrev pub taken_away : Request → List Status
+taken_away (requests.UpdateContact u) = u.rem
+taken_away (requests.UpdateDomain u) = u.rem.statuses
+taken_away (requests.UpdateHost u) = u.rem.statuses
+taken_away _ = []
+
+-- the secret that is presented
+abbrev pub secret_of : Request → Option (List ℕ)
+secret_of (requests.InfoContact name secret) = secret
+secret_of (requests.InfoDomain name secret) = secret
+secret_of _ = None
+
+-- the host that is to have a name: a new one, or one that is renamed
+abbrev pub host_to_be : Request → Facts → Option HostFacts
+host_to_be (requests.CreateHost new) f = host_at f (name_of new.name)
+host_to_be _ f = f.renamed
+
+-- the object that a request is about: of the three at most one is there
+abbrev pub the_contact : Request → Facts → Option (Seen Contact ContactFace)
+the_contact q f = option_and_then (contact_seen f) (slice_get (contacts_asked q) 0)
+
+abbrev pub the_domain : Request → Facts → Option (Seen Domain DomainFace)
+the_domain q f = option_and_then (λ name. domain_seen f (name_of name)) (slice_get (domains_asked q) 0)
+
+abbrev pub host_known : Request → Facts → Option HostFacts
+host_known q f = option_and_then (λ name. host_at f (name_of name)) (slice_get (hosts_asked q) 0)
+
+abbrev pub the_host : Request → Facts → Option Host
+the_host q f = option_and_then (λ known. known.host) (host_known q f)
+
+abbrev pub is_there : Request → Facts → Bool
+is_there q f = is_some (the_contact q f) || (is_some (the_domain q f) || is_some (the_host q f))
+
+abbrev pub shows_status : Status → Request → Facts → Bool
+shows_status status q f =
+    is_shown contact_seen_shows status (the_contact q f) || (is_shown domain_seen_shows status (the_domain q f)
+    || is_shown host_seen_shows status (the_host q f))
+
+abbrev pub is_of_another : ℕ → Request → Facts → Bool
+is_of_another r q f =
+    is_anothers contact_sponsor r (the_contact q f) || (is_anothers domain_sponsor r (the_domain q f)
+    || host_is_anothers r (host_known q f))
+
+abbrev pub secret_is_wrong : ℕ → Request → Facts → Bool
+secret_is_wrong r q f =
+    presents_wrong contact_sponsor contact_secret r (secret_of q) (the_contact q f)
+    || presents_wrong domain_sponsor domain_secret r (secret_of q) (the_domain q f)
+
+abbrev pub contact_is_linked : Request → Facts → Bool
+contact_is_linked q f = holds_of (λ known. known.linked) (option_and_then (contact_at f) (slice_get (contacts_asked q) 0))
+
+abbrev pub host_is_linked : Request → Facts → Bool
+host_is_linked q f = holds_of (λ known. known.linked) (host_known q f)
+
+-- a condition holds of a registrar's request, by the facts
+abbrev pub holds : PolicyRules → ℕ → Request → Facts → Condition → Bool
+holds p r q f NamesAreBad = names_are_bad q
+holds p r q f IsThere = is_there q f
+holds p r q f IsMissing = not (is_there q f)
+holds p r q f LinkIsMissing = f.lacks_link
+holds p r q f NewNameIsTaken = is_some (new_name_seen f)
+holds p r q f SuperordinateIsMissing = holds_of (has_no_superordinate p.zone) (host_to_be q f)
+holds p r q f IsAnothers = is_of_another r q f
+holds p r q f SuperordinateIsAnothers = holds_of (superordinate_is_anothers p.zone r) (host_to_be q f)
+holds p r q f SecretIsWrong = secret_is_wrong r q f
+holds p r q f (Shows status) = shows_status status q f
+holds p r q f (StillShows status) = shows_status status q f && not (has_status (taken_away q) status)
+holds p r q f SuperordinateIsDeleted = holds_of (superordinate_is_deleted p.zone) (host_to_be q f)
+holds p r q f IsLinked = contact_is_linked q f || host_is_linked q f
+holds p r q f ChangeDoesNotFit = change_does_not_fit p.zone q f
+holds p r q f AddressesAreStray = addresses_are_stray p.zone q
+holds p r q f IsFull = f.is_full

@@ -1,5 +1,5 @@
 -- What the operator's orders are answered.
-use Rattle.std.specs.Prelude.{ℕ, Bool, false, not, ◌&&◌, ◌||◌, List, [], ◌∷◌, Option, Some, None, option_and_then, option_map, unwrap_or, is_none, is_some, Result, Ok, Err}
+use Rattle.std.specs.Prelude.{ℕ, Bool, false, not, ◌&&◌, ◌||◌, List, Option, Some, None, option_and_then, option_map, unwrap_or, is_none, is_some, Result, Ok, Err}
 use Rattle.std.specs.FinMap.{get}
 use Rattle.std.specs.List.{list_any}
 use Rattle.names.specs.declared.fault.NameFault.{NameFault}
@@ -17,13 +17,13 @@ use Rattle.verdict.specs.declared.code.Code.TheVariants as codes
 use Rattle.verdict.specs.declared.order.Object.{Object}
 use Rattle.verdict.specs.declared.order.Object.TheVariants as objects
 use Rattle.verdict.specs.declared.order.StatusOrder.{StatusOrder}
-use Rattle.verdict.specs.declared.refusal.Class.TheVariants as classes
-use Rattle.verdict.specs.declared.refusal.Refusal.{Refusal}
+use Rattle.verdict.specs.declared.order.OrderCondition.{OrderCondition}
+use Rattle.verdict.specs.declared.order.OrderCondition.TheVariants.{IsMissing, ComesLate, DoesNotFit}
+use Rattle.verdict.specs.declared.order.TheConstants.{STATUS_ORDER}
 use Rattle.verdict.specs.Conditions.{holds_of, statuses_amiss}
 use Rattle.verdict.specs.Lists.{has_twice}
 use Rattle.verdict.specs.Refusals.{first_refusal}
 use Rattle.verdict.specs.Registry.{Registry}
-use Rattle.verdict.specs.Rules.{row}
 
 -- ---- the object that an order names
 
@@ -74,12 +74,11 @@ order_amiss o object =
     o.has_strange || (any_foreign o.kind o.add || (any_foreign o.kind o.rem
     || (has_twice status_text o.add || (has_twice status_text o.rem || statuses_amiss (statuses_of object) o.rem o.add))))
 
-abbrev pub order_refusals : StatusOrder → Option Object → List Refusal
-order_refusals o object =
-    row classes.Presence codes.ObjectMissing (is_none object)
-    ∷ row classes.Status codes.StatusProhibits (holds_of (comes_late o.add) object)
-    ∷ row classes.Eligibility codes.ParameterPolicy (holds_of (order_amiss o) object) ∷ []
+abbrev pub order_holds : StatusOrder → Option Object → OrderCondition → Bool
+order_holds o object IsMissing = is_none object
+order_holds o object ComesLate = holds_of (comes_late o.add) object
+order_holds o object DoesNotFit = holds_of (order_amiss o) object
 
 -- what an order is answered, by the object that it names
-abbrev pub order_code : StatusOrder → Option Object → Code
-order_code o object = unwrap_or (first_refusal (order_refusals o object)) codes.Completed
+unfoldable pub order_code : StatusOrder → Option Object → Code
+order_code o object = unwrap_or (first_refusal (order_holds o object) STATUS_ORDER.now) codes.Completed

@@ -1,52 +1,52 @@
 -- Which of the causes against a command is answered.
-use Rattle.std.specs.Prelude.{ℕ, Bool, ◌&&◌, ◌==◌, List, [], ◌∷◌, Option, option_map, find}
-use Rattle.std.specs.List.{list_any}
+use Rattle.std.specs.Prelude.{ℕ, Bool, true, nat_le, ◌&&◌, List, [], ◌∷◌, Option, option_map, find}
 use Rattle.verdict.specs.declared.code.Code.{Code}
 use Rattle.verdict.specs.declared.code.Code.TheVariants as codes
-use Rattle.verdict.specs.declared.refusal.Class.{Class}
-use Rattle.verdict.specs.declared.refusal.Class.TheVariants.{Names, Presence, Party, Secret, Transfer, Status, Association, Eligibility, Money}
 use Rattle.verdict.specs.declared.refusal.Cause.{Cause}
-use Rattle.verdict.specs.declared.refusal.Refusal.{Refusal}
-use Rattle.verdict.specs.Codes.{number_of}
+use Rattle.verdict.specs.declared.refusal.Cause.TheVariants.{BadNames, Exists, Missing, NotSponsor, WrongSecret, TransferPends, NoTransferPends, StatusProhibits, AssociationProhibits, NotRenewable, NotTransferable, DoesNotFit, LimitReached, NoMoney}
 
--- a class's place in the order of refusals; the session and the form of a command stand first and
--- second
-abbrev pub class_number : Class → ℕ
-class_number Names = 3
-class_number Presence = 4
-class_number Party = 5
-class_number Secret = 6
-class_number Transfer = 7
-class_number Status = 8
-class_number Association = 9
-class_number Eligibility = 10
-class_number Money = 11
+abbrev pub code_of : Cause → Code
+code_of BadNames = codes.ParameterPolicy
+code_of Exists = codes.ObjectExists
+code_of Missing = codes.ObjectMissing
+code_of NotSponsor = codes.AuthorizationError
+code_of WrongSecret = codes.InvalidAuthorization
+code_of TransferPends = codes.PendingTransfer
+code_of NoTransferPends = codes.NotPendingTransfer
+code_of StatusProhibits = codes.StatusProhibits
+code_of AssociationProhibits = codes.AssociationProhibits
+code_of NotRenewable = codes.NotEligibleForRenewal
+code_of NotTransferable = codes.NotEligibleForTransfer
+code_of DoesNotFit = codes.ParameterPolicy
+code_of LimitReached = codes.DataManagementPolicy
+code_of NoMoney = codes.BillingFailure
 
--- a row of the table stands on a cause and holds
-abbrev pub applies : Cause → Refusal → Bool
-applies cause row = (class_number row.class == class_number cause.class) && (number_of row.code == number_of cause.code) && row.holds
+-- a cause's place in the order in which they answer; the session and the form of a command stand
+-- first and second
+abbrev pub place_of : Cause → ℕ
+place_of BadNames = 3
+place_of Exists = 4
+place_of Missing = 5
+place_of NotSponsor = 6
+place_of WrongSecret = 7
+place_of TransferPends = 8
+place_of NoTransferPends = 9
+place_of StatusProhibits = 10
+place_of AssociationProhibits = 11
+place_of NotRenewable = 12
+place_of NotTransferable = 13
+place_of DoesNotFit = 14
+place_of LimitReached = 15
+place_of NoMoney = 16
 
-abbrev cause : Class → Code → Cause
-cause class code = record { class = class; code = code }
+-- the rows of a table stand in the order of their causes, from one place on
+abbrev pub in_order_from : {C : Type 0} → ℕ → List (Cause × C) → Bool
+in_order_from place [] = true
+in_order_from place (row ∷ rows) = nat_le place (place_of row.0) && in_order_from (place_of row.0) rows
 
--- the causes in the order in which they answer
-abbrev pub causes : List Cause
-causes =
-    cause Names codes.ParameterPolicy
-    ∷ cause Presence codes.ObjectExists
-    ∷ cause Presence codes.ObjectMissing
-    ∷ cause Party codes.AuthorizationError
-    ∷ cause Secret codes.InvalidAuthorization
-    ∷ cause Transfer codes.PendingTransfer
-    ∷ cause Transfer codes.NotPendingTransfer
-    ∷ cause Status codes.StatusProhibits
-    ∷ cause Association codes.AssociationProhibits
-    ∷ cause Eligibility codes.NotEligibleForRenewal
-    ∷ cause Eligibility codes.NotEligibleForTransfer
-    ∷ cause Eligibility codes.ParameterPolicy
-    ∷ cause Eligibility codes.DataManagementPolicy
-    ∷ cause Money codes.BillingFailure ∷ []
+abbrev pub in_order : {C : Type 0} → List (Cause × C) → Bool
+in_order rows = in_order_from 0 rows
 
--- the first class that applies answers; inside a class, the first code in the order of causes
-unfoldable pub first_refusal : List Refusal → Option Code
-first_refusal rows = option_map (λ cause. cause.code) (find (λ cause. list_any (applies cause) rows) causes)
+-- the first row whose condition holds answers
+unfoldable pub first_refusal : {C : Type 0} → (C → Bool) → List (Cause × C) → Option Code
+first_refusal holds rows = option_map (λ row. code_of row.0) (find (λ row. holds row.1) rows)

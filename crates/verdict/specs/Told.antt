@@ -25,10 +25,12 @@ use Rattle.verdict.specs.declared.facts.DomainFacts.{DomainFacts}
 use Rattle.verdict.specs.declared.facts.HostFacts.{HostFacts}
 use Rattle.verdict.specs.declared.facts.Facts.{Facts}
 use Rattle.verdict.specs.declared.reply.CheckResult.{CheckResult}
+use Rattle.verdict.specs.declared.reply.ContactHidden.{ContactHidden}
 use Rattle.verdict.specs.declared.reply.ContactInfo.{ContactInfo}
 use Rattle.verdict.specs.declared.reply.Created.{Created}
 use Rattle.verdict.specs.declared.reply.Data.{Data}
 use Rattle.verdict.specs.declared.reply.Data.TheVariants as told
+use Rattle.verdict.specs.declared.reply.DomainHidden.{DomainHidden}
 use Rattle.verdict.specs.declared.reply.DomainInfo.{DomainInfo}
 use Rattle.verdict.specs.declared.reply.HostInfo.{HostInfo}
 use Rattle.verdict.specs.declared.reply.Reason.{Reason}
@@ -82,16 +84,22 @@ created_domain t new = record {
 abbrev pub transfer_told : PolicyRules → Transfer → TransferInfo
 transfer_told p t = record { transfer = t; requester = id_of p t.requester; loser = id_of p t.loser }
 
+abbrev pub with_shown_link : Bool → ContactFace → ContactFace
+with_shown_link linked face = record face { statuses = with_linked linked face.statuses }
+
 abbrev pub contact_told_face : PolicyRules → Bool → ContactFace → ContactInfo
 contact_told_face p linked face = record {
-  face = record face { statuses = with_linked linked face.statuses };
+  face = with_shown_link linked face;
   sponsor = id_of p face.sponsor;
   hidden = None;
 }
 
+abbrev pub contact_told_hidden : PolicyRules → Option (List ℕ) → Contact → ContactHidden
+contact_told_hidden p secret c = record { secret = secret; postal = c.postal; voice = c.voice; mail = c.mail; transfer = option_map (transfer_told p) c.transfer }
+
 abbrev pub contact_told_full : PolicyRules → Bool → Option (List ℕ) → Contact → ContactInfo
 contact_told_full p linked secret c = record (contact_told_face p linked (contact_face_of c)) {
-  hidden = Some (record { secret = secret; postal = c.postal; voice = c.voice; mail = c.mail; transfer = option_map (transfer_told p) c.transfer });
+  hidden = Some (contact_told_hidden p secret c);
 }
 
 abbrev pub told_contact : PolicyRules → ℕ → Option (List ℕ) → Bool → Seen Contact ContactFace → ContactInfo
@@ -108,9 +116,12 @@ contact_told p r secret known = option_map (told_contact p r secret known.linked
 abbrev pub domain_told_face : PolicyRules → List (List ℕ) → DomainFace → DomainInfo
 domain_told_face p subordinate face = record { face = face; sponsor = id_of p face.sponsor; subordinate = subordinate; hidden = None }
 
+abbrev pub domain_told_hidden : PolicyRules → Option (List ℕ) → Domain → DomainHidden
+domain_told_hidden p secret d = record { secret = secret; transfer = option_map (transfer_told p) d.transfer; deletion = d.deletion }
+
 abbrev pub domain_told_full : PolicyRules → List (List ℕ) → Option (List ℕ) → Domain → DomainInfo
 domain_told_full p subordinate secret d = record (domain_told_face p subordinate (face_of d)) {
-  hidden = Some (record { secret = secret; transfer = option_map (transfer_told p) d.transfer; deletion = d.deletion });
+  hidden = Some (domain_told_hidden p secret d);
 }
 
 abbrev pub told_domain : PolicyRules → ℕ → Option (List ℕ) → List (List ℕ) → Seen Domain DomainFace → DomainInfo

@@ -8,8 +8,7 @@ use Rattle.verdict.specs.declared.command.Command.TheVariants.{Bad, Asked}
 use Rattle.verdict.specs.declared.facts.Facts.{Facts}
 use Rattle.verdict.specs.declared.reply.Data.{Data}
 use Rattle.verdict.specs.declared.verdict.Verdict.{Verdict}
-use Rattle.verdict.specs.Refusals.{first_refusal}
-use Rattle.verdict.specs.Rules.{refusals}
+use Rattle.verdict.specs.Rules.{refusal_of}
 use Rattle.verdict.specs.Told.{accepted}
 
 abbrev pub refused : Code → Verdict
@@ -23,7 +22,7 @@ unless_refused None content = record { code = Completed; content = content }
 -- what a registrar's command at a moment is answered
 unfoldable pub judged : PolicyRules → ℕ → ℕ → Command → Facts → Verdict
 judged p r t (Bad tag code) f = refused code
-judged p r t (Asked tag request) f = unless_refused (first_refusal (refusals p r request f)) (accepted p r t request f)
+judged p r t (Asked tag request) f = unless_refused (refusal_of p r request f) (accepted p r t request f)
 
 -- the command's own identifier
 abbrev pub tag_of : Command → Option (List ℕ)

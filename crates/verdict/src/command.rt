@@ -151,7 +151,7 @@ pub struct HostLists {
 
 impl Request {
     /// The contacts that it acts on.
-    fn contacts(&self) -> &[Text]
+    pub(crate) fn contacts(&self) -> &[Text]
         ensures { result.now ≡ spec.contacts_asked self.now }
     {
         match self {
@@ -165,7 +165,7 @@ impl Request {
     }
 
     /// The domains that it acts on.
-    fn domains(&self) -> &[GivenName]
+    pub(crate) fn domains(&self) -> &[GivenName]
         ensures { result.now ≡ spec.domains_asked self.now }
     {
         match self {
@@ -178,7 +178,7 @@ impl Request {
     }
 
     /// The hosts that it acts on.
-    fn hosts(&self) -> &[GivenName]
+    pub(crate) fn hosts(&self) -> &[GivenName]
         ensures { result.now ≡ spec.hosts_asked self.now }
     {
         match self {

@@ -308,52 +308,13 @@ impl Shows for Host {
     }
 }
 
-fn shows_one_of<S: Shows>(statuses: &[Status], it: &S) -> bool
-    ensures { result ≡ list_any (S.shown it.now) statuses.now }
-{
-    statuses.iter().any(|status| it.is_shown(*status))
-}
-
-/// Whether it shows one of the statuses.
-fn shows_any<S: Shows>(statuses: &[Status], seen: Option<&S>) -> bool
-    ensures { result ≡ spec.shows_any S.shown statuses.now (option_copied seen.entry) }
+/// Whether it shows the status.
+pub(crate) fn is_shown<S: Shows>(status: Status, seen: Option<&S>) -> bool
+    ensures { result ≡ spec.is_shown S.shown status (option_copied seen.entry) }
 {
     match seen {
         None => false,
-        Some(it) => shows_one_of(statuses, it),
-    }
-}
-
-/// Whether it can't go, by what it shows.
-pub(crate) fn prohibits_delete<S: Shows>(seen: Option<&S>) -> bool
-    ensures { result ≡ spec.prohibits_delete S.shown (option_copied seen.entry) }
-{
-    let prohibitions = [
-        Status::PendingTransfer,
-        Status::ClientDeleteProhibited,
-        Status::ServerDeleteProhibited,
-    ];
-    shows_any(&prohibitions, seen)
-}
-
-/// Whether a deletion or a transfer of it is pending.
-pub(crate) fn has_pending_action<S: Shows>(seen: Option<&S>) -> bool
-    ensures { result ≡ spec.has_pending_action S.shown (option_copied seen.entry) }
-{
-    shows_any(&[Status::PendingDelete, Status::PendingTransfer], seen)
-}
-
-/// Whether an update that takes these statuses away is prohibited.
-pub(crate) fn prohibits_update<S: Shows>(removed: &[Status], seen: Option<&S>) -> bool
-    ensures { result ≡ spec.prohibits_update S.shown removed.now (option_copied seen.entry) }
-{
-    match seen {
-        None => false,
-        Some(it) => {
-            it.is_shown(Status::ServerUpdateProhibited)
-                || it.is_shown(Status::ClientUpdateProhibited)
-                    && !has_status(removed, Status::ClientUpdateProhibited)
-        }
+        Some(it) => it.is_shown(status),
     }
 }
 

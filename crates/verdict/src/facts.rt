@@ -2,7 +2,6 @@
 ghost use Rattle.std.specs.Prelude.{◌≡◌, is_some};
 ghost use Rattle.std.specs.Option.{option_copied};
 ghost use Rattle.accounts.specs.Account.{raised};
-ghost use Rattle.verdict.specs.Conditions.{holds_of};
 ghost use Rattle.verdict.specs.Facts as spec;
 
 use crate::named::{Named, find_named};
@@ -166,26 +165,6 @@ impl Facts {
         match &self.renamed {
             None => false,
             Some(known) => known.host.is_some(),
-        }
-    }
-
-    /// Whether a domain names the contact, where the command asks.
-    pub(crate) fn contact_is_linked(&self, name: &Text) -> bool
-        ensures { result ≡ holds_of (λ known. known.linked) (spec.contact_at self.now name.now) }
-    {
-        match self.contact(name) {
-            None => false,
-            Some(known) => known.linked,
-        }
-    }
-
-    /// Whether a domain names the host, where the command asks.
-    pub(crate) fn host_is_linked(&self, name: &Text) -> bool
-        ensures { result ≡ holds_of (λ known. known.linked) (spec.host_at self.now name.now) }
-    {
-        match self.host(name) {
-            None => false,
-            Some(known) => known.linked,
         }
     }
 }

@@ -1,5 +1,5 @@
 //! What the operator orders, and what an order is answered.
-ghost use Rattle.std.specs.Prelude.{◌≡◌, ◌≢◌, not, None, IfOk};
+ghost use Rattle.std.specs.Prelude.{◌≡◌, ◌≢◌, not, find, None, IfOk};
 ghost use Rattle.std.specs.List.{list_any};
 ghost use Rattle.std.specs.Option.{option_copied};
 ghost use Rattle.names.specs.declared.fault.NameFault.TheVariants.{Memory};
@@ -10,7 +10,7 @@ ghost use Rattle.verdict.specs.Orders as spec;
 use crate::code::Code;
 use crate::conditions::statuses_amiss;
 use crate::named::has_status_twice;
-use crate::refusal::{Class, Refusal, first_refusal};
+use crate::refusal::Cause;
 use basis::list::Seq;
 use basis::text::Text;
 use names::{DomainName, HostName, NameFault, Zone};
@@ -40,6 +40,24 @@ pub struct StatusOrder {
     /// Whether a text of the lists names no status at all.
     pub has_strange: bool,
 }
+
+/// What an order can be refused on.
+#[derive(Clone, Copy, Drop)]
+pub enum OrderCondition {
+    /// There is no object of the name.
+    IsMissing,
+    /// It prohibits what is done or pends already.
+    ComesLate,
+    /// It names what isn't the operator's, adds what is there, or removes what isn't.
+    DoesNotFit,
+}
+
+/// The table of the orders that set statuses.
+pub const STATUS_ORDER: &[(Cause, OrderCondition)] = &[
+    (Cause::Missing, OrderCondition::IsMissing),
+    (Cause::StatusProhibits, OrderCondition::ComesLate),
+    (Cause::DoesNotFit, OrderCondition::DoesNotFit),
+];
 
 /// An object of the registry.
 #[derive(Drop)]
@@ -119,29 +137,29 @@ impl StatusOrder {
     }
 
     /// What it is answered, by the object that it names.
+    #[tactic(auto, unfolding(crate::specs::Refusals::first_refusal, crate::specs::Orders::order_code))]
     pub fn judge(&self, object: Option<&Object>) -> Code
         ensures { result ≡ spec.order_code self.now (option_copied object.entry) }
     {
-        let refusal = first_refusal(&[
-            Refusal {
-                class: Class::Presence,
-                code: Code::ObjectMissing,
-                holds: object.is_none(),
-            },
-            Refusal {
-                class: Class::Status,
-                code: Code::StatusProhibits,
-                holds: self.comes_late_to(object),
-            },
-            Refusal {
-                class: Class::Eligibility,
-                code: Code::ParameterPolicy,
-                holds: self.is_amiss_of(object),
-            },
-        ]);
-        match refusal {
-            Some(code) => code,
+        match self.find_refusal(object) {
+            Some((cause, _)) => cause.code(),
             None => Code::Completed,
+        }
+    }
+
+    fn find_refusal(&self, object: Option<&Object>) -> Option<&'static (Cause, OrderCondition)>
+        ensures { option_copied result ≡ find (λ row. spec.order_holds self.now (option_copied object.entry) row.1) STATUS_ORDER.now }
+    {
+        STATUS_ORDER.iter().find(|row| self.meets(row.1, object))
+    }
+
+    fn meets(&self, condition: OrderCondition, object: Option<&Object>) -> bool
+        ensures { result ≡ spec.order_holds self.now (option_copied object.entry) condition }
+    {
+        match condition {
+            OrderCondition::IsMissing => object.is_none(),
+            OrderCondition::ComesLate => self.comes_late_to(object),
+            OrderCondition::DoesNotFit => self.is_amiss_of(object),
         }
     }
 

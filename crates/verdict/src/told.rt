@@ -206,6 +206,17 @@ fn tell_contact(
     }
 }
 
+fn with_shown_link(
+    alloc: Global,
+    linked: bool,
+    face: ContactFace,
+) -> Result<ContactFace, AllocError>
+    ensures { IfOk result (λ shown. shown ≡ spec.with_shown_link linked face) }
+{
+    let statuses = with_linked(alloc, linked, face.statuses.as_slice())?;
+    Ok(ContactFace { statuses, ..face })
+}
+
 fn tell_contact_face(
     alloc: Global,
     policy: &Policy,
@@ -215,9 +226,8 @@ fn tell_contact_face(
     ensures { IfOk result (λ info. info ≡ spec.contact_told_face policy.now linked face) }
 {
     let sponsor = id_of(alloc, policy, face.sponsor)?;
-    let statuses = with_linked(alloc, linked, face.statuses.as_slice())?;
     Ok(ContactInfo {
-        face: ContactFace { statuses, ..face },
+        face: with_shown_link(alloc, linked, face)?,
         sponsor,
         hidden: None,
     })
@@ -232,17 +242,32 @@ fn tell_contact_full(
 ) -> Result<ContactInfo, AllocError>
     ensures { IfOk result (λ info. info ≡ spec.contact_told_full policy.now linked secret contact.now) }
 {
-    let shown = tell_contact_face(alloc, policy, linked, contact.face(alloc)?)?;
+    let sponsor = id_of(alloc, policy, contact.sponsor)?;
+    let face = with_shown_link(alloc, linked, contact.face(alloc)?)?;
     Ok(ContactInfo {
-        face: shown.face,
-        sponsor: shown.sponsor,
-        hidden: Some(ContactHidden {
-            secret,
-            postal: contact.postal.copy()?,
-            voice: copied(&contact.voice)?,
-            mail: contact.mail.clone()?,
-            transfer: tell_transfer(alloc, policy, contact.transfer)?,
-        }),
+        face,
+        sponsor,
+        hidden: Some(tell_contact_hidden(alloc, policy, secret, contact)?),
+    })
+}
+
+fn tell_contact_hidden(
+    alloc: Global,
+    policy: &Policy,
+    secret: Option<Text>,
+    contact: &Contact,
+) -> Result<ContactHidden, AllocError>
+    ensures { IfOk result (λ hidden. hidden ≡ spec.contact_told_hidden policy.now secret contact.now) }
+{
+    let mail = contact.mail.clone()?;
+    let voice = copied(&contact.voice)?;
+    let transfer = tell_transfer(alloc, policy, contact.transfer)?;
+    Ok(ContactHidden {
+        secret,
+        postal: contact.postal.copy()?,
+        voice,
+        mail,
+        transfer,
     })
 }
 
@@ -320,15 +345,29 @@ fn tell_domain_full(
 ) -> Result<DomainInfo, AllocError>
     ensures { IfOk result (λ info. info ≡ spec.domain_told_full policy.now subordinate.now secret domain.now) }
 {
+    let sponsor = id_of(alloc, policy, domain.sponsor)?;
+    let hidden = tell_domain_hidden(alloc, policy, secret, domain)?;
+    let subordinate = subordinate.clone()?;
     Ok(DomainInfo {
         face: domain.face(alloc)?,
-        sponsor: id_of(alloc, policy, domain.sponsor)?,
-        subordinate: subordinate.clone()?,
-        hidden: Some(DomainHidden {
-            secret,
-            transfer: tell_transfer(alloc, policy, domain.transfer)?,
-            deletion: domain.deletion,
-        }),
+        sponsor,
+        subordinate,
+        hidden: Some(hidden),
+    })
+}
+
+fn tell_domain_hidden(
+    alloc: Global,
+    policy: &Policy,
+    secret: Option<Text>,
+    domain: &Domain,
+) -> Result<DomainHidden, AllocError>
+    ensures { IfOk result (λ hidden. hidden ≡ spec.domain_told_hidden policy.now secret domain.now) }
+{
+    Ok(DomainHidden {
+        secret,
+        transfer: tell_transfer(alloc, policy, domain.transfer)?,
+        deletion: domain.deletion,
     })
 }
 
