@@ -2,6 +2,7 @@
 ghost use Rattle.std.specs.Prelude.{◌≡◌, [], None, Some, false};
 ghost use Rattle.std.specs.Option.{option_copied};
 ghost use Rattle.verdict.specs.Facts as spec;
+ghost use Rattle.verdict.specs.Verdicts.{tag_of};
 
 use crate::code::Code;
 use basis::list::Seq;
@@ -244,6 +245,16 @@ impl Request {
 }
 
 impl Command {
+    /// The command's own identifier.
+    pub fn tag(&self) -> &Option<Text>
+        ensures { result.now ≡ tag_of self.now }
+    {
+        match self {
+            Command::Bad { tag, .. } => tag,
+            Command::Asked { tag, .. } => tag,
+        }
+    }
+
     /// What a well formed command asks for.
     pub fn request(&self) -> Option<&Request>
         ensures { option_copied result ≡ spec.asked None (λ request. Some request) self.now }

@@ -1,7 +1,7 @@
 //! What a command is answered.
 ghost use Rattle.std.specs.Prelude.{◌≡◌, IfOk, None};
 ghost use Rattle.verdict.specs.Rules as spec;
-ghost use Rattle.verdict.specs.Verdicts.{judged, tag_of};
+ghost use Rattle.verdict.specs.Verdicts.{judged};
 
 use crate::case::Case;
 use crate::code::Code;
