@@ -4,15 +4,15 @@ use Rattle.std.specs.Prelude.{◌||◌, IfSome, option_map, option_and_then, dec
 use Rattle.serde_json.specs.Data.{Data, string, array}
 use Rattle.serde_json.specs.View.{items_of}
 use Rattle.serde_json.specs.Written.{has_float, members_have_float}
-use Rattle.verdict.specs.declared.code.Code.{Code}
-use Rattle.verdict.specs.declared.reply.Reply.{Reply}
-use Rattle.verdict.specs.declared.reply.Data as the_data
-use Rattle.verdict.specs.declared.reply.Data.TheVariants.{Checked, Created, Contact, Domain, Host}
-use Rattle.verdict.specs.declared.reply.CheckResult.{CheckResult}
-use Rattle.verdict.specs.declared.reply.ContactInfo.{ContactInfo}
-use Rattle.verdict.specs.declared.reply.DomainInfo.{DomainInfo}
-use Rattle.verdict.specs.declared.reply.HostInfo.{HostInfo}
-use Rattle.verdict.specs.declared.reply.TransferInfo.{TransferInfo}
+use Rattle.protocol.specs.declared.code.Code.{Code}
+use Rattle.protocol.specs.declared.reply.Reply.{Reply}
+use Rattle.protocol.specs.declared.reply.Data as the_data
+use Rattle.protocol.specs.declared.reply.Data.TheVariants.{Checked, Created, Contact, Domain, Host}
+use Rattle.protocol.specs.declared.reply.CheckResult.{CheckResult}
+use Rattle.protocol.specs.declared.reply.ContactInfo.{ContactInfo}
+use Rattle.protocol.specs.declared.reply.DomainInfo.{DomainInfo}
+use Rattle.protocol.specs.declared.reply.HostInfo.{HostInfo}
+use Rattle.protocol.specs.declared.reply.TransferInfo.{TransferInfo}
 use Rattle.objects.specs.declared.contact.Postal.{Postal}
 use Rattle.objects.specs.StatusTexts.{status_text, rgp_text}
 use Rattle.eppwire.specs.Members.{members_with, texts_value, moment_value}

@@ -8,8 +8,8 @@ use Rattle.serde_json.specs.Data.{Data, Items}
 use Rattle.serde_json.specs.Find.{as_array}
 use Rattle.serde_json.specs.View.{view, items_view}
 use Rattle.serde_json.specs.declared.value.Value.{Value}
-use Rattle.verdict.specs.declared.code.Code.{Code}
-use Rattle.verdict.specs.declared.code.Code.TheVariants.{SyntaxError}
+use Rattle.protocol.specs.declared.code.Code.{Code}
+use Rattle.protocol.specs.declared.code.Code.TheVariants.{SyntaxError}
 use Rattle.eppwire.specs.Kind.{items_list, of_items, some_and}
 use Rattle.eppwire.specs.Reading.{items_in}
 

@@ -1,6 +1,6 @@
 -- A list that is read item by item.
 use Rattle.std.proofs.Common.{List, ◌++◌, Result, Ok, Err}
-use Rattle.verdict.specs.declared.code.Code.{Code}
+use Rattle.protocol.specs.declared.code.Code.{Code}
 
 -- what was read before stands before the rest
 abbrev pub after : {A : Type 0} → List A → Result (List A) Code → Result (List A) Code

@@ -4,11 +4,11 @@ use Rattle.std.specs.Str.{is_utf8}
 use Rattle.serde_json.specs.Data.{Data}
 use Rattle.serde_json.specs.Read.{read}
 use Rattle.names.specs.Zone.{ZoneRules}
-use Rattle.verdict.specs.declared.code.Code.{Code}
-use Rattle.verdict.specs.declared.code.Code.TheVariants.{SyntaxError}
-use Rattle.verdict.specs.declared.command.Request.{Request}
-use Rattle.verdict.specs.declared.command.Command.{Command}
-use Rattle.verdict.specs.declared.command.Command.TheVariants.{Bad, Asked}
+use Rattle.protocol.specs.declared.code.Code.{Code}
+use Rattle.protocol.specs.declared.code.Code.TheVariants.{SyntaxError}
+use Rattle.protocol.specs.declared.command.Request.{Request}
+use Rattle.protocol.specs.declared.command.Command.{Command}
+use Rattle.protocol.specs.declared.command.Command.TheVariants.{Bad, Asked}
 use Rattle.eppwire.specs.declared.table.Member.TheVariants.{ClTrid}
 use Rattle.eppwire.specs.Kind.{some_and, in_range, has_shape}
 use Rattle.eppwire.specs.Table.{tag}

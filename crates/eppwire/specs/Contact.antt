@@ -3,9 +3,9 @@ use Rattle.std.specs.Prelude.{Option, Result, Ok}
 use Rattle.serde_json.specs.Data.{Data}
 use Rattle.objects.specs.declared.contact.Postal as postal
 use Rattle.objects.specs.declared.roid.ObjectKind.TheVariants.{Contact}
-use Rattle.verdict.specs.declared.code.Code.{Code}
-use Rattle.verdict.specs.declared.command.Request.{Request}
-use Rattle.verdict.specs.declared.command.Request.TheVariants.{CheckContact, InfoContact, CreateContact, DeleteContact, UpdateContact}
+use Rattle.protocol.specs.declared.code.Code.{Code}
+use Rattle.protocol.specs.declared.command.Request.{Request}
+use Rattle.protocol.specs.declared.command.Request.TheVariants.{CheckContact, InfoContact, CreateContact, DeleteContact, UpdateContact}
 use Rattle.eppwire.specs.declared.table.Member.TheVariants as members
 use Rattle.eppwire.specs.declared.table.Place.{Place}
 use Rattle.eppwire.specs.declared.table.Place.TheVariants.{Top, Postal, Add, Rem, Chg, ChgPostal}

@@ -3,8 +3,8 @@ use Rattle.std.specs.Prelude.{ℕ, ◌&&◌, ◌||◌, ◌==◌, Bool, true, fal
 use Rattle.std.specs.List.{list_all, list_any}
 use Rattle.serde_json.specs.Data.{Data, Members, no_members, member}
 use Rattle.serde_json.specs.Find.{get, as_str, as_object}
-use Rattle.verdict.specs.declared.code.Code.{Code}
-use Rattle.verdict.specs.declared.code.Code.TheVariants.{SyntaxError, UnknownCommand, ParameterMissing, ParameterRange, ParameterSyntax}
+use Rattle.protocol.specs.declared.code.Code.{Code}
+use Rattle.protocol.specs.declared.code.Code.TheVariants.{SyntaxError, UnknownCommand, ParameterMissing, ParameterRange, ParameterSyntax}
 use Rattle.eppwire.specs.declared.table.Member.{Member}
 use Rattle.eppwire.specs.declared.table.Member.TheVariants as members
 use Rattle.eppwire.specs.declared.table.Place.{Place}

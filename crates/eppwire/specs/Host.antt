@@ -3,10 +3,10 @@ use Rattle.std.specs.Prelude.{Result, Ok}
 use Rattle.serde_json.specs.Data.{Data}
 use Rattle.names.specs.Zone.{ZoneRules}
 use Rattle.objects.specs.declared.roid.ObjectKind.TheVariants as kinds
-use Rattle.verdict.specs.declared.code.Code.{Code}
-use Rattle.verdict.specs.declared.command.Request.{Request}
-use Rattle.verdict.specs.declared.command.Request.TheVariants.{CheckHost, InfoHost, CreateHost, DeleteHost, UpdateHost}
-use Rattle.verdict.specs.declared.command.HostLists.{HostLists}
+use Rattle.protocol.specs.declared.code.Code.{Code}
+use Rattle.protocol.specs.declared.command.Request.{Request}
+use Rattle.protocol.specs.declared.command.Request.TheVariants.{CheckHost, InfoHost, CreateHost, DeleteHost, UpdateHost}
+use Rattle.protocol.specs.declared.command.HostLists.{HostLists}
 use Rattle.eppwire.specs.declared.table.Member.TheVariants as members
 use Rattle.eppwire.specs.declared.table.Place.{Place}
 use Rattle.eppwire.specs.declared.table.Place.TheVariants.{Top, Add, Rem, Chg}

@@ -9,11 +9,11 @@ use Rattle.serde_json.specs.Written.{compact_text}
 use Rattle.objects.specs.declared.roid.ObjectKind.{ObjectKind}
 use Rattle.objects.specs.declared.status.Status as the_status
 use Rattle.objects.specs.StatusTexts.{status_named}
-use Rattle.verdict.specs.Codes.{number_of, message_of}
-use Rattle.verdict.specs.declared.code.Code.{Code}
-use Rattle.verdict.specs.declared.code.Code.TheVariants.{SyntaxError, UnknownCommand}
-use Rattle.verdict.specs.declared.order.Order as the_order
-use Rattle.verdict.specs.declared.order.Order.TheVariants.{Status}
+use Rattle.protocol.specs.Codes.{number_of, message_of}
+use Rattle.protocol.specs.declared.code.Code.{Code}
+use Rattle.protocol.specs.declared.code.Code.TheVariants.{SyntaxError, UnknownCommand}
+use Rattle.protocol.specs.declared.order.Order as the_order
+use Rattle.protocol.specs.declared.order.Order.TheVariants.{Status}
 use Rattle.eppwire.specs.declared.table.Member.{Member}
 use Rattle.eppwire.specs.declared.table.Member.TheVariants as members
 use Rattle.eppwire.specs.declared.table.Place.TheVariants.{Top}

@@ -12,8 +12,8 @@ use Rattle.objects.specs.declared.roid.ObjectKind.{ObjectKind}
 use Rattle.objects.specs.declared.status.Status.{Status}
 use Rattle.objects.specs.StatusTexts.{status_named}
 use Rattle.objects.specs.Statuses.{client_statuses, has_status}
-use Rattle.verdict.specs.declared.code.Code.{Code}
-use Rattle.verdict.specs.declared.code.Code.TheVariants.{SyntaxError, ParameterMissing, ParameterRange, ParameterSyntax}
+use Rattle.protocol.specs.declared.code.Code.{Code}
+use Rattle.protocol.specs.declared.code.Code.TheVariants.{SyntaxError, ParameterMissing, ParameterRange, ParameterSyntax}
 use Rattle.eppwire.specs.declared.table.Member.{Member}
 use Rattle.eppwire.specs.declared.table.Place.{Place}
 use Rattle.eppwire.specs.declared.reading.Fault.{Fault}

@@ -9,19 +9,19 @@ use Rattle.objects.specs.declared.transfer.TransferState.{TransferState}
 use Rattle.objects.specs.declared.transfer.TransferState.TheVariants.{Pending, ClientApproved, ClientRejected, ClientCancelled, ServerApproved}
 use Rattle.objects.specs.StatusTexts.{status_text, rgp_text}
 use Rattle.objects.specs.Roid.{roid_text}
-use Rattle.verdict.specs.Codes.{number_of, message_of}
-use Rattle.verdict.specs.declared.reply.Reply.{Reply}
-use Rattle.verdict.specs.declared.reply.ServerTag.{ServerTag}
-use Rattle.verdict.specs.declared.reply.Data as the_data
-use Rattle.verdict.specs.declared.reply.Data.TheVariants.{Checked, Created, Contact, Domain, Host}
-use Rattle.verdict.specs.declared.reply.CheckResult.{CheckResult}
-use Rattle.verdict.specs.declared.reply.Reason.{Reason}
-use Rattle.verdict.specs.declared.reply.Reason.TheVariants.{Policy, InUse}
-use Rattle.verdict.specs.declared.reply.Created as the_created
-use Rattle.verdict.specs.declared.reply.ContactInfo.{ContactInfo}
-use Rattle.verdict.specs.declared.reply.DomainInfo.{DomainInfo}
-use Rattle.verdict.specs.declared.reply.HostInfo.{HostInfo}
-use Rattle.verdict.specs.declared.reply.TransferInfo.{TransferInfo}
+use Rattle.protocol.specs.Codes.{number_of, message_of}
+use Rattle.protocol.specs.declared.reply.Reply.{Reply}
+use Rattle.protocol.specs.declared.reply.ServerTag.{ServerTag}
+use Rattle.protocol.specs.declared.reply.Data as the_data
+use Rattle.protocol.specs.declared.reply.Data.TheVariants.{Checked, Created, Contact, Domain, Host}
+use Rattle.protocol.specs.declared.reply.CheckResult.{CheckResult}
+use Rattle.protocol.specs.declared.reply.Reason.{Reason}
+use Rattle.protocol.specs.declared.reply.Reason.TheVariants.{Policy, InUse}
+use Rattle.protocol.specs.declared.reply.Created as the_created
+use Rattle.protocol.specs.declared.reply.ContactInfo.{ContactInfo}
+use Rattle.protocol.specs.declared.reply.DomainInfo.{DomainInfo}
+use Rattle.protocol.specs.declared.reply.HostInfo.{HostInfo}
+use Rattle.protocol.specs.declared.reply.TransferInfo.{TransferInfo}
 use Rattle.eppwire.specs.Members.{members_with, texts_value, moment_value}
 
 -- ---- check (RFC 5731, 3.1.1; RFC 5732, 3.1.1; RFC 5733, 3.1.1)

@@ -2,8 +2,8 @@
 use Rattle.std.specs.Prelude.{Result}
 use Rattle.serde_json.specs.Data.{Data}
 use Rattle.names.specs.Zone.{ZoneRules}
-use Rattle.verdict.specs.declared.code.Code.{Code}
-use Rattle.verdict.specs.declared.command.Request.{Request}
+use Rattle.protocol.specs.declared.code.Code.{Code}
+use Rattle.protocol.specs.declared.command.Request.{Request}
 use Rattle.eppwire.specs.declared.table.Row.{Row}
 use Rattle.eppwire.specs.declared.table.Row.TheVariants.{CheckContact, CheckDomain, CheckHost, InfoContact, InfoDomain, InfoHost, CreateContact, CreateDomain, CreateHost, DeleteContact, DeleteHost, UpdateContact, UpdateDomain, UpdateHost}
 use Rattle.eppwire.specs.Form.{◌>>=◌, checked}

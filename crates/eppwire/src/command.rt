@@ -11,7 +11,7 @@ use basis::text::Text;
 use names::Zone;
 use serde_json::Value;
 use std::alloc::{AllocError, Global};
-use verdict::{Code, Command};
+use protocol::{Code, Command};
 
 /// Reads a command. Where its form is refused, it says by which code.
 pub fn command_of(alloc: Global, payload: &[u8], zone: &Zone) -> Result<Command, AllocError>

@@ -9,7 +9,7 @@ use crate::table::{Member, Place};
 use objects::{ObjectKind, Postal};
 use serde_json::Value;
 use std::alloc::Global;
-use verdict::{ContactUpdate, NewContact, Request};
+use protocol::{ContactUpdate, NewContact, Request};
 
 #[tactic(auto, unfolding(crate::specs::Contact::check_contact))]
 pub fn check_contact(alloc: Global, value: &Value) -> Result<Request, Fault>

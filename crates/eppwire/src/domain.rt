@@ -11,7 +11,7 @@ use names::Zone;
 use objects::ObjectKind;
 use serde_json::Value;
 use std::alloc::Global;
-use verdict::{DomainLists, DomainUpdate, NewDomain, Request};
+use protocol::{DomainLists, DomainUpdate, NewDomain, Request};
 
 #[tactic(auto, unfolding(crate::specs::Domain::check_domain))]
 pub fn check_domain(alloc: Global, value: &Value, zone: &Zone) -> Result<Request, Fault>

@@ -7,7 +7,7 @@ ghost use Rattle.eppwire.specs.Form as spec;
 
 use crate::table::{CHANGES, Field, Member, PLACES, Place, Row, Verb, object_named};
 use serde_json::{Map, Value};
-use verdict::Code;
+use protocol::Code;
 
 /// The row of a command, where its members are what the row asks; else the first fault.
 #[tactic(auto, unfolding(crate::specs::Form::checked))]

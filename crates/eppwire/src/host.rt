@@ -9,7 +9,7 @@ use names::Zone;
 use objects::ObjectKind;
 use serde_json::Value;
 use std::alloc::Global;
-use verdict::{HostLists, HostUpdate, NewHost, Request};
+use protocol::{HostLists, HostUpdate, NewHost, Request};
 
 #[tactic(auto, unfolding(crate::specs::Host::check_host))]
 pub fn check_host(alloc: Global, value: &Value, zone: &Zone) -> Result<Request, Fault>

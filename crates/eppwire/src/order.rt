@@ -14,7 +14,7 @@ use basis::list::Seq;
 use objects::{ObjectKind, Status};
 use serde_json::Value;
 use std::alloc::{AllocError, Global};
-use verdict::{Code, Order, StatusOrder};
+use protocol::{Code, Order, StatusOrder};
 
 /// Reads an order. There is none where the payload is of another form.
 pub fn order_of(alloc: Global, payload: &[u8]) -> Result<Option<Order>, AllocError>

@@ -14,7 +14,7 @@ use names::{Address, DomainName, GivenName, HostName, NameFault, Zone};
 use objects::{ObjectKind, Status};
 use serde_json::Value;
 use std::alloc::{AllocError, Global};
-use verdict::Code;
+use protocol::Code;
 
 /// Why a payload gives no request.
 #[derive(Clone, Copy, Debug, PartialEq, Eq)]

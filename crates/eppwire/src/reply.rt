@@ -12,10 +12,7 @@ use calendar::Moment;
 use objects::{Deletion, Postal, Roid, TransferState};
 use serde_json::Value;
 use std::alloc::{AllocError, Global};
-use verdict::{
-    CheckResult, ContactInfo, Created, Data, DomainInfo, HostInfo, Reason, Reply, ServerTag,
-    TransferInfo,
-};
+use protocol::{CheckResult, ContactInfo, Created, Data, DomainInfo, HostInfo, Reason, Reply, ServerTag, TransferInfo};
 
 /// The text of a reply: one object in compact JSON, its members in the order of their names.
 pub fn reply_bytes(alloc: Global, reply: &Reply) -> Result<Vec<u8>, AllocError>

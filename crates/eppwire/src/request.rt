@@ -12,7 +12,7 @@ use crate::table::Row;
 use names::Zone;
 use serde_json::Value;
 use std::alloc::Global;
-use verdict::Request;
+use protocol::Request;
 
 /// The request of a payload, or the first fault of its form.
 #[tactic(auto, unfolding(crate::specs::Request::request_in))]

@@ -4,9 +4,9 @@ use Rattle.policy.specs.Rules.{PolicyRules}
 use Rattle.registry.specs.Execution.{IsStep}
 use Rattle.rules.specs.Isolation.{IsIsolated}
 use Rattle.rules.proofs.IsolationLemmas.{isolated}
-use Rattle.verdict.specs.declared.command.Command.{Command}
-use Rattle.verdict.specs.declared.reply.Reply.{Reply}
-use Rattle.verdict.specs.Registry.{Registry}
+use Rattle.protocol.specs.declared.command.Command.{Command}
+use Rattle.protocol.specs.declared.reply.Reply.{Reply}
+use Rattle.model.specs.Registry.{Registry}
 
 pub isolated_step : {E : Type 0} (result : Result Reply E) (clean : Type 0) (p : PolicyRules) (r : ℕ) (c : Command) (moment : ℕ) (before after : Registry)
     → IfOk result (λ reply. clean → IsStep p r c moment before after reply) → IfOk result (λ reply. clean → IsIsolated p r c moment before after reply)

@@ -19,8 +19,8 @@ use Rattle.rules.proofs.GrowthLemmas.{Grows}
 use Rattle.rules.proofs.KeepingLemmas.{kept-grown, placed}
 use Rattle.rules.proofs.ViewLemmas.{account_of-with_account}
 use Rattle.store.specs.Book.{BookState, Stored}
-use Rattle.verdict.specs.Registry.{Registry, account_of, blank}
-use Rattle.verdict.specs.WellFormed.{IsRegistry}
+use Rattle.model.specs.Registry.{Registry, account_of, blank}
+use Rattle.model.specs.WellFormed.{IsRegistry}
 
 -- ---- the accounts, once those of the first n registrars are open
 

@@ -8,12 +8,12 @@ use Rattle.rules.specs.Steps.{effect}
 use Rattle.rules.proofs.KeepingLemmas.{kept-lapsed, kept-now}
 use Rattle.rules.proofs.OrderLemmas.{kept-order}
 use Rattle.rules.proofs.WellFormedLemmas.{kept-effect}
-use Rattle.verdict.specs.declared.code.Code.{Code}
-use Rattle.verdict.specs.declared.command.Command.{Command}
-use Rattle.verdict.specs.declared.order.Order.{Order}
-use Rattle.verdict.specs.declared.reply.Reply.{Reply}
-use Rattle.verdict.specs.Registry.{Registry, lapsed, now}
-use Rattle.verdict.specs.WellFormed.{IsRegistry}
+use Rattle.protocol.specs.declared.code.Code.{Code}
+use Rattle.protocol.specs.declared.command.Command.{Command}
+use Rattle.protocol.specs.declared.order.Order.{Order}
+use Rattle.protocol.specs.declared.reply.Reply.{Reply}
+use Rattle.model.specs.Registry.{Registry, lapsed, now}
+use Rattle.model.specs.WellFormed.{IsRegistry}
 
 stays : (p : PolicyRules) (r : ℕ) (c : Command) (moment : ℕ) (before after : Registry) → IsPlace p r → now after ≡ now (effect p r c (lapsed moment before)) → StaysWellFormed p r before after
 stays p r c moment before after place left is small =

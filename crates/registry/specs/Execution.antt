@@ -9,12 +9,12 @@ use Rattle.rules.specs.Orders.{order_answer, order_effect}
 use Rattle.rules.specs.Steps.{answer, effect, reply_of}
 use Rattle.rules.specs.Isolation.{IsIsolated}
 use Rattle.store.specs.Book.{BookState, HasRefused, IsBack, Stored}
-use Rattle.verdict.specs.declared.code.Code.{Code}
-use Rattle.verdict.specs.declared.command.Command.{Command}
-use Rattle.verdict.specs.declared.facts.Facts.{Facts}
-use Rattle.verdict.specs.declared.order.Order.{Order}
-use Rattle.verdict.specs.declared.reply.Reply.{Reply}
-use Rattle.verdict.specs.Registry.{Registry, lapsed, now}
+use Rattle.protocol.specs.declared.code.Code.{Code}
+use Rattle.protocol.specs.declared.command.Command.{Command}
+use Rattle.facts.specs.declared.facts.Facts.{Facts}
+use Rattle.protocol.specs.declared.order.Order.{Order}
+use Rattle.protocol.specs.declared.reply.Reply.{Reply}
+use Rattle.model.specs.Registry.{Registry, lapsed, now}
 
 -- the last moment at which a call is taken: 2099-12-31T23:59:59Z
 abbrev pub last_call : ℕ

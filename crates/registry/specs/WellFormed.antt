@@ -3,8 +3,8 @@ use Rattle.std.specs.Prelude.{◌≡◌, ℕ, ◌<◌, ◌⊎◌, Some}
 use Rattle.policy.specs.Rules.{PolicyRules}
 use Rattle.policy.specs.Terms.{terms_of}
 use Rattle.store.specs.Book.{Stored, nothing}
-use Rattle.verdict.specs.Registry.{Registry, account_of, now}
-use Rattle.verdict.specs.WellFormed.{IsRegistry}
+use Rattle.model.specs.Registry.{Registry, account_of, now}
+use Rattle.model.specs.WellFormed.{IsRegistry}
 
 -- A registrar's call on a well formed registry leaves one. The count of the objects that a registrar
 -- created stays at its greatest value, and two of them would share a ROID: so it is to be below 2^62.

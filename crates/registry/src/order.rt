@@ -3,7 +3,7 @@ ghost use Rattle.std.specs.Prelude.{◌≡◌, true, false, IfOk, IfErr, OnOk};
 ghost use Rattle.registry.specs.Execution.{GoesBack, IsOrderStep, Keeps};
 ghost use Rattle.rules.specs.Orders.{status_decision};
 ghost use Rattle.store.specs.Book.{Follows, IsSame, with_changes};
-ghost use Rattle.verdict.specs.Orders.{object_ordered};
+ghost use Rattle.model.specs.Objects.{object_ordered};
 
 use crate::fault::Fault;
 use crate::transaction::{keep, object_at, or_back, pass_time};
@@ -12,7 +12,8 @@ use policy::Policy;
 use rules::{OrderDecision, decide_order};
 use std::alloc::Global;
 use store::Book;
-use verdict::{Code, Object, Order, StatusOrder};
+use model::Object;
+use protocol::{Code, Order, StatusOrder};
 
 /// Carries out an order in an open transaction, and keeps what it did.
 pub(crate) fn carry_out<B: Book>(

@@ -8,9 +8,9 @@ ghost use Rattle.registry.specs.Opening.{Opens, Refuses};
 ghost use Rattle.registry.specs.WellFormed.{KeepsWellFormed, OpensWellFormed, StaysWellFormed};
 ghost use Rattle.rules.specs.Steps.{reply_of};
 ghost use Rattle.store.specs.Book.{Follows, IsSame, with_changes};
-ghost use Rattle.verdict.specs.Facts.{facts};
-ghost use Rattle.verdict.specs.Told.{id_of};
-ghost use Rattle.verdict.specs.Verdicts.{tag_of};
+ghost use Rattle.facts.specs.Facts.{facts};
+ghost use Rattle.verdict.specs.ResponseData.{id_of};
+ghost use Rattle.protocol.specs.Requests.{tag_of};
 
 use crate::fault::{Fault, OpenFault};
 use crate::opening::take_up;
@@ -24,7 +24,9 @@ use policy::Policy;
 use rules::{Change, decide};
 use std::alloc::{AllocError, Global};
 use store::Book;
-use verdict::{Code, Command, Facts, Order, Reply, ServerTag, Verdict, id_of};
+use facts::Facts;
+use protocol::{Code, Command, Order, Reply, ServerTag};
+use verdict::{Verdict, id_of};
 
 /// The latest moment at which a call is taken: 2099-12-31T23:59:59Z.
 const LAST_CALL: i64 = 4_102_444_799;

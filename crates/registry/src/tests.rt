@@ -11,7 +11,7 @@ use policy::Policy;
 use std::alloc::Global;
 use std::test::Fail;
 use store::{Book, PlainBook};
-use verdict::{Code, Command, Request};
+use protocol::{Code, Command, Request};
 
 const POLICY: &str = r#"zone = "test"
 reserved = ["nic", "www"]

@@ -2,8 +2,8 @@
 ghost use Rattle.std.specs.Prelude.{◌≡◌, ◌∷◌, [], max, true, IfOk, IfErr, OnOk, Ok};
 ghost use Rattle.registry.specs.Execution.{GoesBack, Keeps, at_moment};
 ghost use Rattle.store.specs.Book.{Commits, Follows, IsSame, Moves, with_changes, with_terms};
-ghost use Rattle.verdict.specs.Facts.{facts};
-ghost use Rattle.verdict.specs.Orders.{object_at};
+ghost use Rattle.facts.specs.Facts.{facts};
+ghost use Rattle.model.specs.Objects.{object_at};
 
 use crate::fault::Fault;
 use basis::list::Seq;
@@ -15,7 +15,9 @@ use policy::Terms;
 use rules::Change;
 use std::alloc::{AllocError, Global};
 use store::Book;
-use verdict::{Command, Facts, Object};
+use facts::Facts;
+use model::Object;
+use protocol::Command;
 
 /// What was made, or back to where the transaction began where memory ran out.
 pub(crate) fn or_back<B: Book, T>(book: &mut B, made: Result<T, AllocError>) -> Result<T, Fault>

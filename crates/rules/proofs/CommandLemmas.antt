@@ -38,26 +38,27 @@ use Rattle.rules.proofs.NamedLemmas.{value-fails}
 use Rattle.verdict.proofs.RowLemmas.{unrefused}
 use Rattle.rules.proofs.StandInLemmas.{contact-updated, domain-updated, kept-put-contact, kept-put-domain, kept-put-host}
 use Rattle.rules.proofs.ViewLemmas.{account_of-with_account}
-use Rattle.verdict.specs.declared.command.Command.{Command}
-use Rattle.verdict.specs.declared.command.Command.TheVariants.{Asked}
-use Rattle.verdict.specs.declared.command.ContactUpdate.{ContactUpdate}
-use Rattle.verdict.specs.declared.command.DomainUpdate.{DomainUpdate}
-use Rattle.verdict.specs.declared.command.HostUpdate.{HostUpdate}
-use Rattle.verdict.specs.declared.command.NewContact.{NewContact}
-use Rattle.verdict.specs.declared.command.NewDomain.{NewDomain}
-use Rattle.verdict.specs.declared.command.NewHost.{NewHost}
-use Rattle.verdict.specs.declared.command.Request.{Request}
-use Rattle.verdict.specs.declared.command.Request.TheVariants as requests
-use Rattle.verdict.specs.declared.facts.Facts.{Facts}
-use Rattle.verdict.specs.declared.facts.HostFacts.{HostFacts}
-use Rattle.verdict.specs.declared.facts.Superordinate.{Superordinate}
+use Rattle.protocol.specs.declared.command.Command.{Command}
+use Rattle.protocol.specs.declared.command.Command.TheVariants.{Asked}
+use Rattle.protocol.specs.declared.command.ContactUpdate.{ContactUpdate}
+use Rattle.protocol.specs.declared.command.DomainUpdate.{DomainUpdate}
+use Rattle.protocol.specs.declared.command.HostUpdate.{HostUpdate}
+use Rattle.protocol.specs.declared.command.NewContact.{NewContact}
+use Rattle.protocol.specs.declared.command.NewDomain.{NewDomain}
+use Rattle.protocol.specs.declared.command.NewHost.{NewHost}
+use Rattle.protocol.specs.declared.command.Request.{Request}
+use Rattle.protocol.specs.declared.command.Request.TheVariants as requests
+use Rattle.facts.specs.declared.facts.Facts.{Facts}
+use Rattle.facts.specs.declared.facts.HostFacts.{HostFacts}
+use Rattle.facts.specs.declared.facts.Superordinate.{Superordinate}
 use Rattle.verdict.specs.declared.rules.Condition.TheVariants as conditions
-use Rattle.verdict.specs.Conditions.{contact_is_linked, final_name, has_no_superordinate, holds_of, superordinate_is_deleted}
-use Rattle.verdict.specs.Facts.{contact_facts, contact_seen, domain_facts, domain_seen, facts, finds, host_facts, host_seen, is_linked_contact, is_linked_host, superordinate_of_domain}
-use Rattle.verdict.specs.Lists.{amended, itself}
-use Rattle.verdict.specs.Registry.{Registry, account_of}
+use Rattle.verdict.specs.Conditions.{contact_is_linked, has_no_superordinate, superordinate_is_deleted}
+use Rattle.protocol.specs.Requests.{final_name, holds_of}
+use Rattle.facts.specs.Facts.{contact_facts, contact_seen, domain_facts, domain_seen, facts, finds, host_facts, host_seen, is_linked_contact, is_linked_host, superordinate_of_domain}
+use Rattle.facts.specs.Lists.{amended, itself}
+use Rattle.model.specs.Registry.{Registry, account_of}
 use Rattle.verdict.specs.Rules.{refusal_of}
-use Rattle.verdict.specs.WellFormed.{BelongsTo, HasRoid, IsRegistry}
+use Rattle.model.specs.WellFormed.{BelongsTo, HasRoid, IsRegistry}
 
 -- ---- what is seen in full is the object itself
 

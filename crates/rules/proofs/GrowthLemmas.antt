@@ -12,8 +12,8 @@ use Rattle.objects.specs.declared.roid.Roid.{Roid}
 use Rattle.objects.specs.declared.transfer.Transfer.{Transfer}
 use Rattle.objects.specs.Links.{names_contact, names_host}
 use Rattle.policy.specs.Rules.{PolicyRules, IsPlace}
-use Rattle.verdict.specs.Registry.{Registry, account_of}
-use Rattle.verdict.specs.WellFormed.{BelongsTo, HasBeen, HasRoid, IsContactOf, IsDeletion, IsDomainOf, IsHostOf, IsLastTransfer}
+use Rattle.model.specs.Registry.{Registry, account_of}
+use Rattle.model.specs.WellFormed.{BelongsTo, HasBeen, HasRoid, IsContactOf, IsDeletion, IsDomainOf, IsHostOf, IsLastTransfer}
 
 -- A registry under a policy becomes another, under a policy of the same zone with at least its
 -- registrars: the clock and each account's serial stand where they stood, or later.

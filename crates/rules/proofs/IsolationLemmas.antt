@@ -7,11 +7,11 @@ use Rattle.rules.specs.Decisions.{decided}
 use Rattle.rules.specs.Isolation.{IsIsolated}
 use Rattle.rules.specs.Steps.{answer, decision, effect, reply_of}
 use Rattle.rules.proofs.ViewLemmas.{same_facts, same_view, same_changed_all}
-use Rattle.verdict.specs.declared.command.Command.{Command}
-use Rattle.verdict.specs.declared.reply.Reply.{Reply}
-use Rattle.verdict.specs.Facts.{facts}
-use Rattle.verdict.specs.Registry.{Registry, account_of, lapsed, now}
-use Rattle.verdict.specs.View.{view, view_for}
+use Rattle.protocol.specs.declared.command.Command.{Command}
+use Rattle.protocol.specs.declared.reply.Reply.{Reply}
+use Rattle.facts.specs.Facts.{facts}
+use Rattle.model.specs.Registry.{Registry, account_of, lapsed, now}
+use Rattle.model.specs.View.{view, view_for}
 
 same_decision : (p : PolicyRules) (r : ℕ) (c : Command) (s t : Registry) → view_for r c s ≡ view_for r c t → decision p r c s ≡ decision p r c t
 same_decision p r c s t alike =

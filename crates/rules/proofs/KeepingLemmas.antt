@@ -23,8 +23,8 @@ use Rattle.rules.proofs.GrowthLemmas.{Grows, contact-grown, domain-grown, host-g
 use Rattle.rules.proofs.NameListLemmas.{has_name-filter}
 use Rattle.rules.proofs.NamedLemmas.{drop-cases, drop-keeps, drop-there, is-there, put-cases, put-is, put-keeps, put-there, remade-cases, remade-keeps}
 use Rattle.rules.proofs.ViewLemmas.{account_of-with_account}
-use Rattle.verdict.specs.Registry.{Registry, account_of, lapsed, now}
-use Rattle.verdict.specs.WellFormed.{IsContactOf, IsDomainOf, IsHostOf, IsRegistry}
+use Rattle.model.specs.Registry.{Registry, account_of, lapsed, now}
+use Rattle.model.specs.WellFormed.{IsContactOf, IsDomainOf, IsHostOf, IsRegistry}
 
 -- ---- the clock and the accounts
 

@@ -11,11 +11,11 @@ use Rattle.objects.specs.declared.domain.Links.{Links}
 use Rattle.objects.specs.Links.{has_name, in_order, names_contact, names_host}
 use Rattle.rules.specs.Decisions.{new_links, or_old, updated_links}
 use Rattle.rules.proofs.NameListLemmas.{has_name-filter, has_name-in_order}
-use Rattle.verdict.specs.declared.command.DomainUpdate.{DomainUpdate}
-use Rattle.verdict.specs.declared.command.NewDomain.{NewDomain}
-use Rattle.verdict.specs.declared.command.Request.TheVariants.{CreateDomain, UpdateDomain}
-use Rattle.verdict.specs.Facts.{links_fail}
-use Rattle.verdict.specs.Lists.{amended, is_among, itself, kept}
+use Rattle.protocol.specs.declared.command.DomainUpdate.{DomainUpdate}
+use Rattle.protocol.specs.declared.command.NewDomain.{NewDomain}
+use Rattle.protocol.specs.declared.command.Request.TheVariants.{CreateDomain, UpdateDomain}
+use Rattle.protocol.specs.Requests.{links_fail}
+use Rattle.facts.specs.Lists.{amended, is_among, itself, kept}
 
 module _ (there : List ℕ → Bool) where
   -- what passes for a name passes for the same name

@@ -11,14 +11,16 @@ use Rattle.policy.specs.Rules.{PolicyRules}
 use Rattle.rules.specs.Changes.{changed_all}
 use Rattle.rules.specs.Orders.{order_changes, order_effect, ordered}
 use Rattle.rules.proofs.StandInLemmas.{kept-contact-statuses, kept-domain-statuses, kept-host-statuses}
-use Rattle.verdict.specs.declared.order.Object.TheVariants as objects
-use Rattle.verdict.specs.declared.order.Order.{Order}
-use Rattle.verdict.specs.declared.order.Order.TheVariants as orders
-use Rattle.verdict.specs.declared.order.StatusOrder.{StatusOrder}
-use Rattle.verdict.specs.Codes.{is_accepted}
-use Rattle.verdict.specs.Orders.{name_ordered, object_at, object_ordered, order_code}
-use Rattle.verdict.specs.Registry.{Registry}
-use Rattle.verdict.specs.WellFormed.{IsRegistry}
+use Rattle.model.specs.declared.object.Object.TheVariants as objects
+use Rattle.protocol.specs.declared.order.Order.{Order}
+use Rattle.protocol.specs.declared.order.Order.TheVariants as orders
+use Rattle.protocol.specs.declared.order.StatusOrder.{StatusOrder}
+use Rattle.protocol.specs.Codes.{is_accepted}
+use Rattle.protocol.specs.Orders.{name_ordered}
+use Rattle.model.specs.Objects.{object_at, object_ordered}
+use Rattle.verdict.specs.Orders.{order_code}
+use Rattle.model.specs.Registry.{Registry}
+use Rattle.model.specs.WellFormed.{IsRegistry}
 
 module _ (p : PolicyRules) (s : Registry) (is : IsRegistry p s) (o : StatusOrder) where
   at-contact : (name : List ℕ) (found : Option Contact) → get s.contacts name ≡ found → IsRegistry p (changed_all (order_changes o (option_map objects.Contact found)) s)

@@ -22,8 +22,8 @@ use Rattle.objects.specs.Statuses.{all_statuses, has_status}
 use Rattle.objects.specs.Transfers.{is_pending, names}
 use Rattle.objects.proofs.StatusLemmas.{has_status-filter}
 use Rattle.rules.specs.Changes.{relinked, relinked_links, renamed}
-use Rattle.verdict.specs.declared.facts.Superordinate.{Superordinate}
-use Rattle.verdict.specs.Facts.{superordinate_of_domain}
+use Rattle.facts.specs.declared.facts.Superordinate.{Superordinate}
+use Rattle.facts.specs.Facts.{superordinate_of_domain}
 
 -- what is seen in full is looked at again, without a secret
 pub forget : {O F : Type 0} → (O → Seen O F) → Seen O F → Seen O F

@@ -15,8 +15,8 @@ use Rattle.rules.specs.declared.change.Change.TheVariants.{PutContact, PutDomain
 use Rattle.rules.specs.Changes.{changed}
 use Rattle.rules.proofs.KeepingLemmas.{put-contact, put-domain, put-host}
 use Rattle.rules.proofs.NamedLemmas.{is-there}
-use Rattle.verdict.specs.Registry.{Registry}
-use Rattle.verdict.specs.WellFormed.{HasBeen, IsContactOf, IsDeletion, IsDomainOf, IsHostOf, IsRegistry}
+use Rattle.model.specs.Registry.{Registry}
+use Rattle.model.specs.WellFormed.{HasBeen, IsContactOf, IsDeletion, IsDomainOf, IsHostOf, IsRegistry}
 
 module _ (p : PolicyRules) (s : Registry) (is : IsRegistry p s) (name : List ℕ) where
   pub kept-put-contact : (c other : Contact) → get s.contacts name ≡ Some c → other.roid ≡ c.roid → IsContactOf p s name other → IsRegistry p (changed (PutContact other) s)

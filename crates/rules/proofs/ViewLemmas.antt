@@ -23,10 +23,11 @@ use Rattle.rules.specs.declared.change.Change.{Change}
 use Rattle.rules.specs.declared.change.Change.TheVariants.{MoveClock, OpenAccount, PutContact, DropContact, PutDomain, PutHost, DropHost, Relink, CountCommand, TakeSerial}
 use Rattle.rules.specs.Changes.{changed, changed_all, with_account, itself, relinked}
 use Rattle.rules.proofs.SightLemmas.{forget, forget-domain, forget-contact, holds_seen, holds-seen, links-seen, relinked_seen, seen-relinked, superordinate_seen, superordinate-seen}
-use Rattle.verdict.specs.declared.command.Command.{Command}
-use Rattle.verdict.specs.Facts.{Finds, facts, facts_by, finds, held, presented, presented_contact, subordinate, superordinate_of_domain}
-use Rattle.verdict.specs.Registry.{Registry, account_of}
-use Rattle.verdict.specs.View.{View, Secrets, view, view_for, view_with, secrets_of}
+use Rattle.protocol.specs.declared.command.Command.{Command}
+use Rattle.facts.specs.Facts.{Finds, facts, facts_by, finds, held, subordinate, superordinate_of_domain}
+use Rattle.protocol.specs.Requests.{presented, presented_contact}
+use Rattle.model.specs.Registry.{Registry, account_of}
+use Rattle.model.specs.View.{View, Secrets, view, view_for, view_with, secrets_of}
 
 -- ---- the facts lie in the view
 

@@ -8,20 +8,20 @@ use Rattle.rules.specs.Decisions.{changes_after, changes_of}
 use Rattle.rules.specs.Steps.{effect}
 use Rattle.rules.proofs.CommandLemmas.{kept-contact-deletion, kept-contact-update, kept-counted, kept-domain-update, kept-host-deletion, kept-host-update, kept-new-contact, kept-new-domain, kept-new-host}
 use Rattle.verdict.proofs.RowLemmas.{refusing, unrefused}
-use Rattle.verdict.specs.declared.code.Code.{Code}
-use Rattle.verdict.specs.declared.command.Command.{Command}
-use Rattle.verdict.specs.declared.command.Command.TheVariants.{Asked, Bad}
-use Rattle.verdict.specs.declared.command.Request.{Request}
-use Rattle.verdict.specs.declared.command.Request.TheVariants.{CheckContact, CheckDomain, CheckHost, InfoContact, InfoDomain, InfoHost, CreateContact, CreateDomain, CreateHost, DeleteContact, DeleteHost, UpdateContact, UpdateDomain, UpdateHost}
-use Rattle.verdict.specs.declared.reply.Data.{Data}
+use Rattle.protocol.specs.declared.code.Code.{Code}
+use Rattle.protocol.specs.declared.command.Command.{Command}
+use Rattle.protocol.specs.declared.command.Command.TheVariants.{Asked, Bad}
+use Rattle.protocol.specs.declared.command.Request.{Request}
+use Rattle.protocol.specs.declared.command.Request.TheVariants.{CheckContact, CheckDomain, CheckHost, InfoContact, InfoDomain, InfoHost, CreateContact, CreateDomain, CreateHost, DeleteContact, DeleteHost, UpdateContact, UpdateDomain, UpdateHost}
+use Rattle.protocol.specs.declared.reply.Data.{Data}
 use Rattle.verdict.specs.declared.rules.Condition.TheVariants.{LinkIsMissing}
-use Rattle.verdict.specs.Codes.{is_accepted}
-use Rattle.verdict.specs.Facts.{facts}
-use Rattle.verdict.specs.Registry.{Registry, account_of}
+use Rattle.protocol.specs.Codes.{is_accepted}
+use Rattle.facts.specs.Facts.{facts}
+use Rattle.model.specs.Registry.{Registry, account_of}
 use Rattle.verdict.specs.Rules.{refusal_of}
-use Rattle.verdict.specs.Told.{accepted}
+use Rattle.verdict.specs.ResponseData.{accepted}
 use Rattle.verdict.specs.Verdicts.{judged, unless_refused}
-use Rattle.verdict.specs.WellFormed.{IsRegistry}
+use Rattle.model.specs.WellFormed.{IsRegistry}
 
 module _ (p : PolicyRules) (r : ℕ) (tag : Option (List ℕ)) (s : Registry) (place : IsPlace p r) (is : IsRegistry p s) (small : (account_of r s).serial < 4_611_686_018_427_387_904) where
   kept-accepted : (request : Request) → refusal_of p r request (facts r (Asked tag request) s) ≡ None

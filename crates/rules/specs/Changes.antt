@@ -13,7 +13,7 @@ use Rattle.objects.specs.declared.domain.Links.{Links}
 use Rattle.objects.specs.Links.{has_name}
 use Rattle.rules.specs.declared.change.Change.{Change}
 use Rattle.rules.specs.declared.change.Change.TheVariants.{MoveClock, OpenAccount, PutContact, DropContact, PutDomain, PutHost, DropHost, Relink, CountCommand, TakeSerial}
-use Rattle.verdict.specs.Registry.{Registry, account_of, lapsed}
+use Rattle.model.specs.Registry.{Registry, account_of, lapsed}
 
 -- one registrar's account is changed
 abbrev pub with_account : ℕ → (Account → Account) → Registry → Registry

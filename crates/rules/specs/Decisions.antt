@@ -21,23 +21,24 @@ use Rattle.policy.specs.Rules.{PolicyRules}
 use Rattle.rules.specs.declared.change.Change.{Change}
 use Rattle.rules.specs.declared.change.Change.TheVariants.{PutContact, DropContact, PutDomain, PutHost, DropHost, Relink, CountCommand, TakeSerial}
 use Rattle.rules.specs.declared.decision.Decision.{Decision}
-use Rattle.verdict.specs.declared.code.Code.{Code}
-use Rattle.verdict.specs.declared.command.Command.{Command}
-use Rattle.verdict.specs.declared.command.Command.TheVariants.{Bad, Asked}
-use Rattle.verdict.specs.declared.command.ContactUpdate.{ContactUpdate}
-use Rattle.verdict.specs.declared.command.DomainUpdate.{DomainUpdate}
-use Rattle.verdict.specs.declared.command.HostUpdate.{HostUpdate}
-use Rattle.verdict.specs.declared.command.NewContact.{NewContact}
-use Rattle.verdict.specs.declared.command.NewDomain.{NewDomain}
-use Rattle.verdict.specs.declared.command.NewHost.{NewHost}
-use Rattle.verdict.specs.declared.command.Request.{Request}
-use Rattle.verdict.specs.declared.command.Request.TheVariants as requests
-use Rattle.verdict.specs.declared.facts.Facts.{Facts}
+use Rattle.protocol.specs.declared.code.Code.{Code}
+use Rattle.protocol.specs.declared.command.Command.{Command}
+use Rattle.protocol.specs.declared.command.Command.TheVariants.{Bad, Asked}
+use Rattle.protocol.specs.declared.command.ContactUpdate.{ContactUpdate}
+use Rattle.protocol.specs.declared.command.DomainUpdate.{DomainUpdate}
+use Rattle.protocol.specs.declared.command.HostUpdate.{HostUpdate}
+use Rattle.protocol.specs.declared.command.NewContact.{NewContact}
+use Rattle.protocol.specs.declared.command.NewDomain.{NewDomain}
+use Rattle.protocol.specs.declared.command.NewHost.{NewHost}
+use Rattle.protocol.specs.declared.command.Request.{Request}
+use Rattle.protocol.specs.declared.command.Request.TheVariants as requests
+use Rattle.facts.specs.declared.facts.Facts.{Facts}
 use Rattle.verdict.specs.declared.verdict.Verdict.{Verdict}
-use Rattle.verdict.specs.Codes.{is_accepted}
-use Rattle.verdict.specs.Conditions.{final_name, is_inside, or_else}
-use Rattle.verdict.specs.Facts.{contact_seen, domain_seen, host_seen}
-use Rattle.verdict.specs.Lists.{amended, itself}
+use Rattle.protocol.specs.Codes.{is_accepted}
+use Rattle.protocol.specs.Requests.{final_name}
+use Rattle.facts.specs.Facts.{is_inside, or_else}
+use Rattle.facts.specs.Facts.{contact_seen, domain_seen, host_seen}
+use Rattle.facts.specs.Lists.{amended, itself}
 use Rattle.verdict.specs.Verdicts.{judged}
 
 -- ---- new objects: its own serial's ROID, and nothing set, transferred or deleted

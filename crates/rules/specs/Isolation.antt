@@ -2,10 +2,10 @@
 use Rattle.std.specs.Prelude.{◌≡◌, ℕ}
 use Rattle.policy.specs.Rules.{PolicyRules}
 use Rattle.rules.specs.Steps.{answer, effect}
-use Rattle.verdict.specs.declared.command.Command.{Command}
-use Rattle.verdict.specs.declared.reply.Reply.{Reply}
-use Rattle.verdict.specs.Registry.{Registry, lapsed, now}
-use Rattle.verdict.specs.View.{view, view_for}
+use Rattle.protocol.specs.declared.command.Command.{Command}
+use Rattle.protocol.specs.declared.reply.Reply.{Reply}
+use Rattle.model.specs.Registry.{Registry, lapsed, now}
+use Rattle.model.specs.View.{view, view_for}
 
 -- A registrar's command at a moment was answered, and one registry became another. In every
 -- registry that shows the registrar the same at that moment, the rules give the same reply, and

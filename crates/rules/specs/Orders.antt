@@ -7,15 +7,16 @@ use Rattle.rules.specs.declared.change.Change.{Change}
 use Rattle.rules.specs.declared.change.Change.TheVariants.{PutContact, PutDomain, PutHost}
 use Rattle.rules.specs.declared.order.OrderDecision.{OrderDecision}
 use Rattle.rules.specs.Changes.{changed_all}
-use Rattle.verdict.specs.declared.code.Code.{Code}
-use Rattle.verdict.specs.declared.order.Object.{Object}
-use Rattle.verdict.specs.declared.order.Object.TheVariants as objects
-use Rattle.verdict.specs.declared.order.Order.{Order}
-use Rattle.verdict.specs.declared.order.Order.TheVariants as orders
-use Rattle.verdict.specs.declared.order.StatusOrder.{StatusOrder}
-use Rattle.verdict.specs.Codes.{is_accepted}
-use Rattle.verdict.specs.Orders.{object_ordered, order_code}
-use Rattle.verdict.specs.Registry.{Registry}
+use Rattle.protocol.specs.declared.code.Code.{Code}
+use Rattle.model.specs.declared.object.Object.{Object}
+use Rattle.model.specs.declared.object.Object.TheVariants as objects
+use Rattle.protocol.specs.declared.order.Order.{Order}
+use Rattle.protocol.specs.declared.order.Order.TheVariants as orders
+use Rattle.protocol.specs.declared.order.StatusOrder.{StatusOrder}
+use Rattle.protocol.specs.Codes.{is_accepted}
+use Rattle.model.specs.Objects.{object_ordered}
+use Rattle.verdict.specs.Orders.{order_code}
+use Rattle.model.specs.Registry.{Registry}
 
 -- the statuses that an order leaves
 abbrev pub ordered : StatusOrder → List Status → List Status

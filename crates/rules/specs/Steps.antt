@@ -5,13 +5,13 @@ use Rattle.policy.specs.Rules.{PolicyRules}
 use Rattle.rules.specs.declared.decision.Decision.{Decision}
 use Rattle.rules.specs.Changes.{changed_all}
 use Rattle.rules.specs.Decisions.{decided}
-use Rattle.verdict.specs.declared.command.Command.{Command}
-use Rattle.verdict.specs.declared.reply.Reply.{Reply}
+use Rattle.protocol.specs.declared.command.Command.{Command}
+use Rattle.protocol.specs.declared.reply.Reply.{Reply}
 use Rattle.verdict.specs.declared.verdict.Verdict.{Verdict}
-use Rattle.verdict.specs.Facts.{facts}
-use Rattle.verdict.specs.Registry.{Registry, account_of}
-use Rattle.verdict.specs.Told.{id_of}
-use Rattle.verdict.specs.Verdicts.{tag_of}
+use Rattle.facts.specs.Facts.{facts}
+use Rattle.model.specs.Registry.{Registry, account_of}
+use Rattle.verdict.specs.ResponseData.{id_of}
+use Rattle.protocol.specs.Requests.{tag_of}
 
 -- the decision on a registrar's command in a registry
 abbrev pub decision : PolicyRules → ℕ → Command → Registry → Decision

@@ -10,7 +10,8 @@ use calendar::Moment;
 use names::{GivenName, Zone};
 use objects::{Contact, Domain, Host, Links, ObjectKind, Roid, in_order};
 use std::alloc::{AllocError, Global};
-use verdict::{Facts, NewContact, NewDomain, NewHost};
+use facts::Facts;
+use protocol::{NewContact, NewDomain, NewHost};
 
 /// The ROID of the caller's next object.
 fn new_roid(kind: ObjectKind, facts: &Facts, caller: RegistrarNo) -> Roid

@@ -14,9 +14,9 @@ use names::{GivenName, Zone};
 use objects::{Contact, ContactFace, Domain, DomainFace, Host, Seen};
 use policy::Policy;
 use std::alloc::{AllocError, Global};
-use verdict::{
-    Code, Command, ContactUpdate, DomainUpdate, Facts, HostUpdate, Request, Verdict, judge,
-};
+use facts::Facts;
+use protocol::{Code, Command, ContactUpdate, DomainUpdate, HostUpdate, Request};
+use verdict::{Verdict, judge};
 
 /// What a command is answered, and the changes that it makes, in order.
 #[derive(Drop)]

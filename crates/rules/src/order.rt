@@ -7,7 +7,8 @@ use crate::change::Change;
 use basis::list::Seq;
 use objects::{Status, amended_statuses};
 use std::alloc::{AllocError, Global};
-use verdict::{Code, Object, StatusOrder};
+use model::Object;
+use protocol::{Code, StatusOrder};
 
 /// What an order is answered, and the changes that it makes.
 #[derive(Drop)]

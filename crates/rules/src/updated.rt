@@ -1,7 +1,7 @@
 //! Updated objects: what an update doesn't give stays.
 ghost use Rattle.std.specs.Prelude.{◌≡◌, IfOk};
 ghost use Rattle.std.specs.Option.{option_copied};
-ghost use Rattle.verdict.specs.Conditions.{or_else};
+ghost use Rattle.facts.specs.Facts.{or_else};
 ghost use Rattle.rules.specs.Decisions as spec;
 
 use crate::created::by_of;
@@ -11,7 +11,8 @@ use calendar::Moment;
 use names::{GivenName, Zone};
 use objects::{Contact, Domain, Host, Links, Postal, amended_statuses};
 use std::alloc::{AllocError, Global};
-use verdict::{ContactUpdate, DomainUpdate, HostUpdate, amended_names};
+use facts::amended_names;
+use protocol::{ContactUpdate, DomainUpdate, HostUpdate};
 
 /// A copy of the new text, or of the old one where there is none.
 fn or_old(new: &Option<Text>, old: &Text) -> Result<Text, AllocError>

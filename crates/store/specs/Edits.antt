@@ -10,7 +10,7 @@ use Rattle.rules.specs.Changes.{relinked}
 use Rattle.store.specs.declared.edit.Edit.{Edit}
 use Rattle.store.specs.declared.edit.Edit.TheVariants as edit
 use Rattle.store.specs.Book.{Stored}
-use Rattle.verdict.specs.Registry.{Registry, account_of}
+use Rattle.model.specs.Registry.{Registry, account_of}
 
 -- the key has this value, or none
 abbrev pub put : {K X : Type 0} {R : K → K → Ordering} → FinMap R X → K → Option X → FinMap R X

@@ -2,7 +2,7 @@
 ghost use Rattle.std.specs.Prelude.{◌≡◌, ◌∷◌, [], IfOk, OnOk, OnErr};
 ghost use Rattle.store.specs.Edits as spec;
 ghost use Rattle.store.specs.Plain.{held};
-ghost use Rattle.verdict.specs.Registry.{account_of};
+ghost use Rattle.model.specs.Registry.{account_of};
 
 use crate::content::Content;
 use crate::edit::{

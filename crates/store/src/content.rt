@@ -6,9 +6,9 @@ ghost use Rattle.std.specs.FinMap as finmap;
 ghost use Rattle.names.specs.GivenName.{name_of};
 ghost use Rattle.store.specs.Found as found;
 ghost use Rattle.store.specs.Plain.{held};
-ghost use Rattle.verdict.specs.Facts as facts;
+ghost use Rattle.facts.specs.Facts as facts;
 ghost use Rattle.verdict.specs.Orders as orders;
-ghost use Rattle.verdict.specs.Registry.{account_of};
+ghost use Rattle.model.specs.Registry.{account_of};
 
 use crate::edit::{copy_contact, copy_domain, copy_host};
 use accounts::Account;
@@ -21,10 +21,9 @@ use names::{GivenName, last_two_labels};
 use objects::{Contact, Domain, Host, ObjectKind, is_below};
 use policy::Terms;
 use std::alloc::{AllocError, Global};
-use verdict::{
-    AccountFacts, Command, ContactFacts, DomainFacts, Facts, HostFacts, Object, Request,
-    Superordinate,
-};
+use facts::{AccountFacts, ContactFacts, DomainFacts, Facts, HostFacts, Superordinate};
+use model::Object;
+use protocol::{Command, Request};
 
 #[derive(Drop)]
 pub(crate) struct Content {

@@ -18,7 +18,9 @@ use objects::ObjectKind;
 use policy::Terms;
 use rules::Change;
 use std::alloc::{AllocError, Global};
-use verdict::{Command, Facts, Object};
+use facts::Facts;
+use model::Object;
+use protocol::Command;
 
 /// A registry in ordered maps, with what undoes the changes of the open transaction. A change costs
 /// a look-up and a copy of what it replaces; nothing is copied when a transaction begins.

@@ -12,7 +12,7 @@ use registry::Registry;
 use std::alloc::Global;
 use std::io::{BufRead, BufReader, BufWriter, Read, Write};
 use store::PlainBook;
-use verdict::Reply;
+use protocol::Reply;
 
 /// What is answered where a call gave up, and where a command found no memory.
 const COMMAND_FAILED: &[u8] = b"{\"code\":2400,\"msg\":\"Command failed\",\"svTRID\":\"ANON\"}";

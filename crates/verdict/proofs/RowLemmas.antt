@@ -2,18 +2,16 @@
 use Rattle.std.proofs.Common.{◌≡◌, ℕ, Bool, true, false, cond, ◌⊎◌, inl, inr, List, [], ◌∷◌, Option, Some, None, option_map, find, refl, sym, ap, ◌∙◌}
 use Rattle.std.proofs.lemmas.Option.{same_Some}
 use Rattle.policy.specs.Rules.{PolicyRules}
-use Rattle.verdict.specs.declared.code.Code.{Code}
-use Rattle.verdict.specs.declared.command.Request.{Request}
-use Rattle.verdict.specs.declared.command.Request.TheVariants.{DeleteContact, DeleteHost, UpdateContact, UpdateDomain, UpdateHost}
-use Rattle.verdict.specs.declared.facts.Facts.{Facts}
+use Rattle.protocol.specs.declared.code.Code.{Code}
+use Rattle.protocol.specs.declared.command.Request.{Request}
+use Rattle.facts.specs.declared.facts.Facts.{Facts}
 use Rattle.verdict.specs.declared.refusal.Cause.{Cause}
 use Rattle.verdict.specs.declared.refusal.Cause.TheVariants.{BadNames}
 use Rattle.verdict.specs.declared.rules.Condition.{Condition}
-use Rattle.verdict.specs.declared.rules.Condition.TheVariants.{IsAnothers}
-use Rattle.verdict.specs.Codes.{is_accepted}
-use Rattle.verdict.specs.Conditions.{holds, is_of_another}
+use Rattle.protocol.specs.Codes.{is_accepted}
+use Rattle.verdict.specs.Conditions.{holds}
 use Rattle.verdict.specs.Refusals.{code_of, first_refusal}
-use Rattle.verdict.specs.Rules.{SponsorAlone, changes_object, refusal_of, rows_of}
+use Rattle.verdict.specs.Rules.{refusal_of, rows_of}
 
 -- a row of the table stands on the condition
 abbrev pub StandsIn : {C : Type 0} → List (Cause × C) → C → Type 0
@@ -51,16 +49,3 @@ refusing p r q f code e = by (find (λ (row : Cause × Condition). holds p r q f
     by : (o : Option (Cause × Condition)) → option_map (λ (row : Cause × Condition). code_of row.0) o ≡ Some code → is_accepted code ≡ false
     by None e = absurd cc
     by (Some row) e = ap is_accepted (sym (same_Some (code_of row.0) code e)) ∙ never-accepted row.0
-
--- only the sponsor changes or deletes an object
-sponsor_only : (p : PolicyRules) (r : ℕ) (q : Request) (f : Facts) → refusal_of p r q f ≡ None → changes_object q ≡ true → is_of_another r q f ≡ false
-sponsor_only p r (DeleteContact name) f taken is = unrefused p r (DeleteContact name) f taken IsAnothers (search (inl, inr) depth 20)
-sponsor_only p r (DeleteHost name) f taken is = unrefused p r (DeleteHost name) f taken IsAnothers (search (inl, inr) depth 20)
-sponsor_only p r (UpdateContact u) f taken is = unrefused p r (UpdateContact u) f taken IsAnothers (search (inl, inr) depth 20)
-sponsor_only p r (UpdateDomain u) f taken is = unrefused p r (UpdateDomain u) f taken IsAnothers (search (inl, inr) depth 20)
-sponsor_only p r (UpdateHost u) f taken is = unrefused p r (UpdateHost u) f taken IsAnothers (search (inl, inr) depth 20)
-sponsor_only p r _ f taken is = absurd cc
-
-pub sponsor_alone : (p : PolicyRules) (r : ℕ) (q : Request) (f : Facts) (answer : Option Code) → answer ≡ refusal_of p r q f → SponsorAlone r q f answer
-unfolding SponsorAlone
-sponsor_alone p r q f answer e none is = sponsor_only p r q f (sym e ∙ none) is

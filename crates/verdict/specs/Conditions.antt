@@ -1,9 +1,13 @@
 -- The conditions on which commands are refused.
-use Rattle.std.specs.Prelude.{ℕ, Bool, false, not, ◌&&◌, ◌||◌, ◌==◌, ◌+◌, List, [], Option, Some, None, is_some, is_none, option_and_then, option_map, length}
+use Rattle.std.specs.Prelude.{ℕ, Bool, false, not, ◌&&◌, ◌||◌, ◌==◌, ◌+◌, List, Option, Some, None, is_some, is_none, option_and_then, option_map, length}
 use Rattle.std.specs.List.{list_any, slice_get}
+use Rattle.facts.specs.declared.facts.Facts.{Facts}
+use Rattle.facts.specs.declared.facts.HostFacts.{HostFacts}
+use Rattle.facts.specs.Facts.{contact_at, contact_seen, domain_seen, host_at, host_sponsor, is_inside, new_name_seen, or_else}
+use Rattle.facts.specs.Lists.{adds_what_is_there, has_twice, is_over, itself, kept, removes_what_is_not}
 use Rattle.names.specs.declared.given.GivenName.{GivenName}
 use Rattle.names.specs.GivenName.{name_of, is_refused}
-use Rattle.names.specs.Zone.{ZoneRules, superordinate_of}
+use Rattle.names.specs.Zone.{ZoneRules}
 use Rattle.objects.specs.declared.contact.Contact.{Contact}
 use Rattle.objects.specs.declared.contact.ContactFace.{ContactFace}
 use Rattle.objects.specs.declared.domain.Domain.{Domain}
@@ -18,50 +22,62 @@ use Rattle.objects.specs.Hosts.{host_shows}
 use Rattle.objects.specs.Sight.{is_right}
 use Rattle.objects.specs.Statuses.{has_status}
 use Rattle.objects.specs.StatusTexts.{status_text}
-use Rattle.verdict.specs.declared.command.ContactUpdate.{ContactUpdate}
-use Rattle.verdict.specs.declared.command.DomainLists.{DomainLists}
-use Rattle.verdict.specs.declared.command.DomainUpdate.{DomainUpdate}
-use Rattle.verdict.specs.declared.command.HostLists.{HostLists}
-use Rattle.verdict.specs.declared.command.HostUpdate.{HostUpdate}
-use Rattle.verdict.specs.declared.command.NewDomain.{NewDomain}
 use Rattle.policy.specs.Rules.{PolicyRules}
-use Rattle.verdict.specs.declared.command.Request.{Request}
-use Rattle.verdict.specs.declared.command.Request.TheVariants as requests
-use Rattle.verdict.specs.declared.facts.Facts.{Facts}
-use Rattle.verdict.specs.declared.facts.HostFacts.{HostFacts}
+use Rattle.protocol.specs.declared.command.Action.{Action}
+use Rattle.protocol.specs.declared.command.Action.TheVariants.{Check, Info, Create, Delete, Update}
+use Rattle.protocol.specs.declared.command.Request.{Request}
+use Rattle.protocol.specs.declared.lists.TheConstants.{MOST_ADDRESSES, MOST_CONTACTS, MOST_HOSTS}
+use Rattle.protocol.specs.Requests.{GivenLists, asks_of, contacts_asked, domains_asked, holds_of, hosts_asked}
 use Rattle.verdict.specs.declared.rules.Condition.{Condition}
-use Rattle.verdict.specs.declared.rules.Condition.TheVariants.{NamesAreBad, IsThere, IsMissing, LinkIsMissing, NewNameIsTaken, SuperordinateIsMissing, IsAnothers, SuperordinateIsAnothers, SecretIsWrong, Shows, StillShows, SuperordinateIsDeleted, IsLinked, ChangeDoesNotFit, AddressesAreStray, IsFull}
-use Rattle.verdict.specs.Facts.{contact_at, contact_seen, contacts_asked, domain_seen, domains_asked, host_at, host_seen, hosts_asked, new_name_seen}
-use Rattle.verdict.specs.Lists.{has_twice, is_amiss, itself, kept}
+use Rattle.verdict.specs.declared.rules.Condition.TheVariants.{NameIsRefused, ListRepeats, IsThere, IsMissing, ReferenceIsMissing, NewNameIsTaken, SuperordinateIsMissing, IsAnothers, SuperordinateIsAnothers, SecretIsWrong, Shows, StillShows, SuperordinateIsDeleted, IsLinked, AddsWhatIsThere, RemovesWhatIsNot, LeavesTooMany, LeavesAddressesOutside, HoldsTheMost}
 
-abbrev pub holds_of : {A : Type 0} → (A → Bool) → Option A → Bool
-holds_of test None = false
-holds_of test (Some x) = test x
+-- ---- the object that a request is about: of the three at most one is there
 
--- ---- names and lists
+abbrev pub the_contact : Request → Facts → Option (Seen Contact ContactFace)
+the_contact q f = option_and_then (contact_seen f) (slice_get (contacts_asked q) 0)
+
+abbrev pub the_domain : Request → Facts → Option (Seen Domain DomainFace)
+the_domain q f = option_and_then (λ name. domain_seen f (name_of name)) (slice_get (domains_asked q) 0)
+
+abbrev pub host_known : Request → Facts → Option HostFacts
+host_known q f = option_and_then (λ name. host_at f (name_of name)) (slice_get (hosts_asked q) 0)
+
+abbrev pub the_host : Request → Facts → Option Host
+the_host q f = option_and_then (λ known. known.host) (host_known q f)
+
+abbrev pub is_there : Request → Facts → Bool
+is_there q f = is_some (the_contact q f) || (is_some (the_domain q f) || is_some (the_host q f))
+
+-- the object, where it is seen in full
+abbrev pub full : {O F : Type 0} → Seen O F → Option O
+full (Full o) = Some o
+full (Named face t) = None
+full (Public face) = None
+
+abbrev pub full_contact : Request → Facts → Option Contact
+full_contact q f = option_and_then full (the_contact q f)
+
+abbrev pub full_domain : Request → Facts → Option Domain
+full_domain q f = option_and_then full (the_domain q f)
+
+-- ---- the names and lists of a request
 
 abbrev pub any_refused : List GivenName → Bool
 any_refused names = list_any is_refused names
 
--- the zone refuses the domain or one of the hosts, or a list names one thing twice
-abbrev pub has_bad_names : NewDomain → Bool
-has_bad_names new =
-    is_refused new.name || any_refused new.hosts
-    || has_twice name_of new.hosts || has_twice itself new.admin || has_twice itself new.tech
+-- the zone refuses a name that is given
+abbrev pub name_is_refused : Request → Bool
+name_is_refused q =
+    any_refused (domains_asked q) || (any_refused (hosts_asked q) || (holds_of is_refused (asks_of q).new_host
+    || (any_refused (asks_of q).adds.hosts || any_refused (asks_of q).removes.hosts)))
 
-abbrev pub has_bad_domain_lists : DomainLists → Bool
-has_bad_domain_lists lists =
-    any_refused lists.hosts || has_twice name_of lists.hosts || has_twice itself lists.admin
-    || has_twice itself lists.tech || has_twice status_text lists.statuses
+-- one of the lists names one thing twice
+abbrev pub list_repeats : GivenLists → Bool
+list_repeats lists =
+    has_twice name_of lists.hosts || (has_twice itself lists.admin || (has_twice itself lists.tech
+    || (has_twice itself lists.addresses || has_twice status_text lists.statuses)))
 
-abbrev pub has_bad_host_lists : HostLists → Bool
-has_bad_host_lists lists = has_twice itself lists.addresses || has_twice status_text lists.statuses
-
--- the zone refuses a name of the host, or a list names one thing twice
-abbrev pub has_bad_update_names : HostUpdate → Bool
-has_bad_update_names update = is_refused update.name || (holds_of is_refused update.new_name || (has_bad_host_lists update.add || has_bad_host_lists update.rem))
-
--- ---- who sponsors what is seen
+-- ---- who sponsors what is seen, and who may see it
 
 abbrev pub contact_sponsor : Contact → ℕ
 contact_sponsor c = c.sponsor
@@ -85,6 +101,13 @@ is_own sponsor r (Public face) = false
 abbrev pub is_anothers : {O F : Type 0} → (O → ℕ) → ℕ → Option (Seen O F) → Bool
 is_anothers sponsor r seen = holds_of (λ it. not (is_own sponsor r it)) seen
 
+abbrev pub is_registrar : ℕ → Option ℕ → Bool
+is_registrar r sponsor = holds_of (λ it. it == r) sponsor
+
+-- another sponsors the host
+abbrev pub host_is_anothers : ℕ → Option HostFacts → Bool
+host_is_anothers r known = holds_of (λ it. holds_of (λ h. not (is_registrar r (host_sponsor it h))) it.host) known
+
 -- what is seen opens with the secret: who presents the right one sees all
 abbrev pub is_opened : {O F : Type 0} → (O → List ℕ) → Option (List ℕ) → Seen O F → Bool
 is_opened secret_of secret (Full o) = is_right secret (secret_of o)
@@ -97,26 +120,28 @@ presents_wrong sponsor secret_of r None seen = false
 presents_wrong sponsor secret_of r (Some secret) None = false
 presents_wrong sponsor secret_of r (Some secret) (Some seen) = not (is_own sponsor r seen) && not (is_opened secret_of (Some secret) seen)
 
-abbrev pub or_else : {A : Type 0} → Option A → Option A → Option A
-or_else (Some x) other = Some x
-or_else None other = other
+abbrev pub is_of_another : ℕ → Request → Facts → Bool
+is_of_another r q f =
+    is_anothers contact_sponsor r (the_contact q f) || (is_anothers domain_sponsor r (the_domain q f)
+    || host_is_anothers r (host_known q f))
 
--- the sponsor of a host: of one in the zone, its superordinate domain's
-abbrev pub host_sponsor : HostFacts → Host → Option ℕ
-host_sponsor known h = or_else h.by (option_map (λ above. above.sponsor) known.superordinate)
-
-abbrev pub is_registrar : ℕ → Option ℕ → Bool
-is_registrar r sponsor = holds_of (λ it. it == r) sponsor
-
--- another sponsors the host
-abbrev pub host_is_anothers : ℕ → Option HostFacts → Bool
-host_is_anothers r known = holds_of (λ it. holds_of (λ h. not (is_registrar r (host_sponsor it h))) it.host) known
+abbrev pub secret_is_wrong : ℕ → Request → Facts → Bool
+secret_is_wrong r q f =
+    presents_wrong contact_sponsor contact_secret r (asks_of q).secret (the_contact q f)
+    || presents_wrong domain_sponsor domain_secret r (asks_of q).secret (the_domain q f)
 
 -- ---- the superordinate domain of a host that is to have a name (RFC 5732, 3.2.1)
 
--- the name lies in the zone
-abbrev pub is_inside : ZoneRules → List ℕ → Bool
-is_inside zone name = is_some (superordinate_of zone name)
+-- what is known at that name: at the name of a new host, or at a host's new name
+abbrev pub known_by : Action → Option HostFacts → Option HostFacts → Option HostFacts
+known_by Create given new = given
+known_by Update given new = new
+known_by Check given new = None
+known_by Info given new = None
+known_by Delete given new = None
+
+abbrev pub host_to_be : Request → Facts → Option HostFacts
+host_to_be q f = known_by (asks_of q).action (host_known q f) f.at_new_name
 
 abbrev pub has_no_superordinate : ZoneRules → HostFacts → Bool
 has_no_superordinate zone known = is_inside zone known.name && is_none known.superordinate
@@ -126,10 +151,6 @@ superordinate_is_anothers zone r known = is_inside zone known.name && holds_of (
 
 abbrev pub superordinate_is_deleted : ZoneRules → HostFacts → Bool
 superordinate_is_deleted zone known = is_inside zone known.name && holds_of (λ above. above.is_deleted) known.superordinate
-
--- a host outside the zone has no addresses here
-abbrev pub has_stray_addresses : ZoneRules → List ℕ → List (List ℕ) → Bool
-has_stray_addresses zone name addresses = not (is_inside zone name) && not (length addresses == 0)
 
 -- ---- statuses that are shown
 
@@ -150,117 +171,16 @@ host_seen_shows h status = host_shows false h status
 abbrev pub is_shown : {S : Type 0} → (S → Status → Bool) → Status → Option S → Bool
 is_shown shown status seen = holds_of (λ it. shown it status) seen
 
--- ---- what an update adds and removes
-
--- a status is added that is set, or removed that isn't
-abbrev pub statuses_amiss : List Status → List Status → List Status → Bool
-statuses_amiss old removed added = list_any (has_status old) added || list_any (λ status. not (has_status old status)) removed
-
-abbrev pub contact_amiss : ContactUpdate → Seen Contact ContactFace → Bool
-contact_amiss update (Full c) = statuses_amiss c.statuses update.rem update.add
-contact_amiss update (Named face t) = false
-contact_amiss update (Public face) = false
-
-abbrev pub lists_amiss : DomainUpdate → Domain → Bool
-lists_amiss update d =
-    is_amiss name_of 13 d.links.hosts update.rem.hosts update.add.hosts
-    || (is_amiss itself 4 d.links.admin update.rem.admin update.add.admin
-    || (is_amiss itself 4 d.links.tech update.rem.tech update.add.tech
-    || statuses_amiss d.statuses update.rem.statuses update.add.statuses))
-
-abbrev pub domain_amiss : DomainUpdate → Seen Domain DomainFace → Bool
-domain_amiss update (Full d) = lists_amiss update d
-domain_amiss update (Named face t) = false
-domain_amiss update (Public face) = false
-
-abbrev pub final_name : HostUpdate → Option GivenName → List ℕ
-final_name update None = name_of update.name
-final_name update (Some name) = name_of name
-
--- after the update a host outside the zone has an address
-abbrev pub leaves_stray_addresses : ZoneRules → HostUpdate → Host → Bool
-leaves_stray_addresses zone update h =
-    not (is_inside zone (final_name update update.new_name))
-    && not (length (kept itself h.addresses update.rem.addresses) + length update.add.addresses == 0)
-
-abbrev pub host_amiss : ZoneRules → HostUpdate → Host → Bool
-host_amiss zone update h =
-    is_amiss itself 13 h.addresses update.rem.addresses update.add.addresses
-    || (statuses_amiss h.statuses update.rem.statuses update.add.statuses || leaves_stray_addresses zone update h)
-
--- ---- each condition
-
--- the zone refuses a name that is given, or a list names one thing twice
-abbrev pub names_are_bad : Request → Bool
-names_are_bad (requests.InfoDomain name secret) = is_refused name
-names_are_bad (requests.InfoHost name) = is_refused name
-names_are_bad (requests.CreateDomain new) = has_bad_names new
-names_are_bad (requests.CreateHost new) = is_refused new.name || has_twice itself new.addresses
-names_are_bad (requests.DeleteHost name) = is_refused name
-names_are_bad (requests.UpdateContact u) = has_twice status_text u.add || has_twice status_text u.rem
-names_are_bad (requests.UpdateDomain u) = is_refused u.name || (has_bad_domain_lists u.add || has_bad_domain_lists u.rem)
-names_are_bad (requests.UpdateHost u) = has_bad_update_names u
-names_are_bad _ = false
-
--- an update adds what is there, removes what isn't, or leaves too much
-abbrev pub change_does_not_fit : ZoneRules → Request → Facts → Bool
-change_does_not_fit zone (requests.UpdateContact u) f = holds_of (contact_amiss u) (contact_seen f u.name)
-change_does_not_fit zone (requests.UpdateDomain u) f = holds_of (domain_amiss u) (domain_seen f (name_of u.name))
-change_does_not_fit zone (requests.UpdateHost u) f = holds_of (host_amiss zone u) (host_seen f (name_of u.name))
-change_does_not_fit zone _ f = false
-
-abbrev pub addresses_are_stray : ZoneRules → Request → Bool
-addresses_are_stray zone (requests.CreateHost new) = has_stray_addresses zone (name_of new.name) new.addresses
-addresses_are_stray zone _ = false
-
--- the statuses that an update takes away
-abbrev pub taken_away : Request → List Status
-taken_away (requests.UpdateContact u) = u.rem
-taken_away (requests.UpdateDomain u) = u.rem.statuses
-taken_away (requests.UpdateHost u) = u.rem.statuses
-taken_away _ = []
-
--- the secret that is presented
-abbrev pub secret_of : Request → Option (List ℕ)
-secret_of (requests.InfoContact name secret) = secret
-secret_of (requests.InfoDomain name secret) = secret
-secret_of _ = None
-
--- the host that is to have a name: a new one, or one that is renamed
-abbrev pub host_to_be : Request → Facts → Option HostFacts
-host_to_be (requests.CreateHost new) f = host_at f (name_of new.name)
-host_to_be _ f = f.renamed
-
--- the object that a request is about: of the three at most one is there
-abbrev pub the_contact : Request → Facts → Option (Seen Contact ContactFace)
-the_contact q f = option_and_then (contact_seen f) (slice_get (contacts_asked q) 0)
-
-abbrev pub the_domain : Request → Facts → Option (Seen Domain DomainFace)
-the_domain q f = option_and_then (λ name. domain_seen f (name_of name)) (slice_get (domains_asked q) 0)
-
-abbrev pub host_known : Request → Facts → Option HostFacts
-host_known q f = option_and_then (λ name. host_at f (name_of name)) (slice_get (hosts_asked q) 0)
-
-abbrev pub the_host : Request → Facts → Option Host
-the_host q f = option_and_then (λ known. known.host) (host_known q f)
-
-abbrev pub is_there : Request → Facts → Bool
-is_there q f = is_some (the_contact q f) || (is_some (the_domain q f) || is_some (the_host q f))
-
 abbrev pub shows_status : Status → Request → Facts → Bool
 shows_status status q f =
     is_shown contact_seen_shows status (the_contact q f) || (is_shown domain_seen_shows status (the_domain q f)
     || is_shown host_seen_shows status (the_host q f))
 
-abbrev pub is_of_another : ℕ → Request → Facts → Bool
-is_of_another r q f =
-    is_anothers contact_sponsor r (the_contact q f) || (is_anothers domain_sponsor r (the_domain q f)
-    || host_is_anothers r (host_known q f))
+-- the object shows the status, and the request doesn't take it away
+abbrev pub still_shows : Status → Request → Facts → Bool
+still_shows status q f = shows_status status q f && not (has_status (asks_of q).removes.statuses status)
 
-abbrev pub secret_is_wrong : ℕ → Request → Facts → Bool
-secret_is_wrong r q f =
-    presents_wrong contact_sponsor contact_secret r (secret_of q) (the_contact q f)
-    || presents_wrong domain_sponsor domain_secret r (secret_of q) (the_domain q f)
+-- ---- links
 
 abbrev pub contact_is_linked : Request → Facts → Bool
 contact_is_linked q f = holds_of (λ known. known.linked) (option_and_then (contact_at f) (slice_get (contacts_asked q) 0))
@@ -268,21 +188,106 @@ contact_is_linked q f = holds_of (λ known. known.linked) (option_and_then (cont
 abbrev pub host_is_linked : Request → Facts → Bool
 host_is_linked q f = holds_of (λ known. known.linked) (host_known q f)
 
+-- a domain names the object
+abbrev pub is_linked : Request → Facts → Bool
+is_linked q f = contact_is_linked q f || host_is_linked q f
+
+-- ---- what is added and removed, against what is there
+
+-- a status of the list is set, or one isn't
+abbrev pub any_set : List Status → List Status → Bool
+any_set old statuses = list_any (has_status old) statuses
+
+abbrev pub any_unset : List Status → List Status → Bool
+any_unset old statuses = list_any (λ status. not (has_status old status)) statuses
+
+abbrev pub contact_has : GivenLists → Contact → Bool
+contact_has lists c = any_set c.statuses lists.statuses
+
+abbrev pub domain_has : GivenLists → Domain → Bool
+domain_has lists d =
+    adds_what_is_there name_of d.links.hosts lists.hosts || (adds_what_is_there itself d.links.admin lists.admin
+    || (adds_what_is_there itself d.links.tech lists.tech || any_set d.statuses lists.statuses))
+
+abbrev pub host_has : GivenLists → Host → Bool
+host_has lists h = adds_what_is_there itself h.addresses lists.addresses || any_set h.statuses lists.statuses
+
+-- something is added that is there
+abbrev pub adds_known : Request → Facts → Bool
+adds_known q f =
+    holds_of (contact_has (asks_of q).adds) (full_contact q f) || (holds_of (domain_has (asks_of q).adds) (full_domain q f)
+    || holds_of (host_has (asks_of q).adds) (the_host q f))
+
+abbrev pub contact_lacks : GivenLists → Contact → Bool
+contact_lacks lists c = any_unset c.statuses lists.statuses
+
+abbrev pub domain_lacks : GivenLists → Domain → Bool
+domain_lacks lists d =
+    removes_what_is_not name_of d.links.hosts lists.hosts || (removes_what_is_not itself d.links.admin lists.admin
+    || (removes_what_is_not itself d.links.tech lists.tech || any_unset d.statuses lists.statuses))
+
+abbrev pub host_lacks : GivenLists → Host → Bool
+host_lacks lists h = removes_what_is_not itself h.addresses lists.addresses || any_unset h.statuses lists.statuses
+
+-- something is removed that isn't there
+abbrev pub removes_unknown : Request → Facts → Bool
+removes_unknown q f =
+    holds_of (contact_lacks (asks_of q).removes) (full_contact q f) || (holds_of (domain_lacks (asks_of q).removes) (full_domain q f)
+    || holds_of (host_lacks (asks_of q).removes) (the_host q f))
+
+abbrev pub domain_is_over : GivenLists → GivenLists → Domain → Bool
+domain_is_over removed added d =
+    is_over name_of MOST_HOSTS d.links.hosts removed.hosts added.hosts
+    || (is_over itself MOST_CONTACTS d.links.admin removed.admin added.admin
+    || is_over itself MOST_CONTACTS d.links.tech removed.tech added.tech)
+
+abbrev pub host_is_over : GivenLists → GivenLists → Host → Bool
+host_is_over removed added h = is_over itself MOST_ADDRESSES h.addresses removed.addresses added.addresses
+
+-- a list has more than its limit afterwards
+abbrev pub leaves_too_many : Request → Facts → Bool
+leaves_too_many q f =
+    holds_of (domain_is_over (asks_of q).removes (asks_of q).adds) (full_domain q f)
+    || holds_of (host_is_over (asks_of q).removes (asks_of q).adds) (the_host q f)
+
+-- ---- addresses (RFC 5732, 2.5)
+
+-- the addresses of a host that aren't removed
+abbrev pub addresses_kept : List (List ℕ) → Option Host → ℕ
+addresses_kept removed None = 0
+addresses_kept removed (Some h) = length (kept itself h.addresses removed)
+
+abbrev pub has_addresses_after : Request → Facts → Bool
+has_addresses_after q f = not (addresses_kept (asks_of q).removes.addresses (the_host q f) + length (asks_of q).adds.addresses == 0)
+
+-- the name that the host has afterwards
+abbrev pub host_name_after : Request → Option GivenName
+host_name_after q = or_else (asks_of q).new_host (slice_get (hosts_asked q) 0)
+
+-- a host outside the zone has no addresses here
+abbrev pub leaves_addresses_outside : ZoneRules → Request → Facts → Bool
+leaves_addresses_outside zone q f = holds_of (λ name. not (is_inside zone (name_of name))) (host_name_after q) && has_addresses_after q f
+
+-- ---- each condition
+
 -- a condition holds of a registrar's request, by the facts
 abbrev pub holds : PolicyRules → ℕ → Request → Facts → Condition → Bool
-holds p r q f NamesAreBad = names_are_bad q
+holds p r q f NameIsRefused = name_is_refused q
+holds p r q f ListRepeats = list_repeats (asks_of q).adds || list_repeats (asks_of q).removes
 holds p r q f IsThere = is_there q f
 holds p r q f IsMissing = not (is_there q f)
-holds p r q f LinkIsMissing = f.lacks_link
+holds p r q f ReferenceIsMissing = f.reference_missing
 holds p r q f NewNameIsTaken = is_some (new_name_seen f)
 holds p r q f SuperordinateIsMissing = holds_of (has_no_superordinate p.zone) (host_to_be q f)
 holds p r q f IsAnothers = is_of_another r q f
 holds p r q f SuperordinateIsAnothers = holds_of (superordinate_is_anothers p.zone r) (host_to_be q f)
 holds p r q f SecretIsWrong = secret_is_wrong r q f
 holds p r q f (Shows status) = shows_status status q f
-holds p r q f (StillShows status) = shows_status status q f && not (has_status (taken_away q) status)
+holds p r q f (StillShows status) = still_shows status q f
 holds p r q f SuperordinateIsDeleted = holds_of (superordinate_is_deleted p.zone) (host_to_be q f)
-holds p r q f IsLinked = contact_is_linked q f || host_is_linked q f
-holds p r q f ChangeDoesNotFit = change_does_not_fit p.zone q f
-holds p r q f AddressesAreStray = addresses_are_stray p.zone q
-holds p r q f IsFull = f.is_full
+holds p r q f IsLinked = is_linked q f
+holds p r q f AddsWhatIsThere = adds_known q f
+holds p r q f RemovesWhatIsNot = removes_unknown q f
+holds p r q f LeavesTooMany = leaves_too_many q f
+holds p r q f LeavesAddressesOutside = leaves_addresses_outside p.zone q f
+holds p r q f HoldsTheMost = f.holding_limit_reached

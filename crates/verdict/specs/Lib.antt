@@ -1,12 +1,7 @@
-pub mod Codes
-pub mod Registry
-pub mod Facts
-pub mod View
 pub mod Refusals
-pub mod Lists
 pub mod Conditions
 pub mod Rules
-pub mod Told
+pub mod ResponseData
 pub mod Verdicts
 pub mod Orders
-pub mod WellFormed
+pub mod Laws

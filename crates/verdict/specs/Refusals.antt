@@ -1,7 +1,7 @@
 -- Which of the causes against a command is answered.
 use Rattle.std.specs.Prelude.{ℕ, Bool, true, nat_le, ◌&&◌, List, [], ◌∷◌, Option, option_map, find}
-use Rattle.verdict.specs.declared.code.Code.{Code}
-use Rattle.verdict.specs.declared.code.Code.TheVariants as codes
+use Rattle.protocol.specs.declared.code.Code.{Code}
+use Rattle.protocol.specs.declared.code.Code.TheVariants as codes
 use Rattle.verdict.specs.declared.refusal.Cause.{Cause}
 use Rattle.verdict.specs.declared.refusal.Cause.TheVariants.{BadNames, Exists, Missing, NotSponsor, WrongSecret, TransferPends, NoTransferPends, StatusProhibits, AssociationProhibits, NotRenewable, NotTransferable, DoesNotFit, LimitReached, NoMoney}
 

@@ -2,23 +2,27 @@
 ghost use Rattle.std.specs.Prelude.{◌≡◌, find, option_and_then};
 ghost use Rattle.std.specs.List.{slice_get};
 ghost use Rattle.std.specs.Option.{option_copied};
+ghost use Rattle.facts.specs.Facts as facts_spec;
+ghost use Rattle.names.specs.GivenName.{is_refused};
+ghost use Rattle.protocol.specs.Requests as requests;
 ghost use Rattle.verdict.specs.Conditions as spec;
-ghost use Rattle.verdict.specs.Facts as facts_spec;
 ghost use Rattle.verdict.specs.Rules.{refusal_of};
 
-use crate::code::Code;
-use crate::command::Request;
+use crate::amended::{
+    any_refused, contact_has, contact_lacks, domain_has, domain_is_over, domain_lacks, host_has, host_is_over, host_lacks,
+    list_repeats,
+};
 use crate::conditions::{
-    has_no_superordinate, has_stray_addresses, host_is_anothers, is_anothers, is_shown,
+    has_no_superordinate, host_is_anothers, is_anothers, is_shown,
     presents_wrong, superordinate_is_anothers, superordinate_is_deleted,
 };
-use crate::facts::{ContactFacts, Facts, HostFacts};
-use crate::named::{has_status_twice, has_twice};
-use crate::rules::{Condition, Row};
+use crate::rules::{Condition, Row, rows};
 use basis::registrar::RegistrarNo;
-use basis::text::Text;
+use facts::{ContactFacts, Facts, HostFacts, count_kept};
+use names::GivenName;
 use objects::{Contact, ContactFace, Domain, DomainFace, Host, Seen, Status, has_status};
 use policy::Policy;
+use protocol::{Action, Code, Request};
 
 /// A registrar's command, the policy, and the facts.
 #[derive(Clone, Copy, Drop)]
@@ -29,57 +33,21 @@ pub(crate) struct Case<'a> {
     pub(crate) policy: &'a Policy,
 }
 
-impl Request {
-    /// Whether the zone refuses a name that is given, or a list names one thing twice.
-    fn names_are_bad(&self) -> bool
-        ensures { result ≡ spec.names_are_bad self.now }
-    {
-        match self {
-            Request::InfoDomain { name, .. } => name.is_refused(),
-            Request::InfoHost { name } => name.is_refused(),
-            Request::CreateDomain(new) => new.has_bad_names(),
-            Request::CreateHost(new) => {
-                new.name.is_refused() || has_twice(new.addresses.as_slice())
-            }
-            Request::DeleteHost { name } => name.is_refused(),
-            Request::UpdateContact(update) => {
-                has_status_twice(update.add.as_slice()) || has_status_twice(update.rem.as_slice())
-            }
-            Request::UpdateDomain(update) => {
-                update.name.is_refused() || update.add.are_bad() || update.rem.are_bad()
-            }
-            Request::UpdateHost(update) => update.has_bad_names(),
-            _ => false,
-        }
-    }
-
-    /// The statuses that an update takes away.
-    fn taken_away(&self) -> &[Status]
-        ensures { result.now ≡ spec.taken_away self.now }
-    {
-        match self {
-            Request::UpdateContact(update) => update.rem.as_slice(),
-            Request::UpdateDomain(update) => update.rem.statuses.as_slice(),
-            Request::UpdateHost(update) => update.rem.statuses.as_slice(),
-            _ => &[],
-        }
-    }
-
-    /// The secret that is presented.
-    fn secret(&self) -> Option<&Text>
-        ensures { option_copied result ≡ spec.secret_of self.now }
-    {
-        match self {
-            Request::InfoContact { secret, .. } => secret.as_ref(),
-            Request::InfoDomain { secret, .. } => secret.as_ref(),
-            _ => None,
-        }
+/// What is seen in full.
+fn full<O, F>(seen: Option<&Seen<O, F>>) -> Option<&O>
+    ensures { option_copied result ≡ option_and_then spec.full (option_copied seen.entry) }
+{
+    match seen {
+        Some(Seen::Full(object)) => Some(object),
+        _ => None,
     }
 }
 
-impl Case<'_> {
-    fn contact_known(&self) -> Option<&ContactFacts>
-        ensures { option_copied result ≡ option_and_then (facts_spec.contact_at self.now.facts.now) (slice_get (facts_spec.contacts_asked self.now.request.now) 0) }
+// ---- the object that the request is about
+
+impl<'a> Case<'a> {
+    fn contact_known(&self) -> Option<&'a ContactFacts>
+        ensures { option_copied result ≡ option_and_then (facts_spec.contact_at self.now.facts.now) (slice_get (requests.contacts_asked self.now.request.now) 0) }
     {
         match self.request.contacts().first() {
             None => None,
@@ -87,7 +55,7 @@ impl Case<'_> {
         }
     }
 
-    fn contact(&self) -> Option<&Seen<Contact, ContactFace>>
+    fn contact(&self) -> Option<&'a Seen<Contact, ContactFace>>
         ensures { option_copied result ≡ spec.the_contact self.now.request.now self.now.facts.now }
     {
         match self.request.contacts().first() {
@@ -96,7 +64,7 @@ impl Case<'_> {
         }
     }
 
-    fn domain(&self) -> Option<&Seen<Domain, DomainFace>>
+    fn domain(&self) -> Option<&'a Seen<Domain, DomainFace>>
         ensures { option_copied result ≡ spec.the_domain self.now.request.now self.now.facts.now }
     {
         match self.request.domains().first() {
@@ -105,7 +73,7 @@ impl Case<'_> {
         }
     }
 
-    fn host_known(&self) -> Option<&HostFacts>
+    fn host_known(&self) -> Option<&'a HostFacts>
         ensures { option_copied result ≡ spec.host_known self.now.request.now self.now.facts.now }
     {
         match self.request.hosts().first() {
@@ -114,21 +82,12 @@ impl Case<'_> {
         }
     }
 
-    fn host(&self) -> Option<&Host>
+    fn host(&self) -> Option<&'a Host>
         ensures { option_copied result ≡ spec.the_host self.now.request.now self.now.facts.now }
     {
         match self.host_known() {
             None => None,
             Some(known) => known.host.as_ref(),
-        }
-    }
-
-    fn host_to_be(&self) -> Option<&HostFacts>
-        ensures { option_copied result ≡ spec.host_to_be self.now.request.now self.now.facts.now }
-    {
-        match self.request {
-            Request::CreateHost(new) => self.facts.host(new.name.text()),
-            _ => self.facts.renamed.as_ref(),
         }
     }
 
@@ -138,12 +97,51 @@ impl Case<'_> {
         self.contact().is_some() || self.domain().is_some() || self.host().is_some()
     }
 
+    fn host_to_be(&self) -> Option<&'a HostFacts>
+        ensures { option_copied result ≡ spec.host_to_be self.now.request.now self.now.facts.now }
+    {
+        match self.request.action() {
+            Action::Create => self.host_known(),
+            Action::Update => self.facts.at_new_name.as_ref(),
+            Action::Check | Action::Info | Action::Delete => None,
+        }
+    }
+}
+
+// ---- the conditions
+
+impl Case<'_> {
+    fn name_is_refused(&self) -> bool
+        ensures { result ≡ spec.name_is_refused self.now.request.now }
+    {
+        any_refused(self.request.domains())
+            || any_refused(self.request.hosts())
+            || self.new_host_is_refused()
+            || any_refused(self.request.added().hosts)
+            || any_refused(self.request.removed().hosts)
+    }
+
+    fn new_host_is_refused(&self) -> bool
+        ensures { result ≡ requests.holds_of is_refused (requests.asks_of self.now.request.now).new_host }
+    {
+        match self.request.new_host() {
+            None => false,
+            Some(name) => name.is_refused(),
+        }
+    }
+
     fn shows(&self, status: Status) -> bool
         ensures { result ≡ spec.shows_status status self.now.request.now self.now.facts.now }
     {
         is_shown(status, self.contact())
             || is_shown(status, self.domain())
             || is_shown(status, self.host())
+    }
+
+    fn still_shows(&self, status: Status) -> bool
+        ensures { result ≡ spec.still_shows status self.now.request.now self.now.facts.now }
+    {
+        self.shows(status) && !has_status(self.request.removed().statuses, status)
     }
 
     fn is_of_another(&self) -> bool
@@ -179,34 +177,64 @@ impl Case<'_> {
         }
     }
 
-    fn change_does_not_fit(&self) -> bool
-        ensures { result ≡ spec.change_does_not_fit self.now.policy.now.zone self.now.request.now self.now.facts.now }
+    fn adds_known(&self) -> bool
+        ensures { result ≡ spec.adds_known self.now.request.now self.now.facts.now }
     {
-        match self.request {
-            Request::UpdateContact(update) => update.is_amiss(
-                self.facts.contact_seen(&update.name),
-            ),
-            Request::UpdateDomain(update) => {
-                update.is_amiss(self.facts.domain_seen(update.name.text()))
-            }
-            Request::UpdateHost(update) => update.is_amiss(
-                self.policy.zone(),
-                self.facts.host_seen(update.name.text()),
-            ),
-            _ => false,
+        let added = self.request.added();
+        contact_has(added, full(self.contact()))
+            || domain_has(added, full(self.domain()))
+            || host_has(added, self.host())
+    }
+
+    fn removes_unknown(&self) -> bool
+        ensures { result ≡ spec.removes_unknown self.now.request.now self.now.facts.now }
+    {
+        let removed = self.request.removed();
+        contact_lacks(removed, full(self.contact()))
+            || domain_lacks(removed, full(self.domain()))
+            || host_lacks(removed, self.host())
+    }
+
+    fn leaves_too_many(&self) -> bool
+        ensures { result ≡ spec.leaves_too_many self.now.request.now self.now.facts.now }
+    {
+        let (removed, added) = (self.request.removed(), self.request.added());
+        domain_is_over(removed, added, full(self.domain()))
+            || host_is_over(removed, added, self.host())
+    }
+
+    fn addresses_kept(&self) -> usize
+        ensures { result ≡ spec.addresses_kept (requests.asks_of self.now.request.now).removes.addresses (spec.the_host self.now.request.now self.now.facts.now) }
+    {
+        match self.host() {
+            None => 0,
+            Some(host) => count_kept(host.addresses.as_slice(), self.request.removed().addresses),
         }
     }
 
-    fn addresses_are_stray(&self) -> bool
-        ensures { result ≡ spec.addresses_are_stray self.now.policy.now.zone self.now.request.now }
+    fn has_addresses_after(&self) -> bool
+        ensures { result ≡ spec.has_addresses_after self.now.request.now self.now.facts.now }
     {
-        match self.request {
-            Request::CreateHost(new) => has_stray_addresses(
-                self.policy.zone(),
-                new.name.text(),
-                new.addresses.as_slice(),
-            ),
-            _ => false,
+        !(self.addresses_kept() == 0 && self.request.added().addresses.is_empty())
+    }
+
+    fn host_name_after(&self) -> Option<&GivenName>
+        ensures { option_copied result ≡ spec.host_name_after self.now.request.now }
+    {
+        match self.request.new_host() {
+            Some(name) => Some(name),
+            None => self.request.hosts().first(),
+        }
+    }
+
+    fn leaves_addresses_outside(&self) -> bool
+        ensures { result ≡ spec.leaves_addresses_outside self.now.policy.now.zone self.now.request.now self.now.facts.now }
+    {
+        match self.host_name_after() {
+            None => false,
+            Some(name) => {
+                !self.policy.zone().has_superordinate(name.text()) && self.has_addresses_after()
+            }
         }
     }
 
@@ -214,31 +242,31 @@ impl Case<'_> {
     fn meets(&self, condition: Condition) -> bool
         ensures { result ≡ spec.holds self.now.policy.now self.now.caller self.now.request.now self.now.facts.now condition }
     {
+        let zone = self.policy.zone();
         match condition {
-            Condition::NamesAreBad => self.request.names_are_bad(),
+            Condition::NameIsRefused => self.name_is_refused(),
+            Condition::ListRepeats => {
+                list_repeats(self.request.added()) || list_repeats(self.request.removed())
+            }
             Condition::IsThere => self.is_there(),
             Condition::IsMissing => !self.is_there(),
-            Condition::LinkIsMissing => self.facts.lacks_link,
+            Condition::ReferenceIsMissing => self.facts.reference_missing,
             Condition::NewNameIsTaken => self.facts.new_name_exists(),
-            Condition::SuperordinateIsMissing => {
-                has_no_superordinate(self.policy.zone(), self.host_to_be())
-            }
+            Condition::SuperordinateIsMissing => has_no_superordinate(zone, self.host_to_be()),
             Condition::IsAnothers => self.is_of_another(),
             Condition::SuperordinateIsAnothers => {
-                superordinate_is_anothers(self.policy.zone(), self.caller, self.host_to_be())
+                superordinate_is_anothers(zone, self.caller, self.host_to_be())
             }
             Condition::SecretIsWrong => self.secret_is_wrong(),
             Condition::Shows(status) => self.shows(status),
-            Condition::StillShows(status) => {
-                self.shows(status) && !has_status(self.request.taken_away(), status)
-            }
-            Condition::SuperordinateIsDeleted => {
-                superordinate_is_deleted(self.policy.zone(), self.host_to_be())
-            }
+            Condition::StillShows(status) => self.still_shows(status),
+            Condition::SuperordinateIsDeleted => superordinate_is_deleted(zone, self.host_to_be()),
             Condition::IsLinked => self.contact_is_linked() || self.host_is_linked(),
-            Condition::ChangeDoesNotFit => self.change_does_not_fit(),
-            Condition::AddressesAreStray => self.addresses_are_stray(),
-            Condition::IsFull => self.facts.is_full,
+            Condition::AddsWhatIsThere => self.adds_known(),
+            Condition::RemovesWhatIsNot => self.removes_unknown(),
+            Condition::LeavesTooMany => self.leaves_too_many(),
+            Condition::LeavesAddressesOutside => self.leaves_addresses_outside(),
+            Condition::HoldsTheMost => self.facts.holding_limit_reached,
         }
     }
 
@@ -253,7 +281,7 @@ impl Case<'_> {
     pub(crate) fn refusal(&self) -> Option<Code>
         ensures { result ≡ refusal_of self.now.policy.now self.now.caller self.now.request.now self.now.facts.now }
     {
-        match self.find_refusal(self.request.rows()) {
+        match self.find_refusal(rows(self.request)) {
             Some((cause, _)) => Some(cause.code()),
             None => None,
         }

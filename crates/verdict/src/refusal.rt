@@ -2,7 +2,7 @@
 ghost use Rattle.std.specs.Prelude.{◌≡◌};
 ghost use Rattle.verdict.specs.Refusals as spec;
 
-use crate::code::Code;
+use protocol::Code;
 
 /// A cause of refusal, with its code and its place: an earlier cause answers before a later one. What
 /// stands before them all, the session and the form of the command, is looked at before a command

@@ -1,36 +1,38 @@
-//! The rules: on which conditions each command is refused, and with which cause (RFC 5730, 3; RFC 5731
-//! to 5733). The first row whose condition holds answers; the rows of a table stand in the order of
-//! their causes.
+//! The rules: on which conditions each command is refused, and with which cause (RFC 5730, 3). The
+//! first row whose condition holds answers; the rows of a table stand in the order of their causes.
 ghost use Rattle.std.specs.Prelude.{◌≡◌, IsTrue};
 ghost use Rattle.verdict.specs.Refusals.{in_order};
 ghost use Rattle.verdict.specs.Rules as spec;
 
-use crate::command::Request;
 use crate::refusal::Cause::{
     self, AssociationProhibits, BadNames, DoesNotFit, Exists, LimitReached, Missing, NotSponsor,
     StatusProhibits, WrongSecret,
 };
 use Condition::{
-    AddressesAreStray, ChangeDoesNotFit, IsAnothers, IsFull, IsLinked, IsMissing, IsThere,
-    LinkIsMissing, NamesAreBad, NewNameIsTaken, SecretIsWrong, Shows, StillShows,
+    AddsWhatIsThere, HoldsTheMost, IsAnothers, IsLinked, IsMissing, IsThere,
+    LeavesAddressesOutside, LeavesTooMany, ListRepeats, NameIsRefused, NewNameIsTaken,
+    ReferenceIsMissing, RemovesWhatIsNot, SecretIsWrong, Shows, StillShows,
     SuperordinateIsAnothers, SuperordinateIsDeleted, SuperordinateIsMissing,
 };
 use objects::Status::{
     self, ClientDeleteProhibited, ClientUpdateProhibited, PendingDelete, PendingTransfer,
     ServerDeleteProhibited, ServerUpdateProhibited,
 };
+use protocol::Request;
 
 /// What a command can be refused on.
 #[derive(Clone, Copy, Drop)]
 pub enum Condition {
-    /// The zone refuses a name that is given, or a list names one thing twice.
-    NamesAreBad,
+    /// The zone refuses a name that is given.
+    NameIsRefused,
+    /// A list names one thing twice.
+    ListRepeats,
     /// There is an object of the name.
     IsThere,
     /// There is no object of the name.
     IsMissing,
     /// A contact or host isn't there that a domain is to name from now on.
-    LinkIsMissing,
+    ReferenceIsMissing,
     /// A host has the new name already.
     NewNameIsTaken,
     /// The superordinate domain of a host that is to have a name isn't there.
@@ -49,125 +51,152 @@ pub enum Condition {
     SuperordinateIsDeleted,
     /// A domain names the object.
     IsLinked,
-    /// The update adds what is there, removes what isn't, or leaves too much.
-    ChangeDoesNotFit,
-    /// A new host outside the zone is to have addresses.
-    AddressesAreStray,
+    /// Something is added that is there.
+    AddsWhatIsThere,
+    /// Something is removed that isn't there.
+    RemovesWhatIsNot,
+    /// A list has more than its limit afterwards.
+    LeavesTooMany,
+    /// A host outside the zone has addresses afterwards.
+    LeavesAddressesOutside,
     /// The registrar holds as many domains as it may.
-    IsFull,
+    HoldsTheMost,
 }
 
 /// A row of a command's table.
 pub type Row = (Cause, Condition);
 
-pub const CONTACT_INFO: &[Row] = &[(Missing, IsMissing), (WrongSecret, SecretIsWrong)];
-
-pub const DOMAIN_INFO: &[Row] = &[
-    (BadNames, NamesAreBad),
-    (Missing, IsMissing),
-    (WrongSecret, SecretIsWrong),
+/// RFC 5733, 3.1.2.
+pub const CONTACT_INFO: &[Row] = &[
+    (Missing, IsMissing),         // RFC 5730, 3, code 2303
+    (WrongSecret, SecretIsWrong), // RFC 5733, 2.8
 ];
 
-pub const HOST_INFO: &[Row] = &[(BadNames, NamesAreBad), (Missing, IsMissing)];
+/// RFC 5731, 3.1.2.
+pub const DOMAIN_INFO: &[Row] = &[
+    (BadNames, NameIsRefused),    // RFC 5730, 3, code 2306
+    (Missing, IsMissing),         // RFC 5730, 3, code 2303
+    (WrongSecret, SecretIsWrong), // RFC 5731, 2.6
+];
 
-pub const CONTACT_CREATION: &[Row] = &[(Exists, IsThere)];
+/// RFC 5732, 3.1.2.
+pub const HOST_INFO: &[Row] = &[
+    (BadNames, NameIsRefused), // RFC 5730, 3, code 2306
+    (Missing, IsMissing),      // RFC 5730, 3, code 2303
+];
 
+/// RFC 5733, 3.2.1.
+pub const CONTACT_CREATION: &[Row] = &[
+    (Exists, IsThere), // RFC 5730, 3, code 2302
+];
+
+/// RFC 5731, 3.2.1.
 pub const DOMAIN_CREATION: &[Row] = &[
-    (BadNames, NamesAreBad),
-    (Exists, IsThere),
-    (Missing, LinkIsMissing),
-    (LimitReached, IsFull),
+    (BadNames, NameIsRefused),      // RFC 5730, 3, code 2306
+    (BadNames, ListRepeats),        // RFC 5730, 3, code 2306
+    (Exists, IsThere),              // RFC 5730, 3, code 2302
+    (Missing, ReferenceIsMissing),  // RFC 5731, 3.2.1
+    (LimitReached, HoldsTheMost),   // RFC 5730, 3, code 2308
 ];
 
 /// RFC 5732, 3.2.1.
 pub const HOST_CREATION: &[Row] = &[
-    (BadNames, NamesAreBad),
-    (Exists, IsThere),
-    (Missing, SuperordinateIsMissing),
-    (NotSponsor, SuperordinateIsAnothers),
-    (StatusProhibits, SuperordinateIsDeleted),
-    (DoesNotFit, AddressesAreStray),
+    (BadNames, NameIsRefused),                 // RFC 5730, 3, code 2306
+    (BadNames, ListRepeats),                   // RFC 5730, 3, code 2306
+    (Exists, IsThere),                         // RFC 5730, 3, code 2302
+    (Missing, SuperordinateIsMissing),         // RFC 5732, 3.2.1
+    (NotSponsor, SuperordinateIsAnothers),     // RFC 5732, 3.2.1
+    (StatusProhibits, SuperordinateIsDeleted), // RFC 5731, 2.3
+    (DoesNotFit, LeavesAddressesOutside),      // RFC 5732, 2.5
 ];
 
+/// RFC 5733, 3.2.2.
 pub const CONTACT_DELETION: &[Row] = &[
-    (Missing, IsMissing),
-    (NotSponsor, IsAnothers),
-    (StatusProhibits, Shows(PendingTransfer)),
-    (StatusProhibits, Shows(ClientDeleteProhibited)),
-    (StatusProhibits, Shows(ServerDeleteProhibited)),
-    (AssociationProhibits, IsLinked),
+    (Missing, IsMissing),                             // RFC 5730, 3, code 2303
+    (NotSponsor, IsAnothers),                         // RFC 5733, 3.2.2
+    (StatusProhibits, Shows(PendingTransfer)),        // RFC 5733, 2.2
+    (StatusProhibits, Shows(ClientDeleteProhibited)), // RFC 5733, 2.2
+    (StatusProhibits, Shows(ServerDeleteProhibited)), // RFC 5733, 2.2
+    (AssociationProhibits, IsLinked),                 // RFC 5733, 3.2.2
 ];
 
+/// RFC 5732, 3.2.2.
 pub const HOST_DELETION: &[Row] = &[
-    (BadNames, NamesAreBad),
-    (Missing, IsMissing),
-    (NotSponsor, IsAnothers),
-    (StatusProhibits, Shows(PendingTransfer)),
-    (StatusProhibits, Shows(ClientDeleteProhibited)),
-    (StatusProhibits, Shows(ServerDeleteProhibited)),
-    (AssociationProhibits, IsLinked),
+    (BadNames, NameIsRefused),                        // RFC 5730, 3, code 2306
+    (Missing, IsMissing),                             // RFC 5730, 3, code 2303
+    (NotSponsor, IsAnothers),                         // RFC 5732, 3.2.2
+    (StatusProhibits, Shows(PendingTransfer)),        // RFC 5732, 2.3
+    (StatusProhibits, Shows(ClientDeleteProhibited)), // RFC 5732, 2.3
+    (StatusProhibits, Shows(ServerDeleteProhibited)), // RFC 5732, 2.3
+    (AssociationProhibits, IsLinked),                 // RFC 5732, 3.2.2
 ];
 
-/// The sponsor may take its own prohibition away with the update (RFC 5733, 3.2.5).
+/// RFC 5733, 3.2.5. The sponsor may take its own prohibition away with the update.
 pub const CONTACT_UPDATE: &[Row] = &[
-    (BadNames, NamesAreBad),
-    (Missing, IsMissing),
-    (NotSponsor, IsAnothers),
-    (StatusProhibits, Shows(PendingDelete)),
-    (StatusProhibits, Shows(PendingTransfer)),
-    (StatusProhibits, Shows(ServerUpdateProhibited)),
-    (StatusProhibits, StillShows(ClientUpdateProhibited)),
-    (DoesNotFit, ChangeDoesNotFit),
+    (BadNames, ListRepeats),                               // RFC 5730, 3, code 2306
+    (Missing, IsMissing),                                  // RFC 5730, 3, code 2303
+    (NotSponsor, IsAnothers),                              // RFC 5733, 3.2.5
+    (StatusProhibits, Shows(PendingDelete)),               // RFC 5733, 2.2
+    (StatusProhibits, Shows(PendingTransfer)),             // RFC 5733, 2.2
+    (StatusProhibits, Shows(ServerUpdateProhibited)),      // RFC 5733, 2.2
+    (StatusProhibits, StillShows(ClientUpdateProhibited)), // RFC 5733, 3.2.5
+    (DoesNotFit, AddsWhatIsThere),                         // RFC 5733, 3.2.5
+    (DoesNotFit, RemovesWhatIsNot),                        // RFC 5733, 3.2.5
 ];
 
-/// As for a contact (RFC 5731, 3.2.5).
+/// RFC 5731, 3.2.5. As for a contact.
 pub const DOMAIN_UPDATE: &[Row] = &[
-    (BadNames, NamesAreBad),
-    (Missing, IsMissing),
-    (Missing, LinkIsMissing),
-    (NotSponsor, IsAnothers),
-    (StatusProhibits, Shows(PendingDelete)),
-    (StatusProhibits, Shows(PendingTransfer)),
-    (StatusProhibits, Shows(ServerUpdateProhibited)),
-    (StatusProhibits, StillShows(ClientUpdateProhibited)),
-    (DoesNotFit, ChangeDoesNotFit),
+    (BadNames, NameIsRefused),                             // RFC 5730, 3, code 2306
+    (BadNames, ListRepeats),                               // RFC 5730, 3, code 2306
+    (Missing, IsMissing),                                  // RFC 5730, 3, code 2303
+    (Missing, ReferenceIsMissing),                         // RFC 5731, 3.2.5
+    (NotSponsor, IsAnothers),                              // RFC 5731, 3.2.5
+    (StatusProhibits, Shows(PendingDelete)),               // RFC 5731, 2.3
+    (StatusProhibits, Shows(PendingTransfer)),             // RFC 5731, 2.3
+    (StatusProhibits, Shows(ServerUpdateProhibited)),      // RFC 5731, 2.3
+    (StatusProhibits, StillShows(ClientUpdateProhibited)), // RFC 5731, 3.2.5
+    (DoesNotFit, AddsWhatIsThere),                         // RFC 5731, 3.2.5
+    (DoesNotFit, RemovesWhatIsNot),                        // RFC 5731, 3.2.5
+    (DoesNotFit, LeavesTooMany),                           // RFC 5731, 3.2.5
 ];
 
-/// As for a contact; a new name is one of a new host (RFC 5732, 3.2.5).
+/// RFC 5732, 3.2.5. As for a contact; a new name is one of a new host.
 pub const HOST_UPDATE: &[Row] = &[
-    (BadNames, NamesAreBad),
-    (Exists, NewNameIsTaken),
-    (Missing, IsMissing),
-    (Missing, SuperordinateIsMissing),
-    (NotSponsor, IsAnothers),
-    (NotSponsor, SuperordinateIsAnothers),
-    (StatusProhibits, Shows(ServerUpdateProhibited)),
-    (StatusProhibits, StillShows(ClientUpdateProhibited)),
-    (StatusProhibits, SuperordinateIsDeleted),
-    (DoesNotFit, ChangeDoesNotFit),
+    (BadNames, NameIsRefused),                             // RFC 5730, 3, code 2306
+    (BadNames, ListRepeats),                               // RFC 5730, 3, code 2306
+    (Exists, NewNameIsTaken),                              // RFC 5730, 3, code 2302
+    (Missing, IsMissing),                                  // RFC 5730, 3, code 2303
+    (Missing, SuperordinateIsMissing),                     // RFC 5732, 3.2.5
+    (NotSponsor, IsAnothers),                              // RFC 5732, 3.2.5
+    (NotSponsor, SuperordinateIsAnothers),                 // RFC 5732, 3.2.5
+    (StatusProhibits, Shows(ServerUpdateProhibited)),      // RFC 5732, 2.3
+    (StatusProhibits, StillShows(ClientUpdateProhibited)), // RFC 5732, 3.2.5
+    (StatusProhibits, SuperordinateIsDeleted),             // RFC 5731, 2.3
+    (DoesNotFit, AddsWhatIsThere),                         // RFC 5732, 3.2.5
+    (DoesNotFit, RemovesWhatIsNot),                        // RFC 5732, 3.2.5
+    (DoesNotFit, LeavesTooMany),                           // RFC 5732, 3.2.5
+    (DoesNotFit, LeavesAddressesOutside),                  // RFC 5732, 2.5
 ];
 
-impl Request {
-    /// The table of the command.
-    pub fn rows(&self) -> &'static [Row]
-        ensures table { result.now ≡ spec.rows_of self.now }
-        ensures ordered { IsTrue (in_order result.now) }
-    {
-        match self {
-            Request::CheckContact { .. }
-            | Request::CheckDomain { .. }
-            | Request::CheckHost { .. } => &[],
-            Request::InfoContact { .. } => CONTACT_INFO,
-            Request::InfoDomain { .. } => DOMAIN_INFO,
-            Request::InfoHost { .. } => HOST_INFO,
-            Request::CreateContact(_) => CONTACT_CREATION,
-            Request::CreateDomain(_) => DOMAIN_CREATION,
-            Request::CreateHost(_) => HOST_CREATION,
-            Request::DeleteContact { .. } => CONTACT_DELETION,
-            Request::DeleteHost { .. } => HOST_DELETION,
-            Request::UpdateContact(_) => CONTACT_UPDATE,
-            Request::UpdateDomain(_) => DOMAIN_UPDATE,
-            Request::UpdateHost(_) => HOST_UPDATE,
-        }
+/// The table of the command.
+pub fn rows(request: &Request) -> &'static [Row]
+    ensures table { result.now ≡ spec.rows_of request.now }
+    ensures ordered { IsTrue (in_order result.now) }
+{
+    match request {
+        Request::CheckContact { .. }
+        | Request::CheckDomain { .. }
+        | Request::CheckHost { .. } => &[],
+        Request::InfoContact { .. } => CONTACT_INFO,
+        Request::InfoDomain { .. } => DOMAIN_INFO,
+        Request::InfoHost { .. } => HOST_INFO,
+        Request::CreateContact(_) => CONTACT_CREATION,
+        Request::CreateDomain(_) => DOMAIN_CREATION,
+        Request::CreateHost(_) => HOST_CREATION,
+        Request::DeleteContact { .. } => CONTACT_DELETION,
+        Request::DeleteHost { .. } => HOST_DELETION,
+        Request::UpdateContact(_) => CONTACT_UPDATE,
+        Request::UpdateDomain(_) => DOMAIN_UPDATE,
+        Request::UpdateHost(_) => HOST_UPDATE,
     }
 }

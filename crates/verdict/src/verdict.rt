@@ -1,17 +1,16 @@
 //! What a command is answered.
 ghost use Rattle.std.specs.Prelude.{◌≡◌, IfOk, None};
+ghost use Rattle.verdict.specs.Laws.{AnswersLawfully};
 ghost use Rattle.verdict.specs.Rules as spec;
 ghost use Rattle.verdict.specs.Verdicts.{judged};
 
 use crate::case::Case;
-use crate::code::Code;
-use crate::command::{Command, Request};
-use crate::facts::Facts;
-use crate::reply::Data;
-use crate::told::tell;
+use crate::response::response_data;
 use basis::registrar::RegistrarNo;
 use calendar::Moment;
+use facts::Facts;
 use policy::Policy;
+use protocol::{Code, Command, Data, Request};
 use std::alloc::{AllocError, Global};
 
 /// The code that a command is answered, and what it is told.
@@ -21,9 +20,27 @@ pub struct Verdict {
     pub content: Option<Data>,
 }
 
-/// What a registrar's command at a moment is answered, by the facts that bear on it.
-#[tactic(auto, unfolding(crate::specs::Verdicts::judged))]
+/// What a registrar's command at a moment is answered, by the facts that bear on it: the first
+/// refusal of its table, or its data.
 pub fn judge(
+    alloc: Global,
+    facts: &Facts,
+    caller: RegistrarNo,
+    command: &Command,
+    moment: Moment,
+    policy: &Policy,
+) -> Result<Verdict, AllocError>
+    ensures verdict { IfOk result (λ verdict. verdict ≡ judged policy.now caller moment command.now facts.now) }
+    ensures laws { IfOk result (λ verdict. AnswersLawfully caller command.now facts.now verdict) }
+{
+    match verdict_on(alloc, facts, caller, command, moment, policy) {
+        Ok(verdict) => Ok(verdict),
+        Err(error) => Err(error),
+    }
+}
+
+#[tactic(auto, unfolding(crate::specs::Verdicts::judged))]
+fn verdict_on(
     alloc: Global,
     facts: &Facts,
     caller: RegistrarNo,
@@ -39,7 +56,7 @@ pub fn judge(
             Some(code) => Ok(refused(code)),
             None => Ok(Verdict {
                 code: Code::Completed,
-                content: tell(alloc, facts, caller, request, moment, policy)?,
+                content: response_data(alloc, facts, caller, request, moment, policy)?,
             }),
         },
     }
@@ -54,16 +71,14 @@ fn refused(code: Code) -> Verdict
     }
 }
 
-/// The code with which a well formed command is refused. Only the sponsor of an object changes or
-/// deletes it.
+/// The code with which a well formed command is refused.
 fn refusal_of(
     facts: &Facts,
     caller: RegistrarNo,
     request: &Request,
     policy: &Policy,
 ) -> Option<Code>
-    ensures code { result ≡ spec.refusal_of policy.now caller request.now facts.now }
-    ensures sponsor { spec.SponsorAlone caller request.now facts.now result }
+    ensures { result ≡ spec.refusal_of policy.now caller request.now facts.now }
 {
     let case = Case {
         facts,

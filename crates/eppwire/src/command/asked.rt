@@ -6,7 +6,7 @@ use names::GivenName;
 use objects::{Postal, Status};
 use std::alloc::{AllocError, Global};
 use std::test::Fail;
-use verdict::{Command, ContactUpdate, DomainLists, NewContact, Request};
+use protocol::{Command, ContactUpdate, DomainLists, NewContact, Request};
 
 fn asked(alloc: Global, payload: &str) -> Result<Option<Request>, AllocError> {
     match command_of(alloc, payload.as_bytes(), &zone(alloc)?)? {

@@ -4,7 +4,7 @@ use super::tests::zone;
 use names::Zone;
 use std::alloc::{AllocError, Global};
 use std::test::Fail;
-use verdict::{Code, Command};
+use protocol::{Code, Command};
 
 /// A member: what it begins with, what is in it so many times, its end; and the code that answers it
 /// before the rules are asked. Where the command has such a member before it, the last one counts.

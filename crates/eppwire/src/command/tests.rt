@@ -5,7 +5,7 @@ use basis::text::Text;
 use names::Zone;
 use std::alloc::{AllocError, Global};
 use std::test::Fail;
-use verdict::{Code, Command, Request};
+use protocol::{Code, Command, Request};
 
 /// The zone `test`, with `nic` reserved.
 pub(super) fn zone(alloc: Global) -> Result<Zone, AllocError> {

@@ -1,7 +1,7 @@
 use super::{order_bytes, order_of};
 use objects::{ObjectKind, Status};
 use std::test::Fail;
-use verdict::{Code, Order};
+use protocol::{Code, Order};
 
 const STRANGE: [&str; 13] = [
     "",

@@ -9,10 +9,7 @@ use objects::{
 };
 use std::alloc::{AllocError, Global};
 use std::test::Fail;
-use verdict::{
-    CheckResult, Code, ContactHidden, ContactInfo, Created, Data, DomainHidden, DomainInfo,
-    HostInfo, Reason, Reply, ServerTag, TransferInfo,
-};
+use protocol::{CheckResult, Code, ContactHidden, ContactInfo, Created, Data, DomainHidden, DomainInfo, HostInfo, Reason, Reply, ServerTag, TransferInfo};
 
 fn text(alloc: Global, text: &str) -> Result<Text, AllocError> {
     Text::from_str(alloc, text)

@@ -1,7 +1,5 @@
-use Rattle.std.proofs.Common.{arith}
-use Rattle.verdict.specs.Verdicts.{judged}
+use Rattle.verdict.proofs.LawLemmas.{answers-lawfully}
 use Rattle.verdict.proofs.verdict.judge.Goals as goal
 
-pub returns-in-Some : goal.returns-in-Some
-unfolding judged
-returns-in-Some c = grind (arith, c.refused-in-Some.ensures, c.in-Some.ensures.code, c.in-Asked.is)
+pub returns-in-Ok-clause-laws : goal.returns-in-Ok-clause-laws
+returns-in-Ok-clause-laws c = answers-lawfully c.args.policy.now c.args.caller c.args.moment c.args.command.now c.args.facts.now c.in-Ok.verdict c.in-Ok.ensures

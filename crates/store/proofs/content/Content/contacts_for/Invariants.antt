@@ -1,6 +1,6 @@
 use Rattle.std.proofs.Common.{◌≡◌, map, take}
 use Rattle.store.specs.Plain.{held}
-use Rattle.verdict.specs.Facts.{contact_facts, finds}
+use Rattle.facts.specs.Facts.{contact_facts, finds}
 use Rattle.store.proofs.content.Content.contacts_for.Given as goal
 
 abbrev pub invariant-loop-name : goal.invariant-loop-name

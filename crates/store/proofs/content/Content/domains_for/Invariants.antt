@@ -1,7 +1,7 @@
 use Rattle.std.proofs.Common.{◌≡◌, map, take}
 use Rattle.names.specs.GivenName.{name_of}
 use Rattle.store.specs.Plain.{held}
-use Rattle.verdict.specs.Facts.{domain_facts, finds}
+use Rattle.facts.specs.Facts.{domain_facts, finds}
 use Rattle.store.proofs.content.Content.domains_for.Given as goal
 
 abbrev pub invariant-loop-name : goal.invariant-loop-name

@@ -1,0 +1,160 @@
+-- The facts of a registry that bear on a command of a registrar.
+use Rattle.std.specs.Prelude.{ℕ, Bool, false, ◌&&◌, nat_le, List, [], map, filter, length, Option, Some, None, option_map, option_and_then, is_some, find, if◌then◌else◌}
+use Rattle.std.specs.FinMap.{get, keys, values}
+use Rattle.std.specs.List.{list_any}
+use Rattle.std.specs.Str.{bytes_eq}
+use Rattle.accounts.specs.declared.account.Account.{Account}
+use Rattle.names.specs.GivenName.{name_of}
+use Rattle.names.specs.Zone.{ZoneRules, last_two_of, superordinate_of}
+use Rattle.objects.specs.declared.contact.Contact.{Contact}
+use Rattle.objects.specs.declared.contact.ContactFace.{ContactFace}
+use Rattle.objects.specs.declared.domain.Domain.{Domain}
+use Rattle.objects.specs.declared.domain.DomainFace.{DomainFace}
+use Rattle.objects.specs.declared.host.Host.{Host}
+use Rattle.objects.specs.declared.sight.Seen.{Seen}
+use Rattle.objects.specs.Hosts.{is_below}
+use Rattle.objects.specs.Links.{names_contact, names_host}
+use Rattle.objects.specs.Sight.{contact_as, domain_as, is_party}
+use Rattle.protocol.specs.declared.command.Command.{Command}
+use Rattle.facts.specs.declared.facts.AccountFacts.{AccountFacts}
+use Rattle.facts.specs.declared.facts.ContactFacts.{ContactFacts}
+use Rattle.facts.specs.declared.facts.DomainFacts.{DomainFacts}
+use Rattle.facts.specs.declared.facts.HostFacts.{HostFacts}
+use Rattle.facts.specs.declared.facts.Superordinate.{Superordinate}
+use Rattle.facts.specs.declared.facts.Facts.{Facts}
+use Rattle.facts.specs.declared.facts.TheConstants.{HOLDING_LIMIT}
+use Rattle.model.specs.Registry.{Registry, account_of}
+use Rattle.protocol.specs.Requests.{adds_a_held_domain, asked, contacts_asked, domains_asked, hosts_asked, new_host_asked, presented, presented_contact, reads_associations, references_fail}
+
+-- ---- what is found in a registry
+
+-- the hosts below a domain
+abbrev pub subordinate : Registry → List ℕ → List (List ℕ)
+subordinate s domain = filter (is_below domain) (keys s.hosts)
+
+-- a contact or host is linked where some domain names it
+abbrev pub is_linked_contact : Registry → List ℕ → Bool
+is_linked_contact s name = list_any (λ d. names_contact name d.links) (values s.domains)
+
+abbrev pub is_linked_host : Registry → List ℕ → Bool
+is_linked_host s name = list_any (λ d. names_host name d.links) (values s.domains)
+
+-- how many domains a registrar sponsors, or gets by a pending transfer
+abbrev pub held : ℕ → Registry → ℕ
+held r s = length (filter (λ d. is_party r d.sponsor d.transfer) (values s.domains))
+
+-- of a domain, what its hosts hang on
+abbrev pub superordinate_of_domain : Domain → Superordinate
+superordinate_of_domain d = record { sponsor = d.sponsor; is_deleted = is_some d.deletion }
+
+-- what is found at names, by one who sees only that
+pub record Lookups : Type 0 where
+  pub account : Account
+  pub contact : List ℕ → Option (Seen Contact ContactFace)
+  pub domain : List ℕ → Option (Seen Domain DomainFace)
+  pub host : List ℕ → Option Host
+  pub superordinate : List ℕ → Option Superordinate
+  pub has_contact : List ℕ → Bool
+  pub has_host : List ℕ → Bool
+  pub contact_is_linked : List ℕ → Bool
+  pub host_is_linked : List ℕ → Bool
+  pub hosts_below : List ℕ → List (List ℕ)
+  pub domains_held : ℕ
+
+-- what a registrar lookups in a registry with a command
+abbrev pub lookups : ℕ → Command → Registry → Lookups
+lookups r c s = record {
+  account = account_of r s;
+  contact = λ name. option_map (contact_as r (presented_contact c name)) (get s.contacts name);
+  domain = λ name. option_map (domain_as r (presented c name)) (get s.domains name);
+  host = λ name. get s.hosts name;
+  superordinate = λ name. option_map superordinate_of_domain (get s.domains name);
+  has_contact = λ name. is_some (get s.contacts name);
+  has_host = λ name. is_some (get s.hosts name);
+  contact_is_linked = is_linked_contact s;
+  host_is_linked = is_linked_host s;
+  hosts_below = subordinate s;
+  domains_held = held r s;
+}
+
+-- ---- the facts
+
+abbrev pub account_facts : Account → AccountFacts
+account_facts a = record { commands = a.commands; serial = a.serial }
+
+abbrev pub contact_facts : Lookups → Command → List ℕ → ContactFacts
+contact_facts found c name = record {
+  name = name;
+  seen = found.contact name;
+  linked = asked false reads_associations c && found.contact_is_linked name;
+}
+
+abbrev pub domain_facts : Lookups → Command → List ℕ → DomainFacts
+domain_facts found c name = record {
+  name = name;
+  seen = found.domain name;
+  subordinate = if asked false reads_associations c then found.hosts_below name else [];
+}
+
+abbrev pub host_facts : Lookups → Command → List ℕ → HostFacts
+host_facts found c name = record {
+  name = name;
+  host = found.host name;
+  superordinate = option_and_then found.superordinate (last_two_of name);
+  linked = asked false reads_associations c && found.host_is_linked name;
+}
+
+-- the facts of a command, by what is found
+abbrev pub facts_by : Lookups → Command → Facts
+facts_by found c = record {
+  account = account_facts found.account;
+  contacts = map (contact_facts found c) (asked [] contacts_asked c);
+  domains = map (λ name. domain_facts found c (name_of name)) (asked [] domains_asked c);
+  hosts = map (λ name. host_facts found c (name_of name)) (asked [] hosts_asked c);
+  at_new_name = option_map (λ name. host_facts found c (name_of name)) (asked None new_host_asked c);
+  reference_missing = asked false (references_fail found.has_contact found.has_host) c;
+  holding_limit_reached = asked false adds_a_held_domain c && nat_le HOLDING_LIMIT found.domains_held;
+}
+
+-- the facts for a registrar's command
+abbrev pub facts : ℕ → Command → Registry → Facts
+facts r c s = facts_by (lookups r c s) c
+
+-- ---- what facts say
+
+abbrev pub contact_at : Facts → List ℕ → Option ContactFacts
+contact_at f name = find (λ known. bytes_eq known.name name) f.contacts
+
+abbrev pub domain_at : Facts → List ℕ → Option DomainFacts
+domain_at f name = find (λ known. bytes_eq known.name name) f.domains
+
+abbrev pub host_at : Facts → List ℕ → Option HostFacts
+host_at f name = find (λ known. bytes_eq known.name name) f.hosts
+
+-- what is seen at a name
+abbrev pub contact_seen : Facts → List ℕ → Option (Seen Contact ContactFace)
+contact_seen f name = option_and_then (λ known. known.seen) (contact_at f name)
+
+abbrev pub domain_seen : Facts → List ℕ → Option (Seen Domain DomainFace)
+domain_seen f name = option_and_then (λ known. known.seen) (domain_at f name)
+
+abbrev pub host_seen : Facts → List ℕ → Option Host
+host_seen f name = option_and_then (λ known. known.host) (host_at f name)
+
+-- the host that has the new name already
+abbrev pub new_name_seen : Facts → Option Host
+new_name_seen f = option_and_then (λ known. known.host) f.at_new_name
+
+-- ---- the sponsor of a host (RFC 5732, 1.1)
+
+abbrev pub or_else : {A : Type 0} → Option A → Option A → Option A
+or_else (Some x) other = Some x
+or_else None other = other
+
+-- of one in the zone, its superordinate domain's
+abbrev pub host_sponsor : HostFacts → Host → Option ℕ
+host_sponsor known h = or_else h.by (option_map (λ above. above.sponsor) known.superordinate)
+
+-- the name lies in the zone
+abbrev pub is_inside : ZoneRules → List ℕ → Bool
+is_inside zone name = is_some (superordinate_of zone name)

@@ -1,0 +1,14 @@
+//! What a command is judged by: the facts of a registry that bear on it, which hold nothing that its
+//! caller may not see, and the lists that it gives.
+#![tactic(auto)]
+
+mod facts;
+mod lists;
+
+pub use facts::{
+    AccountFacts, ContactFacts, DomainFacts, Facts, HOLDING_LIMIT, HostFacts, Superordinate,
+};
+pub use lists::{
+    Named, adds_what_is_there, amended_names, count_kept, has_status_twice, has_twice, is_over,
+    removes_what_is_not,
+};

@@ -1,0 +1,4 @@
+pub mod Registry
+pub mod Objects
+pub mod View
+pub mod WellFormed

@@ -1,0 +1,96 @@
+-- When a value of the registry's maps is a registry. What a registrar may learn is promised of every
+-- value, so no promise of that asks for this: it is what the steps of the registry keep.
+use Rattle.std.specs.Prelude.{◌≡◌, ◌≢◌, ℕ, ◌≤◌, true, false, List, Option, Some, None, IsSome, ◌↔◌}
+use Rattle.std.specs.FinMap.{get}
+use Rattle.names.specs.Zone.{superordinate_of}
+use Rattle.objects.specs.declared.contact.Contact.{Contact}
+use Rattle.objects.specs.declared.domain.Domain.{Domain}
+use Rattle.objects.specs.declared.domain.Deletion.{Deletion}
+use Rattle.objects.specs.declared.host.Host.{Host}
+use Rattle.objects.specs.declared.roid.ObjectKind.{ObjectKind}
+use Rattle.objects.specs.declared.roid.ObjectKind.TheVariants as kinds
+use Rattle.objects.specs.declared.roid.Roid.{Roid}
+use Rattle.objects.specs.declared.transfer.Transfer.{Transfer}
+use Rattle.objects.specs.Links.{names_contact, names_host}
+use Rattle.objects.specs.Transfers.{is_pending, is_pending_state}
+use Rattle.policy.specs.Rules.{PolicyRules, IsPlace}
+use Rattle.model.specs.Registry.{Registry, account_of}
+
+-- the ROID of an object of this kind: its creator's own number for it (RFC 5730, 2.8)
+pub record HasRoid (p : PolicyRules) (s : Registry) (kind : ObjectKind) (roid : Roid) : Type 0 where
+  pub kind_is : roid.kind ≡ kind
+  pub creator : IsPlace p roid.creator
+  pub serial : roid.serial ≤ (account_of roid.creator s).serial
+
+-- a moment that is kept has been
+abbrev pub HasBeen : Registry → Option ℕ → Type 0
+HasBeen s None = Unit {0}
+HasBeen s (Some moment) = moment ≤ s.clock
+
+-- a transfer lies between two registrars of the policy, and one that isn't pending has ended
+pub record IsTransfer (p : PolicyRules) (s : Registry) (t : Transfer) : Type 0 where
+  pub requester : IsPlace p t.requester
+  pub loser : IsPlace p t.loser
+  pub requested : t.requested ≤ s.clock
+  pub acted : is_pending_state t.state ≡ false → t.acted ≤ s.clock
+
+abbrev pub IsLastTransfer : PolicyRules → Registry → Option Transfer → Type 0
+IsLastTransfer p s None = Unit {0}
+IsLastTransfer p s (Some t) = IsTransfer p s t
+
+-- a deleted domain has neither subordinate hosts nor a pending transfer (RFC 5731, 3.2.2)
+pub record IsDeleted (p : PolicyRules) (s : Registry) (d : Domain) (deletion : Deletion) : Type 0 where
+  pub deleted : deletion.deleted ≤ s.clock
+  pub requested : HasBeen s deletion.restore_requested
+  pub hosts : (host : List ℕ) → IsSome (get s.hosts host) → superordinate_of p.zone host ≢ Some d.name
+  pub transfer : is_pending d.transfer ≡ false
+
+abbrev pub IsDeletion : PolicyRules → Registry → Domain → Option Deletion → Type 0
+IsDeletion p s d None = Unit {0}
+IsDeletion p s d (Some deletion) = IsDeleted p s d deletion
+
+pub record IsContactOf (p : PolicyRules) (s : Registry) (name : List ℕ) (c : Contact) : Type 0 where
+  pub named : c.name ≡ name
+  pub roid : HasRoid p s kinds.Contact c.roid
+  pub sponsor : IsPlace p c.sponsor
+  pub created : c.created ≤ s.clock
+  pub transferred : HasBeen s c.transferred
+  pub updated : HasBeen s c.updated
+  pub transfer : IsLastTransfer p s c.transfer
+
+-- a host in the zone has its superordinate domain, and no registrar of its own (RFC 5732, 1.1)
+abbrev pub BelongsTo : PolicyRules → Registry → Option (List ℕ) → Option ℕ → Type 0
+BelongsTo p s (Some domain) by = IsSome (get s.domains domain) × (by ≡ None)
+BelongsTo p s None None = ⊥
+BelongsTo p s None (Some registrar) = IsPlace p registrar
+
+pub record IsHostOf (p : PolicyRules) (s : Registry) (name : List ℕ) (h : Host) : Type 0 where
+  pub named : h.name ≡ name
+  pub roid : HasRoid p s kinds.Host h.roid
+  pub belongs : BelongsTo p s (superordinate_of p.zone name) h.by
+  pub created : h.created ≤ s.clock
+  pub updated : HasBeen s h.updated
+
+-- a domain names only contacts and hosts that are there (RFC 5731, 3.2.1)
+pub record IsDomainOf (p : PolicyRules) (s : Registry) (name : List ℕ) (d : Domain) : Type 0 where
+  pub named : d.name ≡ name
+  pub roid : HasRoid p s kinds.Domain d.roid
+  pub sponsor : IsPlace p d.sponsor
+  pub created : d.created ≤ s.clock
+  pub transferred : HasBeen s d.transferred
+  pub updated : HasBeen s d.updated
+  pub transfer : IsLastTransfer p s d.transfer
+  pub deletion : IsDeletion p s d d.deletion
+  pub contacts : (contact : List ℕ) → names_contact contact d.links ≡ true → IsSome (get s.contacts contact)
+  pub hosts : (host : List ℕ) → names_host host d.links ≡ true → IsSome (get s.hosts host)
+
+-- Exactly the policy's registrars have accounts, each object stands under its name, domains name what
+-- is there, and no two objects of a kind share a ROID.
+pub record IsRegistry (p : PolicyRules) (s : Registry) : Type 0 where
+  pub accounts : (r : ℕ) → IsSome (get s.accounts r) ↔ IsPlace p r
+  pub contacts : (name : List ℕ) (c : Contact) → get s.contacts name ≡ Some c → IsContactOf p s name c
+  pub hosts : (name : List ℕ) (h : Host) → get s.hosts name ≡ Some h → IsHostOf p s name h
+  pub domains : (name : List ℕ) (d : Domain) → get s.domains name ≡ Some d → IsDomainOf p s name d
+  pub contact_roids : (a b : List ℕ) (x y : Contact) → get s.contacts a ≡ Some x → get s.contacts b ≡ Some y → x.roid ≡ y.roid → a ≡ b
+  pub host_roids : (a b : List ℕ) (x y : Host) → get s.hosts a ≡ Some x → get s.hosts b ≡ Some y → x.roid ≡ y.roid → a ≡ b
+  pub domain_roids : (a b : List ℕ) (x y : Domain) → get s.domains a ≡ Some x → get s.domains b ≡ Some y → x.roid ≡ y.roid → a ≡ b

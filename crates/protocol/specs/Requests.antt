@@ -1,0 +1,195 @@
+-- What each command asks: the objects that it acts on, what they are to name, the secret that it
+-- presents, and what of the registry it has to know.
+use Rattle.std.specs.Prelude.{ℕ, Bool, true, false, not, ◌||◌, List, [], ◌∷◌, Option, Some, None, if◌then◌else◌}
+use Rattle.std.specs.List.{list_any, slice_get}
+use Rattle.std.specs.Str.{bytes_eq}
+use Rattle.names.specs.declared.given.GivenName.{GivenName}
+use Rattle.names.specs.GivenName.{name_of}
+use Rattle.objects.specs.declared.status.Status.{Status}
+use Rattle.protocol.specs.declared.lists.Lists.{Lists}
+use Rattle.protocol.specs.declared.command.Action.{Action}
+use Rattle.protocol.specs.declared.command.Action.TheVariants.{Check, Info, Create, Delete, Update}
+use Rattle.protocol.specs.declared.command.Command.{Command}
+use Rattle.protocol.specs.declared.command.Command.TheVariants.{Bad, Asked}
+use Rattle.protocol.specs.declared.command.DomainLists.{DomainLists}
+use Rattle.protocol.specs.declared.command.HostLists.{HostLists}
+use Rattle.protocol.specs.declared.command.HostUpdate.{HostUpdate}
+use Rattle.protocol.specs.declared.command.Request.{Request}
+use Rattle.protocol.specs.declared.command.Request.TheVariants.{CheckContact, CheckDomain, CheckHost, InfoContact, InfoDomain, InfoHost, CreateContact, CreateDomain, CreateHost, DeleteContact, DeleteHost, UpdateContact, UpdateDomain, UpdateHost}
+
+-- a test of what is there, if it is
+abbrev pub holds_of : {A : Type 0} → (A → Bool) → Option A → Bool
+holds_of test None = false
+holds_of test (Some x) = test x
+
+-- ---- the client's identifier
+
+-- the client's own identifier of the command, which the reply repeats (RFC 5730, 2.5)
+abbrev pub cl_trid_of : Command → Option (List ℕ)
+cl_trid_of (Bad cl_trid code) = cl_trid
+cl_trid_of (Asked cl_trid request) = cl_trid
+
+-- what a well formed command asks, or nothing
+abbrev pub asked : {A : Type 0} → A → (Request → A) → Command → A
+asked none ask (Bad cl_trid code) = none
+asked none ask (Asked cl_trid request) = ask request
+
+-- ---- what each command asks
+
+-- the lists that a command gives: what an object is to have, or to have no longer
+pub record GivenLists : Type 0 where
+  pub hosts : List GivenName
+  pub admin : List (List ℕ)
+  pub tech : List (List ℕ)
+  pub addresses : List (List ℕ)
+  pub statuses : List Status
+
+abbrev pub no_lists : GivenLists
+no_lists = record { hosts = []; admin = []; tech = []; addresses = []; statuses = [] }
+
+abbrev pub of_domain : DomainLists → GivenLists
+of_domain lists = record no_lists { hosts = lists.hosts; admin = lists.admin; tech = lists.tech; statuses = lists.statuses }
+
+abbrev pub of_host : HostLists → GivenLists
+of_host lists = record no_lists { addresses = lists.addresses; statuses = lists.statuses }
+
+-- What a command does, the contacts, domains and hosts that it acts on, the name that a host is to have, the
+-- registrant that a domain is to have, what its object is to have and to have no longer, the secret
+-- that is presented for it, whether the command has to know what domains name and which hosts lie
+-- below one, and whether it gives its registrar one domain more to hold.
+pub record Asks : Type 0 where
+  pub action : Action
+  pub contacts : List (List ℕ)
+  pub domains : List GivenName
+  pub hosts : List GivenName
+  pub new_host : Option GivenName
+  pub registrant : Option (List ℕ)
+  pub adds : GivenLists
+  pub removes : GivenLists
+  pub secret : Option (List ℕ)
+  pub reads_associations : Bool
+  pub adds_a_held_domain : Bool
+
+abbrev only : Action → Asks
+only action = record {
+  action = action;
+  contacts = [];
+  domains = [];
+  hosts = [];
+  new_host = None;
+  registrant = None;
+  adds = no_lists;
+  removes = no_lists;
+  secret = None;
+  reads_associations = false;
+  adds_a_held_domain = false;
+}
+
+-- Info shows, and a delete is refused by, what hangs on the object (RFC 5731 to 5733, 3.1.2, 3.2.2).
+abbrev pub asks_of : Request → Asks
+asks_of (CheckContact names) = record (only Check) { contacts = names }
+asks_of (CheckDomain names) = record (only Check) { domains = names }
+asks_of (CheckHost names) = record (only Check) { hosts = names }
+asks_of (InfoContact name secret) = record (only Info) { contacts = name ∷ []; secret = secret; reads_associations = true }
+asks_of (InfoDomain name secret) = record (only Info) { domains = name ∷ []; secret = secret; reads_associations = true }
+asks_of (InfoHost name) = record (only Info) { hosts = name ∷ []; reads_associations = true }
+asks_of (CreateContact new) = record (only Create) { contacts = new.name ∷ [] }
+asks_of (CreateDomain new) = record (only Create) {
+  domains = new.name ∷ [];
+  registrant = Some new.registrant;
+  adds = record no_lists { hosts = new.hosts; admin = new.admin; tech = new.tech };
+  adds_a_held_domain = true;
+}
+asks_of (CreateHost new) = record (only Create) { hosts = new.name ∷ []; adds = record no_lists { addresses = new.addresses } }
+asks_of (DeleteContact name) = record (only Delete) { contacts = name ∷ []; reads_associations = true }
+asks_of (DeleteHost name) = record (only Delete) { hosts = name ∷ []; reads_associations = true }
+asks_of (UpdateContact update) = record (only Update) {
+  contacts = update.name ∷ [];
+  adds = record no_lists { statuses = update.add };
+  removes = record no_lists { statuses = update.rem };
+}
+asks_of (UpdateDomain update) = record (only Update) {
+  domains = update.name ∷ [];
+  registrant = update.registrant;
+  adds = of_domain update.add;
+  removes = of_domain update.rem;
+}
+asks_of (UpdateHost update) = record (only Update) {
+  hosts = update.name ∷ [];
+  new_host = update.new_name;
+  adds = of_host update.add;
+  removes = of_host update.rem;
+}
+
+abbrev pub contacts_asked : Request → List (List ℕ)
+contacts_asked request = (asks_of request).contacts
+
+abbrev pub domains_asked : Request → List GivenName
+domains_asked request = (asks_of request).domains
+
+abbrev pub hosts_asked : Request → List GivenName
+hosts_asked request = (asks_of request).hosts
+
+-- the name that a host is to have
+abbrev pub new_host_asked : Request → Option GivenName
+new_host_asked request = (asks_of request).new_host
+
+abbrev pub reads_associations : Request → Bool
+reads_associations request = (asks_of request).reads_associations
+
+abbrev pub adds_a_held_domain : Request → Bool
+adds_a_held_domain request = (asks_of request).adds_a_held_domain
+
+-- a contact or host that a domain is to name from now on fails its test
+abbrev pub any_reference_fails : (List ℕ → Bool) → (List ℕ → Bool) → Asks → Bool
+any_reference_fails contact host asks =
+    holds_of (λ name. not (contact name)) asks.registrant
+    || (list_any (λ name. not (contact name)) asks.adds.admin || (list_any (λ name. not (contact name)) asks.adds.tech
+    || list_any (λ name. not (host (name_of name))) asks.adds.hosts))
+
+abbrev pub references_fail : (List ℕ → Bool) → (List ℕ → Bool) → Request → Bool
+references_fail contact host request = any_reference_fails contact host (asks_of request)
+
+-- the lists, as a body has them
+abbrev pub lists_of : Lists → GivenLists
+lists_of lists = record {
+  hosts = lists.hosts.now;
+  admin = lists.admin.now;
+  tech = lists.tech.now;
+  addresses = lists.addresses.now;
+  statuses = lists.statuses.now;
+}
+
+-- ---- the secret that is presented
+
+-- the secret that is presented for the object of a name: there is one of that name
+abbrev pub presented_at : {A : Type 0} → (A → List ℕ) → List A → Option (List ℕ) → List ℕ → Option (List ℕ)
+presented_at text names secret name = if holds_of (λ first. bytes_eq (text first) name) (slice_get names 0) then secret else None
+
+abbrev itself : List ℕ → List ℕ
+itself text = text
+
+-- for a domain
+abbrev pub domain_secret_asked : Request → List ℕ → Option (List ℕ)
+domain_secret_asked request domain = presented_at name_of (domains_asked request) (asks_of request).secret domain
+
+-- for a contact
+abbrev pub contact_secret_asked : Request → List ℕ → Option (List ℕ)
+contact_secret_asked request contact = presented_at itself (contacts_asked request) (asks_of request).secret contact
+
+-- a command's, for a domain
+abbrev pub presented : Command → List ℕ → Option (List ℕ)
+presented (Bad cl_trid code) domain = None
+presented (Asked cl_trid request) domain = domain_secret_asked request domain
+
+-- a command's, for a contact
+abbrev pub presented_contact : Command → List ℕ → Option (List ℕ)
+presented_contact (Bad cl_trid code) contact = None
+presented_contact (Asked cl_trid request) contact = contact_secret_asked request contact
+
+-- ---- updates
+
+-- the name that a host has after an update
+abbrev pub final_name : HostUpdate → Option GivenName → List ℕ
+final_name update None = name_of update.name
+final_name update (Some name) = name_of name

@@ -1,0 +1,399 @@
+//! What a registrar asks.
+ghost use Rattle.std.specs.Prelude.{◌≡◌, [], None, Some, false};
+ghost use Rattle.std.specs.Option.{option_copied};
+ghost use Rattle.protocol.specs.Requests as spec;
+
+use crate::code::Code;
+use basis::list::Seq;
+use basis::text::Text;
+use names::GivenName;
+use objects::{Postal, Status};
+use std::slice;
+
+/// A registrar's command, with the identifier of its own that the reply repeats (`clTRID`).
+#[derive(Drop)]
+pub enum Command {
+    /// A payload whose form is refused.
+    Bad { cl_trid: Option<Text>, code: Code },
+    /// A well formed command.
+    Asked { cl_trid: Option<Text>, request: Request },
+}
+
+/// What a command does with its object (RFC 5730, 2.9).
+#[derive(Clone, Copy, Drop)]
+pub enum Action {
+    Check,
+    Info,
+    Create,
+    Delete,
+    Update,
+}
+
+/// What a well formed command asks for.
+#[derive(Drop)]
+pub enum Request {
+    /// Which of the names could be created (RFC 5733, 3.1.1).
+    CheckContact {
+        names: Seq<Text>,
+    },
+    /// Which of the names could be created (RFC 5731, 3.1.1).
+    CheckDomain {
+        names: Seq<GivenName>,
+    },
+    /// Which of the names could be created (RFC 5732, 3.1.1).
+    CheckHost {
+        names: Seq<GivenName>,
+    },
+    /// What a contact is (RFC 5733, 3.1.2), with its secret where that is presented.
+    InfoContact {
+        name: Text,
+        secret: Option<Text>,
+    },
+    /// What a domain is (RFC 5731, 3.1.2), with its secret where that is presented.
+    InfoDomain {
+        name: GivenName,
+        secret: Option<Text>,
+    },
+    /// What a host is (RFC 5732, 3.1.2).
+    InfoHost {
+        name: GivenName,
+    },
+    /// A new contact (RFC 5733, 3.2.1).
+    CreateContact(NewContact),
+    /// A new domain (RFC 5731, 3.2.1).
+    CreateDomain(NewDomain),
+    /// A new host (RFC 5732, 3.2.1).
+    CreateHost(NewHost),
+    /// A contact is to go (RFC 5733, 3.2.2).
+    DeleteContact {
+        name: Text,
+    },
+    /// A host is to go (RFC 5732, 3.2.2).
+    DeleteHost {
+        name: GivenName,
+    },
+    /// A contact is to change (RFC 5733, 3.2.5).
+    UpdateContact(ContactUpdate),
+    /// A domain is to change (RFC 5731, 3.2.5).
+    UpdateDomain(DomainUpdate),
+    /// A host is to change (RFC 5732, 3.2.5).
+    UpdateHost(HostUpdate),
+}
+
+/// What a new contact is to have.
+#[derive(Drop)]
+pub struct NewContact {
+    pub name: Text,
+    pub postal: Postal,
+    pub voice: Option<Text>,
+    pub mail: Text,
+    pub secret: Text,
+}
+
+/// What a new domain is to have. The lists stand as they were sent.
+#[derive(Drop)]
+pub struct NewDomain {
+    pub name: GivenName,
+    pub years: u32,
+    pub registrant: Text,
+    pub admin: Seq<Text>,
+    pub tech: Seq<Text>,
+    pub hosts: Seq<GivenName>,
+    pub secret: Text,
+}
+
+/// What a new host is to have. The addresses stand as they were sent, in canonical text.
+#[derive(Drop)]
+pub struct NewHost {
+    pub name: GivenName,
+    pub addresses: Seq<Text>,
+}
+
+/// What of a contact is to change. What isn't given stays.
+#[derive(Drop)]
+pub struct ContactUpdate {
+    pub name: Text,
+    /// Statuses to set.
+    pub add: Seq<Status>,
+    /// Statuses to take away.
+    pub rem: Seq<Status>,
+    pub postal: Option<Postal>,
+    pub voice: Option<Text>,
+    pub mail: Option<Text>,
+    pub secret: Option<Text>,
+}
+
+/// What of a domain is to change. What isn't given stays.
+#[derive(Drop)]
+pub struct DomainUpdate {
+    pub name: GivenName,
+    pub add: DomainLists,
+    pub rem: DomainLists,
+    pub registrant: Option<Text>,
+    pub secret: Option<Text>,
+}
+
+/// What an update adds to the lists of a domain, or removes from them, as it was sent.
+#[derive(Drop)]
+pub struct DomainLists {
+    pub hosts: Seq<GivenName>,
+    pub admin: Seq<Text>,
+    pub tech: Seq<Text>,
+    pub statuses: Seq<Status>,
+}
+
+/// What of a host is to change. What isn't given stays.
+#[derive(Drop)]
+pub struct HostUpdate {
+    pub name: GivenName,
+    pub add: HostLists,
+    pub rem: HostLists,
+    pub new_name: Option<GivenName>,
+}
+
+/// What an update adds to the lists of a host, or removes from them, as it was sent: addresses in
+/// canonical text.
+#[derive(Drop)]
+pub struct HostLists {
+    pub addresses: Seq<Text>,
+    pub statuses: Seq<Status>,
+}
+
+impl Request {
+    /// What it does with its object.
+    pub fn action(&self) -> Action
+        ensures { result ≡ (spec.asks_of self.now).action }
+    {
+        match self {
+            Request::CheckContact { .. }
+            | Request::CheckDomain { .. }
+            | Request::CheckHost { .. } => Action::Check,
+            Request::InfoContact { .. }
+            | Request::InfoDomain { .. }
+            | Request::InfoHost { .. } => Action::Info,
+            Request::CreateContact(_) | Request::CreateDomain(_) | Request::CreateHost(_) => {
+                Action::Create
+            }
+            Request::DeleteContact { .. } | Request::DeleteHost { .. } => Action::Delete,
+            Request::UpdateContact(_) | Request::UpdateDomain(_) | Request::UpdateHost(_) => {
+                Action::Update
+            }
+        }
+    }
+
+    /// The contacts that it acts on.
+    pub fn contacts(&self) -> &[Text]
+        ensures { result.now ≡ spec.contacts_asked self.now }
+    {
+        match self {
+            Request::CheckContact { names } => names.as_slice(),
+            Request::InfoContact { name, .. } => slice::from_ref(name),
+            Request::CreateContact(new) => slice::from_ref(&new.name),
+            Request::DeleteContact { name } => slice::from_ref(name),
+            Request::UpdateContact(update) => slice::from_ref(&update.name),
+            _ => &[],
+        }
+    }
+
+    /// The domains that it acts on.
+    pub fn domains(&self) -> &[GivenName]
+        ensures { result.now ≡ spec.domains_asked self.now }
+    {
+        match self {
+            Request::CheckDomain { names } => names.as_slice(),
+            Request::InfoDomain { name, .. } => slice::from_ref(name),
+            Request::CreateDomain(new) => slice::from_ref(&new.name),
+            Request::UpdateDomain(update) => slice::from_ref(&update.name),
+            _ => &[],
+        }
+    }
+
+    /// The hosts that it acts on.
+    pub fn hosts(&self) -> &[GivenName]
+        ensures { result.now ≡ spec.hosts_asked self.now }
+    {
+        match self {
+            Request::CheckHost { names } => names.as_slice(),
+            Request::InfoHost { name } => slice::from_ref(name),
+            Request::CreateHost(new) => slice::from_ref(&new.name),
+            Request::DeleteHost { name } => slice::from_ref(name),
+            Request::UpdateHost(update) => slice::from_ref(&update.name),
+            _ => &[],
+        }
+    }
+
+    /// The name that a host is to have.
+    pub fn new_host(&self) -> Option<&GivenName>
+        ensures { option_copied result ≡ spec.new_host_asked self.now }
+    {
+        match self {
+            Request::UpdateHost(update) => update.new_name.as_ref(),
+            _ => None,
+        }
+    }
+
+    /// The registrant that a domain is to have.
+    pub fn registrant(&self) -> Option<&Text>
+        ensures { option_copied result ≡ (spec.asks_of self.now).registrant }
+    {
+        match self {
+            Request::CreateDomain(new) => Some(&new.registrant),
+            Request::UpdateDomain(update) => update.registrant.as_ref(),
+            _ => None,
+        }
+    }
+
+    /// The secret that it presents.
+    pub fn secret(&self) -> Option<&Text>
+        ensures { option_copied result ≡ (spec.asks_of self.now).secret }
+    {
+        match self {
+            Request::InfoContact { secret, .. } => secret.as_ref(),
+            Request::InfoDomain { secret, .. } => secret.as_ref(),
+            _ => None,
+        }
+    }
+
+    /// Whether it has to know what domains name, or which hosts lie below one.
+    fn reads_associations(&self) -> bool
+        ensures { result ≡ spec.reads_associations self.now }
+    {
+        matches!(
+            self,
+            Request::InfoContact { .. }
+                | Request::InfoDomain { .. }
+                | Request::InfoHost { .. }
+                | Request::DeleteContact { .. }
+                | Request::DeleteHost { .. }
+        )
+    }
+
+    /// Whether it gives the registrar one domain more to hold.
+    fn adds_a_held_domain(&self) -> bool
+        ensures { result ≡ spec.adds_a_held_domain self.now }
+    {
+        matches!(self, Request::CreateDomain(_))
+    }
+
+    /// The secret that it presents for a domain.
+    fn presented(&self, domain: &Text) -> Option<&Text>
+        ensures { option_copied result ≡ spec.domain_secret_asked self.now domain.now }
+    {
+        match self.domains().first() {
+            Some(name) if *name.text() == *domain => self.secret(),
+            _ => None,
+        }
+    }
+
+    /// The secret that it presents for a contact.
+    fn presented_for_contact(&self, contact: &Text) -> Option<&Text>
+        ensures { option_copied result ≡ spec.contact_secret_asked self.now contact.now }
+    {
+        match self.contacts().first() {
+            Some(name) if *name == *contact => self.secret(),
+            _ => None,
+        }
+    }
+}
+
+impl Command {
+    /// The command's own identifier.
+    pub fn cl_trid(&self) -> &Option<Text>
+        ensures { result.now ≡ spec.cl_trid_of self.now }
+    {
+        match self {
+            Command::Bad { cl_trid, .. } => cl_trid,
+            Command::Asked { cl_trid, .. } => cl_trid,
+        }
+    }
+
+    /// What a well formed command asks for.
+    pub fn request(&self) -> Option<&Request>
+        ensures { option_copied result ≡ spec.asked None (λ request. Some request) self.now }
+    {
+        match self {
+            Command::Bad { .. } => None,
+            Command::Asked { request, .. } => Some(request),
+        }
+    }
+
+    /// The contacts that it acts on.
+    pub fn contacts(&self) -> &[Text]
+        ensures { result.now ≡ spec.asked [] spec.contacts_asked self.now }
+    {
+        match self {
+            Command::Bad { .. } => &[],
+            Command::Asked { request, .. } => request.contacts(),
+        }
+    }
+
+    /// The domains that it acts on.
+    pub fn domains(&self) -> &[GivenName]
+        ensures { result.now ≡ spec.asked [] spec.domains_asked self.now }
+    {
+        match self {
+            Command::Bad { .. } => &[],
+            Command::Asked { request, .. } => request.domains(),
+        }
+    }
+
+    /// The hosts that it acts on.
+    pub fn hosts(&self) -> &[GivenName]
+        ensures { result.now ≡ spec.asked [] spec.hosts_asked self.now }
+    {
+        match self {
+            Command::Bad { .. } => &[],
+            Command::Asked { request, .. } => request.hosts(),
+        }
+    }
+
+    /// The name that a host is to have.
+    pub fn new_host(&self) -> Option<&GivenName>
+        ensures { option_copied result ≡ spec.asked None spec.new_host_asked self.now }
+    {
+        match self {
+            Command::Bad { .. } => None,
+            Command::Asked { request, .. } => request.new_host(),
+        }
+    }
+
+    /// Whether it has to know what domains name, or which hosts lie below one.
+    pub fn reads_associations(&self) -> bool
+        ensures { result ≡ spec.asked false spec.reads_associations self.now }
+    {
+        match self {
+            Command::Bad { .. } => false,
+            Command::Asked { request, .. } => request.reads_associations(),
+        }
+    }
+
+    /// Whether it gives the registrar one domain more to hold.
+    pub fn adds_a_held_domain(&self) -> bool
+        ensures { result ≡ spec.asked false spec.adds_a_held_domain self.now }
+    {
+        match self {
+            Command::Bad { .. } => false,
+            Command::Asked { request, .. } => request.adds_a_held_domain(),
+        }
+    }
+
+    /// The secret that it presents for a domain.
+    pub fn presented(&self, domain: &Text) -> Option<&Text>
+        ensures { option_copied result ≡ spec.presented self.now domain.now }
+    {
+        match self {
+            Command::Bad { .. } => None,
+            Command::Asked { request, .. } => request.presented(domain),
+        }
+    }
+
+    /// The secret that it presents for a contact.
+    pub fn presented_for_contact(&self, contact: &Text) -> Option<&Text>
+        ensures { option_copied result ≡ spec.presented_contact self.now contact.now }
+    {
+        match self {
+            Command::Bad { .. } => None,
+            Command::Asked { request, .. } => request.presented_for_contact(contact),
+        }
+    }
+}

@@ -1,0 +1,21 @@
+//! What registrars and the operator ask, and what they are answered, as plain records: commands
+//! (RFC 5730 to 5733), orders, result codes (RFC 5730, 3) and replies.
+#![tactic(auto)]
+
+mod code;
+mod command;
+mod lists;
+mod order;
+mod reply;
+
+pub use code::Code;
+pub use command::{
+    Action, Command, ContactUpdate, DomainLists, DomainUpdate, HostLists, HostUpdate, NewContact,
+    NewDomain, NewHost, Request,
+};
+pub use lists::{Lists, MOST_ADDRESSES, MOST_CONTACTS, MOST_HOSTS};
+pub use order::{Order, StatusOrder};
+pub use reply::{
+    CheckResult, ContactHidden, ContactInfo, Created, Data, DomainHidden, DomainInfo, HostInfo,
+    Reason, Reply, SvTrid, TransferInfo,
+};

@@ -1,0 +1,118 @@
+//! What a reply says, as plain records.
+
+use crate::code::Code;
+use basis::list::Seq;
+use basis::text::Text;
+use calendar::Moment;
+use objects::{ContactFace, Deletion, DomainFace, HostFace, Postal, Transfer};
+
+/// A reply to a command.
+#[derive(Drop)]
+pub struct Reply {
+    /// The command's own identifier (`clTRID`), where it was sent well formed.
+    pub cl_trid: Option<Text>,
+    pub code: Code,
+    pub content: Option<Data>,
+    pub sv_trid: SvTrid,
+}
+
+/// The registry's identifier of a command (`svTRID`): the caller's id and the number of its command.
+#[derive(Drop)]
+pub struct SvTrid {
+    pub id: Text,
+    pub number: u64,
+}
+
+/// What a reply tells beside its code.
+#[derive(Drop)]
+pub enum Data {
+    /// In the order in which the names were sent.
+    Checked(Seq<CheckResult>),
+    Created(Created),
+    Contact(ContactInfo),
+    Domain(DomainInfo),
+    Host(HostInfo),
+}
+
+/// Whether a name could be created: it could where there is no reason against it.
+#[derive(Drop)]
+pub struct CheckResult {
+    pub name: Text,
+    pub reason: Option<Reason>,
+}
+
+/// Why a name can't be created.
+#[derive(Clone, Copy, Debug, PartialEq, Eq, Drop)]
+pub enum Reason {
+    /// The zone refuses such names.
+    Policy,
+    /// There is such an object.
+    InUse,
+}
+
+/// A new object. Expiry and charge are a domain's alone.
+#[derive(Drop)]
+pub struct Created {
+    pub name: Text,
+    pub created: Moment,
+    pub expires: Option<Moment>,
+    /// In whole cents.
+    pub charge: Option<u64>,
+}
+
+/// What info tells of a contact.
+#[derive(Drop)]
+pub struct ContactInfo {
+    /// With `linked` among its statuses while a domain names it.
+    pub face: ContactFace,
+    /// The sponsor's id.
+    pub sponsor: Text,
+    pub hidden: Option<ContactHidden>,
+}
+
+/// What the face of a contact leaves out.
+#[derive(Drop)]
+pub struct ContactHidden {
+    /// Told to the sponsor alone.
+    pub secret: Option<Text>,
+    pub postal: Postal,
+    pub voice: Option<Text>,
+    pub mail: Text,
+    pub transfer: Option<TransferInfo>,
+}
+
+/// What info tells of a host.
+#[derive(Drop)]
+pub struct HostInfo {
+    pub face: HostFace,
+    /// The sponsor's id.
+    pub sponsor: Text,
+}
+
+/// What info tells of a domain.
+#[derive(Drop)]
+pub struct DomainInfo {
+    pub face: DomainFace,
+    /// The sponsor's id.
+    pub sponsor: Text,
+    /// The hosts below the domain.
+    pub subordinate: Seq<Text>,
+    pub hidden: Option<DomainHidden>,
+}
+
+/// What the face of a domain leaves out.
+#[derive(Drop)]
+pub struct DomainHidden {
+    /// Told to the sponsor alone.
+    pub secret: Option<Text>,
+    pub transfer: Option<TransferInfo>,
+    pub deletion: Option<Deletion>,
+}
+
+/// The last transfer of an object, with the ids of both sides.
+#[derive(Drop)]
+pub struct TransferInfo {
+    pub transfer: Transfer,
+    pub requester: Text,
+    pub losing_registrar: Text,
+}

@@ -1,6 +1,0 @@
-use Rattle.std.proofs.Common.{◌≡◌, ◌++◌, map, take}
-use Rattle.verdict.specs.Lists.{kept}
-use Rattle.verdict.proofs.named.amended_names.Given as goal
-
-abbrev pub invariant-loop-item : goal.invariant-loop-item
-invariant-loop-item g l = l.names.items ≡ kept g.T.Named.name l.old l.removed ++ map g.T.Named.name (take l.item-index l.added)

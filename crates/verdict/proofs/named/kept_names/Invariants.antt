@@ -1,6 +1,0 @@
-use Rattle.std.proofs.Common.{◌≡◌, ◌++◌, drop}
-use Rattle.verdict.specs.Lists.{kept}
-use Rattle.verdict.proofs.named.kept_names.Given as goal
-
-abbrev pub invariant-loop-name : goal.invariant-loop-name
-invariant-loop-name g l = l.names.items ++ kept g.T.Named.name (drop l.name-index l.old) l.removed ≡ kept g.T.Named.name l.old l.removed

@@ -1,0 +1,162 @@
+-- What an accepted command is told (RFC 5731 to 5733, 3.1 and 3.2).
+use Rattle.std.specs.Prelude.{ℕ, Bool, List, [], map, Option, Some, None, is_some, option_map, option_and_then, unwrap_or, if◌then◌else◌, ◌==◌}
+use Rattle.calendar.specs.Moment.{plus_years, capped}
+use Rattle.names.specs.declared.given.GivenName.{GivenName}
+use Rattle.names.specs.GivenName.{name_of, is_refused}
+use Rattle.objects.specs.declared.contact.Contact.{Contact}
+use Rattle.objects.specs.declared.contact.ContactFace.{ContactFace}
+use Rattle.objects.specs.declared.domain.Domain.{Domain}
+use Rattle.objects.specs.declared.domain.DomainFace.{DomainFace}
+use Rattle.objects.specs.declared.host.Host.{Host}
+use Rattle.objects.specs.declared.sight.Seen.{Seen}
+use Rattle.objects.specs.declared.sight.Seen.TheVariants.{Full, Named, Public}
+use Rattle.objects.specs.declared.transfer.Transfer.{Transfer}
+use Rattle.objects.specs.Contacts.{contact_face_of}
+use Rattle.objects.specs.Domains.{face_of}
+use Rattle.objects.specs.Hosts.{host_face_of}
+use Rattle.objects.specs.Sight.{is_right}
+use Rattle.objects.specs.Statuses.{with_linked}
+use Rattle.policy.specs.Rules.{PolicyRules, id_at}
+use Rattle.protocol.specs.declared.command.NewDomain.{NewDomain}
+use Rattle.protocol.specs.declared.command.Request.{Request}
+use Rattle.protocol.specs.declared.command.Request.TheVariants as requests
+use Rattle.facts.specs.declared.facts.ContactFacts.{ContactFacts}
+use Rattle.facts.specs.declared.facts.DomainFacts.{DomainFacts}
+use Rattle.facts.specs.declared.facts.HostFacts.{HostFacts}
+use Rattle.facts.specs.declared.facts.Facts.{Facts}
+use Rattle.protocol.specs.declared.reply.CheckResult.{CheckResult}
+use Rattle.protocol.specs.declared.reply.ContactHidden.{ContactHidden}
+use Rattle.protocol.specs.declared.reply.ContactInfo.{ContactInfo}
+use Rattle.protocol.specs.declared.reply.Created.{Created}
+use Rattle.protocol.specs.declared.reply.Data.{Data}
+use Rattle.protocol.specs.declared.reply.Data.TheVariants as told
+use Rattle.protocol.specs.declared.reply.DomainHidden.{DomainHidden}
+use Rattle.protocol.specs.declared.reply.DomainInfo.{DomainInfo}
+use Rattle.protocol.specs.declared.reply.HostInfo.{HostInfo}
+use Rattle.protocol.specs.declared.reply.Reason.{Reason}
+use Rattle.protocol.specs.declared.reply.Reason.TheVariants.{Policy, InUse}
+use Rattle.protocol.specs.declared.reply.TransferInfo.{TransferInfo}
+use Rattle.facts.specs.Facts.{host_sponsor}
+use Rattle.facts.specs.Facts.{contact_at, contact_seen, domain_at, domain_seen, host_at, host_seen}
+
+-- the id of the registrar at a place
+abbrev pub id_of : PolicyRules → ℕ → List ℕ
+id_of p r = unwrap_or (id_at p r) []
+
+-- ---- check
+
+abbrev pub in_use : Bool → Option Reason
+in_use taken = if taken then Some InUse else None
+
+-- why a name can't be created
+abbrev pub reason_of : (List ℕ → Bool) → GivenName → Option Reason
+reason_of is_taken name = if is_refused name then Some Policy else in_use (is_taken (name_of name))
+
+abbrev pub result_of : (List ℕ → Bool) → GivenName → CheckResult
+result_of is_taken name = record { name = name_of name; reason = reason_of is_taken name }
+
+abbrev pub contact_result : Facts → List ℕ → CheckResult
+contact_result f name = record { name = name; reason = in_use (is_some (contact_seen f name)) }
+
+abbrev pub domain_result : Facts → GivenName → CheckResult
+domain_result f name = result_of (λ text. is_some (domain_seen f text)) name
+
+abbrev pub host_result : Facts → GivenName → CheckResult
+host_result f name = result_of (λ text. is_some (host_seen f text)) name
+
+-- ---- create
+
+abbrev pub created_plain : ℕ → List ℕ → Created
+created_plain t name = record { name = name; created = t; expires = None; charge = None }
+
+-- Prices count as 0 as long as accounts have no money.
+abbrev pub created_domain : ℕ → NewDomain → Created
+created_domain t new = record {
+  name = name_of new.name;
+  created = t;
+  expires = Some (capped (plus_years t new.years));
+  charge = Some 0;
+}
+
+-- ---- info of contacts and domains: the sponsor is told all; who presents the right secret all but
+-- the secret; another the face
+
+abbrev pub transfer_info : PolicyRules → Transfer → TransferInfo
+transfer_info p t = record { transfer = t; requester = id_of p t.requester; losing_registrar = id_of p t.loser }
+
+abbrev pub with_shown_link : Bool → ContactFace → ContactFace
+with_shown_link linked face = record face { statuses = with_linked linked face.statuses }
+
+abbrev pub contact_face_info : PolicyRules → Bool → ContactFace → ContactInfo
+contact_face_info p linked face = record {
+  face = with_shown_link linked face;
+  sponsor = id_of p face.sponsor;
+  hidden = None;
+}
+
+abbrev pub contact_hidden : PolicyRules → Option (List ℕ) → Contact → ContactHidden
+contact_hidden p secret c = record { secret = secret; postal = c.postal; voice = c.voice; mail = c.mail; transfer = option_map (transfer_info p) c.transfer }
+
+abbrev pub contact_full_info : PolicyRules → Bool → Option (List ℕ) → Contact → ContactInfo
+contact_full_info p linked secret c = record (contact_face_info p linked (contact_face_of c)) {
+  hidden = Some (contact_hidden p secret c);
+}
+
+abbrev pub contact_info : PolicyRules → ℕ → Option (List ℕ) → Bool → Seen Contact ContactFace → ContactInfo
+contact_info p r secret linked (Full c) =
+    if c.sponsor == r then contact_full_info p linked (Some c.secret) c
+    else if is_right secret c.secret then contact_full_info p linked None c
+    else contact_face_info p linked (contact_face_of c)
+contact_info p r secret linked (Named face t) = contact_face_info p linked face
+contact_info p r secret linked (Public face) = contact_face_info p linked face
+
+abbrev pub contact_info_at : PolicyRules → ℕ → Option (List ℕ) → ContactFacts → Option ContactInfo
+contact_info_at p r secret known = option_map (contact_info p r secret known.linked) known.seen
+
+abbrev pub domain_face_info : PolicyRules → List (List ℕ) → DomainFace → DomainInfo
+domain_face_info p subordinate face = record { face = face; sponsor = id_of p face.sponsor; subordinate = subordinate; hidden = None }
+
+abbrev pub domain_hidden : PolicyRules → Option (List ℕ) → Domain → DomainHidden
+domain_hidden p secret d = record { secret = secret; transfer = option_map (transfer_info p) d.transfer; deletion = d.deletion }
+
+abbrev pub domain_full_info : PolicyRules → List (List ℕ) → Option (List ℕ) → Domain → DomainInfo
+domain_full_info p subordinate secret d = record (domain_face_info p subordinate (face_of d)) {
+  hidden = Some (domain_hidden p secret d);
+}
+
+abbrev pub domain_info : PolicyRules → ℕ → Option (List ℕ) → List (List ℕ) → Seen Domain DomainFace → DomainInfo
+domain_info p r secret subordinate (Full d) =
+    if d.sponsor == r then domain_full_info p subordinate (Some d.secret) d
+    else if is_right secret d.secret then domain_full_info p subordinate None d
+    else domain_face_info p subordinate (face_of d)
+domain_info p r secret subordinate (Named face t) = domain_face_info p subordinate face
+domain_info p r secret subordinate (Public face) = domain_face_info p subordinate face
+
+abbrev pub domain_info_at : PolicyRules → ℕ → Option (List ℕ) → DomainFacts → Option DomainInfo
+domain_info_at p r secret known = option_map (domain_info p r secret known.subordinate) known.seen
+
+-- ---- info of hosts: all are told all
+
+abbrev pub host_info : PolicyRules → HostFacts → Host → HostInfo
+host_info p known h = let sponsor : ℕ = unwrap_or (host_sponsor known h) 0 in record { face = host_face_of sponsor known.linked h; sponsor = id_of p sponsor }
+
+abbrev pub host_info_at : PolicyRules → HostFacts → Option HostInfo
+host_info_at p known = option_map (host_info p known) known.host
+
+-- ---- the data of an response_data command
+
+abbrev pub response_data : PolicyRules → ℕ → ℕ → Request → Facts → Option Data
+response_data p r t (requests.CheckContact names) f = Some (told.Checked (map (contact_result f) names))
+response_data p r t (requests.CheckDomain names) f = Some (told.Checked (map (domain_result f) names))
+response_data p r t (requests.CheckHost names) f = Some (told.Checked (map (host_result f) names))
+response_data p r t (requests.InfoContact name secret) f = option_map told.Contact (option_and_then (contact_info_at p r secret) (contact_at f name))
+response_data p r t (requests.InfoDomain name secret) f = option_map told.Domain (option_and_then (domain_info_at p r secret) (domain_at f (name_of name)))
+response_data p r t (requests.InfoHost name) f = option_map told.Host (option_and_then (host_info_at p) (host_at f (name_of name)))
+response_data p r t (requests.CreateContact new) f = Some (told.Created (created_plain t new.name))
+response_data p r t (requests.CreateDomain new) f = Some (told.Created (created_domain t new))
+response_data p r t (requests.CreateHost new) f = Some (told.Created (created_plain t (name_of new.name)))
+response_data p r t (requests.DeleteContact name) f = None
+response_data p r t (requests.DeleteHost name) f = None
+response_data p r t (requests.UpdateContact update) f = None
+response_data p r t (requests.UpdateDomain update) f = None
+response_data p r t (requests.UpdateHost update) f = None
