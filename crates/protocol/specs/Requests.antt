@@ -164,7 +164,8 @@ lists_of lists = record {
 
 -- the secret that is presented for the object of a name: there is one of that name
 abbrev pub presented_at : {A : Type 0} → (A → List ℕ) → List A → Option (List ℕ) → List ℕ → Option (List ℕ)
-presented_at text names secret name = if holds_of (λ first. bytes_eq (text first) name) (slice_get names 0) then secret else None
+presented_at text names None name = None
+presented_at text names (Some secret) name = if holds_of (λ first. bytes_eq (text first) name) (slice_get names 0) then Some secret else None
 
 abbrev itself : List ℕ → List ℕ
 itself text = text

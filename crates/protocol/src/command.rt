@@ -279,8 +279,9 @@ impl Request {
     fn presented(&self, domain: &Text) -> Option<&Text>
         ensures { option_copied result ≡ spec.domain_secret_asked self.now domain.now }
     {
+        let secret = self.secret()?;
         match self.domains().first() {
-            Some(name) if *name.text() == *domain => self.secret(),
+            Some(name) if *name.text() == *domain => Some(secret),
             _ => None,
         }
     }
@@ -289,8 +290,9 @@ impl Request {
     fn presented_for_contact(&self, contact: &Text) -> Option<&Text>
         ensures { option_copied result ≡ spec.contact_secret_asked self.now contact.now }
     {
+        let secret = self.secret()?;
         match self.contacts().first() {
-            Some(name) if *name == *contact => self.secret(),
+            Some(name) if *name == *contact => Some(secret),
             _ => None,
         }
     }
@@ -394,6 +396,18 @@ impl Command {
         match self {
             Command::Bad { .. } => None,
             Command::Asked { request, .. } => request.presented_for_contact(contact),
+        }
+    }
+}
+
+impl HostUpdate {
+    /// The name that the host has afterwards.
+    pub fn final_name(&self) -> &Text
+        ensures { result.now ≡ spec.final_name self.now self.now.new_name }
+    {
+        match &self.new_name {
+            None => self.name.text(),
+            Some(name) => name.text(),
         }
     }
 }

@@ -52,7 +52,7 @@ Fails faults.Memory old new = IsUnchanged old new
 Fails faults.Store old new = IsUnchanged old new × HasRefused old new
 Fails faults.Moment old new = IsUnchanged old new
 
--- the same terms, with the registry as a call at a moment finds it
+-- the same terms, with the registry as a call at a moment lookups it
 abbrev pub at_moment : ℕ → Stored → Stored
 at_moment t s = record s { registry = lapsed t s.registry }
 

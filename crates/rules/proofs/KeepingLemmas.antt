@@ -17,7 +17,7 @@ use Rattle.objects.specs.declared.host.Host.{Host}
 use Rattle.objects.specs.declared.roid.Roid.{Roid}
 use Rattle.objects.specs.Links.{has_name, names_contact, names_host}
 use Rattle.policy.specs.Rules.{PolicyRules, IsPlace}
-use Rattle.rules.specs.declared.change.Change.TheVariants.{PutContact, DropContact, PutDomain, PutHost, DropHost, Relink}
+use Rattle.rules.specs.declared.change.Change.TheVariants.{PutContact, DropContact, PutDomain, PutHost, DropHost, RenameHost}
 use Rattle.rules.specs.Changes.{changed, with_account, relinked, relinked_links, renamed}
 use Rattle.rules.proofs.GrowthLemmas.{Grows, contact-grown, domain-grown, host-grown}
 use Rattle.rules.proofs.NameListLemmas.{has_name-filter}
@@ -241,7 +241,7 @@ renamed-listed old new hosts n e = by (has_name hosts old) refl e
 module _ (p : PolicyRules) (s : Registry) (is : IsRegistry p s) where
   -- A host goes from one name to another, and domains that named it name it still.
   pub rename-host : (old : List ℕ) (o h : Host) → get s.hosts old ≡ Some o → h.roid ≡ o.roid → IsHostOf p s h.name h → IsUndeleted p s h.name
-      → IsRegistry p (changed (Relink old h.name) (changed (PutHost h) (changed (DropHost old) s)))
+      → IsRegistry p (changed (RenameHost old h.name) (changed (PutHost h) (changed (DropHost old) s)))
   rename-host old o h at-old same fits free =
       let left : Hosts = remove s.hosts old in
       let hosts : Hosts = insert left h.name h in

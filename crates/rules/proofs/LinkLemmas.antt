@@ -14,7 +14,7 @@ use Rattle.rules.proofs.NameListLemmas.{has_name-filter, has_name-in_order}
 use Rattle.protocol.specs.declared.command.DomainUpdate.{DomainUpdate}
 use Rattle.protocol.specs.declared.command.NewDomain.{NewDomain}
 use Rattle.protocol.specs.declared.command.Request.TheVariants.{CreateDomain, UpdateDomain}
-use Rattle.protocol.specs.Requests.{links_fail}
+use Rattle.protocol.specs.Requests.{holds_of, references_fail}
 use Rattle.facts.specs.Lists.{amended, is_among, itself, kept}
 
 module _ (there : List ℕ → Bool) where
@@ -47,7 +47,7 @@ map-itself (x ∷ xs) = ap (λ (l : List (List ℕ)). x ∷ l) (map-itself xs)
 -- ---- links, where a command's tests of what is to be named don't fail
 
 module _ (contact host : List ℕ → Bool) where
-  module _ (new : NewDomain) (passes : links_fail contact host (CreateDomain new) ≡ false) where
+  module _ (new : NewDomain) (passes : references_fail contact host (CreateDomain new) ≡ false) where
     registrant-passes : (not (contact new.registrant) ≡ false) × ((list_any (λ name. not (contact name)) new.admin || (list_any (λ name. not (contact name)) new.tech || list_any (λ name. not (host (name_of name))) new.hosts)) ≡ false)
     registrant-passes = or_parts (not (contact new.registrant)) _ passes
 
@@ -69,9 +69,9 @@ module _ (contact host : List ℕ → Bool) where
     pub new-hosts : (name : List ℕ) → names_host name (new_links new) ≡ true → host name ≡ true
     new-hosts name e = ordered-there host name_of new.hosts name last-pass.1 e
 
-  module _ (u : DomainUpdate) (links : Links) (passes : links_fail contact host (UpdateDomain u) ≡ false) where
-    given-passes : (is_some (option_and_then (λ name. cond (contact name) None (Some name)) u.registrant) ≡ false) × ((list_any (λ name. not (contact name)) u.add.admin || (list_any (λ name. not (contact name)) u.add.tech || list_any (λ name. not (host (name_of name))) u.add.hosts)) ≡ false)
-    given-passes = or_parts (is_some (option_and_then (λ name. cond (contact name) None (Some name)) u.registrant)) _ passes
+  module _ (u : DomainUpdate) (links : Links) (passes : references_fail contact host (UpdateDomain u) ≡ false) where
+    given-passes : (holds_of (λ name. not (contact name)) u.registrant ≡ false) × ((list_any (λ name. not (contact name)) u.add.admin || (list_any (λ name. not (contact name)) u.add.tech || list_any (λ name. not (host (name_of name))) u.add.hosts)) ≡ false)
+    given-passes = or_parts (holds_of (λ name. not (contact name)) u.registrant) _ passes
 
     added-pass : (list_any (λ name. not (contact name)) u.add.admin ≡ false) × ((list_any (λ name. not (contact name)) u.add.tech || list_any (λ name. not (host (name_of name))) u.add.hosts) ≡ false)
     added-pass = or_parts (list_any (λ name. not (contact name)) u.add.admin) _ given-passes.1
@@ -80,14 +80,10 @@ module _ (contact host : List ℕ → Bool) where
     last-added-pass = or_parts (list_any (λ name. not (contact name)) u.add.tech) _ added-pass.1
 
     -- the registrant that is given, or the one before
-    registrant-there : (given : Option (List ℕ)) (name : List ℕ) → is_some (option_and_then (λ name. cond (contact name) None (Some name)) given) ≡ false → (bytes_eq links.registrant name ≡ true → contact name ≡ true)
+    registrant-there : (given : Option (List ℕ)) (name : List ℕ) → holds_of (λ name. not (contact name)) given ≡ false → (bytes_eq links.registrant name ≡ true → contact name ≡ true)
         → bytes_eq (or_old given links.registrant) name ≡ true → contact name ≡ true
     registrant-there None name none before e = before e
-    registrant-there (Some given) name none before e = by (contact given) refl none
-      where
-        by : (b : Bool) → contact given ≡ b → is_some (let found : Option (List ℕ) = cond b None (Some given) in found) ≡ false → contact name ≡ true
-        by true is none = same-there contact given name e is
-        by false is none = absurd cc
+    registrant-there (Some given) name none before e = same-there contact given name e (not-false _ none)
 
     pub updated-contacts : ((name : List ℕ) → names_contact name links ≡ true → contact name ≡ true) → (name : List ℕ) → names_contact name (updated_links u links) ≡ true → contact name ≡ true
     updated-contacts before name e =

@@ -20,11 +20,11 @@ use Rattle.objects.specs.Hosts.{is_below}
 use Rattle.objects.specs.Links.{links_seen, names_contact, names_host}
 use Rattle.objects.specs.Sight.{contact_as, domain_as, is_party}
 use Rattle.rules.specs.declared.change.Change.{Change}
-use Rattle.rules.specs.declared.change.Change.TheVariants.{MoveClock, OpenAccount, PutContact, DropContact, PutDomain, PutHost, DropHost, Relink, CountCommand, TakeSerial}
+use Rattle.rules.specs.declared.change.Change.TheVariants.{MoveClock, OpenAccount, PutContact, DropContact, PutDomain, PutHost, DropHost, RenameHost, CountCommand, TakeSerial}
 use Rattle.rules.specs.Changes.{changed, changed_all, with_account, itself, relinked}
 use Rattle.rules.proofs.SightLemmas.{forget, forget-domain, forget-contact, holds_seen, holds-seen, links-seen, relinked_seen, seen-relinked, superordinate_seen, superordinate-seen}
 use Rattle.protocol.specs.declared.command.Command.{Command}
-use Rattle.facts.specs.Facts.{Finds, facts, facts_by, finds, held, subordinate, superordinate_of_domain}
+use Rattle.facts.specs.Facts.{Lookups, facts, facts_by, lookups, held, subordinate, superordinate_of_domain}
 use Rattle.protocol.specs.Requests.{presented, presented_contact}
 use Rattle.model.specs.Registry.{Registry, account_of}
 use Rattle.model.specs.View.{View, Secrets, view, view_for, view_with, secrets_of}
@@ -36,7 +36,7 @@ some-map f None = refl
 some-map f (Some x) = refl
 
 -- what is found in a view
-finds_in : ℕ → View → Finds
+finds_in : ℕ → View → Lookups
 finds_in r v = record {
   account = v.account;
   contact = λ name. get v.contacts name;
@@ -97,9 +97,9 @@ module _ (r : ℕ) (c : Command) (s : Registry) where
       by [] = refl
       by (e ∷ es) = one e.1 (sight e.0 e.1) _ _ (is_party r e.1.sponsor e.1.transfer) (holds-seen r (presented c e.0) e.1) refl (by es)
 
-  finds-view : finds r c s ≡ finds_in r (view_for r c s)
+  lookups-view : lookups r c s ≡ finds_in r (view_for r c s)
   unfolding finds_in
-  finds-view = λ i. record {
+  lookups-view = λ i. record {
     account = account_of r s;
     contact = λ name. sym (contact-found name) i;
     domain = λ name. sym (domain-found name) i;
@@ -114,7 +114,7 @@ module _ (r : ℕ) (c : Command) (s : Registry) where
   }
 
 pub same_facts : (r : ℕ) (c : Command) (s t : Registry) → view_for r c s ≡ view_for r c t → facts r c s ≡ facts r c t
-same_facts r c s t alike = ap (λ found. facts_by found c) (finds-view r c s ∙ ap (finds_in r) alike ∙ sym (finds-view r c t))
+same_facts r c s t alike = ap (λ found. facts_by found c) (lookups-view r c s ∙ ap (finds_in r) alike ∙ sym (lookups-view r c t))
 
 -- ---- what is seen without the secrets of a command
 
@@ -146,7 +146,7 @@ seen_change r (DropContact name) v = record v { contacts = remove v.contacts nam
 seen_change r (PutDomain d) v = record v { domains = insert v.domains d.name (domain_as r None d) }
 seen_change r (PutHost h) v = record v { hosts = insert v.hosts h.name h }
 seen_change r (DropHost name) v = record v { hosts = remove v.hosts name }
-seen_change r (Relink old new) v = record v { domains = map_values (λ name. relinked_seen old new) v.domains }
+seen_change r (RenameHost old new) v = record v { domains = map_values (λ name. relinked_seen old new) v.domains }
 seen_change r (CountCommand other) v = record v { account = own r other counted v.account }
 seen_change r (TakeSerial other) v = record v { account = own r other numbered v.account }
 
@@ -180,7 +180,7 @@ view-changed r (PutContact c) s = ap (λ m. record (view r s) { contacts = m }) 
 view-changed r (DropContact name) s = ap (λ m. record (view r s) { contacts = m }) (map_values-remove (slice_cmp nat_cmp) nat_list_cmp_total names_apart (λ name. contact_as r None) s.contacts name)
 view-changed r (PutHost h) s = refl
 view-changed r (DropHost name) s = refl
-view-changed r (Relink old new) s = ap (λ m. record (view r s) { domains = m }) (relinked-view r old new s.domains)
+view-changed r (RenameHost old new) s = ap (λ m. record (view r s) { domains = m }) (relinked-view r old new s.domains)
 view-changed r (PutDomain d) s = ap (λ m. record (view r s) { domains = m }) (map_values-insert (slice_cmp nat_cmp) nat_list_cmp_total names_apart (λ name. domain_as r None) s.domains d.name d)
 view-changed r (CountCommand other) s = ap (λ a. record (view r s) { account = a }) (account_of-with_account r other counted s)
 view-changed r (TakeSerial other) s = ap (λ a. record (view r s) { account = a }) (account_of-with_account r other numbered s)

@@ -14,47 +14,47 @@ use Rattle.protocol.specs.declared.command.Command.TheVariants.{Asked, Bad}
 use Rattle.protocol.specs.declared.command.Request.{Request}
 use Rattle.protocol.specs.declared.command.Request.TheVariants.{CheckContact, CheckDomain, CheckHost, InfoContact, InfoDomain, InfoHost, CreateContact, CreateDomain, CreateHost, DeleteContact, DeleteHost, UpdateContact, UpdateDomain, UpdateHost}
 use Rattle.protocol.specs.declared.reply.Data.{Data}
-use Rattle.verdict.specs.declared.rules.Condition.TheVariants.{LinkIsMissing}
+use Rattle.verdict.specs.declared.rules.Condition.TheVariants.{ReferenceIsMissing}
 use Rattle.protocol.specs.Codes.{is_accepted}
 use Rattle.facts.specs.Facts.{facts}
 use Rattle.model.specs.Registry.{Registry, account_of}
 use Rattle.verdict.specs.Rules.{refusal_of}
-use Rattle.verdict.specs.ResponseData.{accepted}
+use Rattle.verdict.specs.ResponseData.{response_data}
 use Rattle.verdict.specs.Verdicts.{judged, unless_refused}
 use Rattle.model.specs.WellFormed.{IsRegistry}
 
-module _ (p : PolicyRules) (r : ℕ) (tag : Option (List ℕ)) (s : Registry) (place : IsPlace p r) (is : IsRegistry p s) (small : (account_of r s).serial < 4_611_686_018_427_387_904) where
-  kept-accepted : (request : Request) → refusal_of p r request (facts r (Asked tag request) s) ≡ None
-      → IsRegistry p (changed_all (changes_of p.zone r s.clock request (facts r (Asked tag request) s)) (with_account r counted s))
+module _ (p : PolicyRules) (r : ℕ) (cl_trid : Option (List ℕ)) (s : Registry) (place : IsPlace p r) (is : IsRegistry p s) (small : (account_of r s).serial < 4_611_686_018_427_387_904) where
+  kept-accepted : (request : Request) → refusal_of p r request (facts r (Asked cl_trid request) s) ≡ None
+      → IsRegistry p (changed_all (changes_of p.zone r s.clock request (facts r (Asked cl_trid request) s)) (with_account r counted s))
   unfolding changes_of
-  kept-accepted (CheckContact names) taken = kept-counted p r tag s place is
-  kept-accepted (CheckDomain names) taken = kept-counted p r tag s place is
-  kept-accepted (CheckHost names) taken = kept-counted p r tag s place is
-  kept-accepted (InfoContact name secret) taken = kept-counted p r tag s place is
-  kept-accepted (InfoDomain name secret) taken = kept-counted p r tag s place is
-  kept-accepted (InfoHost name) taken = kept-counted p r tag s place is
-  kept-accepted (CreateContact new) taken = kept-new-contact p r tag s place is small new
-  kept-accepted (CreateDomain new) taken = kept-new-domain p r tag s place is small new (unrefused p r (CreateDomain new) (facts r (Asked tag (CreateDomain new)) s) taken LinkIsMissing (search (inl, inr) depth 20))
-  kept-accepted (CreateHost new) taken = kept-new-host p r tag s place is small new taken
-  kept-accepted (DeleteContact name) taken = kept-contact-deletion p r tag s place is name taken
-  kept-accepted (DeleteHost name) taken = kept-host-deletion p r tag s place is name taken
-  kept-accepted (UpdateContact u) taken = kept-contact-update p r tag s place is u
-  kept-accepted (UpdateDomain u) taken = kept-domain-update p r tag s place is u taken
-  kept-accepted (UpdateHost u) taken = kept-host-update p r tag s place is u taken
+  kept-accepted (CheckContact names) taken = kept-counted p r cl_trid s place is
+  kept-accepted (CheckDomain names) taken = kept-counted p r cl_trid s place is
+  kept-accepted (CheckHost names) taken = kept-counted p r cl_trid s place is
+  kept-accepted (InfoContact name secret) taken = kept-counted p r cl_trid s place is
+  kept-accepted (InfoDomain name secret) taken = kept-counted p r cl_trid s place is
+  kept-accepted (InfoHost name) taken = kept-counted p r cl_trid s place is
+  kept-accepted (CreateContact new) taken = kept-new-contact p r cl_trid s place is small new
+  kept-accepted (CreateDomain new) taken = kept-new-domain p r cl_trid s place is small new (unrefused p r (CreateDomain new) (facts r (Asked cl_trid (CreateDomain new)) s) taken ReferenceIsMissing (search (inl, inr) depth 20))
+  kept-accepted (CreateHost new) taken = kept-new-host p r cl_trid s place is small new taken
+  kept-accepted (DeleteContact name) taken = kept-contact-deletion p r cl_trid s place is name taken
+  kept-accepted (DeleteHost name) taken = kept-host-deletion p r cl_trid s place is name taken
+  kept-accepted (UpdateContact u) taken = kept-contact-update p r cl_trid s place is u
+  kept-accepted (UpdateDomain u) taken = kept-domain-update p r cl_trid s place is u taken
+  kept-accepted (UpdateHost u) taken = kept-host-update p r cl_trid s place is u taken
 
   -- a refused command changes nothing but the caller's counter
-  kept-judged : (request : Request) (content : Option Data) (refusal : Option Code) → refusal_of p r request (facts r (Asked tag request) s) ≡ refusal
-      → IsRegistry p (changed_all (cond (is_accepted (unless_refused refusal content).code) (changes_of p.zone r s.clock request (facts r (Asked tag request) s)) []) (with_account r counted s))
+  kept-judged : (request : Request) (content : Option Data) (refusal : Option Code) → refusal_of p r request (facts r (Asked cl_trid request) s) ≡ refusal
+      → IsRegistry p (changed_all (cond (is_accepted (unless_refused refusal content).code) (changes_of p.zone r s.clock request (facts r (Asked cl_trid request) s)) []) (with_account r counted s))
   kept-judged request content None taken = kept-accepted request taken
   kept-judged request content (Some code) refused =
-      let changes : List Change = changes_of p.zone r s.clock request (facts r (Asked tag request) s) in
+      let changes : List Change = changes_of p.zone r s.clock request (facts r (Asked cl_trid request) s) in
       subst (λ (b : Bool). IsRegistry p (changed_all (cond b changes []) (with_account r counted s)))
-      (sym (refusing p r request (facts r (Asked tag request) s) code refused)) (kept-counted p r tag s place is)
+      (sym (refusing p r request (facts r (Asked cl_trid request) s) code refused)) (kept-counted p r cl_trid s place is)
 
 -- A registrar's command leaves a registry well formed, but that a serial at its greatest would be
 -- given twice.
 pub kept-effect : (p : PolicyRules) (r : ℕ) (c : Command) (s : Registry) → IsPlace p r → IsRegistry p s → (account_of r s).serial < 4_611_686_018_427_387_904 → IsRegistry p (effect p r c s)
 unfolding judged changes_after
-kept-effect p r (Bad tag code) s place is small = kept-counted p r tag s place is
-kept-effect p r (Asked tag request) s place is small =
-    kept-judged p r tag s place is small request (accepted p r s.clock request (facts r (Asked tag request) s)) (refusal_of p r request (facts r (Asked tag request) s)) refl
+kept-effect p r (Bad cl_trid code) s place is small = kept-counted p r cl_trid s place is
+kept-effect p r (Asked cl_trid request) s place is small =
+    kept-judged p r cl_trid s place is small request (response_data p r s.clock request (facts r (Asked cl_trid request) s)) (refusal_of p r request (facts r (Asked cl_trid request) s)) refl

@@ -12,7 +12,7 @@ use Rattle.objects.specs.declared.domain.Domain.{Domain}
 use Rattle.objects.specs.declared.domain.Links.{Links}
 use Rattle.objects.specs.Links.{has_name}
 use Rattle.rules.specs.declared.change.Change.{Change}
-use Rattle.rules.specs.declared.change.Change.TheVariants.{MoveClock, OpenAccount, PutContact, DropContact, PutDomain, PutHost, DropHost, Relink, CountCommand, TakeSerial}
+use Rattle.rules.specs.declared.change.Change.TheVariants.{MoveClock, OpenAccount, PutContact, DropContact, PutDomain, PutHost, DropHost, RenameHost, CountCommand, TakeSerial}
 use Rattle.model.specs.Registry.{Registry, account_of, lapsed}
 
 -- one registrar's account is changed
@@ -42,7 +42,7 @@ changed (DropContact name) s = record s { contacts = remove s.contacts name }
 changed (PutDomain d) s = record s { domains = insert s.domains d.name d }
 changed (PutHost h) s = record s { hosts = insert s.hosts h.name h }
 changed (DropHost name) s = record s { hosts = remove s.hosts name }
-changed (Relink old new) s = record s { domains = map_values (λ name. relinked old new) s.domains }
+changed (RenameHost old new) s = record s { domains = map_values (λ name. relinked old new) s.domains }
 changed (CountCommand r) s = with_account r counted s
 changed (TakeSerial r) s = with_account r numbered s
 

@@ -19,7 +19,7 @@ use Rattle.objects.specs.Links.{in_order}
 use Rattle.objects.specs.Statuses.{amended_statuses}
 use Rattle.policy.specs.Rules.{PolicyRules}
 use Rattle.rules.specs.declared.change.Change.{Change}
-use Rattle.rules.specs.declared.change.Change.TheVariants.{PutContact, DropContact, PutDomain, PutHost, DropHost, Relink, CountCommand, TakeSerial}
+use Rattle.rules.specs.declared.change.Change.TheVariants.{PutContact, DropContact, PutDomain, PutHost, DropHost, RenameHost, CountCommand, TakeSerial}
 use Rattle.rules.specs.declared.decision.Decision.{Decision}
 use Rattle.protocol.specs.declared.code.Code.{Code}
 use Rattle.protocol.specs.declared.command.Command.{Command}
@@ -160,7 +160,7 @@ domain_changes t u (Some (Public face)) = []
 -- under a new name, a host is linked as before
 abbrev pub renaming : List ℕ → Host → Option GivenName → List Change
 renaming old h None = PutHost h ∷ []
-renaming old h (Some name) = DropHost old ∷ PutHost h ∷ Relink old (name_of name) ∷ []
+renaming old h (Some name) = DropHost old ∷ PutHost h ∷ RenameHost old (name_of name) ∷ []
 
 abbrev pub host_changes : ZoneRules → ℕ → ℕ → HostUpdate → Option Host → List Change
 host_changes zone r t u None = []
@@ -176,12 +176,17 @@ changes_of zone r t (requests.DeleteHost name) f = DropHost (name_of name) ∷ [
 changes_of zone r t (requests.UpdateContact u) f = contact_changes t u (contact_seen f u.name)
 changes_of zone r t (requests.UpdateDomain u) f = domain_changes t u (domain_seen f (name_of u.name))
 changes_of zone r t (requests.UpdateHost u) f = host_changes zone r t u (host_seen f (name_of u.name))
-changes_of zone r t _ f = []
+changes_of zone r t (requests.CheckContact names) f = []
+changes_of zone r t (requests.CheckDomain names) f = []
+changes_of zone r t (requests.CheckHost names) f = []
+changes_of zone r t (requests.InfoContact name secret) f = []
+changes_of zone r t (requests.InfoDomain name secret) f = []
+changes_of zone r t (requests.InfoHost name) f = []
 
 -- a refused command changes nothing but the caller's counter
 unfoldable pub changes_after : ZoneRules → ℕ → ℕ → Command → Facts → Code → List Change
-changes_after zone r t (Bad tag code) f answered = []
-changes_after zone r t (Asked tag request) f answered = if is_accepted answered then changes_of zone r t request f else []
+changes_after zone r t (Bad cl_trid code) f answered = []
+changes_after zone r t (Asked cl_trid request) f answered = if is_accepted answered then changes_of zone r t request f else []
 
 abbrev pub decided_with : ZoneRules → ℕ → ℕ → Command → Facts → Verdict → Decision
 decided_with zone r t c f v = record { verdict = v; changes = CountCommand r ∷ changes_after zone r t c f v.code }

@@ -11,7 +11,7 @@ use Rattle.verdict.specs.declared.verdict.Verdict.{Verdict}
 use Rattle.facts.specs.Facts.{facts}
 use Rattle.model.specs.Registry.{Registry, account_of}
 use Rattle.verdict.specs.ResponseData.{id_of}
-use Rattle.protocol.specs.Requests.{tag_of}
+use Rattle.protocol.specs.Requests.{cl_trid_of}
 
 -- the decision on a registrar's command in a registry
 abbrev pub decision : PolicyRules → ℕ → Command → Registry → Decision
@@ -20,10 +20,10 @@ decision p r c s = decided p r s.clock c (facts r c s)
 -- the reply to a verdict, numbered by the caller's own commands
 abbrev pub reply_of : PolicyRules → ℕ → Command → Verdict → ℕ → Reply
 reply_of p r c v commands = record {
-  tag = tag_of c;
+  cl_trid = cl_trid_of c;
   code = v.code;
   content = v.content;
-  server_tag = record { id = id_of p r; number = raised commands };
+  sv_trid = record { id = id_of p r; number = raised commands };
 }
 
 -- what a registrar's command is answered

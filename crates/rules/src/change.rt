@@ -19,8 +19,11 @@ pub enum Change {
     PutHost(HostRecord),
     /// There is no such host any more.
     DropHost(Text),
-    /// Every domain that names the first host names the second in its place.
-    Relink(Text, Text),
+    /// Every domain that names the host of the one name names that of the other in its place.
+    RenameHost {
+        from: Text,
+        to: Text,
+    },
     /// The moment was seen.
     MoveClock(Moment),
     /// The registrar has an account.

@@ -239,6 +239,6 @@ fn put_host(
     Ok(vec![in alloc;
         Change::DropHost(dropped),
         Change::PutHost(host),
-        Change::Relink(from, to),
+        Change::RenameHost { from, to },
     ]?)
 }

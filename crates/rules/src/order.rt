@@ -9,6 +9,7 @@ use objects::{Status, amended_statuses};
 use std::alloc::{AllocError, Global};
 use model::Object;
 use protocol::{Code, StatusOrder};
+use verdict::judge_order;
 
 /// What an order is answered, and the changes that it makes.
 #[derive(Drop)]
@@ -25,7 +26,7 @@ pub fn decide_order(
 ) -> Result<OrderDecision, AllocError>
     ensures { IfOk result (λ decision. decision ≡ spec.decided_order order.now object (order_code order.now object)) }
 {
-    let code = order.judge(object.as_ref());
+    let code = judge_order(order, object.as_ref());
     Ok(OrderDecision {
         code,
         changes: Seq::from_vec(changes_after(alloc, order, object, code)?),

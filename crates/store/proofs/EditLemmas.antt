@@ -20,7 +20,7 @@ use Rattle.objects.specs.declared.domain.Domain.{Domain}
 use Rattle.objects.specs.Links.{names_host}
 use Rattle.rules.specs.Changes.{relinked}
 use Rattle.rules.specs.declared.change.Change.{Change}
-use Rattle.rules.specs.declared.change.Change.TheVariants.{MoveClock, OpenAccount, PutContact, DropContact, PutDomain, PutHost, DropHost, Relink, CountCommand, TakeSerial}
+use Rattle.rules.specs.declared.change.Change.TheVariants.{MoveClock, OpenAccount, PutContact, DropContact, PutDomain, PutHost, DropHost, RenameHost, CountCommand, TakeSerial}
 use Rattle.store.specs.declared.edit.Edit.{Edit}
 use Rattle.store.specs.declared.edit.Edit.TheVariants as edit
 use Rattle.store.specs.Book.{Stored, with_changes}
@@ -192,7 +192,7 @@ made (DropContact name) s = refl
 made (PutDomain d) s = refl
 made (PutHost h) s = refl
 made (DropHost name) s = refl
-made (Relink old new) s =
+made (RenameHost old new) s =
     edited-where (λ (d : Domain). names_host old d.links) (relinked old new) (entries s.registry.domains) s
     ∙ ap (with_domains s) (mapped (λ (d : Domain). names_host old d.links) (relinked old new) (not-linked old new) s.registry.domains)
 made (CountCommand r) s = refl

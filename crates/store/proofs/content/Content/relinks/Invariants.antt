@@ -1,7 +1,7 @@
 use Rattle.std.proofs.Common.{◌≡◌, ℕ, ◌++◌, List, filter, map, Some}
 use Rattle.objects.specs.declared.domain.Domain.{Domain}
 use Rattle.objects.specs.Links.{names_host}
-use Rattle.rules.specs.declared.change.Change.TheVariants.{Relink}
+use Rattle.rules.specs.declared.change.Change.TheVariants.{RenameHost}
 use Rattle.rules.specs.Changes.{relinked}
 use Rattle.store.specs.declared.edit.Edit.TheVariants as edit
 use Rattle.store.specs.Edits.{edits_of}
@@ -12,4 +12,4 @@ use Rattle.store.proofs.content.Content.relinks.Given as goal
 abbrev pub invariant-loop-name : goal.invariant-loop-name
 invariant-loop-name l =
     l.edits.items ++ map (λ (e : List ℕ × Domain). edit.Domain e.0 (Some (relinked l.old l.new e.1))) (filter (λ (e : List ℕ × Domain). names_host l.old e.1.links) l.name-iterator)
-    ≡ edits_of (Relink l.old l.new) (held l.self).registry
+    ≡ edits_of (RenameHost l.old l.new) (held l.self).registry
