@@ -31,6 +31,17 @@ pub record IsOrderStep (p : PolicyRules) (order : Order) (moment : ℕ) (before 
   pub answered : code ≡ order_answer p.zone order (lapsed moment before)
   pub left : now after ≡ now (order_effect p.zone order (lapsed moment before))
 
+-- a book's registry takes the step, if nothing wrong was taken from what keeps it
+abbrev pub Steps : PolicyRules → ℕ → Command → ℕ → Reply → BookState → BookState → Type 0
+Steps p r c moment reply old new = new.is_clean ≡ true → IsStep p r c moment old.content.registry new.content.registry reply
+
+abbrev pub OrderSteps : PolicyRules → Order → ℕ → Code → BookState → BookState → Type 0
+OrderSteps p order moment code old new = new.is_clean ≡ true → IsOrderStep p order moment old.content.registry new.content.registry code
+
+-- the step is isolated, if nothing wrong was taken from what keeps the book
+abbrev pub Isolates : PolicyRules → ℕ → Command → ℕ → Reply → BookState → BookState → Type 0
+Isolates p r c moment reply old new = new.is_clean ≡ true → IsIsolated p r c moment old.content.registry new.content.registry reply
+
 -- a reply and changes that are the rules' by the facts
 pub record IsPrepared (p : PolicyRules) (r : ℕ) (c : Command) (t : ℕ) (f : Facts) (prepared : Prepared) : Type 0 where
   pub reply : prepared.reply ≡ reply_of p r c (decided p r t c f).verdict f.account.commands

@@ -7,7 +7,7 @@ ghost use Rattle.registry.specs.Opening.{IsOpened, Opens, Refuses, TakesUp};
 ghost use Rattle.store.specs.Book.{Follows};
 
 use crate::fault::{Fault, OpenFault};
-use crate::transaction::{apply, commit, keep_terms, or_back, terms};
+use crate::transaction::{apply, commit, keep_terms, or_rollback, terms};
 use basis::list::Seq;
 use basis::registrar::RegistrarNo;
 use policy::{Policy, Terms};
@@ -16,7 +16,7 @@ use std::alloc::{AllocError, Global};
 use store::{Book, BookFault};
 
 /// Opens a book in one transaction.
-pub(crate) fn take_up<B: Book>(
+pub(crate) fn open_in<B: Book>(
     book: &mut B,
     alloc: Global,
     policy: &Policy,
@@ -30,7 +30,7 @@ pub(crate) fn take_up<B: Book>(
         Err(BookFault::Memory) => return Err(OpenFault::Memory),
         Err(BookFault::Store) => return Err(OpenFault::Store),
     }
-    match take_up_in_transaction(book, alloc, policy) {
+    match open_in_transaction(book, alloc, policy) {
         Ok(true) => Ok(()),
         Ok(false) => Err(OpenFault::Policy),
         Err(Fault::Store) => Err(OpenFault::Store),
@@ -39,7 +39,7 @@ pub(crate) fn take_up<B: Book>(
 }
 
 /// Opens a book, or goes back where the policy doesn't continue the terms that it was used under.
-fn take_up_in_transaction<B: Book>(
+fn open_in_transaction<B: Book>(
     book: &mut B,
     alloc: Global,
     policy: &Policy,
@@ -50,7 +50,7 @@ fn take_up_in_transaction<B: Book>(
     ensures follows { Follows (B.state book.old) (B.state book.new) }
 {
     let earlier = terms(book)?;
-    let own = or_back(book, policy.terms(alloc))?;
+    let own = or_rollback(book, policy.terms(alloc))?;
     if !goes_on(&own, &earlier) {
         book.back();
         return Ok(false);
@@ -77,7 +77,7 @@ fn install<B: Book>(book: &mut B, alloc: Global, policy: &Policy, own: Terms) ->
     ensures fault { IfErr result (λ fault. GoesBack fault (B.state book.old) (B.state book.new)) }
     ensures follows { Follows (B.state book.old) (B.state book.new) }
 {
-    let accounts = or_back(book, openings(alloc, policy.registrars()))?;
+    let accounts = or_rollback(book, openings(alloc, policy.registrars()))?;
     apply(book, accounts)?;
     keep_terms(book, own)?;
     commit(book)

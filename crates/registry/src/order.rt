@@ -1,12 +1,12 @@
 //! How an order of the operator is carried out.
 ghost use Rattle.std.specs.Prelude.{◌≡◌, true, false, IfOk, IfErr, OnOk};
-ghost use Rattle.registry.specs.Execution.{GoesBack, IsOrderStep, Keeps};
+ghost use Rattle.registry.specs.Execution.{GoesBack, Keeps, OrderSteps};
 ghost use Rattle.rules.specs.Orders.{status_decision};
 ghost use Rattle.store.specs.Book.{Follows, IsSame, with_changes};
 ghost use Rattle.model.specs.Objects.{object_ordered};
 
 use crate::fault::Fault;
-use crate::transaction::{keep, object_at, or_back, pass_time};
+use crate::transaction::{keep, object_at, or_rollback, advance_clock};
 use calendar::Moment;
 use policy::Policy;
 use rules::{OrderDecision, decide_order};
@@ -16,7 +16,7 @@ use model::Object;
 use protocol::{Code, Order, StatusOrder};
 
 /// Carries out an order in an open transaction, and keeps what it did.
-pub(crate) fn carry_out<B: Book>(
+pub(crate) fn execute_order_in<B: Book>(
     book: &mut B,
     alloc: Global,
     order: &Order,
@@ -24,12 +24,12 @@ pub(crate) fn carry_out<B: Book>(
     policy: &Policy,
 ) -> Result<Code, Fault>
     requires { (B.state book.old).is_open ≡ true }
-    ensures step { IfOk result (λ code. (B.state book.new).is_clean ≡ true → IsOrderStep policy.now order.now moment (B.state book.old).content.registry (B.state book.new).content.registry code) }
+    ensures step { IfOk result (λ code. OrderSteps policy.now order.now moment code (B.state book.old) (B.state book.new)) }
     ensures closed { (B.state book.new).is_open ≡ false }
     ensures fault { IfErr result (λ fault. GoesBack fault (B.state book.old) (B.state book.new)) }
     ensures follows { Follows (B.state book.old) (B.state book.new) }
 {
-    pass_time(book, alloc, moment)?;
+    advance_clock(book, alloc, moment)?;
     match order {
         Order::Status(order) => set_statuses(book, alloc, order, policy),
     }
@@ -49,7 +49,7 @@ fn set_statuses<B: Book>(
     ensures follows { Follows (B.state book.old) (B.state book.new) }
 {
     let object = object_ordered(book, alloc, order, policy)?;
-    let OrderDecision { code, changes } = or_back(book, decide_order(alloc, order, object))?;
+    let OrderDecision { code, changes } = or_rollback(book, decide_order(alloc, order, object))?;
     keep(book, changes)?;
     Ok(code)
 }
@@ -67,7 +67,7 @@ fn object_ordered<B: Book>(
     ensures fault { IfErr result (λ fault. GoesBack fault (B.state book.old) (B.state book.new)) }
     ensures follows { Follows (B.state book.old) (B.state book.new) }
 {
-    match or_back(book, order.object_name(alloc, policy.zone()))? {
+    match or_rollback(book, order.object_name(alloc, policy.zone()))? {
         None => Ok(None),
         Some(name) => object_at(book, order.kind, &name),
     }

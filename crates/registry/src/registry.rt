@@ -2,30 +2,29 @@
 ghost use Rattle.std.specs.Prelude.{◌≡◌, ◌≢◌, ◌<◌, nat_lt, true, false, ◌↔◌, IfOk, IfErr, OnOk, Ok, Err};
 ghost use Rattle.accounts.specs.Account.{raised};
 ghost use Rattle.policy.specs.Rules.{IsPlace};
-ghost use Rattle.registry.specs.Execution.{IsPrepared, IsStep, IsOrderStep, Fails, GoesBack, Keeps, last_call};
-ghost use Rattle.rules.specs.Isolation.{IsIsolated};
+ghost use Rattle.registry.specs.Execution.{Fails, GoesBack, IsPrepared, Isolates, Keeps, OrderSteps, Steps, last_call};
 ghost use Rattle.registry.specs.Opening.{Opens, Refuses};
 ghost use Rattle.registry.specs.WellFormed.{KeepsWellFormed, OpensWellFormed, StaysWellFormed};
 ghost use Rattle.rules.specs.Steps.{reply_of};
 ghost use Rattle.store.specs.Book.{Follows, IsSame, with_changes};
 ghost use Rattle.facts.specs.Facts.{facts};
 ghost use Rattle.verdict.specs.ResponseData.{id_of};
-ghost use Rattle.protocol.specs.Requests.{tag_of};
+ghost use Rattle.protocol.specs.Requests.{cl_trid_of};
 
 use crate::fault::{Fault, OpenFault};
-use crate::opening::take_up;
-use crate::order::carry_out;
-use crate::transaction::{facts_for, keep, or_back, pass_time};
+use crate::opening::open_in;
+use crate::order::execute_order_in;
+use crate::transaction::{facts_for, keep, or_rollback, advance_clock};
 use basis::list::Seq;
 use basis::registrar::RegistrarNo;
 use basis::text::{Text, copied};
 use calendar::Moment;
+use facts::Facts;
 use policy::Policy;
+use protocol::{Code, Command, Order, Reply, SvTrid};
 use rules::{Change, decide};
 use std::alloc::{AllocError, Global};
 use store::Book;
-use facts::Facts;
-use protocol::{Code, Command, Order, Reply, ServerTag};
 use verdict::{Verdict, id_of};
 
 /// The latest moment at which a call is taken: 2099-12-31T23:59:59Z.
@@ -60,7 +59,7 @@ impl<B: Book + Drop> Registry<B> {
         ensures refused { IfErr result (λ refusal. Refuses refusal.0 policy (B.state book) (B.state refusal.1)) }
     {
         let mut book = book;
-        match take_up(&mut book, alloc, &policy) {
+        match open_in(&mut book, alloc, &policy) {
             Ok(()) => Ok(Registry {
                 book,
                 policy,
@@ -88,8 +87,8 @@ impl<B: Book + Drop> Registry<B> {
         moment: Moment,
     ) -> Result<Reply, Fault>
         requires { IsPlace self.old.policy caller }
-        ensures step { IfOk result (λ reply. (B.state self.new.book).is_clean ≡ true → IsStep self.old.policy caller command.now moment (B.state self.old.book).content.registry (B.state self.new.book).content.registry reply) }
-        ensures isolation { IfOk result (λ reply. (B.state self.new.book).is_clean ≡ true → IsIsolated self.old.policy caller command.now moment (B.state self.old.book).content.registry (B.state self.new.book).content.registry reply) }
+        ensures step { IfOk result (λ reply. Steps self.old.policy caller command.now moment reply (B.state self.old.book) (B.state self.new.book)) }
+        ensures isolation { IfOk result (λ reply. Isolates self.old.policy caller command.now moment reply (B.state self.old.book) (B.state self.new.book)) }
         ensures well_formed { IfOk result (λ reply. (B.state self.new.book).is_clean ≡ true → StaysWellFormed self.old.policy caller (B.state self.old.book).content.registry (B.state self.new.book).content.registry) }
         ensures fault { IfErr result (λ fault. Fails fault (B.state self.old.book) (B.state self.new.book)) }
         ensures late { (result ≡ Err Fault.Moment) ↔ (last_call < moment) }
@@ -107,7 +106,7 @@ impl<B: Book + Drop> Registry<B> {
     /// read, `StatusProhibits` where it comes too late, or `ParameterPolicy` where a status is amiss.
     /// A well formed registry stays well formed.
     pub fn operator(&mut self, order: &Order, moment: Moment) -> Result<Code, Fault>
-        ensures step { IfOk result (λ code. (B.state self.new.book).is_clean ≡ true → IsOrderStep self.old.policy order.now moment (B.state self.old.book).content.registry (B.state self.new.book).content.registry code) }
+        ensures step { IfOk result (λ code. OrderSteps self.old.policy order.now moment code (B.state self.old.book) (B.state self.new.book)) }
         ensures well_formed { IfOk result (λ code. (B.state self.new.book).is_clean ≡ true → KeepsWellFormed self.old.policy (B.state self.old.book).content.registry (B.state self.new.book).content.registry) }
         ensures fault { IfErr result (λ fault. Fails fault (B.state self.old.book) (B.state self.new.book)) }
         ensures late { (result ≡ Err Fault.Moment) ↔ (last_call < moment) }
@@ -122,14 +121,14 @@ impl<B: Book + Drop> Registry<B> {
 
     /// Carries out an order by the rules.
     fn order_step(&mut self, order: &Order, moment: Moment) -> Result<Code, Fault>
-        ensures step { IfOk result (λ code. (B.state self.new.book).is_clean ≡ true → IsOrderStep self.old.policy order.now moment (B.state self.old.book).content.registry (B.state self.new.book).content.registry code) }
+        ensures step { IfOk result (λ code. OrderSteps self.old.policy order.now moment code (B.state self.old.book) (B.state self.new.book)) }
         ensures fault { IfErr result (λ fault. Fails fault (B.state self.old.book) (B.state self.new.book)) }
         ensures early { result ≢ Err Fault.Moment }
         ensures follows { Follows (B.state self.old.book) (B.state self.new.book) }
         ensures policy { self.new.policy ≡ self.old.policy }
     {
         self.book.begin()?;
-        carry_out(&mut self.book, self.alloc, order, moment, &self.policy)
+        execute_order_in(&mut self.book, self.alloc, order, moment, &self.policy)
     }
 
     /// Answers a command by the rules.
@@ -139,14 +138,14 @@ impl<B: Book + Drop> Registry<B> {
         command: &Command,
         moment: Moment,
     ) -> Result<Reply, Fault>
-        ensures step { IfOk result (λ reply. (B.state self.new.book).is_clean ≡ true → IsStep self.old.policy caller command.now moment (B.state self.old.book).content.registry (B.state self.new.book).content.registry reply) }
+        ensures step { IfOk result (λ reply. Steps self.old.policy caller command.now moment reply (B.state self.old.book) (B.state self.new.book)) }
         ensures fault { IfErr result (λ fault. Fails fault (B.state self.old.book) (B.state self.new.book)) }
         ensures early { result ≢ Err Fault.Moment }
         ensures follows { Follows (B.state self.old.book) (B.state self.new.book) }
         ensures policy { self.new.policy ≡ self.old.policy }
     {
         self.book.begin()?;
-        perform(
+        execute_in(
             &mut self.book,
             self.alloc,
             caller,
@@ -158,7 +157,7 @@ impl<B: Book + Drop> Registry<B> {
 }
 
 /// Answers a command in an open transaction, and keeps what it did.
-fn perform<B: Book>(
+fn execute_in<B: Book>(
     book: &mut B,
     alloc: Global,
     caller: RegistrarNo,
@@ -167,12 +166,12 @@ fn perform<B: Book>(
     policy: &Policy,
 ) -> Result<Reply, Fault>
     requires { (B.state book.old).is_open ≡ true }
-    ensures step { IfOk result (λ reply. (B.state book.new).is_clean ≡ true → IsStep policy.now caller command.now moment (B.state book.old).content.registry (B.state book.new).content.registry reply) }
+    ensures step { IfOk result (λ reply. Steps policy.now caller command.now moment reply (B.state book.old) (B.state book.new)) }
     ensures closed { (B.state book.new).is_open ≡ false }
     ensures fault { IfErr result (λ fault. GoesBack fault (B.state book.old) (B.state book.new)) }
     ensures follows { Follows (B.state book.old) (B.state book.new) }
 {
-    let now = pass_time(book, alloc, moment)?;
+    let now = advance_clock(book, alloc, moment)?;
     let prepared = prepare(book, alloc, caller, command, now, policy)?;
     keep_prepared(book, prepared)
 }
@@ -202,7 +201,7 @@ fn prepare<B: Book>(
     let facts = facts_for(book, caller, command)?;
     let prepared = prepared_by(alloc, &facts, caller, command, now, policy);
     drop(facts);
-    or_back(book, prepared)
+    or_rollback(book, prepared)
 }
 
 /// Decides on a command by the facts that bear on it, and writes the reply.
@@ -252,36 +251,36 @@ fn reply_to(
 ) -> Result<Reply, AllocError>
     ensures { IfOk result (λ reply. reply ≡ reply_of policy.now caller command.now verdict facts.now.account.commands) }
 {
-    let (tag, server_tag) = match tags(alloc, policy, caller, command, facts) {
-        Ok(tags) => tags,
+    let (cl_trid, sv_trid) = match identifiers(alloc, policy, caller, command, facts) {
+        Ok(identifiers) => identifiers,
         Err(error) => {
             drop(verdict);
             return Err(error);
         }
     };
     Ok(Reply {
-        tag,
+        cl_trid,
         code: verdict.code,
         content: verdict.content,
-        server_tag,
+        sv_trid,
     })
 }
 
 /// The command's own identifier, and the registry's.
-fn tags(
+fn identifiers(
     alloc: Global,
     policy: &Policy,
     caller: RegistrarNo,
     command: &Command,
     facts: &Facts,
-) -> Result<(Option<Text>, ServerTag), AllocError>
-    ensures tag { IfOk result (λ tags. tags.0 ≡ tag_of command.now) }
-    ensures server_tag { IfOk result (λ tags. tags.1 ≡ record { id = id_of policy.now caller; number = raised facts.now.account.commands }) }
+) -> Result<(Option<Text>, SvTrid), AllocError>
+    ensures cl_trid { IfOk result (λ it. it.0 ≡ cl_trid_of command.now) }
+    ensures sv_trid { IfOk result (λ it. it.1 ≡ record { id = id_of policy.now caller; number = raised facts.now.account.commands }) }
 {
-    let tag = copied(command.tag())?;
-    let server_tag = ServerTag {
+    let cl_trid = copied(command.cl_trid())?;
+    let sv_trid = SvTrid {
         id: id_of(alloc, policy, caller)?,
         number: facts.account.next_command(),
     };
-    Ok((tag, server_tag))
+    Ok((cl_trid, sv_trid))
 }

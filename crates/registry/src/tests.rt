@@ -8,10 +8,10 @@ use basis::text::Text;
 use calendar::Moment;
 use names::GivenName;
 use policy::Policy;
+use protocol::{Code, Command, Request};
 use std::alloc::Global;
 use std::test::Fail;
 use store::{Book, PlainBook};
-use protocol::{Code, Command, Request};
 
 const POLICY: &str = r#"zone = "test"
 reserved = ["nic", "www"]
@@ -125,8 +125,8 @@ fn answers_commands(rt: HostRuntime) -> Result<(), Fail> {
     let answered = registry.execute(alfa, &command, now);
     drop(command);
     let reply = answered?;
-    let (code, number) = (reply.code, reply.server_tag.number);
-    let is_alfas = reply.server_tag.id.as_str() == "alfa";
+    let (code, number) = (reply.code, reply.sv_trid.number);
+    let is_alfas = reply.sv_trid.id.as_str() == "alfa";
     drop(reply);
     assert!(rt; code == Code::Completed);
     assert_eq!(rt; number, 1);

@@ -10,17 +10,17 @@ use basis::list::Seq;
 use basis::registrar::RegistrarNo;
 use basis::text::Text;
 use calendar::Moment;
+use facts::Facts;
+use model::Object;
 use objects::ObjectKind;
 use policy::Terms;
+use protocol::Command;
 use rules::Change;
 use std::alloc::{AllocError, Global};
 use store::Book;
-use facts::Facts;
-use model::Object;
-use protocol::Command;
 
 /// What was made, or back to where the transaction began where memory ran out.
-pub(crate) fn or_back<B: Book, T>(book: &mut B, made: Result<T, AllocError>) -> Result<T, Fault>
+pub(crate) fn or_rollback<B: Book, T>(book: &mut B, made: Result<T, AllocError>) -> Result<T, Fault>
     requires { (B.state book.old).is_open ≡ true }
     ensures made { IfOk result (λ value. made ≡ Ok value) }
     ensures same { OnOk result (book.new ≡ book.old) }
@@ -130,7 +130,7 @@ pub(crate) fn keep<B: Book>(book: &mut B, changes: Seq<Change>) -> Result<(), Fa
 }
 
 /// Lets time pass up to a moment in an open transaction, and gives the clock.
-pub(crate) fn pass_time<B: Book>(
+pub(crate) fn advance_clock<B: Book>(
     book: &mut B,
     alloc: Global,
     moment: Moment,
@@ -141,7 +141,7 @@ pub(crate) fn pass_time<B: Book>(
     ensures fault { IfErr result (λ fault. GoesBack fault (B.state book.old) (B.state book.new)) }
     ensures follows { Follows (B.state book.old) (B.state book.new) }
 {
-    let passing = or_back(book, passing(alloc, moment))?;
+    let passing = or_rollback(book, passing(alloc, moment))?;
     apply(book, passing)?;
     clock(book)
 }

@@ -18,7 +18,7 @@ use Rattle.objects.specs.declared.roid.Roid.{Roid}
 use Rattle.objects.specs.Links.{has_name, names_contact, names_host}
 use Rattle.policy.specs.Rules.{PolicyRules, IsPlace}
 use Rattle.rules.specs.declared.change.Change.TheVariants.{PutContact, DropContact, PutDomain, PutHost, DropHost, RenameHost}
-use Rattle.rules.specs.Changes.{changed, with_account, relinked, relinked_links, renamed}
+use Rattle.rules.specs.Changes.{changed, with_account, with_host_renamed, links_with_host_renamed, renamed}
 use Rattle.rules.proofs.GrowthLemmas.{Grows, contact-grown, domain-grown, host-grown}
 use Rattle.rules.proofs.NameListLemmas.{has_name-filter}
 use Rattle.rules.proofs.NamedLemmas.{drop-cases, drop-keeps, drop-there, is-there, put-cases, put-is, put-keeps, put-there, remade-cases, remade-keeps}
@@ -245,15 +245,15 @@ module _ (p : PolicyRules) (s : Registry) (is : IsRegistry p s) where
   rename-host old o h at-old same fits free =
       let left : Hosts = remove s.hosts old in
       let hosts : Hosts = insert left h.name h in
-      let domains : Domains = map_values (λ name. relinked old h.name) s.domains in
+      let domains : Domains = map_values (λ name. with_host_renamed old h.name) s.domains in
       let t : Registry = with_objects s.contacts hosts domains s in
       let grows : Grows p p s t = same-time p s s.contacts hosts domains in
-      let there : (n : List ℕ) → IsSome (get s.domains n) → IsSome (get domains n) = λ n. remade-keeps (relinked old h.name) s.domains n in
+      let there : (n : List ℕ) → IsSome (get s.domains n) → IsSome (get domains n) = λ n. remade-keeps (with_host_renamed old h.name) s.domains n in
       let apart : AreApart host_roid left = apart-drop host_roid s.hosts is.host_roids old in
       let own : IsItsOwn host_roid left h.name h.roid = λ n x at alike. let before = drop-cases s.hosts old n x at in absurd (before.0 (is.host_roids n old x o before.1 at-old (alike ∙ same))) in
-      let one : (n : List ℕ) (d : Domain) → get s.domains n ≡ Some d → IsDomainOf p t n (relinked old h.name d) = λ n d at.
+      let one : (n : List ℕ) (d : Domain) → get s.domains n ≡ Some d → IsDomainOf p t n (with_host_renamed old h.name d) = λ n d at.
       let k = is.domains n d at in
-      domain-grown p p s t grows n d (relinked_links old h.name d.links)
+      domain-grown p p s t grows n d (links_with_host_renamed old h.name d.links)
       (λ host now. ⊎_elim (λ new. inr (subst (λ (q : List ℕ). IsSome d.deletion → superordinate_of p.zone q ≢ Some d.name) (sym new) (free n d at))) (λ before. inl (drop-there s.hosts old host before)) (put-there left h.name h host now))
       k.contacts
       (λ host named. ⊎_elim
@@ -265,8 +265,8 @@ module _ (p : PolicyRules) (s : Registry) (is : IsRegistry p s) where
         accounts = is.accounts;
         contacts = λ n c at. contact-grown p p s t grows n c (is.contacts n c at);
         hosts = at-put (IsHostOf p t) left h.name h (host-grown p p s t grows there h.name h fits) (λ n x at. host-grown p p s t grows there n x (is.hosts n x (drop-cases s.hosts old n x at).1));
-        domains = λ n d at. let before = remade-cases (relinked old h.name) s.domains n d at in subst (IsDomainOf p t n) before.2 (one n before.0 before.1);
+        domains = λ n d at. let before = remade-cases (with_host_renamed old h.name) s.domains n d at in subst (IsDomainOf p t n) before.2 (one n before.0 before.1);
         contact_roids = is.contact_roids;
         host_roids = apart-put host_roid left apart h.name h own;
-        domain_roids = apart-remade domain_roid s.domains is.domain_roids (relinked old h.name) (λ d. refl);
+        domain_roids = apart-remade domain_roid s.domains is.domain_roids (with_host_renamed old h.name) (λ d. refl);
       }

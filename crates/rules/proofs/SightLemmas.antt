@@ -21,7 +21,7 @@ use Rattle.objects.specs.Links.{has_name, links_seen}
 use Rattle.objects.specs.Statuses.{all_statuses, has_status}
 use Rattle.objects.specs.Transfers.{is_pending, names}
 use Rattle.objects.proofs.StatusLemmas.{has_status-filter}
-use Rattle.rules.specs.Changes.{relinked, relinked_links, renamed}
+use Rattle.rules.specs.Changes.{with_host_renamed, links_with_host_renamed, renamed}
 use Rattle.facts.specs.declared.facts.Superordinate.{Superordinate}
 use Rattle.facts.specs.Facts.{superordinate_of_domain}
 
@@ -101,9 +101,9 @@ holds-seen r presented d = held-by r d (is_party r d.sponsor d.transfer) (is_rig
 -- ---- a domain that names a host by its new name
 
 pub relinked_seen : List ℕ → List ℕ → Seen Domain DomainFace → Seen Domain DomainFace
-relinked_seen old new (Full d) = Full (relinked old new d)
-relinked_seen old new (Named face t) = Named (record face { links = relinked_links old new face.links }) t
-relinked_seen old new (Public face) = Public (record face { links = relinked_links old new face.links })
+relinked_seen old new (Full d) = Full (with_host_renamed old new d)
+relinked_seen old new (Named face t) = Named (record face { links = links_with_host_renamed old new face.links }) t
+relinked_seen old new (Public face) = Public (record face { links = links_with_host_renamed old new face.links })
 
 not-zero : (n : ℕ) (b : Bool) → (suc n == 0) ≡ b → b ≡ false
 not-zero n true e = absurd (let none : suc n ≡ 0 = eqb-true (suc n) 0 e in omega arith)
@@ -129,7 +129,7 @@ is_empty-renamed old new hosts = by (has_name hosts old) refl
     by true e = add-some (precedes (slice_cmp nat_cmp)) new (filter (λ host. not (bytes_eq host old)) hosts) ∙ sym (found-some hosts old e)
     by false e = refl
 
-shows-relinked : (old new : List ℕ) (d : Domain) (s : Status) → shows (relinked old new d) s ≡ shows d s
+shows-relinked : (old new : List ℕ) (d : Domain) (s : Status) → shows (with_host_renamed old new d) s ≡ shows d s
 shows-relinked old new d statuses.ClientDeleteProhibited = refl
 shows-relinked old new d statuses.ClientHold = refl
 shows-relinked old new d statuses.ClientRenewProhibited = refl
@@ -147,23 +147,23 @@ shows-relinked old new d statuses.ServerTransferProhibited = refl
 shows-relinked old new d statuses.ServerUpdateProhibited = refl
 
 relinked_face : List ℕ → List ℕ → Domain → DomainFace
-relinked_face old new d = record (face_of d) { links = relinked_links old new d.links }
+relinked_face old new d = record (face_of d) { links = links_with_host_renamed old new d.links }
 
-face-relinked : (old new : List ℕ) (d : Domain) → face_of (relinked old new d) ≡ relinked_face old new d
+face-relinked : (old new : List ℕ) (d : Domain) → face_of (with_host_renamed old new d) ≡ relinked_face old new d
 unfolding relinked_face
 face-relinked old new d = ap (λ (f : Status → Bool). record (relinked_face old new d) { statuses = filter f all_statuses }) (λ i s. shows-relinked old new d s i)
 
-relinked-outside : (r : ℕ) (old new : List ℕ) (face : DomainFace) (t : Option Transfer) → outside r (record face { links = relinked_links old new face.links }) t ≡ relinked_seen old new (outside r face t)
+relinked-outside : (r : ℕ) (old new : List ℕ) (face : DomainFace) (t : Option Transfer) → outside r (record face { links = links_with_host_renamed old new face.links }) t ≡ relinked_seen old new (outside r face t)
 unfolding relinked_seen
 relinked-outside r old new face None = refl
-relinked-outside r old new face (Some t) = elim (names r t) as (λ (b : Bool). let seen : Seen Domain DomainFace = cond b (Named face t) (Public face) in ◌≡◌ {A = Seen Domain DomainFace} (cond b (Named (record face { links = relinked_links old new face.links }) t) (Public (record face { links = relinked_links old new face.links }))) (relinked_seen old new seen)) [ true ↦ refl | false ↦ refl ]
+relinked-outside r old new face (Some t) = elim (names r t) as (λ (b : Bool). let seen : Seen Domain DomainFace = cond b (Named face t) (Public face) in ◌≡◌ {A = Seen Domain DomainFace} (cond b (Named (record face { links = links_with_host_renamed old new face.links }) t) (Public (record face { links = links_with_host_renamed old new face.links }))) (relinked_seen old new seen)) [ true ↦ refl | false ↦ refl ]
 
 seen-relinked-by : (r : ℕ) (old new : List ℕ) (d : Domain) (b : Bool)
-    → cond b (Full (relinked old new d)) (outside r (face_of (relinked old new d)) d.transfer) ≡ relinked_seen old new (cond b (Full d) (outside r (face_of d) d.transfer))
+    → cond b (Full (with_host_renamed old new d)) (outside r (face_of (with_host_renamed old new d)) d.transfer) ≡ relinked_seen old new (cond b (Full d) (outside r (face_of d) d.transfer))
 unfolding relinked_seen relinked_face
 seen-relinked-by r old new d true = refl
 seen-relinked-by r old new d false = ap (λ (face : DomainFace). outside r face d.transfer) (face-relinked old new d) ∙ relinked-outside r old new (face_of d) d.transfer
 
--- to relink a domain and to look is to look and to see it relinked
-pub seen-relinked : (r : ℕ) (presented : Option (List ℕ)) (old new : List ℕ) (d : Domain) → domain_as r presented (relinked old new d) ≡ relinked_seen old new (domain_as r presented d)
+-- to relink a domain and to look is to look and to see it with_host_renamed
+pub seen-relinked : (r : ℕ) (presented : Option (List ℕ)) (old new : List ℕ) (d : Domain) → domain_as r presented (with_host_renamed old new d) ≡ relinked_seen old new (domain_as r presented d)
 seen-relinked r presented old new d = seen-relinked-by r old new d (is_party r d.sponsor d.transfer || is_right presented d.secret)

@@ -21,7 +21,7 @@ use Rattle.objects.specs.Links.{links_seen, names_contact, names_host}
 use Rattle.objects.specs.Sight.{contact_as, domain_as, is_party}
 use Rattle.rules.specs.declared.change.Change.{Change}
 use Rattle.rules.specs.declared.change.Change.TheVariants.{MoveClock, OpenAccount, PutContact, DropContact, PutDomain, PutHost, DropHost, RenameHost, CountCommand, TakeSerial}
-use Rattle.rules.specs.Changes.{changed, changed_all, with_account, itself, relinked}
+use Rattle.rules.specs.Changes.{changed, changed_all, with_account, itself, with_host_renamed}
 use Rattle.rules.proofs.SightLemmas.{forget, forget-domain, forget-contact, holds_seen, holds-seen, links-seen, relinked_seen, seen-relinked, superordinate_seen, superordinate-seen}
 use Rattle.protocol.specs.declared.command.Command.{Command}
 use Rattle.facts.specs.Facts.{Lookups, facts, facts_by, lookups, held, subordinate, superordinate_of_domain}
@@ -166,10 +166,10 @@ account_of-with_account r other f s =
     ∙ own-account f s r other (eq_by_cmp nat_cmp r other) refl
 
 relinked-view : (r : ℕ) (old new : List ℕ) (m : FinMap (slice_cmp nat_cmp) Domain)
-    → map_values (λ (name : List ℕ). domain_as r None) (map_values (λ (name : List ℕ). relinked old new) m) ≡ map_values (λ (name : List ℕ). relinked_seen old new) (map_values (λ (name : List ℕ). domain_as r None) m)
+    → map_values (λ (name : List ℕ). domain_as r None) (map_values (λ (name : List ℕ). with_host_renamed old new) m) ≡ map_values (λ (name : List ℕ). relinked_seen old new) (map_values (λ (name : List ℕ). domain_as r None) m)
 relinked-view r old new m =
-    map_values-twice (slice_cmp nat_cmp) nat_list_cmp_total names_apart (λ name. relinked old new) (λ name. domain_as r None) (λ name d. domain_as r None (relinked old new d)) (λ name d. refl) m
-    ∙ sym (map_values-twice (slice_cmp nat_cmp) nat_list_cmp_total names_apart (λ name. domain_as r None) (λ name. relinked_seen old new) (λ name d. domain_as r None (relinked old new d)) (λ name d. sym (seen-relinked r None old new d)) m)
+    map_values-twice (slice_cmp nat_cmp) nat_list_cmp_total names_apart (λ name. with_host_renamed old new) (λ name. domain_as r None) (λ name d. domain_as r None (with_host_renamed old new d)) (λ name d. refl) m
+    ∙ sym (map_values-twice (slice_cmp nat_cmp) nat_list_cmp_total names_apart (λ name. domain_as r None) (λ name. relinked_seen old new) (λ name d. domain_as r None (with_host_renamed old new d)) (λ name d. sym (seen-relinked r None old new d)) m)
 
 -- to make a change and to look is to look and to see the change
 view-changed : (r : ℕ) (change : Change) (s : Registry) → view r (changed change s) ≡ seen_change r change (view r s)

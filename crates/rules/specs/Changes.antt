@@ -26,11 +26,11 @@ itself account = account
 abbrev pub renamed : List ℕ → List ℕ → List (List ℕ) → List (List ℕ)
 renamed old new hosts = if has_name hosts old then add (precedes (slice_cmp nat_cmp)) new (filter (λ host. not (bytes_eq host old)) hosts) else hosts
 
-abbrev pub relinked_links : List ℕ → List ℕ → Links → Links
-relinked_links old new links = record links { hosts = renamed old new links.hosts }
+abbrev pub links_with_host_renamed : List ℕ → List ℕ → Links → Links
+links_with_host_renamed old new links = record links { hosts = renamed old new links.hosts }
 
-abbrev pub relinked : List ℕ → List ℕ → Domain → Domain
-relinked old new d = record d { links = relinked_links old new d.links }
+abbrev pub with_host_renamed : List ℕ → List ℕ → Domain → Domain
+with_host_renamed old new d = record d { links = links_with_host_renamed old new d.links }
 
 -- One change. Time passes by a change too, and an account that is opened and was there stays as it
 -- is.
@@ -42,7 +42,7 @@ changed (DropContact name) s = record s { contacts = remove s.contacts name }
 changed (PutDomain d) s = record s { domains = insert s.domains d.name d }
 changed (PutHost h) s = record s { hosts = insert s.hosts h.name h }
 changed (DropHost name) s = record s { hosts = remove s.hosts name }
-changed (RenameHost old new) s = record s { domains = map_values (λ name. relinked old new) s.domains }
+changed (RenameHost old new) s = record s { domains = map_values (λ name. with_host_renamed old new) s.domains }
 changed (CountCommand r) s = with_account r counted s
 changed (TakeSerial r) s = with_account r numbered s
 

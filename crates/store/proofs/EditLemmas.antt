@@ -18,7 +18,7 @@ use Rattle.basis.specs.Maps.{map_values}
 use Rattle.basis.proofs.MapLemmas.{names_apart, get-map_values}
 use Rattle.objects.specs.declared.domain.Domain.{Domain}
 use Rattle.objects.specs.Links.{names_host}
-use Rattle.rules.specs.Changes.{relinked}
+use Rattle.rules.specs.Changes.{with_host_renamed}
 use Rattle.rules.specs.declared.change.Change.{Change}
 use Rattle.rules.specs.declared.change.Change.TheVariants.{MoveClock, OpenAccount, PutContact, DropContact, PutDomain, PutHost, DropHost, RenameHost, CountCommand, TakeSerial}
 use Rattle.store.specs.declared.edit.Edit.{Edit}
@@ -180,7 +180,7 @@ mapped test f still m = same_map nat_list_cmp_total names_apart _ _ (λ q.
     ∙ ap (λ (o : Option Domain). after test f o (get m q)) (sym (get-entries m q)) ∙ after-same test f still (get m q)
     ∙ sym (get-map_values (slice_cmp nat_cmp) nat_list_cmp_total names_apart (λ name. f) m q))
 
-not-linked : (old new : List ℕ) (d : Domain) → names_host old d.links ≡ false → relinked old new d ≡ d
+not-linked : (old new : List ℕ) (d : Domain) → names_host old d.links ≡ false → with_host_renamed old new d ≡ d
 not-linked old new d e = ap (λ (b : Bool). record d { links = record d.links { hosts = cond b (add (precedes (slice_cmp nat_cmp)) new (filter (λ host. not (bytes_eq host old)) d.links.hosts)) d.links.hosts } }) e
 
 pub made : (c : Change) (s : Stored) → edited_all (edits_of c s.registry) s ≡ with_changes (c ∷ []) s
@@ -193,8 +193,8 @@ made (PutDomain d) s = refl
 made (PutHost h) s = refl
 made (DropHost name) s = refl
 made (RenameHost old new) s =
-    edited-where (λ (d : Domain). names_host old d.links) (relinked old new) (entries s.registry.domains) s
-    ∙ ap (with_domains s) (mapped (λ (d : Domain). names_host old d.links) (relinked old new) (not-linked old new) s.registry.domains)
+    edited-where (λ (d : Domain). names_host old d.links) (with_host_renamed old new) (entries s.registry.domains) s
+    ∙ ap (with_domains s) (mapped (λ (d : Domain). names_host old d.links) (with_host_renamed old new) (not-linked old new) s.registry.domains)
 made (CountCommand r) s = refl
 made (TakeSerial r) s = refl
 

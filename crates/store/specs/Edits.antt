@@ -6,7 +6,7 @@ use Rattle.accounts.specs.Account.{counted, numbered}
 use Rattle.objects.specs.Links.{names_host}
 use Rattle.rules.specs.declared.change.Change.{Change}
 use Rattle.rules.specs.declared.change.Change.TheVariants.{MoveClock, OpenAccount, PutContact, DropContact, PutDomain, PutHost, DropHost, RenameHost, CountCommand, TakeSerial}
-use Rattle.rules.specs.Changes.{relinked}
+use Rattle.rules.specs.Changes.{with_host_renamed}
 use Rattle.store.specs.declared.edit.Edit.{Edit}
 use Rattle.store.specs.declared.edit.Edit.TheVariants as edit
 use Rattle.store.specs.Book.{Stored}
@@ -52,6 +52,6 @@ edits_of (DropContact name) s = edit.Contact name None ∷ []
 edits_of (PutDomain d) s = edit.Domain d.name (Some d) ∷ []
 edits_of (PutHost h) s = edit.Host h.name (Some h) ∷ []
 edits_of (DropHost name) s = edit.Host name None ∷ []
-edits_of (RenameHost old new) s = map (λ e. edit.Domain e.0 (Some (relinked old new e.1))) (filter (λ e. names_host old e.1.links) (entries s.domains))
+edits_of (RenameHost old new) s = map (λ e. edit.Domain e.0 (Some (with_host_renamed old new e.1))) (filter (λ e. names_host old e.1.links) (entries s.domains))
 edits_of (CountCommand r) s = edit.Account r (Some (counted (account_of r s))) ∷ []
 edits_of (TakeSerial r) s = edit.Account r (Some (numbered (account_of r s))) ∷ []

@@ -5,21 +5,21 @@ use Rattle.store.specs.declared.plain.PlainBook.{PlainBook}
 use Rattle.store.specs.Book.{BookState, Stored}
 use Rattle.store.specs.Edits.{undone_all}
 
-abbrev pub held : Content → Stored
-held c = record {
+abbrev pub content_of : Content → Stored
+content_of c = record {
   registry = record { contacts = c.contacts; hosts = c.hosts; domains = c.domains; accounts = c.accounts; clock = c.clock };
   terms = c.terms;
 }
 
--- what the transaction found
-abbrev pub found : PlainBook → Stored
-found b = undone_all b.undo (held b.content)
+-- what the transaction at_begin
+abbrev pub at_begin : PlainBook → Stored
+at_begin b = undone_all b.undo (content_of b.content)
 
 -- a book in memory takes nothing wrong and refuses nothing
 abbrev pub plain_state : PlainBook → BookState
 plain_state b = record {
-  content = if b.is_open then held b.content else found b;
-  before = found b;
+  content = if b.is_open then content_of b.content else at_begin b;
+  before = at_begin b;
   is_open = b.is_open;
   is_clean = true;
   refused = 0;
@@ -28,4 +28,4 @@ plain_state b = record {
 -- nothing is left to undo but what an open transaction did
 pub record IsSettled (old : BookState) (new : PlainBook) : Type 0 where
   pub same : plain_state new ≡ old
-  pub content : held new.content ≡ old.content
+  pub content : content_of new.content ≡ old.content

@@ -1,14 +1,14 @@
 //! How a registry in ordered maps is changed.
 ghost use Rattle.std.specs.Prelude.{◌≡◌, ◌∷◌, [], IfOk, OnOk, OnErr};
 ghost use Rattle.store.specs.Edits as spec;
-ghost use Rattle.store.specs.Plain.{held};
+ghost use Rattle.store.specs.Plain.{content_of};
 ghost use Rattle.model.specs.Registry.{account_of};
 
 use crate::content::Content;
 use crate::edit::{
     Edit, copy_account, copy_contact, copy_domain, copy_host, copy_terms, put_named,
 };
-use crate::relinked::relinked;
+use crate::renamed::with_host_renamed;
 use accounts::Account;
 use basis::registrar::RegistrarNo;
 use basis::text::Text;
@@ -18,7 +18,7 @@ use std::alloc::AllocError;
 impl Content {
     /// A copy of a registrar's account, which is empty where it was never opened.
     fn account(&self, registrar: RegistrarNo) -> Result<Account, AllocError>
-        ensures { IfOk result (λ account. account ≡ account_of registrar (held self.now).registry) }
+        ensures { IfOk result (λ account. account ≡ account_of registrar (content_of self.now).registry) }
     {
         match self.accounts.get(registrar) {
             Some(account) => account.clone(),
@@ -28,7 +28,7 @@ impl Content {
 
     /// The edits that make a change.
     pub fn edits_of(&self, change: Change) -> Result<Vec<Edit>, AllocError>
-        ensures { IfOk result (λ edits. edits.items ≡ spec.edits_of change (held self.now).registry) }
+        ensures { IfOk result (λ edits. edits.items ≡ spec.edits_of change (content_of self.now).registry) }
     {
         match change {
             Change::MoveClock(moment) => self.one(Edit::Clock(moment.later(self.clock))),
@@ -60,7 +60,7 @@ impl Content {
                 self.one(Edit::Host(name, Some(host)))
             }
             Change::DropHost(name) => self.one(Edit::Host(name, None)),
-            Change::Relink(old, new) => self.relinks(&old, &new),
+            Change::RenameHost { from, to } => self.renames(&from, &to),
         }
     }
 
@@ -71,13 +71,13 @@ impl Content {
     }
 
     /// The domains that name a host, each with the host's new name.
-    fn relinks(&self, old: &Text, new: &Text) -> Result<Vec<Edit>, AllocError>
-        ensures { IfOk result (λ edits. edits.items ≡ spec.edits_of (Change.Relink old.now new.now) (held self.now).registry) }
+    fn renames(&self, from: &Text, to: &Text) -> Result<Vec<Edit>, AllocError>
+        ensures { IfOk result (λ edits. edits.items ≡ spec.edits_of (Change.RenameHost from.now to.now) (content_of self.now).registry) }
     {
         let mut edits = Vec::new(self.alloc);
         for (name, domain) in self.domains.iter() {
-            if domain.links.names_host(old) {
-                let domain = relinked(self.alloc, old, new, domain)?;
+            if domain.links.names_host(from) {
+                let domain = with_host_renamed(self.alloc, from, to, domain)?;
                 edits.push(Edit::Domain(name.clone()?, Some(domain)))?;
             }
         }
@@ -86,7 +86,7 @@ impl Content {
 
     /// What takes an edit back.
     pub fn inverse(&self, edit: &Edit) -> Result<Edit, AllocError>
-        ensures { IfOk result (λ inverse. inverse ≡ spec.inverse edit.now (held self.now)) }
+        ensures { IfOk result (λ inverse. inverse ≡ spec.inverse edit.now (content_of self.now)) }
     {
         match edit {
             Edit::Clock(_) => Ok(Edit::Clock(self.clock)),
@@ -112,8 +112,8 @@ impl Content {
 
     /// Makes an edit.
     pub fn set(&mut self, edit: Edit) -> Result<(), AllocError>
-        ensures ok { OnOk result (held self.new ≡ spec.edited edit (held self.old)) }
-        ensures err { OnErr result (held self.new ≡ held self.old) }
+        ensures ok { OnOk result (content_of self.new ≡ spec.edited edit (content_of self.old)) }
+        ensures err { OnErr result (content_of self.new ≡ content_of self.old) }
     {
         match edit {
             Edit::Clock(moment) => {
@@ -136,8 +136,8 @@ impl Content {
         registrar: RegistrarNo,
         value: Option<Account>,
     ) -> Result<(), AllocError>
-        ensures ok { OnOk result (held self.new ≡ spec.edited (Edit.Account registrar value) (held self.old)) }
-        ensures err { OnErr result (held self.new ≡ held self.old) }
+        ensures ok { OnOk result (content_of self.new ≡ spec.edited (Edit.Account registrar value) (content_of self.old)) }
+        ensures err { OnErr result (content_of self.new ≡ content_of self.old) }
     {
         match value {
             None => {

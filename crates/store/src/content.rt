@@ -4,10 +4,11 @@ ghost use Rattle.std.specs.List.{list_any};
 ghost use Rattle.std.specs.Option.{option_copied};
 ghost use Rattle.std.specs.FinMap as finmap;
 ghost use Rattle.names.specs.GivenName.{name_of};
-ghost use Rattle.store.specs.Found as found;
-ghost use Rattle.store.specs.Plain.{held};
+ghost use Rattle.store.specs.Lookups as lookups;
+ghost use Rattle.store.specs.Plain.{content_of};
 ghost use Rattle.facts.specs.Facts as facts;
-ghost use Rattle.verdict.specs.Orders as orders;
+ghost use Rattle.protocol.specs.Requests as requests;
+ghost use Rattle.model.specs.Objects as objects;
 ghost use Rattle.model.specs.Registry.{account_of};
 
 use crate::edit::{copy_contact, copy_domain, copy_host};
@@ -21,7 +22,7 @@ use names::{GivenName, last_two_labels};
 use objects::{Contact, Domain, Host, ObjectKind, is_below};
 use policy::Terms;
 use std::alloc::{AllocError, Global};
-use facts::{AccountFacts, ContactFacts, DomainFacts, Facts, HostFacts, Superordinate};
+use facts::{AccountFacts, ContactFacts, DomainFacts, Facts, HOLDING_LIMIT, HostFacts, Superordinate};
 use model::Object;
 use protocol::{Command, Request};
 
@@ -38,7 +39,7 @@ pub(crate) struct Content {
 
 impl Content {
     fn account_facts(&self, registrar: RegistrarNo) -> AccountFacts
-        ensures { result ≡ facts.account_facts (account_of registrar (held self.now).registry) }
+        ensures { result ≡ facts.account_facts (account_of registrar (content_of self.now).registry) }
     {
         match self.accounts.get(registrar) {
             Some(account) => AccountFacts {
@@ -55,23 +56,20 @@ impl Content {
 
 // ---- the facts of a command
 
-/// A registrar that holds so many domains gets no other.
-const HOLDING_LIMIT: usize = 1_000_000;
-
 impl Content {
     /// The facts that bear on a registrar's command. Each name costs a look-up. What domains name and
     /// which hosts lie below one is looked for through all of them, for info and delete alone.
     pub fn facts_for(&self, caller: RegistrarNo, command: &Command) -> Result<Facts, AllocError>
-        ensures { IfOk result (λ it. it ≡ facts.facts caller command.now (held self.now).registry) }
+        ensures { IfOk result (λ it. it ≡ facts.facts caller command.now (content_of self.now).registry) }
     {
         Ok(Facts {
             account: self.account_facts(caller),
             contacts: Seq::from_vec(self.contacts_for(caller, command)?),
             domains: Seq::from_vec(self.domains_for(caller, command)?),
             hosts: Seq::from_vec(self.hosts_for(command)?),
-            renamed: self.renamed_for(command)?,
-            lacks_link: self.lacks_link(command),
-            is_full: command.asks_room() && self.is_full(caller),
+            at_new_name: self.new_name_for(command)?,
+            reference_missing: self.reference_missing(command),
+            holding_limit_reached: command.adds_a_held_domain() && self.holds_the_most(caller),
         })
     }
 
@@ -80,7 +78,7 @@ impl Content {
         caller: RegistrarNo,
         command: &Command,
     ) -> Result<Vec<ContactFacts>, AllocError>
-        ensures { IfOk result (λ it. it.items ≡ map (facts.contact_facts (facts.finds caller command.now (held self.now).registry) command.now) (facts.asked [] facts.contacts_asked command.now)) }
+        ensures { IfOk result (λ it. it.items ≡ map (facts.contact_facts (facts.lookups caller command.now (content_of self.now).registry) command.now) (requests.asked [] requests.contacts_asked command.now)) }
     {
         let mut contacts = Vec::new(self.alloc);
         for name in command.contacts() {
@@ -95,7 +93,7 @@ impl Content {
         command: &Command,
         name: &Text,
     ) -> Result<ContactFacts, AllocError>
-        ensures { IfOk result (λ known. known ≡ facts.contact_facts (facts.finds caller command.now (held self.now).registry) command.now name.now) }
+        ensures { IfOk result (λ known. known ≡ facts.contact_facts (facts.lookups caller command.now (content_of self.now).registry) command.now name.now) }
     {
         let presented = command.presented_for_contact(name);
         let seen = match self.contacts.get(name) {
@@ -105,13 +103,13 @@ impl Content {
         Ok(ContactFacts {
             name: name.clone()?,
             seen,
-            linked: command.asks_around() && self.is_linked_contact(name),
+            linked: command.reads_associations() && self.is_linked_contact(name),
         })
     }
 
     /// Whether a domain names the contact.
     fn is_linked_contact(&self, name: &Text) -> bool
-        ensures { result ≡ facts.is_linked_contact (held self.now).registry name.now }
+        ensures { result ≡ facts.is_linked_contact (content_of self.now).registry name.now }
     {
         self.domains
             .values()
@@ -123,7 +121,7 @@ impl Content {
         caller: RegistrarNo,
         command: &Command,
     ) -> Result<Vec<DomainFacts>, AllocError>
-        ensures { IfOk result (λ it. it.items ≡ map (λ name. facts.domain_facts (facts.finds caller command.now (held self.now).registry) command.now (name_of name)) (facts.asked [] facts.domains_asked command.now)) }
+        ensures { IfOk result (λ it. it.items ≡ map (λ name. facts.domain_facts (facts.lookups caller command.now (content_of self.now).registry) command.now (name_of name)) (requests.asked [] requests.domains_asked command.now)) }
     {
         let mut domains = Vec::new(self.alloc);
         for name in command.domains() {
@@ -138,7 +136,7 @@ impl Content {
         command: &Command,
         name: &Text,
     ) -> Result<DomainFacts, AllocError>
-        ensures { IfOk result (λ known. known ≡ facts.domain_facts (facts.finds caller command.now (held self.now).registry) command.now name.now) }
+        ensures { IfOk result (λ known. known ≡ facts.domain_facts (facts.lookups caller command.now (content_of self.now).registry) command.now name.now) }
     {
         let seen = match self.domains.get(name) {
             None => None,
@@ -153,9 +151,9 @@ impl Content {
 
     /// The hosts below a domain, where the command asks.
     fn hosts_around(&self, command: &Command, domain: &Text) -> Result<Vec<Text>, AllocError>
-        ensures { IfOk result (λ names. names.items ≡ (if facts.asked false facts.asks_around command.now then facts.subordinate (held self.now).registry domain.now else [])) }
+        ensures { IfOk result (λ names. names.items ≡ (if requests.asked false requests.reads_associations command.now then facts.subordinate (content_of self.now).registry domain.now else [])) }
     {
-        if command.asks_around() {
+        if command.reads_associations() {
             self.subordinate(domain)
         } else {
             Ok(Vec::new(self.alloc))
@@ -164,7 +162,7 @@ impl Content {
 
     /// The hosts below a domain, in the order of their names.
     fn subordinate(&self, domain: &Text) -> Result<Vec<Text>, AllocError>
-        ensures { IfOk result (λ names. names.items ≡ facts.subordinate (held self.now).registry domain.now) }
+        ensures { IfOk result (λ names. names.items ≡ facts.subordinate (content_of self.now).registry domain.now) }
     {
         let mut names = Vec::new(self.alloc);
         for name in self.hosts.keys() {
@@ -176,7 +174,7 @@ impl Content {
     }
 
     fn hosts_for(&self, command: &Command) -> Result<Vec<HostFacts>, AllocError>
-        ensures { IfOk result (λ it. it.items ≡ map (λ name. found.host_facts_in command.now (held self.now).registry (name_of name)) (facts.asked [] facts.hosts_asked command.now)) }
+        ensures { IfOk result (λ it. it.items ≡ map (λ name. lookups.host_facts_in command.now (content_of self.now).registry (name_of name)) (requests.asked [] requests.hosts_asked command.now)) }
     {
         let mut hosts = Vec::new(self.alloc);
         for name in command.hosts() {
@@ -185,8 +183,8 @@ impl Content {
         Ok(hosts)
     }
 
-    fn renamed_for(&self, command: &Command) -> Result<Option<HostFacts>, AllocError>
-        ensures { IfOk result (λ it. it ≡ option_map (λ name. found.host_facts_in command.now (held self.now).registry (name_of name)) (facts.asked None facts.new_host_asked command.now)) }
+    fn new_name_for(&self, command: &Command) -> Result<Option<HostFacts>, AllocError>
+        ensures { IfOk result (λ it. it ≡ option_map (λ name. lookups.host_facts_in command.now (content_of self.now).registry (name_of name)) (requests.asked None requests.new_host_asked command.now)) }
     {
         match command.new_host() {
             None => Ok(None),
@@ -195,19 +193,19 @@ impl Content {
     }
 
     fn host_facts(&self, command: &Command, name: &Text) -> Result<HostFacts, AllocError>
-        ensures { IfOk result (λ known. known ≡ found.host_facts_in command.now (held self.now).registry name.now) }
+        ensures { IfOk result (λ known. known ≡ lookups.host_facts_in command.now (content_of self.now).registry name.now) }
     {
         Ok(HostFacts {
             name: name.clone()?,
             host: copy_host(self.hosts.get(name))?,
             superordinate: self.superordinate(name)?,
-            linked: command.asks_around() && self.is_linked_host(name),
+            linked: command.reads_associations() && self.is_linked_host(name),
         })
     }
 
     /// What the domain is of a host's last two labels, as far as its hosts hang on it.
     fn superordinate(&self, host: &Text) -> Result<Option<Superordinate>, AllocError>
-        ensures { IfOk result (λ above. above ≡ found.superordinate_in (held self.now).registry host.now) }
+        ensures { IfOk result (λ above. above ≡ lookups.superordinate_in (content_of self.now).registry host.now) }
     {
         match last_two_labels(self.alloc, host)? {
             None => Ok(None),
@@ -216,7 +214,7 @@ impl Content {
     }
 
     fn superordinate_at(&self, domain: &Text) -> Option<Superordinate>
-        ensures { result ≡ option_map facts.superordinate_of_domain (finmap.get (held self.now).registry.domains domain.now) }
+        ensures { result ≡ option_map facts.superordinate_of_domain (finmap.get (content_of self.now).registry.domains domain.now) }
     {
         match self.domains.get(domain) {
             None => None,
@@ -229,7 +227,7 @@ impl Content {
 
     /// Whether a domain names the host.
     fn is_linked_host(&self, name: &Text) -> bool
-        ensures { result ≡ facts.is_linked_host (held self.now).registry name.now }
+        ensures { result ≡ facts.is_linked_host (content_of self.now).registry name.now }
     {
         self.domains
             .values()
@@ -237,34 +235,33 @@ impl Content {
     }
 
     /// Whether a contact or host isn't there that a domain is to name from now on.
-    fn lacks_link(&self, command: &Command) -> bool
-        ensures { result ≡ facts.asked false (found.links_fail_in (held self.now).registry) command.now }
+    fn reference_missing(&self, command: &Command) -> bool
+        ensures { result ≡ requests.asked false (lookups.references_fail_in (content_of self.now).registry) command.now }
     {
         match command.request() {
-            Some(Request::CreateDomain(new)) => {
-                self.lacks_contact(&new.registrant)
-                    || self.lacks_contacts(new.admin.as_slice())
-                    || self.lacks_contacts(new.tech.as_slice())
-                    || self.lacks_hosts(new.hosts.as_slice())
-            }
-            Some(Request::UpdateDomain(update)) => {
-                self.lacks_registrant(&update.registrant)
-                    || self.lacks_contacts(update.add.admin.as_slice())
-                    || self.lacks_contacts(update.add.tech.as_slice())
-                    || self.lacks_hosts(update.add.hosts.as_slice())
-            }
-            _ => false,
+            None => false,
+            Some(request) => self.any_reference_missing(request),
         }
     }
 
+    fn any_reference_missing(&self, request: &Request) -> bool
+        ensures { result ≡ lookups.references_fail_in (content_of self.now).registry request.now }
+    {
+        let added = request.added();
+        self.lacks_registrant(request.registrant())
+            || self.lacks_contacts(added.admin)
+            || self.lacks_contacts(added.tech)
+            || self.lacks_hosts(added.hosts)
+    }
+
     fn lacks_contact(&self, name: &Text) -> bool
-        ensures { result ≡ not (found.has_contact (held self.now).registry name.now) }
+        ensures { result ≡ not (lookups.has_contact (content_of self.now).registry name.now) }
     {
         self.contacts.get(name).is_none()
     }
 
-    fn lacks_registrant(&self, name: &Option<Text>) -> bool
-        ensures { result ≡ is_some (option_and_then (λ it. if found.has_contact (held self.now).registry it then None else Some it) name.now) }
+    fn lacks_registrant(&self, name: Option<&Text>) -> bool
+        ensures { result ≡ requests.holds_of (λ it. not (lookups.has_contact (content_of self.now).registry it)) (option_copied name.entry) }
     {
         match name {
             None => false,
@@ -273,27 +270,27 @@ impl Content {
     }
 
     fn lacks_contacts(&self, names: &[Text]) -> bool
-        ensures { result ≡ list_any (λ name. not (found.has_contact (held self.now).registry name)) names.now }
+        ensures { result ≡ list_any (λ name. not (lookups.has_contact (content_of self.now).registry name)) names.now }
     {
         names.iter().any(|name| self.lacks_contact(name))
     }
 
     fn lacks_host(&self, name: &Text) -> bool
-        ensures { result ≡ not (found.has_host (held self.now).registry name.now) }
+        ensures { result ≡ not (lookups.has_host (content_of self.now).registry name.now) }
     {
         self.hosts.get(name).is_none()
     }
 
     fn lacks_hosts(&self, names: &[GivenName]) -> bool
-        ensures { result ≡ list_any (λ name. not (found.has_host (held self.now).registry (name_of name))) names.now }
+        ensures { result ≡ list_any (λ name. not (lookups.has_host (content_of self.now).registry (name_of name))) names.now }
     {
         names.iter().any(|name| self.lacks_host(name.text()))
     }
 
     /// Whether the registrar holds as many domains as it may. Where there aren't so many at all, none
     /// is looked at.
-    fn is_full(&self, caller: RegistrarNo) -> bool
-        ensures { result ≡ nat_le facts.holding_limit (facts.held caller (held self.now).registry) }
+    fn holds_the_most(&self, caller: RegistrarNo) -> bool
+        ensures { result ≡ nat_le HOLDING_LIMIT (facts.held caller (content_of self.now).registry) }
     {
         if self.domains.len() < HOLDING_LIMIT {
             return false;
@@ -302,7 +299,7 @@ impl Content {
     }
 
     fn count_held(&self, caller: RegistrarNo) -> usize
-        ensures { result ≡ facts.held caller (held self.now).registry }
+        ensures { result ≡ facts.held caller (content_of self.now).registry }
     {
         self.domains
             .values()
@@ -316,7 +313,7 @@ impl Content {
 impl Content {
     /// The object of a kind that stands under a name.
     pub fn object_at(&self, kind: ObjectKind, name: &Text) -> Result<Option<Object>, AllocError>
-        ensures { IfOk result (λ it. it ≡ orders.object_at (held self.now).registry kind name.now) }
+        ensures { IfOk result (λ it. it ≡ objects.object_at (content_of self.now).registry kind name.now) }
     {
         match kind {
             ObjectKind::Contact => match copy_contact(self.contacts.get(name))? {

@@ -8,7 +8,7 @@ mod due;
 mod edit;
 mod fault;
 mod plain;
-mod relinked;
+mod renamed;
 
 pub use book::Book;
 pub use due::Due;

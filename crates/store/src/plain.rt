@@ -2,7 +2,7 @@
 ghost use Rattle.std.specs.Prelude.{◌≡◌, ◌<◌, ◌∷◌, [], length, OnOk, Err};
 ghost use Rattle.store.specs.Book.{FaultLeaves, IsBack, unused, with_changes, with_terms};
 ghost use Rattle.store.specs.Edits.{edited, edited_all};
-ghost use Rattle.store.specs.Plain.{IsSettled, held, found, plain_state};
+ghost use Rattle.store.specs.Plain.{IsSettled, content_of, at_begin, plain_state};
 
 use crate::book::Book;
 use crate::content::Content;
@@ -27,7 +27,7 @@ use protocol::Command;
 #[derive(Drop)]
 pub struct PlainBook {
     content: Content,
-    /// What undoes the transaction's changes, the latest last. Where going back found no memory,
+    /// What undoes the transaction's changes, the latest last. Where going back at_begin no memory,
     /// what is still to be undone, which the next call undoes first.
     undo: Seq<Edit>,
     is_open: bool,
@@ -55,7 +55,7 @@ impl PlainBook {
 
     /// Undoes what there is to undo, the latest change first.
     fn undo_all(&mut self) -> Result<(), AllocError>
-        ensures found { found self.new ≡ found self.old }
+        ensures at_begin { at_begin self.new ≡ at_begin self.old }
         ensures open { self.new.is_open ≡ self.old.is_open }
         ensures ok { OnOk result (self.new.undo ≡ []) }
     {
@@ -68,7 +68,7 @@ impl PlainBook {
     /// Undoes the latest edit.
     fn undo_latest(&mut self) -> Result<(), AllocError>
         requires { 0 < length self.old.undo }
-        ensures found { found self.new ≡ found self.old }
+        ensures at_begin { at_begin self.new ≡ at_begin self.old }
         ensures open { self.new.is_open ≡ self.old.is_open }
         ensures ok { OnOk result (length self.new.undo < length self.old.undo) }
     {
@@ -82,9 +82,9 @@ impl PlainBook {
 
     /// Makes an edit that can be undone.
     fn set(&mut self, edit: Edit) -> Result<(), AllocError>
-        ensures found { found self.new ≡ found self.old }
+        ensures at_begin { at_begin self.new ≡ at_begin self.old }
         ensures open { self.new.is_open ≡ self.old.is_open }
-        ensures ok { OnOk result (held self.new.content ≡ edited edit (held self.old.content)) }
+        ensures ok { OnOk result (content_of self.new.content ≡ edited edit (content_of self.old.content)) }
     {
         let inverse = self.content.inverse(&edit)?;
         self.undo.push(inverse)?;
@@ -93,9 +93,9 @@ impl PlainBook {
 
     /// Makes edits that can be undone, one after another.
     fn set_all(&mut self, edits: Vec<Edit>) -> Result<(), AllocError>
-        ensures found { found self.new ≡ found self.old }
+        ensures at_begin { at_begin self.new ≡ at_begin self.old }
         ensures open { self.new.is_open ≡ self.old.is_open }
-        ensures ok { OnOk result (held self.new.content ≡ edited_all edits.items (held self.old.content)) }
+        ensures ok { OnOk result (content_of self.new.content ≡ edited_all edits.items (content_of self.old.content)) }
     {
         for edit in edits {
             self.set(edit)?;
@@ -105,9 +105,9 @@ impl PlainBook {
 
     /// Makes a change that can be undone.
     fn make(&mut self, change: Change) -> Result<(), AllocError>
-        ensures found { found self.new ≡ found self.old }
+        ensures at_begin { at_begin self.new ≡ at_begin self.old }
         ensures open { self.new.is_open ≡ self.old.is_open }
-        ensures ok { OnOk result (held self.new.content ≡ with_changes (change ∷ []) (held self.old.content)) }
+        ensures ok { OnOk result (content_of self.new.content ≡ with_changes (change ∷ []) (content_of self.old.content)) }
     {
         let edits = self.content.edits_of(change)?;
         self.set_all(edits)
@@ -117,9 +117,9 @@ impl PlainBook {
 impl PlainBook {
     /// Makes changes that can be undone, one after another.
     fn make_all(&mut self, changes: Seq<Change>) -> Result<(), AllocError>
-        ensures found { found self.new ≡ found self.old }
+        ensures at_begin { at_begin self.new ≡ at_begin self.old }
         ensures open { self.new.is_open ≡ self.old.is_open }
-        ensures ok { OnOk result (held self.new.content ≡ with_changes changes (held self.old.content)) }
+        ensures ok { OnOk result (content_of self.new.content ≡ with_changes changes (content_of self.old.content)) }
     {
         for change in changes.into_vec() {
             self.make(change)?;
@@ -129,14 +129,14 @@ impl PlainBook {
 
     /// Puts down terms that can be taken back.
     fn put_terms(&mut self, terms: Terms) -> Result<(), AllocError>
-        ensures found { found self.new ≡ found self.old }
+        ensures at_begin { at_begin self.new ≡ at_begin self.old }
         ensures open { self.new.is_open ≡ self.old.is_open }
-        ensures ok { OnOk result (held self.new.content ≡ with_terms terms (held self.old.content)) }
+        ensures ok { OnOk result (content_of self.new.content ≡ with_terms terms (content_of self.old.content)) }
     {
         self.set(Edit::Terms(Some(terms)))
     }
 
-    /// Goes back, if a transaction is open. What finds no memory is left to the next call.
+    /// Goes back, if a transaction is open. What lookups no memory is left to the next call.
     fn give_up(&mut self)
         ensures { IsBack (plain_state self.old) (plain_state self.new) }
     {
@@ -155,7 +155,7 @@ impl PlainBook {
     }
 
     /// Undoes what was left to undo, so that what is held is the content.
-    fn settle(&mut self) -> Result<(), BookFault>
+    fn finish_rollback(&mut self) -> Result<(), BookFault>
         ensures ok { OnOk result (IsSettled (plain_state self.old) self.new) }
         ensures fault { FaultLeaves result (plain_state self.old) (plain_state self.new) }
     {
@@ -183,12 +183,12 @@ impl Book for PlainBook {
     }
 
     fn clock(&mut self) -> Result<Moment, BookFault> {
-        self.settle()?;
+        self.finish_rollback()?;
         Ok(self.content.clock)
     }
 
     fn terms(&mut self) -> Result<Option<Terms>, BookFault> {
-        self.settle()?;
+        self.finish_rollback()?;
         match copy_terms(&self.content.terms) {
             Ok(terms) => Ok(terms),
             Err(error) => self.fail(error),
@@ -196,7 +196,7 @@ impl Book for PlainBook {
     }
 
     fn facts_for(&mut self, caller: RegistrarNo, command: &Command) -> Result<Facts, BookFault> {
-        self.settle()?;
+        self.finish_rollback()?;
         match self.content.facts_for(caller, command) {
             Ok(facts) => Ok(facts),
             Err(error) => self.fail(error),
@@ -204,7 +204,7 @@ impl Book for PlainBook {
     }
 
     fn object_at(&mut self, kind: ObjectKind, name: &Text) -> Result<Option<Object>, BookFault> {
-        self.settle()?;
+        self.finish_rollback()?;
         match self.content.object_at(kind, name) {
             Ok(object) => Ok(object),
             Err(error) => self.fail(error),
@@ -212,12 +212,12 @@ impl Book for PlainBook {
     }
 
     fn due(&mut self, _moment: Moment) -> Result<Seq<Due>, BookFault> {
-        self.settle()?;
+        self.finish_rollback()?;
         Ok(Seq::new(self.content.alloc))
     }
 
     fn begin(&mut self) -> Result<(), BookFault> {
-        self.settle()?;
+        self.finish_rollback()?;
         self.is_open = true;
         Ok(())
     }

@@ -2,4 +2,4 @@ use Rattle.registry.proofs.OpenedLemmas.{opens-kept}
 use Rattle.registry.proofs.registry.Registry.open.Goals as goal
 
 pub returns-in-Ok-clause-well_formed : goal.returns-in-Ok-clause-well_formed
-returns-in-Ok-clause-well_formed g c = opens-kept c.args.policy (g.B.Book.state c.args.book) (g.B.Book.state c.take_up.new.book) c.in-Ok.ensures.opened
+returns-in-Ok-clause-well_formed g c = opens-kept c.args.policy (g.B.Book.state c.args.book) (g.B.Book.state c.open_in.new.book) c.in-Ok.ensures.opened
