@@ -15,6 +15,7 @@ use Rattle.objects.specs.declared.sight.Seen.{Seen}
 use Rattle.objects.specs.Hosts.{is_below}
 use Rattle.objects.specs.Links.{names_contact, names_host}
 use Rattle.objects.specs.Sight.{contact_as, domain_as, is_party}
+use Rattle.policy.specs.Rules.{PolicyRules}
 use Rattle.protocol.specs.declared.command.Command.{Command}
 use Rattle.facts.specs.declared.facts.AccountFacts.{AccountFacts}
 use Rattle.facts.specs.declared.facts.ContactFacts.{ContactFacts}
@@ -62,8 +63,8 @@ pub record Lookups : Type 0 where
   pub domains_held : ℕ
 
 -- what a registrar lookups in a registry with a command
-abbrev pub lookups : ℕ → Command → Registry → Lookups
-lookups r c s = record {
+abbrev pub lookups : PolicyRules → ℕ → Command → Registry → Lookups
+lookups p r c s = record {
   account = account_of r s;
   contact = λ name. option_map (contact_as r (presented_contact c name)) (get s.contacts name);
   domain = λ name. option_map (domain_as r (presented c name)) (get s.domains name);
@@ -117,8 +118,8 @@ facts_by found c = record {
 }
 
 -- the facts for a registrar's command
-abbrev pub facts : ℕ → Command → Registry → Facts
-facts r c s = facts_by (lookups r c s) c
+abbrev pub facts : PolicyRules → ℕ → Command → Registry → Facts
+facts p r c s = facts_by (lookups p r c s) c
 
 -- ---- what facts say
 

@@ -12,6 +12,7 @@ use Rattle.objects.specs.declared.domain.DomainFace.{DomainFace}
 use Rattle.objects.specs.declared.host.Host.{Host}
 use Rattle.objects.specs.declared.sight.Seen.{Seen}
 use Rattle.objects.specs.Sight.{contact_as, domain_as}
+use Rattle.policy.specs.Rules.{PolicyRules}
 use Rattle.protocol.specs.declared.command.Command.{Command}
 use Rattle.protocol.specs.Requests.{presented, presented_contact}
 use Rattle.model.specs.Registry.{Registry, account_of}
@@ -31,8 +32,8 @@ pub record Secrets : Type 0 where
   pub domains : List ℕ → Option (List ℕ)
 
 -- what a registrar that presents these secrets sees
-abbrev pub view_with : Secrets → ℕ → Registry → View
-view_with secrets r s = record {
+abbrev pub view_with : PolicyRules → Secrets → ℕ → Registry → View
+view_with p secrets r s = record {
   clock = s.clock;
   account = account_of r s;
   contacts = map_values (λ name. contact_as r (secrets.contacts name)) s.contacts;
@@ -45,9 +46,9 @@ abbrev pub secrets_of : Command → Secrets
 secrets_of c = record { contacts = presented_contact c; domains = presented c }
 
 -- what a registrar sees with a command
-abbrev pub view_for : ℕ → Command → Registry → View
-view_for r c s = view_with (secrets_of c) r s
+abbrev pub view_for : PolicyRules → ℕ → Command → Registry → View
+view_for p r c s = view_with p (secrets_of c) r s
 
 -- what a registrar sees
-abbrev pub view : ℕ → Registry → View
-view r s = view_with (record { contacts = λ name. None; domains = λ name. None }) r s
+abbrev pub view : PolicyRules → ℕ → Registry → View
+view p r s = view_with p (record { contacts = λ name. None; domains = λ name. None }) r s

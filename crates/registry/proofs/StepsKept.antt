@@ -15,9 +15,9 @@ use Rattle.protocol.specs.declared.reply.Reply.{Reply}
 use Rattle.model.specs.Registry.{Registry, lapsed, now}
 use Rattle.model.specs.WellFormed.{IsRegistry}
 
-stays : (p : PolicyRules) (r : ℕ) (c : Command) (moment : ℕ) (before after : Registry) → IsPlace p r → now after ≡ now (effect p r c (lapsed moment before)) → StaysWellFormed p r before after
+stays : (p : PolicyRules) (r : ℕ) (c : Command) (moment : ℕ) (before after : Registry) → IsPlace p r → now p after ≡ now p (effect p r c (lapsed p moment before)) → StaysWellFormed p r before after
 stays p r c moment before after place left is small =
-    let passed : Registry = lapsed moment before in
+    let passed : Registry = lapsed p moment before in
     subst (IsRegistry p) (sym left) (kept-now p (effect p r c passed) (kept-effect p r c passed place (kept-lapsed p moment before is) small))
 
 pub kept_step : {E : Type 0} (result : Result Reply E) (clean : Type 0) (p : PolicyRules) (r : ℕ) (c : Command) (moment : ℕ) (before after : Registry) → IsPlace p r
@@ -25,10 +25,10 @@ pub kept_step : {E : Type 0} (result : Result Reply E) (clean : Type 0) (p : Pol
 kept_step (Ok reply) clean p r c moment before after place step = λ taken. stays p r c moment before after place (step taken).left
 kept_step (Err e) clean p r c moment before after place step = tt
 
-kept-after-order : (p : PolicyRules) (order : Order) (moment : ℕ) (before after : Registry) → now after ≡ now (order_effect p.zone order (lapsed moment before)) → KeepsWellFormed p before after
+kept-after-order : (p : PolicyRules) (order : Order) (moment : ℕ) (before after : Registry) → now p after ≡ now p (order_effect p order (lapsed p moment before)) → KeepsWellFormed p before after
 kept-after-order p order moment before after left is =
-    let passed : Registry = lapsed moment before in
-    subst (IsRegistry p) (sym left) (kept-now p (order_effect p.zone order passed) (kept-order p order passed (kept-lapsed p moment before is)))
+    let passed : Registry = lapsed p moment before in
+    subst (IsRegistry p) (sym left) (kept-now p (order_effect p order passed) (kept-order p order passed (kept-lapsed p moment before is)))
 
 pub kept_order_step : {E : Type 0} (result : Result Code E) (clean : Type 0) (p : PolicyRules) (order : Order) (moment : ℕ) (before after : Registry)
     → IfOk result (λ code. clean → IsOrderStep p order moment before after code) → IfOk result (λ code. clean → KeepsWellFormed p before after)

@@ -22,14 +22,14 @@ last_call = 4_102_444_799
 
 -- The reply is the rules' answer in the registry at that moment, and what is left is their effect.
 pub record IsStep (p : PolicyRules) (r : ℕ) (c : Command) (moment : ℕ) (before after : Registry) (reply : Reply) : Type 0 where
-  pub answered : reply ≡ answer p r c (lapsed moment before)
-  pub left : now after ≡ now (effect p r c (lapsed moment before))
+  pub answered : reply ≡ answer p r c (lapsed p moment before)
+  pub left : now p after ≡ now p (effect p r c (lapsed p moment before))
 
 -- The code is the rules' answer to an order in the registry at that moment, and what is left is the
 -- order's effect.
 pub record IsOrderStep (p : PolicyRules) (order : Order) (moment : ℕ) (before after : Registry) (code : Code) : Type 0 where
-  pub answered : code ≡ order_answer p.zone order (lapsed moment before)
-  pub left : now after ≡ now (order_effect p.zone order (lapsed moment before))
+  pub answered : code ≡ order_answer p order (lapsed p moment before)
+  pub left : now p after ≡ now p (order_effect p order (lapsed p moment before))
 
 -- a book's registry takes the step, if nothing wrong was taken from what keeps it
 abbrev pub Steps : PolicyRules → ℕ → Command → ℕ → Reply → BookState → BookState → Type 0
@@ -64,8 +64,8 @@ Fails faults.Store old new = IsUnchanged old new × HasRefused old new
 Fails faults.Moment old new = IsUnchanged old new
 
 -- the same terms, with the registry as a call at a moment lookups it
-abbrev pub at_moment : ℕ → Stored → Stored
-at_moment t s = record s { registry = lapsed t s.registry }
+abbrev pub at_moment : PolicyRules → ℕ → Stored → Stored
+at_moment p t s = record s { registry = lapsed p t s.registry }
 
 -- no transaction is open, and this is held
 pub record Keeps (old new : BookState) (held : Stored) : Type 0 where

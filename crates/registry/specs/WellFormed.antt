@@ -9,11 +9,11 @@ use Rattle.model.specs.WellFormed.{IsRegistry}
 -- A registrar's call on a well formed registry leaves one. The count of the objects that a registrar
 -- created stays at its greatest value, and two of them would share a ROID: so it is to be below 2^62.
 abbrev pub StaysWellFormed : PolicyRules → ℕ → Registry → Registry → Type 0
-StaysWellFormed p r before after = IsRegistry p before → (account_of r before).serial < 4_611_686_018_427_387_904 → IsRegistry p (now after)
+StaysWellFormed p r before after = IsRegistry p before → (account_of r before).serial < 4_611_686_018_427_387_904 → IsRegistry p (now p after)
 
 -- an order on a well formed registry leaves one; it creates nothing
 abbrev pub KeepsWellFormed : PolicyRules → Registry → Registry → Type 0
-KeepsWellFormed p before after = IsRegistry p before → IsRegistry p (now after)
+KeepsWellFormed p before after = IsRegistry p before → IsRegistry p (now p after)
 
 -- a book that was never opened, or holds a well formed registry of a policy under whose terms it
 -- was opened

@@ -152,7 +152,7 @@ module _ (p : PolicyRules) (r : ℕ) (cl_trid : Option (List ℕ)) (s : Registry
 
     module _ (kind : ObjectKind) (request : Request) where
       abbrev given : Roid
-      given = new_roid kind r (facts r (Asked cl_trid request) s)
+      given = new_roid kind r (facts p r (Asked cl_trid request) s)
 
       has-given : HasRoid p numbered_too kind given
       has-given = record { kind_is = refl; creator = place; serial = omega (arith, serial-after) }
@@ -164,18 +164,18 @@ module _ (p : PolicyRules) (r : ℕ) (cl_trid : Option (List ℕ)) (s : Registry
           let next : roid.serial ≡ raised (account_of r s).serial = ap (λ (x : Roid). x.serial) same in
           omega (arith, raised-next (account_of r s).serial small)
 
-    pub kept-new-contact : (new : NewContact) → let f : Facts = facts r (Asked cl_trid (requests.CreateContact new)) s in IsRegistry p (changed_all (PutContact (new_contact r s.clock f new) ∷ TakeSerial r ∷ []) after_count)
+    pub kept-new-contact : (new : NewContact) → let f : Facts = facts p r (Asked cl_trid (requests.CreateContact new)) s in IsRegistry p (changed_all (PutContact (new_contact r s.clock f new) ∷ TakeSerial r ∷ []) after_count)
     kept-new-contact new =
         let request : Request = requests.CreateContact new in
-        put-contact p numbered_too kept-numbered new.name (new_contact r s.clock (facts r (Asked cl_trid request) s) new)
+        put-contact p numbered_too kept-numbered new.name (new_contact r s.clock (facts p r (Asked cl_trid request) s) new)
         (record { named = refl; roid = has-given kinds.Contact request; sponsor = place; created = omega arith; transferred = tt; updated = tt; transfer = tt })
         (λ n x at same. absurd (ungiven kinds.Contact request kinds.Contact x.roid (is.contacts n x at).roid same))
 
-    pub kept-new-domain : (new : NewDomain) → let f : Facts = facts r (Asked cl_trid (requests.CreateDomain new)) s in f.reference_missing ≡ false
+    pub kept-new-domain : (new : NewDomain) → let f : Facts = facts p r (Asked cl_trid (requests.CreateDomain new)) s in f.reference_missing ≡ false
         → IsRegistry p (changed_all (PutDomain (new_domain r s.clock f new) ∷ TakeSerial r ∷ []) after_count)
     kept-new-domain new linked =
         let request : Request = requests.CreateDomain new in
-        put-domain p numbered_too kept-numbered (name_of new.name) (new_domain r s.clock (facts r (Asked cl_trid request) s) new)
+        put-domain p numbered_too kept-numbered (name_of new.name) (new_domain r s.clock (facts p r (Asked cl_trid request) s) new)
         (record {
           named = refl;
           roid = has-given kinds.Domain request;
@@ -190,15 +190,15 @@ module _ (p : PolicyRules) (r : ℕ) (cl_trid : Option (List ℕ)) (s : Registry
         })
         (λ n x at same. absurd (ungiven kinds.Domain request kinds.Domain x.roid (is.domains n x at).roid same))
 
-    pub kept-new-host : (new : NewHost) → let f : Facts = facts r (Asked cl_trid (requests.CreateHost new)) s in refusal_of p r (requests.CreateHost new) f ≡ None
+    pub kept-new-host : (new : NewHost) → let f : Facts = facts p r (Asked cl_trid (requests.CreateHost new)) s in refusal_of p r s.clock (requests.CreateHost new) f ≡ None
         → IsRegistry p (changed_all (PutHost (new_host p.zone r s.clock f new) ∷ TakeSerial r ∷ []) after_count)
     kept-new-host new taken =
         let request : Request = requests.CreateHost new in
         let c : Command = Asked cl_trid request in
-        let known : HostFacts = host_facts (lookups r c s) c (name_of new.name) in
-        let based : has_no_superordinate p.zone known ≡ false = sym (ap (holds_of (has_no_superordinate p.zone)) (at-itself (name_of new.name) known)) ∙ unrefused p r request (facts r c s) taken conditions.SuperordinateIsMissing (search (inl, inr) depth 20) in
-        let alive : superordinate_is_deleted p.zone known ≡ false = sym (ap (holds_of (superordinate_is_deleted p.zone)) (at-itself (name_of new.name) known)) ∙ unrefused p r request (facts r c s) taken conditions.SuperordinateIsDeleted (search (inl, inr) depth 20) in
-        put-host p numbered_too kept-numbered (name_of new.name) (new_host p.zone r s.clock (facts r c s) new)
+        let known : HostFacts = host_facts (lookups p r c s) c (name_of new.name) in
+        let based : has_no_superordinate p.zone known ≡ false = sym (ap (holds_of (has_no_superordinate p.zone)) (at-itself (name_of new.name) known)) ∙ unrefused p r s.clock request (facts p r c s) taken conditions.SuperordinateIsMissing (search (inl, inr) depth 20) in
+        let alive : superordinate_is_deleted p.zone known ≡ false = sym (ap (holds_of (superordinate_is_deleted p.zone)) (at-itself (name_of new.name) known)) ∙ unrefused p r s.clock request (facts p r c s) taken conditions.SuperordinateIsDeleted (search (inl, inr) depth 20) in
+        put-host p numbered_too kept-numbered (name_of new.name) (new_host p.zone r s.clock (facts p r c s) new)
         (record { named = refl; roid = has-given kinds.Host request; belongs = belongs-new (name_of new.name) based; created = omega arith; updated = tt })
         (λ n x at same. absurd (ungiven kinds.Host request kinds.Host x.roid (is.hosts n x at).roid same))
         (inr (undeleted-new (name_of new.name) alive))
@@ -208,20 +208,20 @@ module _ (p : PolicyRules) (r : ℕ) (cl_trid : Option (List ℕ)) (s : Registry
   unlinked : (linked : Bool) → linked ≡ false → linked ≢ true
   unlinked linked e f = let never : false ≡ true = sym e ∙ f in absurd cc
 
-  pub kept-contact-deletion : (name : List ℕ) → refusal_of p r (requests.DeleteContact name) (facts r (Asked cl_trid (requests.DeleteContact name)) s) ≡ None → IsRegistry p (changed_all (DropContact name ∷ []) after_count)
+  pub kept-contact-deletion : (name : List ℕ) → refusal_of p r s.clock (requests.DeleteContact name) (facts p r (Asked cl_trid (requests.DeleteContact name)) s) ≡ None → IsRegistry p (changed_all (DropContact name ∷ []) after_count)
   kept-contact-deletion name taken =
       let c : Command = Asked cl_trid (requests.DeleteContact name) in
       let free : is_linked_contact s name ≡ false =
-      sym (ap (holds_of (λ known. known.linked)) (at-itself name (contact_facts (lookups r c s) c name)))
-      ∙ (or_parts (contact_is_linked (requests.DeleteContact name) (facts r c s)) false (unrefused p r (requests.DeleteContact name) (facts r c s) taken conditions.IsLinked (search (inl, inr) depth 20))).0 in
+      sym (ap (holds_of (λ known. known.linked)) (at-itself name (contact_facts (lookups p r c s) c name)))
+      ∙ (or_parts (contact_is_linked (requests.DeleteContact name) (facts p r c s)) false (unrefused p r s.clock (requests.DeleteContact name) (facts p r c s) taken conditions.IsLinked (search (inl, inr) depth 20))).0 in
       drop-contact p after_count kept-counted name (λ n d at. unlinked (names_contact name d.links) (value-fails (λ d. names_contact name d.links) s.domains n d at free))
 
-  pub kept-host-deletion : (name : GivenName) → refusal_of p r (requests.DeleteHost name) (facts r (Asked cl_trid (requests.DeleteHost name)) s) ≡ None → IsRegistry p (changed_all (DropHost (name_of name) ∷ []) after_count)
+  pub kept-host-deletion : (name : GivenName) → refusal_of p r s.clock (requests.DeleteHost name) (facts p r (Asked cl_trid (requests.DeleteHost name)) s) ≡ None → IsRegistry p (changed_all (DropHost (name_of name) ∷ []) after_count)
   kept-host-deletion name taken =
       let c : Command = Asked cl_trid (requests.DeleteHost name) in
       let free : is_linked_host s (name_of name) ≡ false =
-      sym (ap (holds_of (λ known. known.linked)) (at-itself (name_of name) (host_facts (lookups r c s) c (name_of name))))
-      ∙ unrefused p r (requests.DeleteHost name) (facts r c s) taken conditions.IsLinked (search (inl, inr) depth 20) in
+      sym (ap (holds_of (λ known. known.linked)) (at-itself (name_of name) (host_facts (lookups p r c s) c (name_of name))))
+      ∙ unrefused p r s.clock (requests.DeleteHost name) (facts p r c s) taken conditions.IsLinked (search (inl, inr) depth 20) in
       drop-host p after_count kept-counted (name_of name) (λ n d at. unlinked (names_host (name_of name) d.links) (value-fails (λ d. names_host (name_of name) d.links) s.domains n d at free))
 
   -- ---- updates of contacts and domains
@@ -229,8 +229,8 @@ module _ (p : PolicyRules) (r : ℕ) (cl_trid : Option (List ℕ)) (s : Registry
   abbrev asked_contact : ContactUpdate → Command
   asked_contact u = Asked cl_trid (requests.UpdateContact u)
 
-  pub kept-contact-update : (u : ContactUpdate) → IsRegistry p (changed_all (contact_changes s.clock u (contact_seen (facts r (Asked cl_trid (requests.UpdateContact u)) s) u.name)) after_count)
-  kept-contact-update u = by (contact_seen (facts r (asked_contact u) s) u.name) (ap (option_and_then (λ known. known.seen)) (at-itself u.name (contact_facts (lookups r (asked_contact u) s) (asked_contact u) u.name)))
+  pub kept-contact-update : (u : ContactUpdate) → IsRegistry p (changed_all (contact_changes s.clock u (contact_seen (facts p r (Asked cl_trid (requests.UpdateContact u)) s) u.name)) after_count)
+  kept-contact-update u = by (contact_seen (facts p r (asked_contact u) s) u.name) (ap (option_and_then (λ known. known.seen)) (at-itself u.name (contact_facts (lookups p r (asked_contact u) s) (asked_contact u) u.name)))
     where
       by : (seen : Option (Seen Contact ContactFace)) → seen ≡ option_map (contact_as r None) (get s.contacts u.name) → IsRegistry p (changed_all (contact_changes s.clock u seen) after_count)
       by None e = kept-counted
@@ -245,12 +245,12 @@ module _ (p : PolicyRules) (r : ℕ) (cl_trid : Option (List ℕ)) (s : Registry
   abbrev asked_domain : DomainUpdate → Command
   asked_domain u = Asked cl_trid (requests.UpdateDomain u)
 
-  pub kept-domain-update : (u : DomainUpdate) → refusal_of p r (requests.UpdateDomain u) (facts r (Asked cl_trid (requests.UpdateDomain u)) s) ≡ None
-      → IsRegistry p (changed_all (domain_changes s.clock u (domain_seen (facts r (Asked cl_trid (requests.UpdateDomain u)) s) (name_of u.name))) after_count)
-  kept-domain-update u taken = by (domain_seen (facts r (asked_domain u) s) (name_of u.name)) (ap (option_and_then (λ known. known.seen)) (at-itself (name_of u.name) (domain_facts (lookups r (asked_domain u) s) (asked_domain u) (name_of u.name))))
+  pub kept-domain-update : (u : DomainUpdate) → refusal_of p r s.clock (requests.UpdateDomain u) (facts p r (Asked cl_trid (requests.UpdateDomain u)) s) ≡ None
+      → IsRegistry p (changed_all (domain_changes s.clock u (domain_seen (facts p r (Asked cl_trid (requests.UpdateDomain u)) s) (name_of u.name))) after_count)
+  kept-domain-update u taken = by (domain_seen (facts p r (asked_domain u) s) (name_of u.name)) (ap (option_and_then (λ known. known.seen)) (at-itself (name_of u.name) (domain_facts (lookups p r (asked_domain u) s) (asked_domain u) (name_of u.name))))
     where
-      linked : (facts r (asked_domain u) s).reference_missing ≡ false
-      linked = unrefused p r (requests.UpdateDomain u) (facts r (asked_domain u) s) taken conditions.ReferenceIsMissing (search (inl, inr) depth 20)
+      linked : (facts p r (asked_domain u) s).reference_missing ≡ false
+      linked = unrefused p r s.clock (requests.UpdateDomain u) (facts p r (asked_domain u) s) taken conditions.ReferenceIsMissing (search (inl, inr) depth 20)
 
       by : (seen : Option (Seen Domain DomainFace)) → seen ≡ option_map (domain_as r None) (get s.domains (name_of u.name)) → IsRegistry p (changed_all (domain_changes s.clock u seen) after_count)
       by None e = kept-counted
@@ -272,7 +272,7 @@ module _ (p : PolicyRules) (r : ℕ) (cl_trid : Option (List ℕ)) (s : Registry
   asked_host u = Asked cl_trid (requests.UpdateHost u)
 
   abbrev known_new : HostUpdate → Option GivenName → Option HostFacts
-  known_new u given = option_map (λ name. host_facts (lookups r (asked_host u) s) (asked_host u) (name_of name)) given
+  known_new u given = option_map (λ name. host_facts (lookups p r (asked_host u) s) (asked_host u) (name_of name)) given
 
   -- the host, where this new name is given
   abbrev host_with : HostUpdate → Host → Option GivenName → Host
@@ -296,15 +296,15 @@ module _ (p : PolicyRules) (r : ℕ) (cl_trid : Option (List ℕ)) (s : Registry
       (record { named = refl; roid = k.roid; belongs = belongs-new (name_of name) based; created = k.created; updated = omega arith })
       (undeleted-new (name_of name) alive)
 
-  pub kept-host-update : (u : HostUpdate) → refusal_of p r (requests.UpdateHost u) (facts r (Asked cl_trid (requests.UpdateHost u)) s) ≡ None
-      → IsRegistry p (changed_all (host_changes p.zone r s.clock u (host_seen (facts r (Asked cl_trid (requests.UpdateHost u)) s) (name_of u.name))) after_count)
-  kept-host-update u taken = by (host_seen (facts r (asked_host u) s) (name_of u.name)) (ap (option_and_then (λ known. known.host)) (at-itself (name_of u.name) (host_facts (lookups r (asked_host u) s) (asked_host u) (name_of u.name))))
+  pub kept-host-update : (u : HostUpdate) → refusal_of p r s.clock (requests.UpdateHost u) (facts p r (Asked cl_trid (requests.UpdateHost u)) s) ≡ None
+      → IsRegistry p (changed_all (host_changes p.zone r s.clock u (host_seen (facts p r (Asked cl_trid (requests.UpdateHost u)) s) (name_of u.name))) after_count)
+  kept-host-update u taken = by (host_seen (facts p r (asked_host u) s) (name_of u.name)) (ap (option_and_then (λ known. known.host)) (at-itself (name_of u.name) (host_facts (lookups p r (asked_host u) s) (asked_host u) (name_of u.name))))
     where
       based : holds_of (has_no_superordinate p.zone) (known_new u u.new_name) ≡ false
-      based = unrefused p r (requests.UpdateHost u) (facts r (asked_host u) s) taken conditions.SuperordinateIsMissing (search (inl, inr) depth 20)
+      based = unrefused p r s.clock (requests.UpdateHost u) (facts p r (asked_host u) s) taken conditions.SuperordinateIsMissing (search (inl, inr) depth 20)
 
       alive : holds_of (superordinate_is_deleted p.zone) (known_new u u.new_name) ≡ false
-      alive = unrefused p r (requests.UpdateHost u) (facts r (asked_host u) s) taken conditions.SuperordinateIsDeleted (search (inl, inr) depth 20)
+      alive = unrefused p r s.clock (requests.UpdateHost u) (facts p r (asked_host u) s) taken conditions.SuperordinateIsDeleted (search (inl, inr) depth 20)
 
       by : (seen : Option Host) → seen ≡ get s.hosts (name_of u.name) → IsRegistry p (changed_all (host_changes p.zone r s.clock u seen) after_count)
       by None e = kept-counted

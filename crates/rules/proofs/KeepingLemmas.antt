@@ -44,11 +44,11 @@ kept-grown p q s accounts clock grows places is =
     }
 
 -- time passes
-pub kept-lapsed : (p : PolicyRules) (moment : ℕ) (s : Registry) → IsRegistry p s → IsRegistry p (lapsed moment s)
-kept-lapsed p moment s is = kept-grown p p s s.accounts (lapsed moment s).clock (record { zone = refl; place = λ r place. place; clock = omega arith; serial = λ r. omega arith }) is.accounts is
+pub kept-lapsed : (p : PolicyRules) (moment : ℕ) (s : Registry) → IsRegistry p s → IsRegistry p (lapsed p moment s)
+kept-lapsed p moment s is = kept-grown p p s s.accounts (lapsed p moment s).clock (record { zone = refl; place = λ r place. place; clock = omega arith; serial = λ r. omega arith }) is.accounts is
 
 -- what is due by its own clock is done: nothing is yet
-pub kept-now : (p : PolicyRules) (s : Registry) → IsRegistry p s → IsRegistry p (now s)
+pub kept-now : (p : PolicyRules) (s : Registry) → IsRegistry p s → IsRegistry p (now p s)
 kept-now p s is = is
 
 serial-risen : (f : Account → Account) → ((a : Account) → a.serial ≤ (f a).serial) → (r other : ℕ) (s : Registry) → (account_of r s).serial ≤ (account_of r (with_account other f s)).serial

@@ -46,5 +46,5 @@ module _ (p : PolicyRules) (s : Registry) (is : IsRegistry p s) (o : StatusOrder
   at-code true = at-name o.kind (name_ordered p.zone o)
   at-code false = is
 
-pub kept-order : (p : PolicyRules) (order : Order) (s : Registry) → IsRegistry p s → IsRegistry p (order_effect p.zone order s)
+pub kept-order : (p : PolicyRules) (order : Order) (s : Registry) → IsRegistry p s → IsRegistry p (order_effect p order s)
 kept-order p (orders.Status o) s is = at-code p s is o (is_accepted (order_code o (object_ordered p.zone o s)))

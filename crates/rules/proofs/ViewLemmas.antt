@@ -19,6 +19,7 @@ use Rattle.objects.specs.declared.sight.Seen.{Seen}
 use Rattle.objects.specs.Hosts.{is_below}
 use Rattle.objects.specs.Links.{links_seen, names_contact, names_host}
 use Rattle.objects.specs.Sight.{contact_as, domain_as, is_party}
+use Rattle.policy.specs.Rules.{PolicyRules}
 use Rattle.rules.specs.declared.change.Change.{Change}
 use Rattle.rules.specs.declared.change.Change.TheVariants.{MoveClock, OpenAccount, PutContact, DropContact, PutDomain, PutHost, DropHost, RenameHost, CountCommand, TakeSerial}
 use Rattle.rules.specs.Changes.{changed, changed_all, with_account, itself, with_host_renamed}
@@ -51,24 +52,24 @@ finds_in r v = record {
   domains_held = length (filter (holds_seen r) (values v.domains));
 }
 
-module _ (r : ℕ) (c : Command) (s : Registry) where
+module _ (p : PolicyRules) (r : ℕ) (c : Command) (s : Registry) where
   abbrev sight : List ℕ → Domain → Seen Domain DomainFace
   sight name = domain_as r (presented c name)
 
-  contact-found : (name : List ℕ) → get (view_for r c s).contacts name ≡ option_map (contact_as r (presented_contact c name)) (get s.contacts name)
+  contact-found : (name : List ℕ) → get (view_for p r c s).contacts name ≡ option_map (contact_as r (presented_contact c name)) (get s.contacts name)
   contact-found name = get-map_values (slice_cmp nat_cmp) nat_list_cmp_total names_apart (λ n. contact_as r (presented_contact c n)) s.contacts name
 
-  contact-there : (name : List ℕ) → is_some (get (view_for r c s).contacts name) ≡ is_some (get s.contacts name)
+  contact-there : (name : List ℕ) → is_some (get (view_for p r c s).contacts name) ≡ is_some (get s.contacts name)
   contact-there name = ap (λ (o : Option (Seen Contact ContactFace)). is_some o) (contact-found name) ∙ some-map (contact_as r (presented_contact c name)) (get s.contacts name)
 
-  domain-found : (name : List ℕ) → get (view_for r c s).domains name ≡ option_map (sight name) (get s.domains name)
+  domain-found : (name : List ℕ) → get (view_for p r c s).domains name ≡ option_map (sight name) (get s.domains name)
   domain-found name = get-map_values (slice_cmp nat_cmp) nat_list_cmp_total names_apart sight s.domains name
 
-  superordinate-found : (name : List ℕ) → option_map superordinate_seen (get (view_for r c s).domains name) ≡ option_map superordinate_of_domain (get s.domains name)
+  superordinate-found : (name : List ℕ) → option_map superordinate_seen (get (view_for p r c s).domains name) ≡ option_map superordinate_of_domain (get s.domains name)
   superordinate-found name = ap (option_map superordinate_seen) (domain-found name) ∙ map-twice (sight name) superordinate_seen superordinate_of_domain (superordinate-seen r (presented c name)) (get s.domains name)
 
   -- the values that are seen
-  values-found : values (view_for r c s).domains ≡ map (λ (e : List ℕ × Domain). sight e.0 e.1) (entries s.domains)
+  values-found : values (view_for p r c s).domains ≡ map (λ (e : List ℕ × Domain). sight e.0 e.1) (entries s.domains)
   values-found =
       ap (λ (es : List (List ℕ × Seen Domain DomainFace)). map (λ (e : List ℕ × Seen Domain DomainFace). e.1) es) (entries-map_values (slice_cmp nat_cmp) sight nat_list_cmp_total names_apart s.domains)
       ∙ pairs-map (entries s.domains)
@@ -78,14 +79,14 @@ module _ (r : ℕ) (c : Command) (s : Registry) where
       pairs-map (e ∷ es) = ap (λ (rest : List (Seen Domain DomainFace)). sight e.0 e.1 ∷ rest) (pairs-map es)
 
   -- a test of what all see of a domain
-  any-found : (test : Links → Bool) → list_any (λ seen. test (links_seen seen)) (values (view_for r c s).domains) ≡ list_any (λ d. test d.links) (values s.domains)
+  any-found : (test : Links → Bool) → list_any (λ seen. test (links_seen seen)) (values (view_for p r c s).domains) ≡ list_any (λ d. test d.links) (values s.domains)
   any-found test = ap (list_any (λ seen. test (links_seen seen))) values-found ∙ by (entries s.domains)
     where
       by : (es : List (List ℕ × Domain)) → list_any (λ seen. test (links_seen seen)) (map (λ (e : List ℕ × Domain). sight e.0 e.1) es) ≡ list_any (λ d. test d.links) (map (λ (e : List ℕ × Domain). e.1) es)
       by [] = refl
       by (e ∷ es) = λ i. test (links-seen r (presented c e.0) e.1 i) || by es i
 
-  held-found : length (filter (holds_seen r) (values (view_for r c s).domains)) ≡ held r s
+  held-found : length (filter (holds_seen r) (values (view_for p r c s).domains)) ≡ held r s
   held-found = ap (λ (seen : List (Seen Domain DomainFace)). length (filter (holds_seen r) seen)) values-found ∙ by (entries s.domains)
     where
       one : (d : Domain) (seen : Seen Domain DomainFace) (ds : List Domain) (rest : List (Seen Domain DomainFace)) (b : Bool) → holds_seen r seen ≡ b → is_party r d.sponsor d.transfer ≡ b
@@ -97,7 +98,7 @@ module _ (r : ℕ) (c : Command) (s : Registry) where
       by [] = refl
       by (e ∷ es) = one e.1 (sight e.0 e.1) _ _ (is_party r e.1.sponsor e.1.transfer) (holds-seen r (presented c e.0) e.1) refl (by es)
 
-  lookups-view : lookups r c s ≡ finds_in r (view_for r c s)
+  lookups-view : lookups p r c s ≡ finds_in r (view_for p r c s)
   unfolding finds_in
   lookups-view = λ i. record {
     account = account_of r s;
@@ -113,25 +114,25 @@ module _ (r : ℕ) (c : Command) (s : Registry) where
     domains_held = sym held-found i;
   }
 
-pub same_facts : (r : ℕ) (c : Command) (s t : Registry) → view_for r c s ≡ view_for r c t → facts r c s ≡ facts r c t
-same_facts r c s t alike = ap (λ found. facts_by found c) (lookups-view r c s ∙ ap (finds_in r) alike ∙ sym (lookups-view r c t))
+pub same_facts : (p : PolicyRules) (r : ℕ) (c : Command) (s t : Registry) → view_for p r c s ≡ view_for p r c t → facts p r c s ≡ facts p r c t
+same_facts p r c s t alike = ap (λ found. facts_by found c) (lookups-view p r c s ∙ ap (finds_in r) alike ∙ sym (lookups-view p r c t))
 
 -- ---- what is seen without the secrets of a command
 
 forget_view : ℕ → View → View
 forget_view r v = record v { contacts = map_values (λ name. forget (contact_as r None)) v.contacts; domains = map_values (λ name. forget (domain_as r None)) v.domains }
 
-forget-view_with : (secrets : Secrets) (r : ℕ) (s : Registry) → forget_view r (view_with secrets r s) ≡ view r s
+forget-view_with : (p : PolicyRules) (secrets : Secrets) (r : ℕ) (s : Registry) → forget_view r (view_with p secrets r s) ≡ view p r s
 unfolding forget_view
-forget-view_with secrets r s = λ i. record (view r s) {
+forget-view_with p secrets r s = λ i. record (view p r s) {
   contacts = map_values-twice (slice_cmp nat_cmp) nat_list_cmp_total names_apart (λ name. contact_as r (secrets.contacts name)) (λ name. forget (contact_as r None)) (λ name. contact_as r None)
       (λ name c. forget-contact r (secrets.contacts name) c) s.contacts i;
   domains = map_values-twice (slice_cmp nat_cmp) nat_list_cmp_total names_apart (λ name. domain_as r (secrets.domains name)) (λ name. forget (domain_as r None)) (λ name. domain_as r None)
       (λ name d. forget-domain r (secrets.domains name) d) s.domains i;
 }
 
-pub same_view : (r : ℕ) (c : Command) (s t : Registry) → view_for r c s ≡ view_for r c t → view r s ≡ view r t
-same_view r c s t alike = sym (forget-view_with (secrets_of c) r s) ∙ ap (forget_view r) alike ∙ forget-view_with (secrets_of c) r t
+pub same_view : (p : PolicyRules) (r : ℕ) (c : Command) (s t : Registry) → view_for p r c s ≡ view_for p r c t → view p r s ≡ view p r t
+same_view p r c s t alike = sym (forget-view_with p (secrets_of c) r s) ∙ ap (forget_view r) alike ∙ forget-view_with p (secrets_of c) r t
 
 -- ---- each change, as it is seen
 
@@ -172,21 +173,21 @@ relinked-view r old new m =
     ∙ sym (map_values-twice (slice_cmp nat_cmp) nat_list_cmp_total names_apart (λ name. domain_as r None) (λ name. relinked_seen old new) (λ name d. domain_as r None (with_host_renamed old new d)) (λ name d. sym (seen-relinked r None old new d)) m)
 
 -- to make a change and to look is to look and to see the change
-view-changed : (r : ℕ) (change : Change) (s : Registry) → view r (changed change s) ≡ seen_change r change (view r s)
+view-changed : (p : PolicyRules) (r : ℕ) (change : Change) (s : Registry) → view p r (changed change s) ≡ seen_change r change (view p r s)
 unfolding seen_change
-view-changed r (MoveClock t) s = refl
-view-changed r (OpenAccount other) s = ap (λ a. record (view r s) { account = a }) (account_of-with_account r other itself s)
-view-changed r (PutContact c) s = ap (λ m. record (view r s) { contacts = m }) (map_values-insert (slice_cmp nat_cmp) nat_list_cmp_total names_apart (λ name. contact_as r None) s.contacts c.name c)
-view-changed r (DropContact name) s = ap (λ m. record (view r s) { contacts = m }) (map_values-remove (slice_cmp nat_cmp) nat_list_cmp_total names_apart (λ name. contact_as r None) s.contacts name)
-view-changed r (PutHost h) s = refl
-view-changed r (DropHost name) s = refl
-view-changed r (RenameHost old new) s = ap (λ m. record (view r s) { domains = m }) (relinked-view r old new s.domains)
-view-changed r (PutDomain d) s = ap (λ m. record (view r s) { domains = m }) (map_values-insert (slice_cmp nat_cmp) nat_list_cmp_total names_apart (λ name. domain_as r None) s.domains d.name d)
-view-changed r (CountCommand other) s = ap (λ a. record (view r s) { account = a }) (account_of-with_account r other counted s)
-view-changed r (TakeSerial other) s = ap (λ a. record (view r s) { account = a }) (account_of-with_account r other numbered s)
+view-changed p r (MoveClock t) s = refl
+view-changed p r (OpenAccount other) s = ap (λ a. record (view p r s) { account = a }) (account_of-with_account r other itself s)
+view-changed p r (PutContact c) s = ap (λ m. record (view p r s) { contacts = m }) (map_values-insert (slice_cmp nat_cmp) nat_list_cmp_total names_apart (λ name. contact_as r None) s.contacts c.name c)
+view-changed p r (DropContact name) s = ap (λ m. record (view p r s) { contacts = m }) (map_values-remove (slice_cmp nat_cmp) nat_list_cmp_total names_apart (λ name. contact_as r None) s.contacts name)
+view-changed p r (PutHost h) s = refl
+view-changed p r (DropHost name) s = refl
+view-changed p r (RenameHost old new) s = ap (λ m. record (view p r s) { domains = m }) (relinked-view r old new s.domains)
+view-changed p r (PutDomain d) s = ap (λ m. record (view p r s) { domains = m }) (map_values-insert (slice_cmp nat_cmp) nat_list_cmp_total names_apart (λ name. domain_as r None) s.domains d.name d)
+view-changed p r (CountCommand other) s = ap (λ a. record (view p r s) { account = a }) (account_of-with_account r other counted s)
+view-changed p r (TakeSerial other) s = ap (λ a. record (view p r s) { account = a }) (account_of-with_account r other numbered s)
 
 -- two registries that look alike look alike after the same changes
-pub same_changed_all : (r : ℕ) (changes : List Change) (s t : Registry) → view r s ≡ view r t → view r (changed_all changes s) ≡ view r (changed_all changes t)
-same_changed_all r [] s t alike = alike
-same_changed_all r (change ∷ changes) s t alike = same_changed_all r changes (changed change s) (changed change t)
-    (view-changed r change s ∙ ap (seen_change r change) alike ∙ sym (view-changed r change t))
+pub same_changed_all : (p : PolicyRules) (r : ℕ) (changes : List Change) (s t : Registry) → view p r s ≡ view p r t → view p r (changed_all changes s) ≡ view p r (changed_all changes t)
+same_changed_all p r [] s t alike = alike
+same_changed_all p r (change ∷ changes) s t alike = same_changed_all p r changes (changed change s) (changed change t)
+    (view-changed p r change s ∙ ap (seen_change r change) alike ∙ sym (view-changed p r change t))

@@ -20,12 +20,12 @@ use Rattle.facts.specs.Facts.{facts}
 use Rattle.model.specs.Registry.{Registry, account_of}
 use Rattle.verdict.specs.Rules.{refusal_of}
 use Rattle.verdict.specs.ResponseData.{response_data}
-use Rattle.verdict.specs.Verdicts.{judged, unless_refused}
+use Rattle.verdict.specs.Verdicts.{granted, judged, unless_refused}
 use Rattle.model.specs.WellFormed.{IsRegistry}
 
 module _ (p : PolicyRules) (r : ℕ) (cl_trid : Option (List ℕ)) (s : Registry) (place : IsPlace p r) (is : IsRegistry p s) (small : (account_of r s).serial < 4_611_686_018_427_387_904) where
-  kept-accepted : (request : Request) → refusal_of p r request (facts r (Asked cl_trid request) s) ≡ None
-      → IsRegistry p (changed_all (changes_of p.zone r s.clock request (facts r (Asked cl_trid request) s)) (with_account r counted s))
+  kept-accepted : (request : Request) → refusal_of p r s.clock request (facts p r (Asked cl_trid request) s) ≡ None
+      → IsRegistry p (changed_all (changes_of p.zone r s.clock request (facts p r (Asked cl_trid request) s)) (with_account r counted s))
   unfolding changes_of
   kept-accepted (CheckContact names) taken = kept-counted p r cl_trid s place is
   kept-accepted (CheckDomain names) taken = kept-counted p r cl_trid s place is
@@ -34,7 +34,7 @@ module _ (p : PolicyRules) (r : ℕ) (cl_trid : Option (List ℕ)) (s : Registry
   kept-accepted (InfoDomain name secret) taken = kept-counted p r cl_trid s place is
   kept-accepted (InfoHost name) taken = kept-counted p r cl_trid s place is
   kept-accepted (CreateContact new) taken = kept-new-contact p r cl_trid s place is small new
-  kept-accepted (CreateDomain new) taken = kept-new-domain p r cl_trid s place is small new (unrefused p r (CreateDomain new) (facts r (Asked cl_trid (CreateDomain new)) s) taken ReferenceIsMissing (search (inl, inr) depth 20))
+  kept-accepted (CreateDomain new) taken = kept-new-domain p r cl_trid s place is small new (unrefused p r s.clock (CreateDomain new) (facts p r (Asked cl_trid (CreateDomain new)) s) taken ReferenceIsMissing (search (inl, inr) depth 20))
   kept-accepted (CreateHost new) taken = kept-new-host p r cl_trid s place is small new taken
   kept-accepted (DeleteContact name) taken = kept-contact-deletion p r cl_trid s place is name taken
   kept-accepted (DeleteHost name) taken = kept-host-deletion p r cl_trid s place is name taken
@@ -43,13 +43,13 @@ module _ (p : PolicyRules) (r : ℕ) (cl_trid : Option (List ℕ)) (s : Registry
   kept-accepted (UpdateHost u) taken = kept-host-update p r cl_trid s place is u taken
 
   -- a refused command changes nothing but the caller's counter
-  kept-judged : (request : Request) (content : Option Data) (refusal : Option Code) → refusal_of p r request (facts r (Asked cl_trid request) s) ≡ refusal
-      → IsRegistry p (changed_all (cond (is_accepted (unless_refused refusal content).code) (changes_of p.zone r s.clock request (facts r (Asked cl_trid request) s)) []) (with_account r counted s))
-  kept-judged request content None taken = kept-accepted request taken
-  kept-judged request content (Some code) refused =
-      let changes : List Change = changes_of p.zone r s.clock request (facts r (Asked cl_trid request) s) in
+  kept-judged : (request : Request) (refusal : Option Code) → refusal_of p r s.clock request (facts p r (Asked cl_trid request) s) ≡ refusal
+      → IsRegistry p (changed_all (cond (is_accepted (unless_refused refusal (granted p r s.clock request (facts p r (Asked cl_trid request) s))).code) (changes_of p.zone r s.clock request (facts p r (Asked cl_trid request) s)) []) (with_account r counted s))
+  kept-judged request None taken = kept-accepted request taken
+  kept-judged request (Some code) refused =
+      let changes : List Change = changes_of p.zone r s.clock request (facts p r (Asked cl_trid request) s) in
       subst (λ (b : Bool). IsRegistry p (changed_all (cond b changes []) (with_account r counted s)))
-      (sym (refusing p r request (facts r (Asked cl_trid request) s) code refused)) (kept-counted p r cl_trid s place is)
+      (sym (refusing p r s.clock request (facts p r (Asked cl_trid request) s) code refused)) (kept-counted p r cl_trid s place is)
 
 -- A registrar's command leaves a registry well formed, but that a serial at its greatest would be
 -- given twice.
@@ -57,4 +57,4 @@ pub kept-effect : (p : PolicyRules) (r : ℕ) (c : Command) (s : Registry) → I
 unfolding judged changes_after
 kept-effect p r (Bad cl_trid code) s place is small = kept-counted p r cl_trid s place is
 kept-effect p r (Asked cl_trid request) s place is small =
-    kept-judged p r cl_trid s place is small request (response_data p r s.clock request (facts r (Asked cl_trid request) s)) (refusal_of p r request (facts r (Asked cl_trid request) s)) refl
+    kept-judged p r cl_trid s place is small request (refusal_of p r s.clock request (facts p r (Asked cl_trid request) s)) refl

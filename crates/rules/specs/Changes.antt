@@ -1,5 +1,5 @@
 -- The changes of a registry.
-use Rattle.std.specs.Prelude.{ℕ, List, filter, not, fold, if◌then◌else◌}
+use Rattle.std.specs.Prelude.{ℕ, List, filter, not, fold, max, if◌then◌else◌}
 use Rattle.std.specs.FinMap.{insert, remove}
 use Rattle.std.specs.Ordering.{nat_cmp}
 use Rattle.std.specs.Cmp.Lexicographic.{slice_cmp}
@@ -13,7 +13,7 @@ use Rattle.objects.specs.declared.domain.Links.{Links}
 use Rattle.objects.specs.Links.{has_name}
 use Rattle.rules.specs.declared.change.Change.{Change}
 use Rattle.rules.specs.declared.change.Change.TheVariants.{MoveClock, OpenAccount, PutContact, DropContact, PutDomain, PutHost, DropHost, RenameHost, CountCommand, TakeSerial}
-use Rattle.model.specs.Registry.{Registry, account_of, lapsed}
+use Rattle.model.specs.Registry.{Registry, account_of}
 
 -- one registrar's account is changed
 abbrev pub with_account : ℕ → (Account → Account) → Registry → Registry
@@ -32,10 +32,10 @@ links_with_host_renamed old new links = record links { hosts = renamed old new l
 abbrev pub with_host_renamed : List ℕ → List ℕ → Domain → Domain
 with_host_renamed old new d = record d { links = links_with_host_renamed old new d.links }
 
--- One change. Time passes by a change too, and an account that is opened and was there stays as it
--- is.
+-- One change. The clock moves and nothing else: what lapses is a list of changes of its own. An
+-- account that is opened and was there stays as it is.
 abbrev pub changed : Change → Registry → Registry
-changed (MoveClock t) s = lapsed t s
+changed (MoveClock t) s = record s { clock = max t s.clock }
 changed (OpenAccount r) s = with_account r itself s
 changed (PutContact c) s = record s { contacts = insert s.contacts c.name c }
 changed (DropContact name) s = record s { contacts = remove s.contacts name }

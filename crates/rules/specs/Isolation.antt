@@ -11,5 +11,5 @@ use Rattle.model.specs.View.{view, view_for}
 -- registry that shows the registrar the same at that moment, the rules give the same reply, and
 -- what the registrar sees afterwards is the same again.
 pub record IsIsolated (p : PolicyRules) (r : ℕ) (c : Command) (moment : ℕ) (before after : Registry) (reply : Reply) : Type 0 where
-  pub same_reply : (other : Registry) → view_for r c (lapsed moment other) ≡ view_for r c (lapsed moment before) → reply ≡ answer p r c (lapsed moment other)
-  pub same_view : (other : Registry) → view_for r c (lapsed moment other) ≡ view_for r c (lapsed moment before) → view r (now after) ≡ view r (now (effect p r c (lapsed moment other)))
+  pub same_reply : (other : Registry) → view_for p r c (lapsed p moment other) ≡ view_for p r c (lapsed p moment before) → reply ≡ answer p r c (lapsed p moment other)
+  pub same_view : (other : Registry) → view_for p r c (lapsed p moment other) ≡ view_for p r c (lapsed p moment before) → view p r (now p after) ≡ view p r (now p (effect p r c (lapsed p moment other)))

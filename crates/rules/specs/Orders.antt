@@ -1,6 +1,7 @@
 -- What an order of the operator is answered and what it changes.
 use Rattle.std.specs.Prelude.{List, [], ◌∷◌, Option, Some, None, if◌then◌else◌}
 use Rattle.names.specs.Zone.{ZoneRules}
+use Rattle.policy.specs.Rules.{PolicyRules}
 use Rattle.objects.specs.declared.status.Status.{Status}
 use Rattle.objects.specs.Statuses.{amended_statuses}
 use Rattle.rules.specs.declared.change.Change.{Change}
@@ -40,13 +41,13 @@ abbrev pub status_decision : ZoneRules → StatusOrder → Registry → OrderDec
 status_decision zone o s = decided_order o (object_ordered zone o s) (order_code o (object_ordered zone o s))
 
 -- the decision on an order in a registry
-abbrev pub order_decision : ZoneRules → Order → Registry → OrderDecision
-order_decision zone (orders.Status o) s = status_decision zone o s
+abbrev pub order_decision : PolicyRules → Order → Registry → OrderDecision
+order_decision p (orders.Status o) s = status_decision p.zone o s
 
 -- what an order is answered
-abbrev pub order_answer : ZoneRules → Order → Registry → Code
-order_answer zone order s = (order_decision zone order s).code
+abbrev pub order_answer : PolicyRules → Order → Registry → Code
+order_answer p order s = (order_decision p order s).code
 
 -- what it leaves
-abbrev pub order_effect : ZoneRules → Order → Registry → Registry
-order_effect zone order s = changed_all (order_decision zone order s).changes s
+abbrev pub order_effect : PolicyRules → Order → Registry → Registry
+order_effect p order s = changed_all (order_decision p order s).changes s

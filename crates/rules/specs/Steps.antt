@@ -15,7 +15,7 @@ use Rattle.protocol.specs.Requests.{cl_trid_of}
 
 -- the decision on a registrar's command in a registry
 abbrev pub decision : PolicyRules → ℕ → Command → Registry → Decision
-decision p r c s = decided p r s.clock c (facts r c s)
+decision p r c s = decided p r s.clock c (facts p r c s)
 
 -- the reply to a verdict, numbered by the caller's own commands
 abbrev pub reply_of : PolicyRules → ℕ → Command → Verdict → ℕ → Reply

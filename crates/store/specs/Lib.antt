@@ -1,5 +1,5 @@
-pub mod Due
 pub mod Book
+pub mod Due
 pub mod Edits
 pub mod Lookups
 pub mod Plain

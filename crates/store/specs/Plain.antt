@@ -1,5 +1,8 @@
 -- What a `PlainBook` holds.
-use Rattle.std.specs.Prelude.{◌≡◌, true, if◌then◌else◌}
+use Rattle.std.specs.Prelude.{◌≡◌, true, if◌then◌else◌, [], Option, Some, None}
+use Rattle.policy.specs.declared.terms.Terms.{Terms}
+use Rattle.store.specs.declared.book.Ready.{Ready}
+use Rattle.store.specs.declared.book.Ready.TheVariants.{Empty, Used}
 use Rattle.store.specs.declared.content.Content.{Content}
 use Rattle.store.specs.declared.plain.PlainBook.{PlainBook}
 use Rattle.store.specs.Book.{BookState, Stored}
@@ -11,18 +14,28 @@ content_of c = record {
   terms = c.terms;
 }
 
--- what the transaction at_begin
+-- what was held when the transaction began
 abbrev pub at_begin : PlainBook → Stored
 at_begin b = undone_all b.undo (content_of b.content)
 
--- a book in memory takes nothing wrong and refuses nothing
+-- a book in memory is ready once it was opened
+abbrev pub readiness_of : Option Terms → Ready
+readiness_of None = Empty
+readiness_of (Some terms) = Used
+
+abbrev pub held_by : PlainBook → Stored
+held_by b = if b.is_open then content_of b.content else at_begin b
+
+-- a book in memory takes nothing wrong and refuses nothing, and a crash leaves nothing of it
 abbrev pub plain_state : PlainBook → BookState
 plain_state b = record {
-  content = if b.is_open then content_of b.content else at_begin b;
+  content = held_by b;
   before = at_begin b;
   is_open = b.is_open;
   is_clean = true;
   refused = 0;
+  readiness = readiness_of (held_by b).terms;
+  crash_leaves = [];
 }
 
 -- nothing is left to undo but what an open transaction did

@@ -20,7 +20,7 @@ use basis::text::Text;
 use calendar::Moment;
 use names::{GivenName, last_two_labels};
 use objects::{Contact, Domain, Host, ObjectKind, is_below};
-use policy::Terms;
+use policy::{Policy, Terms};
 use std::alloc::{AllocError, Global};
 use facts::{AccountFacts, ContactFacts, DomainFacts, Facts, HOLDING_LIMIT, HostFacts, Superordinate};
 use model::Object;
@@ -59,13 +59,18 @@ impl Content {
 impl Content {
     /// The facts that bear on a registrar's command. Each name costs a look-up. What domains name and
     /// which hosts lie below one is looked for through all of them, for info and delete alone.
-    pub fn facts_for(&self, caller: RegistrarNo, command: &Command) -> Result<Facts, AllocError>
-        ensures { IfOk result (λ it. it ≡ facts.facts caller command.now (content_of self.now).registry) }
+    pub fn facts_for(
+        &self,
+        caller: RegistrarNo,
+        command: &Command,
+        policy: &Policy,
+    ) -> Result<Facts, AllocError>
+        ensures { IfOk result (λ it. it ≡ facts.facts policy.now caller command.now (content_of self.now).registry) }
     {
         Ok(Facts {
             account: self.account_facts(caller),
-            contacts: Seq::from_vec(self.contacts_for(caller, command)?),
-            domains: Seq::from_vec(self.domains_for(caller, command)?),
+            contacts: Seq::from_vec(self.contacts_for(caller, command, policy)?),
+            domains: Seq::from_vec(self.domains_for(caller, command, policy)?),
             hosts: Seq::from_vec(self.hosts_for(command)?),
             at_new_name: self.new_name_for(command)?,
             reference_missing: self.reference_missing(command),
@@ -77,12 +82,13 @@ impl Content {
         &self,
         caller: RegistrarNo,
         command: &Command,
+        policy: &Policy,
     ) -> Result<Vec<ContactFacts>, AllocError>
-        ensures { IfOk result (λ it. it.items ≡ map (facts.contact_facts (facts.lookups caller command.now (content_of self.now).registry) command.now) (requests.asked [] requests.contacts_asked command.now)) }
+        ensures { IfOk result (λ it. it.items ≡ map (facts.contact_facts (facts.lookups policy.now caller command.now (content_of self.now).registry) command.now) (requests.asked [] requests.contacts_asked command.now)) }
     {
         let mut contacts = Vec::new(self.alloc);
         for name in command.contacts() {
-            contacts.push(self.contact_facts(caller, command, name)?)?;
+            contacts.push(self.contact_facts(caller, command, policy, name)?)?;
         }
         Ok(contacts)
     }
@@ -91,9 +97,10 @@ impl Content {
         &self,
         caller: RegistrarNo,
         command: &Command,
+        policy: &Policy,
         name: &Text,
     ) -> Result<ContactFacts, AllocError>
-        ensures { IfOk result (λ known. known ≡ facts.contact_facts (facts.lookups caller command.now (content_of self.now).registry) command.now name.now) }
+        ensures { IfOk result (λ known. known ≡ facts.contact_facts (facts.lookups policy.now caller command.now (content_of self.now).registry) command.now name.now) }
     {
         let presented = command.presented_for_contact(name);
         let seen = match self.contacts.get(name) {
@@ -120,12 +127,13 @@ impl Content {
         &self,
         caller: RegistrarNo,
         command: &Command,
+        policy: &Policy,
     ) -> Result<Vec<DomainFacts>, AllocError>
-        ensures { IfOk result (λ it. it.items ≡ map (λ name. facts.domain_facts (facts.lookups caller command.now (content_of self.now).registry) command.now (name_of name)) (requests.asked [] requests.domains_asked command.now)) }
+        ensures { IfOk result (λ it. it.items ≡ map (λ name. facts.domain_facts (facts.lookups policy.now caller command.now (content_of self.now).registry) command.now (name_of name)) (requests.asked [] requests.domains_asked command.now)) }
     {
         let mut domains = Vec::new(self.alloc);
         for name in command.domains() {
-            domains.push(self.domain_facts(caller, command, name.text())?)?;
+            domains.push(self.domain_facts(caller, command, policy, name.text())?)?;
         }
         Ok(domains)
     }
@@ -134,9 +142,10 @@ impl Content {
         &self,
         caller: RegistrarNo,
         command: &Command,
+        policy: &Policy,
         name: &Text,
     ) -> Result<DomainFacts, AllocError>
-        ensures { IfOk result (λ known. known ≡ facts.domain_facts (facts.lookups caller command.now (content_of self.now).registry) command.now name.now) }
+        ensures { IfOk result (λ known. known ≡ facts.domain_facts (facts.lookups policy.now caller command.now (content_of self.now).registry) command.now name.now) }
     {
         let seen = match self.domains.get(name) {
             None => None,

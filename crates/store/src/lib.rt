@@ -10,7 +10,7 @@ mod fault;
 mod plain;
 mod renamed;
 
-pub use book::Book;
+pub use book::{Book, Ready};
 pub use due::Due;
 pub use fault::BookFault;
 pub use plain::PlainBook;

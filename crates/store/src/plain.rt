@@ -15,7 +15,7 @@ use basis::registrar::RegistrarNo;
 use basis::text::Text;
 use calendar::Moment;
 use objects::ObjectKind;
-use policy::Terms;
+use policy::{Policy, Terms};
 use rules::Change;
 use std::alloc::{AllocError, Global};
 use facts::Facts;
@@ -195,9 +195,14 @@ impl Book for PlainBook {
         }
     }
 
-    fn facts_for(&mut self, caller: RegistrarNo, command: &Command) -> Result<Facts, BookFault> {
+    fn facts_for(
+        &mut self,
+        caller: RegistrarNo,
+        command: &Command,
+        policy: &Policy,
+    ) -> Result<Facts, BookFault> {
         self.finish_rollback()?;
-        match self.content.facts_for(caller, command) {
+        match self.content.facts_for(caller, command, policy) {
             Ok(facts) => Ok(facts),
             Err(error) => self.fail(error),
         }

@@ -1,5 +1,5 @@
 -- The laws that the tables keep, row by row.
-use Rattle.std.proofs.Common.{◌≡◌, ℕ, Bool, true, false, not, inl, inr, Option, Some, None, refl, sym, ap, subst, ◌∙◌}
+use Rattle.std.proofs.Common.{◌≡◌, ℕ, Bool, true, false, not, inl, inr, List, Option, Some, None, Result, Ok, Err, IfOk, refl, sym, ap, subst, ◌∙◌}
 use Rattle.policy.specs.Rules.{PolicyRules}
 use Rattle.facts.specs.declared.facts.Facts.{Facts}
 use Rattle.objects.specs.declared.status.Status.TheVariants.{ClientDeleteProhibited, ClientUpdateProhibited, PendingTransfer, ServerDeleteProhibited, ServerUpdateProhibited}
@@ -18,7 +18,7 @@ use Rattle.verdict.specs.Conditions.{holds, is_linked, is_of_another, is_there, 
 use Rattle.verdict.specs.Laws.{ActsOnObject, Alters, AnswersLawfully, IsLawful, KeepsLaws}
 use Rattle.verdict.specs.ResponseData.{response_data}
 use Rattle.verdict.specs.Rules.{refusal_of}
-use Rattle.verdict.specs.Verdicts.{judged, refused, unless_refused}
+use Rattle.verdict.specs.Verdicts.{granted, judged, unless_refused}
 use Rattle.verdict.proofs.RowLemmas.{refusing, unrefused}
 
 there-is : (b : Bool) → not b ≡ false → b ≡ true
@@ -28,65 +28,65 @@ there-is false e = absurd cc
 apart : true ≡ false → ⊥
 apart e = cc
 
-module _ (p : PolicyRules) (r : ℕ) (f : Facts) where
-  sponsor-law : (q : Request) → refusal_of p r q f ≡ None → Alters (asks_of q).action → is_of_another r q f ≡ false
-  sponsor-law (DeleteContact name) taken is = unrefused p r (DeleteContact name) f taken IsAnothers (search (inl, inr) depth 20)
-  sponsor-law (DeleteHost name) taken is = unrefused p r (DeleteHost name) f taken IsAnothers (search (inl, inr) depth 20)
-  sponsor-law (UpdateContact update) taken is = unrefused p r (UpdateContact update) f taken IsAnothers (search (inl, inr) depth 20)
-  sponsor-law (UpdateDomain update) taken is = unrefused p r (UpdateDomain update) f taken IsAnothers (search (inl, inr) depth 20)
-  sponsor-law (UpdateHost update) taken is = unrefused p r (UpdateHost update) f taken IsAnothers (search (inl, inr) depth 20)
+module _ (p : PolicyRules) (r t : ℕ) (f : Facts) where
+  sponsor-law : (q : Request) → refusal_of p r t q f ≡ None → Alters (asks_of q).action → is_of_another r q f ≡ false
+  sponsor-law (DeleteContact name) taken is = unrefused p r t (DeleteContact name) f taken IsAnothers (search (inl, inr) depth 20)
+  sponsor-law (DeleteHost name) taken is = unrefused p r t (DeleteHost name) f taken IsAnothers (search (inl, inr) depth 20)
+  sponsor-law (UpdateContact update) taken is = unrefused p r t (UpdateContact update) f taken IsAnothers (search (inl, inr) depth 20)
+  sponsor-law (UpdateDomain update) taken is = unrefused p r t (UpdateDomain update) f taken IsAnothers (search (inl, inr) depth 20)
+  sponsor-law (UpdateHost update) taken is = unrefused p r t (UpdateHost update) f taken IsAnothers (search (inl, inr) depth 20)
   sponsor-law _ taken is = absurd (is)
 
-  there-law : (q : Request) → refusal_of p r q f ≡ None → ActsOnObject (asks_of q).action → is_there q f ≡ true
-  there-law (InfoContact name secret) taken is = there-is _ (unrefused p r (InfoContact name secret) f taken IsMissing (search (inl, inr) depth 20))
-  there-law (InfoDomain name secret) taken is = there-is _ (unrefused p r (InfoDomain name secret) f taken IsMissing (search (inl, inr) depth 20))
-  there-law (InfoHost name) taken is = there-is _ (unrefused p r (InfoHost name) f taken IsMissing (search (inl, inr) depth 20))
-  there-law (DeleteContact name) taken is = there-is _ (unrefused p r (DeleteContact name) f taken IsMissing (search (inl, inr) depth 20))
-  there-law (DeleteHost name) taken is = there-is _ (unrefused p r (DeleteHost name) f taken IsMissing (search (inl, inr) depth 20))
-  there-law (UpdateContact update) taken is = there-is _ (unrefused p r (UpdateContact update) f taken IsMissing (search (inl, inr) depth 20))
-  there-law (UpdateDomain update) taken is = there-is _ (unrefused p r (UpdateDomain update) f taken IsMissing (search (inl, inr) depth 20))
-  there-law (UpdateHost update) taken is = there-is _ (unrefused p r (UpdateHost update) f taken IsMissing (search (inl, inr) depth 20))
+  there-law : (q : Request) → refusal_of p r t q f ≡ None → ActsOnObject (asks_of q).action → is_there q f ≡ true
+  there-law (InfoContact name secret) taken is = there-is _ (unrefused p r t (InfoContact name secret) f taken IsMissing (search (inl, inr) depth 20))
+  there-law (InfoDomain name secret) taken is = there-is _ (unrefused p r t (InfoDomain name secret) f taken IsMissing (search (inl, inr) depth 20))
+  there-law (InfoHost name) taken is = there-is _ (unrefused p r t (InfoHost name) f taken IsMissing (search (inl, inr) depth 20))
+  there-law (DeleteContact name) taken is = there-is _ (unrefused p r t (DeleteContact name) f taken IsMissing (search (inl, inr) depth 20))
+  there-law (DeleteHost name) taken is = there-is _ (unrefused p r t (DeleteHost name) f taken IsMissing (search (inl, inr) depth 20))
+  there-law (UpdateContact update) taken is = there-is _ (unrefused p r t (UpdateContact update) f taken IsMissing (search (inl, inr) depth 20))
+  there-law (UpdateDomain update) taken is = there-is _ (unrefused p r t (UpdateDomain update) f taken IsMissing (search (inl, inr) depth 20))
+  there-law (UpdateHost update) taken is = there-is _ (unrefused p r t (UpdateHost update) f taken IsMissing (search (inl, inr) depth 20))
   there-law _ taken is = absurd (is)
 
-  new-law : (q : Request) → refusal_of p r q f ≡ None → (asks_of q).action ≡ Create → is_there q f ≡ false
-  new-law (CreateContact new) taken is = unrefused p r (CreateContact new) f taken IsThere (search (inl, inr) depth 20)
-  new-law (CreateDomain new) taken is = unrefused p r (CreateDomain new) f taken IsThere (search (inl, inr) depth 20)
-  new-law (CreateHost new) taken is = unrefused p r (CreateHost new) f taken IsThere (search (inl, inr) depth 20)
+  new-law : (q : Request) → refusal_of p r t q f ≡ None → (asks_of q).action ≡ Create → is_there q f ≡ false
+  new-law (CreateContact new) taken is = unrefused p r t (CreateContact new) f taken IsThere (search (inl, inr) depth 20)
+  new-law (CreateDomain new) taken is = unrefused p r t (CreateDomain new) f taken IsThere (search (inl, inr) depth 20)
+  new-law (CreateHost new) taken is = unrefused p r t (CreateHost new) f taken IsThere (search (inl, inr) depth 20)
   new-law _ taken is = absurd (cc)
 
-  linked-law : (q : Request) → refusal_of p r q f ≡ None → (asks_of q).action ≡ Delete → is_linked q f ≡ false
-  linked-law (DeleteContact name) taken is = unrefused p r (DeleteContact name) f taken IsLinked (search (inl, inr) depth 20)
-  linked-law (DeleteHost name) taken is = unrefused p r (DeleteHost name) f taken IsLinked (search (inl, inr) depth 20)
+  linked-law : (q : Request) → refusal_of p r t q f ≡ None → (asks_of q).action ≡ Delete → is_linked q f ≡ false
+  linked-law (DeleteContact name) taken is = unrefused p r t (DeleteContact name) f taken IsLinked (search (inl, inr) depth 20)
+  linked-law (DeleteHost name) taken is = unrefused p r t (DeleteHost name) f taken IsLinked (search (inl, inr) depth 20)
   linked-law _ taken is = absurd (cc)
 
-  client-delete-law : (q : Request) → refusal_of p r q f ≡ None → (asks_of q).action ≡ Delete → shows_status ClientDeleteProhibited q f ≡ false
-  client-delete-law (DeleteContact name) taken is = unrefused p r (DeleteContact name) f taken (Shows ClientDeleteProhibited) (search (inl, inr) depth 20)
-  client-delete-law (DeleteHost name) taken is = unrefused p r (DeleteHost name) f taken (Shows ClientDeleteProhibited) (search (inl, inr) depth 20)
+  client-delete-law : (q : Request) → refusal_of p r t q f ≡ None → (asks_of q).action ≡ Delete → shows_status ClientDeleteProhibited q f ≡ false
+  client-delete-law (DeleteContact name) taken is = unrefused p r t (DeleteContact name) f taken (Shows ClientDeleteProhibited) (search (inl, inr) depth 20)
+  client-delete-law (DeleteHost name) taken is = unrefused p r t (DeleteHost name) f taken (Shows ClientDeleteProhibited) (search (inl, inr) depth 20)
   client-delete-law _ taken is = absurd (cc)
 
-  server-delete-law : (q : Request) → refusal_of p r q f ≡ None → (asks_of q).action ≡ Delete → shows_status ServerDeleteProhibited q f ≡ false
-  server-delete-law (DeleteContact name) taken is = unrefused p r (DeleteContact name) f taken (Shows ServerDeleteProhibited) (search (inl, inr) depth 20)
-  server-delete-law (DeleteHost name) taken is = unrefused p r (DeleteHost name) f taken (Shows ServerDeleteProhibited) (search (inl, inr) depth 20)
+  server-delete-law : (q : Request) → refusal_of p r t q f ≡ None → (asks_of q).action ≡ Delete → shows_status ServerDeleteProhibited q f ≡ false
+  server-delete-law (DeleteContact name) taken is = unrefused p r t (DeleteContact name) f taken (Shows ServerDeleteProhibited) (search (inl, inr) depth 20)
+  server-delete-law (DeleteHost name) taken is = unrefused p r t (DeleteHost name) f taken (Shows ServerDeleteProhibited) (search (inl, inr) depth 20)
   server-delete-law _ taken is = absurd (cc)
 
-  transfer-law : (q : Request) → refusal_of p r q f ≡ None → (asks_of q).action ≡ Delete → shows_status PendingTransfer q f ≡ false
-  transfer-law (DeleteContact name) taken is = unrefused p r (DeleteContact name) f taken (Shows PendingTransfer) (search (inl, inr) depth 20)
-  transfer-law (DeleteHost name) taken is = unrefused p r (DeleteHost name) f taken (Shows PendingTransfer) (search (inl, inr) depth 20)
+  transfer-law : (q : Request) → refusal_of p r t q f ≡ None → (asks_of q).action ≡ Delete → shows_status PendingTransfer q f ≡ false
+  transfer-law (DeleteContact name) taken is = unrefused p r t (DeleteContact name) f taken (Shows PendingTransfer) (search (inl, inr) depth 20)
+  transfer-law (DeleteHost name) taken is = unrefused p r t (DeleteHost name) f taken (Shows PendingTransfer) (search (inl, inr) depth 20)
   transfer-law _ taken is = absurd (cc)
 
-  client-update-law : (q : Request) → refusal_of p r q f ≡ None → (asks_of q).action ≡ Update → still_shows ClientUpdateProhibited q f ≡ false
-  client-update-law (UpdateContact update) taken is = unrefused p r (UpdateContact update) f taken (StillShows ClientUpdateProhibited) (search (inl, inr) depth 20)
-  client-update-law (UpdateDomain update) taken is = unrefused p r (UpdateDomain update) f taken (StillShows ClientUpdateProhibited) (search (inl, inr) depth 20)
-  client-update-law (UpdateHost update) taken is = unrefused p r (UpdateHost update) f taken (StillShows ClientUpdateProhibited) (search (inl, inr) depth 20)
+  client-update-law : (q : Request) → refusal_of p r t q f ≡ None → (asks_of q).action ≡ Update → still_shows ClientUpdateProhibited q f ≡ false
+  client-update-law (UpdateContact update) taken is = unrefused p r t (UpdateContact update) f taken (StillShows ClientUpdateProhibited) (search (inl, inr) depth 20)
+  client-update-law (UpdateDomain update) taken is = unrefused p r t (UpdateDomain update) f taken (StillShows ClientUpdateProhibited) (search (inl, inr) depth 20)
+  client-update-law (UpdateHost update) taken is = unrefused p r t (UpdateHost update) f taken (StillShows ClientUpdateProhibited) (search (inl, inr) depth 20)
   client-update-law _ taken is = absurd (cc)
 
-  server-update-law : (q : Request) → refusal_of p r q f ≡ None → (asks_of q).action ≡ Update → shows_status ServerUpdateProhibited q f ≡ false
-  server-update-law (UpdateContact update) taken is = unrefused p r (UpdateContact update) f taken (Shows ServerUpdateProhibited) (search (inl, inr) depth 20)
-  server-update-law (UpdateDomain update) taken is = unrefused p r (UpdateDomain update) f taken (Shows ServerUpdateProhibited) (search (inl, inr) depth 20)
-  server-update-law (UpdateHost update) taken is = unrefused p r (UpdateHost update) f taken (Shows ServerUpdateProhibited) (search (inl, inr) depth 20)
+  server-update-law : (q : Request) → refusal_of p r t q f ≡ None → (asks_of q).action ≡ Update → shows_status ServerUpdateProhibited q f ≡ false
+  server-update-law (UpdateContact update) taken is = unrefused p r t (UpdateContact update) f taken (Shows ServerUpdateProhibited) (search (inl, inr) depth 20)
+  server-update-law (UpdateDomain update) taken is = unrefused p r t (UpdateDomain update) f taken (Shows ServerUpdateProhibited) (search (inl, inr) depth 20)
+  server-update-law (UpdateHost update) taken is = unrefused p r t (UpdateHost update) f taken (Shows ServerUpdateProhibited) (search (inl, inr) depth 20)
   server-update-law _ taken is = absurd (cc)
 
-  lawful : (q : Request) → refusal_of p r q f ≡ None → IsLawful r q f
+  lawful : (q : Request) → refusal_of p r t q f ≡ None → IsLawful r q f
   lawful q taken = record {
     sponsor = sponsor-law q taken;
     there = there-law q taken;
@@ -100,16 +100,23 @@ module _ (p : PolicyRules) (r : ℕ) (f : Facts) where
   }
 
   -- info alone presents a secret
-  secret-law : (q : Request) (t : ℕ) → refusal_of p r q f ≡ None → secret_is_wrong r q f ≡ true → response_data p r t q f ≡ None
-  secret-law (InfoContact name secret) t taken wrong = absurd (apart (sym wrong ∙ unrefused p r (InfoContact name secret) f taken SecretIsWrong (search (inl, inr) depth 20)))
-  secret-law (InfoDomain name secret) t taken wrong = absurd (apart (sym wrong ∙ unrefused p r (InfoDomain name secret) f taken SecretIsWrong (search (inl, inr) depth 20)))
-  secret-law _ t taken wrong = absurd cc
+  secret-law : (q : Request) → refusal_of p r t q f ≡ None → secret_is_wrong r q f ≡ true → response_data p r t q f ≡ None
+  secret-law (InfoContact name secret) taken wrong = absurd (apart (sym wrong ∙ unrefused p r t (InfoContact name secret) f taken SecretIsWrong (search (inl, inr) depth 20)))
+  secret-law (InfoDomain name secret) taken wrong = absurd (apart (sym wrong ∙ unrefused p r t (InfoDomain name secret) f taken SecretIsWrong (search (inl, inr) depth 20)))
+  secret-law _ taken wrong = absurd cc
 
-  by-refusal : (q : Request) (t : ℕ) (refusal : Option Code) → refusal_of p r q f ≡ refusal → KeepsLaws r q f (unless_refused refusal (response_data p r t q f))
-  by-refusal q t None taken = record { carried_out = λ accepted. lawful q taken; secret = secret-law q t taken }
-  by-refusal q t (Some code) is = record { carried_out = λ accepted. absurd (apart (sym accepted ∙ refusing p r q f code is)); secret = λ wrong. refl }
+  by-refusal : (q : Request) (refusal : Option Code) → refusal_of p r t q f ≡ refusal → KeepsLaws r q f (unless_refused refusal (granted p r t q f))
+  by-refusal q None taken = record { carried_out = λ accepted. lawful q taken; secret = secret-law q taken }
+  by-refusal q (Some code) is = record { carried_out = λ accepted. absurd (apart (sym accepted ∙ refusing p r t q f code is)); secret = λ wrong. refl }
 
 pub answers-lawfully : (p : PolicyRules) (r t : ℕ) (c : Command) (f : Facts) (v : Verdict) → v ≡ judged p r t c f → AnswersLawfully r c f v
 unfolding AnswersLawfully judged
 answers-lawfully p r t (Bad cl_trid code) f v is = ap (λ (w : Verdict). w.content) is
-answers-lawfully p r t (Asked cl_trid request) f v is = subst (λ (w : Verdict). KeepsLaws r request f w) (sym is) (by-refusal p r f request t (refusal_of p r request f) refl)
+answers-lawfully p r t (Asked cl_trid request) f v is = subst (λ (w : Verdict). KeepsLaws r request f w) (sym is) (by-refusal p r t f request (refusal_of p r t request f) refl)
+
+-- what is granted to a request that isn't refused is its verdict
+pub granted-is-judged : {E : Type 0} (p : PolicyRules) (r t : ℕ) (c : Command) (cl_trid : Option (List ℕ)) (q : Request) (f : Facts) (result : Result Verdict E)
+    → c ≡ Asked cl_trid q → refusal_of p r t q f ≡ None → IfOk result (λ v. v ≡ granted p r t q f) → IfOk result (λ v. v ≡ judged p r t c f)
+unfolding judged
+granted-is-judged p r t c cl_trid q f (Ok v) is free given = given ∙ sym (ap (λ (d : Command). judged p r t d f) is ∙ ap (λ (o : Option Code). unless_refused o (granted p r t q f)) free)
+granted-is-judged p r t c cl_trid q f (Err e) is free given = tt

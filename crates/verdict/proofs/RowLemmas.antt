@@ -33,18 +33,18 @@ unmapped f None e = refl
 unmapped f (Some x) e = absurd cc
 
 -- of a command that isn't refused no condition holds that stands in its table
-pub unrefused : (p : PolicyRules) (r : ℕ) (q : Request) (f : Facts) → refusal_of p r q f ≡ None → (condition : Condition) → StandsIn (rows_of q) condition → holds p r q f condition ≡ false
+pub unrefused : (p : PolicyRules) (r t : ℕ) (q : Request) (f : Facts) → refusal_of p r t q f ≡ None → (condition : Condition) → StandsIn (rows_of q) condition → holds p r t q f condition ≡ false
 unfolding first_refusal
-unrefused p r q f none condition stands = unfound (holds p r q f) (rows_of q) (unmapped (λ (row : Cause × Condition). code_of row.0) _ none) condition stands
+unrefused p r t q f none condition stands = unfound (holds p r t q f) (rows_of q) (unmapped (λ (row : Cause × Condition). code_of row.0) _ none) condition stands
 
 never-accepted : (cause : Cause) → is_accepted (code_of cause) ≡ false
 never-accepted BadNames = refl
 never-accepted _ = refl
 
 -- no cause answers that a command was carried out
-pub refusing : (p : PolicyRules) (r : ℕ) (q : Request) (f : Facts) (code : Code) → refusal_of p r q f ≡ Some code → is_accepted code ≡ false
+pub refusing : (p : PolicyRules) (r t : ℕ) (q : Request) (f : Facts) (code : Code) → refusal_of p r t q f ≡ Some code → is_accepted code ≡ false
 unfolding first_refusal
-refusing p r q f code e = by (find (λ (row : Cause × Condition). holds p r q f row.1) (rows_of q)) e
+refusing p r t q f code e = by (find (λ (row : Cause × Condition). holds p r t q f row.1) (rows_of q)) e
   where
     by : (o : Option (Cause × Condition)) → option_map (λ (row : Cause × Condition). code_of row.0) o ≡ Some code → is_accepted code ≡ false
     by None e = absurd cc

@@ -270,24 +270,24 @@ leaves_addresses_outside zone q f = holds_of (λ name. not (is_inside zone (name
 
 -- ---- each condition
 
--- a condition holds of a registrar's request, by the facts
-abbrev pub holds : PolicyRules → ℕ → Request → Facts → Condition → Bool
-holds p r q f NameIsRefused = name_is_refused q
-holds p r q f ListRepeats = list_repeats (asks_of q).adds || list_repeats (asks_of q).removes
-holds p r q f IsThere = is_there q f
-holds p r q f IsMissing = not (is_there q f)
-holds p r q f ReferenceIsMissing = f.reference_missing
-holds p r q f NewNameIsTaken = is_some (new_name_seen f)
-holds p r q f SuperordinateIsMissing = holds_of (has_no_superordinate p.zone) (host_to_be q f)
-holds p r q f IsAnothers = is_of_another r q f
-holds p r q f SuperordinateIsAnothers = holds_of (superordinate_is_anothers p.zone r) (host_to_be q f)
-holds p r q f SecretIsWrong = secret_is_wrong r q f
-holds p r q f (Shows status) = shows_status status q f
-holds p r q f (StillShows status) = still_shows status q f
-holds p r q f SuperordinateIsDeleted = holds_of (superordinate_is_deleted p.zone) (host_to_be q f)
-holds p r q f IsLinked = is_linked q f
-holds p r q f AddsWhatIsThere = adds_known q f
-holds p r q f RemovesWhatIsNot = removes_unknown q f
-holds p r q f LeavesTooMany = leaves_too_many q f
-holds p r q f LeavesAddressesOutside = leaves_addresses_outside p.zone q f
-holds p r q f HoldsTheMost = f.holding_limit_reached
+-- a condition holds of a registrar's request at a moment, by the facts
+abbrev pub holds : PolicyRules → ℕ → ℕ → Request → Facts → Condition → Bool
+holds p r t q f NameIsRefused = name_is_refused q
+holds p r t q f ListRepeats = list_repeats (asks_of q).adds || list_repeats (asks_of q).removes
+holds p r t q f IsThere = is_there q f
+holds p r t q f IsMissing = not (is_there q f)
+holds p r t q f ReferenceIsMissing = f.reference_missing
+holds p r t q f NewNameIsTaken = is_some (new_name_seen f)
+holds p r t q f SuperordinateIsMissing = holds_of (has_no_superordinate p.zone) (host_to_be q f)
+holds p r t q f IsAnothers = is_of_another r q f
+holds p r t q f SuperordinateIsAnothers = holds_of (superordinate_is_anothers p.zone r) (host_to_be q f)
+holds p r t q f SecretIsWrong = secret_is_wrong r q f
+holds p r t q f (Shows status) = shows_status status q f
+holds p r t q f (StillShows status) = still_shows status q f
+holds p r t q f SuperordinateIsDeleted = holds_of (superordinate_is_deleted p.zone) (host_to_be q f)
+holds p r t q f IsLinked = is_linked q f
+holds p r t q f AddsWhatIsThere = adds_known q f
+holds p r t q f RemovesWhatIsNot = removes_unknown q f
+holds p r t q f LeavesTooMany = leaves_too_many q f
+holds p r t q f LeavesAddressesOutside = leaves_addresses_outside p.zone q f
+holds p r t q f HoldsTheMost = f.holding_limit_reached

@@ -28,5 +28,5 @@ rows_of (UpdateDomain update) = DOMAIN_UPDATE.now
 rows_of (UpdateHost update) = HOST_UPDATE.now
 
 -- the code with which a command is refused
-abbrev pub refusal_of : PolicyRules → ℕ → Request → Facts → Option Code
-refusal_of p r request f = first_refusal (holds p r request f) (rows_of request)
+abbrev pub refusal_of : PolicyRules → ℕ → ℕ → Request → Facts → Option Code
+refusal_of p r t request f = first_refusal (holds p r t request f) (rows_of request)

@@ -6,7 +6,7 @@ use Rattle.protocol.specs.declared.code.Code.TheVariants.{Completed}
 use Rattle.protocol.specs.declared.command.Command.{Command}
 use Rattle.protocol.specs.declared.command.Command.TheVariants.{Bad, Asked}
 use Rattle.facts.specs.declared.facts.Facts.{Facts}
-use Rattle.protocol.specs.declared.reply.Data.{Data}
+use Rattle.protocol.specs.declared.command.Request.{Request}
 use Rattle.verdict.specs.declared.verdict.Verdict.{Verdict}
 use Rattle.verdict.specs.Rules.{refusal_of}
 use Rattle.verdict.specs.ResponseData.{response_data}
@@ -14,12 +14,16 @@ use Rattle.verdict.specs.ResponseData.{response_data}
 abbrev pub refused : Code → Verdict
 refused code = record { code = code; content = None }
 
--- the code of the first refusal, or what an accepted command is told
-abbrev pub unless_refused : Option Code → Option Data → Verdict
-unless_refused (Some code) content = refused code
-unless_refused None content = record { code = Completed; content = content }
+-- what a request is answered that isn't refused
+abbrev pub granted : PolicyRules → ℕ → ℕ → Request → Facts → Verdict
+granted p r t request f = record { code = Completed; content = response_data p r t request f }
+
+-- the code of the first refusal, or what is granted
+abbrev pub unless_refused : Option Code → Verdict → Verdict
+unless_refused (Some code) verdict = refused code
+unless_refused None verdict = verdict
 
 -- what a registrar's command at a moment is answered
 unfoldable pub judged : PolicyRules → ℕ → ℕ → Command → Facts → Verdict
 judged p r t (Bad cl_trid code) f = refused code
-judged p r t (Asked cl_trid request) f = unless_refused (refusal_of p r request f) (response_data p r t request f)
+judged p r t (Asked cl_trid request) f = unless_refused (refusal_of p r t request f) (granted p r t request f)

@@ -18,17 +18,19 @@ use crate::conditions::{
 };
 use crate::rules::{Condition, Row, rows};
 use basis::registrar::RegistrarNo;
+use calendar::Moment;
 use facts::{ContactFacts, Facts, HostFacts, count_kept};
 use names::GivenName;
 use objects::{Contact, ContactFace, Domain, DomainFace, Host, Seen, Status, has_status};
 use policy::Policy;
 use protocol::{Action, Code, Request};
 
-/// A registrar's command, the policy, and the facts.
+/// A registrar's command at a moment, the policy, and the facts.
 #[derive(Clone, Copy, Drop)]
 pub(crate) struct Case<'a> {
     pub(crate) facts: &'a Facts,
     pub(crate) caller: RegistrarNo,
+    pub(crate) moment: Moment,
     pub(crate) request: &'a Request,
     pub(crate) policy: &'a Policy,
 }
@@ -240,7 +242,7 @@ impl Case<'_> {
 
     /// Whether the condition holds.
     fn meets(&self, condition: Condition) -> bool
-        ensures { result ≡ spec.holds self.now.policy.now self.now.caller self.now.request.now self.now.facts.now condition }
+        ensures { result ≡ spec.holds self.now.policy.now self.now.caller self.now.moment self.now.request.now self.now.facts.now condition }
     {
         let zone = self.policy.zone();
         match condition {
@@ -271,7 +273,7 @@ impl Case<'_> {
     }
 
     fn find_refusal(&self, rows: &'static [Row]) -> Option<&'static Row>
-        ensures { option_copied result ≡ find (λ row. spec.holds self.now.policy.now self.now.caller self.now.request.now self.now.facts.now row.1) rows.now }
+        ensures { option_copied result ≡ find (λ row. spec.holds self.now.policy.now self.now.caller self.now.moment self.now.request.now self.now.facts.now row.1) rows.now }
     {
         rows.iter().find(|row| self.meets(row.1))
     }
@@ -279,7 +281,7 @@ impl Case<'_> {
     /// The code with which the command is refused.
     #[tactic(auto, unfolding(crate::specs::Refusals::first_refusal))]
     pub(crate) fn refusal(&self) -> Option<Code>
-        ensures { result ≡ refusal_of self.now.policy.now self.now.caller self.now.request.now self.now.facts.now }
+        ensures { result ≡ refusal_of self.now.policy.now self.now.caller self.now.moment self.now.request.now self.now.facts.now }
     {
         match self.find_refusal(rows(self.request)) {
             Some((cause, _)) => Some(cause.code()),

@@ -2,7 +2,7 @@
 ghost use Rattle.std.specs.Prelude.{◌≡◌, IfOk, None};
 ghost use Rattle.verdict.specs.Laws.{AnswersLawfully};
 ghost use Rattle.verdict.specs.Rules as spec;
-ghost use Rattle.verdict.specs.Verdicts.{judged};
+ghost use Rattle.verdict.specs.Verdicts.{granted, judged};
 
 use crate::case::Case;
 use crate::response::response_data;
@@ -52,14 +52,28 @@ fn verdict_on(
 {
     match command {
         Command::Bad { code, .. } => Ok(refused(*code)),
-        Command::Asked { request, .. } => match refusal_of(facts, caller, request, policy) {
+        Command::Asked { request, .. } => match refusal_of(facts, caller, moment, request, policy) {
             Some(code) => Ok(refused(code)),
-            None => Ok(Verdict {
-                code: Code::Completed,
-                content: response_data(alloc, facts, caller, request, moment, policy)?,
-            }),
+            None => grant(alloc, facts, caller, request, moment, policy),
         },
     }
+}
+
+/// What a request is answered that isn't refused.
+fn grant(
+    alloc: Global,
+    facts: &Facts,
+    caller: RegistrarNo,
+    request: &Request,
+    moment: Moment,
+    policy: &Policy,
+) -> Result<Verdict, AllocError>
+    ensures { IfOk result (λ verdict. verdict ≡ granted policy.now caller moment request.now facts.now) }
+{
+    Ok(Verdict {
+        code: Code::Completed,
+        content: response_data(alloc, facts, caller, request, moment, policy)?,
+    })
 }
 
 fn refused(code: Code) -> Verdict
@@ -75,14 +89,16 @@ fn refused(code: Code) -> Verdict
 fn refusal_of(
     facts: &Facts,
     caller: RegistrarNo,
+    moment: Moment,
     request: &Request,
     policy: &Policy,
 ) -> Option<Code>
-    ensures { result ≡ spec.refusal_of policy.now caller request.now facts.now }
+    ensures { result ≡ spec.refusal_of policy.now caller moment request.now facts.now }
 {
     let case = Case {
         facts,
         caller,
+        moment,
         request,
         policy,
     };
