@@ -1,7 +1,8 @@
 -- When a value of the registry's maps is a registry. What a registrar may learn is promised of every
 -- value, so no promise of that asks for this: it is what the steps of the registry keep.
-use Rattle.std.specs.Prelude.{◌≡◌, ◌≢◌, ℕ, ◌≤◌, true, false, List, Option, Some, None, IsSome, ◌↔◌}
+use Rattle.std.specs.Prelude.{◌≡◌, ◌≢◌, ℕ, ◌≤◌, ◌<◌, ◌^◌, true, false, List, length, Option, Some, None, IsSome, ◌↔◌}
 use Rattle.std.specs.FinMap.{get}
+use Rattle.accounts.specs.declared.account.Account.{Account}
 use Rattle.names.specs.Zone.{superordinate_of}
 use Rattle.objects.specs.declared.contact.Contact.{Contact}
 use Rattle.objects.specs.declared.domain.Domain.{Domain}
@@ -94,3 +95,15 @@ pub record IsRegistry (p : PolicyRules) (s : Registry) : Type 0 where
   pub contact_roids : (a b : List ℕ) (x y : Contact) → get s.contacts a ≡ Some x → get s.contacts b ≡ Some y → x.roid ≡ y.roid → a ≡ b
   pub host_roids : (a b : List ℕ) (x y : Host) → get s.hosts a ≡ Some x → get s.hosts b ≡ Some y → x.roid ≡ y.roid → a ≡ b
   pub domain_roids : (a b : List ℕ) (x y : Domain) → get s.domains a ≡ Some x → get s.domains b ≡ Some y → x.roid ≡ y.roid → a ≡ b
+
+-- Counters stay at their greatest value, and two objects would then share a ROID: each counter and
+-- list of an account is far below it.
+pub record IsSmall (a : Account) : Type 0 where
+  pub commands : a.commands < 2 ^ 62
+  pub messages : a.messages < 2 ^ 62
+  pub serial : a.serial < 2 ^ 62
+  pub lines : length a.lines < 2 ^ 62
+  pub queue : length a.queue < 2 ^ 62
+
+abbrev pub AreSmall : Registry → Type 0
+AreSmall s = (r : ℕ) → IsSmall (account_of r s)

@@ -10,7 +10,7 @@ use Rattle.policy.specs.declared.registrar.Registrar.{Registrar}
 use Rattle.policy.specs.Rules.{PolicyRules, IsPlace}
 use Rattle.policy.specs.Terms.{Continues, ids_of, terms_of}
 use Rattle.policy.proofs.TermsLemmas.{continues-Decides}
-use Rattle.registry.specs.Opening.{Opens, goes_on, opened, openings}
+use Rattle.registry.specs.Opening.{Opens, continues_earlier, goes_on, opened, openings}
 use Rattle.registry.specs.WellFormed.{HoldsRegistry, OpensWellFormed}
 use Rattle.rules.specs.declared.change.Change.{Change}
 use Rattle.rules.specs.declared.change.Change.TheVariants.{OpenAccount}
@@ -107,12 +107,12 @@ fewer p q added ids =
     let of_q : length (ids_of q.registrars) ≡ length q.registrars = length-map q.registrars (λ (registrar : Registrar). registrar.id) in
     omega arith
 
-held-opened : (p : PolicyRules) (held : Stored) → goes_on (terms_of p) held.terms ≡ true → HoldsRegistry held → IsRegistry p (opened p held).registry
+held-opened : (p : PolicyRules) (held : Stored) → goes_on (terms_of p) held ≡ true → HoldsRegistry held → IsRegistry p (opened p held).registry
 held-opened p held fits (inl e) =
     subst (λ (held : Stored). IsRegistry p (opened p held).registry) (sym e) (kept-opened p (without_registrars p) blank refl (omega arith) (blank-is p))
 held-opened p held fits (inr before) =
     let q : PolicyRules = before.0 in
-    let same : Continues (terms_of p) (terms_of q) = (continues-Decides (terms_of p) (terms_of q)).0 (sym (ap (goes_on (terms_of p)) before.1) ∙ fits) in
+    let same : Continues (terms_of p) (terms_of q) = (continues-Decides (terms_of p) (terms_of q)).0 (sym (ap (continues_earlier (terms_of p)) before.1) ∙ fits) in
     let zone : q.zone ≡ p.zone = λ i. record { label = sym same.zone i; reserved = sym same.reserved i } in
     kept-opened p q held.registry zone (fewer p q same.ids.0 same.ids.1) before.2
 

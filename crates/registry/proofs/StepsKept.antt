@@ -1,5 +1,5 @@
 -- A step of the rules leaves a well formed registry.
-use Rattle.std.proofs.Common.{◌≡◌, ℕ, Result, Ok, Err, IfOk, sym, subst}
+use Rattle.std.proofs.Common.{◌≡◌, ℕ, Result, Ok, Err, IfOk, OnOk, sym, subst}
 use Rattle.policy.specs.Rules.{PolicyRules, IsPlace}
 use Rattle.registry.specs.Execution.{IsOrderStep, IsStep}
 use Rattle.registry.specs.WellFormed.{KeepsWellFormed, StaysWellFormed}
@@ -15,13 +15,13 @@ use Rattle.protocol.specs.declared.reply.Reply.{Reply}
 use Rattle.model.specs.Registry.{Registry, lapsed, now}
 use Rattle.model.specs.WellFormed.{IsRegistry}
 
-stays : (p : PolicyRules) (r : ℕ) (c : Command) (moment : ℕ) (before after : Registry) → IsPlace p r → now p after ≡ now p (effect p r c (lapsed p moment before)) → StaysWellFormed p r before after
+stays : (p : PolicyRules) (r : ℕ) (c : Command) (moment : ℕ) (before after : Registry) → IsPlace p r → now p after ≡ now p (effect p r c (lapsed p moment before)) → StaysWellFormed p before after
 stays p r c moment before after place left is small =
     let passed : Registry = lapsed p moment before in
-    subst (IsRegistry p) (sym left) (kept-now p (effect p r c passed) (kept-effect p r c passed place (kept-lapsed p moment before is) small))
+    subst (IsRegistry p) (sym left) (kept-now p (effect p r c passed) (kept-effect p r c passed place (kept-lapsed p moment before is) (small r).serial))
 
 pub kept_step : {E : Type 0} (result : Result Reply E) (clean : Type 0) (p : PolicyRules) (r : ℕ) (c : Command) (moment : ℕ) (before after : Registry) → IsPlace p r
-    → IfOk result (λ reply. clean → IsStep p r c moment before after reply) → IfOk result (λ reply. clean → StaysWellFormed p r before after)
+    → IfOk result (λ reply. clean → IsStep p r c moment before after reply) → OnOk result (clean → StaysWellFormed p before after)
 kept_step (Ok reply) clean p r c moment before after place step = λ taken. stays p r c moment before after place (step taken).left
 kept_step (Err e) clean p r c moment before after place step = tt
 
@@ -31,6 +31,6 @@ kept-after-order p order moment before after left is =
     subst (IsRegistry p) (sym left) (kept-now p (order_effect p order passed) (kept-order p order passed (kept-lapsed p moment before is)))
 
 pub kept_order_step : {E : Type 0} (result : Result Code E) (clean : Type 0) (p : PolicyRules) (order : Order) (moment : ℕ) (before after : Registry)
-    → IfOk result (λ code. clean → IsOrderStep p order moment before after code) → IfOk result (λ code. clean → KeepsWellFormed p before after)
+    → IfOk result (λ code. clean → IsOrderStep p order moment before after code) → OnOk result (clean → KeepsWellFormed p before after)
 kept_order_step (Ok code) clean p order moment before after step = λ taken. kept-after-order p order moment before after (step taken).left
 kept_order_step (Err e) clean p order moment before after step = tt

@@ -8,7 +8,7 @@ use Rattle.rules.specs.Decisions.{decided}
 use Rattle.rules.specs.Orders.{order_answer, order_effect}
 use Rattle.rules.specs.Steps.{answer, effect, reply_of}
 use Rattle.rules.specs.Isolation.{IsIsolated}
-use Rattle.store.specs.Book.{BookState, HasRefused, IsBack, Stored}
+use Rattle.store.specs.Book.{BookState, HasRefused, IsBack, NoRefusal, Stored}
 use Rattle.protocol.specs.declared.code.Code.{Code}
 use Rattle.protocol.specs.declared.command.Command.{Command}
 use Rattle.facts.specs.declared.facts.Facts.{Facts}
@@ -49,7 +49,7 @@ pub record IsPrepared (p : PolicyRules) (r : ℕ) (c : Command) (t : ℕ) (f : F
 
 -- what a call that gave up in a transaction leaves: it went back
 abbrev pub GoesBack : Fault → BookState → BookState → Type 0
-GoesBack faults.Memory old new = IsBack old new
+GoesBack faults.Memory old new = IsBack old new × NoRefusal old new
 GoesBack faults.Store old new = IsBack old new × HasRefused old new
 GoesBack faults.Moment old new = ⊥
 
@@ -57,11 +57,15 @@ GoesBack faults.Moment old new = ⊥
 pub record IsUnchanged (old new : BookState) : Type 0 where
   pub content : new.is_clean ≡ true → new.content ≡ old.content
 
--- what a call that gave up leaves; with Store, what keeps the book refused again
+-- what a call that gave up leaves; with Store, what keeps the book refused, and else it didn't
 abbrev pub Fails : Fault → BookState → BookState → Type 0
-Fails faults.Memory old new = IsUnchanged old new
+Fails faults.Memory old new = IsUnchanged old new × NoRefusal old new
 Fails faults.Store old new = IsUnchanged old new × HasRefused old new
-Fails faults.Moment old new = IsUnchanged old new
+Fails faults.Moment old new = IsUnchanged old new × NoRefusal old new
+
+-- the book is kept under the same terms
+abbrev pub SameTerms : BookState → BookState → Type 0
+SameTerms old new = new.is_clean ≡ true → new.content.terms ≡ old.content.terms
 
 -- the same terms, with the registry as a call at a moment lookups it
 abbrev pub at_moment : PolicyRules → ℕ → Stored → Stored
@@ -69,5 +73,6 @@ at_moment p t s = record s { registry = lapsed p t s.registry }
 
 -- no transaction is open, and this is held
 pub record Keeps (old new : BookState) (held : Stored) : Type 0 where
+  pub counted : NoRefusal old new
   pub closed : new.is_open ≡ false
   pub content : new.is_clean ≡ true → new.content ≡ held

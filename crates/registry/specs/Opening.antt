@@ -8,12 +8,15 @@ use Rattle.registry.specs.declared.fault.OpenFault.TheVariants as refusals
 use Rattle.rules.specs.declared.change.Change.{Change}
 use Rattle.rules.specs.declared.change.Change.TheVariants.{OpenAccount}
 use Rattle.rules.specs.Changes.{changed_all}
-use Rattle.store.specs.Book.{BookState, HasRefused, IsBack, Stored}
+use Rattle.store.specs.Book.{BookState, HasRefused, IsBack, NoRefusal, Stored}
+
+abbrev pub continues_earlier : Terms → Option Terms → Bool
+continues_earlier terms None = true
+continues_earlier terms (Some earlier) = continues terms earlier
 
 -- a book that was never opened, or was opened under terms that these continue
-abbrev pub goes_on : Terms → Option Terms → Bool
-goes_on terms None = true
-goes_on terms (Some earlier) = continues terms earlier
+abbrev pub goes_on : Terms → Stored → Bool
+goes_on terms held = continues_earlier terms held.terms
 
 -- an account for each of the first n registrars
 unfoldable pub openings : ℕ → List Change
@@ -25,23 +28,25 @@ abbrev pub opened : PolicyRules → Stored → Stored
 opened p s = record { registry = changed_all (openings (length p.registrars)) s.registry; terms = Some (terms_of p) }
 
 pub record Opens (p : PolicyRules) (old new : BookState) : Type 0 where
+  pub counted : NoRefusal old new
   pub closed : new.is_open ≡ false
   pub content : new.is_clean ≡ true → new.content ≡ opened p old.content
-  pub fits : new.is_clean ≡ true → goes_on (terms_of p) old.content.terms ≡ true
+  pub fits : new.is_clean ≡ true → goes_on (terms_of p) old.content ≡ true
 
 -- the accounts are there, and the terms put down
 pub record IsOpened (p : PolicyRules) (old new : BookState) : Type 0 where
+  pub counted : NoRefusal old new
   pub closed : new.is_open ≡ false
   pub content : new.is_clean ≡ true → new.content ≡ opened p old.content
 
 -- a refused book is as it was, and what it is refused for is so
 pub record DoesNotFit (p : PolicyRules) (old new : BookState) : Type 0 where
   pub back : IsBack old new
-  pub differs : new.is_clean ≡ true → goes_on (terms_of p) old.content.terms ≡ false
+  pub differs : new.is_clean ≡ true → goes_on (terms_of p) old.content ≡ false
 
 abbrev pub Refuses : OpenFault → PolicyRules → BookState → BookState → Type 0
 Refuses refusals.Policy p old new = DoesNotFit p old new
-Refuses refusals.Memory p old new = IsBack old new
+Refuses refusals.Memory p old new = IsBack old new × NoRefusal old new
 Refuses refusals.Store p old new = IsBack old new × HasRefused old new
 
 -- in a transaction, the book was opened or it went back

@@ -24,6 +24,7 @@ pub(crate) fn open_in<B: Book>(
     requires { (B.state book.old).is_open ≡ false }
     ensures opened { OnOk result (Opens policy.now (B.state book.old) (B.state book.new)) }
     ensures refused { IfErr result (λ fault. Refuses fault policy.now (B.state book.old) (B.state book.new)) }
+    ensures follows { Follows (B.state book.old) (B.state book.new) }
 {
     match book.begin() {
         Ok(()) => {}
@@ -51,7 +52,7 @@ fn open_in_transaction<B: Book>(
 {
     let earlier = terms(book)?;
     let own = or_rollback(book, policy.terms(alloc))?;
-    if !goes_on(&own, &earlier) {
+    if !continues_earlier(&own, &earlier) {
         book.back();
         return Ok(false);
     }
@@ -60,8 +61,8 @@ fn open_in_transaction<B: Book>(
 }
 
 /// Whether a book that was used under the earlier terms, if there are any, goes on under these.
-fn goes_on(terms: &Terms, earlier: &Option<Terms>) -> bool
-    ensures { result ≡ spec.goes_on terms.now earlier.now }
+fn continues_earlier(terms: &Terms, earlier: &Option<Terms>) -> bool
+    ensures { result ≡ spec.continues_earlier terms.now earlier.now }
 {
     match earlier {
         None => true,

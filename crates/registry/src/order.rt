@@ -1,6 +1,6 @@
 //! How an order of the operator is carried out.
 ghost use Rattle.std.specs.Prelude.{◌≡◌, true, false, IfOk, IfErr, OnOk};
-ghost use Rattle.registry.specs.Execution.{GoesBack, Keeps, OrderSteps};
+ghost use Rattle.registry.specs.Execution.{GoesBack, Keeps, OrderSteps, SameTerms};
 ghost use Rattle.rules.specs.Orders.{status_decision};
 ghost use Rattle.store.specs.Book.{Follows, IsSame, with_changes};
 ghost use Rattle.model.specs.Objects.{object_ordered};
@@ -25,11 +25,12 @@ pub(crate) fn execute_order_in<B: Book>(
 ) -> Result<Code, Fault>
     requires { (B.state book.old).is_open ≡ true }
     ensures step { IfOk result (λ code. OrderSteps policy.now order.now moment code (B.state book.old) (B.state book.new)) }
+    ensures terms { OnOk result (SameTerms (B.state book.old) (B.state book.new)) }
     ensures closed { (B.state book.new).is_open ≡ false }
     ensures fault { IfErr result (λ fault. GoesBack fault (B.state book.old) (B.state book.new)) }
     ensures follows { Follows (B.state book.old) (B.state book.new) }
 {
-    advance_clock(book, alloc, moment)?;
+    advance_clock(book, alloc, moment, policy)?;
     match order {
         Order::Status(order) => set_statuses(book, alloc, order, policy),
     }

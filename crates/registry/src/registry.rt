@@ -1,10 +1,11 @@
 //! The registry.
-ghost use Rattle.std.specs.Prelude.{◌≡◌, ◌≢◌, ◌<◌, nat_lt, true, false, ◌↔◌, IfOk, IfErr, OnOk, Ok, Err};
+ghost use Rattle.std.specs.Prelude.{◌≡◌, ◌≢◌, ◌<◌, nat_lt, true, false, ◌↔◌, IfOk, IfErr, OnOk, Ok, Err, Some};
 ghost use Rattle.accounts.specs.Account.{raised};
 ghost use Rattle.policy.specs.Rules.{IsPlace};
-ghost use Rattle.registry.specs.Execution.{Fails, GoesBack, IsPrepared, Isolates, Keeps, OrderSteps, Steps, last_call};
+ghost use Rattle.policy.specs.Terms.{terms_of};
+ghost use Rattle.registry.specs.Execution.{Fails, GoesBack, IsPrepared, Isolates, Keeps, OrderSteps, SameTerms, Steps, last_call};
 ghost use Rattle.registry.specs.Opening.{Opens, Refuses};
-ghost use Rattle.registry.specs.WellFormed.{KeepsWellFormed, OpensWellFormed, StaysWellFormed};
+ghost use Rattle.registry.specs.WellFormed.{BookCanBeReopened, BookKeepsWellFormed, BookStaysWellFormed, OpensWellFormed};
 ghost use Rattle.rules.specs.Steps.{reply_of};
 ghost use Rattle.store.specs.Book.{Follows, IsSame, with_changes};
 ghost use Rattle.facts.specs.Facts.{facts};
@@ -44,6 +45,7 @@ pub struct Registry<B: Book> {
     policy: Policy,
     alloc: Global,
     ghost idle: { (B.state book).is_open ≡ false },
+    ghost kept: { (B.state book).is_clean ≡ true → (B.state book).content.terms ≡ Some (terms_of policy) },
 }
 
 impl<B: Book + Drop> Registry<B> {
@@ -55,7 +57,13 @@ impl<B: Book + Drop> Registry<B> {
         requires { (B.state book).is_open ≡ false }
         ensures opened { IfOk result (λ registry. Opens policy (B.state book) (B.state registry.book)) }
         ensures policy { IfOk result (λ registry. registry.policy ≡ policy) }
-        ensures well_formed { IfOk result (λ registry. (B.state registry.book).is_clean ≡ true → OpensWellFormed policy (B.state book).content (B.state registry.book).content) }
+        ensures well_formed {
+            IfOk result (λ registry. (B.state registry.book).is_clean ≡ true
+            → OpensWellFormed policy (B.state book).content (B.state registry.book).content)
+        }
+        ensures reopens { IfOk result (λ registry. BookCanBeReopened policy (B.state registry.book)) }
+        ensures follows { IfOk result (λ registry. Follows (B.state book) (B.state registry.book)) }
+        ensures refusal_follows { IfErr result (λ refusal. Follows (B.state book) (B.state refusal.1)) }
         ensures refused { IfErr result (λ refusal. Refuses refusal.0 policy (B.state book) (B.state refusal.1)) }
     {
         let mut book = book;
@@ -89,7 +97,9 @@ impl<B: Book + Drop> Registry<B> {
         requires { IsPlace self.old.policy caller }
         ensures step { IfOk result (λ reply. Steps self.old.policy caller command.now moment reply (B.state self.old.book) (B.state self.new.book)) }
         ensures isolation { IfOk result (λ reply. Isolates self.old.policy caller command.now moment reply (B.state self.old.book) (B.state self.new.book)) }
-        ensures well_formed { IfOk result (λ reply. (B.state self.new.book).is_clean ≡ true → StaysWellFormed self.old.policy caller (B.state self.old.book).content.registry (B.state self.new.book).content.registry) }
+        ensures well_formed { OnOk result (BookStaysWellFormed self.old.policy (B.state self.old.book) (B.state self.new.book)) }
+        ensures terms { OnOk result (SameTerms (B.state self.old.book) (B.state self.new.book)) }
+        ensures reopens { OnOk result (BookCanBeReopened self.old.policy (B.state self.new.book)) }
         ensures fault { IfErr result (λ fault. Fails fault (B.state self.old.book) (B.state self.new.book)) }
         ensures late { (result ≡ Err Fault.Moment) ↔ (last_call < moment) }
         ensures follows { Follows (B.state self.old.book) (B.state self.new.book) }
@@ -107,7 +117,9 @@ impl<B: Book + Drop> Registry<B> {
     /// A well formed registry stays well formed.
     pub fn operator(&mut self, order: &Order, moment: Moment) -> Result<Code, Fault>
         ensures step { IfOk result (λ code. OrderSteps self.old.policy order.now moment code (B.state self.old.book) (B.state self.new.book)) }
-        ensures well_formed { IfOk result (λ code. (B.state self.new.book).is_clean ≡ true → KeepsWellFormed self.old.policy (B.state self.old.book).content.registry (B.state self.new.book).content.registry) }
+        ensures well_formed { OnOk result (BookKeepsWellFormed self.old.policy (B.state self.old.book) (B.state self.new.book)) }
+        ensures terms { OnOk result (SameTerms (B.state self.old.book) (B.state self.new.book)) }
+        ensures reopens { OnOk result (BookCanBeReopened self.old.policy (B.state self.new.book)) }
         ensures fault { IfErr result (λ fault. Fails fault (B.state self.old.book) (B.state self.new.book)) }
         ensures late { (result ≡ Err Fault.Moment) ↔ (last_call < moment) }
         ensures follows { Follows (B.state self.old.book) (B.state self.new.book) }
@@ -123,6 +135,7 @@ impl<B: Book + Drop> Registry<B> {
     fn order_step(&mut self, order: &Order, moment: Moment) -> Result<Code, Fault>
         ensures step { IfOk result (λ code. OrderSteps self.old.policy order.now moment code (B.state self.old.book) (B.state self.new.book)) }
         ensures fault { IfErr result (λ fault. Fails fault (B.state self.old.book) (B.state self.new.book)) }
+        ensures terms { OnOk result (SameTerms (B.state self.old.book) (B.state self.new.book)) }
         ensures early { result ≢ Err Fault.Moment }
         ensures follows { Follows (B.state self.old.book) (B.state self.new.book) }
         ensures policy { self.new.policy ≡ self.old.policy }
@@ -140,6 +153,7 @@ impl<B: Book + Drop> Registry<B> {
     ) -> Result<Reply, Fault>
         ensures step { IfOk result (λ reply. Steps self.old.policy caller command.now moment reply (B.state self.old.book) (B.state self.new.book)) }
         ensures fault { IfErr result (λ fault. Fails fault (B.state self.old.book) (B.state self.new.book)) }
+        ensures terms { OnOk result (SameTerms (B.state self.old.book) (B.state self.new.book)) }
         ensures early { result ≢ Err Fault.Moment }
         ensures follows { Follows (B.state self.old.book) (B.state self.new.book) }
         ensures policy { self.new.policy ≡ self.old.policy }
@@ -167,11 +181,12 @@ fn execute_in<B: Book>(
 ) -> Result<Reply, Fault>
     requires { (B.state book.old).is_open ≡ true }
     ensures step { IfOk result (λ reply. Steps policy.now caller command.now moment reply (B.state book.old) (B.state book.new)) }
+    ensures terms { OnOk result (SameTerms (B.state book.old) (B.state book.new)) }
     ensures closed { (B.state book.new).is_open ≡ false }
     ensures fault { IfErr result (λ fault. GoesBack fault (B.state book.old) (B.state book.new)) }
     ensures follows { Follows (B.state book.old) (B.state book.new) }
 {
-    let now = advance_clock(book, alloc, moment)?;
+    let now = advance_clock(book, alloc, moment, policy)?;
     let prepared = prepare(book, alloc, caller, command, now, policy)?;
     keep_prepared(book, prepared)
 }
@@ -193,12 +208,12 @@ fn prepare<B: Book>(
     policy: &Policy,
 ) -> Result<Prepared, Fault>
     requires { (B.state book.old).is_open ≡ true }
-    ensures prepared { IfOk result (λ prepared. (B.state book.new).is_clean ≡ true → IsPrepared policy.now caller command.now now (facts caller command.now (B.state book.old).content.registry) prepared) }
+    ensures prepared { IfOk result (λ prepared. (B.state book.new).is_clean ≡ true → IsPrepared policy.now caller command.now now (facts policy.now caller command.now (B.state book.old).content.registry) prepared) }
     ensures same { OnOk result (IsSame (B.state book.old) (B.state book.new)) }
     ensures fault { IfErr result (λ fault. GoesBack fault (B.state book.old) (B.state book.new)) }
     ensures follows { Follows (B.state book.old) (B.state book.new) }
 {
-    let facts = facts_for(book, caller, command)?;
+    let facts = facts_for(book, caller, command, policy)?;
     let prepared = prepared_by(alloc, &facts, caller, command, now, policy);
     drop(facts);
     or_rollback(book, prepared)

@@ -13,7 +13,7 @@ use calendar::Moment;
 use facts::Facts;
 use model::Object;
 use objects::ObjectKind;
-use policy::Terms;
+use policy::{Policy, Terms};
 use protocol::Command;
 use rules::Change;
 use std::alloc::{AllocError, Global};
@@ -52,14 +52,15 @@ pub(crate) fn facts_for<B: Book>(
     book: &mut B,
     caller: RegistrarNo,
     command: &Command,
+    policy: &Policy,
 ) -> Result<Facts, Fault>
     requires { (B.state book.old).is_open ≡ true }
-    ensures found { IfOk result (λ found. (B.state book.new).is_clean ≡ true → found ≡ facts caller command.now (B.state book.old).content.registry) }
+    ensures found { IfOk result (λ found. (B.state book.new).is_clean ≡ true → found ≡ facts policy.now caller command.now (B.state book.old).content.registry) }
     ensures same { OnOk result (IsSame (B.state book.old) (B.state book.new)) }
     ensures fault { IfErr result (λ fault. GoesBack fault (B.state book.old) (B.state book.new)) }
     ensures follows { Follows (B.state book.old) (B.state book.new) }
 {
-    Ok(book.facts_for(caller, command)?)
+    Ok(book.facts_for(caller, command, policy)?)
 }
 
 /// The object of a kind that stands under a name, in an open transaction.
@@ -134,9 +135,10 @@ pub(crate) fn advance_clock<B: Book>(
     book: &mut B,
     alloc: Global,
     moment: Moment,
+    policy: &Policy,
 ) -> Result<Moment, Fault>
     requires { (B.state book.old).is_open ≡ true }
-    ensures moved { OnOk result (Moves (B.state book.old) (B.state book.new) (at_moment moment (B.state book.old).content)) }
+    ensures moved { OnOk result (Moves (B.state book.old) (B.state book.new) (at_moment policy.now moment (B.state book.old).content)) }
     ensures clock { IfOk result (λ clock. (B.state book.new).is_clean ≡ true → clock ≡ max moment (B.state book.old).content.registry.clock) }
     ensures fault { IfErr result (λ fault. GoesBack fault (B.state book.old) (B.state book.new)) }
     ensures follows { Follows (B.state book.old) (B.state book.new) }

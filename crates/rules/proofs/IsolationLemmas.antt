@@ -31,5 +31,5 @@ pub isolated : (p : PolicyRules) (r : ℕ) (c : Command) (moment : ℕ) (before 
     → reply ≡ answer p r c (lapsed p moment before) → now p after ≡ now p (effect p r c (lapsed p moment before)) → IsIsolated p r c moment before after reply
 isolated p r c moment before after reply told left = record {
   same_reply = λ other alike. told ∙ sym (same_answer p r c _ _ alike);
-  same_view = λ other alike. ap (view p r) left ∙ sym (same_effect p r c _ _ alike);
+  same_view = λ formed other also alike. ap (view p r) left ∙ sym (same_effect p r c _ _ alike);
 }
