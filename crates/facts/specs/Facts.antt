@@ -146,16 +146,17 @@ host_seen f name = option_and_then (λ known. known.host) (host_at f name)
 abbrev pub new_name_seen : Facts → Option Host
 new_name_seen f = option_and_then (λ known. known.host) f.at_new_name
 
--- ---- the sponsor of a host (RFC 5732, 1.1)
-
 abbrev pub or_else : {A : Type 0} → Option A → Option A → Option A
 or_else (Some x) other = Some x
 or_else None other = other
 
--- of one in the zone, its superordinate domain's
-abbrev pub host_sponsor : HostFacts → Host → Option ℕ
-host_sponsor known h = or_else h.by (option_map (λ above. above.sponsor) known.superordinate)
+-- ---- the sponsor of a host (RFC 5732, 1.1)
 
 -- the name lies in the zone
 abbrev pub is_inside : ZoneRules → List ℕ → Bool
 is_inside zone name = is_some (superordinate_of zone name)
+
+-- of one in the zone, its superordinate domain's; of another, the registrar that created it or last
+-- renamed it
+abbrev pub host_sponsor : ZoneRules → HostFacts → Host → Option ℕ
+host_sponsor zone known h = if is_inside zone known.name then option_map (λ above. above.sponsor) known.superordinate else h.by

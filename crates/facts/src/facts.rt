@@ -9,6 +9,7 @@ use accounts::raised;
 use basis::list::Seq;
 use basis::registrar::RegistrarNo;
 use basis::text::Text;
+use names::Zone;
 use objects::{Contact, ContactFace, Domain, DomainFace, Host, Seen};
 
 /// A registrar that holds so many domains gets no other (RFC 5730, 3, code 2308).
@@ -110,13 +111,15 @@ impl Named for HostFacts {
 }
 
 impl HostFacts {
-    /// The host's sponsor: of one in the zone, its superordinate domain's.
-    pub fn sponsor(&self, host: &Host) -> Option<RegistrarNo>
-        ensures { result ≡ spec.host_sponsor self.now host.now }
+    /// The host's sponsor: of one in the zone, its superordinate domain's; of another, the registrar
+    /// that created it or last renamed it.
+    pub fn sponsor(&self, zone: &Zone, host: &Host) -> Option<RegistrarNo>
+        ensures { result ≡ spec.host_sponsor zone.now self.now host.now }
     {
-        match host.by {
-            Some(registrar) => Some(registrar),
-            None => self.superordinate.map(|above| above.sponsor),
+        if zone.has_superordinate(&self.name) {
+            self.superordinate.map(|above| above.sponsor)
+        } else {
+            host.by
         }
     }
 }

@@ -28,16 +28,24 @@ abbrev pub HasBeen : Registry → Option ℕ → Type 0
 HasBeen s None = Unit {0}
 HasBeen s (Some moment) = moment ≤ s.clock
 
--- a transfer lies between two registrars of the policy, and one that isn't pending has ended
-pub record IsTransfer (p : PolicyRules) (s : Registry) (t : Transfer) : Type 0 where
+-- a moment that is kept is not before another
+abbrev pub IsAfter : ℕ → Option ℕ → Type 0
+IsAfter moment None = Unit {0}
+IsAfter moment (Some earlier) = earlier ≤ moment
+
+-- A transfer lies between two registrars of the policy, and one that isn't pending has ended. It was
+-- requested after the object's creation; one that is pending, after the last that was completed.
+pub record IsTransfer (p : PolicyRules) (s : Registry) (created : ℕ) (transferred : Option ℕ) (t : Transfer) : Type 0 where
   pub requester : IsPlace p t.requester
   pub loser : IsPlace p t.loser
   pub requested : t.requested ≤ s.clock
   pub acted : is_pending_state t.state ≡ false → t.acted ≤ s.clock
+  pub begun : created ≤ t.requested
+  pub next : is_pending_state t.state ≡ true → IsAfter t.requested transferred
 
-abbrev pub IsLastTransfer : PolicyRules → Registry → Option Transfer → Type 0
-IsLastTransfer p s None = Unit {0}
-IsLastTransfer p s (Some t) = IsTransfer p s t
+abbrev pub IsLastTransfer : PolicyRules → Registry → ℕ → Option ℕ → Option Transfer → Type 0
+IsLastTransfer p s created transferred None = Unit {0}
+IsLastTransfer p s created transferred (Some t) = IsTransfer p s created transferred t
 
 -- a deleted domain has neither subordinate hosts nor a pending transfer (RFC 5731, 3.2.2)
 pub record IsDeleted (p : PolicyRules) (s : Registry) (d : Domain) (deletion : Deletion) : Type 0 where
@@ -57,7 +65,7 @@ pub record IsContactOf (p : PolicyRules) (s : Registry) (name : List ℕ) (c : C
   pub created : c.created ≤ s.clock
   pub transferred : HasBeen s c.transferred
   pub updated : HasBeen s c.updated
-  pub transfer : IsLastTransfer p s c.transfer
+  pub transfer : IsLastTransfer p s c.created c.transferred c.transfer
 
 -- a host in the zone has its superordinate domain, and no registrar of its own (RFC 5732, 1.1)
 abbrev pub BelongsTo : PolicyRules → Registry → Option (List ℕ) → Option ℕ → Type 0
@@ -80,7 +88,7 @@ pub record IsDomainOf (p : PolicyRules) (s : Registry) (name : List ℕ) (d : Do
   pub created : d.created ≤ s.clock
   pub transferred : HasBeen s d.transferred
   pub updated : HasBeen s d.updated
-  pub transfer : IsLastTransfer p s d.transfer
+  pub transfer : IsLastTransfer p s d.created d.transferred d.transfer
   pub deletion : IsDeletion p s d d.deletion
   pub contacts : (contact : List ℕ) → names_contact contact d.links ≡ true → IsSome (get s.contacts contact)
   pub hosts : (host : List ℕ) → names_host host d.links ≡ true → IsSome (get s.hosts host)

@@ -31,9 +31,11 @@ module _ (p q : PolicyRules) (s t : Registry) (grows : Grows p q s t) where
   been-grown None h = tt
   been-grown (Some moment) h = omega (arith, grows.clock)
 
-  transfer-grown : (transfer : Option Transfer) → IsLastTransfer p s transfer → IsLastTransfer q t transfer
-  transfer-grown None h = tt
-  transfer-grown (Some transfer) h = record {
+  transfer-grown : (created : ℕ) (transferred : Option ℕ) (transfer : Option Transfer) → IsLastTransfer p s created transferred transfer → IsLastTransfer q t created transferred transfer
+  transfer-grown created transferred None h = tt
+  transfer-grown created transferred (Some transfer) h = record {
+    begun = h.begun;
+    next = h.next;
     requester = grows.place _ h.requester;
     loser = grows.place _ h.loser;
     requested = omega (arith, h.requested, grows.clock);
@@ -48,7 +50,7 @@ module _ (p q : PolicyRules) (s t : Registry) (grows : Grows p q s t) where
     created = omega (arith, h.created, grows.clock);
     transferred = been-grown c.transferred h.transferred;
     updated = been-grown c.updated h.updated;
-    transfer = transfer-grown c.transfer h.transfer;
+    transfer = transfer-grown c.created c.transferred c.transfer h.transfer;
   }
 
   -- the domains that were there are
@@ -92,7 +94,7 @@ module _ (p q : PolicyRules) (s t : Registry) (grows : Grows p q s t) where
     created = omega (arith, h.created, grows.clock);
     transferred = been-grown d.transferred h.transferred;
     updated = been-grown d.updated h.updated;
-    transfer = transfer-grown d.transfer h.transfer;
+    transfer = transfer-grown d.created d.transferred d.transfer h.transfer;
     deletion = deletion-grown d links free d.deletion (λ is. is) h.deletion;
     contacts = contacts;
     hosts = hosts;

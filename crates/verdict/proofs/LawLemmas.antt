@@ -29,7 +29,7 @@ apart : true ≡ false → ⊥
 apart e = cc
 
 module _ (p : PolicyRules) (r t : ℕ) (f : Facts) where
-  sponsor-law : (q : Request) → refusal_of p r t q f ≡ None → Alters (asks_of q).action → is_of_another r q f ≡ false
+  sponsor-law : (q : Request) → refusal_of p r t q f ≡ None → Alters (asks_of q).action → is_of_another p.zone r q f ≡ false
   sponsor-law (DeleteContact name) taken is = unrefused p r t (DeleteContact name) f taken IsAnothers (search (inl, inr) depth 20)
   sponsor-law (DeleteHost name) taken is = unrefused p r t (DeleteHost name) f taken IsAnothers (search (inl, inr) depth 20)
   sponsor-law (UpdateContact update) taken is = unrefused p r t (UpdateContact update) f taken IsAnothers (search (inl, inr) depth 20)
@@ -86,7 +86,7 @@ module _ (p : PolicyRules) (r t : ℕ) (f : Facts) where
   server-update-law (UpdateHost update) taken is = unrefused p r t (UpdateHost update) f taken (Shows ServerUpdateProhibited) (search (inl, inr) depth 20)
   server-update-law _ taken is = absurd (cc)
 
-  lawful : (q : Request) → refusal_of p r t q f ≡ None → IsLawful r q f
+  lawful : (q : Request) → refusal_of p r t q f ≡ None → IsLawful p.zone r q f
   lawful q taken = record {
     sponsor = sponsor-law q taken;
     there = there-law q taken;
@@ -105,14 +105,14 @@ module _ (p : PolicyRules) (r t : ℕ) (f : Facts) where
   secret-law (InfoDomain name secret) taken wrong = absurd (apart (sym wrong ∙ unrefused p r t (InfoDomain name secret) f taken SecretIsWrong (search (inl, inr) depth 20)))
   secret-law _ taken wrong = absurd cc
 
-  by-refusal : (q : Request) (refusal : Option Code) → refusal_of p r t q f ≡ refusal → KeepsLaws r q f (unless_refused refusal (granted p r t q f))
+  by-refusal : (q : Request) (refusal : Option Code) → refusal_of p r t q f ≡ refusal → KeepsLaws p.zone r q f (unless_refused refusal (granted p r t q f))
   by-refusal q None taken = record { carried_out = λ accepted. lawful q taken; secret = secret-law q taken }
   by-refusal q (Some code) is = record { carried_out = λ accepted. absurd (apart (sym accepted ∙ refusing p r t q f code is)); secret = λ wrong. refl }
 
-pub answers-lawfully : (p : PolicyRules) (r t : ℕ) (c : Command) (f : Facts) (v : Verdict) → v ≡ judged p r t c f → AnswersLawfully r c f v
+pub answers-lawfully : (p : PolicyRules) (r t : ℕ) (c : Command) (f : Facts) (v : Verdict) → v ≡ judged p r t c f → AnswersLawfully p.zone r c f v
 unfolding AnswersLawfully judged
 answers-lawfully p r t (Bad cl_trid code) f v is = ap (λ (w : Verdict). w.content) is
-answers-lawfully p r t (Asked cl_trid request) f v is = subst (λ (w : Verdict). KeepsLaws r request f w) (sym is) (by-refusal p r t f request (refusal_of p r t request f) refl)
+answers-lawfully p r t (Asked cl_trid request) f v is = subst (λ (w : Verdict). KeepsLaws p.zone r request f w) (sym is) (by-refusal p r t f request (refusal_of p r t request f) refl)
 
 -- what is granted to a request that isn't refused is its verdict
 pub granted-is-judged : {E : Type 0} (p : PolicyRules) (r t : ℕ) (c : Command) (cl_trid : Option (List ℕ)) (q : Request) (f : Facts) (result : Result Verdict E)

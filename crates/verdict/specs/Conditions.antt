@@ -105,8 +105,8 @@ abbrev pub is_registrar : ℕ → Option ℕ → Bool
 is_registrar r sponsor = holds_of (λ it. it == r) sponsor
 
 -- another sponsors the host
-abbrev pub host_is_anothers : ℕ → Option HostFacts → Bool
-host_is_anothers r known = holds_of (λ it. holds_of (λ h. not (is_registrar r (host_sponsor it h))) it.host) known
+abbrev pub host_is_anothers : ZoneRules → ℕ → Option HostFacts → Bool
+host_is_anothers zone r known = holds_of (λ it. holds_of (λ h. not (is_registrar r (host_sponsor zone it h))) it.host) known
 
 -- what is seen opens with the secret: who presents the right one sees all
 abbrev pub is_opened : {O F : Type 0} → (O → List ℕ) → Option (List ℕ) → Seen O F → Bool
@@ -120,10 +120,10 @@ presents_wrong sponsor secret_of r None seen = false
 presents_wrong sponsor secret_of r (Some secret) None = false
 presents_wrong sponsor secret_of r (Some secret) (Some seen) = not (is_own sponsor r seen) && not (is_opened secret_of (Some secret) seen)
 
-abbrev pub is_of_another : ℕ → Request → Facts → Bool
-is_of_another r q f =
+abbrev pub is_of_another : ZoneRules → ℕ → Request → Facts → Bool
+is_of_another zone r q f =
     is_anothers contact_sponsor r (the_contact q f) || (is_anothers domain_sponsor r (the_domain q f)
-    || host_is_anothers r (host_known q f))
+    || host_is_anothers zone r (host_known q f))
 
 abbrev pub secret_is_wrong : ℕ → Request → Facts → Bool
 secret_is_wrong r q f =
@@ -279,7 +279,7 @@ holds p r t q f IsMissing = not (is_there q f)
 holds p r t q f ReferenceIsMissing = f.reference_missing
 holds p r t q f NewNameIsTaken = is_some (new_name_seen f)
 holds p r t q f SuperordinateIsMissing = holds_of (has_no_superordinate p.zone) (host_to_be q f)
-holds p r t q f IsAnothers = is_of_another r q f
+holds p r t q f IsAnothers = is_of_another p.zone r q f
 holds p r t q f SuperordinateIsAnothers = holds_of (superordinate_is_anothers p.zone r) (host_to_be q f)
 holds p r t q f SecretIsWrong = secret_is_wrong r q f
 holds p r t q f (Shows status) = shows_status status q f

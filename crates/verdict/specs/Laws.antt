@@ -1,6 +1,7 @@
 -- What the tables keep, in the words of the standards (RFC 5730 to 5733).
 use Rattle.std.specs.Prelude.{◌≡◌, ℕ, true, false, None}
 use Rattle.facts.specs.declared.facts.Facts.{Facts}
+use Rattle.names.specs.Zone.{ZoneRules}
 use Rattle.objects.specs.declared.status.Status.TheVariants.{ClientDeleteProhibited, ClientUpdateProhibited, PendingTransfer, ServerDeleteProhibited, ServerUpdateProhibited}
 use Rattle.protocol.specs.declared.command.Action.{Action}
 use Rattle.protocol.specs.declared.command.Action.TheVariants.{Check, Info, Create, Delete, Update}
@@ -31,8 +32,8 @@ ActsOnObject Update = Unit {0}
 -- What a request that is carried out can't have met: an object of another's that it changes or
 -- deletes (RFC 5731 to 5733, 3.2), no object at all, an object of the name that it creates, one that
 -- is deleted while a domain names it, one whose status prohibits it (RFC 5731, 2.3).
-pub record IsLawful (r : ℕ) (q : Request) (f : Facts) : Type 0 where
-  pub sponsor : Alters (asks_of q).action → is_of_another r q f ≡ false
+pub record IsLawful (zone : ZoneRules) (r : ℕ) (q : Request) (f : Facts) : Type 0 where
+  pub sponsor : Alters (asks_of q).action → is_of_another zone r q f ≡ false
   pub there : ActsOnObject (asks_of q).action → is_there q f ≡ true
   pub new : (asks_of q).action ≡ Create → is_there q f ≡ false
   pub linked : (asks_of q).action ≡ Delete → is_linked q f ≡ false
@@ -44,10 +45,10 @@ pub record IsLawful (r : ℕ) (q : Request) (f : Facts) : Type 0 where
 
 -- a verdict on a request: what is carried out is lawful, and a wrong secret is never answered with
 -- data (RFC 5731, 2.6; RFC 5733, 2.8)
-pub record KeepsLaws (r : ℕ) (q : Request) (f : Facts) (v : Verdict) : Type 0 where
-  pub carried_out : is_accepted v.code ≡ true → IsLawful r q f
+pub record KeepsLaws (zone : ZoneRules) (r : ℕ) (q : Request) (f : Facts) (v : Verdict) : Type 0 where
+  pub carried_out : is_accepted v.code ≡ true → IsLawful zone r q f
   pub secret : secret_is_wrong r q f ≡ true → v.content ≡ None
 
-unfoldable pub AnswersLawfully : ℕ → Command → Facts → Verdict → Type 0
-AnswersLawfully r (Bad cl_trid code) f v = v.content ≡ None
-AnswersLawfully r (Asked cl_trid request) f v = KeepsLaws r request f v
+unfoldable pub AnswersLawfully : ZoneRules → ℕ → Command → Facts → Verdict → Type 0
+AnswersLawfully zone r (Bad cl_trid code) f v = v.content ≡ None
+AnswersLawfully zone r (Asked cl_trid request) f v = KeepsLaws zone r request f v

@@ -138,7 +138,7 @@ domain_info_at p r secret known = option_map (domain_info p r secret known.subor
 -- ---- info of hosts: all are told all
 
 abbrev pub host_info : PolicyRules → HostFacts → Host → HostInfo
-host_info p known h = let sponsor : ℕ = unwrap_or (host_sponsor known h) 0 in record { face = host_face_of sponsor known.linked h; sponsor = id_of p sponsor }
+host_info p known h = let sponsor : ℕ = unwrap_or (host_sponsor p.zone known h) 0 in record { face = host_face_of sponsor known.linked h; sponsor = id_of p sponsor }
 
 abbrev pub host_info_at : PolicyRules → HostFacts → Option HostInfo
 host_info_at p known = option_map (host_info p known) known.host

@@ -147,11 +147,11 @@ impl Case<'_> {
     }
 
     fn is_of_another(&self) -> bool
-        ensures { result ≡ spec.is_of_another self.now.caller self.now.request.now self.now.facts.now }
+        ensures { result ≡ spec.is_of_another self.now.policy.now.zone self.now.caller self.now.request.now self.now.facts.now }
     {
         is_anothers(self.caller, self.contact())
             || is_anothers(self.caller, self.domain())
-            || host_is_anothers(self.caller, self.host_known())
+            || host_is_anothers(self.policy.zone(), self.caller, self.host_known())
     }
 
     fn secret_is_wrong(&self) -> bool

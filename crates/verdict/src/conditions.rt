@@ -100,24 +100,28 @@ pub(crate) fn presents_wrong<O: Sponsored, F>(
     }
 }
 
-fn is_host_of(caller: RegistrarNo, known: &HostFacts, host: &Host) -> bool
-    ensures { result ≡ spec.is_registrar caller (host_sponsor known.now host.now) }
+fn is_host_of(zone: &Zone, caller: RegistrarNo, known: &HostFacts, host: &Host) -> bool
+    ensures { result ≡ spec.is_registrar caller (host_sponsor zone.now known.now host.now) }
 {
-    match known.sponsor(host) {
+    match known.sponsor(zone, host) {
         None => false,
         Some(sponsor) => sponsor == caller,
     }
 }
 
 /// Whether another sponsors the host.
-pub(crate) fn host_is_anothers(caller: RegistrarNo, known: Option<&HostFacts>) -> bool
-    ensures { result ≡ spec.host_is_anothers caller (option_copied known.entry) }
+pub(crate) fn host_is_anothers(
+    zone: &Zone,
+    caller: RegistrarNo,
+    known: Option<&HostFacts>,
+) -> bool
+    ensures { result ≡ spec.host_is_anothers zone.now caller (option_copied known.entry) }
 {
     match known {
         None => false,
         Some(known) => match &known.host {
             None => false,
-            Some(host) => !is_host_of(caller, known, host),
+            Some(host) => !is_host_of(zone, caller, known, host),
         },
     }
 }

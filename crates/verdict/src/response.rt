@@ -410,7 +410,7 @@ fn host_info(
 ) -> Result<HostInfo, AllocError>
     ensures { IfOk result (λ info. info ≡ spec.host_info policy.now known.now host.now) }
 {
-    let sponsor = sponsor_or_none(known.sponsor(host));
+    let sponsor = sponsor_or_none(known.sponsor(policy.zone(), host));
     Ok(HostInfo {
         face: host.face(alloc, sponsor, known.linked)?,
         sponsor: id_of(alloc, policy, sponsor)?,
