@@ -8,10 +8,12 @@ use basis::text::Text;
 use std::alloc::Global;
 use std::test::Fail;
 
-/// The zone `test`, with `nic` reserved.
+/// The zone `test`, with `nic` and `www` reserved, one of them twice.
 fn zone(alloc: Global) -> Result<Zone, Fail> {
     let mut reserved = Seq::new(alloc);
-    reserved.push(Text::from_str(alloc, "nic")?)?;
+    for label in ["www", "nic", "www"] {
+        reserved.push(Text::from_str(alloc, label)?)?;
+    }
     Ok(Zone::new(Text::from_str(alloc, "test")?, reserved))
 }
 
@@ -266,7 +268,9 @@ fn labels_that_read_as_themselves(rt: HostRuntime) -> Result<(), Fail> {
 fn labels_of_the_zone(rt: HostRuntime) -> Result<(), Fail> {
     let zone = zone(rt.alloc())?;
     assert_eq!(rt; zone.label().as_str(), "test");
-    assert_eq!(rt; zone.reserved().len(), 1);
+    for (label, is_reserved) in [("nic", true), ("www", true), ("mail", false), ("", false)] {
+        assert_eq!(rt; zone.reserved().contains(label), is_reserved, "{label}");
+    }
     Ok(())
 }
 

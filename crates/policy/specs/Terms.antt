@@ -2,7 +2,7 @@
 use Rattle.std.specs.Prelude.{◌≡◌, ℕ, Bool, ◌&&◌, ◌==◌, List, ◌++◌, map}
 use Rattle.std.specs.List.{starts_with}
 use Rattle.std.specs.Str.{bytes_eq}
-use Rattle.std.specs.Cmp.Lexicographic.{pointwise}
+use Rattle.basis.specs.Sets.{is_same_set}
 use Rattle.policy.specs.declared.days.Days.{Days}
 use Rattle.policy.specs.declared.prices.Prices.{Prices}
 use Rattle.policy.specs.declared.registrar.Registrar.{Registrar}
@@ -28,7 +28,7 @@ same_prices a b = (a.create == b.create) && (a.renew == b.renew) && (a.transfer 
 unfoldable pub continues : Terms → Terms → Bool
 continues later earlier =
     bytes_eq later.zone earlier.zone
-    && pointwise bytes_eq later.reserved earlier.reserved
+    && is_same_set later.reserved earlier.reserved
     && same_days later.days earlier.days
     && same_prices later.prices earlier.prices
     && starts_with bytes_eq later.ids earlier.ids

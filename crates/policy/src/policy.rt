@@ -33,9 +33,13 @@ pub struct Policy {
 }
 
 impl Model for Policy {
+    ghost use Rattle.std.specs.Coded.{codes};
+    ghost use Rattle.basis.specs.Sets.{names_code};
     ghost use Rattle.policy.specs.Rules.{AreSound, PolicyRules};
 
     ghost Value = { PolicyRules };
+
+    ghost coded = { Prim.hlevel (codes, names_code) };
 
     ghost view = { λ p. record { zone = p.zone; days = p.days; prices = p.prices; soa = p.soa; registrars = p.registrars } };
 
@@ -70,17 +74,6 @@ fn copied_ids(alloc: Global, registrars: &[Registrar]) -> Result<Vec<Text>, Allo
         ids.push(registrar.id.clone()?)?;
     }
     Ok(ids)
-}
-
-/// A copy of a list of labels.
-fn copied(alloc: Global, labels: &[Text]) -> Result<Vec<Text>, AllocError>
-    ensures { IfOk result (λ copy. copy.items ≡ labels.now) }
-{
-    let mut copy = Vec::new(alloc);
-    for label in labels {
-        copy.push(label.clone()?)?;
-    }
-    Ok(copy)
 }
 
 impl Policy {
@@ -183,7 +176,7 @@ impl Policy {
     {
         Ok(Terms {
             zone: self.zone.label().clone()?,
-            reserved: Seq::from_vec(copied(alloc, self.zone.reserved())?),
+            reserved: self.zone.reserved().clone()?,
             days: self.days,
             prices: self.prices,
             ids: Seq::from_vec(copied_ids(alloc, self.registrars.as_slice())?),

@@ -43,14 +43,13 @@ fn fault(alloc: Global, file: &str) -> Result<String, AllocError> {
     }
 }
 
-/// The three prices, the seconds to the zone's expiry, and how many labels and registrars there are.
-fn numbers(policy: &Policy) -> [u32; 6] {
+/// The three prices, the seconds to the zone's expiry, and how many registrars there are.
+fn numbers(policy: &Policy) -> [u32; 5] {
     [
         policy.create_price(),
         policy.renew_price(),
         policy.transfer_price(),
         policy.soa().expire,
-        policy.zone().reserved().len() as u32,
         policy.registrars(),
     ]
 }
@@ -60,7 +59,10 @@ fn values_of_the_example(rt: HostRuntime) -> Result<(), Fail> {
     let policy = policy(rt.alloc(), ALFA_BETA)?;
     assert_eq!(rt; policy.zone().label().as_str(), "test");
     assert_eq!(rt; policy.soa().rname.as_str(), "hostmaster.nic.test");
-    assert_eq!(rt; numbers(&policy), [800, 801, 802, 1_209_600, 2, 2]);
+    for (label, is_reserved) in [("nic", true), ("www", true), ("web", false)] {
+        assert_eq!(rt; policy.zone().reserved().contains(label), is_reserved);
+    }
+    assert_eq!(rt; numbers(&policy), [800, 801, 802, 1_209_600, 2]);
     Ok(())
 }
 
@@ -154,6 +156,8 @@ fn adds_registrars_at_the_end(rt: HostRuntime) -> Result<(), Fail> {
 const CHANGES: &[(&str, &str, bool)] = &[
     ("\"test\"", "\"example\"", false),
     ("\"www\"", "\"web\"", false),
+    ("\"www\"", "\"nic\"", false),
+    ("\"nic\", \"www\"", "\"www\", \"nic\", \"www\"", true),
     ("lock = 60", "lock = 61", false),
     ("create = 800", "create = 900", false),
     ("pass-alfa", "pass-other", true),
