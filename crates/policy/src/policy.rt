@@ -3,7 +3,7 @@ ghost use Rattle.std.specs.Prelude.{◌≡◌, ℕ, length, map, option_copied, 
 ghost use Rattle.toml.specs.View.{table_view};
 ghost use Rattle.policy.specs.Reading as spec;
 ghost use Rattle.policy.specs.Reading.{Gives};
-ghost use Rattle.policy.specs.Rules.{AreSound, IsDayCount, IsPlace, IsPrice, IsRegistrarCount, days_of, id_at, place_of, place_of_login};
+ghost use Rattle.policy.specs.Rules.{AreTimes, IsDayCount, IsPlace, IsPrice, IsRegistrarCount, IsSound, days_of, id_at, place_of, place_of_login};
 ghost use Rattle.policy.specs.Terms.{ids_of, terms_of};
 
 use crate::days::days_at;
@@ -43,12 +43,13 @@ impl Model for Policy {
 
     ghost view = { λ p. record { zone = p.zone; days = p.days; prices = p.prices; soa = p.soa; registrars = p.registrars } };
 
-    ghost invariant = { λ p. AreSound p.days p.prices p.registrars };
+    ghost invariant = { λ p. AreSound p.days p.prices p.soa p.registrars };
 }
 
 #[tactic(auto, unfolding(crate::specs::Reading::rules_at))]
 fn rules_at(alloc: Global, document: &Table) -> Result<Policy, PolicyFault>
-    ensures { Gives (λ policy. policy) result (spec.rules_at (table_view document.now)) }
+    ensures read { Gives (λ policy. policy) result (spec.rules_at (table_view document.now)) }
+    ensures sound { IfOk result IsSound }
 {
     let label = text_at(alloc, document, Key::Zone)?;
     let reserved = labels_at(alloc, document, Key::Reserved)?;
@@ -82,7 +83,8 @@ impl Policy {
     /// all that is wrong with the key's values.
     #[tactic(auto, unfolding(crate::specs::Reading::policy_of))]
     pub fn read(alloc: Global, bytes: &[u8]) -> Result<Policy, PolicyFault>
-        ensures { Gives (λ policy. policy) result (spec.policy_of bytes.now) }
+        ensures read { Gives (λ policy. policy) result (spec.policy_of bytes.now) }
+        ensures sound { IfOk result IsSound }
     {
         let document = document_of(alloc, bytes)?;
         rules_at(alloc, &document)
@@ -97,7 +99,8 @@ impl Policy {
 
     /// The zone's start of authority.
     pub fn soa(&self) -> &Soa
-        ensures { result.now ≡ self.now.soa }
+        ensures value { result.now ≡ self.now.soa }
+        ensures range { AreTimes self.now.soa }
     {
         &self.soa
     }
