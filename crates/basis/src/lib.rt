@@ -6,4 +6,5 @@
 pub mod list;
 pub mod maps;
 pub mod registrar;
+pub mod sets;
 pub mod text;

@@ -1,16 +1,18 @@
 -- What a zone keeps.
 use Rattle.std.specs.Prelude.{ℕ, Bool, false, not, ◌&&◌, ◌||◌, List, [], ◌∷◌, ◌++◌, Option, Some, option_map, None, if◌then◌else◌}
+use Rattle.std.specs.FinSet.{contains}
 use Rattle.std.specs.List.{list_any}
 use Rattle.std.specs.Str.{bytes_eq}
+use Rattle.basis.specs.Sets.{Names}
 use Rattle.names.specs.Labels.{is_dot}
 
 -- the label of the zone, and the labels that no domain in it may have
 pub record ZoneRules : Type 0 where
   pub label : List ℕ
-  pub reserved : List (List ℕ)
+  pub reserved : Names
 
 abbrev pub is_reserved : ZoneRules → List ℕ → Bool
-is_reserved zone label = list_any (λ reserved. bytes_eq reserved label) zone.reserved
+is_reserved zone label = contains zone.reserved label
 
 abbrev pub has_dot : List ℕ → Bool
 has_dot name = list_any is_dot name

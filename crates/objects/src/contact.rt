@@ -16,7 +16,7 @@ use calendar::Moment;
 use std::alloc::{AllocError, Global};
 
 /// A postal address (RFC 5733, 2.4), in its internationalized form.
-#[derive(Clone, Drop)]
+#[derive(Drop)]
 pub struct Postal {
     pub name: Text,
     pub org: Option<Text>,
@@ -31,7 +31,7 @@ pub struct Postal {
 }
 
 /// A contact in full.
-#[derive(Clone, Drop)]
+#[derive(Drop)]
 pub struct Contact {
     pub name: Text,
     pub roid: Roid,
@@ -66,14 +66,16 @@ impl Postal {
     pub fn copy(&self) -> Result<Postal, AllocError>
         ensures { IfOk result (λ copy. copy ≡ self.now) }
     {
+        let (name, city, cc) = (self.name.clone()?, self.city.clone()?, self.cc.clone()?);
+        let street = self.street.clone()?;
         Ok(Postal {
-            name: self.name.clone()?,
+            name,
             org: copied(&self.org)?,
-            street: self.street.clone()?,
-            city: self.city.clone()?,
+            street,
+            city,
             sp: copied(&self.sp)?,
             pc: copied(&self.pc)?,
-            cc: self.cc.clone()?,
+            cc,
         })
     }
 }

@@ -33,7 +33,7 @@ pub struct Deletion {
 }
 
 /// A domain in full.
-#[derive(Clone, Drop)]
+#[derive(Drop)]
 pub struct Domain {
     pub name: Text,
     pub roid: Roid,
@@ -65,6 +65,31 @@ pub struct DomainFace {
     pub statuses: Seq<Status>,
     pub rgp: Seq<Rgp>,
     pub links: Links,
+}
+
+impl Clone for Domain {
+    ghost use Rattle.std.specs.Prelude.{◌≡◌};
+
+    ghost is_clone = { λ domain copy. copy ≡ domain };
+
+    fn clone(&self) -> Result<Domain, AllocError> {
+        let (name, secret) = (self.name.clone()?, self.secret.clone()?);
+        let statuses = self.statuses.clone()?;
+        Ok(Domain {
+            name,
+            roid: self.roid,
+            sponsor: self.sponsor,
+            created: self.created,
+            years: self.years,
+            transferred: self.transferred,
+            updated: self.updated,
+            statuses,
+            secret,
+            links: self.links.clone()?,
+            transfer: self.transfer,
+            deletion: self.deletion,
+        })
+    }
 }
 
 impl Domain {

@@ -46,21 +46,3 @@ impl Roid {
         Ok(Text::from_string(format!(in alloc; "{letter}{place}_{serial}-REG")?))
     }
 }
-
-#[cfg(test)]
-mod tests {
-    use super::{ObjectKind, Roid};
-    use basis::registrar::RegistrarNo;
-    use std::test::Fail;
-
-    #[test]
-    fn shows_identifiers(rt: HostRuntime) -> Result<(), Fail> {
-        let roid = Roid {
-            kind: ObjectKind::Domain,
-            creator: RegistrarNo::of_place(1),
-            serial: 3,
-        };
-        assert_eq!(rt; roid.text(rt.alloc())?.as_str(), "D1_3-REG");
-        Ok(())
-    }
-}

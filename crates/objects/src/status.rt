@@ -267,14 +267,3 @@ impl Rgp {
         }
     }
 }
-
-#[cfg(test)]
-mod tests {
-    use super::{Rgp, Status};
-
-    #[test]
-    fn shows_states(rt: HostRuntime) {
-        assert_eq!(rt; Status::Fine.text(), "ok");
-        assert_eq!(rt; Rgp::AutoRenewPeriod.text(), "autoRenewPeriod");
-    }
-}

@@ -3,8 +3,9 @@ use Rattle.std.proofs.Common.{◌≡◌, ℕ, List, ◌++◌, drop, length, refl
 use Rattle.std.specs.Bool.{Decides}
 use Rattle.std.specs.Str.{bytes_eq}
 use Rattle.std.proofs.lemmas.Bool.Decides.{Decides-and, Decides-eqb, Decides-like}
-use Rattle.std.proofs.lemmas.Slice.Eq.{bytes_eq-Decides, slice_eq-Decides, starts_is}
+use Rattle.std.proofs.lemmas.Slice.Eq.{bytes_eq-Decides, starts_is}
 use Rattle.std.specs.List.{starts_with}
+use Rattle.basis.proofs.SetLemmas.{same_set-Decides}
 use Rattle.policy.specs.declared.days.Days.{Days}
 use Rattle.policy.specs.declared.prices.Prices.{Prices}
 use Rattle.policy.specs.declared.terms.Terms.{Terms}
@@ -39,4 +40,4 @@ unfolding continues
 continues-Decides later earlier = Decides-like (continues later earlier)
     (λ h. record { zone = h.0.0.0.0; reserved = h.0.0.0.1; days = h.0.0.1; prices = h.0.1; ids = h.1 })
     (λ k. ((((k.zone, k.reserved), k.days), k.prices), k.ids))
-    (Decides-and _ _ (Decides-and _ _ (Decides-and _ _ (Decides-and _ _ (bytes_eq-Decides later.zone earlier.zone) (slice_eq-Decides bytes_eq-Decides later.reserved earlier.reserved _ refl)) (days-Decides later.days earlier.days)) (prices-Decides later.prices earlier.prices)) (ids-Decides later.ids earlier.ids))
+    (Decides-and _ _ (Decides-and _ _ (Decides-and _ _ (Decides-and _ _ (bytes_eq-Decides later.zone earlier.zone) (same_set-Decides later.reserved earlier.reserved)) (days-Decides later.days earlier.days)) (prices-Decides later.prices earlier.prices)) (ids-Decides later.ids earlier.ids))

@@ -1,6 +1,7 @@
 -- What a policy file is read as, or its first fault: the lines of each `do` stand in the order of the faults.
 use Rattle.std.specs.Prelude.{◌≡◌, ℕ, ℤ, pos, Bool, not, ◌&&◌, ◌||◌, ◌==◌, nat_le, if◌then◌else◌, List, [], ◌∷◌, map, codes, length, Option, Some, None, is_some, is_none, option_and_then, Result, Ok, Err}
 use Rattle.std.specs.Char.{is_ascii_alphanumeric}
+use Rattle.std.specs.FinSet.{from_list}
 use Rattle.std.specs.Int.{is_in_range}
 use Rattle.std.specs.List.{list_any, list_all, zip}
 use Rattle.std.specs.Str.{bytes_eq, is_utf8}
@@ -232,7 +233,7 @@ rules_at doc = do
   prices ← prices_at doc
   soa ← soa_at doc
   registrars ← registrars_at doc
-  Ok (record { zone = record { label = label; reserved = reserved }; days = days; prices = prices; soa = soa; registrars = registrars })
+  Ok (record { zone = record { label = label; reserved = from_list reserved }; days = days; prices = prices; soa = soa; registrars = registrars })
 
 abbrev pub or_not_toml : Option Members → Result Members PolicyFault
 or_not_toml (Some doc) = Ok doc

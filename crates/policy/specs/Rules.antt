@@ -1,5 +1,6 @@
 -- The values of a policy, and what is asked of them.
-use Rattle.std.specs.Prelude.{ℕ, zero, suc, ◌+◌, ◌≤◌, Bool, ◌&&◌, List, length, position, slice_get, Option, None, option_map}
+use Rattle.std.specs.Prelude.{ℕ, zero, suc, ◌+◌, ◌≤◌, Bool, ◌&&◌, List, length, map, position, slice_get, Option, None, option_map}
+use Rattle.std.specs.List.{IsDistinct}
 use Rattle.std.specs.Str.{bytes_eq}
 use Rattle.names.specs.Zone.{ZoneRules}
 use Rattle.policy.specs.declared.days.Days.{Days}
@@ -56,7 +57,23 @@ pub record ArePrices (prices : Prices) : Type 0 where
   pub renew : IsPrice prices.renew
   pub transfer : IsPrice prices.transfer
 
+-- ---- the start of authority
+
+-- a time in seconds (RFC 2181, 8)
+abbrev pub IsTime : ℕ → Type 0
+IsTime seconds = seconds ≤ 2_147_483_647
+
+pub record AreTimes (soa : Soa) : Type 0 where
+  pub refresh : IsTime soa.refresh
+  pub retry : IsTime soa.retry
+  pub expire : IsTime soa.expire
+  pub minimum : IsTime soa.minimum
+  pub ttl : IsTime soa.ttl
+
 -- ---- registrars
+
+abbrev pub ids_of : List Registrar → List (List ℕ)
+ids_of registrars = map (λ (registrar : Registrar). registrar.id) registrars
 
 -- from 1 to 1,000
 abbrev pub IsRegistrarCount : ℕ → Type 0
@@ -89,7 +106,13 @@ id_at p (suc index) = option_map (λ (registrar : Registrar). registrar.id) (sli
 
 -- ---- what is true of every policy
 
-pub record AreSound (days : Days) (prices : Prices) (registrars : List Registrar) : Type 0 where
+pub record AreSound (days : Days) (prices : Prices) (soa : Soa) (registrars : List Registrar) : Type 0 where
   pub days_in_range : AreDays days
   pub prices_in_range : ArePrices prices
+  pub times_in_range : AreTimes soa
   pub count : IsRegistrarCount (length registrars)
+  -- no two registrars have one id
+  pub distinct : IsDistinct bytes_eq (ids_of registrars)
+
+abbrev pub IsSound : PolicyRules → Type 0
+IsSound p = AreSound p.days p.prices p.soa p.registrars

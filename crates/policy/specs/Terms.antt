@@ -1,16 +1,13 @@
 -- The part of a policy that the registry's book is used under.
-use Rattle.std.specs.Prelude.{◌≡◌, ℕ, Bool, ◌&&◌, ◌==◌, List, ◌++◌, map}
+use Rattle.std.specs.Prelude.{◌≡◌, ℕ, Bool, ◌&&◌, ◌==◌, List, ◌++◌}
 use Rattle.std.specs.List.{starts_with}
 use Rattle.std.specs.Str.{bytes_eq}
-use Rattle.std.specs.Cmp.Lexicographic.{pointwise}
+use Rattle.basis.specs.Sets.{is_same_set}
 use Rattle.policy.specs.declared.days.Days.{Days}
 use Rattle.policy.specs.declared.prices.Prices.{Prices}
-use Rattle.policy.specs.declared.registrar.Registrar.{Registrar}
 use Rattle.policy.specs.declared.terms.Terms.{Terms}
 use Rattle.policy.specs.Rules.{PolicyRules}
-
-abbrev pub ids_of : List Registrar → List (List ℕ)
-ids_of registrars = map (λ (registrar : Registrar). registrar.id) registrars
+pub use Rattle.policy.specs.Rules.{ids_of}
 
 abbrev pub terms_of : PolicyRules → Terms
 terms_of p = record { zone = p.zone.label; reserved = p.zone.reserved; days = p.days; prices = p.prices; ids = ids_of p.registrars }
@@ -28,7 +25,7 @@ same_prices a b = (a.create == b.create) && (a.renew == b.renew) && (a.transfer 
 unfoldable pub continues : Terms → Terms → Bool
 continues later earlier =
     bytes_eq later.zone earlier.zone
-    && pointwise bytes_eq later.reserved earlier.reserved
+    && is_same_set later.reserved earlier.reserved
     && same_days later.days earlier.days
     && same_prices later.prices earlier.prices
     && starts_with bytes_eq later.ids earlier.ids

@@ -3,7 +3,7 @@ ghost use Rattle.std.specs.Prelude.{◌≡◌, ℕ, length, map, option_copied, 
 ghost use Rattle.toml.specs.View.{table_view};
 ghost use Rattle.policy.specs.Reading as spec;
 ghost use Rattle.policy.specs.Reading.{Gives};
-ghost use Rattle.policy.specs.Rules.{AreSound, IsDayCount, IsPlace, IsPrice, IsRegistrarCount, days_of, id_at, place_of, place_of_login};
+ghost use Rattle.policy.specs.Rules.{AreTimes, IsDayCount, IsPlace, IsPrice, IsRegistrarCount, IsSound, days_of, id_at, place_of, place_of_login};
 ghost use Rattle.policy.specs.Terms.{ids_of, terms_of};
 
 use crate::days::days_at;
@@ -33,18 +33,23 @@ pub struct Policy {
 }
 
 impl Model for Policy {
+    ghost use Rattle.std.specs.Coded.{codes};
+    ghost use Rattle.basis.specs.Sets.{names_code};
     ghost use Rattle.policy.specs.Rules.{AreSound, PolicyRules};
 
     ghost Value = { PolicyRules };
 
+    ghost coded = { Prim.hlevel (codes, names_code) };
+
     ghost view = { λ p. record { zone = p.zone; days = p.days; prices = p.prices; soa = p.soa; registrars = p.registrars } };
 
-    ghost invariant = { λ p. AreSound p.days p.prices p.registrars };
+    ghost invariant = { λ p. AreSound p.days p.prices p.soa p.registrars };
 }
 
 #[tactic(auto, unfolding(crate::specs::Reading::rules_at))]
 fn rules_at(alloc: Global, document: &Table) -> Result<Policy, PolicyFault>
-    ensures { Gives (λ policy. policy) result (spec.rules_at (table_view document.now)) }
+    ensures read { Gives (λ policy. policy) result (spec.rules_at (table_view document.now)) }
+    ensures sound { IfOk result IsSound }
 {
     let label = text_at(alloc, document, Key::Zone)?;
     let reserved = labels_at(alloc, document, Key::Reserved)?;
@@ -72,24 +77,14 @@ fn copied_ids(alloc: Global, registrars: &[Registrar]) -> Result<Vec<Text>, Allo
     Ok(ids)
 }
 
-/// A copy of a list of labels.
-fn copied(alloc: Global, labels: &[Text]) -> Result<Vec<Text>, AllocError>
-    ensures { IfOk result (λ copy. copy.items ≡ labels.now) }
-{
-    let mut copy = Vec::new(alloc);
-    for label in labels {
-        copy.push(label.clone()?)?;
-    }
-    Ok(copy)
-}
-
 impl Policy {
     /// The policy that a file holds, or its first fault in the order of [`Key`]. A key's fault is
     /// found before that of the next key, and of several registrars one that lacks a key before
     /// all that is wrong with the key's values.
     #[tactic(auto, unfolding(crate::specs::Reading::policy_of))]
     pub fn read(alloc: Global, bytes: &[u8]) -> Result<Policy, PolicyFault>
-        ensures { Gives (λ policy. policy) result (spec.policy_of bytes.now) }
+        ensures read { Gives (λ policy. policy) result (spec.policy_of bytes.now) }
+        ensures sound { IfOk result IsSound }
     {
         let document = document_of(alloc, bytes)?;
         rules_at(alloc, &document)
@@ -104,7 +99,8 @@ impl Policy {
 
     /// The zone's start of authority.
     pub fn soa(&self) -> &Soa
-        ensures { result.now ≡ self.now.soa }
+        ensures value { result.now ≡ self.now.soa }
+        ensures range { AreTimes self.now.soa }
     {
         &self.soa
     }
@@ -183,7 +179,7 @@ impl Policy {
     {
         Ok(Terms {
             zone: self.zone.label().clone()?,
-            reserved: Seq::from_vec(copied(alloc, self.zone.reserved())?),
+            reserved: self.zone.reserved().clone()?,
             days: self.days,
             prices: self.prices,
             ids: Seq::from_vec(copied_ids(alloc, self.registrars.as_slice())?),

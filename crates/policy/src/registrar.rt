@@ -1,11 +1,11 @@
 //! The registrars that may log in.
 ghost use Rattle.std.specs.Prelude.{◌≡◌, ◌+◌, ◌<◌, length, map, position, option_copied, IfOk, IfSome};
-ghost use Rattle.std.specs.List.{list_any, zip};
+ghost use Rattle.std.specs.List.{IsDistinct, list_any, zip};
 ghost use Rattle.std.specs.Str.{bytes_eq};
 ghost use Rattle.toml.specs.View.{view, table_view};
 ghost use Rattle.policy.specs.Reading as spec;
 ghost use Rattle.policy.specs.Reading.{Gives};
-ghost use Rattle.policy.specs.Rules.{IsRegistrarCount, has_id, has_login};
+ghost use Rattle.policy.specs.Rules.{IsRegistrarCount, has_id, has_login, ids_of};
 
 use crate::document::{as_values, get};
 use crate::texts::texts_in;
@@ -135,6 +135,7 @@ fn paired(alloc: Global, ids: Vec<Text>, passwords: Vec<Text>) -> Result<Vec<Reg
 pub(crate) fn registrars_at(alloc: Global, document: &Table) -> Result<Seq<Registrar>, PolicyFault>
     ensures read { Gives (λ registrars. registrars) result (spec.registrars_at (table_view document.now)) }
     ensures count { IfOk result (λ registrars. IsRegistrarCount (length registrars)) }
+    ensures distinct { IfOk result (λ registrars. IsDistinct bytes_eq (ids_of registrars)) }
 {
     let entries = entries_at(document)?;
     let ids = column(alloc, entries, Key::RegistrarId)?;

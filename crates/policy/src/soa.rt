@@ -1,8 +1,9 @@
 //! The zone's start of authority.
-ghost use Rattle.std.specs.Prelude.{◌≡◌};
+ghost use Rattle.std.specs.Prelude.{◌≡◌, IfOk};
 ghost use Rattle.toml.specs.View.{table_view};
 ghost use Rattle.policy.specs.Reading as spec;
 ghost use Rattle.policy.specs.Reading.{Gives};
+ghost use Rattle.policy.specs.Rules.{AreTimes, IsTime};
 
 use crate::document::whole_at;
 use crate::texts::text_at;
@@ -26,7 +27,8 @@ pub struct Soa {
 
 #[tactic(auto, unfolding(crate::specs::Reading::seconds_at))]
 fn seconds_at(document: &Table, key: Key) -> Result<u32, PolicyFault>
-    ensures { Gives (λ n. n) result (spec.seconds_at (table_view document.now) key) }
+    ensures read { Gives (λ n. n) result (spec.seconds_at (table_view document.now) key) }
+    ensures range { IfOk result IsTime }
 {
     whole_at(document, key, 0, 2_147_483_647)
 }
@@ -34,7 +36,8 @@ fn seconds_at(document: &Table, key: Key) -> Result<u32, PolicyFault>
 /// The table `soa`.
 #[tactic(auto, unfolding(crate::specs::Reading::soa_at))]
 pub(crate) fn soa_at(alloc: Global, document: &Table) -> Result<Soa, PolicyFault>
-    ensures { Gives (λ soa. soa) result (spec.soa_at (table_view document.now)) }
+    ensures read { Gives (λ soa. soa) result (spec.soa_at (table_view document.now)) }
+    ensures range { IfOk result AreTimes }
 {
     Ok(Soa {
         mname: text_at(alloc, document, Key::SoaMname)?,

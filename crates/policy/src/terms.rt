@@ -4,6 +4,7 @@ ghost use Rattle.policy.specs.Terms as spec;
 
 use crate::{Days, Prices};
 use basis::list::Seq;
+use basis::sets::NameSet;
 use basis::text::Text;
 
 /// The part of a policy that a registry's book is used under, and that is compared when the book is
@@ -12,8 +13,8 @@ use basis::text::Text;
 pub struct Terms {
     /// The label of the zone.
     pub zone: Text,
-    /// The labels that no domain may have, in the order of the file.
-    pub reserved: Seq<Text>,
+    /// The labels that no domain may have.
+    pub reserved: NameSet,
     pub days: Days,
     pub prices: Prices,
     /// The registrars' ids in the order of their places.
@@ -26,7 +27,7 @@ impl Terms {
         ensures { result ≡ spec.continues self.now earlier.now }
     {
         self.zone == earlier.zone
-            && self.reserved.as_slice() == earlier.reserved.as_slice()
+            && self.reserved.is_same(&earlier.reserved)
             && self.days == earlier.days
             && self.prices == earlier.prices
             && self.ids.as_slice().starts_with(earlier.ids.as_slice())

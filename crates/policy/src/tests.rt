@@ -5,98 +5,143 @@ use calendar::Moment;
 use std::alloc::{AllocError, Global};
 use std::test::Fail;
 
-const RULES: &str =
-    "zone = \"test\"\nreserved = [\"nic\", \"www\"]\n[days]\nadd = 5\nauto_renew = 45\nrenew = 6\ntransfer = 7\nredemption = 30\nrestore = 8\npending_delete = 9\nanswer = 10\nlock = 60\n[prices]\ncreate = 800\nrenew = 801\ntransfer = 802\n[soa]\nmname = \"ns1.nic.test\"\nrname = \"hostmaster.nic.test\"\nrefresh = 7200\nretry = 3600\nexpire = 1209600\nminimum = 3600\nttl = 86400\n";
-
-const ALFA: &str = "[[registrar]]\nid = \"alfa\"\npassword = \"pass-alfa\"\n";
-
-const BETA: &str = "[[registrar]]\nid = \"beta\"\npassword = \"pass-beta\"\n";
-
-fn joined(alloc: Global, parts: &[&str]) -> Result<String, AllocError> {
-    let mut text = String::new(alloc);
-    for part in parts {
-        text.push_str(part)?;
-    }
-    Ok(text)
+/// A file with registrars of these ids, and what stands before and after.
+macro_rules! file {
+    ($($id:literal),*) => {
+        file!(""; $($id),*; "")
+    };
+    ($before:literal; $($id:literal),*; $after:literal) => {
+        concat!(
+            $before,
+            "zone = \"test\"\nreserved = [\"nic\", \"www\"]\n[days]\nadd = 5\nauto_renew = 45\nrenew = 6\ntransfer = 7\nredemption = 30\nrestore = 8\npending_delete = 9\nanswer = 10\nlock = 60\n[prices]\ncreate = 800\nrenew = 801\ntransfer = 802\n[soa]\nmname = \"ns1.nic.test\"\nrname = \"hostmaster.nic.test\"\nrefresh = 7200\nretry = 3600\nexpire = 1209600\nminimum = 3600\nttl = 86400\n",
+            $("[[registrar]]\nid = \"", $id, "\"\npassword = \"pass-", $id, "\"\n",)*
+            $after
+        )
+    };
 }
 
-fn policy(alloc: Global, parts: &[&str]) -> Result<Policy, Fail> {
-    let text = joined(alloc, parts)?;
-    match Policy::read(alloc, text.as_bytes()) {
+const RULES: &str = file!();
+
+const ALFA: &str = file!("alfa");
+
+const ALFA_BETA: &str = file!("alfa", "beta");
+
+const BETA_ALFA: &str = file!("beta", "alfa");
+
+fn policy(alloc: Global, file: &str) -> Result<Policy, Fail> {
+    match Policy::read(alloc, file.as_bytes()) {
         Ok(policy) => Ok(policy),
         Err(_) => Err(Fail::from("refused")),
     }
 }
 
 /// The fault of a file as it is printed, or `none`.
-fn fault(alloc: Global, text: &str) -> Result<String, AllocError> {
-    match Policy::read(alloc, text.as_bytes()) {
+fn fault(alloc: Global, file: &str) -> Result<String, AllocError> {
+    match Policy::read(alloc, file.as_bytes()) {
         Ok(_) => String::from_str(alloc, "none"),
         Err(fault) => format!(in alloc; "{fault}"),
     }
 }
 
-#[test]
-fn answers_from_the_example(rt: HostRuntime) -> Result<(), Fail> {
-    let alloc = rt.alloc();
-    let policy = policy(alloc, &[RULES, ALFA, BETA])?;
-    assert_eq!(rt; policy.zone().label().as_str(), "test");
-    assert_eq!(rt; policy.zone().reserved().len(), 2);
-    assert_eq!(rt; policy.soa().rname.as_str(), "hostmaster.nic.test");
-    assert_eq!(rt; policy.soa().expire, 1_209_600);
-    assert_eq!(rt; policy.create_price(), 800);
-    assert_eq!(rt; policy.renew_price(), 801);
-    assert_eq!(rt; policy.transfer_price(), 802);
-    assert_eq!(rt; policy.registrars(), 2);
-    assert_eq!(rt; policy.find("beta").map(|no| no.place()), Some(2));
-    assert!(rt; policy.find("gamma").is_none());
-    assert_eq!(rt;
-        policy.login("alfa", "pass-alfa").map(|no| no.place()),
-        Some(1)
-    );
-    assert!(rt; policy.login("alfa", "pass-beta").is_none());
-    assert_eq!(rt;
-        policy.id_of(RegistrarNo::of_place(2)).map(|id| id.as_str()),
-        Some("beta")
-    );
-    assert!(rt; policy.id_of(RegistrarNo::of_place(0)).is_none());
-    assert!(rt; policy.id_of(RegistrarNo::of_place(3)).is_none());
-    Ok(())
+/// The three prices, the seconds to the zone's expiry, and how many registrars there are.
+fn numbers(policy: &Policy) -> [u32; 5] {
+    [
+        policy.create_price(),
+        policy.renew_price(),
+        policy.transfer_price(),
+        policy.soa().expire,
+        policy.registrars(),
+    ]
 }
 
 #[test]
+fn values_of_the_example(rt: HostRuntime) -> Result<(), Fail> {
+    let policy = policy(rt.alloc(), ALFA_BETA)?;
+    assert_eq!(rt; policy.zone().label().as_str(), "test");
+    assert_eq!(rt; policy.soa().rname.as_str(), "hostmaster.nic.test");
+    for (label, is_reserved) in [("nic", true), ("www", true), ("web", false)] {
+        assert_eq!(rt; policy.zone().reserved().contains(label), is_reserved);
+    }
+    assert_eq!(rt; numbers(&policy), [800, 801, 802, 1_209_600, 2]);
+    Ok(())
+}
+
+/// The place of a registrar, or 0 for none.
+fn place_of(registrar: Option<RegistrarNo>) -> u32 {
+    match registrar {
+        Some(registrar) => registrar.place(),
+        None => 0,
+    }
+}
+
+/// An id, a password, the place of the registrar with the id, and that of the one who logs in.
+const LOGINS: &[(&str, &str, u32, u32)] = &[
+    ("alfa", "pass-alfa", 1, 1),
+    ("alfa", "pass-beta", 1, 0),
+    ("beta", "pass-beta", 2, 2),
+    ("gamma", "pass-beta", 0, 0),
+];
+
+#[test]
+fn finds_registrars(rt: HostRuntime) -> Result<(), Fail> {
+    let policy = policy(rt.alloc(), ALFA_BETA)?;
+    for (id, password, found, logged_in) in LOGINS {
+        assert_eq!(rt; place_of(policy.find(id)), *found, "{id}");
+        assert_eq!(rt; place_of(policy.login(id, password)), *logged_in, "{id}");
+    }
+    Ok(())
+}
+
+fn id_at(policy: &Policy, place: u32) -> &str {
+    match policy.id_of(RegistrarNo::of_place(place)) {
+        Some(id) => id.as_str(),
+        None => "none",
+    }
+}
+
+#[test]
+fn tells_ids_by_place(rt: HostRuntime) -> Result<(), Fail> {
+    let policy = policy(rt.alloc(), ALFA_BETA)?;
+    for (place, id) in [(0, "none"), (2, "beta"), (3, "none")] {
+        assert_eq!(rt; id_at(&policy, place), id);
+    }
+    Ok(())
+}
+
+const PERIODS: &[(Period, u32)] = &[
+    (Period::Add, 5),
+    (Period::AutoRenew, 45),
+    (Period::Renew, 6),
+    (Period::Transfer, 7),
+    (Period::Redemption, 30),
+    (Period::Restore, 8),
+    (Period::PendingDelete, 9),
+    (Period::Answer, 10),
+    (Period::Lock, 60),
+];
+
+#[test]
 fn knows_each_period(rt: HostRuntime) -> Result<(), Fail> {
-    let policy = policy(rt.alloc(), &[RULES, ALFA])?;
-    let rows = [
-        (Period::Add, 5),
-        (Period::AutoRenew, 45),
-        (Period::Renew, 6),
-        (Period::Transfer, 7),
-        (Period::Redemption, 30),
-        (Period::Restore, 8),
-        (Period::PendingDelete, 9),
-        (Period::Answer, 10),
-        (Period::Lock, 60),
-    ];
-    for (period, days) in rows {
-        assert_eq!(rt; policy.days(period, Moment::first()), days);
+    let policy = policy(rt.alloc(), ALFA)?;
+    for (period, days) in PERIODS {
+        assert_eq!(rt; policy.days(*period, Moment::first()), *days);
     }
     Ok(())
 }
 
 /// Whether the terms of one file continue those of another.
-fn continues(alloc: Global, later: &[&str], earlier: &[&str]) -> Result<bool, Fail> {
+fn continues(alloc: Global, later: &str, earlier: &str) -> Result<bool, Fail> {
     let later = policy(alloc, later)?.terms(alloc)?;
     let earlier = policy(alloc, earlier)?.terms(alloc)?;
     Ok(later.continues(&earlier))
 }
 
-/// The parts of a file and of an earlier one, and whether the terms continue the earlier.
-const REGISTRARS: &[(&[&str], &[&str], bool)] = &[
-    (&[RULES, ALFA], &[RULES, ALFA], true),
-    (&[RULES, ALFA, BETA], &[RULES, ALFA], true),
-    (&[RULES, ALFA], &[RULES, ALFA, BETA], false),
-    (&[RULES, BETA, ALFA], &[RULES, ALFA], false),
+/// A file and an earlier one, and whether the terms continue the earlier.
+const REGISTRARS: &[(&str, &str, bool)] = &[
+    (ALFA, ALFA, true),
+    (ALFA_BETA, ALFA, true),
+    (ALFA, ALFA_BETA, false),
+    (BETA_ALFA, ALFA, false),
 ];
 
 #[test]
@@ -111,6 +156,8 @@ fn adds_registrars_at_the_end(rt: HostRuntime) -> Result<(), Fail> {
 const CHANGES: &[(&str, &str, bool)] = &[
     ("\"test\"", "\"example\"", false),
     ("\"www\"", "\"web\"", false),
+    ("\"www\"", "\"nic\"", false),
+    ("\"nic\", \"www\"", "\"www\", \"nic\", \"www\"", true),
     ("lock = 60", "lock = 61", false),
     ("create = 800", "create = 900", false),
     ("pass-alfa", "pass-other", true),
@@ -120,14 +167,9 @@ const CHANGES: &[(&str, &str, bool)] = &[
 #[test]
 fn keeps_what_the_book_is_used_under(rt: HostRuntime) -> Result<(), Fail> {
     let alloc = rt.alloc();
-    let file = joined(alloc, &[RULES, ALFA])?;
     for (old, new, kept) in CHANGES {
-        let changed = file.replace(alloc, *old, new)?;
-        assert_eq!(rt;
-            continues(alloc, &[changed.as_str()], &[RULES, ALFA])?,
-            *kept,
-            "{new}"
-        );
+        let changed = ALFA.replace(alloc, *old, new)?;
+        assert_eq!(rt; continues(alloc, changed.as_str(), ALFA)?, *kept, "{new}");
     }
     Ok(())
 }
@@ -193,48 +235,37 @@ const FAULTS: &[Row] = &[
     ),
 ];
 
-/// The first row whose fault isn't the one that it tells.
-fn first_wrong(alloc: Global, file: &str, rows: &[Row]) -> Result<Option<String>, AllocError> {
-    for (old, new, told) in rows {
-        let changed = file.replace(alloc, *old, new)?;
-        let fault = fault(alloc, changed.as_str())?;
-        if fault.as_str() != *told {
-            return Ok(Some(format!(in alloc; "{new}: {fault}")?));
-        }
-    }
-    Ok(None)
-}
-
 #[test]
 fn names_the_fault(rt: HostRuntime) -> Result<(), Fail> {
     let alloc = rt.alloc();
-    let file = joined(alloc, &[RULES, ALFA, BETA])?;
-    assert_eq!(rt; fault(alloc, file.as_str())?.as_str(), "none");
-    assert_eq!(rt; first_wrong(alloc, file.as_str(), FAULTS)?.as_deref(), None);
+    assert_eq!(rt; fault(alloc, ALFA_BETA)?.as_str(), "none");
+    for (old, new, told) in FAULTS {
+        let changed = ALFA_BETA.replace(alloc, *old, new)?;
+        assert_eq!(rt; fault(alloc, changed.as_str())?.as_str(), *told, "{new}");
+    }
     Ok(())
 }
 
-/// The parts of a file, and its fault.
-const FILES: &[(&[&str], &str)] = &[
-    (&["= 1\n", RULES], "not TOML"),
-    (&[RULES], "missing registrar.id"),
-    (&["registrar = []\n", RULES], "missing registrar.id"),
-    (&["registrar = 7\n", RULES], "range registrar.id"),
-    (&["registrar = [7]\n", RULES], "range registrar.id"),
-    (&["registrar = [7, {}]\n", RULES], "missing registrar.id"),
+/// A file, and its fault.
+const FILES: &[(&str, &str)] = &[
+    (file!("= 1\n";; ""), "not TOML"),
+    (file!(), "missing registrar.id"),
+    (file!("registrar = []\n";; ""), "missing registrar.id"),
+    (file!("registrar = 7\n";; ""), "range registrar.id"),
+    (file!("registrar = [7]\n";; ""), "range registrar.id"),
+    (file!("registrar = [7, {}]\n";; ""), "missing registrar.id"),
     (
-        &[RULES, "[registrar]\nid = \"alfa\"\n"],
+        file!("";; "[registrar]\nid = \"alfa\"\n"),
         "range registrar.id",
     ),
-    (&[RULES, ALFA, BETA, BETA, ALFA], "twice alfa"),
+    (file!("alfa", "beta", "beta", "alfa"), "twice alfa"),
 ];
 
 #[test]
 fn names_the_fault_of_a_file(rt: HostRuntime) -> Result<(), Fail> {
     let alloc = rt.alloc();
-    for (parts, told) in FILES {
-        let file = joined(alloc, parts)?;
-        assert_eq!(rt; fault(alloc, file.as_str())?.as_str(), *told);
+    for (file, told) in FILES {
+        assert_eq!(rt; fault(alloc, file)?.as_str(), *told);
     }
     Ok(())
 }
@@ -242,8 +273,7 @@ fn names_the_fault_of_a_file(rt: HostRuntime) -> Result<(), Fail> {
 #[test]
 fn names_the_first_of_two_faults(rt: HostRuntime) -> Result<(), Fail> {
     let alloc = rt.alloc();
-    let file = joined(alloc, &[RULES, ALFA, BETA])?;
-    let unlocked = file.replace(alloc, "lock = 60\n", "")?;
+    let unlocked = ALFA_BETA.replace(alloc, "lock = 60\n", "")?;
     let both = unlocked.replace(alloc, "add = 5", "add = 0")?;
     assert_eq!(rt; fault(alloc, both.as_str())?.as_str(), "range days.add");
     Ok(())
@@ -254,22 +284,35 @@ fn wants_utf8(rt: HostRuntime) {
     assert!(rt; matches!(Policy::read(rt.alloc(), &[255]), Err(PolicyFault::NotToml)));
 }
 
-#[test]
-fn counts_registrars(rt: HostRuntime) -> Result<(), Fail> {
-    let alloc = rt.alloc();
-    let mut text = String::from_str(alloc, RULES)?;
+/// A file of 1,000 registrars.
+fn thousand(alloc: Global) -> Result<String, AllocError> {
+    let mut file = String::from_str(alloc, RULES)?;
     for n in 0..1_000 {
         let entry = format!(in alloc;
             "[[registrar]]\nid = \"reg{n}\"\npassword = \"pass-{n}-\"\n"
         )?;
-        text.push_str(entry.as_str())?;
+        file.push_str(entry.as_str())?;
     }
-    assert_eq!(rt; fault(alloc, text.as_str())?.as_str(), "none");
-    text.push_str(ALFA)?;
-    assert_eq!(rt; fault(alloc, text.as_str())?.as_str(), "range registrar.id");
-    let lacking = text.replace(alloc, "id = \"alfa\"\n", "")?;
+    Ok(file)
+}
+
+#[test]
+fn counts_registrars(rt: HostRuntime) -> Result<(), Fail> {
+    let alloc = rt.alloc();
+    let mut file = thousand(alloc)?;
+    assert_eq!(rt; fault(alloc, file.as_str())?.as_str(), "none");
+    file.push_str("[[registrar]]\nid = \"alfa\"\npassword = \"pass-alfa\"\n")?;
+    assert_eq!(rt; fault(alloc, file.as_str())?.as_str(), "range registrar.id");
+    Ok(())
+}
+
+#[test]
+fn looks_for_missing_keys_before_counting(rt: HostRuntime) -> Result<(), Fail> {
+    let alloc = rt.alloc();
+    let mut file = thousand(alloc)?;
+    file.push_str("[[registrar]]\npassword = \"pass-alfa\"\n")?;
     assert_eq!(rt;
-        fault(alloc, lacking.as_str())?.as_str(),
+        fault(alloc, file.as_str())?.as_str(),
         "missing registrar.id"
     );
     Ok(())
