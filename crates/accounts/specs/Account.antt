@@ -3,8 +3,8 @@ use Rattle.std.specs.Prelude.{ℕ, ◌+◌, ◌==◌, [], if◌then◌else◌}
 use Rattle.accounts.specs.declared.account.Account.{Account}
 
 -- a counter's next value, which stays at its greatest
-abbrev pub raised : ℕ → ℕ
-raised n = if n == 0xFFFF_FFFF_FFFF_FFFF then n else n + 1
+abbrev pub saturating_next : ℕ → ℕ
+saturating_next n = if n == 0xFFFF_FFFF_FFFF_FFFF then n else n + 1
 
 -- no lines, no messages, and nothing counted
 abbrev pub empty_account : Account
@@ -12,8 +12,8 @@ empty_account = record { lines = []; queue = []; commands = 0; messages = 0; ser
 
 -- one command more was answered
 abbrev pub counted : Account → Account
-counted a = record a { commands = raised a.commands }
+with_command a = record a { commands = saturating_next a.commands }
 
 -- one object more was created
-abbrev pub numbered : Account → Account
-numbered a = record a { serial = raised a.serial }
+abbrev pub with_serial : Account → Account
+with_serial a = record a { serial = saturating_next a.serial }

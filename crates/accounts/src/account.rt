@@ -1,6 +1,6 @@
 //! A registrar's account.
 ghost use Rattle.std.specs.Prelude.{◌≡◌};
-ghost use Rattle.accounts.specs.Account.{raised, empty_account, counted, numbered};
+ghost use Rattle.accounts.specs.Account.{saturating_next, empty_account, with_command, with_serial};
 
 use crate::line::Line;
 use crate::message::Message;
@@ -23,8 +23,8 @@ pub struct Account {
 }
 
 /// The next value of a counter, which stays at its greatest.
-pub fn raised(counter: u64) -> u64
-    ensures { result ≡ raised counter }
+pub fn saturating_next(counter: u64) -> u64
+    ensures { result ≡ saturating_next counter }
 {
     if counter == u64::MAX {
         counter
@@ -49,15 +49,15 @@ impl Account {
 
     /// Counts a command.
     pub fn count_command(&mut self)
-        ensures { self.new ≡ counted self.old }
+        ensures { self.new ≡ with_command self.old }
     {
-        self.commands = raised(self.commands);
+        self.commands = saturating_next(self.commands);
     }
 
     /// Counts an object.
     pub fn take_serial(&mut self)
-        ensures { self.new ≡ numbered self.old }
+        ensures { self.new ≡ with_serial self.old }
     {
-        self.serial = raised(self.serial);
+        self.serial = saturating_next(self.serial);
     }
 }

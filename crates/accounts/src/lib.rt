@@ -5,6 +5,6 @@ mod account;
 mod line;
 mod message;
 
-pub use account::{Account, raised};
+pub use account::{Account, saturating_next};
 pub use line::{Line, LineKind};
 pub use message::{Message, MessageId, Notice};

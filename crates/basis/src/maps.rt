@@ -107,11 +107,11 @@ impl<V: Drop> NameMap<V> {
 
 /// A map by registrars' places.
 #[derive(Drop)]
-pub struct PlaceMap<V> {
+pub struct RegistrarMap<V> {
     tree: BTreeMap<u32, V>,
 }
 
-impl<V> Model for PlaceMap<V> {
+impl<V> Model for RegistrarMap<V> {
     ghost use Rattle.std.specs.Ordering.{nat_cmp};
     ghost use Rattle.std.specs.FinMap as map;
     ghost use Rattle.std.specs.Coded.{coded_ℕ};
@@ -123,11 +123,11 @@ impl<V> Model for PlaceMap<V> {
     ghost view = { λ m. map.from_entries m.tree.entries };
 }
 
-impl<V: Drop> PlaceMap<V> {
+impl<V: Drop> RegistrarMap<V> {
     pub fn new(alloc: Global) -> Self
         ensures { result ≡ map.empty }
     {
-        PlaceMap {
+        RegistrarMap {
             tree: BTreeMap::new(alloc),
         }
     }
@@ -161,7 +161,7 @@ impl<V: Drop> PlaceMap<V> {
         requires { (v w : V) → V.is_clone v w → w ≡ v }
         ensures { IfOk result (λ m. m ≡ self.now) }
     {
-        Ok(PlaceMap {
+        Ok(RegistrarMap {
             tree: self.tree.clone()?,
         })
     }

@@ -159,4 +159,4 @@ is_inside zone name = is_some (superordinate_of zone name)
 -- of one in the zone, its superordinate domain's; of another, the registrar that created it or last
 -- renamed it
 abbrev pub host_sponsor : ZoneRules → HostFacts → Host → Option ℕ
-host_sponsor zone known h = if is_inside zone known.name then option_map (λ above. above.sponsor) known.superordinate else h.by
+host_sponsor zone known h = if is_inside zone known.name then option_map (λ above. above.sponsor) known.superordinate else h.external_sponsor

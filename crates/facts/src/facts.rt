@@ -1,11 +1,11 @@
 //! What a command is judged by.
 ghost use Rattle.std.specs.Prelude.{◌≡◌, is_some};
 ghost use Rattle.std.specs.Option.{option_copied};
-ghost use Rattle.accounts.specs.Account.{raised};
+ghost use Rattle.accounts.specs.Account.{saturating_next};
 ghost use Rattle.facts.specs.Facts as spec;
 
 use crate::lists::{Named, find_named};
-use accounts::raised;
+use accounts::saturating_next;
 use basis::list::Seq;
 use basis::registrar::RegistrarNo;
 use basis::text::Text;
@@ -25,16 +25,16 @@ pub struct AccountFacts {
 impl AccountFacts {
     /// The number of the caller's next object.
     pub fn next_serial(&self) -> u64
-        ensures { result ≡ raised self.now.serial }
+        ensures { result ≡ saturating_next self.now.serial }
     {
-        raised(self.serial)
+        saturating_next(self.serial)
     }
 
     /// The number of the caller's next command.
     pub fn next_command(&self) -> u64
-        ensures { result ≡ raised self.now.commands }
+        ensures { result ≡ saturating_next self.now.commands }
     {
-        raised(self.commands)
+        saturating_next(self.commands)
     }
 }
 
@@ -119,7 +119,7 @@ impl HostFacts {
         if zone.has_superordinate(&self.name) {
             self.superordinate.map(|above| above.sponsor)
         } else {
-            host.by
+            host.external_sponsor
         }
     }
 }

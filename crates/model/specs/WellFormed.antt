@@ -14,13 +14,13 @@ use Rattle.objects.specs.declared.roid.Roid.{Roid}
 use Rattle.objects.specs.declared.transfer.Transfer.{Transfer}
 use Rattle.objects.specs.Links.{names_contact, names_host}
 use Rattle.objects.specs.Transfers.{is_pending, is_pending_state}
-use Rattle.policy.specs.Rules.{PolicyRules, IsPlace}
+use Rattle.policy.specs.Rules.{PolicyRules, IsRegistrar}
 use Rattle.model.specs.Registry.{Registry, account_of}
 
 -- the ROID of an object of this kind: its creator's own number for it (RFC 5730, 2.8)
 pub record HasRoid (p : PolicyRules) (s : Registry) (kind : ObjectKind) (roid : Roid) : Type 0 where
   pub kind_is : roid.kind ≡ kind
-  pub creator : IsPlace p roid.creator
+  pub creator : IsRegistrar p roid.creator
   pub serial : roid.serial ≤ (account_of roid.creator s).serial
 
 -- a moment that is kept has been
@@ -36,10 +36,10 @@ IsAfter moment (Some earlier) = earlier ≤ moment
 -- A transfer lies between two registrars of the policy, and one that isn't pending has ended. It was
 -- requested after the object's creation; one that is pending, after the last that was completed.
 pub record IsTransfer (p : PolicyRules) (s : Registry) (created : ℕ) (transferred : Option ℕ) (t : Transfer) : Type 0 where
-  pub requester : IsPlace p t.requester
-  pub loser : IsPlace p t.loser
+  pub requester : IsRegistrar p t.requester
+  pub losing_registrar : IsRegistrar p t.losing_registrar
   pub requested : t.requested ≤ s.clock
-  pub acted : is_pending_state t.state ≡ false → t.acted ≤ s.clock
+  pub acted : is_pending_state t.state ≡ false → t.ac_date ≤ s.clock
   pub begun : created ≤ t.requested
   pub next : is_pending_state t.state ≡ true → IsAfter t.requested transferred
 
@@ -61,7 +61,7 @@ IsDeletion p s d (Some deletion) = IsDeleted p s d deletion
 pub record IsContactOf (p : PolicyRules) (s : Registry) (name : List ℕ) (c : Contact) : Type 0 where
   pub named : c.name ≡ name
   pub roid : HasRoid p s kinds.Contact c.roid
-  pub sponsor : IsPlace p c.sponsor
+  pub sponsor : IsRegistrar p c.sponsor
   pub created : c.created ≤ s.clock
   pub transferred : HasBeen s c.transferred
   pub updated : HasBeen s c.updated
@@ -71,12 +71,12 @@ pub record IsContactOf (p : PolicyRules) (s : Registry) (name : List ℕ) (c : C
 abbrev pub BelongsTo : PolicyRules → Registry → Option (List ℕ) → Option ℕ → Type 0
 BelongsTo p s (Some domain) by = IsSome (get s.domains domain) × (by ≡ None)
 BelongsTo p s None None = ⊥
-BelongsTo p s None (Some registrar) = IsPlace p registrar
+BelongsTo p s None (Some registrar) = IsRegistrar p registrar
 
 pub record IsHostOf (p : PolicyRules) (s : Registry) (name : List ℕ) (h : Host) : Type 0 where
   pub named : h.name ≡ name
   pub roid : HasRoid p s kinds.Host h.roid
-  pub belongs : BelongsTo p s (superordinate_of p.zone name) h.by
+  pub belongs : BelongsTo p s (superordinate_of p.zone name) h.external_sponsor
   pub created : h.created ≤ s.clock
   pub updated : HasBeen s h.updated
 
@@ -84,7 +84,7 @@ pub record IsHostOf (p : PolicyRules) (s : Registry) (name : List ℕ) (h : Host
 pub record IsDomainOf (p : PolicyRules) (s : Registry) (name : List ℕ) (d : Domain) : Type 0 where
   pub named : d.name ≡ name
   pub roid : HasRoid p s kinds.Domain d.roid
-  pub sponsor : IsPlace p d.sponsor
+  pub sponsor : IsRegistrar p d.sponsor
   pub created : d.created ≤ s.clock
   pub transferred : HasBeen s d.transferred
   pub updated : HasBeen s d.updated
@@ -96,7 +96,7 @@ pub record IsDomainOf (p : PolicyRules) (s : Registry) (name : List ℕ) (d : Do
 -- Exactly the policy's registrars have accounts, each object stands under its name, domains name what
 -- is there, and no two objects of a kind share a ROID.
 pub record IsRegistry (p : PolicyRules) (s : Registry) : Type 0 where
-  pub accounts : (r : ℕ) → IsSome (get s.accounts r) ↔ IsPlace p r
+  pub accounts : (r : ℕ) → IsSome (get s.accounts r) ↔ IsRegistrar p r
   pub contacts : (name : List ℕ) (c : Contact) → get s.contacts name ≡ Some c → IsContactOf p s name c
   pub hosts : (name : List ℕ) (h : Host) → get s.hosts name ≡ Some h → IsHostOf p s name h
   pub domains : (name : List ℕ) (d : Domain) → get s.domains name ≡ Some d → IsDomainOf p s name d

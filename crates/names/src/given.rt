@@ -9,7 +9,7 @@ use basis::text::Text;
 #[derive(Clone, Drop)]
 pub enum GivenName {
     /// The zone keeps such names.
-    Kept(Text),
+    Allowed(Text),
     /// The zone doesn't keep such names.
     Refused(Text),
 }
@@ -20,7 +20,7 @@ impl GivenName {
         ensures { result.now ≡ spec.name_of self.now }
     {
         match self {
-            GivenName::Kept(text) => text,
+            GivenName::Allowed(text) => text,
             GivenName::Refused(text) => text,
         }
     }
@@ -30,7 +30,7 @@ impl GivenName {
         ensures { result ≡ spec.name_of self }
     {
         match self {
-            GivenName::Kept(text) => text,
+            GivenName::Allowed(text) => text,
             GivenName::Refused(text) => text,
         }
     }

@@ -49,7 +49,7 @@ impl HostName {
     {
         let text = canonical_text(alloc, text)?;
         if zone.keeps_host(text.as_str()) {
-            Ok(GivenName::Kept(text))
+            Ok(GivenName::Allowed(text))
         } else {
             Ok(GivenName::Refused(text))
         }

@@ -9,7 +9,7 @@ use Rattle.objects.specs.declared.domain.Domain.{Domain}
 use Rattle.objects.specs.declared.domain.DomainFace.{DomainFace}
 use Rattle.objects.specs.declared.domain.Links.{Links}
 use Rattle.objects.specs.declared.sight.Seen.{Seen}
-use Rattle.objects.specs.declared.sight.Seen.TheVariants.{Full, Named, Public}
+use Rattle.objects.specs.declared.sight.Seen.TheVariants.{Full, TransferParty, Public}
 
 -- the list has the name
 abbrev pub has_name : List (List ℕ) → List ℕ → Bool
@@ -26,7 +26,7 @@ names_host host links = has_name links.hosts host
 -- what a domain names, of what is seen of it
 abbrev pub links_seen : Seen Domain DomainFace → Links
 links_seen (Full d) = d.links
-links_seen (Named face t) = face.links
+links_seen (TransferParty face t) = face.links
 links_seen (Public face) = face.links
 
 -- names in the order of their bytes

@@ -23,4 +23,4 @@ is_incoming r (Some t) = is_pending_state t.state && (t.requester == r)
 
 -- the transfer names the registrar, as requester or as losing sponsor
 abbrev pub names : ℕ → Transfer → Bool
-names r t = (t.requester == r) || (t.loser == r)
+names r t = (t.requester == r) || (t.losing_registrar == r)

@@ -2,7 +2,7 @@
 ghost use Rattle.std.specs.Prelude.{◌≡◌, ◌==◌, ◌||◌, IfOk, filter};
 ghost use Rattle.std.specs.Option.{option_copied};
 ghost use Rattle.objects.specs.Domains.{expiry, shows, shown, face_of};
-ghost use Rattle.objects.specs.Sight.{is_party, is_right, domain_as};
+ghost use Rattle.objects.specs.Sight.{is_party, authorizes, domain_as};
 ghost use Rattle.objects.specs.Transfers as transfers;
 
 use crate::roid::Roid;
@@ -173,14 +173,14 @@ impl Domain {
     }
 
     /// Whether the secret was presented, and is its own.
-    pub fn is_opened_by(&self, presented: Option<&Text>) -> bool
-        ensures { result ≡ is_right (option_copied presented.entry) self.now.secret }
+    pub fn is_authorized_by(&self, presented: Option<&Text>) -> bool
+        ensures { result ≡ authorizes (option_copied presented.entry) self.now.secret }
     {
-        sight::is_right(presented, &self.secret)
+        sight::authorizes(presented, &self.secret)
     }
 
     fn is_seen_in_full(&self, registrar: RegistrarNo, presented: Option<&Text>) -> bool
-        ensures { result ≡ (is_party registrar self.now.sponsor self.now.transfer || is_right (option_copied presented.entry) self.now.secret) }
+        ensures { result ≡ (is_party registrar self.now.sponsor self.now.transfer || authorizes (option_copied presented.entry) self.now.secret) }
     {
         sight::is_seen_in_full(
             registrar,
@@ -205,7 +205,7 @@ impl Domain {
         }
         match &self.transfer {
             Some(transfer) if transfer.names(registrar) => {
-                Ok(Seen::Named(self.face(alloc)?, *transfer))
+                Ok(Seen::TransferParty(self.face(alloc)?, *transfer))
             }
             _ => Ok(Seen::Public(self.face(alloc)?)),
         }

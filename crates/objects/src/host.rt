@@ -17,7 +17,7 @@ pub struct Host {
     pub roid: Roid,
     /// Who created or last renamed a host outside the zone. A host in the zone has the sponsor of its
     /// superordinate domain, and nothing here.
-    pub by: Option<RegistrarNo>,
+    pub external_sponsor: Option<RegistrarNo>,
     pub created: Moment,
     pub updated: Option<Moment>,
     /// The statuses that were set, in the order of their texts.

@@ -12,7 +12,7 @@ use basis::text::Text;
 #[derive(Clone, Drop)]
 pub enum Seen<O, F> {
     Full(O),
-    Named(F, Transfer),
+    TransferParty(F, Transfer),
     Public(F),
 }
 
@@ -34,8 +34,8 @@ pub(crate) fn is_party(
 }
 
 /// Whether a secret was presented, and is this one.
-pub(crate) fn is_right(presented: Option<&Text>, secret: &Text) -> bool
-    ensures { result ≡ spec.is_right (option_copied presented.entry) secret.now }
+pub(crate) fn authorizes(presented: Option<&Text>, secret: &Text) -> bool
+    ensures { result ≡ spec.authorizes (option_copied presented.entry) secret.now }
 {
     match presented {
         None => false,
@@ -51,7 +51,7 @@ pub(crate) fn is_seen_in_full(
     presented: Option<&Text>,
     secret: &Text,
 ) -> bool
-    ensures { result ≡ (spec.is_party registrar sponsor transfer.now || spec.is_right (option_copied presented.entry) secret.now) }
+    ensures { result ≡ (spec.is_party registrar sponsor transfer.now || spec.authorizes (option_copied presented.entry) secret.now) }
 {
-    is_party(registrar, sponsor, transfer) || is_right(presented, secret)
+    is_party(registrar, sponsor, transfer) || authorizes(presented, secret)
 }

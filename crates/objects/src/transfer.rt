@@ -21,10 +21,10 @@ pub struct Transfer {
     /// Who asked for the object.
     pub requester: RegistrarNo,
     /// The sponsor that loses it.
-    pub loser: RegistrarNo,
+    pub losing_registrar: RegistrarNo,
     pub requested: Moment,
     /// When it is due while it is pending, and when it was acted on otherwise.
-    pub acted: Moment,
+    pub ac_date: Moment,
     pub state: TransferState,
 }
 
@@ -54,6 +54,6 @@ impl Transfer {
     pub fn names(&self, registrar: RegistrarNo) -> bool
         ensures { result ≡ spec.names registrar self.now }
     {
-        self.requester == registrar || self.loser == registrar
+        self.requester == registrar || self.losing_registrar == registrar
     }
 }

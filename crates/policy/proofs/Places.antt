@@ -3,7 +3,7 @@ use Rattle.std.proofs.Common.{ℕ, zero, suc, ◌<◌, List, [], ◌∷◌, leng
 use Rattle.std.specs.List.{slice_get}
 use Rattle.std.specs.Option.{IsSome}
 use Rattle.policy.specs.declared.registrar.Registrar.{Registrar}
-use Rattle.policy.specs.Rules.{PolicyRules, IsPlace, id_at}
+use Rattle.policy.specs.Rules.{PolicyRules, IsRegistrar, id_at}
 
 id-some : (registrars : List Registrar) (index : ℕ) → index < length registrars → IsSome (option_map (λ (registrar : Registrar). registrar.id) (slice_get registrars index))
 id-some [] index h = absurd (omega arith)
@@ -11,6 +11,6 @@ id-some (x ∷ xs) zero h = refl
 id-some (x ∷ xs) (suc index) h = id-some xs index (omega arith)
 
 -- a registrar of the policy has an id
-pub id_at-some : (p : PolicyRules) (place : ℕ) → IsPlace p place → IsSome (id_at p place)
+pub id_at-some : (p : PolicyRules) (place : ℕ) → IsRegistrar p place → IsSome (id_at p place)
 id_at-some p zero h = absurd (omega (arith, h.0))
 id_at-some p (suc index) h = id-some p.registrars index (omega (arith, h.1))

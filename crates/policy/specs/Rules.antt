@@ -80,8 +80,8 @@ abbrev pub IsRegistrarCount : ℕ → Type 0
 IsRegistrarCount n = (1 ≤ n) × (n ≤ 1000)
 
 -- a registrar's place, counted from 1
-abbrev pub IsPlace : PolicyRules → ℕ → Type 0
-IsPlace p place = (1 ≤ place) × (place ≤ length p.registrars)
+abbrev pub IsRegistrar : PolicyRules → ℕ → Type 0
+IsRegistrar p place = (1 ≤ place) × (place ≤ length p.registrars)
 
 abbrev pub has_id : List ℕ → Registrar → Bool
 has_id id registrar = bytes_eq registrar.id id

@@ -3,7 +3,7 @@ ghost use Rattle.std.specs.Prelude.{◌≡◌, ℕ, length, map, option_copied, 
 ghost use Rattle.toml.specs.View.{table_view};
 ghost use Rattle.policy.specs.Reading as spec;
 ghost use Rattle.policy.specs.Reading.{Gives};
-ghost use Rattle.policy.specs.Rules.{AreTimes, IsDayCount, IsPlace, IsPrice, IsRegistrarCount, IsSound, days_of, id_at, place_of, place_of_login};
+ghost use Rattle.policy.specs.Rules.{AreTimes, IsDayCount, IsRegistrar, IsPrice, IsRegistrarCount, IsSound, days_of, id_at, place_of, place_of_login};
 ghost use Rattle.policy.specs.Terms.{ids_of, terms_of};
 
 use crate::days::days_at;
@@ -149,7 +149,7 @@ impl Policy {
     /// The registrar with this id.
     pub fn find(&self, id: &str) -> Option<RegistrarNo>
         ensures value { result ≡ place_of id.now self.now }
-        ensures place { IfSome result (IsPlace self.now) }
+        ensures place { IfSome result (IsRegistrar self.now) }
     {
         let index = index_of(self.registrars.as_slice(), id)?;
         Some(number_at(index))
@@ -158,7 +158,7 @@ impl Policy {
     /// The registrar with this id and password.
     pub fn login(&self, id: &str, password: &str) -> Option<RegistrarNo>
         ensures value { result ≡ place_of_login id.now password.now self.now }
-        ensures place { IfSome result (IsPlace self.now) }
+        ensures place { IfSome result (IsRegistrar self.now) }
     {
         let index = index_of_login(self.registrars.as_slice(), id, password)?;
         Some(number_at(index))

@@ -7,7 +7,7 @@ use Rattle.std.specs.FinMap.{FinMap, empty, get, get-empty}
 use Rattle.std.specs.Ordering.{eq_by_cmp, nat_cmp}
 use Rattle.accounts.specs.declared.account.Account.{Account}
 use Rattle.policy.specs.declared.registrar.Registrar.{Registrar}
-use Rattle.policy.specs.Rules.{PolicyRules, IsPlace}
+use Rattle.policy.specs.Rules.{PolicyRules, IsRegistrar}
 use Rattle.policy.specs.Terms.{Continues, ids_of, terms_of}
 use Rattle.policy.proofs.TermsLemmas.{continues-Decides}
 use Rattle.registry.specs.Opening.{Opens, continues_earlier, goes_on, opened, openings}
@@ -72,7 +72,7 @@ kept-opened p q s zone more is =
       clock = omega arith;
       serial = λ r. omega (arith, ap (λ (a : Account). a.serial) (same-account n r s));
     } in
-    let places : (r : ℕ) → IsSome (get (accounts-after n s) r) ↔ IsPlace p r = λ r.
+    let places : (r : ℕ) → IsSome (get (accounts-after n s) r) ↔ IsRegistrar p r = λ r.
     (λ there. ⊎_elim (λ was. grows.place r ((is.accounts r).0 was)) (λ place. place) ((places-after n r s).0 there), λ place. (places-after n r s).1 (inr place)) in
     subst (IsRegistry p) (sym (changed-openings n s)) (kept-grown q p s (accounts-after n s) s.clock grows places is)
 

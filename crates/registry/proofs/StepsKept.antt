@@ -1,6 +1,6 @@
 -- A step of the rules leaves a well formed registry.
 use Rattle.std.proofs.Common.{◌≡◌, ℕ, Result, Ok, Err, IfOk, OnOk, sym, subst}
-use Rattle.policy.specs.Rules.{PolicyRules, IsPlace}
+use Rattle.policy.specs.Rules.{PolicyRules, IsRegistrar}
 use Rattle.registry.specs.Execution.{IsOrderStep, IsStep}
 use Rattle.registry.specs.WellFormed.{KeepsWellFormed, StaysWellFormed}
 use Rattle.rules.specs.Orders.{order_effect}
@@ -15,12 +15,12 @@ use Rattle.protocol.specs.declared.reply.Reply.{Reply}
 use Rattle.model.specs.Registry.{Registry, lapsed, now}
 use Rattle.model.specs.WellFormed.{IsRegistry}
 
-stays : (p : PolicyRules) (r : ℕ) (c : Command) (moment : ℕ) (before after : Registry) → IsPlace p r → now p after ≡ now p (effect p r c (lapsed p moment before)) → StaysWellFormed p before after
+stays : (p : PolicyRules) (r : ℕ) (c : Command) (moment : ℕ) (before after : Registry) → IsRegistrar p r → now p after ≡ now p (effect p r c (lapsed p moment before)) → StaysWellFormed p before after
 stays p r c moment before after place left is small =
     let passed : Registry = lapsed p moment before in
     subst (IsRegistry p) (sym left) (kept-now p (effect p r c passed) (kept-effect p r c passed place (kept-lapsed p moment before is) (small r).serial))
 
-pub kept_step : {E : Type 0} (result : Result Reply E) (clean : Type 0) (p : PolicyRules) (r : ℕ) (c : Command) (moment : ℕ) (before after : Registry) → IsPlace p r
+pub kept_step : {E : Type 0} (result : Result Reply E) (clean : Type 0) (p : PolicyRules) (r : ℕ) (c : Command) (moment : ℕ) (before after : Registry) → IsRegistrar p r
     → IfOk result (λ reply. clean → IsStep p r c moment before after reply) → OnOk result (clean → StaysWellFormed p before after)
 kept_step (Ok reply) clean p r c moment before after place step = λ taken. stays p r c moment before after place (step taken).left
 kept_step (Err e) clean p r c moment before after place step = tt

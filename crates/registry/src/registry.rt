@@ -1,7 +1,7 @@
 //! The registry.
 ghost use Rattle.std.specs.Prelude.{◌≡◌, ◌≢◌, ◌<◌, nat_lt, true, false, ◌↔◌, IfOk, IfErr, OnOk, Ok, Err, Some};
-ghost use Rattle.accounts.specs.Account.{raised};
-ghost use Rattle.policy.specs.Rules.{IsPlace};
+ghost use Rattle.accounts.specs.Account.{saturating_next};
+ghost use Rattle.policy.specs.Rules.{IsRegistrar};
 ghost use Rattle.policy.specs.Terms.{terms_of};
 ghost use Rattle.registry.specs.Execution.{Fails, GoesBack, IsPrepared, Isolates, Keeps, OrderSteps, SameTerms, Steps, last_call};
 ghost use Rattle.registry.specs.Opening.{Opens, Refuses};
@@ -94,7 +94,7 @@ impl<B: Book + Drop> Registry<B> {
         command: &Command,
         moment: Moment,
     ) -> Result<Reply, Fault>
-        requires { IsPlace self.old.policy caller }
+        requires { IsRegistrar self.old.policy caller }
         ensures step { IfOk result (λ reply. Steps self.old.policy caller command.now moment reply (B.state self.old.book) (B.state self.new.book)) }
         ensures isolation { IfOk result (λ reply. Isolates self.old.policy caller command.now moment reply (B.state self.old.book) (B.state self.new.book)) }
         ensures well_formed { OnOk result (BookStaysWellFormed self.old.policy (B.state self.old.book) (B.state self.new.book)) }
@@ -290,7 +290,7 @@ fn identifiers(
     facts: &Facts,
 ) -> Result<(Option<Text>, SvTrid), AllocError>
     ensures cl_trid { IfOk result (λ it. it.0 ≡ cl_trid_of command.now) }
-    ensures sv_trid { IfOk result (λ it. it.1 ≡ record { id = id_of policy.now caller; number = raised facts.now.account.commands }) }
+    ensures sv_trid { IfOk result (λ it. it.1 ≡ record { id = id_of policy.now caller; number = saturating_next facts.now.account.commands }) }
 {
     let cl_trid = copied(command.cl_trid())?;
     let sv_trid = SvTrid {

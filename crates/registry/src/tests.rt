@@ -87,7 +87,7 @@ fn policy(alloc: Global, text: &str) -> Result<Policy, Fail> {
 
 fn check(alloc: Global) -> Result<Command, Fail> {
     let mut names = Seq::new(alloc);
-    names.push(GivenName::Kept(Text::from_str(alloc, "a.test")?))?;
+    names.push(GivenName::Allowed(Text::from_str(alloc, "a.test")?))?;
     Ok(Command::Asked {
         tag: None,
         request: Request::CheckDomain { names },

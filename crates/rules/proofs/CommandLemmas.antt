@@ -6,7 +6,7 @@ use Rattle.std.specs.FinMap.{get}
 use Rattle.std.specs.Str.{bytes_eq}
 use Rattle.std.proofs.lemmas.Bool.{or_parts}
 use Rattle.accounts.specs.declared.account.Account.{Account}
-use Rattle.accounts.specs.Account.{counted, numbered, raised}
+use Rattle.accounts.specs.Account.{with_command, with_serial, saturating_next}
 use Rattle.names.specs.declared.given.GivenName.{GivenName}
 use Rattle.names.specs.GivenName.{name_of}
 use Rattle.names.specs.Zone.{last_two_of, superordinate_of}
@@ -20,18 +20,18 @@ use Rattle.objects.specs.declared.roid.ObjectKind.{ObjectKind}
 use Rattle.objects.specs.declared.roid.ObjectKind.TheVariants as kinds
 use Rattle.objects.specs.declared.roid.Roid.{Roid}
 use Rattle.objects.specs.declared.sight.Seen.{Seen}
-use Rattle.objects.specs.declared.sight.Seen.TheVariants.{Full, Named, Public}
+use Rattle.objects.specs.declared.sight.Seen.TheVariants.{Full, TransferParty, Public}
 use Rattle.objects.specs.declared.transfer.Transfer.{Transfer}
 use Rattle.objects.specs.Contacts.{contact_face_of}
 use Rattle.objects.specs.Domains.{face_of}
 use Rattle.objects.specs.Links.{names_contact, names_host}
-use Rattle.objects.specs.Sight.{contact_as, domain_as, is_party, is_right, outside}
+use Rattle.objects.specs.Sight.{contact_as, domain_as, is_party, authorizes, seen_by_outsider}
 use Rattle.objects.specs.Statuses.{amended_statuses}
 use Rattle.objects.specs.Transfers.{names}
-use Rattle.policy.specs.Rules.{PolicyRules, IsPlace}
+use Rattle.policy.specs.Rules.{PolicyRules, IsRegistrar}
 use Rattle.rules.specs.declared.change.Change.TheVariants.{DropContact, DropHost, PutContact, PutDomain, PutHost, TakeSerial}
 use Rattle.rules.specs.Changes.{changed_all, with_account}
-use Rattle.rules.specs.Decisions.{by_of, contact_changes, domain_changes, host_changes, new_contact, new_domain, new_host, new_roid, renaming, updated_contact, updated_domain, by_after}
+use Rattle.rules.specs.Decisions.{external_sponsor_of, contact_changes, domain_changes, host_changes, new_contact, new_domain, new_host, new_roid, renaming, updated_contact, updated_domain, external_sponsor_after}
 use Rattle.rules.proofs.KeepingLemmas.{IsUndeleted, drop-contact, drop-host, kept-account, put-contact, put-domain, put-host, rename-host}
 use Rattle.rules.proofs.LinkLemmas.{new-contacts, new-hosts, updated-contacts, updated-hosts}
 use Rattle.rules.proofs.NamedLemmas.{value-fails}
@@ -62,12 +62,12 @@ use Rattle.model.specs.WellFormed.{BelongsTo, HasRoid, IsRegistry}
 
 -- ---- what is seen in full is the object itself
 
-full-is : {O F : Type 0} (r : ℕ) (o : O) (face : F) (t : Option Transfer) (b : Bool) (x : O) → cond b (Full o) (outside r face t) ≡ Full x → o ≡ x
+full-is : {O F : Type 0} (r : ℕ) (o : O) (face : F) (t : Option Transfer) (b : Bool) (x : O) → cond b (Full o) (seen_by_outsider r face t) ≡ Full x → o ≡ x
 full-is r o face t true x e = cc
 full-is r o face None false x e = absurd cc
 full-is {O} {F} r o face (Some t) false x e = by (names r t) e
   where
-    by : (b : Bool) → (let seen : Seen O F = cond b (Named face t) (Public face) in seen ≡ Full x) → o ≡ x
+    by : (b : Bool) → (let seen : Seen O F = cond b (TransferParty face t) (Public face) in seen ≡ Full x) → o ≡ x
     by true e = absurd cc
     by false e = absurd cc
 
@@ -75,13 +75,13 @@ contact-full : (r : ℕ) (presented : Option (List ℕ)) (found : Option Contact
 contact-full r presented None c e = absurd cc
 contact-full r presented (Some o) c e =
     let same : contact_as r presented o ≡ Full c = cc in
-    ap (λ (x : Contact). Some x) (full-is r o (contact_face_of o) o.transfer (is_party r o.sponsor o.transfer || is_right presented o.secret) c same)
+    ap (λ (x : Contact). Some x) (full-is r o (contact_face_of o) o.transfer (is_party r o.sponsor o.transfer || authorizes presented o.secret) c same)
 
 domain-full : (r : ℕ) (presented : Option (List ℕ)) (found : Option Domain) (d : Domain) → option_map (domain_as r presented) found ≡ Some (Full d) → found ≡ Some d
 domain-full r presented None d e = absurd cc
 domain-full r presented (Some o) d e =
     let same : domain_as r presented o ≡ Full d = cc in
-    ap (λ (x : Domain). Some x) (full-is r o (face_of o) o.transfer (is_party r o.sponsor o.transfer || is_right presented o.secret) d same)
+    ap (λ (x : Domain). Some x) (full-is r o (face_of o) o.transfer (is_party r o.sponsor o.transfer || authorizes presented o.secret) d same)
 
 -- ---- what is found first in a list of one, by its own name
 
@@ -90,7 +90,7 @@ at-itself name known = ap (λ (b : Bool). let found : Option _ = cond b (Some kn
 
 -- ---- serials
 
-raised-next : (n : ℕ) → n < 4_611_686_018_427_387_904 → raised n ≡ n + 1
+raised-next : (n : ℕ) → n < 4_611_686_018_427_387_904 → saturating_next n ≡ n + 1
 raised-next n small = by (n == 0xFFFF_FFFF_FFFF_FFFF) refl
   where
     by : (b : Bool) → (n == 0xFFFF_FFFF_FFFF_FFFF) ≡ b → cond b n (n + 1) ≡ n + 1
@@ -100,13 +100,13 @@ raised-next n small = by (n == 0xFFFF_FFFF_FFFF_FFFF) refl
 account-after : (r : ℕ) (f : Account → Account) (s : Registry) → account_of r (with_account r f s) ≡ f (account_of r s)
 account-after r f s = account_of-with_account r r f s ∙ ap (λ (b : Bool). cond b (f (account_of r s)) (account_of r s)) ((eq_by_cmp_equiv nat_cmp_total).refl r)
 
-module _ (p : PolicyRules) (r : ℕ) (cl_trid : Option (List ℕ)) (s : Registry) (place : IsPlace p r) (is : IsRegistry p s) where
+module _ (p : PolicyRules) (r : ℕ) (cl_trid : Option (List ℕ)) (s : Registry) (place : IsRegistrar p r) (is : IsRegistry p s) where
   -- the registry once the command is counted
   abbrev after_count : Registry
-  after_count = with_account r counted s
+  after_count = with_account r with_command s
 
   pub kept-counted : IsRegistry p after_count
-  kept-counted = kept-account p r counted (λ a. omega arith) s place is
+  kept-counted = kept-account p r with_command (λ a. omega arith) s place is
 
   -- ---- a name that a host is to have (RFC 5732, 3.2.1)
 
@@ -117,7 +117,7 @@ module _ (p : PolicyRules) (r : ℕ) (cl_trid : Option (List ℕ)) (s : Registry
   domain-there None e = absurd cc
   domain-there (Some d) e = refl
 
-  belongs-new : (name : List ℕ) → (is_some (superordinate_of p.zone name) && is_none (found_above (last_two_of name))) ≡ false → BelongsTo p s (superordinate_of p.zone name) (by_of p.zone r name)
+  belongs-new : (name : List ℕ) → (is_some (superordinate_of p.zone name) && is_none (found_above (last_two_of name))) ≡ false → BelongsTo p s (superordinate_of p.zone name) (external_sponsor_of p.zone r name)
   belongs-new name based = by (superordinate_of p.zone name) refl based
     where
       by : (o : Option (List ℕ)) → superordinate_of p.zone name ≡ o → (is_some o && is_none (found_above (last_two_of name))) ≡ false → BelongsTo p s o (cond (is_some o) None (Some r))
@@ -135,9 +135,9 @@ module _ (p : PolicyRules) (r : ℕ) (cl_trid : Option (List ℕ)) (s : Registry
 
   module _ (small : (account_of r s).serial < 4_611_686_018_427_387_904) where
     abbrev numbered_too : Registry
-    numbered_too = with_account r numbered after_count
+    numbered_too = with_account r with_serial after_count
 
-    numbered-rises : (a : Account) → a.serial ≤ (numbered a).serial
+    numbered-rises : (a : Account) → a.serial ≤ (with_serial a).serial
     numbered-rises a = by (a.serial == 0xFFFF_FFFF_FFFF_FFFF)
       where
         by : (b : Bool) → a.serial ≤ cond b a.serial (a.serial + 1)
@@ -145,10 +145,10 @@ module _ (p : PolicyRules) (r : ℕ) (cl_trid : Option (List ℕ)) (s : Registry
         by false = omega arith
 
     kept-numbered : IsRegistry p numbered_too
-    kept-numbered = kept-account p r numbered numbered-rises after_count place kept-counted
+    kept-numbered = kept-account p r with_serial numbered-rises after_count place kept-counted
 
-    serial-after : (account_of r numbered_too).serial ≡ raised (account_of r s).serial
-    serial-after = ap (λ (a : Account). a.serial) (account-after r numbered after_count) ∙ ap (λ (a : Account). raised a.serial) (account-after r counted s)
+    serial-after : (account_of r numbered_too).serial ≡ saturating_next (account_of r s).serial
+    serial-after = ap (λ (a : Account). a.serial) (account-after r with_serial after_count) ∙ ap (λ (a : Account). saturating_next a.serial) (account-after r with_command s)
 
     module _ (kind : ObjectKind) (request : Request) where
       abbrev given : Roid
@@ -161,7 +161,7 @@ module _ (p : PolicyRules) (r : ℕ) (cl_trid : Option (List ℕ)) (s : Registry
       ungiven : (other : ObjectKind) (roid : Roid) → HasRoid p s other roid → roid ≢ given
       ungiven other roid has same =
           let at : roid.serial ≤ (account_of r s).serial = subst (λ (q : ℕ). roid.serial ≤ (account_of q s).serial) (ap (λ (x : Roid). x.creator) same) has.serial in
-          let next : roid.serial ≡ raised (account_of r s).serial = ap (λ (x : Roid). x.serial) same in
+          let next : roid.serial ≡ saturating_next (account_of r s).serial = ap (λ (x : Roid). x.serial) same in
           omega (arith, raised-next (account_of r s).serial small)
 
     pub kept-new-contact : (new : NewContact) → let f : Facts = facts p r (Asked cl_trid (requests.CreateContact new)) s in IsRegistry p (changed_all (PutContact (new_contact r s.clock f new) ∷ TakeSerial r ∷ []) after_count)
@@ -239,7 +239,7 @@ module _ (p : PolicyRules) (r : ℕ) (cl_trid : Option (List ℕ)) (s : Registry
           let new : Contact = updated_contact s.clock u o in
           kept-put-contact p after_count kept-counted u.name o new at refl
           (contact-updated p after_count u.name o (Some s.clock) new.statuses new.secret new.postal new.voice new.mail (omega arith) (kept-counted.contacts u.name o at))
-      by (Some (Named face transfer)) e = kept-counted
+      by (Some (TransferParty face transfer)) e = kept-counted
       by (Some (Public face)) e = kept-counted
 
   abbrev asked_domain : DomainUpdate → Command
@@ -263,7 +263,7 @@ module _ (p : PolicyRules) (r : ℕ) (cl_trid : Option (List ℕ)) (s : Registry
           (updated-contacts (λ name. is_some (get s.contacts name)) (λ name. is_some (get s.hosts name)) u d.links linked k.contacts)
           (updated-hosts (λ name. is_some (get s.contacts name)) (λ name. is_some (get s.hosts name)) u d.links linked k.hosts)
           (kept-counted.domains (name_of u.name) d at))
-      by (Some (Named face transfer)) e = kept-counted
+      by (Some (TransferParty face transfer)) e = kept-counted
       by (Some (Public face)) e = kept-counted
 
   -- ---- updates of hosts
@@ -278,7 +278,7 @@ module _ (p : PolicyRules) (r : ℕ) (cl_trid : Option (List ℕ)) (s : Registry
   abbrev host_with : HostUpdate → Host → Option GivenName → Host
   host_with u h given = record h {
     name = final_name u given;
-    by = by_after p.zone r given h.by;
+    external_sponsor = external_sponsor_after p.zone r given h.external_sponsor;
     updated = Some s.clock;
     statuses = amended_statuses h.statuses u.rem.statuses u.add.statuses;
     addresses = amended itself h.addresses u.rem.addresses u.add.addresses;

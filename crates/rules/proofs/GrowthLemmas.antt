@@ -11,7 +11,7 @@ use Rattle.objects.specs.declared.roid.ObjectKind.{ObjectKind}
 use Rattle.objects.specs.declared.roid.Roid.{Roid}
 use Rattle.objects.specs.declared.transfer.Transfer.{Transfer}
 use Rattle.objects.specs.Links.{names_contact, names_host}
-use Rattle.policy.specs.Rules.{PolicyRules, IsPlace}
+use Rattle.policy.specs.Rules.{PolicyRules, IsRegistrar}
 use Rattle.model.specs.Registry.{Registry, account_of}
 use Rattle.model.specs.WellFormed.{BelongsTo, HasBeen, HasRoid, IsContactOf, IsDeletion, IsDomainOf, IsHostOf, IsLastTransfer}
 
@@ -19,7 +19,7 @@ use Rattle.model.specs.WellFormed.{BelongsTo, HasBeen, HasRoid, IsContactOf, IsD
 -- registrars: the clock and each account's serial stand where they stood, or later.
 pub record Grows (p q : PolicyRules) (s t : Registry) : Type 0 where
   pub zone : p.zone ≡ q.zone
-  pub place : (r : ℕ) → IsPlace p r → IsPlace q r
+  pub place : (r : ℕ) → IsRegistrar p r → IsRegistrar q r
   pub clock : s.clock ≤ t.clock
   pub serial : (r : ℕ) → (account_of r s).serial ≤ (account_of r t).serial
 
@@ -37,7 +37,7 @@ module _ (p q : PolicyRules) (s t : Registry) (grows : Grows p q s t) where
     begun = h.begun;
     next = h.next;
     requester = grows.place _ h.requester;
-    loser = grows.place _ h.loser;
+    losing_registrar = grows.place _ h.losing_registrar;
     requested = omega (arith, h.requested, grows.clock);
     acted = λ ended. omega (arith, h.acted ended, grows.clock);
   }
@@ -64,7 +64,7 @@ module _ (p q : PolicyRules) (s t : Registry) (grows : Grows p q s t) where
     host-grown name h is = record {
       named = is.named;
       roid = roid-grown _ h.roid is.roid;
-      belongs = subst (λ (zone : ZoneRules). BelongsTo q t (superordinate_of zone name) h.by) grows.zone (belongs-grown (superordinate_of p.zone name) h.by is.belongs);
+      belongs = subst (λ (zone : ZoneRules). BelongsTo q t (superordinate_of zone name) h.external_sponsor) grows.zone (belongs-grown (superordinate_of p.zone name) h.external_sponsor is.belongs);
       created = omega (arith, is.created, grows.clock);
       updated = been-grown h.updated is.updated;
     }

@@ -16,7 +16,7 @@ use Rattle.objects.specs.declared.domain.Domain.{Domain}
 use Rattle.objects.specs.declared.host.Host.{Host}
 use Rattle.objects.specs.declared.roid.Roid.{Roid}
 use Rattle.objects.specs.Links.{has_name, names_contact, names_host}
-use Rattle.policy.specs.Rules.{PolicyRules, IsPlace}
+use Rattle.policy.specs.Rules.{PolicyRules, IsRegistrar}
 use Rattle.rules.specs.declared.change.Change.TheVariants.{PutContact, DropContact, PutDomain, PutHost, DropHost, RenameHost}
 use Rattle.rules.specs.Changes.{changed, with_account, with_host_renamed, links_with_host_renamed, renamed}
 use Rattle.rules.proofs.GrowthLemmas.{Grows, contact-grown, domain-grown, host-grown}
@@ -30,7 +30,7 @@ use Rattle.model.specs.WellFormed.{IsContactOf, IsDomainOf, IsHostOf, IsRegistry
 
 -- A policy and a registry grow, and the objects stay.
 pub kept-grown : (p q : PolicyRules) (s : Registry) (accounts : FinMap nat_cmp Account) (clock : ℕ) → Grows p q s (record s { accounts = accounts; clock = clock })
-    → ((r : ℕ) → IsSome (get accounts r) ↔ IsPlace q r) → IsRegistry p s → IsRegistry q (record s { accounts = accounts; clock = clock })
+    → ((r : ℕ) → IsSome (get accounts r) ↔ IsRegistrar q r) → IsRegistry p s → IsRegistry q (record s { accounts = accounts; clock = clock })
 kept-grown p q s accounts clock grows places is =
     let t : Registry = record s { accounts = accounts; clock = clock } in
     record {
@@ -67,11 +67,11 @@ placed accounts r a q = by (eq_by_cmp nat_cmp q r) refl (ap is_some (get-insert 
     by false same e = (λ there. inr (sym e ∙ there), ⊎_elim (λ is. absurd (let never : true ≡ false = sym ((eq_by_cmp_equiv nat_cmp_total).refl r) ∙ ap (λ (n : ℕ). eq_by_cmp nat_cmp n r) (sym is) ∙ same in cc)) (λ there. e ∙ there))
 
 -- an account of the policy changes, and its serial doesn't fall
-pub kept-account : (p : PolicyRules) (r : ℕ) (f : Account → Account) → ((a : Account) → a.serial ≤ (f a).serial) → (s : Registry) → IsPlace p r → IsRegistry p s → IsRegistry p (with_account r f s)
+pub kept-account : (p : PolicyRules) (r : ℕ) (f : Account → Account) → ((a : Account) → a.serial ≤ (f a).serial) → (s : Registry) → IsRegistrar p r → IsRegistry p s → IsRegistry p (with_account r f s)
 kept-account p r f rises s place is =
     let accounts : FinMap nat_cmp Account = insert s.accounts r (f (account_of r s)) in
     kept-grown p p s accounts s.clock (record { zone = refl; place = λ q place. place; clock = omega arith; serial = λ q. serial-risen f rises q r s })
-    (λ q. (λ there. ⊎_elim (λ same. subst (IsPlace p) (sym same) place) (is.accounts q).0 ((placed s.accounts r (f (account_of r s)) q).0 there), λ of. (placed s.accounts r (f (account_of r s)) q).1 (inr ((is.accounts q).1 of)))) is
+    (λ q. (λ there. ⊎_elim (λ same. subst (IsRegistrar p) (sym same) place) (is.accounts q).0 ((placed s.accounts r (f (account_of r s)) q).0 there), λ of. (placed s.accounts r (f (account_of r s)) q).1 (inr ((is.accounts q).1 of)))) is
 
 -- ---- ROIDs
 

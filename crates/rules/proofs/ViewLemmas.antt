@@ -7,7 +7,7 @@ use Rattle.std.specs.Cmp.Lexicographic.{slice_cmp, nat_list_cmp_total}
 use Rattle.std.specs.FinMap.{FinMap, get, insert, remove, entries, keys, values, get-insert, nat_cmp-IsAntisymmetric}
 use Rattle.std.specs.Ordering.{eq_by_cmp, nat_cmp}
 use Rattle.accounts.specs.declared.account.Account.{Account}
-use Rattle.accounts.specs.Account.{empty_account, counted, numbered}
+use Rattle.accounts.specs.Account.{empty_account, with_command, with_serial}
 use Rattle.basis.specs.Maps.{map_values}
 use Rattle.basis.proofs.MapLemmas.{names_apart, entries-map_values, get-map_values, map_values-insert, map_values-remove, map_values-twice, map-twice}
 use Rattle.objects.specs.declared.contact.Contact.{Contact}
@@ -148,8 +148,8 @@ seen_change r (PutDomain d) v = record v { domains = insert v.domains d.name (do
 seen_change r (PutHost h) v = record v { hosts = insert v.hosts h.name h }
 seen_change r (DropHost name) v = record v { hosts = remove v.hosts name }
 seen_change r (RenameHost old new) v = record v { domains = map_values (λ name. relinked_seen old new) v.domains }
-seen_change r (CountCommand other) v = record v { account = own r other counted v.account }
-seen_change r (TakeSerial other) v = record v { account = own r other numbered v.account }
+seen_change r (CountCommand other) v = record v { account = own r other with_command v.account }
+seen_change r (TakeSerial other) v = record v { account = own r other with_serial v.account }
 
 found-or : (b : Bool) (x d : Account) (o : Option Account) → unwrap_or (cond b (Some x) o) d ≡ cond b x (unwrap_or o d)
 found-or true x d o = refl
@@ -183,8 +183,8 @@ view-changed p r (PutHost h) s = refl
 view-changed p r (DropHost name) s = refl
 view-changed p r (RenameHost old new) s = ap (λ m. record (view p r s) { domains = m }) (relinked-view r old new s.domains)
 view-changed p r (PutDomain d) s = ap (λ m. record (view p r s) { domains = m }) (map_values-insert (slice_cmp nat_cmp) nat_list_cmp_total names_apart (λ name. domain_as r None) s.domains d.name d)
-view-changed p r (CountCommand other) s = ap (λ a. record (view p r s) { account = a }) (account_of-with_account r other counted s)
-view-changed p r (TakeSerial other) s = ap (λ a. record (view p r s) { account = a }) (account_of-with_account r other numbered s)
+view-changed p r (CountCommand other) s = ap (λ a. record (view p r s) { account = a }) (account_of-with_account r other with_command s)
+view-changed p r (TakeSerial other) s = ap (λ a. record (view p r s) { account = a }) (account_of-with_account r other with_serial s)
 
 -- two registries that look alike look alike after the same changes
 pub same_changed_all : (p : PolicyRules) (r : ℕ) (changes : List Change) (s t : Registry) → view p r s ≡ view p r t → view p r (changed_all changes s) ≡ view p r (changed_all changes t)

@@ -1,7 +1,7 @@
 -- Each step of the rules keeps a registry well formed.
 use Rattle.std.proofs.Common.{◌≡◌, ℕ, ◌<◌, Bool, cond, List, [], Option, Some, None, inl, inr, refl, sym, subst}
-use Rattle.accounts.specs.Account.{counted}
-use Rattle.policy.specs.Rules.{PolicyRules, IsPlace}
+use Rattle.accounts.specs.Account.{with_command}
+use Rattle.policy.specs.Rules.{PolicyRules, IsRegistrar}
 use Rattle.rules.specs.declared.change.Change.{Change}
 use Rattle.rules.specs.Changes.{changed_all, with_account}
 use Rattle.rules.specs.Decisions.{changes_after, changes_of}
@@ -23,9 +23,9 @@ use Rattle.verdict.specs.ResponseData.{response_data}
 use Rattle.verdict.specs.Verdicts.{granted, judged, unless_refused}
 use Rattle.model.specs.WellFormed.{IsRegistry}
 
-module _ (p : PolicyRules) (r : ℕ) (cl_trid : Option (List ℕ)) (s : Registry) (place : IsPlace p r) (is : IsRegistry p s) (small : (account_of r s).serial < 4_611_686_018_427_387_904) where
+module _ (p : PolicyRules) (r : ℕ) (cl_trid : Option (List ℕ)) (s : Registry) (place : IsRegistrar p r) (is : IsRegistry p s) (small : (account_of r s).serial < 4_611_686_018_427_387_904) where
   kept-accepted : (request : Request) → refusal_of p r s.clock request (facts p r (Asked cl_trid request) s) ≡ None
-      → IsRegistry p (changed_all (changes_of p.zone r s.clock request (facts p r (Asked cl_trid request) s)) (with_account r counted s))
+      → IsRegistry p (changed_all (changes_of p.zone r s.clock request (facts p r (Asked cl_trid request) s)) (with_account r with_command s))
   unfolding changes_of
   kept-accepted (CheckContact names) taken = kept-counted p r cl_trid s place is
   kept-accepted (CheckDomain names) taken = kept-counted p r cl_trid s place is
@@ -44,16 +44,16 @@ module _ (p : PolicyRules) (r : ℕ) (cl_trid : Option (List ℕ)) (s : Registry
 
   -- a refused command changes nothing but the caller's counter
   kept-judged : (request : Request) (refusal : Option Code) → refusal_of p r s.clock request (facts p r (Asked cl_trid request) s) ≡ refusal
-      → IsRegistry p (changed_all (cond (is_accepted (unless_refused refusal (granted p r s.clock request (facts p r (Asked cl_trid request) s))).code) (changes_of p.zone r s.clock request (facts p r (Asked cl_trid request) s)) []) (with_account r counted s))
+      → IsRegistry p (changed_all (cond (is_accepted (unless_refused refusal (granted p r s.clock request (facts p r (Asked cl_trid request) s))).code) (changes_of p.zone r s.clock request (facts p r (Asked cl_trid request) s)) []) (with_account r with_command s))
   kept-judged request None taken = kept-accepted request taken
   kept-judged request (Some code) refused =
       let changes : List Change = changes_of p.zone r s.clock request (facts p r (Asked cl_trid request) s) in
-      subst (λ (b : Bool). IsRegistry p (changed_all (cond b changes []) (with_account r counted s)))
+      subst (λ (b : Bool). IsRegistry p (changed_all (cond b changes []) (with_account r with_command s)))
       (sym (refusing p r s.clock request (facts p r (Asked cl_trid request) s) code refused)) (kept-counted p r cl_trid s place is)
 
 -- A registrar's command leaves a registry well formed, but that a serial at its greatest would be
 -- given twice.
-pub kept-effect : (p : PolicyRules) (r : ℕ) (c : Command) (s : Registry) → IsPlace p r → IsRegistry p s → (account_of r s).serial < 4_611_686_018_427_387_904 → IsRegistry p (effect p r c s)
+pub kept-effect : (p : PolicyRules) (r : ℕ) (c : Command) (s : Registry) → IsRegistrar p r → IsRegistry p s → (account_of r s).serial < 4_611_686_018_427_387_904 → IsRegistry p (effect p r c s)
 unfolding judged changes_after
 kept-effect p r (Bad cl_trid code) s place is small = kept-counted p r cl_trid s place is
 kept-effect p r (Asked cl_trid request) s place is small =

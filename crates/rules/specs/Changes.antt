@@ -5,7 +5,7 @@ use Rattle.std.specs.Ordering.{nat_cmp}
 use Rattle.std.specs.Cmp.Lexicographic.{slice_cmp}
 use Rattle.std.specs.Str.{bytes_eq}
 use Rattle.accounts.specs.declared.account.Account.{Account}
-use Rattle.accounts.specs.Account.{counted, numbered}
+use Rattle.accounts.specs.Account.{with_command, with_serial}
 use Rattle.basis.specs.Bag.{add, precedes}
 use Rattle.basis.specs.Maps.{map_values}
 use Rattle.objects.specs.declared.domain.Domain.{Domain}
@@ -43,8 +43,8 @@ changed (PutDomain d) s = record s { domains = insert s.domains d.name d }
 changed (PutHost h) s = record s { hosts = insert s.hosts h.name h }
 changed (DropHost name) s = record s { hosts = remove s.hosts name }
 changed (RenameHost old new) s = record s { domains = map_values (λ name. with_host_renamed old new) s.domains }
-changed (CountCommand r) s = with_account r counted s
-changed (TakeSerial r) s = with_account r numbered s
+changed (CountCommand r) s = with_account r with_command s
+changed (TakeSerial r) s = with_account r with_serial s
 
 -- changes, one after another
 abbrev pub changed_all : List Change → Registry → Registry

@@ -1,6 +1,6 @@
 -- What a command is answered and what it changes, by the facts that bear on it.
 use Rattle.std.specs.Prelude.{ℕ, List, [], ◌∷◌, map, Option, Some, None, if◌then◌else◌}
-use Rattle.accounts.specs.Account.{raised}
+use Rattle.accounts.specs.Account.{saturating_next}
 use Rattle.names.specs.declared.given.GivenName.{GivenName}
 use Rattle.names.specs.GivenName.{name_of}
 use Rattle.names.specs.Zone.{ZoneRules}
@@ -14,7 +14,7 @@ use Rattle.objects.specs.declared.roid.ObjectKind.{ObjectKind}
 use Rattle.objects.specs.declared.roid.ObjectKind.TheVariants as kinds
 use Rattle.objects.specs.declared.roid.Roid.{Roid}
 use Rattle.objects.specs.declared.sight.Seen.{Seen}
-use Rattle.objects.specs.declared.sight.Seen.TheVariants.{Full, Named, Public}
+use Rattle.objects.specs.declared.sight.Seen.TheVariants.{Full, TransferParty, Public}
 use Rattle.objects.specs.Links.{in_order}
 use Rattle.objects.specs.Statuses.{amended_statuses}
 use Rattle.policy.specs.Rules.{PolicyRules}
@@ -44,7 +44,7 @@ use Rattle.verdict.specs.Verdicts.{judged}
 -- ---- new objects: its own serial's ROID, and nothing set, transferred or deleted
 
 abbrev pub new_roid : ObjectKind → ℕ → Facts → Roid
-new_roid kind r f = record { kind = kind; creator = r; serial = raised f.account.serial }
+new_roid kind r f = record { kind = kind; creator = r; serial = saturating_next f.account.serial }
 
 abbrev pub new_contact : ℕ → ℕ → Facts → NewContact → Contact
 new_contact r t f new = record {
@@ -83,14 +83,14 @@ new_domain r t f new = record {
 
 -- a host in the zone has no registrar of its own; an external one has the registrar that gave it its
 -- name
-abbrev pub by_of : ZoneRules → ℕ → List ℕ → Option ℕ
-by_of zone r name = if is_inside zone name then None else Some r
+abbrev pub external_sponsor_of : ZoneRules → ℕ → List ℕ → Option ℕ
+external_sponsor_of zone r name = if is_inside zone name then None else Some r
 
 abbrev pub new_host : ZoneRules → ℕ → ℕ → Facts → NewHost → Host
 new_host zone r t f new = record {
   name = name_of new.name;
   roid = new_roid kinds.Host r f;
-  by = by_of zone r (name_of new.name);
+  external_sponsor = external_sponsor_of zone r (name_of new.name);
   created = t;
   updated = None;
   statuses = [];
@@ -130,14 +130,14 @@ updated_domain t u d = record d {
 }
 
 -- the same after an update, which may rename the host
-abbrev pub by_after : ZoneRules → ℕ → Option GivenName → Option ℕ → Option ℕ
-by_after zone r None by = by
-by_after zone r (Some name) by = by_of zone r (name_of name)
+abbrev pub external_sponsor_after : ZoneRules → ℕ → Option GivenName → Option ℕ → Option ℕ
+external_sponsor_after zone r None by = by
+external_sponsor_after zone r (Some name) by = external_sponsor_of zone r (name_of name)
 
 abbrev pub updated_host : ZoneRules → ℕ → ℕ → HostUpdate → Host → Host
 updated_host zone r t u h = record h {
   name = final_name u u.new_name;
-  by = by_after zone r u.new_name h.by;
+  external_sponsor = external_sponsor_after zone r u.new_name h.external_sponsor;
   updated = Some t;
   statuses = amended_statuses h.statuses u.rem.statuses u.add.statuses;
   addresses = amended itself h.addresses u.rem.addresses u.add.addresses;
@@ -148,13 +148,13 @@ updated_host zone r t u h = record h {
 abbrev pub contact_changes : ℕ → ContactUpdate → Option (Seen Contact ContactFace) → List Change
 contact_changes t u None = []
 contact_changes t u (Some (Full c)) = PutContact (updated_contact t u c) ∷ []
-contact_changes t u (Some (Named face transfer)) = []
+contact_changes t u (Some (TransferParty face transfer)) = []
 contact_changes t u (Some (Public face)) = []
 
 abbrev pub domain_changes : ℕ → DomainUpdate → Option (Seen Domain DomainFace) → List Change
 domain_changes t u None = []
 domain_changes t u (Some (Full d)) = PutDomain (updated_domain t u d) ∷ []
-domain_changes t u (Some (Named face transfer)) = []
+domain_changes t u (Some (TransferParty face transfer)) = []
 domain_changes t u (Some (Public face)) = []
 
 -- under a new name, a host is linked as before

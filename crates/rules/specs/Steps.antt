@@ -1,6 +1,6 @@
 -- One step of the registry: the rules, applied to what they may see.
 use Rattle.std.specs.Prelude.{ℕ}
-use Rattle.accounts.specs.Account.{raised}
+use Rattle.accounts.specs.Account.{saturating_next}
 use Rattle.policy.specs.Rules.{PolicyRules}
 use Rattle.rules.specs.declared.decision.Decision.{Decision}
 use Rattle.rules.specs.Changes.{changed_all}
@@ -23,7 +23,7 @@ reply_of p r c v commands = record {
   cl_trid = cl_trid_of c;
   code = v.code;
   content = v.content;
-  sv_trid = record { id = id_of p r; number = raised commands };
+  sv_trid = record { id = id_of p r; number = saturating_next commands };
 }
 
 -- what a registrar's command is answered

@@ -97,8 +97,8 @@ fn texts_of(alloc: Global, names: &[GivenName]) -> Result<Vec<Text>, AllocError>
 
 /// A host in the zone has no registrar of its own; an external one has the registrar that gave it its
 /// name.
-pub(crate) fn by_of(zone: &Zone, caller: RegistrarNo, name: &Text) -> Option<RegistrarNo>
-    ensures { result ≡ spec.by_of zone.now caller name.now }
+pub(crate) fn external_sponsor_of(zone: &Zone, caller: RegistrarNo, name: &Text) -> Option<RegistrarNo>
+    ensures { result ≡ spec.external_sponsor_of zone.now caller name.now }
 {
     if zone.has_superordinate(name) {
         None
@@ -120,7 +120,7 @@ pub(crate) fn new_host(
     Ok(Host {
         name: new.name.text().clone()?,
         roid: new_roid(ObjectKind::Host, facts, caller),
-        by: by_of(zone, caller, new.name.text()),
+        external_sponsor: external_sponsor_of(zone, caller, new.name.text()),
         created: moment,
         updated: None,
         statuses: Seq::new(alloc),

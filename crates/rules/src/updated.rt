@@ -4,7 +4,7 @@ ghost use Rattle.std.specs.Option.{option_copied};
 ghost use Rattle.facts.specs.Facts.{or_else};
 ghost use Rattle.rules.specs.Decisions as spec;
 
-use crate::created::by_of;
+use crate::created::external_sponsor_of;
 use basis::registrar::RegistrarNo;
 use basis::text::{Text, copied};
 use calendar::Moment;
@@ -130,17 +130,17 @@ fn updated_links(alloc: Global, update: &DomainUpdate, links: &Links) -> Result<
 }
 
 /// The registrar that gave an external host its name, after an update that may rename it.
-fn by_after(
+fn external_sponsor_after(
     zone: &Zone,
     caller: RegistrarNo,
     new_name: Option<&GivenName>,
-    by: Option<RegistrarNo>,
+    old: Option<RegistrarNo>,
 ) -> Option<RegistrarNo>
-    ensures { result ≡ spec.by_after zone.now caller (option_copied new_name.entry) by }
+    ensures { result ≡ spec.external_sponsor_after zone.now caller (option_copied new_name.entry) old }
 {
     match new_name {
-        None => by,
-        Some(name) => by_of(zone, caller, name.text()),
+        None => old,
+        Some(name) => external_sponsor_of(zone, caller, name.text()),
     }
 }
 
@@ -163,7 +163,7 @@ pub(crate) fn updated_host(
     Ok(Host {
         name: update.final_name().clone()?,
         roid: host.roid,
-        by: by_after(zone, caller, update.new_name.as_ref(), host.by),
+        external_sponsor: external_sponsor_after(zone, caller, update.new_name.as_ref(), host.external_sponsor),
         created: host.created,
         updated: Some(moment),
         statuses,

@@ -2,7 +2,7 @@
 use Rattle.std.specs.Prelude.{List, [], ◌∷◌, map, max, filter, fold, Option, Some, None}
 use Rattle.std.specs.declared.cmp.Ordering.{Ordering}
 use Rattle.std.specs.FinMap.{FinMap, entries, get, insert, remove}
-use Rattle.accounts.specs.Account.{counted, numbered}
+use Rattle.accounts.specs.Account.{with_command, with_serial}
 use Rattle.objects.specs.Links.{names_host}
 use Rattle.rules.specs.declared.change.Change.{Change}
 use Rattle.rules.specs.declared.change.Change.TheVariants.{MoveClock, OpenAccount, PutContact, DropContact, PutDomain, PutHost, DropHost, RenameHost, CountCommand, TakeSerial}
@@ -53,5 +53,5 @@ edits_of (PutDomain d) s = edit.Domain d.name (Some d) ∷ []
 edits_of (PutHost h) s = edit.Host h.name (Some h) ∷ []
 edits_of (DropHost name) s = edit.Host name None ∷ []
 edits_of (RenameHost old new) s = map (λ e. edit.Domain e.0 (Some (with_host_renamed old new e.1))) (filter (λ e. names_host old e.1.links) (entries s.domains))
-edits_of (CountCommand r) s = edit.Account r (Some (counted (account_of r s))) ∷ []
-edits_of (TakeSerial r) s = edit.Account r (Some (numbered (account_of r s))) ∷ []
+edits_of (CountCommand r) s = edit.Account r (Some (with_command (account_of r s))) ∷ []
+edits_of (TakeSerial r) s = edit.Account r (Some (with_serial (account_of r s))) ∷ []

@@ -14,7 +14,7 @@ ghost use Rattle.model.specs.Registry.{account_of};
 use crate::edit::{copy_contact, copy_domain, copy_host};
 use accounts::Account;
 use basis::list::Seq;
-use basis::maps::{NameMap, PlaceMap};
+use basis::maps::{NameMap, RegistrarMap};
 use basis::registrar::RegistrarNo;
 use basis::text::Text;
 use calendar::Moment;
@@ -32,7 +32,7 @@ pub(crate) struct Content {
     pub contacts: NameMap<Contact>,
     pub hosts: NameMap<Host>,
     pub domains: NameMap<Domain>,
-    pub accounts: PlaceMap<Account>,
+    pub accounts: RegistrarMap<Account>,
     pub clock: Moment,
     pub terms: Option<Terms>,
 }

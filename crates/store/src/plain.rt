@@ -10,7 +10,7 @@ use crate::due::Due;
 use crate::edit::{Edit, copy_terms};
 use crate::fault::BookFault;
 use basis::list::Seq;
-use basis::maps::{NameMap, PlaceMap};
+use basis::maps::{NameMap, RegistrarMap};
 use basis::registrar::RegistrarNo;
 use basis::text::Text;
 use calendar::Moment;
@@ -44,7 +44,7 @@ impl PlainBook {
                 contacts: NameMap::new(alloc),
                 hosts: NameMap::new(alloc),
                 domains: NameMap::new(alloc),
-                accounts: PlaceMap::new(alloc),
+                accounts: RegistrarMap::new(alloc),
                 clock: Moment::first(),
                 terms: None,
             },

@@ -14,12 +14,12 @@ use Rattle.objects.specs.declared.domain.Domain.{Domain}
 use Rattle.objects.specs.declared.domain.DomainFace.{DomainFace}
 use Rattle.objects.specs.declared.host.Host.{Host}
 use Rattle.objects.specs.declared.sight.Seen.{Seen}
-use Rattle.objects.specs.declared.sight.Seen.TheVariants.{Full, Named, Public}
+use Rattle.objects.specs.declared.sight.Seen.TheVariants.{Full, TransferParty, Public}
 use Rattle.objects.specs.declared.status.Status.{Status}
 use Rattle.objects.specs.Contacts.{contact_shows}
 use Rattle.objects.specs.Domains.{shows}
 use Rattle.objects.specs.Hosts.{host_shows}
-use Rattle.objects.specs.Sight.{is_right}
+use Rattle.objects.specs.Sight.{authorizes}
 use Rattle.objects.specs.Statuses.{has_status}
 use Rattle.objects.specs.StatusTexts.{status_text}
 use Rattle.policy.specs.Rules.{PolicyRules}
@@ -51,7 +51,7 @@ is_there q f = is_some (the_contact q f) || (is_some (the_domain q f) || is_some
 -- the object, where it is seen in full
 abbrev pub full : {O F : Type 0} → Seen O F → Option O
 full (Full o) = Some o
-full (Named face t) = None
+full (TransferParty face t) = None
 full (Public face) = None
 
 abbrev pub full_contact : Request → Facts → Option Contact
@@ -94,7 +94,7 @@ domain_secret d = d.secret
 -- the registrar sponsors what it sees
 abbrev pub is_own : {O F : Type 0} → (O → ℕ) → ℕ → Seen O F → Bool
 is_own sponsor r (Full o) = sponsor o == r
-is_own sponsor r (Named face t) = false
+is_own sponsor r (TransferParty face t) = false
 is_own sponsor r (Public face) = false
 
 -- another sponsors it
@@ -109,16 +109,16 @@ abbrev pub host_is_anothers : ZoneRules → ℕ → Option HostFacts → Bool
 host_is_anothers zone r known = holds_of (λ it. holds_of (λ h. not (is_registrar r (host_sponsor zone it h))) it.host) known
 
 -- what is seen opens with the secret: who presents the right one sees all
-abbrev pub is_opened : {O F : Type 0} → (O → List ℕ) → Option (List ℕ) → Seen O F → Bool
-is_opened secret_of secret (Full o) = is_right secret (secret_of o)
-is_opened secret_of secret (Named face t) = false
-is_opened secret_of secret (Public face) = false
+abbrev pub is_authorized : {O F : Type 0} → (O → List ℕ) → Option (List ℕ) → Seen O F → Bool
+is_authorized secret_of secret (Full o) = authorizes secret (secret_of o)
+is_authorized secret_of secret (TransferParty face t) = false
+is_authorized secret_of secret (Public face) = false
 
 -- a secret is presented by another than the sponsor, and isn't right
 abbrev pub presents_wrong : {O F : Type 0} → (O → ℕ) → (O → List ℕ) → ℕ → Option (List ℕ) → Option (Seen O F) → Bool
 presents_wrong sponsor secret_of r None seen = false
 presents_wrong sponsor secret_of r (Some secret) None = false
-presents_wrong sponsor secret_of r (Some secret) (Some seen) = not (is_own sponsor r seen) && not (is_opened secret_of (Some secret) seen)
+presents_wrong sponsor secret_of r (Some secret) (Some seen) = not (is_own sponsor r seen) && not (is_authorized secret_of (Some secret) seen)
 
 abbrev pub is_of_another : ZoneRules → ℕ → Request → Facts → Bool
 is_of_another zone r q f =
@@ -156,12 +156,12 @@ superordinate_is_deleted zone known = is_inside zone known.name && holds_of (λ 
 
 unfoldable pub contact_seen_shows : Seen Contact ContactFace → Status → Bool
 contact_seen_shows (Full c) status = contact_shows false c status
-contact_seen_shows (Named face t) status = has_status face.statuses status
+contact_seen_shows (TransferParty face t) status = has_status face.statuses status
 contact_seen_shows (Public face) status = has_status face.statuses status
 
 unfoldable pub domain_seen_shows : Seen Domain DomainFace → Status → Bool
 domain_seen_shows (Full d) status = shows d status
-domain_seen_shows (Named face t) status = has_status face.statuses status
+domain_seen_shows (TransferParty face t) status = has_status face.statuses status
 domain_seen_shows (Public face) status = has_status face.statuses status
 
 unfoldable pub host_seen_shows : Host → Status → Bool

@@ -9,12 +9,12 @@ use Rattle.objects.specs.declared.domain.Domain.{Domain}
 use Rattle.objects.specs.declared.domain.DomainFace.{DomainFace}
 use Rattle.objects.specs.declared.host.Host.{Host}
 use Rattle.objects.specs.declared.sight.Seen.{Seen}
-use Rattle.objects.specs.declared.sight.Seen.TheVariants.{Full, Named, Public}
+use Rattle.objects.specs.declared.sight.Seen.TheVariants.{Full, TransferParty, Public}
 use Rattle.objects.specs.declared.transfer.Transfer.{Transfer}
 use Rattle.objects.specs.Contacts.{contact_face_of}
 use Rattle.objects.specs.Domains.{face_of}
 use Rattle.objects.specs.Hosts.{host_face_of}
-use Rattle.objects.specs.Sight.{is_right}
+use Rattle.objects.specs.Sight.{authorizes}
 use Rattle.objects.specs.Statuses.{with_linked}
 use Rattle.policy.specs.Rules.{PolicyRules, id_at}
 use Rattle.protocol.specs.declared.command.NewDomain.{NewDomain}
@@ -82,7 +82,7 @@ created_domain t new = record {
 -- the secret; another the face
 
 abbrev pub transfer_info : PolicyRules → Transfer → TransferInfo
-transfer_info p t = record { transfer = t; requester = id_of p t.requester; losing_registrar = id_of p t.loser }
+transfer_info p t = record { transfer = t; requester = id_of p t.requester; losing_registrar = id_of p t.losing_registrar }
 
 abbrev pub with_shown_link : Bool → ContactFace → ContactFace
 with_shown_link linked face = record face { statuses = with_linked linked face.statuses }
@@ -105,9 +105,9 @@ contact_full_info p linked secret c = record (contact_face_info p linked (contac
 abbrev pub contact_info : PolicyRules → ℕ → Option (List ℕ) → Bool → Seen Contact ContactFace → ContactInfo
 contact_info p r secret linked (Full c) =
     if c.sponsor == r then contact_full_info p linked (Some c.secret) c
-    else if is_right secret c.secret then contact_full_info p linked None c
+    else if authorizes secret c.secret then contact_full_info p linked None c
     else contact_face_info p linked (contact_face_of c)
-contact_info p r secret linked (Named face t) = contact_face_info p linked face
+contact_info p r secret linked (TransferParty face t) = contact_face_info p linked face
 contact_info p r secret linked (Public face) = contact_face_info p linked face
 
 abbrev pub contact_info_at : PolicyRules → ℕ → Option (List ℕ) → ContactFacts → Option ContactInfo
@@ -127,9 +127,9 @@ domain_full_info p subordinate secret d = record (domain_face_info p subordinate
 abbrev pub domain_info : PolicyRules → ℕ → Option (List ℕ) → List (List ℕ) → Seen Domain DomainFace → DomainInfo
 domain_info p r secret subordinate (Full d) =
     if d.sponsor == r then domain_full_info p subordinate (Some d.secret) d
-    else if is_right secret d.secret then domain_full_info p subordinate None d
+    else if authorizes secret d.secret then domain_full_info p subordinate None d
     else domain_face_info p subordinate (face_of d)
-domain_info p r secret subordinate (Named face t) = domain_face_info p subordinate face
+domain_info p r secret subordinate (TransferParty face t) = domain_face_info p subordinate face
 domain_info p r secret subordinate (Public face) = domain_face_info p subordinate face
 
 abbrev pub domain_info_at : PolicyRules → ℕ → Option (List ℕ) → DomainFacts → Option DomainInfo

@@ -18,7 +18,7 @@ use objects::{Contact, ContactFace, Domain, DomainFace, Host, Seen, Status, has_
 pub(crate) trait Sponsored {
     ghost use Rattle.std.specs.Prelude.{◌≡◌, ◌==◌, List, ℕ};
     ghost use Rattle.std.specs.Option.{option_copied};
-    ghost use Rattle.objects.specs.Sight.{is_right};
+    ghost use Rattle.objects.specs.Sight.{authorizes};
 
     ghost sponsor: { Self → ℕ };
 
@@ -27,8 +27,8 @@ pub(crate) trait Sponsored {
     fn is_of(&self, registrar: RegistrarNo) -> bool
         ensures { result ≡ (sponsor self.now == registrar) };
 
-    fn opens(&self, presented: Option<&Text>) -> bool
-        ensures { result ≡ is_right (option_copied presented.entry) (secret self.now) };
+    fn authorizes(&self, presented: Option<&Text>) -> bool
+        ensures { result ≡ authorizes (option_copied presented.entry) (secret self.now) };
 }
 
 impl Sponsored for Contact {
@@ -42,8 +42,8 @@ impl Sponsored for Contact {
         self.is_sponsored_by(registrar)
     }
 
-    fn opens(&self, presented: Option<&Text>) -> bool {
-        self.is_opened_by(presented)
+    fn authorizes(&self, presented: Option<&Text>) -> bool {
+        self.is_authorized_by(presented)
     }
 }
 
@@ -58,8 +58,8 @@ impl Sponsored for Domain {
         self.is_sponsored_by(registrar)
     }
 
-    fn opens(&self, presented: Option<&Text>) -> bool {
-        self.is_opened_by(presented)
+    fn authorizes(&self, presented: Option<&Text>) -> bool {
+        self.is_authorized_by(presented)
     }
 }
 
@@ -95,7 +95,7 @@ pub(crate) fn presents_wrong<O: Sponsored, F>(
     };
     match seen {
         None => false,
-        Some(Seen::Full(object)) => !object.is_of(caller) && !object.opens(Some(presented)),
+        Some(Seen::Full(object)) => !object.is_of(caller) && !object.authorizes(Some(presented)),
         Some(_) => true,
     }
 }
@@ -190,7 +190,7 @@ impl Shows for Seen<Contact, ContactFace> {
     fn is_shown(&self, status: Status) -> bool {
         match self {
             Seen::Full(contact) => contact.shows(false, status),
-            Seen::Named(face, _) => has_status(face.statuses.as_slice(), status),
+            Seen::TransferParty(face, _) => has_status(face.statuses.as_slice(), status),
             Seen::Public(face) => has_status(face.statuses.as_slice(), status),
         }
     }
@@ -205,7 +205,7 @@ impl Shows for Seen<Domain, DomainFace> {
     fn is_shown(&self, status: Status) -> bool {
         match self {
             Seen::Full(domain) => domain.shows(status),
-            Seen::Named(face, _) => has_status(face.statuses.as_slice(), status),
+            Seen::TransferParty(face, _) => has_status(face.statuses.as_slice(), status),
             Seen::Public(face) => has_status(face.statuses.as_slice(), status),
         }
     }

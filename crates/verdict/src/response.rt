@@ -193,11 +193,11 @@ fn contact_info(
             let own = contact.secret.clone()?;
             contact_full_info(alloc, policy, linked, Some(own), contact)
         }
-        Seen::Full(contact) if contact.is_opened_by(secret) => {
+        Seen::Full(contact) if contact.is_authorized_by(secret) => {
             contact_full_info(alloc, policy, linked, None, contact)
         }
         Seen::Full(contact) => contact_face_info(alloc, policy, linked, contact.face(alloc)?),
-        Seen::Named(face, _) => contact_face_info(alloc, policy, linked, face.clone()?),
+        Seen::TransferParty(face, _) => contact_face_info(alloc, policy, linked, face.clone()?),
         Seen::Public(face) => contact_face_info(alloc, policy, linked, face.clone()?),
     }
 }
@@ -306,11 +306,11 @@ fn domain_info(
             let own = domain.secret.clone()?;
             domain_full_info(alloc, policy, subordinate, Some(own), domain)
         }
-        Seen::Full(domain) if domain.is_opened_by(secret) => {
+        Seen::Full(domain) if domain.is_authorized_by(secret) => {
             domain_full_info(alloc, policy, subordinate, None, domain)
         }
         Seen::Full(domain) => domain_face_info(alloc, policy, subordinate, domain.face(alloc)?),
-        Seen::Named(face, _) => domain_face_info(alloc, policy, subordinate, face.clone()?),
+        Seen::TransferParty(face, _) => domain_face_info(alloc, policy, subordinate, face.clone()?),
         Seen::Public(face) => domain_face_info(alloc, policy, subordinate, face.clone()?),
     }
 }
@@ -379,7 +379,7 @@ fn transfer_info(
         Some(transfer) => Ok(Some(TransferInfo {
             transfer,
             requester: id_of(alloc, policy, transfer.requester)?,
-            losing_registrar: id_of(alloc, policy, transfer.loser)?,
+            losing_registrar: id_of(alloc, policy, transfer.losing_registrar)?,
         })),
     }
 }

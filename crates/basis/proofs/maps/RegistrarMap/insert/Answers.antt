@@ -5,7 +5,7 @@ use Rattle.std.specs.FinMap as map
 use Rattle.std.specs.FinMap.{nat_cmp-IsAntisymmetric}
 use Rattle.std.specs.Ordering.{nat_cmp}
 use Rattle.basis.proofs.MapLemmas.{get_placed, entries_insert}
-use Rattle.basis.proofs.maps.PlaceMap.insert.Goals as goal
+use Rattle.basis.proofs.maps.RegistrarMap.insert.Goals as goal
 
 -- the place was absent
 pub returns-in_err-insert-clause-only_new : goal.returns-in_err-insert-clause-only_new

@@ -1,7 +1,7 @@
 use Rattle.std.proofs.Common.{sym, ap, ◌∙◌}
 use Rattle.std.specs.FinMap as map
 use Rattle.basis.proofs.MapLemmas.{get_placed}
-use Rattle.basis.proofs.maps.PlaceMap.get.Goals as goal
+use Rattle.basis.proofs.maps.RegistrarMap.get.Goals as goal
 
 pub returns : goal.returns
 returns g c =

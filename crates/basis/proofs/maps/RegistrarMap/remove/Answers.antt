@@ -4,7 +4,7 @@ use Rattle.std.specs.FinMap as map
 use Rattle.std.specs.FinMap.{nat_cmp-IsAntisymmetric}
 use Rattle.std.specs.Ordering.{nat_cmp}
 use Rattle.basis.proofs.MapLemmas.{entries_remove}
-use Rattle.basis.proofs.maps.PlaceMap.remove.Goals as goal
+use Rattle.basis.proofs.maps.RegistrarMap.remove.Goals as goal
 
 pub returns : goal.returns
 returns g c =
