@@ -10,11 +10,12 @@ use Rattle.eppforms.specs.declared.member.Member.TheVariants as members
 use Rattle.eppforms.specs.declared.member.Section.{Section}
 use Rattle.eppforms.specs.declared.member.Section.TheVariants.{Top, Postal, Add, Rem, Chg, ChgPostal}
 use Rattle.eppforms.specs.declared.kind.Kind.{Kind}
+use Rattle.eppforms.specs.declared.table.Choice.{Choice}
 use Rattle.eppforms.specs.declared.table.CommandKind.{CommandKind}
 use Rattle.eppforms.specs.declared.table.Field.{Field}
 use Rattle.eppforms.specs.Kind.{some_and, of_items, has_type, in_range, has_shape}
 use Rattle.eppforms.specs.Member.{text_of, is_section, word_at, part_at, value_of}
-use Rattle.eppforms.specs.Table.{CommandForm, verb_text, object_text, is_update}
+use Rattle.eppforms.specs.Table.{CommandForm, command_forms, verb_text, object_text, is_update}
 
 -- one step after another, up to the first fault
 infixl 10 ◌>>=◌
@@ -28,11 +29,11 @@ refuse_unless holds code = if holds then Ok tt else Err code
 -- ---- the form
 
 -- `cmd` is in a form
-abbrev pub is_known : List CommandForm → List ℕ → Bool
+abbrev pub is_known : {M : Type 0} → List (Choice × M) → List ℕ → Bool
 is_known forms cmd = list_any (λ form. bytes_eq (verb_text form.0.cmd) cmd) forms
 
 -- its forms have an `obj`
-abbrev pub takes_object : List CommandForm → List ℕ → Bool
+abbrev pub takes_object : {M : Type 0} → List (Choice × M) → List ℕ → Bool
 takes_object forms cmd = list_any (λ form. bytes_eq (verb_text form.0.cmd) cmd && is_some form.0.object) forms
 
 -- `obj` says the kind of object, where there has to be one
@@ -40,11 +41,11 @@ abbrev pub is_on : Option ObjectKind → Option (List ℕ) → Bool
 is_on None obj = true
 is_on (Some object) obj = some_and (bytes_eq (object_text object)) obj
 
-abbrev pub chosen : List CommandForm → List ℕ → Option (List ℕ) → Option CommandForm
+abbrev pub chosen : {M : Type 0} → List (Choice × M) → List ℕ → Option (List ℕ) → Option (Choice × M)
 chosen forms cmd obj = find (λ form. bytes_eq (verb_text form.0.cmd) cmd && is_on form.0.object obj) forms
 
--- the form that `cmd` and `obj` choose
-unfoldable pub form_in : List CommandForm → Data → Result CommandForm Code
+-- the form that `cmd` and `obj` choose, whatever its members are
+unfoldable pub form_in : {M : Type 0} → List (Choice × M) → Data → Result (Choice × M) Code
 form_in forms d = do
   cmd ← ok_or (word_at members.Cmd d) SyntaxError
   _ ← refuse_unless (is_known forms cmd) UnknownCommand
@@ -97,7 +98,7 @@ changes d = list_any (λ section. some_and says_something (part_at section d)) (
 
 -- nothing that the form asks for is missing
 abbrev pub is_complete : CommandForm → Data → Bool
-is_complete form d = has_all form.1.now d && (not (is_update form.0.cmd) || changes d)
+is_complete form d = has_all form.1 d && (not (is_update form.0.cmd) || changes d)
 
 -- each field that is there passes the test of its kind
 abbrev pub each : (Kind → Data → Bool) → List Field → Data → Bool
@@ -107,14 +108,18 @@ each test fields d = list_all (λ f. none_or (test f.kind) (value_of f d)) field
 
 unfoldable pub members_checked : CommandForm → Data → Result ⊤ Code
 members_checked form d = do
-  _ ← refuse_unless (has_only form.1.now d) SyntaxError
+  _ ← refuse_unless (has_only form.1 d) SyntaxError
   _ ← refuse_unless (is_complete form d) ParameterMissing
-  _ ← refuse_unless (each in_range form.1.now d) ParameterRange
-  refuse_unless (each has_shape form.1.now d) ParameterSyntax
+  _ ← refuse_unless (each in_range form.1 d) ParameterRange
+  refuse_unless (each has_shape form.1 d) ParameterSyntax
 
--- the command that a value chooses, or the first fault of its form
-unfoldable pub checked_command : List CommandForm → Data → Result CommandKind Code
-checked_command forms d = do
+-- the command that a value is by a table, or the first fault of its form
+unfoldable pub checked_by : List CommandForm → Data → Result CommandKind Code
+checked_by forms d = do
   form ← form_in forms d
   _ ← members_checked form d
   Ok form.0.command
+
+-- the same by the table of the commands
+abbrev pub checked_command : Data → Result CommandKind Code
+checked_command d = checked_by command_forms d

@@ -1,10 +1,10 @@
 -- What `cmd` and `obj` say (RFC 5730, 2.9). Which members a command has is the table itself, `FORMS`.
-use Rattle.std.specs.Prelude.{ℕ, Bool, true, false, List, [], ◌∷◌, Option, codes, find, bytes_eq}
-use Rattle.std.specs.Borrow.{Bor}
+use Rattle.std.specs.Prelude.{ℕ, Bool, true, false, List, [], ◌∷◌, Option, map, codes, find, bytes_eq}
 use Rattle.objects.specs.declared.roid.ObjectKind.{ObjectKind}
 use Rattle.objects.specs.declared.roid.ObjectKind.TheVariants.{Contact, Domain, Host}
 use Rattle.eppforms.specs.declared.table.Choice.{Choice}
 use Rattle.eppforms.specs.declared.table.Field.{Field}
+use Rattle.eppforms.specs.declared.table.TheConstants.{FORMS}
 use Rattle.eppforms.specs.declared.table.Verb.{Verb}
 use Rattle.eppforms.specs.declared.table.Verb.TheVariants.{Check, Info, Create, Delete, Update}
 
@@ -30,4 +30,8 @@ object_named text = find (λ x. bytes_eq (object_text x) text) (Contact ∷ Doma
 
 -- the form of a command: what chooses it, and its members
 abbrev pub CommandForm : Type 0
-CommandForm = Choice × Bor (List Field)
+CommandForm = Choice × List Field
+
+-- those of the table
+abbrev pub command_forms : List CommandForm
+command_forms = map (λ form. (form.0, form.1.now)) FORMS.now

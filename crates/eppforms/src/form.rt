@@ -1,23 +1,31 @@
 //! A JSON value against a table of forms: which form it chooses, and the first fault of its members
 //! (RFC 5730, 3).
-ghost use Rattle.std.specs.Prelude.{◌≡◌, not, string_bytes, option_map};
+ghost use Rattle.std.specs.Prelude.{◌≡◌, not, string_bytes, map, option_map};
 ghost use Rattle.std.specs.List.{list_all, list_any};
+ghost use Rattle.std.specs.Result.{result_map_both};
 ghost use Rattle.serde_json.specs.View.{view};
 ghost use Rattle.eppforms.specs.Kind.{in_range, has_shape};
 ghost use Rattle.eppforms.specs.Form as spec;
 ghost use Rattle.eppforms.specs.Member.{is_section};
 
 use crate::member::{CHANGES, Member, SECTIONS, Section};
-use crate::table::{CommandForm, CommandKind, Field, object_text};
+use crate::table::{CommandForm, CommandKind, FORMS, Field, object_text};
 use crate::value::{found, part, word};
 use objects::ObjectKind;
 use serde_json::{Map, Value};
 use verdict::Code;
 
-/// The command that a value chooses, where its members are what the form asks; else the first fault.
-#[tactic(auto, unfolding(crate::specs::Form::checked_command))]
-pub fn checked_command(forms: &[CommandForm], value: &Value) -> Result<CommandKind, Code>
-    ensures { result ≡ spec.checked_command forms.now (view value.now) }
+/// The command that a value is, where its members are what its form asks; else the first fault.
+pub fn checked_command(value: &Value) -> Result<CommandKind, Code>
+    ensures { result ≡ spec.checked_command (view value.now) }
+{
+    checked_by(FORMS, value)
+}
+
+/// The same by any table: no proof below reads the rows of one.
+#[tactic(auto, unfolding(crate::specs::Form::checked_by))]
+pub fn checked_by(forms: &[CommandForm], value: &Value) -> Result<CommandKind, Code>
+    ensures { result ≡ spec.checked_by (map (λ form. (form.0, form.1.now)) forms.now) (view value.now) }
 {
     let form = form_in(forms, value)?;
     check(form, value)?;
@@ -25,8 +33,14 @@ pub fn checked_command(forms: &[CommandForm], value: &Value) -> Result<CommandKi
 }
 
 /// The form that `cmd` and `obj` choose.
-#[tactic(auto, unfolding(crate::specs::Form::form_in))]
 fn form_in(forms: &[CommandForm], value: &Value) -> Result<CommandForm, Code>
+    ensures { result_map_both (λ form. (form.0, form.1.now)) (λ code. code) result ≡ spec.form_in (map (λ form. (form.0, form.1.now)) forms.now) (view value.now) }
+{
+    form_found(forms, value)
+}
+
+#[tactic(auto, unfolding(crate::specs::Form::form_in))]
+fn form_found(forms: &[CommandForm], value: &Value) -> Result<CommandForm, Code>
     ensures { result ≡ spec.form_in forms.now (view value.now) }
 {
     let cmd = word(value, Member::Cmd).ok_or(Code::SyntaxError)?;
@@ -75,7 +89,7 @@ fn is_on(object: Option<ObjectKind>, obj: Option<&str>) -> bool
 /// Checks the members of a command against its form.
 #[tactic(auto, unfolding(crate::specs::Form::members_checked))]
 fn check(form: CommandForm, value: &Value) -> Result<(), Code>
-    ensures { result ≡ spec.members_checked form.entry (view value.now) }
+    ensures { result ≡ spec.members_checked (form.entry.0, form.entry.1.now) (view value.now) }
 {
     let fields = form.1;
     if !has_only(fields, value) {
@@ -136,7 +150,7 @@ fn is_same(a: Section, b: Section) -> bool
 
 /// Nothing that the form asks for is missing.
 fn is_complete(form: CommandForm, value: &Value) -> bool
-    ensures { result ≡ spec.is_complete form.entry (view value.now) }
+    ensures { result ≡ spec.is_complete (form.entry.0, form.entry.1.now) (view value.now) }
 {
     has_all(form.1, value) && (!form.0.cmd.is_update() || changes(value))
 }
