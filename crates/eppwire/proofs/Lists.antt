@@ -1,8 +1,0 @@
--- A list that is read item by item.
-use Rattle.std.proofs.Common.{List, ◌++◌, Result, Ok, Err}
-use Rattle.verdict.specs.declared.code.Code.{Code}
-
--- what was read before stands before the rest
-abbrev pub after : {A : Type 0} → List A → Result (List A) Code → Result (List A) Code
-after xs (Ok ys) = Ok (xs ++ ys)
-after xs (Err code) = Err code
