@@ -4,7 +4,8 @@ ghost use Rattle.eppcommands.specs.Reading.{Gives};
 ghost use Rattle.eppcommands.specs.Contact as spec;
 
 use crate::reading::{Fault, maybe_text_at, statuses_at, text_at, texts_at};
-use eppforms::{Member, Section, part};
+use eppforms::Section::{self, Add, Chg, ChgPostal, Rem, Top};
+use eppforms::{Member, part};
 use objects::{ObjectKind, Postal};
 use serde_json::Value;
 use std::alloc::Global;
@@ -14,7 +15,7 @@ use verdict::{ContactUpdate, NewContact, Request};
 pub fn check_contact(alloc: Global, value: &Value) -> Result<Request, Fault>
     ensures { Gives result (spec.check_contact (view value.now)) }
 {
-    let names = texts_at(alloc, Section::Top, Member::Names, value)?;
+    let names = texts_at(alloc, Top, Member::Names, value)?;
     Ok(Request::CheckContact { names })
 }
 
@@ -22,8 +23,8 @@ pub fn check_contact(alloc: Global, value: &Value) -> Result<Request, Fault>
 pub fn info_contact(alloc: Global, value: &Value) -> Result<Request, Fault>
     ensures { Gives result (spec.info_contact (view value.now)) }
 {
-    let name = text_at(alloc, Section::Top, Member::Name, value)?;
-    let secret = maybe_text_at(alloc, Section::Top, Member::Secret, value)?;
+    let name = text_at(alloc, Top, Member::Name, value)?;
+    let secret = maybe_text_at(alloc, Top, Member::Secret, value)?;
     Ok(Request::InfoContact { name, secret })
 }
 
@@ -31,11 +32,11 @@ pub fn info_contact(alloc: Global, value: &Value) -> Result<Request, Fault>
 pub fn create_contact(alloc: Global, value: &Value) -> Result<Request, Fault>
     ensures { Gives result (spec.create_contact (view value.now)) }
 {
-    let name = text_at(alloc, Section::Top, Member::Name, value)?;
+    let name = text_at(alloc, Top, Member::Name, value)?;
     let postal = postal_at(alloc, Section::Postal, value)?;
-    let voice = maybe_text_at(alloc, Section::Top, Member::Voice, value)?;
-    let mail = text_at(alloc, Section::Top, Member::Mail, value)?;
-    let secret = text_at(alloc, Section::Top, Member::Secret, value)?;
+    let voice = maybe_text_at(alloc, Top, Member::Voice, value)?;
+    let mail = text_at(alloc, Top, Member::Mail, value)?;
+    let secret = text_at(alloc, Top, Member::Secret, value)?;
     Ok(Request::CreateContact(NewContact {
         name,
         postal,
@@ -49,7 +50,7 @@ pub fn create_contact(alloc: Global, value: &Value) -> Result<Request, Fault>
 pub fn delete_contact(alloc: Global, value: &Value) -> Result<Request, Fault>
     ensures { Gives result (spec.delete_contact (view value.now)) }
 {
-    let name = text_at(alloc, Section::Top, Member::Name, value)?;
+    let name = text_at(alloc, Top, Member::Name, value)?;
     Ok(Request::DeleteContact { name })
 }
 
@@ -57,14 +58,14 @@ pub fn delete_contact(alloc: Global, value: &Value) -> Result<Request, Fault>
 pub fn update_contact(alloc: Global, value: &Value) -> Result<Request, Fault>
     ensures { Gives result (spec.update_contact (view value.now)) }
 {
-    let name = text_at(alloc, Section::Top, Member::Name, value)?;
+    let name = text_at(alloc, Top, Member::Name, value)?;
     let kind = ObjectKind::Contact;
-    let add = statuses_at(alloc, kind, Section::Add, Member::Statuses, value)?;
-    let rem = statuses_at(alloc, kind, Section::Rem, Member::Statuses, value)?;
-    let postal = maybe_postal_at(alloc, Section::ChgPostal, value)?;
-    let voice = maybe_text_at(alloc, Section::Chg, Member::Voice, value)?;
-    let mail = maybe_text_at(alloc, Section::Chg, Member::Mail, value)?;
-    let secret = maybe_text_at(alloc, Section::Chg, Member::Secret, value)?;
+    let add = statuses_at(alloc, kind, Add, Member::Statuses, value)?;
+    let rem = statuses_at(alloc, kind, Rem, Member::Statuses, value)?;
+    let postal = maybe_postal_at(alloc, ChgPostal, value)?;
+    let voice = maybe_text_at(alloc, Chg, Member::Voice, value)?;
+    let mail = maybe_text_at(alloc, Chg, Member::Mail, value)?;
+    let secret = maybe_text_at(alloc, Chg, Member::Secret, value)?;
     Ok(Request::UpdateContact(ContactUpdate {
         name,
         add,

@@ -6,7 +6,8 @@ ghost use Rattle.eppcommands.specs.Domain as spec;
 use crate::reading::{
     Fault, NameOf, maybe_text_at, name_at, names_at, statuses_at, text_at, texts_at, whole_at,
 };
-use eppforms::{Member, Section};
+use eppforms::Member;
+use eppforms::Section::{self, Add, Chg, Rem, Top};
 use names::Zone;
 use objects::ObjectKind;
 use serde_json::Value;
@@ -17,14 +18,7 @@ use verdict::{DomainLists, DomainUpdate, NewDomain, Request};
 pub fn check_domain(alloc: Global, value: &Value, zone: &Zone) -> Result<Request, Fault>
     ensures { Gives result (spec.check_domain zone.now (view value.now)) }
 {
-    let names = names_at(
-        alloc,
-        NameOf::Domain,
-        Section::Top,
-        Member::Names,
-        value,
-        zone,
-    )?;
+    let names = names_at(alloc, NameOf::Domain, Top, Member::Names, value, zone)?;
     Ok(Request::CheckDomain { names })
 }
 
@@ -32,8 +26,8 @@ pub fn check_domain(alloc: Global, value: &Value, zone: &Zone) -> Result<Request
 pub fn info_domain(alloc: Global, value: &Value, zone: &Zone) -> Result<Request, Fault>
     ensures { Gives result (spec.info_domain zone.now (view value.now)) }
 {
-    let name = name_at(alloc, NameOf::Domain, Section::Top, Member::Name, value, zone)?;
-    let secret = maybe_text_at(alloc, Section::Top, Member::Secret, value)?;
+    let name = name_at(alloc, NameOf::Domain, Top, Member::Name, value, zone)?;
+    let secret = maybe_text_at(alloc, Top, Member::Secret, value)?;
     Ok(Request::InfoDomain { name, secret })
 }
 
@@ -41,13 +35,13 @@ pub fn info_domain(alloc: Global, value: &Value, zone: &Zone) -> Result<Request,
 pub fn create_domain(alloc: Global, value: &Value, zone: &Zone) -> Result<Request, Fault>
     ensures { Gives result (spec.create_domain zone.now (view value.now)) }
 {
-    let name = name_at(alloc, NameOf::Domain, Section::Top, Member::Name, value, zone)?;
-    let years = whole_at(Section::Top, Member::Years, 1, value)?;
-    let registrant = text_at(alloc, Section::Top, Member::Registrant, value)?;
-    let admin = texts_at(alloc, Section::Top, Member::Admin, value)?;
-    let tech = texts_at(alloc, Section::Top, Member::Tech, value)?;
-    let hosts = names_at(alloc, NameOf::Host, Section::Top, Member::Hosts, value, zone)?;
-    let secret = text_at(alloc, Section::Top, Member::Secret, value)?;
+    let name = name_at(alloc, NameOf::Domain, Top, Member::Name, value, zone)?;
+    let years = whole_at(Top, Member::Years, 1, value)?;
+    let registrant = text_at(alloc, Top, Member::Registrant, value)?;
+    let admin = texts_at(alloc, Top, Member::Admin, value)?;
+    let tech = texts_at(alloc, Top, Member::Tech, value)?;
+    let hosts = names_at(alloc, NameOf::Host, Top, Member::Hosts, value, zone)?;
+    let secret = text_at(alloc, Top, Member::Secret, value)?;
     Ok(Request::CreateDomain(NewDomain {
         name,
         years,
@@ -63,11 +57,11 @@ pub fn create_domain(alloc: Global, value: &Value, zone: &Zone) -> Result<Reques
 pub fn update_domain(alloc: Global, value: &Value, zone: &Zone) -> Result<Request, Fault>
     ensures { Gives result (spec.update_domain zone.now (view value.now)) }
 {
-    let name = name_at(alloc, NameOf::Domain, Section::Top, Member::Name, value, zone)?;
-    let add = lists_of_domain(alloc, Section::Add, value, zone)?;
-    let rem = lists_of_domain(alloc, Section::Rem, value, zone)?;
-    let registrant = maybe_text_at(alloc, Section::Chg, Member::Registrant, value)?;
-    let secret = maybe_text_at(alloc, Section::Chg, Member::Secret, value)?;
+    let name = name_at(alloc, NameOf::Domain, Top, Member::Name, value, zone)?;
+    let add = lists_of_domain(alloc, Add, value, zone)?;
+    let rem = lists_of_domain(alloc, Rem, value, zone)?;
+    let registrant = maybe_text_at(alloc, Chg, Member::Registrant, value)?;
+    let secret = maybe_text_at(alloc, Chg, Member::Secret, value)?;
     Ok(Request::UpdateDomain(DomainUpdate {
         name,
         add,

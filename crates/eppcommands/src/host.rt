@@ -4,7 +4,8 @@ ghost use Rattle.eppcommands.specs.Reading.{Gives};
 ghost use Rattle.eppcommands.specs.Host as spec;
 
 use crate::reading::{Fault, NameOf, addresses_at, maybe_name_at, name_at, names_at, statuses_at};
-use eppforms::{Member, Section};
+use eppforms::Member;
+use eppforms::Section::{self, Add, Chg, Rem, Top};
 use names::Zone;
 use objects::ObjectKind;
 use serde_json::Value;
@@ -15,7 +16,7 @@ use verdict::{HostLists, HostUpdate, NewHost, Request};
 pub fn check_host(alloc: Global, value: &Value, zone: &Zone) -> Result<Request, Fault>
     ensures { Gives result (spec.check_host zone.now (view value.now)) }
 {
-    let names = names_at(alloc, NameOf::Host, Section::Top, Member::Names, value, zone)?;
+    let names = names_at(alloc, NameOf::Host, Top, Member::Names, value, zone)?;
     Ok(Request::CheckHost { names })
 }
 
@@ -23,7 +24,7 @@ pub fn check_host(alloc: Global, value: &Value, zone: &Zone) -> Result<Request, 
 pub fn info_host(alloc: Global, value: &Value, zone: &Zone) -> Result<Request, Fault>
     ensures { Gives result (spec.info_host zone.now (view value.now)) }
 {
-    let name = name_at(alloc, NameOf::Host, Section::Top, Member::Name, value, zone)?;
+    let name = name_at(alloc, NameOf::Host, Top, Member::Name, value, zone)?;
     Ok(Request::InfoHost { name })
 }
 
@@ -31,8 +32,8 @@ pub fn info_host(alloc: Global, value: &Value, zone: &Zone) -> Result<Request, F
 pub fn create_host(alloc: Global, value: &Value, zone: &Zone) -> Result<Request, Fault>
     ensures { Gives result (spec.create_host zone.now (view value.now)) }
 {
-    let name = name_at(alloc, NameOf::Host, Section::Top, Member::Name, value, zone)?;
-    let addresses = addresses_at(alloc, Section::Top, Member::Addrs, value)?;
+    let name = name_at(alloc, NameOf::Host, Top, Member::Name, value, zone)?;
+    let addresses = addresses_at(alloc, Top, Member::Addrs, value)?;
     Ok(Request::CreateHost(NewHost { name, addresses }))
 }
 
@@ -40,7 +41,7 @@ pub fn create_host(alloc: Global, value: &Value, zone: &Zone) -> Result<Request,
 pub fn delete_host(alloc: Global, value: &Value, zone: &Zone) -> Result<Request, Fault>
     ensures { Gives result (spec.delete_host zone.now (view value.now)) }
 {
-    let name = name_at(alloc, NameOf::Host, Section::Top, Member::Name, value, zone)?;
+    let name = name_at(alloc, NameOf::Host, Top, Member::Name, value, zone)?;
     Ok(Request::DeleteHost { name })
 }
 
@@ -48,10 +49,10 @@ pub fn delete_host(alloc: Global, value: &Value, zone: &Zone) -> Result<Request,
 pub fn update_host(alloc: Global, value: &Value, zone: &Zone) -> Result<Request, Fault>
     ensures { Gives result (spec.update_host zone.now (view value.now)) }
 {
-    let name = name_at(alloc, NameOf::Host, Section::Top, Member::Name, value, zone)?;
-    let add = lists_of_host(alloc, Section::Add, value)?;
-    let rem = lists_of_host(alloc, Section::Rem, value)?;
-    let new_name = maybe_name_at(alloc, NameOf::Host, Section::Chg, Member::Name, value, zone)?;
+    let name = name_at(alloc, NameOf::Host, Top, Member::Name, value, zone)?;
+    let add = lists_of_host(alloc, Add, value)?;
+    let rem = lists_of_host(alloc, Rem, value)?;
+    let new_name = maybe_name_at(alloc, NameOf::Host, Chg, Member::Name, value, zone)?;
     Ok(Request::UpdateHost(HostUpdate {
         name,
         add,

@@ -8,7 +8,8 @@ ghost use Rattle.eppcommands.specs.Order as spec;
 
 use crate::reading::{Fault, items_in, text_at};
 use basis::list::Seq;
-use eppforms::{Member, STATUS_ORDER, Section, has_all, has_only, member_of, object_named, word};
+use eppforms::Section::Top;
+use eppforms::{Member, STATUS_ORDER, has_all, has_only, member_of, object_named, word};
 use objects::{ObjectKind, Status};
 use serde_json::Value;
 use std::alloc::{AllocError, Global};
@@ -40,7 +41,7 @@ fn status_order(alloc: Global, value: &Value) -> Result<Order, Fault>
     ensures { Gives result (spec.status_order (view value.now)) }
 {
     let kind = kind_ordered(value)?;
-    let name = text_at(alloc, Section::Top, Member::Name, value)?;
+    let name = text_at(alloc, Top, Member::Name, value)?;
     let add = list_at(Member::Add, value)?;
     let rem = list_at(Member::Rem, value)?;
     Ok(Order::Status(StatusOrder {

@@ -170,7 +170,12 @@ pub fn maybe_text_at(
 }
 
 /// The texts of a list, none where there is no list.
-pub fn texts_at(alloc: Global, section: Section, at: Member, value: &Value) -> Result<Seq<Text>, Fault>
+pub fn texts_at(
+    alloc: Global,
+    section: Section,
+    at: Member,
+    value: &Value,
+) -> Result<Seq<Text>, Fault>
     ensures { spec.Gives result (spec.texts_at section at (view value.now)) }
 {
     let Some(found) = value_at(value, section, at) else {

@@ -104,7 +104,10 @@ const COMMANDS: [(&str, Code); 20] = [
 fn commands(rt: HostRuntime) -> Result<(), Fail> {
     let zone = zone(rt.alloc())?;
     for (payload, wanted) in COMMANDS {
-        assert!(rt; answer(rt.alloc(), &zone, payload.as_bytes())? == wanted, "{payload}");
+        assert!(rt;
+            answer(rt.alloc(), &zone, payload.as_bytes())? == wanted,
+            "{payload}"
+        );
     }
     Ok(())
 }

@@ -33,7 +33,10 @@ fn is_order(alloc: Global, payload: &[u8]) -> Result<bool, AllocError> {
 #[test]
 fn orders(rt: HostRuntime) -> Result<(), Fail> {
     for (payload, wanted) in ORDERS {
-        assert!(rt; is_order(rt.alloc(), payload.as_bytes())? == wanted, "{payload}");
+        assert!(rt;
+            is_order(rt.alloc(), payload.as_bytes())? == wanted,
+            "{payload}"
+        );
     }
     Ok(())
 }

@@ -1,11 +1,11 @@
+//! What no command gives yet: a transfer, a deletion and a restore that is requested.
 use super::reply_bytes;
 use basis::list::Seq;
 use basis::registrar::RegistrarNo;
 use basis::text::Text;
 use calendar::Moment;
 use objects::{
-    ContactFace, Deletion, DomainFace, Links, ObjectKind, Postal, Roid, Status, Transfer,
-    TransferState,
+    ContactFace, Deletion, DomainFace, Links, ObjectKind, Postal, Roid, Transfer, TransferState,
 };
 use std::alloc::{AllocError, Global};
 use std::test::Fail;
@@ -14,18 +14,33 @@ use verdict::{
     TransferInfo,
 };
 
-fn text(alloc: Global, text: &str) -> Result<Text, AllocError> {
-    Text::from_str(alloc, text)
+/// A text of no bytes, for what these tests don't look at.
+fn nothing(alloc: Global) -> Text {
+    Text::from_string(String::new(alloc))
 }
 
 fn moment(text: &str) -> Result<Moment, Fail> {
     Ok(Moment::read(text).ok_or("no moment")?)
 }
 
-fn statuses(alloc: Global) -> Result<Seq<Status>, AllocError> {
-    let mut statuses = Seq::new(alloc);
-    statuses.push(Status::Inactive)?;
-    Ok(statuses)
+/// When the objects below changed.
+#[derive(Clone, Copy)]
+struct History {
+    created: Moment,
+    requested: Moment,
+    acted: Moment,
+    deleted: Moment,
+    restore_requested: Moment,
+}
+
+fn changes() -> Result<History, Fail> {
+    Ok(History {
+        created: moment("2028-01-01T00:00:00Z")?,
+        requested: moment("2028-02-29T12:00:00Z")?,
+        acted: moment("2028-03-01T00:00:00Z")?,
+        deleted: moment("2028-03-03T00:00:00Z")?,
+        restore_requested: moment("2028-03-04T00:00:00Z")?,
+    })
 }
 
 fn roid(kind: ObjectKind) -> Roid {
@@ -36,144 +51,137 @@ fn roid(kind: ObjectKind) -> Roid {
     }
 }
 
-/// A transfer from beta to alfa that beta approved.
-fn transfer(alloc: Global) -> Result<TransferInfo, Fail> {
-    let transfer = Transfer {
-        requester: RegistrarNo::of_place(1),
-        loser: RegistrarNo::of_place(2),
-        requested: moment("2028-02-29T12:00:00Z")?,
-        acted: moment("2028-03-01T00:00:00Z")?,
-        state: TransferState::ClientApproved,
-    };
-    Ok(TransferInfo {
-        transfer,
-        requester: text(alloc, "alfa")?,
-        loser: text(alloc, "beta")?,
-    })
+/// A transfer from one to another that the first approved.
+fn transfer(at: History, loser: Text, requester: Text) -> TransferInfo {
+    TransferInfo {
+        transfer: Transfer {
+            requester: RegistrarNo::of_place(1),
+            loser: RegistrarNo::of_place(2),
+            requested: at.requested,
+            acted: at.acted,
+            state: TransferState::ClientApproved,
+        },
+        requester,
+        loser,
+    }
 }
 
-fn links(alloc: Global) -> Result<Links, AllocError> {
-    Ok(Links {
-        registrant: text(alloc, "c-alfa")?,
-        admin: Seq::new(alloc),
-        tech: Seq::new(alloc),
-        hosts: Seq::new(alloc),
-    })
-}
-
-fn domain_face(alloc: Global, at: Moment) -> Result<DomainFace, AllocError> {
-    Ok(DomainFace {
-        name: text(alloc, "foo.test")?,
+fn domain_face(alloc: Global, at: History) -> DomainFace {
+    DomainFace {
+        name: nothing(alloc),
         roid: roid(ObjectKind::Domain),
         sponsor: RegistrarNo::of_place(1),
-        created: at,
-        expires: at,
-        transferred: Some(at),
-        updated: Some(at),
-        statuses: statuses(alloc)?,
+        created: at.created,
+        expires: at.created,
+        transferred: Some(at.acted),
+        updated: None,
+        statuses: Seq::new(alloc),
         rgp: Seq::new(alloc),
-        links: links(alloc)?,
-    })
+        links: Links {
+            registrant: nothing(alloc),
+            admin: Seq::new(alloc),
+            tech: Seq::new(alloc),
+            hosts: Seq::new(alloc),
+        },
+    }
 }
 
-fn deletion() -> Result<Deletion, Fail> {
-    Ok(Deletion {
-        deleted: moment("2028-03-03T00:00:00Z")?,
-        restore_requested: Some(moment("2028-03-04T00:00:00Z")?),
-    })
-}
-
-/// A domain that was transferred, and deleted, and whose restore is requested.
-fn domain(alloc: Global) -> Result<Data, Fail> {
+fn domain(alloc: Global, at: History, transfer: TransferInfo) -> DomainInfo {
+    let deletion = Deletion {
+        deleted: at.deleted,
+        restore_requested: Some(at.restore_requested),
+    };
     let hidden = DomainHidden {
         secret: None,
-        transfer: Some(transfer(alloc)?),
-        deletion: Some(deletion()?),
+        transfer: Some(transfer),
+        deletion: Some(deletion),
     };
-    Ok(Data::Domain(DomainInfo {
-        face: domain_face(alloc, moment("2028-02-29T00:00:00Z")?)?,
-        sponsor: text(alloc, "alfa")?,
+    DomainInfo {
+        face: domain_face(alloc, at),
+        sponsor: nothing(alloc),
         subordinate: Seq::new(alloc),
         hidden: Some(hidden),
-    }))
+    }
 }
 
-fn street(alloc: Global) -> Result<Seq<Text>, AllocError> {
-    let mut street = Seq::new(alloc);
-    street.push(text(alloc, "Way 2")?)?;
-    Ok(street)
-}
-
-fn postal(alloc: Global) -> Result<Postal, AllocError> {
-    let country = text(alloc, "FR")?;
-    Ok(Postal {
-        name: text(alloc, "Bo")?,
+fn postal(alloc: Global) -> Postal {
+    Postal {
+        name: nothing(alloc),
         org: None,
-        street: street(alloc)?,
-        city: text(alloc, "City")?,
+        street: Seq::new(alloc),
+        city: nothing(alloc),
         sp: None,
         pc: None,
-        cc: country,
-    })
+        cc: nothing(alloc),
+    }
 }
 
-fn contact_face(alloc: Global, at: Moment) -> Result<ContactFace, AllocError> {
-    Ok(ContactFace {
-        name: text(alloc, "c-beta")?,
+fn contact_face(alloc: Global, at: History) -> ContactFace {
+    ContactFace {
+        name: nothing(alloc),
         roid: roid(ObjectKind::Contact),
         sponsor: RegistrarNo::of_place(1),
-        created: at,
-        transferred: Some(at),
+        created: at.created,
+        transferred: Some(at.acted),
         updated: None,
-        statuses: statuses(alloc)?,
+        statuses: Seq::new(alloc),
+    }
+}
+
+fn contact(alloc: Global, at: History, transfer: TransferInfo) -> Data {
+    Data::Contact(ContactInfo {
+        face: contact_face(alloc, at),
+        sponsor: nothing(alloc),
+        hidden: Some(ContactHidden {
+            secret: None,
+            postal: postal(alloc),
+            voice: None,
+            mail: nothing(alloc),
+            transfer: Some(transfer),
+        }),
     })
 }
 
-/// A contact that was transferred.
-fn contact(alloc: Global) -> Result<Data, Fail> {
-    let hidden = ContactHidden {
-        secret: None,
-        postal: postal(alloc)?,
-        voice: None,
-        mail: text(alloc, "bo@beta.example")?,
-        transfer: Some(transfer(alloc)?),
-    };
-    Ok(Data::Contact(ContactInfo {
-        face: contact_face(alloc, moment("2028-02-29T00:00:00Z")?)?,
-        sponsor: text(alloc, "alfa")?,
-        hidden: Some(hidden),
-    }))
-}
-
-/// The reply that has the data, to alfa's third command.
-fn told(alloc: Global, content: Data) -> Result<Vec<u8>, AllocError> {
-    let cl_trid = Some(text(alloc, "abc-1")?);
-    let id = text(alloc, "alfa")?;
+/// Whether a reply with the data is this text.
+fn is_told(alloc: Global, content: Data, wanted: &str) -> Result<bool, AllocError> {
     let reply = Reply {
-        tag: cl_trid,
+        tag: None,
         code: Code::Completed,
         content: Some(content),
-        server_tag: ServerTag { id, number: 3 },
+        server_tag: ServerTag {
+            id: nothing(alloc),
+            number: 3,
+        },
     };
     let bytes = reply_bytes(alloc, &reply);
     drop(reply);
-    bytes
+    Ok(bytes?.as_slice() == wanted.as_bytes())
 }
+
+const DOMAIN: &str =
+    r#"{"code":1000,"data":{"admin":[],"clID":"","crDate":"2028-01-01T00:00:00Z","delDate":"2028-03-03T00:00:00Z","exDate":"2028-01-01T00:00:00Z","hosts":[],"name":"","registrant":"","resDate":"2028-03-04T00:00:00Z","rgp":[],"roid":"D2_12-REG","status":[],"subordinate":[],"tech":[],"trDate":"2028-03-01T00:00:00Z","transfer":{"acDate":"2028-03-01T00:00:00Z","acID":"beta","reDate":"2028-02-29T12:00:00Z","reID":"alfa","status":"clientApproved"}},"msg":"Command completed successfully","svTRID":"-3"}"#;
+
+const CONTACT: &str =
+    r#"{"code":1000,"data":{"clID":"","crDate":"2028-01-01T00:00:00Z","mail":"","name":"","postal":{"cc":"","city":"","name":"","street":[]},"roid":"C2_12-REG","status":[],"trDate":"2028-03-01T00:00:00Z","transfer":{"acDate":"2028-03-01T00:00:00Z","acID":"beta","reDate":"2028-02-29T12:00:00Z","reID":"alfa","status":"clientApproved"}},"msg":"Command completed successfully","svTRID":"-3"}"#;
 
 #[test]
 fn domain_in_full(rt: HostRuntime) -> Result<(), Fail> {
-    let bytes = told(rt.alloc(), domain(rt.alloc())?)?;
-    let wanted =
-        br#"{"clTRID":"abc-1","code":1000,"data":{"admin":[],"clID":"alfa","crDate":"2028-02-29T00:00:00Z","delDate":"2028-03-03T00:00:00Z","exDate":"2028-02-29T00:00:00Z","hosts":[],"name":"foo.test","registrant":"c-alfa","resDate":"2028-03-04T00:00:00Z","rgp":[],"roid":"D2_12-REG","status":["inactive"],"subordinate":[],"tech":[],"trDate":"2028-02-29T00:00:00Z","transfer":{"acDate":"2028-03-01T00:00:00Z","acID":"beta","reDate":"2028-02-29T12:00:00Z","reID":"alfa","status":"clientApproved"},"upDate":"2028-02-29T00:00:00Z"},"msg":"Command completed successfully","svTRID":"alfa-3"}"#;
-    assert!(rt; bytes.as_slice() == wanted.as_slice());
+    let alloc = rt.alloc();
+    let at = changes()?;
+    let loser = Text::from_str(alloc, "beta")?;
+    let requester = Text::from_str(alloc, "alfa")?;
+    let info = domain(alloc, at, transfer(at, loser, requester));
+    assert!(rt; is_told(alloc, Data::Domain(info), DOMAIN)?);
     Ok(())
 }
 
 #[test]
 fn contact_in_full(rt: HostRuntime) -> Result<(), Fail> {
-    let bytes = told(rt.alloc(), contact(rt.alloc())?)?;
-    let wanted =
-        br#"{"clTRID":"abc-1","code":1000,"data":{"clID":"alfa","crDate":"2028-02-29T00:00:00Z","mail":"bo@beta.example","name":"c-beta","postal":{"cc":"FR","city":"City","name":"Bo","street":["Way 2"]},"roid":"C2_12-REG","status":["inactive"],"trDate":"2028-02-29T00:00:00Z","transfer":{"acDate":"2028-03-01T00:00:00Z","acID":"beta","reDate":"2028-02-29T12:00:00Z","reID":"alfa","status":"clientApproved"}},"msg":"Command completed successfully","svTRID":"alfa-3"}"#;
-    assert!(rt; bytes.as_slice() == wanted.as_slice());
+    let alloc = rt.alloc();
+    let at = changes()?;
+    let loser = Text::from_str(alloc, "beta")?;
+    let requester = Text::from_str(alloc, "alfa")?;
+    let content = contact(alloc, at, transfer(at, loser, requester));
+    assert!(rt; is_told(alloc, content, CONTACT)?);
     Ok(())
 }
