@@ -61,12 +61,16 @@ address_in d = do
   or_shape (address_of text)
 
 -- a status that a sponsor may set on an object of that kind
+unfoldable pub client_status : ObjectKind → Status → Result Status Code
+client_status kind status = do
+  _ ← refuse_unless (has_status (client_statuses kind) status) ParameterSyntax
+  Ok status
+
 unfoldable pub status_in : ObjectKind → Data → Result Status Code
 status_in kind d = do
   text ← ok_or (as_str d) SyntaxError
   status ← ok_or (status_named text) ParameterSyntax
-  _ ← refuse_unless (has_status (client_statuses kind) status) ParameterSyntax
-  Ok status
+  client_status kind status
 
 -- each of a list
 abbrev pub all_in : {A : Type 0} → (Data → Result A Code) → List Data → Result (List A) Code

@@ -236,6 +236,13 @@ fn status_in(kind: ObjectKind, value: &Value) -> Result<Status, Code>
 {
     let text = value.as_str().ok_or(Code::SyntaxError)?;
     let status = Status::named(text).ok_or(Code::ParameterSyntax)?;
+    client_status(kind, status)
+}
+
+#[tactic(auto, unfolding(crate::specs::Reading::client_status))]
+fn client_status(kind: ObjectKind, status: Status) -> Result<Status, Code>
+    ensures { result ≡ spec.client_status kind status }
+{
     if !status.is_client_of(kind) {
         return Err(Code::ParameterSyntax);
     }

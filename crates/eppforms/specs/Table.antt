@@ -1,5 +1,6 @@
 -- What `cmd` and `obj` say (RFC 5730, 2.9). Which members a command has is the table itself, `FORMS`.
 use Rattle.std.specs.Prelude.{ℕ, Bool, true, false, List, [], ◌∷◌, Option, map, codes, find, bytes_eq}
+use Rattle.std.specs.Borrow.{Bor}
 use Rattle.objects.specs.declared.roid.ObjectKind.{ObjectKind}
 use Rattle.objects.specs.declared.roid.ObjectKind.TheVariants.{Contact, Domain, Host}
 use Rattle.eppforms.specs.declared.table.Choice.{Choice}
@@ -31,6 +32,10 @@ object_named text = find (λ x. bytes_eq (object_text x) text) (Contact ∷ Doma
 -- the form of a command: what chooses it, and its members
 abbrev pub CommandForm : Type 0
 CommandForm = Choice × List Field
+
+-- as the code holds one
+abbrev pub plain : Choice × Bor (List Field) → CommandForm
+plain form = (form.0, form.1.now)
 
 -- those of the table
 abbrev pub command_forms : List CommandForm

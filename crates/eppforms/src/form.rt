@@ -7,6 +7,7 @@ ghost use Rattle.serde_json.specs.View.{view};
 ghost use Rattle.eppforms.specs.Kind.{in_range, has_shape};
 ghost use Rattle.eppforms.specs.Form as spec;
 ghost use Rattle.eppforms.specs.Member.{is_section};
+ghost use Rattle.eppforms.specs.Table.{plain};
 
 use crate::member::{CHANGES, Member, SECTIONS, Section};
 use crate::table::{CommandForm, CommandKind, FORMS, Field, object_text};
@@ -25,7 +26,7 @@ pub fn checked_command(value: &Value) -> Result<CommandKind, Code>
 /// The same by any table: no proof below reads the rows of one.
 #[tactic(auto, unfolding(crate::specs::Form::checked_by))]
 pub fn checked_by(forms: &[CommandForm], value: &Value) -> Result<CommandKind, Code>
-    ensures { result ≡ spec.checked_by (map (λ form. (form.0, form.1.now)) forms.now) (view value.now) }
+    ensures { result ≡ spec.checked_by (map plain forms.now) (view value.now) }
 {
     let form = form_in(forms, value)?;
     check(form, value)?;
@@ -34,7 +35,7 @@ pub fn checked_by(forms: &[CommandForm], value: &Value) -> Result<CommandKind, C
 
 /// The form that `cmd` and `obj` choose.
 fn form_in(forms: &[CommandForm], value: &Value) -> Result<CommandForm, Code>
-    ensures { result_map_both (λ form. (form.0, form.1.now)) (λ code. code) result ≡ spec.form_in (map (λ form. (form.0, form.1.now)) forms.now) (view value.now) }
+    ensures { result_map_both plain (λ code. code) result ≡ spec.form_in (map plain forms.now) (view value.now) }
 {
     form_found(forms, value)
 }
@@ -89,7 +90,7 @@ fn is_on(object: Option<ObjectKind>, obj: Option<&str>) -> bool
 /// Checks the members of a command against its form.
 #[tactic(auto, unfolding(crate::specs::Form::members_checked))]
 fn check(form: CommandForm, value: &Value) -> Result<(), Code>
-    ensures { result ≡ spec.members_checked (form.entry.0, form.entry.1.now) (view value.now) }
+    ensures { result ≡ spec.members_checked (plain form.entry) (view value.now) }
 {
     let fields = form.1;
     if !has_only(fields, value) {
@@ -150,7 +151,7 @@ fn is_same(a: Section, b: Section) -> bool
 
 /// Nothing that the form asks for is missing.
 fn is_complete(form: CommandForm, value: &Value) -> bool
-    ensures { result ≡ spec.is_complete (form.entry.0, form.entry.1.now) (view value.now) }
+    ensures { result ≡ spec.is_complete (plain form.entry) (view value.now) }
 {
     has_all(form.1, value) && (!form.0.cmd.is_update() || changes(value))
 }
