@@ -16,7 +16,7 @@ use std::alloc::{AllocError, Global};
 use verdict::Code;
 
 /// Why a payload gives no request.
-#[derive(Clone, Copy, Debug, PartialEq, Eq)]
+#[derive(Clone, Copy)]
 pub enum Fault {
     /// Its form is refused.
     Refused(Code),
@@ -52,7 +52,7 @@ impl From<NameFault> for Fault {
 }
 
 /// What a name is of.
-#[derive(Clone, Copy, Debug, PartialEq, Eq)]
+#[derive(Clone, Copy)]
 pub enum NameOf {
     Domain,
     Host,

@@ -7,7 +7,7 @@ ghost use Rattle.eppforms.specs.Kind as spec;
 use serde_json::Value;
 
 /// The least and the greatest number allowed.
-#[derive(Clone, Copy, Debug, PartialEq, Eq)]
+#[derive(Clone, Copy)]
 pub struct Limits {
     pub least: u64,
     pub most: u64,
@@ -22,7 +22,7 @@ impl Limits {
 }
 
 /// What a text may be.
-#[derive(Clone, Copy, Debug, PartialEq, Eq)]
+#[derive(Clone, Copy)]
 pub enum Shape {
     /// Any text. A name, an address and a status have a rule of their own, which is asked where they
     /// are read.
@@ -117,7 +117,7 @@ fn are_digits(text: &[u8]) -> bool
 }
 
 /// What a member has to be.
-#[derive(Clone, Copy, Debug, PartialEq, Eq)]
+#[derive(Clone, Copy)]
 pub enum Kind {
     Text {
         len: Limits,

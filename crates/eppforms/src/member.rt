@@ -3,7 +3,7 @@ ghost use Rattle.std.specs.Prelude.{◌≡◌};
 ghost use Rattle.eppforms.specs.Member as spec;
 
 /// A member of a command or an order.
-#[derive(Clone, Copy, Debug, PartialEq, Eq)]
+#[derive(Clone, Copy)]
 pub enum Member {
     Cmd,
     Obj,
@@ -70,7 +70,7 @@ impl Member {
 }
 
 /// Where a member stands: in the command, or in a part of it.
-#[derive(Clone, Copy, Debug, PartialEq, Eq)]
+#[derive(Clone, Copy, PartialEq, Eq)]
 pub enum Section {
     Top,
     Postal,

@@ -9,7 +9,7 @@ use crate::member::{Member, Section};
 use objects::ObjectKind;
 
 /// What `cmd` may say.
-#[derive(Clone, Copy, Debug, PartialEq, Eq)]
+#[derive(Clone, Copy)]
 pub enum Verb {
     Check,
     Info,
@@ -65,7 +65,7 @@ pub fn object_named(text: &str) -> Option<ObjectKind>
 }
 
 /// The commands.
-#[derive(Clone, Copy, Debug, PartialEq, Eq)]
+#[derive(Clone, Copy)]
 pub enum CommandKind {
     CheckContact,
     CheckDomain,
@@ -84,7 +84,7 @@ pub enum CommandKind {
 }
 
 /// What chooses a form: `cmd`, and `obj` where the command is on an object.
-#[derive(Clone, Copy, Debug, PartialEq, Eq)]
+#[derive(Clone, Copy)]
 pub struct Choice {
     pub cmd: Verb,
     pub object: Option<ObjectKind>,
@@ -92,7 +92,7 @@ pub struct Choice {
 }
 
 /// A member of a form.
-#[derive(Clone, Copy, Debug, PartialEq, Eq)]
+#[derive(Clone, Copy)]
 pub struct Field {
     pub section: Section,
     pub member: Member,
