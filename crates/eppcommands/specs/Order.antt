@@ -1,0 +1,74 @@
+-- The operator's orders (RFC 5731, 2.3: the statuses that begin with server are the server's alone).
+use Rattle.std.specs.Prelude.{ℕ, ◌&&◌, ◌||◌, Bool, List, [], ◌∷◌, Option, Some, None, option_and_then, is_none, if◌then◌else◌, Result, Ok, Err, ok_or, codes}
+use Rattle.std.specs.List.{list_any}
+use Rattle.std.specs.Str.{bytes_eq, is_utf8}
+use Rattle.serde_json.specs.Data.{Data}
+use Rattle.serde_json.specs.Find.{as_str}
+use Rattle.serde_json.specs.Read.{read}
+use Rattle.objects.specs.declared.roid.ObjectKind.{ObjectKind}
+use Rattle.objects.specs.declared.status.Status as the_status
+use Rattle.objects.specs.StatusTexts.{status_named}
+use Rattle.protocol.specs.declared.code.Code.{Code}
+use Rattle.protocol.specs.declared.code.Code.TheVariants.{SyntaxError, UnknownCommand}
+use Rattle.protocol.specs.declared.order.Order as the_order
+use Rattle.protocol.specs.declared.order.Order.TheVariants.{Status}
+use Rattle.eppforms.specs.declared.member.Member.{Member}
+use Rattle.eppforms.specs.declared.member.Member.TheVariants as members
+use Rattle.eppforms.specs.declared.member.Section.TheVariants.{Top}
+use Rattle.eppforms.specs.declared.table.TheConstants.{STATUS_ORDER}
+use Rattle.eppforms.specs.Form.{◌>>=◌, refuse_unless, has_only, has_all}
+use Rattle.eppforms.specs.Member.{member_at, word_at}
+use Rattle.eppforms.specs.Table.{object_named}
+use Rattle.eppcommands.specs.Reading.{required, items_in, text_at}
+
+-- the status that a text names
+abbrev pub status_told : Data → Option the_status.Status
+status_told d = option_and_then status_named (as_str d)
+
+abbrev with_status : Option the_status.Status → List the_status.Status → List the_status.Status
+with_status None statuses = statuses
+with_status (Some status) statuses = status ∷ statuses
+
+-- the statuses that texts name, in the order of the texts
+abbrev pub statuses_told : List Data → List the_status.Status
+statuses_told [] = []
+statuses_told (d ∷ ds) = with_status (status_told d) (statuses_told ds)
+
+-- a text names no status
+abbrev pub any_unknown_status : List Data → Bool
+any_unknown_status ds = list_any (λ d. is_none (status_told d)) ds
+
+abbrev pub list_at : Member → Data → Result (List Data) Code
+list_at m d = required items_in (member_at m d)
+
+-- each member is there, and none but these
+abbrev pub has_form : Data → Bool
+has_form d = has_only STATUS_ORDER.now d && has_all STATUS_ORDER.now d
+
+-- the kind of object of an order to set and take away statuses
+unfoldable pub kind_ordered : Data → Result ObjectKind Code
+kind_ordered d = do
+  _ ← refuse_unless (has_form d) SyntaxError
+  order ← ok_or (word_at members.Order d) SyntaxError
+  _ ← refuse_unless (bytes_eq order (codes "status")) UnknownCommand
+  obj ← ok_or (word_at members.Obj d) SyntaxError
+  ok_or (object_named obj) UnknownCommand
+
+unfoldable pub status_order : Data → Result the_order.Order Code
+status_order d = do
+  kind ← kind_ordered d
+  name ← text_at Top members.Name d
+  add ← list_at members.Add d
+  rem ← list_at members.Rem d
+  Ok (Status (record { kind = kind; name = name; add = statuses_told add; rem = statuses_told rem; has_unknown_status = any_unknown_status add || any_unknown_status rem }))
+
+-- what is of another form is no order, whatever is wrong with it
+abbrev pub if_ok : {A : Type 0} → Result A Code → Option A
+if_ok (Ok x) = Some x
+if_ok (Err code) = None
+
+abbrev pub order_of_data : Data → Option the_order.Order
+order_of_data d = if_ok (status_order d)
+
+abbrev pub order_in : List ℕ → Option the_order.Order
+order_in payload = option_and_then order_of_data (if is_utf8 payload then read payload else None)

@@ -1,0 +1,139 @@
+-- What a member of a well formed command says. A name, an address and a status are read here, which is the last step of the form.
+use Rattle.std.specs.Prelude.{◌≡◌, ℕ, ◌^◌, nat_lt, List, [], ◌∷◌, Option, Some, None, option_and_then, option_map, Result, Ok, Err, ok_or}
+use Rattle.serde_json.specs.Data.{Data}
+use Rattle.serde_json.specs.Find.{as_str, as_array, as_number, as_u64}
+use Rattle.names.specs.declared.fault.NameFault as name_fault
+use Rattle.names.specs.declared.fault.NameFault.TheVariants as name_faults
+use Rattle.names.specs.declared.given.GivenName.{GivenName}
+use Rattle.names.specs.Zone.{ZoneRules}
+use Rattle.names.specs.Names.{given_domain, given_host}
+use Rattle.names.specs.Addresses.{address_of}
+use Rattle.objects.specs.declared.roid.ObjectKind.{ObjectKind}
+use Rattle.objects.specs.declared.status.Status.{Status}
+use Rattle.objects.specs.StatusTexts.{status_named}
+use Rattle.objects.specs.Statuses.{client_statuses, has_status}
+use Rattle.protocol.specs.declared.code.Code.{Code}
+use Rattle.protocol.specs.declared.code.Code.TheVariants.{SyntaxError, ParameterMissing, ParameterRange, ParameterSyntax}
+use Rattle.eppforms.specs.declared.member.Member.{Member}
+use Rattle.eppforms.specs.declared.member.Section.{Section}
+use Rattle.eppcommands.specs.declared.reading.Fault.{Fault}
+use Rattle.eppcommands.specs.declared.reading.Fault.TheVariants.{Refused, Memory}
+use Rattle.eppcommands.specs.declared.reading.NameOf.{NameOf}
+use Rattle.eppcommands.specs.declared.reading.NameOf.TheVariants.{Domain, Host}
+use Rattle.eppforms.specs.Kind.{items_list}
+use Rattle.eppforms.specs.Form.{◌>>=◌, refuse_unless}
+use Rattle.eppforms.specs.Member.{value_at}
+
+-- what a function returned is what reading gives, unless memory ran out
+abbrev pub Gives : {A : Type 0} → Result A Fault → Result A Code → Type 0
+Gives (Ok x) read = read ≡ Ok x
+Gives (Err (Refused code)) read = read ≡ Err code
+Gives (Err Memory) read = Unit {0}
+
+abbrev pub fault_of : name_fault.NameFault → Fault
+fault_of name_faults.Memory = Memory
+fault_of name_faults.Syntax = Refused ParameterSyntax
+fault_of name_faults.Policy = Refused ParameterSyntax
+
+-- ---- one value
+
+-- what was read, or that the text has another shape
+abbrev pub or_shape : {A : Type 0} → Result A name_fault.NameFault → Result A Code
+or_shape (Ok x) = Ok x
+or_shape (Err fault) = Err ParameterSyntax
+
+abbrev pub given : NameOf → ZoneRules → List ℕ → Result GivenName name_fault.NameFault
+given Domain zone text = given_domain zone text
+given Host zone text = given_host zone text
+
+unfoldable pub name_in : NameOf → ZoneRules → Data → Result GivenName Code
+name_in kind zone d = do
+  text ← ok_or (as_str d) SyntaxError
+  or_shape (given kind zone text)
+
+abbrev pub text_in : Data → Result (List ℕ) Code
+text_in d = ok_or (as_str d) SyntaxError
+
+-- an address, in its canonical text (RFC 5732, 2.5)
+unfoldable pub address_in : Data → Result (List ℕ) Code
+address_in d = do
+  text ← ok_or (as_str d) SyntaxError
+  or_shape (address_of text)
+
+-- a status that a sponsor may set on an object of that kind
+unfoldable pub client_status : ObjectKind → Status → Result Status Code
+client_status kind status = do
+  _ ← refuse_unless (has_status (client_statuses kind) status) ParameterSyntax
+  Ok status
+
+unfoldable pub status_in : ObjectKind → Data → Result Status Code
+status_in kind d = do
+  text ← ok_or (as_str d) SyntaxError
+  status ← ok_or (status_named text) ParameterSyntax
+  client_status kind status
+
+-- each of a list
+abbrev pub all_in : {A : Type 0} → (Data → Result A Code) → List Data → Result (List A) Code
+all_in read [] = Ok []
+all_in read (d ∷ ds) = do
+  x ← read d
+  xs ← all_in read ds
+  Ok (x ∷ xs)
+
+abbrev pub items_in : Data → Result (List Data) Code
+items_in d = ok_or (option_map items_list (as_array d)) SyntaxError
+
+-- a list that is missing is empty
+abbrev pub list_in : {A : Type 0} → (Data → Result A Code) → Option Data → Result (List A) Code
+list_in read None = Ok []
+list_in read (Some d) = do
+  items ← items_in d
+  all_in read items
+
+abbrev pub maybe_in : {A : Type 0} → (Data → Result A Code) → Option Data → Result (Option A) Code
+maybe_in read None = Ok None
+maybe_in read (Some d) = do
+  x ← read d
+  Ok (Some x)
+
+abbrev pub whole_in : ℕ → Option Data → Result ℕ Code
+whole_in default None = Ok default
+whole_in default (Some d) = do
+  n ← ok_or (option_and_then as_u64 (as_number d)) SyntaxError
+  _ ← refuse_unless (nat_lt n (2 ^ 32)) ParameterRange
+  Ok n
+
+abbrev pub required : {A : Type 0} → (Data → Result A Code) → Option Data → Result A Code
+required read o = do
+  d ← ok_or o ParameterMissing
+  read d
+
+-- ---- a member in a section
+
+abbrev pub name_at : NameOf → Section → Member → ZoneRules → Data → Result GivenName Code
+name_at kind section m zone d = required (name_in kind zone) (value_at section m d)
+
+abbrev pub maybe_name_at : NameOf → Section → Member → ZoneRules → Data → Result (Option GivenName) Code
+maybe_name_at kind section m zone d = maybe_in (name_in kind zone) (value_at section m d)
+
+abbrev pub names_at : NameOf → Section → Member → ZoneRules → Data → Result (List GivenName) Code
+names_at kind section m zone d = list_in (name_in kind zone) (value_at section m d)
+
+abbrev pub text_at : Section → Member → Data → Result (List ℕ) Code
+text_at section m d = required text_in (value_at section m d)
+
+abbrev pub maybe_text_at : Section → Member → Data → Result (Option (List ℕ)) Code
+maybe_text_at section m d = maybe_in text_in (value_at section m d)
+
+abbrev pub texts_at : Section → Member → Data → Result (List (List ℕ)) Code
+texts_at section m d = list_in text_in (value_at section m d)
+
+abbrev pub addresses_at : Section → Member → Data → Result (List (List ℕ)) Code
+addresses_at section m d = list_in address_in (value_at section m d)
+
+abbrev pub statuses_at : ObjectKind → Section → Member → Data → Result (List Status) Code
+statuses_at kind section m d = list_in (status_in kind) (value_at section m d)
+
+-- a number, or the one that stands for none
+abbrev pub whole_at : Section → Member → ℕ → Data → Result ℕ Code
+whole_at section m default d = whole_in default (value_at section m d)

@@ -1,0 +1,110 @@
+//! What a command on a contact asks for (RFC 5733, 3).
+ghost use Rattle.serde_json.specs.View.{view};
+ghost use Rattle.eppcommands.specs.Reading.{Gives};
+ghost use Rattle.eppcommands.specs.Contact as spec;
+
+use crate::reading::{Fault, maybe_text_at, statuses_at, text_at, texts_at};
+use eppforms::Section::{self, Add, Chg, ChgPostal, Rem, Top};
+use eppforms::{Member, part};
+use objects::{ObjectKind, Postal};
+use serde_json::Value;
+use std::alloc::Global;
+use protocol::{ContactUpdate, NewContact, Request};
+
+#[tactic(auto, unfolding(crate::specs::Contact::check_contact))]
+pub fn check_contact(alloc: Global, value: &Value) -> Result<Request, Fault>
+    ensures { Gives result (spec.check_contact (view value.now)) }
+{
+    let names = texts_at(alloc, Top, Member::Names, value)?;
+    Ok(Request::CheckContact { names })
+}
+
+#[tactic(auto, unfolding(crate::specs::Contact::info_contact))]
+pub fn info_contact(alloc: Global, value: &Value) -> Result<Request, Fault>
+    ensures { Gives result (spec.info_contact (view value.now)) }
+{
+    let name = text_at(alloc, Top, Member::Name, value)?;
+    let secret = maybe_text_at(alloc, Top, Member::Secret, value)?;
+    Ok(Request::InfoContact { name, secret })
+}
+
+#[tactic(auto, unfolding(crate::specs::Contact::create_contact))]
+pub fn create_contact(alloc: Global, value: &Value) -> Result<Request, Fault>
+    ensures { Gives result (spec.create_contact (view value.now)) }
+{
+    let name = text_at(alloc, Top, Member::Name, value)?;
+    let postal = postal_at(alloc, Section::Postal, value)?;
+    let voice = maybe_text_at(alloc, Top, Member::Voice, value)?;
+    let mail = text_at(alloc, Top, Member::Mail, value)?;
+    let secret = text_at(alloc, Top, Member::Secret, value)?;
+    Ok(Request::CreateContact(NewContact {
+        name,
+        postal,
+        voice,
+        mail,
+        secret,
+    }))
+}
+
+#[tactic(auto, unfolding(crate::specs::Contact::delete_contact))]
+pub fn delete_contact(alloc: Global, value: &Value) -> Result<Request, Fault>
+    ensures { Gives result (spec.delete_contact (view value.now)) }
+{
+    let name = text_at(alloc, Top, Member::Name, value)?;
+    Ok(Request::DeleteContact { name })
+}
+
+#[tactic(auto, unfolding(crate::specs::Contact::update_contact))]
+pub fn update_contact(alloc: Global, value: &Value) -> Result<Request, Fault>
+    ensures { Gives result (spec.update_contact (view value.now)) }
+{
+    let name = text_at(alloc, Top, Member::Name, value)?;
+    let kind = ObjectKind::Contact;
+    let add = statuses_at(alloc, kind, Add, Member::Statuses, value)?;
+    let rem = statuses_at(alloc, kind, Rem, Member::Statuses, value)?;
+    let postal = maybe_postal_at(alloc, ChgPostal, value)?;
+    let voice = maybe_text_at(alloc, Chg, Member::Voice, value)?;
+    let mail = maybe_text_at(alloc, Chg, Member::Mail, value)?;
+    let secret = maybe_text_at(alloc, Chg, Member::Secret, value)?;
+    Ok(Request::UpdateContact(ContactUpdate {
+        name,
+        add,
+        rem,
+        postal,
+        voice,
+        mail,
+        secret,
+    }))
+}
+
+/// The postal address in a section.
+#[tactic(auto, unfolding(crate::specs::Contact::postal_at))]
+fn postal_at(alloc: Global, section: Section, value: &Value) -> Result<Postal, Fault>
+    ensures { Gives result (spec.postal_at section (view value.now)) }
+{
+    let name = text_at(alloc, section, Member::Name, value)?;
+    let org = maybe_text_at(alloc, section, Member::Org, value)?;
+    let street = texts_at(alloc, section, Member::Street, value)?;
+    let city = text_at(alloc, section, Member::City, value)?;
+    let sp = maybe_text_at(alloc, section, Member::Sp, value)?;
+    let pc = maybe_text_at(alloc, section, Member::Pc, value)?;
+    let cc = text_at(alloc, section, Member::Cc, value)?;
+    Ok(Postal {
+        name,
+        org,
+        street,
+        city,
+        sp,
+        pc,
+        cc,
+    })
+}
+
+fn maybe_postal_at(alloc: Global, section: Section, value: &Value) -> Result<Option<Postal>, Fault>
+    ensures { Gives result (spec.maybe_postal_at section (view value.now)) }
+{
+    let Some(_) = part(value, section) else {
+        return Ok(None);
+    };
+    Ok(Some(postal_at(alloc, section, value)?))
+}

@@ -1,0 +1,94 @@
+//! What a command on a domain asks for (RFC 5731, 3).
+ghost use Rattle.serde_json.specs.View.{view};
+ghost use Rattle.eppcommands.specs.Reading.{Gives};
+ghost use Rattle.eppcommands.specs.Domain as spec;
+
+use crate::reading::{
+    Fault, NameOf, maybe_text_at, name_at, names_at, statuses_at, text_at, texts_at, whole_at,
+};
+use eppforms::Member;
+use eppforms::Section::{self, Add, Chg, Rem, Top};
+use names::Zone;
+use objects::ObjectKind;
+use serde_json::Value;
+use std::alloc::Global;
+use protocol::{DomainLists, DomainUpdate, NewDomain, Request};
+
+#[tactic(auto, unfolding(crate::specs::Domain::check_domain))]
+pub fn check_domain(alloc: Global, value: &Value, zone: &Zone) -> Result<Request, Fault>
+    ensures { Gives result (spec.check_domain zone.now (view value.now)) }
+{
+    let names = names_at(alloc, NameOf::Domain, Top, Member::Names, value, zone)?;
+    Ok(Request::CheckDomain { names })
+}
+
+#[tactic(auto, unfolding(crate::specs::Domain::info_domain))]
+pub fn info_domain(alloc: Global, value: &Value, zone: &Zone) -> Result<Request, Fault>
+    ensures { Gives result (spec.info_domain zone.now (view value.now)) }
+{
+    let name = name_at(alloc, NameOf::Domain, Top, Member::Name, value, zone)?;
+    let secret = maybe_text_at(alloc, Top, Member::Secret, value)?;
+    Ok(Request::InfoDomain { name, secret })
+}
+
+#[tactic(auto, unfolding(crate::specs::Domain::create_domain))]
+pub fn create_domain(alloc: Global, value: &Value, zone: &Zone) -> Result<Request, Fault>
+    ensures { Gives result (spec.create_domain zone.now (view value.now)) }
+{
+    let name = name_at(alloc, NameOf::Domain, Top, Member::Name, value, zone)?;
+    let years = whole_at(Top, Member::Years, 1, value)?;
+    let registrant = text_at(alloc, Top, Member::Registrant, value)?;
+    let admin = texts_at(alloc, Top, Member::Admin, value)?;
+    let tech = texts_at(alloc, Top, Member::Tech, value)?;
+    let hosts = names_at(alloc, NameOf::Host, Top, Member::Hosts, value, zone)?;
+    let secret = text_at(alloc, Top, Member::Secret, value)?;
+    Ok(Request::CreateDomain(NewDomain {
+        name,
+        years,
+        registrant,
+        admin,
+        tech,
+        hosts,
+        secret,
+    }))
+}
+
+#[tactic(auto, unfolding(crate::specs::Domain::update_domain))]
+pub fn update_domain(alloc: Global, value: &Value, zone: &Zone) -> Result<Request, Fault>
+    ensures { Gives result (spec.update_domain zone.now (view value.now)) }
+{
+    let name = name_at(alloc, NameOf::Domain, Top, Member::Name, value, zone)?;
+    let add = lists_of_domain(alloc, Add, value, zone)?;
+    let rem = lists_of_domain(alloc, Rem, value, zone)?;
+    let registrant = maybe_text_at(alloc, Chg, Member::Registrant, value)?;
+    let secret = maybe_text_at(alloc, Chg, Member::Secret, value)?;
+    Ok(Request::UpdateDomain(DomainUpdate {
+        name,
+        add,
+        rem,
+        registrant,
+        secret,
+    }))
+}
+
+/// What an update adds or removes.
+#[tactic(auto, unfolding(crate::specs::Domain::lists_of_domain))]
+fn lists_of_domain(
+    alloc: Global,
+    section: Section,
+    value: &Value,
+    zone: &Zone,
+) -> Result<DomainLists, Fault>
+    ensures { Gives result (spec.lists_of_domain section zone.now (view value.now)) }
+{
+    let hosts = names_at(alloc, NameOf::Host, section, Member::Hosts, value, zone)?;
+    let admin = texts_at(alloc, section, Member::Admin, value)?;
+    let tech = texts_at(alloc, section, Member::Tech, value)?;
+    let statuses = statuses_at(alloc, ObjectKind::Domain, section, Member::Statuses, value)?;
+    Ok(DomainLists {
+        hosts,
+        admin,
+        tech,
+        statuses,
+    })
+}

@@ -1,0 +1,291 @@
+//! What a member of a well formed command says. A name, an address and a status are read here, which
+//! is the last step of the form.
+ghost use Rattle.std.specs.Prelude.{◌≡◌, map};
+ghost use Rattle.std.specs.Result.{result_map_both};
+ghost use Rattle.serde_json.specs.View.{view};
+ghost use Rattle.eppcommands.specs.declared.reading.Fault.TheVariants.{Refused, Memory};
+ghost use Rattle.eppcommands.specs.Reading as spec;
+
+use basis::list::Seq;
+use basis::text::Text;
+use eppforms::{Member, Section, value_at};
+use names::{Address, DomainName, GivenName, HostName, NameFault, Zone};
+use objects::{ObjectKind, Status};
+use serde_json::Value;
+use std::alloc::{AllocError, Global};
+use protocol::Code;
+
+/// Why a payload gives no request.
+#[derive(Clone, Copy)]
+pub enum Fault {
+    /// Its form is refused.
+    Refused(Code),
+    /// Memory ran out.
+    Memory,
+}
+
+impl From<AllocError> for Fault {
+    ghost from_gives = { λ _ fault. fault ≡ Memory };
+
+    fn from(_: AllocError) -> Fault {
+        Fault::Memory
+    }
+}
+
+impl From<Code> for Fault {
+    ghost from_gives = { λ code fault. fault ≡ Refused code };
+
+    fn from(code: Code) -> Fault {
+        Fault::Refused(code)
+    }
+}
+
+impl From<NameFault> for Fault {
+    ghost from_gives = { λ name fault. fault ≡ spec.fault_of name };
+
+    fn from(fault: NameFault) -> Fault {
+        match fault {
+            NameFault::Memory => Fault::Memory,
+            NameFault::Syntax | NameFault::Policy => Fault::Refused(Code::ParameterSyntax),
+        }
+    }
+}
+
+/// What a name is of.
+#[derive(Clone, Copy)]
+pub enum NameOf {
+    Domain,
+    Host,
+}
+
+#[tactic(auto, unfolding(crate::specs::Reading::name_in))]
+fn name_in(alloc: Global, kind: NameOf, value: &Value, zone: &Zone) -> Result<GivenName, Fault>
+    ensures { spec.Gives result (spec.name_in kind zone.now (view value.now)) }
+{
+    let text = value.as_str().ok_or(Code::SyntaxError)?;
+    Ok(match kind {
+        NameOf::Domain => DomainName::given(alloc, text, zone)?,
+        NameOf::Host => HostName::given(alloc, text, zone)?,
+    })
+}
+
+pub fn name_at(
+    alloc: Global,
+    kind: NameOf,
+    section: Section,
+    at: Member,
+    value: &Value,
+    zone: &Zone,
+) -> Result<GivenName, Fault>
+    ensures { spec.Gives result (spec.name_at kind section at zone.now (view value.now)) }
+{
+    let found = value_at(value, section, at).ok_or(Code::ParameterMissing)?;
+    name_in(alloc, kind, found, zone)
+}
+
+/// The name of a member that may be missing.
+pub fn maybe_name_at(
+    alloc: Global,
+    kind: NameOf,
+    section: Section,
+    at: Member,
+    value: &Value,
+    zone: &Zone,
+) -> Result<Option<GivenName>, Fault>
+    ensures { spec.Gives result (spec.maybe_name_at kind section at zone.now (view value.now)) }
+{
+    let Some(found) = value_at(value, section, at) else {
+        return Ok(None);
+    };
+    Ok(Some(name_in(alloc, kind, found, zone)?))
+}
+
+/// The items of a list.
+pub fn items_in(value: &Value) -> Result<&Vec<Value>, Code>
+    ensures { result_map_both (λ items. map view items.now.items) (λ code. code) result ≡ spec.items_in (view value.now) }
+{
+    value.as_array().ok_or(Code::SyntaxError)
+}
+
+/// The names of a list, none where there is no list.
+pub fn names_at(
+    alloc: Global,
+    kind: NameOf,
+    section: Section,
+    at: Member,
+    value: &Value,
+    zone: &Zone,
+) -> Result<Seq<GivenName>, Fault>
+    ensures { spec.Gives result (spec.names_at kind section at zone.now (view value.now)) }
+{
+    let Some(found) = value_at(value, section, at) else {
+        return Ok(Seq::new(alloc));
+    };
+    let items = items_in(found)?;
+    all_names(alloc, kind, items, zone)
+}
+
+fn all_names(
+    alloc: Global,
+    kind: NameOf,
+    items: &[Value],
+    zone: &Zone,
+) -> Result<Seq<GivenName>, Fault>
+    ensures { spec.Gives result (spec.all_in (spec.name_in kind zone.now) (map view items.now)) }
+{
+    let mut names = Seq::new(alloc);
+    for item in items {
+        names.push(name_in(alloc, kind, item, zone)?)?;
+    }
+    Ok(names)
+}
+
+#[tactic(auto, unfolding(crate::specs::Reading::text_in))]
+fn text_in(alloc: Global, value: &Value) -> Result<Text, Fault>
+    ensures { spec.Gives result (spec.text_in (view value.now)) }
+{
+    let text = value.as_str().ok_or(Code::SyntaxError)?;
+    Ok(Text::from_str(alloc, text)?)
+}
+
+pub fn text_at(alloc: Global, section: Section, at: Member, value: &Value) -> Result<Text, Fault>
+    ensures { spec.Gives result (spec.text_at section at (view value.now)) }
+{
+    let found = value_at(value, section, at).ok_or(Code::ParameterMissing)?;
+    text_in(alloc, found)
+}
+
+pub fn maybe_text_at(
+    alloc: Global,
+    section: Section,
+    at: Member,
+    value: &Value,
+) -> Result<Option<Text>, Fault>
+    ensures { spec.Gives result (spec.maybe_text_at section at (view value.now)) }
+{
+    let Some(found) = value_at(value, section, at) else {
+        return Ok(None);
+    };
+    Ok(Some(text_in(alloc, found)?))
+}
+
+/// The texts of a list, none where there is no list.
+pub fn texts_at(
+    alloc: Global,
+    section: Section,
+    at: Member,
+    value: &Value,
+) -> Result<Seq<Text>, Fault>
+    ensures { spec.Gives result (spec.texts_at section at (view value.now)) }
+{
+    let Some(found) = value_at(value, section, at) else {
+        return Ok(Seq::new(alloc));
+    };
+    let items = items_in(found)?;
+    all_texts(alloc, items)
+}
+
+fn all_texts(alloc: Global, items: &[Value]) -> Result<Seq<Text>, Fault>
+    ensures { spec.Gives result (spec.all_in spec.text_in (map view items.now)) }
+{
+    let mut texts = Seq::new(alloc);
+    for item in items {
+        texts.push(text_in(alloc, item)?)?;
+    }
+    Ok(texts)
+}
+
+#[tactic(auto, unfolding(crate::specs::Reading::address_in))]
+fn address_in(alloc: Global, value: &Value) -> Result<Text, Fault>
+    ensures { spec.Gives result (spec.address_in (view value.now)) }
+{
+    let text = value.as_str().ok_or(Code::SyntaxError)?;
+    Ok(Address::read(alloc, text)?.into_text())
+}
+
+/// The addresses of a list in canonical text, none where there is no list.
+pub fn addresses_at(
+    alloc: Global,
+    section: Section,
+    at: Member,
+    value: &Value,
+) -> Result<Seq<Text>, Fault>
+    ensures { spec.Gives result (spec.addresses_at section at (view value.now)) }
+{
+    let Some(found) = value_at(value, section, at) else {
+        return Ok(Seq::new(alloc));
+    };
+    let items = items_in(found)?;
+    all_addresses(alloc, items)
+}
+
+fn all_addresses(alloc: Global, items: &[Value]) -> Result<Seq<Text>, Fault>
+    ensures { spec.Gives result (spec.all_in spec.address_in (map view items.now)) }
+{
+    let mut addresses = Seq::new(alloc);
+    for item in items {
+        addresses.push(address_in(alloc, item)?)?;
+    }
+    Ok(addresses)
+}
+
+/// A status that a sponsor may set on an object of that kind.
+#[tactic(auto, unfolding(crate::specs::Reading::status_in))]
+fn status_in(kind: ObjectKind, value: &Value) -> Result<Status, Code>
+    ensures { result ≡ spec.status_in kind (view value.now) }
+{
+    let text = value.as_str().ok_or(Code::SyntaxError)?;
+    let status = Status::named(text).ok_or(Code::ParameterSyntax)?;
+    client_status(kind, status)
+}
+
+#[tactic(auto, unfolding(crate::specs::Reading::client_status))]
+fn client_status(kind: ObjectKind, status: Status) -> Result<Status, Code>
+    ensures { result ≡ spec.client_status kind status }
+{
+    if !status.is_client_of(kind) {
+        return Err(Code::ParameterSyntax);
+    }
+    Ok(status)
+}
+
+/// The statuses of a list, none where there is no list.
+pub fn statuses_at(
+    alloc: Global,
+    kind: ObjectKind,
+    section: Section,
+    at: Member,
+    value: &Value,
+) -> Result<Seq<Status>, Fault>
+    ensures { spec.Gives result (spec.statuses_at kind section at (view value.now)) }
+{
+    let Some(found) = value_at(value, section, at) else {
+        return Ok(Seq::new(alloc));
+    };
+    let items = items_in(found)?;
+    all_statuses(alloc, kind, items)
+}
+
+fn all_statuses(alloc: Global, kind: ObjectKind, items: &[Value]) -> Result<Seq<Status>, Fault>
+    ensures { spec.Gives result (spec.all_in (spec.status_in kind) (map view items.now)) }
+{
+    let mut statuses = Seq::new(alloc);
+    for item in items {
+        statuses.push(status_in(kind, item)?)?;
+    }
+    Ok(statuses)
+}
+
+/// A whole number, or the one that stands for none.
+pub fn whole_at(section: Section, at: Member, default: u32, value: &Value) -> Result<u32, Code>
+    ensures { result ≡ spec.whole_at section at default (view value.now) }
+{
+    let Some(found) = value_at(value, section, at) else {
+        return Ok(default);
+    };
+    let number = found.as_u64().ok_or(Code::SyntaxError)?;
+    if number > u64::from(u32::MAX) {
+        return Err(Code::ParameterRange);
+    }
+    Ok(number as u32)
+}

@@ -1,0 +1,37 @@
+//! What a well formed command asks for.
+ghost use Rattle.serde_json.specs.View.{view};
+ghost use Rattle.eppcommands.specs.Reading.{Gives};
+ghost use Rattle.eppcommands.specs.Request as spec;
+
+use crate::contact::{check_contact, create_contact, delete_contact, info_contact, update_contact};
+use crate::domain::{check_domain, create_domain, info_domain, update_domain};
+use crate::host::{check_host, create_host, delete_host, info_host, update_host};
+use crate::reading::Fault;
+use eppforms::{CommandKind, checked_command};
+use names::Zone;
+use serde_json::Value;
+use std::alloc::Global;
+use protocol::Request;
+
+/// The request of a payload, or the first fault of its form.
+#[tactic(auto, unfolding(crate::specs::Request::request_in))]
+pub fn request_in(alloc: Global, value: &Value, zone: &Zone) -> Result<Request, Fault>
+    ensures { Gives result (spec.request_in zone.now (view value.now)) }
+{
+    match checked_command(value)? {
+        CommandKind::CheckContact => check_contact(alloc, value),
+        CommandKind::CheckDomain => check_domain(alloc, value, zone),
+        CommandKind::CheckHost => check_host(alloc, value, zone),
+        CommandKind::InfoContact => info_contact(alloc, value),
+        CommandKind::InfoDomain => info_domain(alloc, value, zone),
+        CommandKind::InfoHost => info_host(alloc, value, zone),
+        CommandKind::CreateContact => create_contact(alloc, value),
+        CommandKind::CreateDomain => create_domain(alloc, value, zone),
+        CommandKind::CreateHost => create_host(alloc, value, zone),
+        CommandKind::DeleteContact => delete_contact(alloc, value),
+        CommandKind::DeleteHost => delete_host(alloc, value, zone),
+        CommandKind::UpdateContact => update_contact(alloc, value),
+        CommandKind::UpdateDomain => update_domain(alloc, value, zone),
+        CommandKind::UpdateHost => update_host(alloc, value, zone),
+    }
+}

@@ -1,0 +1,4 @@
+pub mod Kind
+pub mod Member
+pub mod Table
+pub mod Form

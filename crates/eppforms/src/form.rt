@@ -1,0 +1,224 @@
+//! A JSON value against a table of forms: which form it chooses, and the first fault of its members
+//! (RFC 5730, 3).
+ghost use Rattle.std.specs.Prelude.{◌≡◌, not, string_bytes, map, option_map};
+ghost use Rattle.std.specs.List.{list_all, list_any};
+ghost use Rattle.std.specs.Result.{result_map_both};
+ghost use Rattle.serde_json.specs.View.{view};
+ghost use Rattle.eppforms.specs.Kind.{in_range, has_shape};
+ghost use Rattle.eppforms.specs.Form as spec;
+ghost use Rattle.eppforms.specs.Member.{is_section};
+ghost use Rattle.eppforms.specs.Table.{plain};
+
+use crate::member::{CHANGES, Member, SECTIONS, Section};
+use crate::table::{CommandForm, CommandKind, FORMS, Field, object_text};
+use crate::value::{found, part, word};
+use objects::ObjectKind;
+use serde_json::{Map, Value};
+use protocol::Code;
+
+/// The command that a value is, where its members are what its form asks; else the first fault.
+pub fn checked_command(value: &Value) -> Result<CommandKind, Code>
+    ensures { result ≡ spec.checked_command (view value.now) }
+{
+    checked_by(FORMS, value)
+}
+
+/// The same by any table: no proof below reads the rows of one.
+#[tactic(auto, unfolding(crate::specs::Form::checked_by))]
+pub fn checked_by(forms: &[CommandForm], value: &Value) -> Result<CommandKind, Code>
+    ensures { result ≡ spec.checked_by (map plain forms.now) (view value.now) }
+{
+    let form = form_in(forms, value)?;
+    check(form, value)?;
+    Ok(form.0.command)
+}
+
+/// The form that `cmd` and `obj` choose.
+fn form_in(forms: &[CommandForm], value: &Value) -> Result<CommandForm, Code>
+    ensures { result_map_both plain (λ code. code) result ≡ spec.form_in (map plain forms.now) (view value.now) }
+{
+    form_found(forms, value)
+}
+
+#[tactic(auto, unfolding(crate::specs::Form::form_in))]
+fn form_found(forms: &[CommandForm], value: &Value) -> Result<CommandForm, Code>
+    ensures { result ≡ spec.form_in forms.now (view value.now) }
+{
+    let cmd = word(value, Member::Cmd).ok_or(Code::SyntaxError)?;
+    if !is_known(forms, cmd) {
+        return Err(Code::UnknownCommand);
+    }
+    let obj = word(value, Member::Obj);
+    if takes_object(forms, cmd) && obj.is_none() {
+        return Err(Code::SyntaxError);
+    }
+    chosen(forms, cmd, obj).ok_or(Code::UnknownCommand)
+}
+
+fn is_known(forms: &[CommandForm], cmd: &str) -> bool
+    ensures { result ≡ spec.is_known forms.now cmd.now }
+{
+    forms.iter().any(|form| form.0.cmd.text() == cmd)
+}
+
+/// Whether the command is on an object.
+fn takes_object(forms: &[CommandForm], cmd: &str) -> bool
+    ensures { result ≡ spec.takes_object forms.now cmd.now }
+{
+    forms
+        .iter()
+        .any(|form| form.0.cmd.text() == cmd && form.0.object.is_some())
+}
+
+fn chosen(forms: &[CommandForm], cmd: &str, obj: Option<&str>) -> Option<CommandForm>
+    ensures { result ≡ spec.chosen forms.now cmd.now (option_map (λ s. s.now) obj.entry) }
+{
+    forms.iter().copied().find(|form| form.0.cmd.text() == cmd && is_on(form.0.object, obj))
+}
+
+/// Whether `obj` says the kind of object, where there has to be one.
+fn is_on(object: Option<ObjectKind>, obj: Option<&str>) -> bool
+    ensures { result ≡ spec.is_on object (option_map (λ s. s.now) obj.entry) }
+{
+    match (object, obj) {
+        (None, _) => true,
+        (Some(object), Some(obj)) => object_text(object) == obj,
+        (Some(_), None) => false,
+    }
+}
+
+/// Checks the members of a command against its form.
+#[tactic(auto, unfolding(crate::specs::Form::members_checked))]
+fn check(form: CommandForm, value: &Value) -> Result<(), Code>
+    ensures { result ≡ spec.members_checked (plain form.entry) (view value.now) }
+{
+    let fields = form.1;
+    if !has_only(fields, value) {
+        return Err(Code::SyntaxError);
+    }
+    if !is_complete(form, value) {
+        return Err(Code::ParameterMissing);
+    }
+    if !are_in_range(fields, value) {
+        return Err(Code::ParameterRange);
+    }
+    if !are_shaped(fields, value) {
+        return Err(Code::ParameterSyntax);
+    }
+    Ok(())
+}
+
+/// No member is strange or of another JSON type.
+pub fn has_only(fields: &[Field], value: &Value) -> bool
+    ensures { result ≡ spec.has_only fields.now (view value.now) }
+{
+    SECTIONS.iter().all(|section| match part(value, *section) {
+        Some(found) => knows(fields, *section, found),
+        None => true,
+    })
+}
+
+#[tactic(auto, unfolding(crate::specs::Form::knows))]
+fn knows(fields: &[Field], section: Section, part: &Value) -> bool
+    ensures { result ≡ spec.knows fields.now section (view part.now) }
+{
+    match part.as_object() {
+        Some(members) => are_fields(fields, section, members),
+        None => true,
+    }
+}
+
+fn are_fields(fields: &[Field], section: Section, members: &Map<String, Value>) -> bool
+    ensures { result ≡ list_all (λ m. spec.is_field fields.now section (string_bytes m.0) (view m.1)) members.now.entries }
+{
+    members.iter().all(|(name, value)| is_field(fields, section, name.as_str(), value))
+}
+
+#[tactic(auto, unfolding(crate::specs::Form::is_field))]
+fn is_field(fields: &[Field], section: Section, name: &str, value: &Value) -> bool
+    ensures { result ≡ spec.is_field fields.now section name.now (view value.now) }
+{
+    fields.iter().any(|field| {
+        is_same(field.section, section) && field.member.text() == name && field.kind.has_type(value)
+    })
+}
+
+fn is_same(a: Section, b: Section) -> bool
+    ensures { result ≡ is_section a b }
+{
+    a == b
+}
+
+/// Nothing that the form asks for is missing.
+fn is_complete(form: CommandForm, value: &Value) -> bool
+    ensures { result ≡ spec.is_complete (plain form.entry) (view value.now) }
+{
+    has_all(form.1, value) && (!form.0.cmd.is_update() || changes(value))
+}
+
+/// Whether an update changes something.
+fn changes(value: &Value) -> bool
+    ensures { result ≡ spec.changes (view value.now) }
+{
+    CHANGES.iter().any(|section| match part(value, *section) {
+        Some(part) => says_something(part),
+        None => false,
+    })
+}
+
+/// Whether a part of an update has a member that isn't an empty list.
+#[tactic(auto, unfolding(crate::specs::Form::says_something))]
+fn says_something(part: &Value) -> bool
+    ensures { result ≡ spec.says_something (view part.now) }
+{
+    match part.as_object() {
+        Some(members) => any_says(members),
+        None => false,
+    }
+}
+
+fn any_says(members: &Map<String, Value>) -> bool
+    ensures { result ≡ list_any (λ m. not (spec.is_empty_list (view m.1))) members.now.entries }
+{
+    members.iter().any(|(_, value)| !is_empty_list(value))
+}
+
+fn is_empty_list(value: &Value) -> bool
+    ensures { result ≡ spec.is_empty_list (view value.now) }
+{
+    match value.as_array() {
+        Some(items) => items.is_empty(),
+        None => false,
+    }
+}
+
+/// Each required field is there, where its section is.
+pub fn has_all(fields: &[Field], value: &Value) -> bool
+    ensures { result ≡ spec.has_all fields.now (view value.now) }
+{
+    fields.iter().all(|field| is_there(*field, value))
+}
+
+fn is_there(field: Field, value: &Value) -> bool
+    ensures { result ≡ spec.is_there field (view value.now) }
+{
+    !field.required || part(value, field.section).is_none() || found(value, field).is_some()
+}
+
+fn are_in_range(fields: &[Field], value: &Value) -> bool
+    ensures { result ≡ spec.each in_range fields.now (view value.now) }
+{
+    fields.iter().all(|field| match found(value, *field) {
+        Some(found) => field.kind.is_in_range(found),
+        None => true,
+    })
+}
+
+fn are_shaped(fields: &[Field], value: &Value) -> bool
+    ensures { result ≡ spec.each has_shape fields.now (view value.now) }
+{
+    fields.iter().all(|field| match found(value, *field) {
+        Some(found) => field.kind.has_shape(found),
+        None => true,
+    })
+}

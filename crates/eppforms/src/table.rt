@@ -1,0 +1,373 @@
+//! The table of the commands: the members that each has, and what each member has to be. What `must`
+//! stand is required where its section is, what `may` stand isn't.
+ghost use Rattle.std.specs.Prelude.{◌≡◌};
+ghost use Rattle.eppforms.specs.Table as spec;
+
+use crate::kind::Kind::{self, Parts, Whole};
+use crate::kind::{Limits, Shape};
+use crate::member::{Member, Section};
+use objects::ObjectKind;
+
+/// What `cmd` may say.
+#[derive(Clone, Copy)]
+pub enum Verb {
+    Check,
+    Info,
+    Create,
+    Delete,
+    Update,
+}
+
+impl Verb {
+    /// The text of `cmd`.
+    pub fn text(self) -> &'static str
+        ensures { result.now ≡ spec.verb_text self }
+    {
+        match self {
+            Verb::Check => "check",
+            Verb::Info => "info",
+            Verb::Create => "create",
+            Verb::Delete => "delete",
+            Verb::Update => "update",
+        }
+    }
+
+    /// Whether it has to change something.
+    pub fn is_update(self) -> bool
+        ensures { result ≡ spec.is_update self }
+    {
+        matches!(self, Verb::Update)
+    }
+}
+
+/// The text of `obj`.
+pub fn object_text(object: ObjectKind) -> &'static str
+    ensures { result.now ≡ spec.object_text object }
+{
+    match object {
+        ObjectKind::Contact => "contact",
+        ObjectKind::Domain => "domain",
+        ObjectKind::Host => "host",
+    }
+}
+
+/// The kinds of object in the table.
+const OBJECTS: [ObjectKind; 3] = [ObjectKind::Contact, ObjectKind::Domain, ObjectKind::Host];
+
+/// The kind of object that a text names.
+pub fn object_named(text: &str) -> Option<ObjectKind>
+    ensures { result ≡ spec.object_named text.now }
+{
+    OBJECTS
+        .iter()
+        .copied()
+        .find(|object| object_text(*object) == text)
+}
+
+/// The commands.
+#[derive(Clone, Copy)]
+pub enum CommandKind {
+    CheckContact,
+    CheckDomain,
+    CheckHost,
+    InfoContact,
+    InfoDomain,
+    InfoHost,
+    CreateContact,
+    CreateDomain,
+    CreateHost,
+    DeleteContact,
+    DeleteHost,
+    UpdateContact,
+    UpdateDomain,
+    UpdateHost,
+}
+
+/// What chooses a form: `cmd`, and `obj` where the command is on an object.
+#[derive(Clone, Copy)]
+pub struct Choice {
+    pub cmd: Verb,
+    pub object: Option<ObjectKind>,
+    pub command: CommandKind,
+}
+
+/// A member of a form.
+#[derive(Clone, Copy)]
+pub struct Field {
+    pub section: Section,
+    pub member: Member,
+    /// It has to be there where its section is.
+    pub required: bool,
+    pub kind: Kind,
+}
+
+/// The form of a command: what chooses it, and its members.
+pub type CommandForm = (Choice, &'static [Field]);
+
+macro_rules! on {
+    ($cmd:ident, $object:ident, $command:ident) => {
+        Choice {
+            cmd: Verb::$cmd,
+            object: Some(ObjectKind::$object),
+            command: CommandKind::$command,
+        }
+    };
+}
+
+macro_rules! limits {
+    ($least:expr, $most:expr) => {
+        Limits {
+            least: $least,
+            most: $most,
+        }
+    };
+}
+
+macro_rules! text {
+    ($len:expr, $shape:ident) => {
+        Kind::Text {
+            len: $len,
+            shape: Shape::$shape,
+        }
+    };
+}
+
+macro_rules! texts {
+    ($count:expr, $len:expr, $shape:ident) => {
+        Kind::Texts {
+            count: $count,
+            len: $len,
+            shape: Shape::$shape,
+        }
+    };
+}
+
+macro_rules! must {
+    ($section:ident, $member:ident, $kind:expr) => {
+        Field {
+            section: Section::$section,
+            member: Member::$member,
+            required: true,
+            kind: $kind,
+        }
+    };
+}
+
+macro_rules! may {
+    ($section:ident, $member:ident, $kind:expr) => {
+        Field {
+            section: Section::$section,
+            member: Member::$member,
+            required: false,
+            kind: $kind,
+        }
+    };
+}
+
+// ---- what the members have to be: lengths in bytes, counts, and shapes
+
+const ANY: Limits = limits!(0, u64::MAX);
+
+const WORD: Kind = text!(ANY, Free);
+
+/// A name of a domain or host, before its own rule.
+const NAME: Kind = text!(NAME_LENGTH, Free);
+
+const NAME_LENGTH: Limits = limits!(1, 1000);
+
+/// A name of a contact.
+const HANDLE: Kind = text!(HANDLE_LENGTH, Handle);
+
+const HANDLE_LENGTH: Limits = limits!(3, 16);
+
+/// How many names a check asks about.
+const CHECKED: Limits = limits!(1, 20);
+
+const CHECKED_NAMES: Kind = texts!(CHECKED, NAME_LENGTH, Free);
+
+const CHECKED_HANDLES: Kind = texts!(CHECKED, HANDLE_LENGTH, Handle);
+
+const YEARS: Kind = Whole(limits!(1, 10));
+
+/// The most name servers of a domain.
+const MOST_HOSTS: u64 = 13;
+
+const HOSTS: Kind = texts!(limits!(0, MOST_HOSTS), NAME_LENGTH, Free);
+
+/// The most contacts of a domain in one role.
+const MOST_CONTACTS: u64 = 4;
+
+const CONTACTS: Kind = texts!(limits!(0, MOST_CONTACTS), HANDLE_LENGTH, Handle);
+
+/// The most addresses of a host.
+const MOST_ADDRESSES: u64 = 13;
+
+const ADDRESSES: Kind = texts!(limits!(0, MOST_ADDRESSES), ANY, Free);
+
+const STATUSES: Kind = texts!(ANY, ANY, Free);
+
+const SECRET: Kind = text!(limits!(6, 64), Printable);
+
+const VOICE: Kind = text!(ANY, Voice);
+
+const MAIL: Kind = text!(limits!(3, 255), Printable);
+
+/// A line of a postal address (RFC 5733, 2.4).
+const LINE: Kind = text!(LINE_LENGTH, Line);
+
+const LINE_LENGTH: Limits = limits!(1, 255);
+
+const LINES: Kind = texts!(limits!(1, 3), LINE_LENGTH, Line);
+
+const POSTAL_CODE: Kind = text!(limits!(1, 16), Line);
+
+const COUNTRY: Kind = text!(LINE_LENGTH, Country);
+
+// ---- the members of each command
+
+const CMD: Field = must!(Top, Cmd, WORD);
+
+const OBJ: Field = must!(Top, Obj, WORD);
+
+/// The client's identifier of a command (RFC 5730, 2.5).
+pub const CL_TRID: Field = may!(Top, ClTrid, text!(limits!(3, 64), Printable));
+
+/// The members of a command on an object: those of each, and its own.
+macro_rules! members {
+    ($($field:expr),* $(,)?) => {
+        &[CMD, OBJ, CL_TRID, $($field),*]
+    };
+}
+
+/// RFC 5733, 3.1.1.
+const CHECK_CONTACT: &[Field] = members![must!(Top, Names, CHECKED_HANDLES)];
+
+/// RFC 5731, 3.1.1.
+const CHECK_DOMAIN: &[Field] = members![must!(Top, Names, CHECKED_NAMES)];
+
+/// RFC 5732, 3.1.1.
+const CHECK_HOST: &[Field] = members![must!(Top, Names, CHECKED_NAMES)];
+
+/// RFC 5733, 3.1.2.
+const INFO_CONTACT: &[Field] = members![must!(Top, Name, HANDLE), may!(Top, Secret, SECRET)];
+
+/// RFC 5731, 3.1.2.
+const INFO_DOMAIN: &[Field] = members![must!(Top, Name, NAME), may!(Top, Secret, SECRET)];
+
+/// RFC 5732, 3.1.2.
+const INFO_HOST: &[Field] = members![must!(Top, Name, NAME)];
+
+/// RFC 5733, 3.2.1.
+const CREATE_CONTACT: &[Field] = members![
+    must!(Top, Name, HANDLE),
+    must!(Top, Postal, Parts),
+    must!(Postal, Name, LINE),
+    may!(Postal, Org, LINE),
+    must!(Postal, Street, LINES),
+    must!(Postal, City, LINE),
+    may!(Postal, Sp, LINE),
+    may!(Postal, Pc, POSTAL_CODE),
+    must!(Postal, Cc, COUNTRY),
+    may!(Top, Voice, VOICE),
+    must!(Top, Mail, MAIL),
+    must!(Top, Secret, SECRET),
+];
+
+/// RFC 5731, 3.2.1.
+const CREATE_DOMAIN: &[Field] = members![
+    must!(Top, Name, NAME),
+    may!(Top, Years, YEARS),
+    must!(Top, Registrant, HANDLE),
+    may!(Top, Admin, CONTACTS),
+    may!(Top, Tech, CONTACTS),
+    may!(Top, Hosts, HOSTS),
+    must!(Top, Secret, SECRET),
+];
+
+/// RFC 5732, 3.2.1.
+const CREATE_HOST: &[Field] = members![must!(Top, Name, NAME), may!(Top, Addrs, ADDRESSES)];
+
+/// RFC 5733, 3.2.2.
+const DELETE_CONTACT: &[Field] = members![must!(Top, Name, HANDLE)];
+
+/// RFC 5732, 3.2.2.
+const DELETE_HOST: &[Field] = members![must!(Top, Name, NAME)];
+
+/// RFC 5733, 3.2.5.
+const UPDATE_CONTACT: &[Field] = members![
+    must!(Top, Name, HANDLE),
+    may!(Top, Add, Parts),
+    may!(Add, Statuses, STATUSES),
+    may!(Top, Rem, Parts),
+    may!(Rem, Statuses, STATUSES),
+    may!(Top, Chg, Parts),
+    may!(Chg, Postal, Parts),
+    must!(ChgPostal, Name, LINE),
+    may!(ChgPostal, Org, LINE),
+    must!(ChgPostal, Street, LINES),
+    must!(ChgPostal, City, LINE),
+    may!(ChgPostal, Sp, LINE),
+    may!(ChgPostal, Pc, POSTAL_CODE),
+    must!(ChgPostal, Cc, COUNTRY),
+    may!(Chg, Voice, VOICE),
+    may!(Chg, Mail, MAIL),
+    may!(Chg, Secret, SECRET),
+];
+
+/// RFC 5731, 3.2.5.
+const UPDATE_DOMAIN: &[Field] = members![
+    must!(Top, Name, NAME),
+    may!(Top, Add, Parts),
+    may!(Add, Hosts, HOSTS),
+    may!(Add, Admin, CONTACTS),
+    may!(Add, Tech, CONTACTS),
+    may!(Add, Statuses, STATUSES),
+    may!(Top, Rem, Parts),
+    may!(Rem, Hosts, HOSTS),
+    may!(Rem, Admin, CONTACTS),
+    may!(Rem, Tech, CONTACTS),
+    may!(Rem, Statuses, STATUSES),
+    may!(Top, Chg, Parts),
+    may!(Chg, Registrant, HANDLE),
+    may!(Chg, Secret, SECRET),
+];
+
+/// RFC 5732, 3.2.5.
+const UPDATE_HOST: &[Field] = members![
+    must!(Top, Name, NAME),
+    may!(Top, Add, Parts),
+    may!(Add, Addrs, ADDRESSES),
+    may!(Add, Statuses, STATUSES),
+    may!(Top, Rem, Parts),
+    may!(Rem, Addrs, ADDRESSES),
+    may!(Rem, Statuses, STATUSES),
+    may!(Top, Chg, Parts),
+    must!(Chg, Name, NAME),
+];
+
+/// The forms of the commands.
+pub const FORMS: &[CommandForm] = &[
+    (on!(Check, Contact, CheckContact), CHECK_CONTACT),
+    (on!(Check, Domain, CheckDomain), CHECK_DOMAIN),
+    (on!(Check, Host, CheckHost), CHECK_HOST),
+    (on!(Info, Contact, InfoContact), INFO_CONTACT),
+    (on!(Info, Domain, InfoDomain), INFO_DOMAIN),
+    (on!(Info, Host, InfoHost), INFO_HOST),
+    (on!(Create, Contact, CreateContact), CREATE_CONTACT),
+    (on!(Create, Domain, CreateDomain), CREATE_DOMAIN),
+    (on!(Create, Host, CreateHost), CREATE_HOST),
+    (on!(Delete, Contact, DeleteContact), DELETE_CONTACT),
+    (on!(Delete, Host, DeleteHost), DELETE_HOST),
+    (on!(Update, Contact, UpdateContact), UPDATE_CONTACT),
+    (on!(Update, Domain, UpdateDomain), UPDATE_DOMAIN),
+    (on!(Update, Host, UpdateHost), UPDATE_HOST),
+];
+
+/// The members of the operator's order to set and take away statuses.
+pub const STATUS_ORDER: &[Field] = &[
+    must!(Top, Order, WORD),
+    OBJ,
+    must!(Top, Name, WORD),
+    must!(Top, Add, STATUSES),
+    must!(Top, Rem, STATUSES),
+];

@@ -1,0 +1,165 @@
+-- A reply has no float.
+use Rattle.std.proofs.Common.{◌≡◌, ℕ, Bool, false, List, [], ◌∷◌, Option, Some, None, refl, map, codes}
+use Rattle.std.specs.Prelude.{◌||◌, IfSome, option_map, option_and_then, decimal}
+use Rattle.serde_json.specs.Data.{Data, string, array}
+use Rattle.serde_json.specs.View.{items_of}
+use Rattle.serde_json.specs.Written.{has_float, members_have_float}
+use Rattle.protocol.specs.declared.code.Code.{Code}
+use Rattle.protocol.specs.declared.reply.Reply.{Reply}
+use Rattle.protocol.specs.declared.reply.Data as the_data
+use Rattle.protocol.specs.declared.reply.Data.TheVariants.{Checked, Created, Contact, Domain, Host}
+use Rattle.protocol.specs.declared.reply.CheckResult.{CheckResult}
+use Rattle.protocol.specs.declared.reply.ContactInfo.{ContactInfo}
+use Rattle.protocol.specs.declared.reply.DomainInfo.{DomainInfo}
+use Rattle.protocol.specs.declared.reply.HostInfo.{HostInfo}
+use Rattle.protocol.specs.declared.reply.TransferInfo.{TransferInfo}
+use Rattle.objects.specs.declared.contact.Postal.{Postal}
+use Rattle.objects.specs.StatusTexts.{status_text, rgp_text}
+use Rattle.eppreplies.specs.Members.{members_with, texts_value, moment_value}
+use Rattle.eppreplies.specs.Answer.{settled_value, answer_members, answer_value}
+use Rattle.eppreplies.specs.Reply.{reason_text, checked_members, checked_value, checks_value, created_members, transfer_members, transfer_value, postal_members, postal_value, contact_transfer_of, contact_members, host_members, domain_members, data_value, reply_members, reply_value, deleted_of, restore_requested_of, secret_of, transfer_of}
+
+abbrev pub IsPlain : Data → Type 0
+IsPlain d = has_float d ≡ false
+
+-- the values that are there are plain
+abbrev pub ArePlain : List (List ℕ × Option Data) → Type 0
+ArePlain [] = Unit {0}
+ArePlain (m ∷ ms) = IfSome m.1 IsPlain × ArePlain ms
+
+either_plain : (a b : Bool) → a ≡ false → b ≡ false → (a || b) ≡ false
+either_plain a b p q = rw (p, q) refl
+
+members_plain : (ms : List (List ℕ × Option Data)) → ArePlain ms → members_have_float (members_with ms) ≡ false
+members_plain [] p = refl
+members_plain ((k, None) ∷ ms) p = members_plain ms p.1
+members_plain ((k, Some d) ∷ ms) p = either_plain _ _ p.0 (members_plain ms p.1)
+
+items_plain : {X : Type 0} (f : X → Data) (xs : List X) → ((x : X) → IsPlain (f x)) → IsPlain (array (items_of (map f xs)))
+items_plain f [] p = refl
+items_plain f (x ∷ xs) p = either_plain _ _ (p x) (items_plain f xs p)
+
+maybe_plain : {X : Type 0} (f : X → Data) (o : Option X) → ((x : X) → IsPlain (f x)) → IfSome (option_map f o) IsPlain
+maybe_plain f None p = tt
+maybe_plain f (Some x) p = p x
+
+maybe_text : (o : Option (List ℕ)) → IfSome (option_map string o) IsPlain
+maybe_text o = maybe_plain string o (λ s. refl)
+
+maybe_moment : (o : Option ℕ) → IfSome (option_map moment_value o) IsPlain
+maybe_moment o = maybe_plain moment_value o (λ m. refl)
+
+texts : (ts : List (List ℕ)) → IsPlain (texts_value ts)
+texts ts = items_plain string ts (λ s. refl)
+
+checked_plain : (c : CheckResult) → IsPlain (checked_value c)
+checked_plain c = members_plain (checked_members c) (refl, (refl, (maybe_plain (λ r. string (reason_text r)) c.reason (λ r. refl), tt)))
+
+transfer_plain : (t : TransferInfo) → IsPlain (transfer_value t)
+transfer_plain t = members_plain (transfer_members t) (refl, (refl, (refl, (refl, (refl, tt)))))
+
+postal_plain : (p : Postal) → IsPlain (postal_value p)
+postal_plain p = members_plain (postal_members p) (refl, (refl, (refl, (maybe_text p.org, (maybe_text p.pc, (maybe_text p.sp, (texts p.street, tt)))))))
+
+contact_plain : (c : ContactInfo) → ArePlain (contact_members c)
+contact_plain c = (
+  refl,
+  (
+    refl,
+    (
+      maybe_plain (λ h. string h.mail) c.hidden (λ h. refl),
+      (
+        refl,
+        (
+          maybe_plain (λ h. postal_value h.postal) c.hidden (λ h. postal_plain h.postal),
+          (
+            refl,
+            (
+              maybe_text (option_and_then (λ h. h.secret) c.hidden),
+              (
+                texts (map status_text c.face.statuses),
+                (
+                  maybe_moment c.face.transferred,
+                  (
+                    maybe_plain transfer_value (contact_transfer_of c) transfer_plain,
+                    (maybe_moment c.face.updated, (maybe_text (option_and_then (λ h. h.voice) c.hidden), tt)),
+                  ),
+                ),
+              ),
+            ),
+          ),
+        ),
+      ),
+    ),
+  ),
+)
+
+host_plain : (h : HostInfo) → ArePlain (host_members h)
+host_plain h = (
+  texts h.face.addresses,
+  (refl, (refl, (refl, (refl, (texts (map status_text h.face.statuses), (maybe_moment h.face.updated, tt)))))),
+)
+
+domain_plain : (d : DomainInfo) → ArePlain (domain_members d)
+domain_plain d = (
+  texts d.face.links.admin,
+  (
+    refl,
+    (
+      refl,
+      (
+        maybe_moment (deleted_of d),
+        (
+          refl,
+          (
+            texts d.face.links.hosts,
+            (
+              refl,
+              (
+                refl,
+                (
+                  maybe_moment (restore_requested_of d),
+                  (
+                    texts (map rgp_text d.face.rgp),
+                    (
+                      refl,
+                      (
+                        maybe_text (secret_of d),
+                        (
+                          texts (map status_text d.face.statuses),
+                          (
+                            texts d.subordinate,
+                            (
+                              texts d.face.links.tech,
+                              (
+                                maybe_moment d.face.transferred,
+                                (maybe_plain transfer_value (transfer_of d) transfer_plain, (maybe_moment d.face.updated, tt)),
+                              ),
+                            ),
+                          ),
+                        ),
+                      ),
+                    ),
+                  ),
+                ),
+              ),
+            ),
+          ),
+        ),
+      ),
+    ),
+  ),
+)
+
+data_plain : (d : the_data.Data) → IsPlain (data_value d)
+data_plain (Checked results) = members_plain ((codes "results", Some (checks_value results)) ∷ []) (items_plain checked_value results checked_plain, tt)
+data_plain (Created c) = members_plain (created_members c) (maybe_plain (λ cents. string (decimal cents)) c.charge (λ n. refl), (refl, (maybe_moment c.expires, (refl, tt))))
+data_plain (Contact c) = members_plain (contact_members c) (contact_plain c)
+data_plain (Host h) = members_plain (host_members h) (host_plain h)
+data_plain (Domain d) = members_plain (domain_members d) (domain_plain d)
+
+pub reply_plain : (r : Reply) → IsPlain (reply_value r)
+reply_plain r = members_plain (reply_members r) (maybe_text r.cl_trid, (refl, (maybe_plain data_value r.content data_plain, (refl, (refl, tt)))))
+
+pub answer_plain : (code : Code) (done : Option ℕ) → IsPlain (answer_value code done)
+answer_plain code done = members_plain (answer_members code done) (refl, (maybe_plain settled_value done (λ n. refl), (refl, tt)))

@@ -1,0 +1,4 @@
+pub mod Members
+pub mod Item
+pub mod Reply
+pub mod Answer

@@ -1,0 +1,14 @@
+//! What is told in JSON: the reply to a command (RFC 5730, 2.6), and the answer to an order of the
+//! operator.
+//!
+//! - `reply`: a reply as a payload.
+//! - `answer`: the answer to an order.
+//! - `item`: what a member says, and an object of members.
+#![tactic(auto)]
+
+mod answer;
+mod item;
+mod reply;
+
+pub use answer::order_bytes;
+pub use reply::reply_bytes;
