@@ -11,7 +11,7 @@ abbrev pub empty_account : Account
 empty_account = record { lines = []; queue = []; commands = 0; messages = 0; serial = 0 }
 
 -- one command more was answered
-abbrev pub counted : Account → Account
+abbrev pub with_command : Account → Account
 with_command a = record a { commands = saturating_next a.commands }
 
 -- one object more was created

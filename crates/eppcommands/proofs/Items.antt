@@ -8,8 +8,8 @@ use Rattle.serde_json.specs.Data.{Data, Items}
 use Rattle.serde_json.specs.Find.{as_array}
 use Rattle.serde_json.specs.View.{view, items_view}
 use Rattle.serde_json.specs.declared.value.Value.{Value}
-use Rattle.protocol.specs.declared.code.Code.{Code}
-use Rattle.protocol.specs.declared.code.Code.TheVariants.{SyntaxError}
+use Rattle.protocol.specs.declared.form.FormFault.{FormFault}
+use Rattle.protocol.specs.declared.form.FormFault.TheVariants.{SyntaxError}
 use Rattle.eppforms.specs.Kind.{items_list}
 use Rattle.eppforms.proofs.Items.{items_list-items_view}
 use Rattle.eppcommands.specs.Reading.{items_in}
@@ -20,7 +20,7 @@ list_any_map p (v ∷ vs) = ap (λ (b : Bool). p (view v) || b) (list_any_map p 
 
 -- the items of an array that was looked for
 pub items_in-found : {V : Type 0} (items : V → List Value) (o : Option V) (d : Data) → option_map (λ v. items_view (items v)) o ≡ as_array d
-    → result_map_both (λ v. map view (items v)) (λ (code : Code). code) (ok_or o SyntaxError) ≡ items_in d
+    → result_map_both (λ v. map view (items v)) (λ (code : FormFault). code) (ok_or o SyntaxError) ≡ items_in d
 items_in-found items None d e = ap (λ (ds : Option Items). ok_or (option_map items_list ds) SyntaxError) e
 items_in-found items (Some v) d e =
     ap (λ (ds : List Data). Ok ds) (sym (items_list-items_view (items v))) ∙ ap (λ (ds : Option Items). ok_or (option_map items_list ds) SyntaxError) e

@@ -4,8 +4,8 @@ use Rattle.std.specs.Str.{is_utf8}
 use Rattle.serde_json.specs.Data.{Data}
 use Rattle.serde_json.specs.Read.{read}
 use Rattle.names.specs.Zone.{ZoneRules}
-use Rattle.protocol.specs.declared.code.Code.{Code}
-use Rattle.protocol.specs.declared.code.Code.TheVariants.{SyntaxError}
+use Rattle.protocol.specs.declared.form.FormFault.{FormFault}
+use Rattle.protocol.specs.declared.form.FormFault.TheVariants.{SyntaxError}
 use Rattle.protocol.specs.declared.command.Request.{Request}
 use Rattle.protocol.specs.declared.command.Command.{Command}
 use Rattle.protocol.specs.declared.command.Command.TheVariants.{Bad, Asked}
@@ -19,7 +19,7 @@ use Rattle.eppcommands.specs.Request.{request_in}
 abbrev pub cl_trid_in : Data → Option (List ℕ)
 cl_trid_in d = if some_and (λ v. in_range CL_TRID.kind v && has_shape CL_TRID.kind v) (member_at ClTrid d) then word_at ClTrid d else None
 
-abbrev pub command_with : Option (List ℕ) → Result Request Code → Command
+abbrev pub command_with : Option (List ℕ) → Result Request FormFault → Command
 command_with cl_trid (Ok request) = Asked cl_trid request
 command_with cl_trid (Err code) = Bad cl_trid code
 

@@ -3,7 +3,7 @@ use Rattle.std.specs.Prelude.{Option, Result, Ok}
 use Rattle.serde_json.specs.Data.{Data}
 use Rattle.objects.specs.declared.contact.Postal as postal
 use Rattle.objects.specs.declared.roid.ObjectKind.TheVariants.{Contact}
-use Rattle.protocol.specs.declared.code.Code.{Code}
+use Rattle.protocol.specs.declared.form.FormFault.{FormFault}
 use Rattle.protocol.specs.declared.command.Request.{Request}
 use Rattle.protocol.specs.declared.command.Request.TheVariants.{CheckContact, InfoContact, CreateContact, DeleteContact, UpdateContact}
 use Rattle.eppforms.specs.declared.member.Member.TheVariants as members
@@ -14,7 +14,7 @@ use Rattle.eppforms.specs.Member.{part_at}
 use Rattle.eppcommands.specs.Reading.{text_at, maybe_text_at, texts_at, statuses_at, maybe_in}
 
 -- the postal address in a section (RFC 5733, 2.4)
-unfoldable pub postal_at : Section → Data → Result postal.Postal Code
+unfoldable pub postal_at : Section → Data → Result postal.Postal FormFault
 postal_at section d = do
   name ← text_at section members.Name d
   org ← maybe_text_at section members.Org d
@@ -26,21 +26,21 @@ postal_at section d = do
   Ok (record { name = name; org = org; street = street; city = city; sp = sp; pc = pc; cc = cc })
 
 -- the same, where there is one
-abbrev pub maybe_postal_at : Section → Data → Result (Option postal.Postal) Code
+abbrev pub maybe_postal_at : Section → Data → Result (Option postal.Postal) FormFault
 maybe_postal_at section d = maybe_in (λ part. postal_at section d) (part_at section d)
 
-unfoldable pub check_contact : Data → Result Request Code
+unfoldable pub check_contact : Data → Result Request FormFault
 check_contact d = do
   names ← texts_at Top members.Names d
   Ok (CheckContact names)
 
-unfoldable pub info_contact : Data → Result Request Code
+unfoldable pub info_contact : Data → Result Request FormFault
 info_contact d = do
   name ← text_at Top members.Name d
   secret ← maybe_text_at Top members.Secret d
   Ok (InfoContact name secret)
 
-unfoldable pub create_contact : Data → Result Request Code
+unfoldable pub create_contact : Data → Result Request FormFault
 create_contact d = do
   name ← text_at Top members.Name d
   postal ← postal_at Postal d
@@ -49,12 +49,12 @@ create_contact d = do
   secret ← text_at Top members.Secret d
   Ok (CreateContact (record { name = name; postal = postal; voice = voice; mail = mail; secret = secret }))
 
-unfoldable pub delete_contact : Data → Result Request Code
+unfoldable pub delete_contact : Data → Result Request FormFault
 delete_contact d = do
   name ← text_at Top members.Name d
   Ok (DeleteContact name)
 
-unfoldable pub update_contact : Data → Result Request Code
+unfoldable pub update_contact : Data → Result Request FormFault
 update_contact d = do
   name ← text_at Top members.Name d
   add ← statuses_at Contact Add members.Statuses d

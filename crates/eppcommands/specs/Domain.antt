@@ -3,7 +3,7 @@ use Rattle.std.specs.Prelude.{Result, Ok}
 use Rattle.serde_json.specs.Data.{Data}
 use Rattle.names.specs.Zone.{ZoneRules}
 use Rattle.objects.specs.declared.roid.ObjectKind.TheVariants as kinds
-use Rattle.protocol.specs.declared.code.Code.{Code}
+use Rattle.protocol.specs.declared.form.FormFault.{FormFault}
 use Rattle.protocol.specs.declared.command.Request.{Request}
 use Rattle.protocol.specs.declared.command.Request.TheVariants.{CheckDomain, InfoDomain, CreateDomain, UpdateDomain}
 use Rattle.protocol.specs.declared.command.DomainLists.{DomainLists}
@@ -14,18 +14,18 @@ use Rattle.eppcommands.specs.declared.reading.NameOf.TheVariants.{Domain, Host}
 use Rattle.eppforms.specs.Form.{◌>>=◌}
 use Rattle.eppcommands.specs.Reading.{name_at, names_at, text_at, maybe_text_at, texts_at, statuses_at, whole_at}
 
-unfoldable pub check_domain : ZoneRules → Data → Result Request Code
+unfoldable pub check_domain : ZoneRules → Data → Result Request FormFault
 check_domain zone d = do
   names ← names_at Domain Top members.Names zone d
   Ok (CheckDomain names)
 
-unfoldable pub info_domain : ZoneRules → Data → Result Request Code
+unfoldable pub info_domain : ZoneRules → Data → Result Request FormFault
 info_domain zone d = do
   name ← name_at Domain Top members.Name zone d
   secret ← maybe_text_at Top members.Secret d
   Ok (InfoDomain name secret)
 
-unfoldable pub create_domain : ZoneRules → Data → Result Request Code
+unfoldable pub create_domain : ZoneRules → Data → Result Request FormFault
 create_domain zone d = do
   name ← name_at Domain Top members.Name zone d
   years ← whole_at Top members.Years 1 d
@@ -37,7 +37,7 @@ create_domain zone d = do
   Ok (CreateDomain (record { name = name; years = years; registrant = registrant; admin = admin; tech = tech; hosts = hosts; secret = secret }))
 
 -- what an update adds or removes
-unfoldable pub lists_of_domain : Section → ZoneRules → Data → Result DomainLists Code
+unfoldable pub lists_of_domain : Section → ZoneRules → Data → Result DomainLists FormFault
 lists_of_domain section zone d = do
   hosts ← names_at Host section members.Hosts zone d
   admin ← texts_at section members.Admin d
@@ -45,7 +45,7 @@ lists_of_domain section zone d = do
   statuses ← statuses_at kinds.Domain section members.Statuses d
   Ok (record { hosts = hosts; admin = admin; tech = tech; statuses = statuses })
 
-unfoldable pub update_domain : ZoneRules → Data → Result Request Code
+unfoldable pub update_domain : ZoneRules → Data → Result Request FormFault
 update_domain zone d = do
   name ← name_at Domain Top members.Name zone d
   add ← lists_of_domain Add zone d

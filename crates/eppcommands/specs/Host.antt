@@ -3,7 +3,7 @@ use Rattle.std.specs.Prelude.{Result, Ok}
 use Rattle.serde_json.specs.Data.{Data}
 use Rattle.names.specs.Zone.{ZoneRules}
 use Rattle.objects.specs.declared.roid.ObjectKind.TheVariants as kinds
-use Rattle.protocol.specs.declared.code.Code.{Code}
+use Rattle.protocol.specs.declared.form.FormFault.{FormFault}
 use Rattle.protocol.specs.declared.command.Request.{Request}
 use Rattle.protocol.specs.declared.command.Request.TheVariants.{CheckHost, InfoHost, CreateHost, DeleteHost, UpdateHost}
 use Rattle.protocol.specs.declared.command.HostLists.{HostLists}
@@ -14,35 +14,35 @@ use Rattle.eppcommands.specs.declared.reading.NameOf.TheVariants.{Host}
 use Rattle.eppforms.specs.Form.{◌>>=◌}
 use Rattle.eppcommands.specs.Reading.{name_at, maybe_name_at, names_at, addresses_at, statuses_at}
 
-unfoldable pub check_host : ZoneRules → Data → Result Request Code
+unfoldable pub check_host : ZoneRules → Data → Result Request FormFault
 check_host zone d = do
   names ← names_at Host Top members.Names zone d
   Ok (CheckHost names)
 
-unfoldable pub info_host : ZoneRules → Data → Result Request Code
+unfoldable pub info_host : ZoneRules → Data → Result Request FormFault
 info_host zone d = do
   name ← name_at Host Top members.Name zone d
   Ok (InfoHost name)
 
-unfoldable pub create_host : ZoneRules → Data → Result Request Code
+unfoldable pub create_host : ZoneRules → Data → Result Request FormFault
 create_host zone d = do
   name ← name_at Host Top members.Name zone d
   addresses ← addresses_at Top members.Addrs d
   Ok (CreateHost (record { name = name; addresses = addresses }))
 
-unfoldable pub delete_host : ZoneRules → Data → Result Request Code
+unfoldable pub delete_host : ZoneRules → Data → Result Request FormFault
 delete_host zone d = do
   name ← name_at Host Top members.Name zone d
   Ok (DeleteHost name)
 
 -- what an update adds or removes
-unfoldable pub lists_of_host : Section → Data → Result HostLists Code
+unfoldable pub lists_of_host : Section → Data → Result HostLists FormFault
 lists_of_host section d = do
   addresses ← addresses_at section members.Addrs d
   statuses ← statuses_at kinds.Host section members.Statuses d
   Ok (record { addresses = addresses; statuses = statuses })
 
-unfoldable pub update_host : ZoneRules → Data → Result Request Code
+unfoldable pub update_host : ZoneRules → Data → Result Request FormFault
 update_host zone d = do
   name ← name_at Host Top members.Name zone d
   add ← lists_of_host Add d

@@ -8,8 +8,8 @@ use Rattle.serde_json.specs.Read.{read}
 use Rattle.objects.specs.declared.roid.ObjectKind.{ObjectKind}
 use Rattle.objects.specs.declared.status.Status as the_status
 use Rattle.objects.specs.StatusTexts.{status_named}
-use Rattle.protocol.specs.declared.code.Code.{Code}
-use Rattle.protocol.specs.declared.code.Code.TheVariants.{SyntaxError, UnknownCommand}
+use Rattle.protocol.specs.declared.form.FormFault.{FormFault}
+use Rattle.protocol.specs.declared.form.FormFault.TheVariants.{SyntaxError, UnknownCommand}
 use Rattle.protocol.specs.declared.order.Order as the_order
 use Rattle.protocol.specs.declared.order.Order.TheVariants.{Status}
 use Rattle.eppforms.specs.declared.member.Member.{Member}
@@ -38,7 +38,7 @@ statuses_told (d ∷ ds) = with_status (status_told d) (statuses_told ds)
 abbrev pub any_unknown_status : List Data → Bool
 any_unknown_status ds = list_any (λ d. is_none (status_told d)) ds
 
-abbrev pub list_at : Member → Data → Result (List Data) Code
+abbrev pub list_at : Member → Data → Result (List Data) FormFault
 list_at m d = required items_in (member_at m d)
 
 -- each member is there, and none but these
@@ -46,7 +46,7 @@ abbrev pub has_form : Data → Bool
 has_form d = has_only STATUS_ORDER.now d && has_all STATUS_ORDER.now d
 
 -- the kind of object of an order to set and take away statuses
-unfoldable pub kind_ordered : Data → Result ObjectKind Code
+unfoldable pub kind_ordered : Data → Result ObjectKind FormFault
 kind_ordered d = do
   _ ← refuse_unless (has_form d) SyntaxError
   order ← ok_or (word_at members.Order d) SyntaxError
@@ -54,7 +54,7 @@ kind_ordered d = do
   obj ← ok_or (word_at members.Obj d) SyntaxError
   ok_or (object_named obj) UnknownCommand
 
-unfoldable pub status_order : Data → Result the_order.Order Code
+unfoldable pub status_order : Data → Result the_order.Order FormFault
 status_order d = do
   kind ← kind_ordered d
   name ← text_at Top members.Name d
@@ -63,7 +63,7 @@ status_order d = do
   Ok (Status (record { kind = kind; name = name; add = statuses_told add; rem = statuses_told rem; has_unknown_status = any_unknown_status add || any_unknown_status rem }))
 
 -- what is of another form is no order, whatever is wrong with it
-abbrev pub if_ok : {A : Type 0} → Result A Code → Option A
+abbrev pub if_ok : {A : Type 0} → Result A FormFault → Option A
 if_ok (Ok x) = Some x
 if_ok (Err code) = None
 

@@ -12,8 +12,8 @@ use Rattle.objects.specs.declared.roid.ObjectKind.{ObjectKind}
 use Rattle.objects.specs.declared.status.Status.{Status}
 use Rattle.objects.specs.StatusTexts.{status_named}
 use Rattle.objects.specs.Statuses.{client_statuses, has_status}
-use Rattle.protocol.specs.declared.code.Code.{Code}
-use Rattle.protocol.specs.declared.code.Code.TheVariants.{SyntaxError, ParameterMissing, ParameterRange, ParameterSyntax}
+use Rattle.protocol.specs.declared.form.FormFault.{FormFault}
+use Rattle.protocol.specs.declared.form.FormFault.TheVariants.{SyntaxError, ParameterMissing, ParameterRange, ParameterSyntax}
 use Rattle.eppforms.specs.declared.member.Member.{Member}
 use Rattle.eppforms.specs.declared.member.Section.{Section}
 use Rattle.eppcommands.specs.declared.reading.Fault.{Fault}
@@ -25,7 +25,7 @@ use Rattle.eppforms.specs.Form.{◌>>=◌, refuse_unless}
 use Rattle.eppforms.specs.Member.{value_at}
 
 -- what a function returned is what reading gives, unless memory ran out
-abbrev pub Gives : {A : Type 0} → Result A Fault → Result A Code → Type 0
+abbrev pub Gives : {A : Type 0} → Result A Fault → Result A FormFault → Type 0
 Gives (Ok x) read = read ≡ Ok x
 Gives (Err (Refused code)) read = read ≡ Err code
 Gives (Err Memory) read = Unit {0}
@@ -38,7 +38,7 @@ fault_of name_faults.Policy = Refused ParameterSyntax
 -- ---- one value
 
 -- what was read, or that the text has another shape
-abbrev pub or_shape : {A : Type 0} → Result A name_fault.NameFault → Result A Code
+abbrev pub or_shape : {A : Type 0} → Result A name_fault.NameFault → Result A FormFault
 or_shape (Ok x) = Ok x
 or_shape (Err fault) = Err ParameterSyntax
 
@@ -46,94 +46,94 @@ abbrev pub given : NameOf → ZoneRules → List ℕ → Result GivenName name_f
 given Domain zone text = given_domain zone text
 given Host zone text = given_host zone text
 
-unfoldable pub name_in : NameOf → ZoneRules → Data → Result GivenName Code
+unfoldable pub name_in : NameOf → ZoneRules → Data → Result GivenName FormFault
 name_in kind zone d = do
   text ← ok_or (as_str d) SyntaxError
   or_shape (given kind zone text)
 
-abbrev pub text_in : Data → Result (List ℕ) Code
+abbrev pub text_in : Data → Result (List ℕ) FormFault
 text_in d = ok_or (as_str d) SyntaxError
 
 -- an address, in its canonical text (RFC 5732, 2.5)
-unfoldable pub address_in : Data → Result (List ℕ) Code
+unfoldable pub address_in : Data → Result (List ℕ) FormFault
 address_in d = do
   text ← ok_or (as_str d) SyntaxError
   or_shape (address_of text)
 
 -- a status that a sponsor may set on an object of that kind
-unfoldable pub client_status : ObjectKind → Status → Result Status Code
+unfoldable pub client_status : ObjectKind → Status → Result Status FormFault
 client_status kind status = do
   _ ← refuse_unless (has_status (client_statuses kind) status) ParameterSyntax
   Ok status
 
-unfoldable pub status_in : ObjectKind → Data → Result Status Code
+unfoldable pub status_in : ObjectKind → Data → Result Status FormFault
 status_in kind d = do
   text ← ok_or (as_str d) SyntaxError
   status ← ok_or (status_named text) ParameterSyntax
   client_status kind status
 
 -- each of a list
-abbrev pub all_in : {A : Type 0} → (Data → Result A Code) → List Data → Result (List A) Code
+abbrev pub all_in : {A : Type 0} → (Data → Result A FormFault) → List Data → Result (List A) FormFault
 all_in read [] = Ok []
 all_in read (d ∷ ds) = do
   x ← read d
   xs ← all_in read ds
   Ok (x ∷ xs)
 
-abbrev pub items_in : Data → Result (List Data) Code
+abbrev pub items_in : Data → Result (List Data) FormFault
 items_in d = ok_or (option_map items_list (as_array d)) SyntaxError
 
 -- a list that is missing is empty
-abbrev pub list_in : {A : Type 0} → (Data → Result A Code) → Option Data → Result (List A) Code
+abbrev pub list_in : {A : Type 0} → (Data → Result A FormFault) → Option Data → Result (List A) FormFault
 list_in read None = Ok []
 list_in read (Some d) = do
   items ← items_in d
   all_in read items
 
-abbrev pub maybe_in : {A : Type 0} → (Data → Result A Code) → Option Data → Result (Option A) Code
+abbrev pub maybe_in : {A : Type 0} → (Data → Result A FormFault) → Option Data → Result (Option A) FormFault
 maybe_in read None = Ok None
 maybe_in read (Some d) = do
   x ← read d
   Ok (Some x)
 
-abbrev pub whole_in : ℕ → Option Data → Result ℕ Code
+abbrev pub whole_in : ℕ → Option Data → Result ℕ FormFault
 whole_in default None = Ok default
 whole_in default (Some d) = do
   n ← ok_or (option_and_then as_u64 (as_number d)) SyntaxError
   _ ← refuse_unless (nat_lt n (2 ^ 32)) ParameterRange
   Ok n
 
-abbrev pub required : {A : Type 0} → (Data → Result A Code) → Option Data → Result A Code
+abbrev pub required : {A : Type 0} → (Data → Result A FormFault) → Option Data → Result A FormFault
 required read o = do
   d ← ok_or o ParameterMissing
   read d
 
 -- ---- a member in a section
 
-abbrev pub name_at : NameOf → Section → Member → ZoneRules → Data → Result GivenName Code
+abbrev pub name_at : NameOf → Section → Member → ZoneRules → Data → Result GivenName FormFault
 name_at kind section m zone d = required (name_in kind zone) (value_at section m d)
 
-abbrev pub maybe_name_at : NameOf → Section → Member → ZoneRules → Data → Result (Option GivenName) Code
+abbrev pub maybe_name_at : NameOf → Section → Member → ZoneRules → Data → Result (Option GivenName) FormFault
 maybe_name_at kind section m zone d = maybe_in (name_in kind zone) (value_at section m d)
 
-abbrev pub names_at : NameOf → Section → Member → ZoneRules → Data → Result (List GivenName) Code
+abbrev pub names_at : NameOf → Section → Member → ZoneRules → Data → Result (List GivenName) FormFault
 names_at kind section m zone d = list_in (name_in kind zone) (value_at section m d)
 
-abbrev pub text_at : Section → Member → Data → Result (List ℕ) Code
+abbrev pub text_at : Section → Member → Data → Result (List ℕ) FormFault
 text_at section m d = required text_in (value_at section m d)
 
-abbrev pub maybe_text_at : Section → Member → Data → Result (Option (List ℕ)) Code
+abbrev pub maybe_text_at : Section → Member → Data → Result (Option (List ℕ)) FormFault
 maybe_text_at section m d = maybe_in text_in (value_at section m d)
 
-abbrev pub texts_at : Section → Member → Data → Result (List (List ℕ)) Code
+abbrev pub texts_at : Section → Member → Data → Result (List (List ℕ)) FormFault
 texts_at section m d = list_in text_in (value_at section m d)
 
-abbrev pub addresses_at : Section → Member → Data → Result (List (List ℕ)) Code
+abbrev pub addresses_at : Section → Member → Data → Result (List (List ℕ)) FormFault
 addresses_at section m d = list_in address_in (value_at section m d)
 
-abbrev pub statuses_at : ObjectKind → Section → Member → Data → Result (List Status) Code
+abbrev pub statuses_at : ObjectKind → Section → Member → Data → Result (List Status) FormFault
 statuses_at kind section m d = list_in (status_in kind) (value_at section m d)
 
 -- a number, or the one that stands for none
-abbrev pub whole_at : Section → Member → ℕ → Data → Result ℕ Code
+abbrev pub whole_at : Section → Member → ℕ → Data → Result ℕ FormFault
 whole_at section m default d = whole_in default (value_at section m d)

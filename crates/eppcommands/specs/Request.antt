@@ -2,7 +2,7 @@
 use Rattle.std.specs.Prelude.{Result}
 use Rattle.serde_json.specs.Data.{Data}
 use Rattle.names.specs.Zone.{ZoneRules}
-use Rattle.protocol.specs.declared.code.Code.{Code}
+use Rattle.protocol.specs.declared.form.FormFault.{FormFault}
 use Rattle.protocol.specs.declared.command.Request.{Request}
 use Rattle.eppforms.specs.declared.table.CommandKind.{CommandKind}
 use Rattle.eppforms.specs.declared.table.CommandKind.TheVariants.{CheckContact, CheckDomain, CheckHost, InfoContact, InfoDomain, InfoHost, CreateContact, CreateDomain, CreateHost, DeleteContact, DeleteHost, UpdateContact, UpdateDomain, UpdateHost}
@@ -11,7 +11,7 @@ use Rattle.eppcommands.specs.Contact.{check_contact, info_contact, create_contac
 use Rattle.eppcommands.specs.Domain.{check_domain, info_domain, create_domain, update_domain}
 use Rattle.eppcommands.specs.Host.{check_host, info_host, create_host, delete_host, update_host}
 
-abbrev pub request_of : CommandKind → ZoneRules → Data → Result Request Code
+abbrev pub request_of : CommandKind → ZoneRules → Data → Result Request FormFault
 request_of CheckContact zone d = check_contact d
 request_of CheckDomain zone d = check_domain zone d
 request_of CheckHost zone d = check_host zone d
@@ -28,7 +28,7 @@ request_of UpdateDomain zone d = update_domain zone d
 request_of UpdateHost zone d = update_host zone d
 
 -- the request of a payload's JSON, or the first fault of its form
-unfoldable pub request_in : ZoneRules → Data → Result Request Code
+unfoldable pub request_in : ZoneRules → Data → Result Request FormFault
 request_in zone d = do
   command ← checked_command d
   request_of command zone d

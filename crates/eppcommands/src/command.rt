@@ -10,7 +10,7 @@ use eppforms::{CL_TRID, Member, member_of, word};
 use names::Zone;
 use serde_json::Value;
 use std::alloc::{AllocError, Global};
-use protocol::{Code, Command};
+use protocol::{FormFault, Command};
 
 /// Reads a command. Where its form is refused, it says by which code.
 pub fn command_of(alloc: Global, payload: &[u8], zone: &Zone) -> Result<Command, AllocError>
@@ -21,7 +21,7 @@ pub fn command_of(alloc: Global, payload: &[u8], zone: &Zone) -> Result<Command,
         Err(error) if error.is_memory() => Err(AllocError),
         Err(_) => Ok(Command::Bad {
             cl_trid: None,
-            code: Code::SyntaxError,
+            fault: FormFault::SyntaxError,
         }),
     }
 }
@@ -35,7 +35,7 @@ fn command_of_value(alloc: Global, value: &Value, zone: &Zone) -> Result<Command
             cl_trid,
             request,
         }),
-        Err(Fault::Refused(code)) => Ok(Command::Bad { cl_trid, code }),
+        Err(Fault::Refused(fault)) => Ok(Command::Bad { cl_trid, fault }),
         Err(Fault::Memory) => Err(AllocError),
     }
 }

@@ -13,7 +13,7 @@ use eppforms::{Member, STATUS_ORDER, has_all, has_only, member_of, object_named,
 use objects::{ObjectKind, Status};
 use serde_json::Value;
 use std::alloc::{AllocError, Global};
-use protocol::{Code, Order, StatusOrder};
+use protocol::{FormFault, Order, StatusOrder};
 
 /// Reads an order. There is none where the payload is of another form.
 pub fn order_of(alloc: Global, payload: &[u8]) -> Result<Option<Order>, AllocError>
@@ -55,18 +55,18 @@ fn status_order(alloc: Global, value: &Value) -> Result<Order, Fault>
 
 /// The kind of object of an order to set and take away statuses.
 #[tactic(auto, unfolding(crate::specs::Order::kind_ordered))]
-fn kind_ordered(value: &Value) -> Result<ObjectKind, Code>
+fn kind_ordered(value: &Value) -> Result<ObjectKind, FormFault>
     ensures { result ≡ spec.kind_ordered (view value.now) }
 {
     if !has_form(value) {
-        return Err(Code::SyntaxError);
+        return Err(FormFault::SyntaxError);
     }
-    let order = word(value, Member::Order).ok_or(Code::SyntaxError)?;
+    let order = word(value, Member::Order).ok_or(FormFault::SyntaxError)?;
     if order != "status" {
-        return Err(Code::UnknownCommand);
+        return Err(FormFault::UnknownCommand);
     }
-    let kind = word(value, Member::Obj).ok_or(Code::SyntaxError)?;
-    object_named(kind).ok_or(Code::UnknownCommand)
+    let kind = word(value, Member::Obj).ok_or(FormFault::SyntaxError)?;
+    object_named(kind).ok_or(FormFault::UnknownCommand)
 }
 
 /// Each member is there, and none but these.
@@ -76,10 +76,10 @@ fn has_form(value: &Value) -> bool
     has_only(STATUS_ORDER, value) && has_all(STATUS_ORDER, value)
 }
 
-fn list_at(at: Member, value: &Value) -> Result<&Vec<Value>, Code>
+fn list_at(at: Member, value: &Value) -> Result<&Vec<Value>, FormFault>
     ensures { result_map_both (λ items. map view items.now.items) (λ code. code) result ≡ spec.list_at at (view value.now) }
 {
-    let found = member_of(value, at).ok_or(Code::ParameterMissing)?;
+    let found = member_of(value, at).ok_or(FormFault::ParameterMissing)?;
     items_in(found)
 }
 

@@ -13,13 +13,13 @@ use names::{Address, DomainName, GivenName, HostName, NameFault, Zone};
 use objects::{ObjectKind, Status};
 use serde_json::Value;
 use std::alloc::{AllocError, Global};
-use protocol::Code;
+use protocol::FormFault;
 
 /// Why a payload gives no request.
 #[derive(Clone, Copy)]
 pub enum Fault {
     /// Its form is refused.
-    Refused(Code),
+    Refused(FormFault),
     /// Memory ran out.
     Memory,
 }
@@ -32,10 +32,10 @@ impl From<AllocError> for Fault {
     }
 }
 
-impl From<Code> for Fault {
+impl From<FormFault> for Fault {
     ghost from_gives = { λ code fault. fault ≡ Refused code };
 
-    fn from(code: Code) -> Fault {
+    fn from(code: FormFault) -> Fault {
         Fault::Refused(code)
     }
 }
@@ -46,7 +46,7 @@ impl From<NameFault> for Fault {
     fn from(fault: NameFault) -> Fault {
         match fault {
             NameFault::Memory => Fault::Memory,
-            NameFault::Syntax | NameFault::Policy => Fault::Refused(Code::ParameterSyntax),
+            NameFault::Syntax | NameFault::Policy => Fault::Refused(FormFault::ParameterSyntax),
         }
     }
 }
@@ -62,7 +62,7 @@ pub enum NameOf {
 fn name_in(alloc: Global, kind: NameOf, value: &Value, zone: &Zone) -> Result<GivenName, Fault>
     ensures { spec.Gives result (spec.name_in kind zone.now (view value.now)) }
 {
-    let text = value.as_str().ok_or(Code::SyntaxError)?;
+    let text = value.as_str().ok_or(FormFault::SyntaxError)?;
     Ok(match kind {
         NameOf::Domain => DomainName::given(alloc, text, zone)?,
         NameOf::Host => HostName::given(alloc, text, zone)?,
@@ -79,7 +79,7 @@ pub fn name_at(
 ) -> Result<GivenName, Fault>
     ensures { spec.Gives result (spec.name_at kind section at zone.now (view value.now)) }
 {
-    let found = value_at(value, section, at).ok_or(Code::ParameterMissing)?;
+    let found = value_at(value, section, at).ok_or(FormFault::ParameterMissing)?;
     name_in(alloc, kind, found, zone)
 }
 
@@ -101,10 +101,10 @@ pub fn maybe_name_at(
 }
 
 /// The items of a list.
-pub fn items_in(value: &Value) -> Result<&Vec<Value>, Code>
+pub fn items_in(value: &Value) -> Result<&Vec<Value>, FormFault>
     ensures { result_map_both (λ items. map view items.now.items) (λ code. code) result ≡ spec.items_in (view value.now) }
 {
-    value.as_array().ok_or(Code::SyntaxError)
+    value.as_array().ok_or(FormFault::SyntaxError)
 }
 
 /// The names of a list, none where there is no list.
@@ -144,14 +144,14 @@ fn all_names(
 fn text_in(alloc: Global, value: &Value) -> Result<Text, Fault>
     ensures { spec.Gives result (spec.text_in (view value.now)) }
 {
-    let text = value.as_str().ok_or(Code::SyntaxError)?;
+    let text = value.as_str().ok_or(FormFault::SyntaxError)?;
     Ok(Text::from_str(alloc, text)?)
 }
 
 pub fn text_at(alloc: Global, section: Section, at: Member, value: &Value) -> Result<Text, Fault>
     ensures { spec.Gives result (spec.text_at section at (view value.now)) }
 {
-    let found = value_at(value, section, at).ok_or(Code::ParameterMissing)?;
+    let found = value_at(value, section, at).ok_or(FormFault::ParameterMissing)?;
     text_in(alloc, found)
 }
 
@@ -199,7 +199,7 @@ fn all_texts(alloc: Global, items: &[Value]) -> Result<Seq<Text>, Fault>
 fn address_in(alloc: Global, value: &Value) -> Result<Text, Fault>
     ensures { spec.Gives result (spec.address_in (view value.now)) }
 {
-    let text = value.as_str().ok_or(Code::SyntaxError)?;
+    let text = value.as_str().ok_or(FormFault::SyntaxError)?;
     Ok(Address::read(alloc, text)?.into_text())
 }
 
@@ -231,20 +231,20 @@ fn all_addresses(alloc: Global, items: &[Value]) -> Result<Seq<Text>, Fault>
 
 /// A status that a sponsor may set on an object of that kind.
 #[tactic(auto, unfolding(crate::specs::Reading::status_in))]
-fn status_in(kind: ObjectKind, value: &Value) -> Result<Status, Code>
+fn status_in(kind: ObjectKind, value: &Value) -> Result<Status, FormFault>
     ensures { result ≡ spec.status_in kind (view value.now) }
 {
-    let text = value.as_str().ok_or(Code::SyntaxError)?;
-    let status = Status::named(text).ok_or(Code::ParameterSyntax)?;
+    let text = value.as_str().ok_or(FormFault::SyntaxError)?;
+    let status = Status::named(text).ok_or(FormFault::ParameterSyntax)?;
     client_status(kind, status)
 }
 
 #[tactic(auto, unfolding(crate::specs::Reading::client_status))]
-fn client_status(kind: ObjectKind, status: Status) -> Result<Status, Code>
+fn client_status(kind: ObjectKind, status: Status) -> Result<Status, FormFault>
     ensures { result ≡ spec.client_status kind status }
 {
     if !status.is_client_of(kind) {
-        return Err(Code::ParameterSyntax);
+        return Err(FormFault::ParameterSyntax);
     }
     Ok(status)
 }
@@ -277,15 +277,15 @@ fn all_statuses(alloc: Global, kind: ObjectKind, items: &[Value]) -> Result<Seq<
 }
 
 /// A whole number, or the one that stands for none.
-pub fn whole_at(section: Section, at: Member, default: u32, value: &Value) -> Result<u32, Code>
+pub fn whole_at(section: Section, at: Member, default: u32, value: &Value) -> Result<u32, FormFault>
     ensures { result ≡ spec.whole_at section at default (view value.now) }
 {
     let Some(found) = value_at(value, section, at) else {
         return Ok(default);
     };
-    let number = found.as_u64().ok_or(Code::SyntaxError)?;
+    let number = found.as_u64().ok_or(FormFault::SyntaxError)?;
     if number > u64::from(u32::MAX) {
-        return Err(Code::ParameterRange);
+        return Err(FormFault::ParameterRange);
     }
     Ok(number as u32)
 }

@@ -4,8 +4,8 @@ use Rattle.std.specs.Prelude.{◌&&◌, ◌||◌, bytes_eq, find, is_some, not}
 use Rattle.std.specs.Option.{ok_or}
 use Rattle.std.specs.Result.{result_map_both}
 use Rattle.serde_json.specs.Data.{Data}
-use Rattle.protocol.specs.declared.code.Code.{Code}
-use Rattle.protocol.specs.declared.code.Code.TheVariants.{SyntaxError, UnknownCommand}
+use Rattle.protocol.specs.declared.form.FormFault.{FormFault}
+use Rattle.protocol.specs.declared.form.FormFault.TheVariants.{SyntaxError, UnknownCommand}
 use Rattle.eppforms.specs.declared.member.Member.TheVariants as members
 use Rattle.eppforms.specs.declared.table.Choice.{Choice}
 use Rattle.eppforms.specs.Member.{word_at}
@@ -34,7 +34,7 @@ chosen_of g [] cmd obj = refl
 chosen_of g (form ∷ forms) cmd obj =
     first_of (with_members g) (bytes_eq (verb_text form.0.cmd) cmd && is_on form.0.object obj) form (chosen forms cmd obj) _ (chosen_of g forms cmd obj)
 
-abbrev steps : {A : Type 0} → Bool → Bool → Option A → Result A Code
+abbrev steps : {A : Type 0} → Bool → Bool → Option A → Result A FormFault
 steps known fits found = refuse_unless known UnknownCommand >>= (λ _. refuse_unless fits SyntaxError >>= (λ _. ok_or found UnknownCommand))
 
 steps_of : {A B : Type 0} (f : A → B) (known fits : Bool) (found : Option A) → steps known fits (option_map f found) ≡ result_map_both f (λ code. code) (steps known fits found)
@@ -43,7 +43,7 @@ steps_of f true true None = refl
 steps_of f true false found = refl
 steps_of f false fits found = refl
 
-abbrev found_at : {M : Type 0} → List (Choice × M) → Option (List ℕ) → Option (List ℕ) → Result (Choice × M) Code
+abbrev found_at : {M : Type 0} → List (Choice × M) → Option (List ℕ) → Option (List ℕ) → Result (Choice × M) FormFault
 found_at forms cmd obj =
     ok_or cmd SyntaxError >>= (λ c. steps (is_known forms c) (not (takes_object forms c) || is_some obj) (chosen forms c obj))
 

@@ -4,8 +4,8 @@ use Rattle.std.specs.List.{list_all, list_any}
 use Rattle.serde_json.specs.Data.{Data, Members, no_members, member}
 use Rattle.serde_json.specs.Find.{as_object}
 use Rattle.objects.specs.declared.roid.ObjectKind.{ObjectKind}
-use Rattle.protocol.specs.declared.code.Code.{Code}
-use Rattle.protocol.specs.declared.code.Code.TheVariants.{SyntaxError, UnknownCommand, ParameterMissing, ParameterRange, ParameterSyntax}
+use Rattle.protocol.specs.declared.form.FormFault.{FormFault}
+use Rattle.protocol.specs.declared.form.FormFault.TheVariants.{SyntaxError, UnknownCommand, ParameterMissing, ParameterRange, ParameterSyntax}
 use Rattle.eppforms.specs.declared.member.Member.TheVariants as members
 use Rattle.eppforms.specs.declared.member.Section.{Section}
 use Rattle.eppforms.specs.declared.member.Section.TheVariants.{Top, Postal, Add, Rem, Chg, ChgPostal}
@@ -19,11 +19,11 @@ use Rattle.eppforms.specs.Table.{CommandForm, command_forms, verb_text, object_t
 
 -- one step after another, up to the first fault
 infixl 10 ◌>>=◌
-abbrev pub ◌>>=◌ : {A B : Type 0} → Result A Code → (A → Result B Code) → Result B Code
+abbrev pub ◌>>=◌ : {A B : Type 0} → Result A FormFault → (A → Result B FormFault) → Result B FormFault
 (Ok x) >>= f = f x
 (Err code) >>= f = Err code
 
-abbrev pub refuse_unless : Bool → Code → Result ⊤ Code
+abbrev pub refuse_unless : Bool → FormFault → Result ⊤ FormFault
 refuse_unless holds code = if holds then Ok tt else Err code
 
 -- ---- the form
@@ -45,7 +45,7 @@ abbrev pub chosen : {M : Type 0} → List (Choice × M) → List ℕ → Option 
 chosen forms cmd obj = find (λ form. bytes_eq (verb_text form.0.cmd) cmd && is_on form.0.object obj) forms
 
 -- the form that `cmd` and `obj` choose, whatever its members are
-unfoldable pub form_in : {M : Type 0} → List (Choice × M) → Data → Result (Choice × M) Code
+unfoldable pub form_in : {M : Type 0} → List (Choice × M) → Data → Result (Choice × M) FormFault
 form_in forms d = do
   cmd ← ok_or (word_at members.Cmd d) SyntaxError
   _ ← refuse_unless (is_known forms cmd) UnknownCommand
@@ -106,7 +106,7 @@ each test fields d = list_all (λ f. none_or (test f.kind) (value_of f d)) field
 
 -- ---- the order of faults
 
-unfoldable pub members_checked : CommandForm → Data → Result ⊤ Code
+unfoldable pub members_checked : CommandForm → Data → Result ⊤ FormFault
 members_checked form d = do
   _ ← refuse_unless (has_only form.1 d) SyntaxError
   _ ← refuse_unless (is_complete form d) ParameterMissing
@@ -114,12 +114,12 @@ members_checked form d = do
   refuse_unless (each has_shape form.1 d) ParameterSyntax
 
 -- the command that a value is by a table, or the first fault of its form
-unfoldable pub checked_by : List CommandForm → Data → Result CommandKind Code
+unfoldable pub checked_by : List CommandForm → Data → Result CommandKind FormFault
 checked_by forms d = do
   form ← form_in forms d
   _ ← members_checked form d
   Ok form.0.command
 
 -- the same by the table of the commands
-abbrev pub checked_command : Data → Result CommandKind Code
+abbrev pub checked_command : Data → Result CommandKind FormFault
 checked_command d = checked_by command_forms d

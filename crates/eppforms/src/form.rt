@@ -14,10 +14,10 @@ use crate::table::{CommandForm, CommandKind, FORMS, Field, object_text};
 use crate::value::{found, part, word};
 use objects::ObjectKind;
 use serde_json::{Map, Value};
-use protocol::Code;
+use protocol::FormFault;
 
 /// The command that a value is, where its members are what its form asks; else the first fault.
-pub fn checked_command(value: &Value) -> Result<CommandKind, Code>
+pub fn checked_command(value: &Value) -> Result<CommandKind, FormFault>
     ensures { result ≡ spec.checked_command (view value.now) }
 {
     checked_by(FORMS, value)
@@ -25,7 +25,7 @@ pub fn checked_command(value: &Value) -> Result<CommandKind, Code>
 
 /// The same by any table: no proof below reads the rows of one.
 #[tactic(auto, unfolding(crate::specs::Form::checked_by))]
-pub fn checked_by(forms: &[CommandForm], value: &Value) -> Result<CommandKind, Code>
+pub fn checked_by(forms: &[CommandForm], value: &Value) -> Result<CommandKind, FormFault>
     ensures { result ≡ spec.checked_by (map plain forms.now) (view value.now) }
 {
     let form = form_in(forms, value)?;
@@ -34,25 +34,25 @@ pub fn checked_by(forms: &[CommandForm], value: &Value) -> Result<CommandKind, C
 }
 
 /// The form that `cmd` and `obj` choose.
-fn form_in(forms: &[CommandForm], value: &Value) -> Result<CommandForm, Code>
+fn form_in(forms: &[CommandForm], value: &Value) -> Result<CommandForm, FormFault>
     ensures { result_map_both plain (λ code. code) result ≡ spec.form_in (map plain forms.now) (view value.now) }
 {
     form_found(forms, value)
 }
 
 #[tactic(auto, unfolding(crate::specs::Form::form_in))]
-fn form_found(forms: &[CommandForm], value: &Value) -> Result<CommandForm, Code>
+fn form_found(forms: &[CommandForm], value: &Value) -> Result<CommandForm, FormFault>
     ensures { result ≡ spec.form_in forms.now (view value.now) }
 {
-    let cmd = word(value, Member::Cmd).ok_or(Code::SyntaxError)?;
+    let cmd = word(value, Member::Cmd).ok_or(FormFault::SyntaxError)?;
     if !is_known(forms, cmd) {
-        return Err(Code::UnknownCommand);
+        return Err(FormFault::UnknownCommand);
     }
     let obj = word(value, Member::Obj);
     if takes_object(forms, cmd) && obj.is_none() {
-        return Err(Code::SyntaxError);
+        return Err(FormFault::SyntaxError);
     }
-    chosen(forms, cmd, obj).ok_or(Code::UnknownCommand)
+    chosen(forms, cmd, obj).ok_or(FormFault::UnknownCommand)
 }
 
 fn is_known(forms: &[CommandForm], cmd: &str) -> bool
@@ -89,21 +89,21 @@ fn is_on(object: Option<ObjectKind>, obj: Option<&str>) -> bool
 
 /// Checks the members of a command against its form.
 #[tactic(auto, unfolding(crate::specs::Form::members_checked))]
-fn check(form: CommandForm, value: &Value) -> Result<(), Code>
+fn check(form: CommandForm, value: &Value) -> Result<(), FormFault>
     ensures { result ≡ spec.members_checked (plain form.entry) (view value.now) }
 {
     let fields = form.1;
     if !has_only(fields, value) {
-        return Err(Code::SyntaxError);
+        return Err(FormFault::SyntaxError);
     }
     if !is_complete(form, value) {
-        return Err(Code::ParameterMissing);
+        return Err(FormFault::ParameterMissing);
     }
     if !are_in_range(fields, value) {
-        return Err(Code::ParameterRange);
+        return Err(FormFault::ParameterRange);
     }
     if !are_shaped(fields, value) {
-        return Err(Code::ParameterSyntax);
+        return Err(FormFault::ParameterSyntax);
     }
     Ok(())
 }

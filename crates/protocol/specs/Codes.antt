@@ -1,5 +1,7 @@
 -- The result codes (RFC 5730, 3).
 use Rattle.std.specs.Prelude.{ℕ, Bool, nat_lt, List, codes}
+use Rattle.protocol.specs.declared.form.FormFault.{FormFault}
+use Rattle.protocol.specs.declared.form.FormFault.TheVariants as faults
 use Rattle.protocol.specs.declared.code.Code.{Code}
 use Rattle.protocol.specs.declared.code.Code.TheVariants.{Completed, CompletedActionPending, CompletedNoMessages, CompletedAckToDequeue, CompletedEndingSession, UnknownCommand, SyntaxError, UseError, ParameterMissing, ParameterRange, ParameterSyntax, UnimplementedVersion, BillingFailure, NotEligibleForRenewal, NotEligibleForTransfer, AuthenticationError, AuthorizationError, InvalidAuthorization, PendingTransfer, NotPendingTransfer, ObjectExists, ObjectMissing, StatusProhibits, AssociationProhibits, ParameterPolicy, DataManagementPolicy, CommandFailed, CommandFailedClosing}
 
@@ -66,3 +68,11 @@ message_of CommandFailedClosing = codes "Command failed; server closing connecti
 -- codes below 2000 say that a command was carried out (RFC 5730, 3)
 abbrev pub is_accepted : Code → Bool
 is_accepted code = nat_lt (number_of code) 2000
+
+-- the code of a refused form
+abbrev pub code_of_form : FormFault → Code
+code_of_form faults.UnknownCommand = UnknownCommand
+code_of_form faults.SyntaxError = SyntaxError
+code_of_form faults.ParameterMissing = ParameterMissing
+code_of_form faults.ParameterRange = ParameterRange
+code_of_form faults.ParameterSyntax = ParameterSyntax

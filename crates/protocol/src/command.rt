@@ -3,7 +3,7 @@ ghost use Rattle.std.specs.Prelude.{◌≡◌, [], None, Some, false};
 ghost use Rattle.std.specs.Option.{option_copied};
 ghost use Rattle.protocol.specs.Requests as spec;
 
-use crate::code::Code;
+use crate::form::FormFault;
 use basis::list::Seq;
 use basis::text::Text;
 use names::GivenName;
@@ -14,7 +14,10 @@ use std::slice;
 #[derive(Drop)]
 pub enum Command {
     /// A payload whose form is refused.
-    Bad { cl_trid: Option<Text>, code: Code },
+    Bad {
+        cl_trid: Option<Text>,
+        fault: FormFault,
+    },
     /// A well formed command.
     Asked { cl_trid: Option<Text>, request: Request },
 }

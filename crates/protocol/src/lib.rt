@@ -4,6 +4,7 @@
 
 mod code;
 mod command;
+mod form;
 mod lists;
 mod order;
 mod reply;
@@ -13,6 +14,7 @@ pub use command::{
     Action, Command, ContactUpdate, DomainLists, DomainUpdate, HostLists, HostUpdate, NewContact,
     NewDomain, NewHost, Request,
 };
+pub use form::FormFault;
 pub use lists::{Lists, MOST_ADDRESSES, MOST_CONTACTS, MOST_HOSTS};
 pub use order::{Order, StatusOrder};
 pub use reply::{

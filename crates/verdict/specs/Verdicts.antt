@@ -4,6 +4,7 @@ use Rattle.policy.specs.Rules.{PolicyRules}
 use Rattle.protocol.specs.declared.code.Code.{Code}
 use Rattle.protocol.specs.declared.code.Code.TheVariants.{Completed}
 use Rattle.protocol.specs.declared.command.Command.{Command}
+use Rattle.protocol.specs.Codes.{code_of_form}
 use Rattle.protocol.specs.declared.command.Command.TheVariants.{Bad, Asked}
 use Rattle.facts.specs.declared.facts.Facts.{Facts}
 use Rattle.protocol.specs.declared.command.Request.{Request}
@@ -25,5 +26,5 @@ unless_refused None verdict = verdict
 
 -- what a registrar's command at a moment is answered
 unfoldable pub judged : PolicyRules → ℕ → ℕ → Command → Facts → Verdict
-judged p r t (Bad cl_trid code) f = refused code
+judged p r t (Bad cl_trid fault) f = refused (code_of_form fault)
 judged p r t (Asked cl_trid request) f = unless_refused (refusal_of p r t request f) (granted p r t request f)

@@ -51,7 +51,7 @@ fn verdict_on(
     ensures { IfOk result (λ verdict. verdict ≡ judged policy.now caller moment command.now facts.now) }
 {
     match command {
-        Command::Bad { code, .. } => Ok(refused(*code)),
+        Command::Bad { fault, .. } => Ok(refused(fault.code())),
         Command::Asked { request, .. } => match refusal_of(facts, caller, moment, request, policy) {
             Some(code) => Ok(refused(code)),
             None => grant(alloc, facts, caller, request, moment, policy),

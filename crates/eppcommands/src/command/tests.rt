@@ -15,7 +15,7 @@ fn zone(alloc: Global) -> Result<Zone, AllocError> {
 fn answer(alloc: Global, zone: &Zone, payload: &[u8]) -> Result<Code, AllocError> {
     let command = command_of(alloc, payload, zone)?;
     let code = match &command {
-        Command::Bad { code, .. } => *code,
+        Command::Bad { fault, .. } => fault.code(),
         Command::Asked { .. } => Code::Completed,
     };
     drop(command);

@@ -1,0 +1,148 @@
+#!/usr/bin/env python3
+"""What the merge gate costs, crate by crate, in processor minutes.
+
+    python3 bench/gate.py                    runs rt ci and writes the table of bench/GATE.md; ends as rt ci ends
+    python3 bench/gate.py functions CRATE..  which functions cost the prover most, without tests and with them
+    python3 bench/gate.py plants CRATE..     the counts of rt plant
+
+From the repository's root, with rt on the path, and nothing else running.
+"""
+import importlib.machinery
+import importlib.util
+import os
+import re
+import resource
+import shutil
+import subprocess
+import sys
+import threading
+import time
+
+sys.dont_write_bytecode = True
+RT = os.path.realpath(shutil.which("rt"))
+sys.path.insert(0, os.path.dirname(RT))
+PART = "| {:<12} | {:>6} | {:>6} | {:>6} | {:>6} | {:>5} |"
+
+
+def module(name, path):
+    loader = importlib.machinery.SourceFileLoader(name, path)
+    made = importlib.util.module_from_spec(importlib.util.spec_from_loader(name, loader))
+    sys.modules[name] = made
+    loader.exec_module(made)
+    return made
+
+
+def gate():
+    """Runs rt ci in this process, with each child's processor time put down under its crate."""
+    rt = module("rt_gate", RT)
+    spent, edits, names, lock = {}, {}, {}, threading.Lock()
+    started, waits = subprocess.Popen.__init__, os.waitpid
+
+    def start(self, args, *given, **named):
+        started(self, args, *given, **named)
+        words = [str(it) for it in args] if isinstance(args, (list, tuple)) else [str(args)]
+        crate = words[words.index("--crate-name") + 1] if "--crate-name" in words else os.path.basename(str(named.get("cwd") or "rest"))
+        part = "edits" if "rt-edit-" in str(named.get("cwd")) else "tests" if "--test" in words or crate.endswith("_tests") else "proof"
+        names[self.pid] = (crate.removesuffix("_tests"), part)
+
+    def wait(pid, flags):
+        found, status, used = os.wait4(pid, flags)
+        if found:
+            with lock:
+                key = names.pop(found, ("rest", "proof"))
+                spent[key] = spent.get(key, 0) + used.ru_utime + used.ru_stime
+        return found, status
+
+    tried = rt.must_fail_all
+
+    def all_edits(crate, good, flags):
+        edits[crate.name] = len(good)
+        return tried(crate, good, flags)
+
+    subprocess.Popen.__init__, os.waitpid, rt.must_fail_all = start, wait, all_edits
+    began = time.time()
+    status = rt.ci()
+    subprocess.Popen.__init__, os.waitpid = started, waits
+    write_table(spent, edits, time.time() - began)
+    return status
+
+
+def write_table(spent, edits, seconds):
+    crates = [line.split(":")[0] for line in open("crates.txt") if re.match(r"\w+.*:", line)]
+    others = sorted({crate for crate, _ in spent} - set(crates))
+    rows, sums = [], [0.0, 0.0, 0.0]
+    for crate in crates:
+        parts = [spent.get((crate, part), 0) / 60 for part in ("proof", "tests", "edits")]
+        sums = [a + b for a, b in zip(sums, parts)]
+        rows.append(PART.format(crate, *[f"{it:.1f}" for it in (*parts, sum(parts))], edits.get(crate, 0)))
+    rest = sum(value for (crate, _), value in spent.items() if crate in others) / 60
+    head = [PART.format("crate", "proof", "tests", "edits", "sum", "count"), "| --- | --- | --- | --- | --- | --- |"]
+    last = PART.format("all", *[f"{it:.1f}" for it in (*sums, sum(sums))], sum(edits.values()))
+    table = "\n".join([*head, *rows, last])
+    said = f"Processor minutes of one `rt ci`, whose wall time was {seconds / 60:.0f} min on {os.cpu_count()} processors; linking and running the programs took {rest:.1f} more."
+    put("gate", f"{said}\n\n{table}\n")
+
+
+def put(mark, text):
+    """Puts a text between its marks in bench/GATE.md."""
+    path = "bench/GATE.md"
+    page = open(path).read()
+    first, end = f"<!-- {mark} -->\n", f"<!-- end of {mark} -->"
+    before, after = page.split(first)[0], page.split(end)[1]
+    with open(path, "w") as it:
+        it.write(f"{before}{first}{text}{end}{after}")
+
+
+def used(pid):
+    try:
+        with open(f"/proc/{pid}/stat") as it:
+            return sum(int(x) for x in it.read().rsplit(")", 1)[1].split()[11:15]) / os.sysconf("SC_CLK_TCK")
+    except OSError:
+        return 0.0
+
+
+def functions(names):
+    """Checks each crate from nothing, one job, and lists the functions that cost most."""
+    rtlib = module("rtlib", os.path.join(os.path.dirname(RT), "rtlib.py"))
+    crates = {it.name: it for it in rtlib.crates_below(os.getcwd())}
+    for name in names:
+        for tests in (False, True):
+            crate = crates[name]
+            if tests and not crate.has_tests():
+                continue
+            words = [rtlib.RATTLE, "check", *crate.words(["--jobs", "1"], tests=tests, keeps=False), "--progress"]
+            before = resource.getrusage(resource.RUSAGE_CHILDREN)
+            ran = subprocess.Popen(words, cwd=crate.folder, stdin=subprocess.DEVNULL, stdout=subprocess.PIPE, stderr=subprocess.STDOUT, text=True, errors="replace")
+            rows, last = [], None
+            for line in ran.stdout:
+                at = re.match(r"checked (\S+), \d+ of", line)
+                if at:
+                    now = used(ran.pid)
+                    rows += [(now - last, at[1])] if last is not None else []
+                    last = now
+            ran.wait()
+            after = resource.getrusage(resource.RUSAGE_CHILDREN)
+            whole = after.ru_utime + after.ru_stime - before.ru_utime - before.ru_stime
+            print(f"{name}{' with its tests' if tests else ''}: {whole:.0f} s")
+            for seconds, what in sorted(rows, reverse=True)[:8]:
+                if seconds >= 5:
+                    print(f"  {seconds:5.1f}  {what}")
+
+
+def plants(names):
+    for name in names:
+        ran = subprocess.run(["rt", "plant", "--minutes", "10"], cwd=f"crates/{name}", stdout=subprocess.PIPE, stderr=subprocess.STDOUT, text=True, errors="replace")
+        lines = ran.stdout.rstrip("\n").split("\n")
+        print(f"{name}: {lines[-1]}")
+        print("\n".join(f"  {it}" for it in lines if re.match(r"proves\b", it)))
+
+
+def main(words):
+    if words[:1] == ["functions"]:
+        return functions(words[1:])
+    if words[:1] == ["plants"]:
+        return plants(words[1:])
+    return gate()
+
+
+sys.exit(main(sys.argv[1:]))
