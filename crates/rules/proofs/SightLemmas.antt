@@ -102,7 +102,7 @@ holds-seen r presented d = held-by r d (is_party r d.sponsor d.transfer) (author
 
 pub relinked_seen : List ℕ → List ℕ → Seen Domain DomainFace → Seen Domain DomainFace
 relinked_seen old new (Full d) = Full (with_host_renamed old new d)
-relinked_seen old new (TransferParty face t) = Named (record face { links = links_with_host_renamed old new face.links }) t
+relinked_seen old new (TransferParty face t) = TransferParty (record face { links = links_with_host_renamed old new face.links }) t
 relinked_seen old new (Public face) = Public (record face { links = links_with_host_renamed old new face.links })
 
 not-zero : (n : ℕ) (b : Bool) → (suc n == 0) ≡ b → b ≡ false
@@ -156,7 +156,7 @@ face-relinked old new d = ap (λ (f : Status → Bool). record (relinked_face ol
 relinked-outside : (r : ℕ) (old new : List ℕ) (face : DomainFace) (t : Option Transfer) → seen_by_outsider r (record face { links = links_with_host_renamed old new face.links }) t ≡ relinked_seen old new (seen_by_outsider r face t)
 unfolding relinked_seen
 relinked-outside r old new face None = refl
-relinked-outside r old new face (Some t) = elim (names r t) as (λ (b : Bool). let seen : Seen Domain DomainFace = cond b (TransferParty face t) (Public face) in ◌≡◌ {A = Seen Domain DomainFace} (cond b (Named (record face { links = links_with_host_renamed old new face.links }) t) (Public (record face { links = links_with_host_renamed old new face.links }))) (relinked_seen old new seen)) [ true ↦ refl | false ↦ refl ]
+relinked-outside r old new face (Some t) = elim (names r t) as (λ (b : Bool). let seen : Seen Domain DomainFace = cond b (TransferParty face t) (Public face) in ◌≡◌ {A = Seen Domain DomainFace} (cond b (TransferParty (record face { links = links_with_host_renamed old new face.links }) t) (Public (record face { links = links_with_host_renamed old new face.links }))) (relinked_seen old new seen)) [ true ↦ refl | false ↦ refl ]
 
 seen-relinked-by : (r : ℕ) (old new : List ℕ) (d : Domain) (b : Bool)
     → cond b (Full (with_host_renamed old new d)) (seen_by_outsider r (face_of (with_host_renamed old new d)) d.transfer) ≡ relinked_seen old new (cond b (Full d) (seen_by_outsider r (face_of d) d.transfer))
