@@ -15,7 +15,7 @@ use Rattle.protocol.specs.declared.order.Order.TheVariants.{Status}
 use Rattle.eppforms.specs.declared.member.Member.{Member}
 use Rattle.eppforms.specs.declared.member.Member.TheVariants as members
 use Rattle.eppforms.specs.declared.member.Section.TheVariants.{Top}
-use Rattle.eppforms.specs.declared.table.TheConstants.{STATUS_ORDER}
+use Rattle.eppforms.specs.declared.table.TheConstants.{STATUS_ORDER_FORM}
 use Rattle.eppforms.specs.Form.{◌>>=◌, refuse_unless, has_only, has_all}
 use Rattle.eppforms.specs.Member.{member_at, word_at}
 use Rattle.eppforms.specs.Table.{object_named}
@@ -43,7 +43,7 @@ list_at m d = required items_in (member_at m d)
 
 -- each member is there, and none but these
 abbrev pub has_form : Data → Bool
-has_form d = has_only STATUS_ORDER.now d && has_all STATUS_ORDER.now d
+has_form d = has_only STATUS_ORDER_FORM.now d && has_all STATUS_ORDER_FORM.now d
 
 -- the kind of object of an order to set and take away statuses
 unfoldable pub kind_ordered : Data → Result ObjectKind FormFault

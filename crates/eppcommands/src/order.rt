@@ -9,7 +9,7 @@ ghost use Rattle.eppcommands.specs.Order as spec;
 use crate::reading::{Fault, items_in, text_at};
 use basis::list::Seq;
 use eppforms::Section::Top;
-use eppforms::{Member, STATUS_ORDER, has_all, has_only, member_of, object_named, word};
+use eppforms::{Member, STATUS_ORDER_FORM, has_all, has_only, member_of, object_named, word};
 use objects::{ObjectKind, Status};
 use serde_json::Value;
 use std::alloc::{AllocError, Global};
@@ -73,7 +73,7 @@ fn kind_ordered(value: &Value) -> Result<ObjectKind, FormFault>
 fn has_form(value: &Value) -> bool
     ensures { result ≡ spec.has_form (view value.now) }
 {
-    has_only(STATUS_ORDER, value) && has_all(STATUS_ORDER, value)
+    has_only(STATUS_ORDER_FORM, value) && has_all(STATUS_ORDER_FORM, value)
 }
 
 fn list_at(at: Member, value: &Value) -> Result<&Vec<Value>, FormFault>

@@ -1,6 +1,6 @@
 -- Which form is chosen hangs on what chooses it alone.
 use Rattle.std.proofs.Common.{◌≡◌, ℕ, Bool, true, false, cond, List, [], ◌∷◌, map, Option, Some, None, option_map, Result, refl, ap}
-use Rattle.std.specs.Prelude.{◌&&◌, ◌||◌, bytes_eq, find, is_some, not}
+use Rattle.std.specs.Prelude.{◌&&◌, ◌||◌, bytes_eq, is_some, not}
 use Rattle.std.specs.Option.{ok_or}
 use Rattle.std.specs.Result.{result_map_both}
 use Rattle.serde_json.specs.Data.{Data}

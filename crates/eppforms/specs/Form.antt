@@ -1,5 +1,5 @@
 -- A JSON value against a table of forms: which form it chooses, and the first fault of its members (RFC 5730, 3).
-use Rattle.std.specs.Prelude.{ℕ, ◌&&◌, ◌||◌, ◌==◌, Bool, true, false, not, if◌then◌else◌, List, [], ◌∷◌, length, find, Option, Some, None, is_some, is_none, Result, Ok, Err, ok_or, bytes_eq, ⊤}
+use Rattle.std.specs.Prelude.{ℕ, ◌&&◌, ◌||◌, ◌==◌, Bool, true, not, if◌then◌else◌, List, [], ◌∷◌, length, find, Option, Some, None, is_some, is_none, Result, Ok, Err, ok_or, bytes_eq, ⊤}
 use Rattle.std.specs.List.{list_all, list_any}
 use Rattle.serde_json.specs.Data.{Data, Members, no_members, member}
 use Rattle.serde_json.specs.Find.{as_object}

@@ -1,5 +1,6 @@
-//! The table of the commands: the members that each has, and what each member has to be. What `must`
-//! stand is required where its section is, what `may` stand isn't.
+//! The table of the commands: the members that each has, and what each member has to be. A member
+//! that `must` stand is required where its section is, and one that `may` stand isn't. The
+//! definitions read this table too: nothing else says which members a command has.
 ghost use Rattle.std.specs.Prelude.{◌≡◌};
 ghost use Rattle.eppforms.specs.Table as spec;
 
@@ -170,15 +171,15 @@ const ANY: Limits = limits!(0, u64::MAX);
 
 const WORD: Kind = text!(ANY, Free);
 
+const NAME_LENGTH: Limits = limits!(1, 1000);
+
 /// A name of a domain or host, before its own rule.
 const NAME: Kind = text!(NAME_LENGTH, Free);
 
-const NAME_LENGTH: Limits = limits!(1, 1000);
+const HANDLE_LENGTH: Limits = limits!(3, 16);
 
 /// A name of a contact.
 const HANDLE: Kind = text!(HANDLE_LENGTH, Handle);
-
-const HANDLE_LENGTH: Limits = limits!(3, 16);
 
 /// How many names a check asks about.
 const CHECKED: Limits = limits!(1, 20);
@@ -212,10 +213,10 @@ const VOICE: Kind = text!(ANY, Voice);
 
 const MAIL: Kind = text!(limits!(3, 255), Printable);
 
+const LINE_LENGTH: Limits = limits!(1, 255);
+
 /// A line of a postal address (RFC 5733, 2.4).
 const LINE: Kind = text!(LINE_LENGTH, Line);
-
-const LINE_LENGTH: Limits = limits!(1, 255);
 
 const LINES: Kind = texts!(limits!(1, 3), LINE_LENGTH, Line);
 
@@ -364,7 +365,7 @@ pub const FORMS: &[CommandForm] = &[
 ];
 
 /// The members of the operator's order to set and take away statuses.
-pub const STATUS_ORDER: &[Field] = &[
+pub const STATUS_ORDER_FORM: &[Field] = &[
     must!(Top, Order, WORD),
     OBJ,
     must!(Top, Name, WORD),
