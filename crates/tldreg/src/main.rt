@@ -1,14 +1,7 @@
 //! The program `tldreg`: the registry of a top-level domain.
 #![tactic(auto)]
 
-mod exit;
-mod line;
-mod script;
-#[cfg(test)]
-mod tests;
-
-use exit::Exit;
-use script::run_script;
+use script::{Exit, run_script};
 use std::alloc::Global;
 use std::process::ExitCode;
 use std::rt::{Env, Files};

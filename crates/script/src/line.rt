@@ -1,6 +1,6 @@
 //! A line of a script: `MOMENT CALLER JSON`, with single blanks.
 ghost use Rattle.std.specs.Prelude.{◌≡◌, IfSome};
-ghost use Rattle.tldreg.specs.Senders.{IsKnown, registrar_of};
+ghost use Rattle.script.specs.Senders.{IsKnown, registrar_of};
 
 use basis::registrar::RegistrarNo;
 use calendar::Moment;

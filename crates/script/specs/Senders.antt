@@ -1,8 +1,8 @@
 -- Who sends the lines of a script.
 use Rattle.std.specs.Prelude.{ℕ, Option, Some, None}
 use Rattle.policy.specs.Rules.{PolicyRules, IsPlace}
-use Rattle.tldreg.specs.declared.line.Sender.{Sender}
-use Rattle.tldreg.specs.declared.line.Sender.TheVariants.{Registrar, Operator}
+use Rattle.script.specs.declared.line.Sender.{Sender}
+use Rattle.script.specs.declared.line.Sender.TheVariants.{Registrar, Operator}
 
 abbrev pub registrar_of : Sender → Option ℕ
 registrar_of (Registrar r) = Some r
