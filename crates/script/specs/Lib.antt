@@ -1,1 +1,3 @@
-pub mod Senders
+pub mod Lines
+pub mod Exits
+pub mod Runs

@@ -1,9 +1,14 @@
 //! How the program ends.
+ghost use Rattle.std.specs.Prelude.{◌≡◌};
+ghost use Rattle.std.specs.IoError.{error_kind};
+ghost use Rattle.script.specs.declared.exit.Exit.TheVariants as exits;
+ghost use Rattle.script.specs.Exits.{exit_of, result_of, status_of, text_of};
 
 use policy::PolicyFault;
 use registry::OpenFault;
 use std::alloc::{AllocError, AllocFailed};
-use std::{fmt, io};
+use std::io::{self, ErrorKind};
+use std::fmt;
 
 /// How the program ends: each but `Done` has a line of standard error.
 #[derive(Drop)]
@@ -24,7 +29,9 @@ pub enum Exit {
 
 impl Exit {
     /// The exit status.
-    pub fn status(&self) -> u8 {
+    pub fn status(&self) -> u8
+        ensures { result ≡ status_of self.now }
+    {
         match self {
             Exit::Done => 0,
             Exit::Usage => 2,
@@ -33,7 +40,9 @@ impl Exit {
     }
 
     /// An error, but where all was done.
-    pub fn result(self) -> Result<(), Exit> {
+    pub fn result(self) -> Result<(), Exit>
+        ensures { result ≡ result_of self }
+    {
         match self {
             Exit::Done => Ok(()),
             exit => Err(exit),
@@ -42,6 +51,8 @@ impl Exit {
 }
 
 impl fmt::Display for Exit {
+    ghost output = { text_of };
+
     fn fmt<W: fmt::Write>(&self, f: &mut fmt::Formatter<W>) -> fmt::Result {
         match self {
             Exit::Done => Ok(()),
@@ -57,34 +68,43 @@ impl fmt::Display for Exit {
 }
 
 impl From<AllocError> for Exit {
+    ghost from_gives = { λ _ exit. exit ≡ exits.Memory };
+
     fn from(_: AllocError) -> Exit {
         Exit::Memory
     }
 }
 
 impl<T: Drop> From<AllocFailed<T>> for Exit {
+    ghost from_gives = { λ _ exit. exit ≡ exits.Memory };
+
     fn from(_: AllocFailed<T>) -> Exit {
         Exit::Memory
     }
 }
 
 impl From<io::Error> for Exit {
+    ghost from_gives = { λ error exit. exit ≡ exit_of (error_kind error) };
+
     fn from(error: io::Error) -> Exit {
-        if error.kind() == io::ErrorKind::OutOfMemory {
-            Exit::Memory
-        } else {
-            Exit::File
+        match error.kind() {
+            ErrorKind::OutOfMemory => Exit::Memory,
+            _ => Exit::File,
         }
     }
 }
 
 impl From<PolicyFault> for Exit {
+    ghost from_gives = { λ fault exit. exit ≡ exits.Policy fault };
+
     fn from(fault: PolicyFault) -> Exit {
         Exit::Policy(fault)
     }
 }
 
 impl From<OpenFault> for Exit {
+    ghost from_gives = { λ fault exit. exit ≡ exits.Open fault };
+
     fn from(fault: OpenFault) -> Exit {
         Exit::Open(fault)
     }
