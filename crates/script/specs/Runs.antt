@@ -1,7 +1,7 @@
--- What a script's lines are answered.
-use Rattle.std.specs.Prelude.{◌≡◌, ◌≢◌, ◌⊎◌, ℕ, ◌+◌, ◌≤◌, List, [], ◌∷◌, ◌++◌, length, if◌then◌else◌, ◌==◌, Option, Some, None, Result, Ok, Err, IfSome, IsSome, codes}
+-- What the lines of a script are answered.
+use Rattle.std.specs.Prelude.{◌≡◌, ◌≢◌, ◌⊎◌, ◌+◌, ◌≤◌, ◌==◌, ℕ, List, [], ◌∷◌, ◌++◌, length, if◌then◌else◌, Option, Some, None, IfSome, IsSome, Result, Ok, Err, codes, ⊤}
 use Rattle.std.specs.List.{flat_map}
-use Rattle.std.specs.Io.KnownBytes.{Appends}
+use Rattle.std.specs.Io.KnownBytes.{Appends, Keeps}
 use Rattle.eppwire.specs.Command.{command_in}
 use Rattle.eppwire.specs.Order.{order_in, answer_text}
 use Rattle.eppwire.specs.Reply.{reply_text}
@@ -16,11 +16,17 @@ use Rattle.script.specs.declared.exit.Exit.TheVariants as exits
 use Rattle.script.specs.declared.line.Sender.{Sender}
 use Rattle.script.specs.declared.line.Sender.TheVariants.{Registrar, Operator}
 use Rattle.script.specs.Lines.{Asked, IsLine}
+use Rattle.store.specs.declared.plain.PlainBook.{PlainBook}
 use Rattle.store.specs.Book.{nothing}
+use Rattle.store.specs.Plain.{plain_state}
 use Rattle.verdict.specs.declared.code.Code.{Code}
 use Rattle.verdict.specs.declared.order.Order.{Order}
 use Rattle.verdict.specs.declared.reply.Reply.{Reply}
 use Rattle.verdict.specs.Registry.{Registry}
+
+-- the registry that a book holds
+abbrev pub kept : PlainBook → Registry
+kept b = (plain_state b).content.registry
 
 -- ---- one line
 
@@ -28,33 +34,46 @@ use Rattle.verdict.specs.Registry.{Registry}
 abbrev pub failed_text : List ℕ
 failed_text = codes "{\"code\":2400,\"msg\":\"Command failed\",\"svTRID\":\"ANON\"}"
 
--- A call gives up after the last moment, or for want of memory. Nothing is changed then.
+-- A call gives up after the last moment, or for want of memory; then it changes nothing.
 pub record GivesUp (before after : Registry) (text : List ℕ) : Type 0 where
   pub same : after ≡ before
   pub fixed : text ≡ failed_text
 
--- a registrar's command: one step of the rules, and the text of its reply
+-- one step of the rules by a registrar's command, and the text of its reply
 pub record IsCommandStep (p : PolicyRules) (r : ℕ) (payload : List ℕ) (moment : ℕ) (before after : Registry) (text : List ℕ) : Type 0 where
   pub reply : Reply
   pub early : moment ≤ last_call
   pub step : IsStep p r (command_in p.zone payload) moment before after reply
   pub written : text ≡ reply_text reply
 
--- the operator's order: one step of the rules, and the text of its answer
-pub record IsOrdered (p : PolicyRules) (order : Order) (moment : ℕ) (before after : Registry) (text : List ℕ) : Type 0 where
+-- one step of the rules by an order of the operator, and the text of its answer
+pub record IsOrderedStep (p : PolicyRules) (order : Order) (moment : ℕ) (before after : Registry) (text : List ℕ) : Type 0 where
   pub code : Code
   pub early : moment ≤ last_call
   pub step : IsOrderStep p order moment before after code
   pub written : text ≡ answer_text code None
 
--- what somebody sends at a moment is answered by a text, and takes one registry to another
-abbrev pub IsAnswered : PolicyRules → Sender → List ℕ → ℕ → Registry → Registry → List ℕ → Type 0
-IsAnswered p (Registrar r) payload moment before after text =
-    GivesUp before after text ⊎ IsCommandStep p r payload moment before after text
-IsAnswered p Operator payload moment before after text =
-    (order : Order) × (order_in payload ≡ Some order) × (GivesUp before after text ⊎ IsOrdered p order moment before after text)
+-- what somebody sends at a moment takes one registry to another, and is answered by a text
+abbrev pub Steps : PolicyRules → Sender → List ℕ → ℕ → Registry → Registry → List ℕ → Type 0
+Steps p (Registrar r) payload moment before after text = IsCommandStep p r payload moment before after text
+Steps p Operator payload moment before after text =
+    (order : Order) × (order_in payload ≡ Some order) × IsOrderedStep p order moment before after text
 
--- a line that is answered
+abbrev pub IsAnswered : PolicyRules → Sender → List ℕ → ℕ → Registry → Registry → List ℕ → Type 0
+IsAnswered p sender payload moment before after text =
+    GivesUp before after text ⊎ Steps p sender payload moment before after text
+
+-- the same of an order
+abbrev pub IsAnsweredOrder : PolicyRules → Order → ℕ → Registry → Registry → List ℕ → Type 0
+IsAnsweredOrder p order moment before after text =
+    GivesUp before after text ⊎ IsOrderedStep p order moment before after text
+
+-- the text, or the fixed one where there is none
+abbrev pub told_text : Option (List ℕ) → List ℕ
+told_text None = failed_text
+told_text (Some text) = text
+
+-- what a line asks is answered
 pub record Answers (p : PolicyRules) (line : List ℕ) (before after : Registry) (text : List ℕ) : Type 0 where
   pub asked : Asked
   pub form : IsLine p line asked
@@ -65,23 +84,34 @@ abbrev pub Asks : Sender → List ℕ → Type 0
 Asks (Registrar r) payload = Unit {0}
 Asks Operator payload = IsSome (order_in payload)
 
--- the line isn't of the form: it isn't empty, and nobody asks anything by it
-pub record IsNoLine (p : PolicyRules) (line : List ℕ) : Type 0 where
-  pub some : line ≢ []
-  pub none : (asked : Asked) → IsLine p line asked → Asks asked.sender asked.payload → ⊥
+-- the line isn't of the form
+abbrev pub AsksNothing : PolicyRules → List ℕ → Type 0
+AsksNothing p line = (asked : Asked) → IsLine p line asked → Asks asked.sender asked.payload → ⊥
+
+-- a line that isn't of the form ends the run by its number; so may want of memory
+abbrev pub IsStopped : PolicyRules → List ℕ → ℕ → Exit → Type 0
+IsStopped p line number (exits.Script n) = (n ≡ number) × AsksNothing p line
+IsStopped p line number exits.Memory = Unit {0}
+IsStopped p line number _ = ⊥
+
+-- the same where it is known who sends the payload
+abbrev pub IsUnread : Sender → List ℕ → ℕ → Exit → Type 0
+IsUnread sender payload number (exits.Script n) = (n ≡ number) × (Asks sender payload → ⊥)
+IsUnread sender payload number exits.Memory = Unit {0}
+IsUnread sender payload number _ = ⊥
 
 -- ---- the lines of a script
 
 -- a line ends with a line feed, or with the end of the input
-abbrev before_lines : ℕ → List (List ℕ) → List (List ℕ)
-before_lines byte [] = (byte ∷ []) ∷ []
-before_lines byte (line ∷ lines) = (byte ∷ line) ∷ lines
+abbrev pub begun_with : ℕ → List (List ℕ) → List (List ℕ)
+begun_with byte [] = (byte ∷ []) ∷ []
+begun_with byte (line ∷ lines) = (byte ∷ line) ∷ lines
 
 abbrev pub lines_of : List ℕ → List (List ℕ)
 lines_of [] = []
-lines_of (byte ∷ bytes) = if byte == 10 then [] ∷ lines_of bytes else before_lines byte (lines_of bytes)
+lines_of (byte ∷ bytes) = if byte == 10 then [] ∷ lines_of bytes else begun_with byte (lines_of bytes)
 
--- the replies to lines, one by one; an empty line has none
+-- Each line that isn't empty is answered, and takes the registry to the next. An empty line is skipped.
 abbrev pub Prints : PolicyRules → List (List ℕ) → Registry → Registry → List (List ℕ) → Type 0
 Prints p [] before after replies = (after ≡ before) × (replies ≡ [])
 Prints p ([] ∷ lines) before after replies = Prints p lines before after replies
@@ -89,15 +119,23 @@ Prints p ((byte ∷ bytes) ∷ lines) before after replies =
     (reply : List ℕ) × (others : List (List ℕ)) × (between : Registry)
     × (replies ≡ reply ∷ others) × Answers p (byte ∷ bytes) before between reply × Prints p lines between after others
 
--- replies as they are printed
+-- replies as they are printed, each ended by a line feed
 abbrev pub printed : List (List ℕ) → List ℕ
 printed replies = flat_map (λ reply. reply ++ codes "\n") replies
 
 -- ---- a run
 
--- a registry that was never used, opened under a policy
-abbrev pub start : PolicyRules → Registry
-start p = (opened p nothing).registry
+-- one line and what it adds to the known bytes: its reply, or nothing where it is empty
+abbrev pub TellsLine : PolicyRules → List ℕ → Registry → Registry → Option (List ℕ) → Option (List ℕ) → Type 0
+TellsLine p line before after old new =
+    (replies : List (List ℕ)) × Prints p (line ∷ []) before after replies × Appends old new (printed replies)
+
+-- how a line ends a run: it isn't of the form, and nothing is added; or by a fault of the output or of memory
+abbrev pub HaltsAt : PolicyRules → List ℕ → ℕ → Option (List ℕ) → Option (List ℕ) → Exit → Type 0
+HaltsAt p line number old new (exits.Script n) = (n ≡ number) × (line ≢ []) × AsksNothing p line × Keeps old new
+HaltsAt p line number old new exits.File = Unit {0}
+HaltsAt p line number old new exits.Memory = Unit {0}
+HaltsAt p line number old new _ = ⊥
 
 -- all lines are answered
 pub record Finishes (p : PolicyRules) (before after : Registry) (input written : List ℕ) : Type 0 where
@@ -105,33 +143,49 @@ pub record Finishes (p : PolicyRules) (before after : Registry) (input written :
   pub prints : Prints p (lines_of input) before after replies
   pub text : written ≡ printed replies
 
--- the lines are answered up to line n, counted from 1, which isn't of the form
+-- the lines are answered up to line n, counted from 1 with empty ones, which isn't of the form
 pub record Stops (p : PolicyRules) (before : Registry) (input written : List ℕ) (n : ℕ) : Type 0 where
   pub lines : List (List ℕ)
   pub line : List ℕ
   pub others : List (List ℕ)
-  pub after : Registry
-  pub replies : List (List ℕ)
   pub split : lines_of input ≡ lines ++ line ∷ others
   pub number : n ≡ length lines + 1
-  pub bad : IsNoLine p line
+  pub some : line ≢ []
+  pub bad : AsksNothing p line
+  pub after : Registry
+  pub replies : List (List ℕ)
   pub prints : Prints p lines before after replies
   pub text : written ≡ printed replies
 
--- Each end comes from its cause: the policy is read, then the lines. What a fault of a file or want of memory
--- leaves isn't said.
-abbrev pub Ends : List ℕ → List ℕ → List ℕ → Exit → Type 0
-Ends policy input written exits.Done = (p : PolicyRules) × (after : Registry) × (policy_of policy ≡ Ok p) × Finishes p (start p) after input written
-Ends policy input written (exits.Script n) = (p : PolicyRules) × (policy_of policy ≡ Ok p) × Stops p (start p) input written n
-Ends policy input written (exits.Policy faults.Memory) = Unit {0}
-Ends policy input written (exits.Policy fault) = (policy_of policy ≡ Err fault) × (written ≡ [])
-Ends policy input written exits.Usage = ⊥
-Ends policy input written _ = Unit {0}
+-- a registry that was never used, opened under a policy
+abbrev pub start : PolicyRules → Registry
+start p = (opened p nothing).registry
 
 -- the known bytes grew by some that P holds of
 abbrev pub Writes : Option (List ℕ) → Option (List ℕ) → (List ℕ → Type 0) → Type 0
 Writes old new P = (bytes : List ℕ) × Appends old new bytes × P bytes
 
--- what a run under a policy file leaves of a reader's bytes and adds to a writer's, and how it ends
+-- How a run ends that answers an input in a registry. What a fault of the input, of the output or of memory
+-- leaves isn't said.
+abbrev pub Ends : PolicyRules → Registry → List ℕ → Option (List ℕ) → Option (List ℕ) → Exit → Type 0
+Ends p before input old new exits.Done = (after : Registry) × Writes old new (Finishes p before after input)
+Ends p before input old new (exits.Script n) = Writes old new (λ written. Stops p before input written n)
+Ends p before input old new exits.File = Unit {0}
+Ends p before input old new exits.Memory = Unit {0}
+Ends p before input old new _ = ⊥
+
+-- a run that answers all its lines is done
+abbrev pub end_of : Result ⊤ Exit → Exit
+end_of (Ok _) = exits.Done
+end_of (Err exit) = exit
+
+-- What a run leaves under a policy, over a registry in memory.
+abbrev pub RunsUnder : PolicyRules → Option (List ℕ) → Option (List ℕ) → Option (List ℕ) → Exit → Type 0
+RunsUnder p input old new (exits.Open fault) = Keeps old new
+RunsUnder p input old new exit = IfSome input (λ bytes. Ends p (start p) bytes old new exit)
+
+-- What a run leaves under a policy file, or the policy's first fault.
 abbrev pub Runs : List ℕ → Option (List ℕ) → Option (List ℕ) → Option (List ℕ) → Exit → Type 0
-Runs policy unread old new exit = IfSome unread (λ input. Writes old new (λ written. Ends policy input written exit))
+Runs policy input old new (exits.Policy faults.Memory) = Unit {0}
+Runs policy input old new (exits.Policy fault) = (policy_of policy ≡ Err fault) × Keeps old new
+Runs policy input old new exit = (p : PolicyRules) × (policy_of policy ≡ Ok p) × RunsUnder p input old new exit

@@ -1,6 +1,7 @@
 //! Scripts: lines of commands and orders, answered one by one over a registry in memory.
 #![tactic(auto)]
 
+mod answer;
 mod exit;
 mod line;
 mod script;

@@ -1,159 +1,155 @@
 //! The answers to a script's lines.
-ghost use Rattle.std.specs.Prelude.{◌≡◌};
-ghost use Rattle.policy.specs.Rules.{IsPlace};
+ghost use Rattle.std.specs.Prelude.{◌≡◌, [], ◌++◌, codes, option_map, IfErr, IfSome, OnOk};
+ghost use Rattle.std.specs.Io.BufRead.{strip_last};
+ghost use Rattle.std.specs.Io.KnownBytes.{Appends, append_known};
+ghost use Rattle.script.specs.Runs.{Ends, HaltsAt, Runs, RunsUnder, TellsLine, end_of, kept, told_text};
 
+use crate::answer::answer;
 use crate::exit::Exit;
-use crate::line::Line;
-use basis::registrar::RegistrarNo;
-use calendar::Moment;
-use eppwire::{command_of, order_bytes, order_of, reply_bytes};
 use policy::Policy;
 use registry::Registry;
 use std::alloc::Global;
-use std::io::{BufRead, BufReader, BufWriter, Read, Write};
+use std::io::{self, BufRead, BufReader, Read, Write};
 use store::PlainBook;
-use verdict::Reply;
 
 /// What is answered where a call gave up, and where a command found no memory.
 const COMMAND_FAILED: &[u8] = b"{\"code\":2400,\"msg\":\"Command failed\",\"svTRID\":\"ANON\"}";
 
+/// How many bytes may be pending before they are written.
+const ROOM: usize = 8192;
+
 /// Answers a script line by line, under a policy, over a registry in memory that starts empty. What
 /// was written before a fault stays.
-pub fn run_script<R: Read + Drop, W: Write + Drop>(
+pub fn run_script<R: Read + Drop, W: Write>(
     alloc: Global,
     policy: &[u8],
     reader: R,
-    writer: W,
-) -> Exit {
-    match answer_script(alloc, policy, reader, writer) {
+    writer: &mut W,
+) -> Exit
+    ensures { Runs policy.now (R.remaining reader) (W.contents writer.old) (W.contents writer.new) result }
+{
+    match Policy::read(alloc, policy) {
+        Ok(policy) => run_under(alloc, policy, reader, writer),
+        Err(fault) => Exit::Policy(fault),
+    }
+}
+
+/// Answers a script under a policy.
+fn run_under<R: Read + Drop, W: Write>(
+    alloc: Global,
+    policy: Policy,
+    reader: R,
+    writer: &mut W,
+) -> Exit
+    ensures { RunsUnder policy (R.remaining reader) (W.contents writer.old) (W.contents writer.new) result }
+{
+    let mut registry = match Registry::open(alloc, PlainBook::new(alloc), policy) {
+        Ok(registry) => registry,
+        Err((fault, _)) => return Exit::Open(fault),
+    };
+    match answer_input(alloc, &mut registry, reader, writer) {
         Ok(()) => Exit::Done,
         Err(exit) => exit,
     }
 }
 
-fn answer_script<R: Read + Drop, W: Write + Drop>(
+/// Answers all lines of an input, and writes the replies in pieces of about `ROOM` bytes.
+fn answer_input<R: Read + Drop, W: Write>(
     alloc: Global,
-    policy: &[u8],
+    registry: &mut Registry<PlainBook>,
     reader: R,
-    writer: W,
-) -> Result<(), Exit> {
-    let mut registry = open(alloc, Policy::read(alloc, policy)?)?;
+    writer: &mut W,
+) -> Result<(), Exit>
+    ensures { IfSome (R.remaining reader) (λ input. Ends registry.old.policy (kept registry.old.book) input (W.contents writer.old) (W.contents writer.new) (end_of result)) }
+{
     let mut reader = BufReader::new(alloc, reader)?;
-    let mut writer = BufWriter::new(alloc, writer)?;
-    let answered = answer_lines(alloc, &mut registry, &mut reader, &mut writer);
-    let flushed = writer.flush();
-    answered?;
-    flushed?;
-    Ok(())
+    let mut pending = Vec::with_capacity(alloc, 2 * ROOM)?;
+    let answered = answer_lines(alloc, registry, &mut reader, &mut pending, writer);
+    write_pending(&mut pending, writer)?;
+    writer.flush()?;
+    answered
 }
 
-/// A registry in memory with nothing in it.
-fn open(alloc: Global, policy: Policy) -> Result<Registry<PlainBook>, Exit> {
-    match Registry::open(alloc, PlainBook::new(alloc), policy) {
-        Ok(registry) => Ok(registry),
-        Err((fault, _)) => Err(Exit::from(fault)),
-    }
-}
-
+/// Answers all lines. What isn't written yet is pending.
 fn answer_lines<R: BufRead, W: Write>(
     alloc: Global,
     registry: &mut Registry<PlainBook>,
     reader: &mut R,
+    pending: &mut Vec<u8>,
     writer: &mut W,
-) -> Result<(), Exit> {
+) -> Result<(), Exit>
+    ensures { IfSome (R.remaining reader.old) (λ input. Ends registry.old.policy (kept registry.old.book) input (append_known (W.contents writer.old) pending.old.items) (append_known (W.contents writer.new) pending.new.items) (end_of result)) }
+{
     let mut text = Vec::new(alloc);
     for number in 1..u64::MAX {
         text.clear();
         if reader.read_until(b'\n', &mut text)? == 0 {
-            break;
+            return Ok(());
         }
-        let line = without_end(&text);
-        if !line.is_empty() {
-            answer_line(alloc, registry, number, line, writer)?;
-        }
+        print_answer(alloc, registry, number, without_end(&text), pending, writer)?;
     }
-    Ok(())
+    Err(Exit::File)
 }
 
 /// A line without the line feed that ends it.
-fn without_end(text: &[u8]) -> &[u8] {
+fn without_end(text: &[u8]) -> &[u8]
+    ensures { result.now ≡ strip_last 10 text.now }
+{
     match text.split_last() {
         Some((b'\n', line)) => line,
         _ => text,
     }
 }
 
-fn answer_line<W: Write>(
+/// Prints what a line is answered, unless it is empty.
+fn print_answer<W: Write>(
     alloc: Global,
     registry: &mut Registry<PlainBook>,
     number: u64,
-    text: &[u8],
+    line: &[u8],
+    pending: &mut Vec<u8>,
     writer: &mut W,
-) -> Result<(), Exit> {
-    let Some(line) = Line::read(registry.policy(), text) else {
-        return Err(Exit::Script(number));
-    };
-    let answered = match line.sender.registrar() {
-        Some(caller) => answer_command(alloc, registry, caller, &line),
-        None => answer_order(alloc, registry, number, &line),
-    };
-    match answered? {
-        Some(bytes) => writer.write_all(&bytes)?,
-        None => writer.write_all(COMMAND_FAILED)?,
+) -> Result<(), Exit>
+    ensures told { OnOk result (TellsLine registry.old.policy line.now (kept registry.old.book) (kept registry.new.book) (append_known (W.contents writer.old) pending.old.items) (append_known (W.contents writer.new) pending.new.items)) }
+    ensures stopped { IfErr result (HaltsAt registry.old.policy line.now number (append_known (W.contents writer.old) pending.old.items) (append_known (W.contents writer.new) pending.new.items)) }
+    ensures policy { registry.new.policy ≡ registry.old.policy }
+{
+    if line.is_empty() {
+        return Ok(());
     }
-    writer.write_all(b"\n")?;
+    let told = answer(alloc, registry, number, line)?;
+    print(pending, writer, text_of(&told))?;
     Ok(())
 }
 
-/// What a registrar's command is answered, unless the call gave up or the command found no memory.
-fn answer_command(
-    alloc: Global,
-    registry: &mut Registry<PlainBook>,
-    caller: RegistrarNo,
-    line: &Line<'_>,
-) -> Result<Option<Vec<u8>>, Exit>
-    requires { IsPlace registry.old.policy caller }
+/// The text that is printed for an answer.
+fn text_of(told: &Option<Vec<u8>>) -> &[u8]
+    ensures { result.now ≡ told_text (option_map (λ text. text.items) told.now) }
 {
-    let Some(reply) = reply_to(alloc, registry, caller, line.payload, line.moment) else {
-        return Ok(None);
-    };
-    let bytes = reply_bytes(alloc, &reply);
-    drop(reply);
-    Ok(Some(bytes?))
-}
-
-/// What an order is answered, unless the call gave up or the order found no memory.
-fn answer_order(
-    alloc: Global,
-    registry: &mut Registry<PlainBook>,
-    number: u64,
-    line: &Line<'_>,
-) -> Result<Option<Vec<u8>>, Exit> {
-    let order = match order_of(alloc, line.payload) {
-        Ok(Some(order)) => order,
-        Ok(None) => return Err(Exit::Script(number)),
-        Err(_) => return Ok(None),
-    };
-    let code = registry.operator(&order, line.moment);
-    drop(order);
-    match code {
-        Ok(code) => Ok(Some(order_bytes(alloc, code, None)?)),
-        Err(_) => Ok(None),
+    match told {
+        Some(text) => text,
+        None => COMMAND_FAILED,
     }
 }
 
-/// The reply to a payload, unless the call gave up or the command found no memory.
-fn reply_to(
-    alloc: Global,
-    registry: &mut Registry<PlainBook>,
-    caller: RegistrarNo,
-    payload: &[u8],
-    moment: Moment,
-) -> Option<Reply>
-    requires { IsPlace registry.old.policy caller }
+/// Prints a text and a line feed.
+fn print<W: Write>(pending: &mut Vec<u8>, writer: &mut W, text: &[u8]) -> io::Result<()>
+    ensures { OnOk result (Appends (append_known (W.contents writer.old) pending.old.items) (append_known (W.contents writer.new) pending.new.items) (text.now ++ codes "\n")) }
 {
-    let command = command_of(alloc, payload, registry.policy().zone()).ok()?;
-    let reply = registry.execute(caller, &command, moment);
-    drop(command);
-    reply.ok()
+    if pending.len() >= ROOM {
+        write_pending(pending, writer)?;
+    }
+    pending.extend_from_slice(text)?;
+    pending.push(b'\n')?;
+    Ok(())
+}
+
+/// Writes what is pending.
+fn write_pending<W: Write>(pending: &mut Vec<u8>, writer: &mut W) -> io::Result<()>
+    ensures empty { OnOk result (pending.new.items ≡ []) }
+    ensures bytes { OnOk result (Appends (W.contents writer.old) (W.contents writer.new) pending.old.items) }
+{
+    writer.write_all(pending)?;
+    pending.clear();
+    Ok(())
 }
