@@ -1,2 +1,3 @@
 mod LineLemmas
 mod RunLemmas
+mod EndLemmas

@@ -1,12 +1,12 @@
 -- Runs, line by line.
-use Rattle.std.proofs.Common.{◌≡◌, ◌≢◌, ◌+◌, ◌-◌, ◌<◌, ◌==◌, ◌&&◌, ℕ, suc, Bool, true, false, cond, List, [], ◌∷◌, ◌++◌, length, take, drop, Some, None, IfSome, refl, sym, ap, subst, ◌∙◌, codes, append-nil, append_assoc, arith, rules}
+use Rattle.std.proofs.Common.{◌≡◌, ◌+◌, ◌<◌, ◌==◌, ℕ, Bool, true, false, cond, List, [], ◌∷◌, ◌++◌, length, Some, None, IfSome, refl, sym, ap, subst, ◌∙◌, codes, append-nil, append_assoc, arith}
 use Rattle.std.proofs.lemmas.Grind.{common_steps, flat_map-append}
 use Rattle.std.proofs.KnownBytes.{Appends-kept, Appends-trans}
 use Rattle.std.specs.Prelude.{Option}
 use Rattle.std.specs.declared.io.ErrorKind.{ErrorKind}
 use Rattle.std.specs.declared.io.ErrorKind.TheVariants.{OutOfMemory}
 use Rattle.std.specs.Io.BufRead.{DropsThrough, drop_through, strip_last, take_through}
-use Rattle.std.specs.Io.KnownBytes.{Appends, IsAtEnd, Keeps}
+use Rattle.std.specs.Io.KnownBytes.{Appends, IsAtEnd}
 use Rattle.policy.specs.Rules.{PolicyRules}
 use Rattle.script.specs.declared.exit.Exit.{Exit}
 use Rattle.script.specs.declared.exit.Exit.TheVariants as exits
@@ -142,20 +142,23 @@ Ends-line exits.Memory p lines replies text number before after (Some input) (So
 Ends-line (exits.Script n) p lines replies text number before after (Some input) (Some xs) old between new r t h count prints wrote halts =
     let some = subst (λ (t : List ℕ). 0 < length t) t h in
     let first : lines_of xs ≡ strip_last 10 text ∷ lines_of (drop_through 10 xs) =
-    next_lines xs some ∙ ap (λ (t : List ℕ). strip_last 10 t ∷ lines_of (drop_through 10 xs)) (sym t) in
-    (printed replies, Appends-kept old between new _ wrote halts.3, record {
-      lines = lines;
-      line = strip_last 10 text;
-      others = lines_of (drop_through 10 xs);
-      split = r ∙ ap (λ ls. lines ++ ls) first;
-      number = halts.0 ∙ count;
-      some = halts.1;
-      bad = halts.2;
-      after = after;
-      replies = replies;
-      prints = prints;
-      text = refl;
-    })
+    next_lines xs some ∙ ap (λ (t : List ℕ). strip_last 10 t ∷ lines_of (drop_through 10 xs)) (sym t) in (
+      printed replies,
+      Appends-kept old between new _ wrote halts.3,
+      record {
+        lines = lines;
+        line = strip_last 10 text;
+        others = lines_of (drop_through 10 xs);
+        split = r ∙ ap (λ ls. lines ++ ls) first;
+        number = halts.0 ∙ count;
+        some = halts.1;
+        bad = halts.2;
+        after = after;
+        replies = replies;
+        prints = prints;
+        text = refl;
+      },
+    )
 
 -- the same, where the policy, the line and the end are known by equations
 pub Ends-halted : (p q : PolicyRules) (exit end : Exit) (lines replies : List (List ℕ)) (text line : List ℕ) (number : ℕ) (before after : Registry) (a b old between new : Option (List ℕ))

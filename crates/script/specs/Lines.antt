@@ -1,5 +1,5 @@
 -- The lines of a script: `MOMENT CALLER JSON`.
-use Rattle.std.specs.Prelude.{◌≡◌, ℕ, ◌+◌, ◌==◌, position, take, drop, List, ◌∷◌, Bool, Option, Some, None, option_map, if◌then◌else◌, codes}
+use Rattle.std.specs.Prelude.{◌≡◌, ℕ, ◌+◌, ◌==◌, position, take, drop, List, Bool, Option, Some, None, option_map, if◌then◌else◌, codes}
 use Rattle.std.specs.Str.{bytes_eq, is_utf8}
 use Rattle.calendar.specs.Moment.{IsMoment}
 use Rattle.calendar.specs.Text.{moment_text}

@@ -1,11 +1,10 @@
 -- What the lines of a script are answered.
-use Rattle.std.specs.Prelude.{◌≡◌, ◌≢◌, ◌⊎◌, ◌+◌, ◌≤◌, ◌==◌, ℕ, List, [], ◌∷◌, ◌++◌, length, if◌then◌else◌, Option, Some, None, IfSome, IsSome, Result, Ok, Err, codes, ⊤}
+use Rattle.std.specs.Prelude.{◌≡◌, ◌≢◌, ◌⊎◌, ◌+◌, ◌≤◌, ◌==◌, ℕ, List, [], ◌∷◌, ◌++◌, length, if◌then◌else◌, Option, Some, None, IsSome, Result, Ok, Err, codes, ⊤}
 use Rattle.std.specs.List.{flat_map}
 use Rattle.std.specs.Io.KnownBytes.{Appends, Keeps}
 use Rattle.eppwire.specs.Command.{command_in}
 use Rattle.eppwire.specs.Order.{order_in, answer_text}
 use Rattle.eppwire.specs.Reply.{reply_text}
-use Rattle.policy.specs.declared.fault.PolicyFault.{PolicyFault}
 use Rattle.policy.specs.declared.fault.PolicyFault.TheVariants as faults
 use Rattle.policy.specs.Reading.{policy_of}
 use Rattle.policy.specs.Rules.{PolicyRules}
@@ -179,13 +178,13 @@ abbrev pub end_of : Result ⊤ Exit → Exit
 end_of (Ok _) = exits.Done
 end_of (Err exit) = exit
 
--- What a run leaves under a policy, over a registry in memory.
-abbrev pub RunsUnder : PolicyRules → Option (List ℕ) → Option (List ℕ) → Option (List ℕ) → Exit → Type 0
-RunsUnder p input old new (exits.Open fault) = Keeps old new
-RunsUnder p input old new exit = IfSome input (λ bytes. Ends p (start p) bytes old new exit)
+-- how a run under a policy ends; a book in memory that can't be opened ends it with nothing printed
+abbrev pub EndsUnder : PolicyRules → List ℕ → Option (List ℕ) → Option (List ℕ) → Exit → Type 0
+EndsUnder p input old new (exits.Open fault) = Keeps old new
+EndsUnder p input old new exit = Ends p (start p) input old new exit
 
--- What a run leaves under a policy file, or the policy's first fault.
-abbrev pub Runs : List ℕ → Option (List ℕ) → Option (List ℕ) → Option (List ℕ) → Exit → Type 0
-Runs policy input old new (exits.Policy faults.Memory) = Unit {0}
-Runs policy input old new (exits.Policy fault) = (policy_of policy ≡ Err fault) × Keeps old new
-Runs policy input old new exit = (p : PolicyRules) × (policy_of policy ≡ Ok p) × RunsUnder p input old new exit
+-- how a run under a policy file ends; the file's first fault ends it with nothing printed
+abbrev pub EndsByFile : List ℕ → List ℕ → Option (List ℕ) → Option (List ℕ) → Exit → Type 0
+EndsByFile policy input old new (exits.Policy faults.Memory) = Unit {0}
+EndsByFile policy input old new (exits.Policy fault) = (policy_of policy ≡ Err fault) × Keeps old new
+EndsByFile policy input old new exit = (p : PolicyRules) × (policy_of policy ≡ Ok p) × EndsUnder p input old new exit

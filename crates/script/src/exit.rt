@@ -7,8 +7,8 @@ ghost use Rattle.script.specs.Exits.{exit_of, result_of, status_of, text_of};
 use policy::PolicyFault;
 use registry::OpenFault;
 use std::alloc::{AllocError, AllocFailed};
-use std::io::{self, ErrorKind};
 use std::fmt;
+use std::io::{self, ErrorKind};
 
 /// How the program ends: each but `Done` has a line of standard error.
 #[derive(Drop)]
@@ -91,21 +91,5 @@ impl From<io::Error> for Exit {
             ErrorKind::OutOfMemory => Exit::Memory,
             _ => Exit::File,
         }
-    }
-}
-
-impl From<PolicyFault> for Exit {
-    ghost from_gives = { λ fault exit. exit ≡ exits.Policy fault };
-
-    fn from(fault: PolicyFault) -> Exit {
-        Exit::Policy(fault)
-    }
-}
-
-impl From<OpenFault> for Exit {
-    ghost from_gives = { λ fault exit. exit ≡ exits.Open fault };
-
-    fn from(fault: OpenFault) -> Exit {
-        Exit::Open(fault)
     }
 }

@@ -1,13 +1,13 @@
 //! The answers to a script's lines.
-ghost use Rattle.std.specs.Prelude.{◌≡◌, [], ◌++◌, codes, option_map, IfErr, IfSome, OnOk};
+ghost use Rattle.std.specs.Prelude.{◌≡◌, [], ◌++◌, codes, option_map, IfErr, IfOk, IfSome, OnOk};
 ghost use Rattle.std.specs.Io.BufRead.{strip_last};
 ghost use Rattle.std.specs.Io.KnownBytes.{Appends, append_known};
-ghost use Rattle.script.specs.Runs.{Ends, HaltsAt, Runs, RunsUnder, TellsLine, end_of, kept, told_text};
+ghost use Rattle.script.specs.Runs.{Ends, EndsByFile, EndsUnder, HaltsAt, TellsLine, end_of, kept, start, told_text};
 
 use crate::answer::answer;
 use crate::exit::Exit;
 use policy::Policy;
-use registry::Registry;
+use registry::{OpenFault, Registry};
 use std::alloc::Global;
 use std::io::{self, BufRead, BufReader, Read, Write};
 use store::PlainBook;
@@ -26,7 +26,7 @@ pub fn run_script<R: Read + Drop, W: Write>(
     reader: R,
     writer: &mut W,
 ) -> Exit
-    ensures { Runs policy.now (R.remaining reader) (W.contents writer.old) (W.contents writer.new) result }
+    ensures { IfSome (R.remaining reader) (λ input. EndsByFile policy.now input (W.contents writer.old) (W.contents writer.new) result) }
 {
     match Policy::read(alloc, policy) {
         Ok(policy) => run_under(alloc, policy, reader, writer),
@@ -41,12 +41,35 @@ fn run_under<R: Read + Drop, W: Write>(
     reader: R,
     writer: &mut W,
 ) -> Exit
-    ensures { RunsUnder policy (R.remaining reader) (W.contents writer.old) (W.contents writer.new) result }
+    ensures { IfSome (R.remaining reader) (λ input. EndsUnder policy input (W.contents writer.old) (W.contents writer.new) result) }
 {
-    let mut registry = match Registry::open(alloc, PlainBook::new(alloc), policy) {
-        Ok(registry) => registry,
-        Err((fault, _)) => return Exit::Open(fault),
-    };
+    match open(alloc, policy) {
+        Ok(registry) => run_over(alloc, registry, reader, writer),
+        Err(fault) => Exit::Open(fault),
+    }
+}
+
+/// A registry in memory that was never used.
+fn open(alloc: Global, policy: Policy) -> Result<Registry<PlainBook>, OpenFault>
+    ensures start { IfOk result (λ registry. kept registry.book ≡ start policy) }
+    ensures policy { IfOk result (λ registry. registry.policy ≡ policy) }
+{
+    match Registry::open(alloc, PlainBook::new(alloc), policy) {
+        Ok(registry) => Ok(registry),
+        Err((fault, _)) => Err(fault),
+    }
+}
+
+/// Answers a script over a registry.
+fn run_over<R: Read + Drop, W: Write>(
+    alloc: Global,
+    registry: Registry<PlainBook>,
+    reader: R,
+    writer: &mut W,
+) -> Exit
+    ensures { IfSome (R.remaining reader) (λ input. Ends registry.policy (kept registry.book) input (W.contents writer.old) (W.contents writer.new) result) }
+{
+    let mut registry = registry;
     match answer_input(alloc, &mut registry, reader, writer) {
         Ok(()) => Exit::Done,
         Err(exit) => exit,

@@ -117,10 +117,10 @@ fn input_that_fails(rt: HostRuntime) -> Result<(), Fail> {
 fn output_that_fails(rt: HostRuntime) -> Result<(), Fail> {
     let alloc = rt.alloc();
     for room in [0, 1, 60] {
-        let exit = run_script(alloc, POLICY.as_bytes(), LINE, Full(room));
+        let exit = run_script(alloc, POLICY.as_bytes(), LINE, &mut Full(room));
         assert!(&rt; matches!(&exit, Exit::File));
     }
-    let exit = run_script(alloc, POLICY.as_bytes(), LINE, Full(REPLY.len()));
+    let exit = run_script(alloc, POLICY.as_bytes(), LINE, &mut Full(REPLY.len()));
     assert!(&rt; matches!(&exit, Exit::Done));
     Ok(())
 }
@@ -152,6 +152,16 @@ fn long_lines(rt: HostRuntime) -> Result<(), Fail> {
     }
     script.extend_from_slice(b"1\n")?;
     check(&rt, &script, REPLY, "")
+}
+
+/// The line after 70,000 others is answered.
+#[test]
+fn many_lines(rt: HostRuntime) -> Result<(), Fail> {
+    let mut script = vec![in rt.alloc(); b'\n'; 70_000]?;
+    script.extend_from_slice(LINE)?;
+    check(&rt, &script, REPLY, "")?;
+    script.push(b'?')?;
+    check(&rt, &script, REPLY, "script: line 70002")
 }
 
 #[test]
