@@ -1,14 +1,7 @@
 //! The program `tldreg`: the registry of a top-level domain.
 #![tactic(auto)]
 
-mod exit;
-mod line;
-mod script;
-#[cfg(test)]
-mod tests;
-
-use exit::Exit;
-use script::run_script;
+use script::{Exit, run_script};
 use std::alloc::Global;
 use std::process::ExitCode;
 use std::rt::{Env, Files};
@@ -35,7 +28,7 @@ fn policy_path(rt: &(impl Env + AllocGlobal)) -> Result<String, Exit> {
 fn run(rt: &(impl Env + Files + Input + Print + AllocGlobal)) -> Result<(), Exit> {
     let path = policy_path(rt)?;
     let policy = fs::read(rt, path.as_str())?;
-    run_script(rt.alloc(), &policy, rt.reader(), io::writer(rt)).result()
+    run_script(rt.alloc(), &policy, rt.reader(), &mut io::writer(rt)).result()
 }
 
 fn main(rt: HostRuntime) -> ExitCode {

@@ -1,0 +1,32 @@
+-- How the program ends: its status, and the line of standard error.
+use Rattle.std.specs.Prelude.{ℕ, List, ◌++◌, Option, Some, None, Result, Ok, Err, codes, decimal, ⊤}
+use Rattle.std.specs.declared.io.ErrorKind.{ErrorKind}
+use Rattle.std.specs.declared.io.ErrorKind.TheVariants.{OutOfMemory}
+use Rattle.policy.specs.declared.fault.PolicyFault.TheVariants as faults
+use Rattle.script.specs.declared.exit.Exit.{Exit}
+use Rattle.script.specs.declared.exit.Exit.TheVariants.{Done, Usage, Policy, Open, Script, File, Memory}
+
+abbrev pub status_of : Exit → ℕ
+status_of Done = 0
+status_of Usage = 2
+status_of _ = 1
+
+abbrev pub result_of : Exit → Result ⊤ Exit
+result_of Done = Ok tt
+result_of exit = Err exit
+
+-- the line, where a fault of a policy or of a book doesn't word it
+abbrev pub text_of : Exit → Option (List ℕ)
+text_of Done = Some (codes "")
+text_of Usage = Some (codes "usage: tldreg run|serve|zone|deposit POLICY ...")
+text_of (Policy faults.Memory) = Some (codes "out of memory")
+text_of (Policy fault) = None
+text_of (Open fault) = None
+text_of (Script line) = Some (codes "script: line " ++ decimal line)
+text_of File = Some (codes "file fault")
+text_of Memory = Some (codes "out of memory")
+
+-- a fault of reading or writing
+abbrev pub exit_of : ErrorKind → Exit
+exit_of OutOfMemory = Memory
+exit_of _ = File

@@ -1,0 +1,3 @@
+pub mod Lines
+pub mod Exits
+pub mod Runs

@@ -1,0 +1,191 @@
+-- What the lines of a script are answered.
+use Rattle.std.specs.Prelude.{◌≡◌, ◌≢◌, ◌⊎◌, ◌+◌, ◌≤◌, ◌==◌, ℕ, List, [], ◌∷◌, ◌++◌, length, if◌then◌else◌, Option, Some, None, IsSome, Result, Ok, Err, codes, ⊤}
+use Rattle.std.specs.List.{flat_map}
+use Rattle.std.specs.Io.KnownBytes.{Appends, Keeps}
+use Rattle.eppcommands.specs.Command.{command_in}
+use Rattle.eppcommands.specs.Order.{order_in}
+use Rattle.eppreplies.specs.Answer.{answer_text}
+use Rattle.eppreplies.specs.Reply.{reply_text}
+use Rattle.policy.specs.declared.fault.PolicyFault.TheVariants as faults
+use Rattle.policy.specs.Reading.{policy_of}
+use Rattle.policy.specs.Rules.{PolicyRules}
+use Rattle.registry.specs.Execution.{IsOrderStep, IsStep, last_call}
+use Rattle.registry.specs.Opening.{opened}
+use Rattle.script.specs.declared.exit.Exit.{Exit}
+use Rattle.script.specs.declared.exit.Exit.TheVariants as exits
+use Rattle.script.specs.declared.line.Sender.{Sender}
+use Rattle.script.specs.declared.line.Sender.TheVariants.{Registrar, Operator}
+use Rattle.script.specs.Lines.{Asked, IsLine}
+use Rattle.store.specs.declared.plain.PlainBook.{PlainBook}
+use Rattle.store.specs.Book.{nothing}
+use Rattle.store.specs.Plain.{plain_state}
+use Rattle.protocol.specs.declared.code.Code.{Code}
+use Rattle.protocol.specs.declared.order.Order.{Order}
+use Rattle.protocol.specs.declared.reply.Reply.{Reply}
+use Rattle.model.specs.Registry.{Registry}
+
+-- the registry that a book holds
+abbrev pub kept : PlainBook → Registry
+kept b = (plain_state b).content.registry
+
+-- ---- one line
+
+-- what is answered where a call gave up
+abbrev pub failed_text : List ℕ
+failed_text = codes "{\"code\":2400,\"msg\":\"Command failed\",\"svTRID\":\"ANON\"}"
+
+-- A call gives up after the last moment, or for want of memory; then it changes nothing.
+pub record GivesUp (before after : Registry) (text : List ℕ) : Type 0 where
+  pub same : after ≡ before
+  pub fixed : text ≡ failed_text
+
+-- one step of the rules by a registrar's command, and the text of its reply
+pub record IsCommandStep (p : PolicyRules) (r : ℕ) (payload : List ℕ) (moment : ℕ) (before after : Registry) (text : List ℕ) : Type 0 where
+  pub reply : Reply
+  pub early : moment ≤ last_call
+  pub step : IsStep p r (command_in p.zone payload) moment before after reply
+  pub written : text ≡ reply_text reply
+
+-- one step of the rules by an order of the operator, and the text of its answer
+pub record IsOrderedStep (p : PolicyRules) (order : Order) (moment : ℕ) (before after : Registry) (text : List ℕ) : Type 0 where
+  pub code : Code
+  pub early : moment ≤ last_call
+  pub step : IsOrderStep p order moment before after code
+  pub written : text ≡ answer_text code None
+
+-- what somebody sends at a moment takes one registry to another, and is answered by a text
+abbrev pub Steps : PolicyRules → Sender → List ℕ → ℕ → Registry → Registry → List ℕ → Type 0
+Steps p (Registrar r) payload moment before after text = IsCommandStep p r payload moment before after text
+Steps p Operator payload moment before after text =
+    (order : Order) × (order_in payload ≡ Some order) × IsOrderedStep p order moment before after text
+
+abbrev pub IsAnswered : PolicyRules → Sender → List ℕ → ℕ → Registry → Registry → List ℕ → Type 0
+IsAnswered p sender payload moment before after text =
+    GivesUp before after text ⊎ Steps p sender payload moment before after text
+
+-- the same of an order
+abbrev pub IsAnsweredOrder : PolicyRules → Order → ℕ → Registry → Registry → List ℕ → Type 0
+IsAnsweredOrder p order moment before after text =
+    GivesUp before after text ⊎ IsOrderedStep p order moment before after text
+
+-- the text, or the fixed one where there is none
+abbrev pub told_text : Option (List ℕ) → List ℕ
+told_text None = failed_text
+told_text (Some text) = text
+
+-- what a line asks is answered
+pub record Answers (p : PolicyRules) (line : List ℕ) (before after : Registry) (text : List ℕ) : Type 0 where
+  pub asked : Asked
+  pub form : IsLine p line asked
+  pub answered : IsAnswered p asked.sender asked.payload asked.moment before after text
+
+-- what the operator sends has to be an order
+abbrev pub Asks : Sender → List ℕ → Type 0
+Asks (Registrar r) payload = Unit {0}
+Asks Operator payload = IsSome (order_in payload)
+
+-- the line isn't of the form
+abbrev pub AsksNothing : PolicyRules → List ℕ → Type 0
+AsksNothing p line = (asked : Asked) → IsLine p line asked → Asks asked.sender asked.payload → ⊥
+
+-- a line that isn't of the form ends the run by its number; so may want of memory
+abbrev pub IsStopped : PolicyRules → List ℕ → ℕ → Exit → Type 0
+IsStopped p line number (exits.Script n) = (n ≡ number) × AsksNothing p line
+IsStopped p line number exits.Memory = Unit {0}
+IsStopped p line number _ = ⊥
+
+-- the same where it is known who sends the payload
+abbrev pub IsUnread : Sender → List ℕ → ℕ → Exit → Type 0
+IsUnread sender payload number (exits.Script n) = (n ≡ number) × (Asks sender payload → ⊥)
+IsUnread sender payload number exits.Memory = Unit {0}
+IsUnread sender payload number _ = ⊥
+
+-- ---- the lines of a script
+
+-- a line ends with a line feed, or with the end of the input
+abbrev pub begun_with : ℕ → List (List ℕ) → List (List ℕ)
+begun_with byte [] = (byte ∷ []) ∷ []
+begun_with byte (line ∷ lines) = (byte ∷ line) ∷ lines
+
+abbrev pub lines_of : List ℕ → List (List ℕ)
+lines_of [] = []
+lines_of (byte ∷ bytes) = if byte == 10 then [] ∷ lines_of bytes else begun_with byte (lines_of bytes)
+
+-- Each line that isn't empty is answered, and takes the registry to the next. An empty line is skipped.
+abbrev pub Prints : PolicyRules → List (List ℕ) → Registry → Registry → List (List ℕ) → Type 0
+Prints p [] before after replies = (after ≡ before) × (replies ≡ [])
+Prints p ([] ∷ lines) before after replies = Prints p lines before after replies
+Prints p ((byte ∷ bytes) ∷ lines) before after replies =
+    (reply : List ℕ) × (others : List (List ℕ)) × (between : Registry)
+    × (replies ≡ reply ∷ others) × Answers p (byte ∷ bytes) before between reply × Prints p lines between after others
+
+-- replies as they are printed, each ended by a line feed
+abbrev pub printed : List (List ℕ) → List ℕ
+printed replies = flat_map (λ reply. reply ++ codes "\n") replies
+
+-- ---- a run
+
+-- one line and what it adds to the known bytes: its reply, or nothing where it is empty
+abbrev pub TellsLine : PolicyRules → List ℕ → Registry → Registry → Option (List ℕ) → Option (List ℕ) → Type 0
+TellsLine p line before after old new =
+    (replies : List (List ℕ)) × Prints p (line ∷ []) before after replies × Appends old new (printed replies)
+
+-- how a line ends a run: it isn't of the form, and nothing is added; or by a fault of the output or of memory
+abbrev pub HaltsAt : PolicyRules → List ℕ → ℕ → Option (List ℕ) → Option (List ℕ) → Exit → Type 0
+HaltsAt p line number old new (exits.Script n) = (n ≡ number) × (line ≢ []) × AsksNothing p line × Keeps old new
+HaltsAt p line number old new exits.File = Unit {0}
+HaltsAt p line number old new exits.Memory = Unit {0}
+HaltsAt p line number old new _ = ⊥
+
+-- all lines are answered
+pub record Finishes (p : PolicyRules) (before after : Registry) (input written : List ℕ) : Type 0 where
+  pub replies : List (List ℕ)
+  pub prints : Prints p (lines_of input) before after replies
+  pub text : written ≡ printed replies
+
+-- the lines are answered up to line n, counted from 1 with empty ones, which isn't of the form
+pub record Stops (p : PolicyRules) (before : Registry) (input written : List ℕ) (n : ℕ) : Type 0 where
+  pub lines : List (List ℕ)
+  pub line : List ℕ
+  pub others : List (List ℕ)
+  pub split : lines_of input ≡ lines ++ line ∷ others
+  pub number : n ≡ length lines + 1
+  pub some : line ≢ []
+  pub bad : AsksNothing p line
+  pub after : Registry
+  pub replies : List (List ℕ)
+  pub prints : Prints p lines before after replies
+  pub text : written ≡ printed replies
+
+-- a registry that was never used, opened under a policy
+abbrev pub start : PolicyRules → Registry
+start p = (opened p nothing).registry
+
+-- the known bytes grew by some that P holds of
+abbrev pub Writes : Option (List ℕ) → Option (List ℕ) → (List ℕ → Type 0) → Type 0
+Writes old new P = (bytes : List ℕ) × Appends old new bytes × P bytes
+
+-- How a run ends that answers an input in a registry. What a fault of the input, of the output or of memory
+-- leaves isn't said.
+abbrev pub Ends : PolicyRules → Registry → List ℕ → Option (List ℕ) → Option (List ℕ) → Exit → Type 0
+Ends p before input old new exits.Done = (after : Registry) × Writes old new (Finishes p before after input)
+Ends p before input old new (exits.Script n) = Writes old new (λ written. Stops p before input written n)
+Ends p before input old new exits.File = Unit {0}
+Ends p before input old new exits.Memory = Unit {0}
+Ends p before input old new _ = ⊥
+
+-- a run that answers all its lines is done
+abbrev pub end_of : Result ⊤ Exit → Exit
+end_of (Ok _) = exits.Done
+end_of (Err exit) = exit
+
+-- how a run under a policy ends; a book in memory that can't be opened ends it with nothing printed
+abbrev pub EndsUnder : PolicyRules → List ℕ → Option (List ℕ) → Option (List ℕ) → Exit → Type 0
+EndsUnder p input old new (exits.Open fault) = Keeps old new
+EndsUnder p input old new exit = Ends p (start p) input old new exit
+
+-- how a run under a policy file ends; the file's first fault ends it with nothing printed
+abbrev pub EndsByFile : List ℕ → List ℕ → Option (List ℕ) → Option (List ℕ) → Exit → Type 0
+EndsByFile policy input old new (exits.Policy faults.Memory) = Unit {0}
+EndsByFile policy input old new (exits.Policy fault) = (policy_of policy ≡ Err fault) × Keeps old new
+EndsByFile policy input old new exit = (p : PolicyRules) × (policy_of policy ≡ Ok p) × EndsUnder p input old new exit

@@ -1,0 +1,127 @@
+//! What a line is answered.
+ghost use Rattle.std.specs.Prelude.{◌≡◌, ◌≤◌, Some, None, option_map, IfOk, IfErr, IfSome, IfNone, OnSome, OnErr};
+ghost use Rattle.eppcommands.specs.Command.{command_in};
+ghost use Rattle.policy.specs.Rules.{IsRegistrar};
+ghost use Rattle.registry.specs.Execution.{IsOrderStep, IsStep, last_call};
+ghost use Rattle.script.specs.declared.line.Sender.TheVariants.{Registrar};
+ghost use Rattle.script.specs.Lines.{IsKnown};
+ghost use Rattle.script.specs.Runs.{Answers, IsAnswered, IsAnsweredOrder, IsStopped, IsUnread, kept, told_text};
+
+use crate::exit::Exit;
+use crate::line::Line;
+use basis::registrar::RegistrarNo;
+use calendar::Moment;
+use eppcommands::{command_of, order_of};
+use eppreplies::{order_bytes, reply_bytes};
+use registry::Registry;
+use std::alloc::{AllocError, Global};
+use store::PlainBook;
+use protocol::{Code, Order, Reply};
+
+/// What a line is answered, or `None` where the call gave up or found no memory.
+pub(crate) fn answer(
+    alloc: Global,
+    registry: &mut Registry<PlainBook>,
+    number: u64,
+    line: &[u8],
+) -> Result<Option<Vec<u8>>, Exit>
+    ensures answered { IfOk result (λ told. Answers registry.old.policy line.now (kept registry.old.book) (kept registry.new.book) (told_text (option_map (λ text. text.items) told))) }
+    ensures stopped { IfErr result (IsStopped registry.old.policy line.now number) }
+    ensures policy { registry.new.policy ≡ registry.old.policy }
+{
+    match Line::read(registry.policy(), line) {
+        Some(line) => answer_asked(alloc, registry, number, &line),
+        None => Err(Exit::Script(number)),
+    }
+}
+
+/// What somebody is answered who asks by a line.
+fn answer_asked(
+    alloc: Global,
+    registry: &mut Registry<PlainBook>,
+    number: u64,
+    line: &Line<'_>,
+) -> Result<Option<Vec<u8>>, Exit>
+    requires { IsKnown registry.old.policy line.now.sender }
+    ensures answered { IfOk result (λ told. IsAnswered registry.old.policy line.now.sender line.now.payload.now line.now.moment (kept registry.old.book) (kept registry.new.book) (told_text (option_map (λ text. text.items) told))) }
+    ensures stopped { IfErr result (IsUnread line.now.sender line.now.payload.now number) }
+    ensures policy { registry.new.policy ≡ registry.old.policy }
+{
+    let (payload, moment) = (line.payload, line.moment);
+    match line.sender.registrar() {
+        Some(caller) => Ok(answer_command(alloc, registry, caller, payload, moment)?),
+        None => match order_of(alloc, payload) {
+            Ok(Some(order)) => Ok(answer_order(alloc, registry, order, moment)?),
+            Ok(None) => Err(Exit::Script(number)),
+            Err(_) => Ok(None),
+        },
+    }
+}
+
+/// What a registrar's command is answered.
+fn answer_command(
+    alloc: Global,
+    registry: &mut Registry<PlainBook>,
+    caller: RegistrarNo,
+    payload: &[u8],
+    moment: Moment,
+) -> Result<Option<Vec<u8>>, AllocError>
+    requires { IsRegistrar registry.old.policy caller }
+    ensures answered { IfOk result (λ told. IsAnswered registry.old.policy (Registrar caller) payload.now moment (kept registry.old.book) (kept registry.new.book) (told_text (option_map (λ text. text.items) told))) }
+    ensures policy { registry.new.policy ≡ registry.old.policy }
+{
+    let Some(reply) = reply_to(alloc, registry, caller, payload, moment) else {
+        return Ok(None);
+    };
+    let bytes = reply_bytes(alloc, &reply);
+    drop(reply);
+    Ok(Some(bytes?))
+}
+
+/// The reply to a command, unless the call gave up or the command found no memory.
+fn reply_to(
+    alloc: Global,
+    registry: &mut Registry<PlainBook>,
+    caller: RegistrarNo,
+    payload: &[u8],
+    moment: Moment,
+) -> Option<Reply>
+    requires { IsRegistrar registry.old.policy caller }
+    ensures step { IfSome result (IsStep registry.old.policy caller (command_in registry.old.policy.zone payload.now) moment (kept registry.old.book) (kept registry.new.book)) }
+    ensures early { OnSome result (moment ≤ last_call) }
+    ensures same { IfNone result (kept registry.new.book ≡ kept registry.old.book) }
+    ensures policy { registry.new.policy ≡ registry.old.policy }
+{
+    let command = command_of(alloc, payload, registry.policy().zone()).ok()?;
+    let reply = registry.execute(caller, &command, moment);
+    drop(command);
+    reply.ok()
+}
+
+/// What the operator's order is answered.
+fn answer_order(
+    alloc: Global,
+    registry: &mut Registry<PlainBook>,
+    order: Order,
+    moment: Moment,
+) -> Result<Option<Vec<u8>>, AllocError>
+    ensures answered { IfOk result (λ told. IsAnsweredOrder registry.old.policy order moment (kept registry.old.book) (kept registry.new.book) (told_text (option_map (λ text. text.items) told))) }
+    ensures policy { registry.new.policy ≡ registry.old.policy }
+{
+    let Some(code) = code_of(registry, &order, moment) else {
+        drop(order);
+        return Ok(None);
+    };
+    drop(order);
+    Ok(Some(order_bytes(alloc, code, None)?))
+}
+
+/// The code that an order is answered, unless the call gave up.
+fn code_of(registry: &mut Registry<PlainBook>, order: &Order, moment: Moment) -> Option<Code>
+    ensures step { IfSome result (IsOrderStep registry.old.policy order.now moment (kept registry.old.book) (kept registry.new.book)) }
+    ensures early { OnSome result (moment ≤ last_call) }
+    ensures same { IfNone result (kept registry.new.book ≡ kept registry.old.book) }
+    ensures policy { registry.new.policy ≡ registry.old.policy }
+{
+    registry.operator(order, moment).ok()
+}

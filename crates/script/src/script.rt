@@ -1,0 +1,178 @@
+//! The answers to a script's lines.
+ghost use Rattle.std.specs.Prelude.{◌≡◌, [], ◌++◌, codes, option_map, IfErr, IfOk, IfSome, OnOk};
+ghost use Rattle.std.specs.Io.BufRead.{strip_last};
+ghost use Rattle.std.specs.Io.KnownBytes.{Appends, append_known};
+ghost use Rattle.script.specs.Runs.{Ends, EndsByFile, EndsUnder, HaltsAt, TellsLine, end_of, kept, start, told_text};
+
+use crate::answer::answer;
+use crate::exit::Exit;
+use policy::Policy;
+use registry::{OpenFault, Registry};
+use std::alloc::Global;
+use std::io::{self, BufRead, BufReader, Read, Write};
+use store::PlainBook;
+
+/// What is answered where a call gave up, and where a command found no memory.
+const COMMAND_FAILED: &[u8] = b"{\"code\":2400,\"msg\":\"Command failed\",\"svTRID\":\"ANON\"}";
+
+/// How many bytes may be pending before they are written.
+const ROOM: usize = 8192;
+
+/// Answers a script line by line, under a policy, over a registry in memory that starts empty. What
+/// was written before a fault stays.
+pub fn run_script<R: Read + Drop, W: Write>(
+    alloc: Global,
+    policy: &[u8],
+    reader: R,
+    writer: &mut W,
+) -> Exit
+    ensures { IfSome (R.remaining reader) (λ input. EndsByFile policy.now input (W.contents writer.old) (W.contents writer.new) result) }
+{
+    match Policy::read(alloc, policy) {
+        Ok(policy) => run_under(alloc, policy, reader, writer),
+        Err(fault) => Exit::Policy(fault),
+    }
+}
+
+/// Answers a script under a policy.
+fn run_under<R: Read + Drop, W: Write>(
+    alloc: Global,
+    policy: Policy,
+    reader: R,
+    writer: &mut W,
+) -> Exit
+    ensures { IfSome (R.remaining reader) (λ input. EndsUnder policy input (W.contents writer.old) (W.contents writer.new) result) }
+{
+    match open(alloc, policy) {
+        Ok(registry) => run_over(alloc, registry, reader, writer),
+        Err(fault) => Exit::Open(fault),
+    }
+}
+
+/// A registry in memory that was never used.
+fn open(alloc: Global, policy: Policy) -> Result<Registry<PlainBook>, OpenFault>
+    ensures start { IfOk result (λ registry. kept registry.book ≡ start policy) }
+    ensures policy { IfOk result (λ registry. registry.policy ≡ policy) }
+{
+    match Registry::open(alloc, PlainBook::new(alloc), policy) {
+        Ok(registry) => Ok(registry),
+        Err((fault, _)) => Err(fault),
+    }
+}
+
+/// Answers a script over a registry.
+fn run_over<R: Read + Drop, W: Write>(
+    alloc: Global,
+    registry: Registry<PlainBook>,
+    reader: R,
+    writer: &mut W,
+) -> Exit
+    ensures { IfSome (R.remaining reader) (λ input. Ends registry.policy (kept registry.book) input (W.contents writer.old) (W.contents writer.new) result) }
+{
+    let mut registry = registry;
+    match answer_input(alloc, &mut registry, reader, writer) {
+        Ok(()) => Exit::Done,
+        Err(exit) => exit,
+    }
+}
+
+/// Answers all lines of an input, and writes the replies in pieces of about `ROOM` bytes.
+fn answer_input<R: Read + Drop, W: Write>(
+    alloc: Global,
+    registry: &mut Registry<PlainBook>,
+    reader: R,
+    writer: &mut W,
+) -> Result<(), Exit>
+    ensures { IfSome (R.remaining reader) (λ input. Ends registry.old.policy (kept registry.old.book) input (W.contents writer.old) (W.contents writer.new) (end_of result)) }
+{
+    let mut reader = BufReader::new(alloc, reader)?;
+    let mut pending = Vec::with_capacity(alloc, 2 * ROOM)?;
+    let answered = answer_lines(alloc, registry, &mut reader, &mut pending, writer);
+    write_pending(&mut pending, writer)?;
+    writer.flush()?;
+    answered
+}
+
+/// Answers all lines. What isn't written yet is pending.
+fn answer_lines<R: BufRead, W: Write>(
+    alloc: Global,
+    registry: &mut Registry<PlainBook>,
+    reader: &mut R,
+    pending: &mut Vec<u8>,
+    writer: &mut W,
+) -> Result<(), Exit>
+    ensures { IfSome (R.remaining reader.old) (λ input. Ends registry.old.policy (kept registry.old.book) input (append_known (W.contents writer.old) pending.old.items) (append_known (W.contents writer.new) pending.new.items) (end_of result)) }
+{
+    let mut text = Vec::new(alloc);
+    for number in 1..u64::MAX {
+        text.clear();
+        if reader.read_until(b'\n', &mut text)? == 0 {
+            return Ok(());
+        }
+        print_answer(alloc, registry, number, without_end(&text), pending, writer)?;
+    }
+    Err(Exit::File)
+}
+
+/// A line without the line feed that ends it.
+fn without_end(text: &[u8]) -> &[u8]
+    ensures { result.now ≡ strip_last 10 text.now }
+{
+    match text.split_last() {
+        Some((b'\n', line)) => line,
+        _ => text,
+    }
+}
+
+/// Prints what a line is answered, unless it is empty.
+fn print_answer<W: Write>(
+    alloc: Global,
+    registry: &mut Registry<PlainBook>,
+    number: u64,
+    line: &[u8],
+    pending: &mut Vec<u8>,
+    writer: &mut W,
+) -> Result<(), Exit>
+    ensures told { OnOk result (TellsLine registry.old.policy line.now (kept registry.old.book) (kept registry.new.book) (append_known (W.contents writer.old) pending.old.items) (append_known (W.contents writer.new) pending.new.items)) }
+    ensures stopped { IfErr result (HaltsAt registry.old.policy line.now number (append_known (W.contents writer.old) pending.old.items) (append_known (W.contents writer.new) pending.new.items)) }
+    ensures policy { registry.new.policy ≡ registry.old.policy }
+{
+    if line.is_empty() {
+        return Ok(());
+    }
+    let told = answer(alloc, registry, number, line)?;
+    print(pending, writer, text_of(&told))?;
+    Ok(())
+}
+
+/// The text that is printed for an answer.
+fn text_of(told: &Option<Vec<u8>>) -> &[u8]
+    ensures { result.now ≡ told_text (option_map (λ text. text.items) told.now) }
+{
+    match told {
+        Some(text) => text,
+        None => COMMAND_FAILED,
+    }
+}
+
+/// Prints a text and a line feed.
+fn print<W: Write>(pending: &mut Vec<u8>, writer: &mut W, text: &[u8]) -> io::Result<()>
+    ensures { OnOk result (Appends (append_known (W.contents writer.old) pending.old.items) (append_known (W.contents writer.new) pending.new.items) (text.now ++ codes "\n")) }
+{
+    if pending.len() >= ROOM {
+        write_pending(pending, writer)?;
+    }
+    pending.extend_from_slice(text)?;
+    pending.push(b'\n')?;
+    Ok(())
+}
+
+/// Writes what is pending.
+fn write_pending<W: Write>(pending: &mut Vec<u8>, writer: &mut W) -> io::Result<()>
+    ensures empty { OnOk result (pending.new.items ≡ []) }
+    ensures bytes { OnOk result (Appends (W.contents writer.old) (W.contents writer.new) pending.old.items) }
+{
+    writer.write_all(pending)?;
+    pending.clear();
+    Ok(())
+}

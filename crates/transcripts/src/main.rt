@@ -1,0 +1,83 @@
+//! Runs transcripts: scripts with the replies that must follow. `docs/TRANSCRIPTS.md` says how one is
+//! written.
+//!
+//! The arguments name the files. Each transcript prints how many of its replies were as written, below
+//! what wasn't. The status is 1 where anything differs.
+#![tactic(auto)]
+
+mod line;
+mod transcript;
+
+use anyhow::{Context, Result, bail};
+use line::{Line, Mark, lines_of};
+use std::io::Write;
+use std::process::ExitCode;
+use std::rt::{Env, Files};
+use std::{env, fs, io, str};
+use transcript::{Transcript, run_transcript};
+
+/// The bytes of a file that a transcript names.
+fn read_named(rt: &(impl Files + AllocGlobal), name: &[u8]) -> Result<Vec<u8>> {
+    let name = str::from_utf8(name).context("a file's name is no text")?;
+    fs::read(rt, name).context(format_args!("{name} can't be read"))
+}
+
+/// Runs one transcript, and says whether all of it is as written.
+fn run_one(
+    rt: &(impl Files + Print + AllocGlobal),
+    file: &str,
+    name: &[u8],
+    transcript: Transcript<'_>,
+) -> Result<bool> {
+    let alloc = rt.alloc();
+    let Some(policy) = transcript.policy() else {
+        bail!("a transcript without a policy");
+    };
+    let policy = read_named(rt, policy)?;
+    let before = match transcript.prelude() {
+        Some(prelude) => read_named(rt, prelude)?,
+        None => Vec::new(alloc),
+    };
+    let prelude = lines_of(alloc, &before)?;
+    let outcome = run_transcript(alloc, &policy, &prelude, transcript)?;
+    io::writer(rt).write_all(&outcome.differences)?;
+    let name = str::from_utf8(name).context("a transcript's name is no text")?;
+    let (as_written, replies) = (outcome.as_written, outcome.replies);
+    println!(rt; "{file}: {name}: {as_written} of {replies} replies")?;
+    Ok(outcome.differences.is_empty())
+}
+
+/// Runs the transcripts of a file, and says whether all is as written.
+fn run_file(rt: &(impl Files + Print + AllocGlobal), file: &str) -> Result<bool> {
+    let text = read_named(rt, file.as_bytes())?;
+    let lines = lines_of(rt.alloc(), &text).context(format_args!("{file}"))?;
+    let mut all_well = true;
+    for (index, line) in lines.iter().enumerate() {
+        if let Mark::Begin(name) = line.mark {
+            let transcript = Transcript::new(&lines[index + 1..]);
+            let is_well = run_one(rt, file, name, transcript).context(format_args!("{file}"))?;
+            all_well = all_well && is_well;
+        }
+    }
+    Ok(all_well)
+}
+
+fn run_files(rt: &(impl Env + Files + Print + AllocGlobal)) -> Result<bool> {
+    let mut all_well = true;
+    for file in env::args(rt)?.skip(1) {
+        let is_well = run_file(rt, file.as_str())?;
+        all_well = all_well && is_well;
+    }
+    Ok(all_well)
+}
+
+fn main(rt: HostRuntime) -> ExitCode {
+    match run_files(&rt) {
+        Ok(true) => ExitCode::from(0),
+        Ok(false) => ExitCode::from(1),
+        Err(error) => {
+            let _ = eprintln!(rt; "{error:#}");
+            ExitCode::from(1)
+        }
+    }
+}
