@@ -1,6 +1,8 @@
 //! The registry.
 ghost use Rattle.std.specs.Prelude.{◌≡◌, ◌≢◌, ◌<◌, nat_lt, true, false, ◌↔◌, IfOk, IfErr, OnOk, Ok, Err, Some};
+ghost use Rattle.std.specs.Coded.{codes};
 ghost use Rattle.accounts.specs.Account.{saturating_next};
+ghost use Rattle.basis.specs.Sets.{names_code};
 ghost use Rattle.policy.specs.Rules.{IsRegistrar};
 ghost use Rattle.policy.specs.Terms.{terms_of};
 ghost use Rattle.registry.specs.Execution.{Fails, GoesBack, IsPrepared, Isolates, Keeps, OrderSteps, SameTerms, Steps, last_call};
@@ -45,7 +47,7 @@ pub struct Registry<B: Book> {
     policy: Policy,
     alloc: Global,
     ghost idle: { (B.state book).is_open ≡ false },
-    ghost kept: { (B.state book).is_clean ≡ true → (B.state book).content.terms ≡ Some (terms_of policy) },
+    ghost kept: { (B.state book).is_clean ≡ true → (B.state book).content.terms ≡ Some (terms_of policy) } by { Prim.hlevel (codes, names_code) },
 }
 
 impl<B: Book + Drop> Registry<B> {
