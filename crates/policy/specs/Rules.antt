@@ -59,7 +59,7 @@ pub record ArePrices (prices : Prices) : Type 0 where
 
 -- ---- the start of authority
 
--- a time in seconds (RFC 2181, 8)
+-- seconds within the range of a TTL (RFC 2181, 8)
 abbrev pub IsTime : ℕ → Type 0
 IsTime seconds = seconds ≤ 2_147_483_647
 
