@@ -1,5 +1,5 @@
 -- What a member of a well formed command says. A name, an address and a status are read here, which is the last step of the form.
-use Rattle.std.specs.Prelude.{◌≡◌, ℕ, ◌^◌, nat_lt, List, [], ◌∷◌, Option, Some, None, option_and_then, option_map, Result, Ok, Err, ok_or}
+use Rattle.std.specs.Prelude.{◌≡◌, ℕ, ◌^◌, nat_lt, Bool, List, [], ◌∷◌, Option, Some, None, option_and_then, option_map, Result, Ok, Err, ok_or}
 use Rattle.serde_json.specs.Data.{Data}
 use Rattle.serde_json.specs.Find.{as_str, as_array, as_number, as_u64}
 use Rattle.names.specs.declared.fault.NameFault as name_fault
@@ -60,17 +60,17 @@ address_in d = do
   text ← ok_or (as_str d) SyntaxError
   or_shape (address_of text)
 
--- a status that a sponsor may set on an object of that kind
-unfoldable pub client_status : ObjectKind → Status → Result Status FormFault
-client_status kind status = do
-  _ ← refuse_unless (has_status (client_statuses kind) status) ParameterSyntax
-  Ok status
+-- a sponsor may set the status on an object of that kind
+unfoldable pub is_client : ObjectKind → Status → Bool
+is_client kind status = has_status (client_statuses kind) status
 
+-- such a status
 unfoldable pub status_in : ObjectKind → Data → Result Status FormFault
 status_in kind d = do
   text ← ok_or (as_str d) SyntaxError
   status ← ok_or (status_named text) ParameterSyntax
-  client_status kind status
+  _ ← refuse_unless (is_client kind status) ParameterSyntax
+  Ok status
 
 -- each of a list
 abbrev pub all_in : {A : Type 0} → (Data → Result A FormFault) → List Data → Result (List A) FormFault

@@ -236,17 +236,18 @@ fn status_in(kind: ObjectKind, value: &Value) -> Result<Status, FormFault>
 {
     let text = value.as_str().ok_or(FormFault::SyntaxError)?;
     let status = Status::named(text).ok_or(FormFault::ParameterSyntax)?;
-    client_status(kind, status)
-}
-
-#[tactic(auto, unfolding(crate::specs::Reading::client_status))]
-fn client_status(kind: ObjectKind, status: Status) -> Result<Status, FormFault>
-    ensures { result ≡ spec.client_status kind status }
-{
-    if !status.is_client_of(kind) {
+    if !is_client(kind, status) {
         return Err(FormFault::ParameterSyntax);
     }
     Ok(status)
+}
+
+/// Whether a sponsor may set the status on an object of that kind.
+#[tactic(auto, unfolding(crate::specs::Reading::is_client))]
+fn is_client(kind: ObjectKind, status: Status) -> bool
+    ensures { result ≡ spec.is_client kind status }
+{
+    status.is_client_of(kind)
 }
 
 /// The statuses of a list, none where there is no list.
