@@ -1,3 +1,4 @@
+use Rattle.registry.proofs.Reopenings.{reopened_step}
 use Rattle.registry.proofs.Isolations.{isolated_step}
 use Rattle.registry.proofs.StepsKept.{kept_step}
 use Rattle.registry.proofs.registry.Registry.execute.Goals as goal
@@ -7,3 +8,7 @@ returns-clause-isolation g c = isolated_step c.step.result _ c.args.self.now.pol
 
 pub returns-clause-well_formed : goal.returns-clause-well_formed
 returns-clause-well_formed g c = kept_step c.step.result _ c.args.self.now.policy c.args.caller c.args.command.now c.args.moment _ _ c.requires c.step.ensures.step
+
+pub returns-clause-reopens : goal.returns-clause-reopens
+returns-clause-reopens g c =
+    reopened_step c.step.result c.args.self.now.policy (g.B.Book.state c.args.self.now.book) (g.B.Book.state c.step.new.self.book) c.args.self.now.kept c.step.ensures.follows c.step.ensures.terms
