@@ -8,9 +8,9 @@ use crate::request::request_in;
 use basis::text::Text;
 use eppforms::{CL_TRID, Member, member_of, word};
 use names::Zone;
+use protocol::{Command, FormFault};
 use serde_json::Value;
 use std::alloc::{AllocError, Global};
-use protocol::{FormFault, Command};
 
 /// Reads a command. Where its form is refused, it says by which code.
 pub fn command_of(alloc: Global, payload: &[u8], zone: &Zone) -> Result<Command, AllocError>
@@ -31,10 +31,7 @@ fn command_of_value(alloc: Global, value: &Value, zone: &Zone) -> Result<Command
 {
     let cl_trid = cl_trid_of(alloc, value)?;
     match request_in(alloc, value, zone) {
-        Ok(request) => Ok(Command::Asked {
-            cl_trid,
-            request,
-        }),
+        Ok(request) => Ok(Command::Asked { cl_trid, request }),
         Err(Fault::Refused(fault)) => Ok(Command::Bad { cl_trid, fault }),
         Err(Fault::Memory) => Err(AllocError),
     }

@@ -7,9 +7,9 @@ use crate::reading::{Fault, maybe_text_at, statuses_at, text_at, texts_at};
 use eppforms::Section::{self, Add, Chg, ChgPostal, Rem, Top};
 use eppforms::{Member, part};
 use objects::{ObjectKind, Postal};
+use protocol::{ContactUpdate, NewContact, Request};
 use serde_json::Value;
 use std::alloc::Global;
-use protocol::{ContactUpdate, NewContact, Request};
 
 #[tactic(auto, unfolding(crate::specs::Contact::check_contact))]
 pub fn check_contact(alloc: Global, value: &Value) -> Result<Request, Fault>

@@ -10,9 +10,9 @@ use eppforms::Member;
 use eppforms::Section::{self, Add, Chg, Rem, Top};
 use names::Zone;
 use objects::ObjectKind;
+use protocol::{DomainLists, DomainUpdate, NewDomain, Request};
 use serde_json::Value;
 use std::alloc::Global;
-use protocol::{DomainLists, DomainUpdate, NewDomain, Request};
 
 #[tactic(auto, unfolding(crate::specs::Domain::check_domain))]
 pub fn check_domain(alloc: Global, value: &Value, zone: &Zone) -> Result<Request, Fault>

@@ -8,9 +8,9 @@ use eppforms::Member;
 use eppforms::Section::{self, Add, Chg, Rem, Top};
 use names::Zone;
 use objects::ObjectKind;
+use protocol::{HostLists, HostUpdate, NewHost, Request};
 use serde_json::Value;
 use std::alloc::Global;
-use protocol::{HostLists, HostUpdate, NewHost, Request};
 
 #[tactic(auto, unfolding(crate::specs::Host::check_host))]
 pub fn check_host(alloc: Global, value: &Value, zone: &Zone) -> Result<Request, Fault>

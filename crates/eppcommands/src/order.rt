@@ -11,9 +11,9 @@ use basis::list::Seq;
 use eppforms::Section::Top;
 use eppforms::{Member, STATUS_ORDER_FORM, has_all, has_only, member_of, object_named, word};
 use objects::{ObjectKind, Status};
+use protocol::{FormFault, Order, StatusOrder};
 use serde_json::Value;
 use std::alloc::{AllocError, Global};
-use protocol::{FormFault, Order, StatusOrder};
 
 /// Reads an order. There is none where the payload is of another form.
 pub fn order_of(alloc: Global, payload: &[u8]) -> Result<Option<Order>, AllocError>

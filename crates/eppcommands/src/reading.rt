@@ -11,9 +11,9 @@ use basis::text::Text;
 use eppforms::{Member, Section, value_at};
 use names::{Address, DomainName, GivenName, HostName, NameFault, Zone};
 use objects::{ObjectKind, Status};
+use protocol::FormFault;
 use serde_json::Value;
 use std::alloc::{AllocError, Global};
-use protocol::FormFault;
 
 /// Why a payload gives no request.
 #[derive(Clone, Copy)]

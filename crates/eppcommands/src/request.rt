@@ -9,9 +9,9 @@ use crate::host::{check_host, create_host, delete_host, info_host, update_host};
 use crate::reading::Fault;
 use eppforms::{CommandKind, checked_command};
 use names::Zone;
+use protocol::Request;
 use serde_json::Value;
 use std::alloc::Global;
-use protocol::Request;
 
 /// The request of a payload, or the first fault of its form.
 #[tactic(auto, unfolding(crate::specs::Request::request_in))]

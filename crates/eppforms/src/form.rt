@@ -13,8 +13,8 @@ use crate::member::{CHANGES, Member, SECTIONS, Section};
 use crate::table::{CommandForm, CommandKind, FORMS, Field, object_text};
 use crate::value::{found, part, word};
 use objects::ObjectKind;
-use serde_json::{Map, Value};
 use protocol::FormFault;
+use serde_json::{Map, Value};
 
 /// The command that a value is, where its members are what its form asks; else the first fault.
 pub fn checked_command(value: &Value) -> Result<CommandKind, FormFault>

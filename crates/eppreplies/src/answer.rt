@@ -4,9 +4,9 @@ ghost use Rattle.serde_json.specs.View.{view};
 ghost use Rattle.eppreplies.specs.Answer as spec;
 
 use crate::item::{Item, object};
+use protocol::Code;
 use serde_json::Value;
 use std::alloc::{AllocError, Global};
-use protocol::Code;
 
 /// The answer to an order: its code and the code's text, and a number of objects where the order
 /// counts them. `status` counts none.

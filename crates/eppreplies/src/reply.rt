@@ -10,9 +10,12 @@ ghost use Rattle.eppreplies.specs.Reply as spec;
 use crate::item::{Item, object};
 use calendar::Moment;
 use objects::{Deletion, Postal, Roid, TransferState};
+use protocol::{
+    CheckResult, ContactInfo, Created, Data, DomainInfo, HostInfo, Reason, Reply, SvTrid,
+    TransferInfo,
+};
 use serde_json::Value;
 use std::alloc::{AllocError, Global};
-use protocol::{CheckResult, ContactInfo, Created, Data, DomainInfo, HostInfo, Reason, Reply, SvTrid, TransferInfo};
 
 /// The text of a reply: one object in compact JSON, its members in the order of their names.
 pub fn reply_bytes(alloc: Global, reply: &Reply) -> Result<Vec<u8>, AllocError>

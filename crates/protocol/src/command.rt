@@ -19,7 +19,10 @@ pub enum Command {
         fault: FormFault,
     },
     /// A well formed command.
-    Asked { cl_trid: Option<Text>, request: Request },
+    Asked {
+        cl_trid: Option<Text>,
+        request: Request,
+    },
 }
 
 /// What a command does with its object (RFC 5730, 2.9).
@@ -171,9 +174,8 @@ impl Request {
             Request::CheckContact { .. }
             | Request::CheckDomain { .. }
             | Request::CheckHost { .. } => Action::Check,
-            Request::InfoContact { .. }
-            | Request::InfoDomain { .. }
-            | Request::InfoHost { .. } => Action::Info,
+            Request::InfoContact { .. } | Request::InfoDomain { .. } | Request::InfoHost { .. } =>
+                Action::Info,
             Request::CreateContact(_) | Request::CreateDomain(_) | Request::CreateHost(_) => {
                 Action::Create
             }

@@ -4,6 +4,7 @@ use Rattle.policy.specs.Rules.{PolicyRules}
 use Rattle.registry.specs.declared.fault.Fault.{Fault}
 use Rattle.registry.specs.declared.fault.Fault.TheVariants as faults
 use Rattle.registry.specs.declared.registry.Prepared.{Prepared}
+use Rattle.registry.specs.declared.registry.TheConstants.{LAST_CALL}
 use Rattle.rules.specs.Decisions.{decided}
 use Rattle.rules.specs.Orders.{order_answer, order_effect}
 use Rattle.rules.specs.Steps.{answer, effect, reply_of}
@@ -18,7 +19,7 @@ use Rattle.model.specs.Registry.{Registry, lapsed, now}
 
 -- the last moment at which a call is taken: 2099-12-31T23:59:59Z
 abbrev pub last_call : ℕ
-last_call = 4_102_444_799
+last_call = LAST_CALL
 
 -- The reply is the rules' answer in the registry at that moment, and what is left is their effect.
 pub record IsStep (p : PolicyRules) (r : ℕ) (c : Command) (moment : ℕ) (before after : Registry) (reply : Reply) : Type 0 where

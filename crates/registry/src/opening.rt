@@ -40,11 +40,7 @@ pub(crate) fn open_in<B: Book>(
 }
 
 /// Opens a book, or goes back where the policy doesn't continue the terms that it was used under.
-fn open_in_transaction<B: Book>(
-    book: &mut B,
-    alloc: Global,
-    policy: &Policy,
-) -> Result<bool, Fault>
+fn open_in_transaction<B: Book>(book: &mut B, alloc: Global, policy: &Policy) -> Result<bool, Fault>
     requires { (B.state book.old).is_open ≡ true }
     ensures taken { IfOk result (λ taken. TakesUp taken policy.now (B.state book.old) (B.state book.new)) }
     ensures fault { IfErr result (λ fault. GoesBack fault (B.state book.old) (B.state book.new)) }

@@ -6,14 +6,14 @@ ghost use Rattle.store.specs.Book.{Follows, IsSame, with_changes};
 ghost use Rattle.model.specs.Objects.{object_ordered};
 
 use crate::fault::Fault;
-use crate::transaction::{keep, object_at, or_rollback, advance_clock};
+use crate::transaction::{advance_clock, keep, object_at, or_rollback};
 use calendar::Moment;
+use model::Object;
 use policy::Policy;
+use protocol::{Code, Order, StatusOrder};
 use rules::{OrderDecision, decide_order};
 use std::alloc::Global;
 use store::Book;
-use model::Object;
-use protocol::{Code, Order, StatusOrder};
 
 /// Carries out an order in an open transaction, and keeps what it did.
 pub(crate) fn execute_order_in<B: Book>(

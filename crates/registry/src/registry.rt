@@ -17,7 +17,7 @@ ghost use Rattle.protocol.specs.Requests.{cl_trid_of};
 use crate::fault::{Fault, OpenFault};
 use crate::opening::open_in;
 use crate::order::execute_order_in;
-use crate::transaction::{facts_for, keep, or_rollback, advance_clock};
+use crate::transaction::{advance_clock, facts_for, keep, or_rollback};
 use basis::list::Seq;
 use basis::registrar::RegistrarNo;
 use basis::text::{Text, copied};
@@ -31,13 +31,13 @@ use store::Book;
 use verdict::{Verdict, id_of};
 
 /// The latest moment at which a call is taken: 2099-12-31T23:59:59Z.
-const LAST_CALL: i64 = 4_102_444_799;
+pub const LAST_CALL: u64 = 4_102_444_799;
 
 /// Whether no call is taken at the moment any more.
 fn is_late(moment: Moment) -> bool
-    ensures { result ≡ nat_lt last_call moment }
+    ensures { result ≡ nat_lt LAST_CALL moment }
 {
-    moment.secs() > LAST_CALL
+    moment.secs() > LAST_CALL as i64
 }
 
 /// A registry over a book, run by a policy.
@@ -59,10 +59,8 @@ impl<B: Book + Drop> Registry<B> {
         requires { (B.state book).is_open ≡ false }
         ensures opened { IfOk result (λ registry. Opens policy (B.state book) (B.state registry.book)) }
         ensures policy { IfOk result (λ registry. registry.policy ≡ policy) }
-        ensures well_formed {
-            IfOk result (λ registry. (B.state registry.book).is_clean ≡ true
-            → OpensWellFormed policy (B.state book).content (B.state registry.book).content)
-        }
+        ensures well_formed { IfOk result (λ registry. (B.state registry.book).is_clean ≡ true
+            → OpensWellFormed policy (B.state book).content (B.state registry.book).content) }
         ensures reopens { IfOk result (λ registry. BookCanBeReopened policy (B.state registry.book)) }
         ensures follows { IfOk result (λ registry. Follows (B.state book) (B.state registry.book)) }
         ensures refusal_follows { IfErr result (λ refusal. Follows (B.state book) (B.state refusal.1)) }

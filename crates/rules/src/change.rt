@@ -20,10 +20,7 @@ pub enum Change {
     /// There is no such host any more.
     DropHost(Text),
     /// Every domain that names the host of the one name names that of the other in its place.
-    RenameHost {
-        from: Text,
-        to: Text,
-    },
+    RenameHost { from: Text, to: Text },
     /// The moment was seen.
     MoveClock(Moment),
     /// The registrar has an account.

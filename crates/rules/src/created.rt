@@ -7,11 +7,11 @@ use basis::list::Seq;
 use basis::registrar::RegistrarNo;
 use basis::text::{Text, copied};
 use calendar::Moment;
+use facts::Facts;
 use names::{GivenName, Zone};
 use objects::{Contact, Domain, Host, Links, ObjectKind, Roid, in_order};
-use std::alloc::{AllocError, Global};
-use facts::Facts;
 use protocol::{NewContact, NewDomain, NewHost};
+use std::alloc::{AllocError, Global};
 
 /// The ROID of the caller's next object.
 fn new_roid(kind: ObjectKind, facts: &Facts, caller: RegistrarNo) -> Roid
@@ -97,7 +97,11 @@ fn texts_of(alloc: Global, names: &[GivenName]) -> Result<Vec<Text>, AllocError>
 
 /// A host in the zone has no registrar of its own; an external one has the registrar that gave it its
 /// name.
-pub(crate) fn external_sponsor_of(zone: &Zone, caller: RegistrarNo, name: &Text) -> Option<RegistrarNo>
+pub(crate) fn external_sponsor_of(
+    zone: &Zone,
+    caller: RegistrarNo,
+    name: &Text,
+) -> Option<RegistrarNo>
     ensures { result ≡ spec.external_sponsor_of zone.now caller name.now }
 {
     if zone.has_superordinate(name) {

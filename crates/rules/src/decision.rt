@@ -10,12 +10,12 @@ use basis::list::Seq;
 use basis::registrar::RegistrarNo;
 use basis::text::Text;
 use calendar::Moment;
+use facts::Facts;
 use names::{GivenName, Zone};
 use objects::{Contact, ContactFace, Domain, DomainFace, Host, Seen};
 use policy::Policy;
-use std::alloc::{AllocError, Global};
-use facts::Facts;
 use protocol::{Code, Command, ContactUpdate, DomainUpdate, HostUpdate, Request};
+use std::alloc::{AllocError, Global};
 use verdict::{Verdict, judge};
 
 /// What a command is answered, and the changes that it makes, in order.

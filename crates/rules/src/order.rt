@@ -5,10 +5,10 @@ ghost use Rattle.verdict.specs.Orders.{order_code};
 
 use crate::change::Change;
 use basis::list::Seq;
-use objects::{Status, amended_statuses};
-use std::alloc::{AllocError, Global};
 use model::Object;
+use objects::{Status, amended_statuses};
 use protocol::{Code, StatusOrder};
+use std::alloc::{AllocError, Global};
 use verdict::judge_order;
 
 /// What an order is answered, and the changes that it makes.

@@ -8,11 +8,11 @@ use crate::created::external_sponsor_of;
 use basis::registrar::RegistrarNo;
 use basis::text::{Text, copied};
 use calendar::Moment;
+use facts::amended_names;
 use names::{GivenName, Zone};
 use objects::{Contact, Domain, Host, Links, Postal, amended_statuses};
-use std::alloc::{AllocError, Global};
-use facts::amended_names;
 use protocol::{ContactUpdate, DomainUpdate, HostUpdate};
+use std::alloc::{AllocError, Global};
 
 /// A copy of the new text, or of the old one where there is none.
 fn or_old(new: &Option<Text>, old: &Text) -> Result<Text, AllocError>
@@ -163,7 +163,12 @@ pub(crate) fn updated_host(
     Ok(Host {
         name: update.final_name().clone()?,
         roid: host.roid,
-        external_sponsor: external_sponsor_after(zone, caller, update.new_name.as_ref(), host.external_sponsor),
+        external_sponsor: external_sponsor_after(
+            zone,
+            caller,
+            update.new_name.as_ref(),
+            host.external_sponsor,
+        ),
         created: host.created,
         updated: Some(moment),
         statuses,

@@ -13,10 +13,10 @@ use basis::registrar::RegistrarNo;
 use calendar::Moment;
 use eppcommands::{command_of, order_of};
 use eppreplies::{order_bytes, reply_bytes};
+use protocol::{Code, Order, Reply};
 use registry::Registry;
 use std::alloc::{AllocError, Global};
 use store::PlainBook;
-use protocol::{Code, Order, Reply};
 
 /// What a line is answered, or `None` where the call gave up or found no memory.
 pub(crate) fn answer(

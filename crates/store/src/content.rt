@@ -18,13 +18,15 @@ use basis::maps::{NameMap, RegistrarMap};
 use basis::registrar::RegistrarNo;
 use basis::text::Text;
 use calendar::Moment;
+use facts::{
+    AccountFacts, ContactFacts, DomainFacts, Facts, HOLDING_LIMIT, HostFacts, Superordinate,
+};
+use model::Object;
 use names::{GivenName, last_two_labels};
 use objects::{Contact, Domain, Host, ObjectKind, is_below};
 use policy::{Policy, Terms};
-use std::alloc::{AllocError, Global};
-use facts::{AccountFacts, ContactFacts, DomainFacts, Facts, HOLDING_LIMIT, HostFacts, Superordinate};
-use model::Object;
 use protocol::{Command, Request};
+use std::alloc::{AllocError, Global};
 
 #[derive(Drop)]
 pub(crate) struct Content {

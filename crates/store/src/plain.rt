@@ -14,13 +14,13 @@ use basis::maps::{NameMap, RegistrarMap};
 use basis::registrar::RegistrarNo;
 use basis::text::Text;
 use calendar::Moment;
-use objects::ObjectKind;
-use policy::{Policy, Terms};
-use rules::Change;
-use std::alloc::{AllocError, Global};
 use facts::Facts;
 use model::Object;
+use objects::ObjectKind;
+use policy::{Policy, Terms};
 use protocol::Command;
+use rules::Change;
+use std::alloc::{AllocError, Global};
 
 /// A registry in ordered maps, with what undoes the changes of the open transaction. A change costs
 /// a look-up and a copy of what it replaces; nothing is copied when a transaction begins.

@@ -69,9 +69,22 @@ fn the_domain_is_over(removed: Lists<'_>, added: Lists<'_>, domain: &Domain) -> 
     ensures { result ≡ spec.domain_is_over (lists_of removed.entry) (lists_of added.entry) domain.now }
 {
     let links = &domain.links;
-    is_over(MOST_HOSTS, links.hosts.as_slice(), removed.hosts, added.hosts)
-        || is_over(MOST_CONTACTS, links.admin.as_slice(), removed.admin, added.admin)
-        || is_over(MOST_CONTACTS, links.tech.as_slice(), removed.tech, added.tech)
+    is_over(
+        MOST_HOSTS,
+        links.hosts.as_slice(),
+        removed.hosts,
+        added.hosts,
+    ) || is_over(
+        MOST_CONTACTS,
+        links.admin.as_slice(),
+        removed.admin,
+        added.admin,
+    ) || is_over(
+        MOST_CONTACTS,
+        links.tech.as_slice(),
+        removed.tech,
+        added.tech,
+    )
 }
 
 /// Whether the host has more than a list's limit afterwards.

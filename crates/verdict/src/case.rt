@@ -9,12 +9,12 @@ ghost use Rattle.verdict.specs.Conditions as spec;
 ghost use Rattle.verdict.specs.Rules.{refusal_of};
 
 use crate::amended::{
-    any_refused, contact_has, contact_lacks, domain_has, domain_is_over, domain_lacks, host_has, host_is_over, host_lacks,
-    list_repeats,
+    any_refused, contact_has, contact_lacks, domain_has, domain_is_over, domain_lacks, host_has,
+    host_is_over, host_lacks, list_repeats,
 };
 use crate::conditions::{
-    has_no_superordinate, host_is_anothers, is_anothers, is_shown,
-    presents_wrong, superordinate_is_anothers, superordinate_is_deleted,
+    has_no_superordinate, host_is_anothers, is_anothers, is_shown, presents_wrong,
+    superordinate_is_anothers, superordinate_is_deleted,
 };
 use crate::rules::{Condition, Row, rows};
 use basis::registrar::RegistrarNo;

@@ -110,11 +110,7 @@ fn is_host_of(zone: &Zone, caller: RegistrarNo, known: &HostFacts, host: &Host) 
 }
 
 /// Whether another sponsors the host.
-pub(crate) fn host_is_anothers(
-    zone: &Zone,
-    caller: RegistrarNo,
-    known: Option<&HostFacts>,
-) -> bool
+pub(crate) fn host_is_anothers(zone: &Zone, caller: RegistrarNo, known: Option<&HostFacts>) -> bool
     ensures { result ≡ spec.host_is_anothers zone.now caller (option_copied known.entry) }
 {
     match known {

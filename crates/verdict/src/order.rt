@@ -39,13 +39,13 @@ pub enum OrderCondition {
 
 /// The table of the orders that set statuses.
 pub const STATUS_ORDER: &[(Cause, OrderCondition)] = &[
-    (Cause::Missing, IsMissing),                       // RFC 5730, 3, code 2303
+    (Cause::Missing, IsMissing), // RFC 5730, 3, code 2303
     (Cause::StatusProhibits, ContradictsPendingState), // RFC 5731, 2.3
-    (Cause::DoesNotFit, HasUnknownStatus),             // RFC 5730, 3, code 2306
-    (Cause::DoesNotFit, HasAnothersStatus),            // RFC 5731, 2.3
-    (Cause::DoesNotFit, ListRepeats),                  // RFC 5730, 3, code 2306
-    (Cause::DoesNotFit, AddsWhatIsSet),                // RFC 5730, 3, code 2306
-    (Cause::DoesNotFit, RemovesWhatIsUnset),           // RFC 5730, 3, code 2306
+    (Cause::DoesNotFit, HasUnknownStatus), // RFC 5730, 3, code 2306
+    (Cause::DoesNotFit, HasAnothersStatus), // RFC 5731, 2.3
+    (Cause::DoesNotFit, ListRepeats), // RFC 5730, 3, code 2306
+    (Cause::DoesNotFit, AddsWhatIsSet), // RFC 5730, 3, code 2306
+    (Cause::DoesNotFit, RemovesWhatIsUnset), // RFC 5730, 3, code 2306
 ];
 
 /// What an order is answered, by the object that it names.

@@ -68,21 +68,21 @@ pub type Row = (Cause, Condition);
 
 /// RFC 5733, 3.1.2.
 pub const CONTACT_INFO: &[Row] = &[
-    (Missing, IsMissing),         // RFC 5730, 3, code 2303
+    (Missing, IsMissing), // RFC 5730, 3, code 2303
     (WrongSecret, SecretIsWrong), // RFC 5733, 2.8
 ];
 
 /// RFC 5731, 3.1.2.
 pub const DOMAIN_INFO: &[Row] = &[
-    (BadNames, NameIsRefused),    // RFC 5730, 3, code 2306
-    (Missing, IsMissing),         // RFC 5730, 3, code 2303
+    (BadNames, NameIsRefused), // RFC 5730, 3, code 2306
+    (Missing, IsMissing), // RFC 5730, 3, code 2303
     (WrongSecret, SecretIsWrong), // RFC 5731, 2.6
 ];
 
 /// RFC 5732, 3.1.2.
 pub const HOST_INFO: &[Row] = &[
     (BadNames, NameIsRefused), // RFC 5730, 3, code 2306
-    (Missing, IsMissing),      // RFC 5730, 3, code 2303
+    (Missing, IsMissing), // RFC 5730, 3, code 2303
 ];
 
 /// RFC 5733, 3.2.1.
@@ -92,90 +92,90 @@ pub const CONTACT_CREATION: &[Row] = &[
 
 /// RFC 5731, 3.2.1.
 pub const DOMAIN_CREATION: &[Row] = &[
-    (BadNames, NameIsRefused),      // RFC 5730, 3, code 2306
-    (BadNames, ListRepeats),        // RFC 5730, 3, code 2306
-    (Exists, IsThere),              // RFC 5730, 3, code 2302
-    (Missing, ReferenceIsMissing),  // RFC 5731, 3.2.1
-    (LimitReached, HoldsTheMost),   // RFC 5730, 3, code 2308
+    (BadNames, NameIsRefused), // RFC 5730, 3, code 2306
+    (BadNames, ListRepeats), // RFC 5730, 3, code 2306
+    (Exists, IsThere), // RFC 5730, 3, code 2302
+    (Missing, ReferenceIsMissing), // RFC 5731, 3.2.1
+    (LimitReached, HoldsTheMost), // RFC 5730, 3, code 2308
 ];
 
 /// RFC 5732, 3.2.1.
 pub const HOST_CREATION: &[Row] = &[
-    (BadNames, NameIsRefused),                 // RFC 5730, 3, code 2306
-    (BadNames, ListRepeats),                   // RFC 5730, 3, code 2306
-    (Exists, IsThere),                         // RFC 5730, 3, code 2302
-    (Missing, SuperordinateIsMissing),         // RFC 5732, 3.2.1
-    (NotSponsor, SuperordinateIsAnothers),     // RFC 5732, 3.2.1
+    (BadNames, NameIsRefused), // RFC 5730, 3, code 2306
+    (BadNames, ListRepeats), // RFC 5730, 3, code 2306
+    (Exists, IsThere), // RFC 5730, 3, code 2302
+    (Missing, SuperordinateIsMissing), // RFC 5732, 3.2.1
+    (NotSponsor, SuperordinateIsAnothers), // RFC 5732, 3.2.1
     (StatusProhibits, SuperordinateIsDeleted), // RFC 5731, 2.3
-    (DoesNotFit, LeavesAddressesOutside),      // RFC 5732, 2.5
+    (DoesNotFit, LeavesAddressesOutside), // RFC 5732, 2.5
 ];
 
 /// RFC 5733, 3.2.2.
 pub const CONTACT_DELETION: &[Row] = &[
-    (Missing, IsMissing),                             // RFC 5730, 3, code 2303
-    (NotSponsor, IsAnothers),                         // RFC 5733, 3.2.2
-    (StatusProhibits, Shows(PendingTransfer)),        // RFC 5733, 2.2
+    (Missing, IsMissing), // RFC 5730, 3, code 2303
+    (NotSponsor, IsAnothers), // RFC 5733, 3.2.2
+    (StatusProhibits, Shows(PendingTransfer)), // RFC 5733, 2.2
     (StatusProhibits, Shows(ClientDeleteProhibited)), // RFC 5733, 2.2
     (StatusProhibits, Shows(ServerDeleteProhibited)), // RFC 5733, 2.2
-    (AssociationProhibits, IsLinked),                 // RFC 5733, 3.2.2
+    (AssociationProhibits, IsLinked), // RFC 5733, 3.2.2
 ];
 
 /// RFC 5732, 3.2.2.
 pub const HOST_DELETION: &[Row] = &[
-    (BadNames, NameIsRefused),                        // RFC 5730, 3, code 2306
-    (Missing, IsMissing),                             // RFC 5730, 3, code 2303
-    (NotSponsor, IsAnothers),                         // RFC 5732, 3.2.2
-    (StatusProhibits, Shows(PendingTransfer)),        // RFC 5732, 2.3
+    (BadNames, NameIsRefused), // RFC 5730, 3, code 2306
+    (Missing, IsMissing), // RFC 5730, 3, code 2303
+    (NotSponsor, IsAnothers), // RFC 5732, 3.2.2
+    (StatusProhibits, Shows(PendingTransfer)), // RFC 5732, 2.3
     (StatusProhibits, Shows(ClientDeleteProhibited)), // RFC 5732, 2.3
     (StatusProhibits, Shows(ServerDeleteProhibited)), // RFC 5732, 2.3
-    (AssociationProhibits, IsLinked),                 // RFC 5732, 3.2.2
+    (AssociationProhibits, IsLinked), // RFC 5732, 3.2.2
 ];
 
 /// RFC 5733, 3.2.5. The sponsor may take its own prohibition away with the update.
 pub const CONTACT_UPDATE: &[Row] = &[
-    (BadNames, ListRepeats),                               // RFC 5730, 3, code 2306
-    (Missing, IsMissing),                                  // RFC 5730, 3, code 2303
-    (NotSponsor, IsAnothers),                              // RFC 5733, 3.2.5
-    (StatusProhibits, Shows(PendingDelete)),               // RFC 5733, 2.2
-    (StatusProhibits, Shows(PendingTransfer)),             // RFC 5733, 2.2
-    (StatusProhibits, Shows(ServerUpdateProhibited)),      // RFC 5733, 2.2
+    (BadNames, ListRepeats), // RFC 5730, 3, code 2306
+    (Missing, IsMissing), // RFC 5730, 3, code 2303
+    (NotSponsor, IsAnothers), // RFC 5733, 3.2.5
+    (StatusProhibits, Shows(PendingDelete)), // RFC 5733, 2.2
+    (StatusProhibits, Shows(PendingTransfer)), // RFC 5733, 2.2
+    (StatusProhibits, Shows(ServerUpdateProhibited)), // RFC 5733, 2.2
     (StatusProhibits, StillShows(ClientUpdateProhibited)), // RFC 5733, 3.2.5
-    (DoesNotFit, AddsWhatIsThere),                         // RFC 5733, 3.2.5
-    (DoesNotFit, RemovesWhatIsNot),                        // RFC 5733, 3.2.5
+    (DoesNotFit, AddsWhatIsThere), // RFC 5733, 3.2.5
+    (DoesNotFit, RemovesWhatIsNot), // RFC 5733, 3.2.5
 ];
 
 /// RFC 5731, 3.2.5. As for a contact.
 pub const DOMAIN_UPDATE: &[Row] = &[
-    (BadNames, NameIsRefused),                             // RFC 5730, 3, code 2306
-    (BadNames, ListRepeats),                               // RFC 5730, 3, code 2306
-    (Missing, IsMissing),                                  // RFC 5730, 3, code 2303
-    (Missing, ReferenceIsMissing),                         // RFC 5731, 3.2.5
-    (NotSponsor, IsAnothers),                              // RFC 5731, 3.2.5
-    (StatusProhibits, Shows(PendingDelete)),               // RFC 5731, 2.3
-    (StatusProhibits, Shows(PendingTransfer)),             // RFC 5731, 2.3
-    (StatusProhibits, Shows(ServerUpdateProhibited)),      // RFC 5731, 2.3
+    (BadNames, NameIsRefused), // RFC 5730, 3, code 2306
+    (BadNames, ListRepeats), // RFC 5730, 3, code 2306
+    (Missing, IsMissing), // RFC 5730, 3, code 2303
+    (Missing, ReferenceIsMissing), // RFC 5731, 3.2.5
+    (NotSponsor, IsAnothers), // RFC 5731, 3.2.5
+    (StatusProhibits, Shows(PendingDelete)), // RFC 5731, 2.3
+    (StatusProhibits, Shows(PendingTransfer)), // RFC 5731, 2.3
+    (StatusProhibits, Shows(ServerUpdateProhibited)), // RFC 5731, 2.3
     (StatusProhibits, StillShows(ClientUpdateProhibited)), // RFC 5731, 3.2.5
-    (DoesNotFit, AddsWhatIsThere),                         // RFC 5731, 3.2.5
-    (DoesNotFit, RemovesWhatIsNot),                        // RFC 5731, 3.2.5
-    (DoesNotFit, LeavesTooMany),                           // RFC 5731, 3.2.5
+    (DoesNotFit, AddsWhatIsThere), // RFC 5731, 3.2.5
+    (DoesNotFit, RemovesWhatIsNot), // RFC 5731, 3.2.5
+    (DoesNotFit, LeavesTooMany), // RFC 5731, 3.2.5
 ];
 
 /// RFC 5732, 3.2.5. As for a contact; a new name is one of a new host.
 pub const HOST_UPDATE: &[Row] = &[
-    (BadNames, NameIsRefused),                             // RFC 5730, 3, code 2306
-    (BadNames, ListRepeats),                               // RFC 5730, 3, code 2306
-    (Exists, NewNameIsTaken),                              // RFC 5730, 3, code 2302
-    (Missing, IsMissing),                                  // RFC 5730, 3, code 2303
-    (Missing, SuperordinateIsMissing),                     // RFC 5732, 3.2.5
-    (NotSponsor, IsAnothers),                              // RFC 5732, 3.2.5
-    (NotSponsor, SuperordinateIsAnothers),                 // RFC 5732, 3.2.5
-    (StatusProhibits, Shows(ServerUpdateProhibited)),      // RFC 5732, 2.3
+    (BadNames, NameIsRefused), // RFC 5730, 3, code 2306
+    (BadNames, ListRepeats), // RFC 5730, 3, code 2306
+    (Exists, NewNameIsTaken), // RFC 5730, 3, code 2302
+    (Missing, IsMissing), // RFC 5730, 3, code 2303
+    (Missing, SuperordinateIsMissing), // RFC 5732, 3.2.5
+    (NotSponsor, IsAnothers), // RFC 5732, 3.2.5
+    (NotSponsor, SuperordinateIsAnothers), // RFC 5732, 3.2.5
+    (StatusProhibits, Shows(ServerUpdateProhibited)), // RFC 5732, 2.3
     (StatusProhibits, StillShows(ClientUpdateProhibited)), // RFC 5732, 3.2.5
-    (StatusProhibits, SuperordinateIsDeleted),             // RFC 5731, 2.3
-    (DoesNotFit, AddsWhatIsThere),                         // RFC 5732, 3.2.5
-    (DoesNotFit, RemovesWhatIsNot),                        // RFC 5732, 3.2.5
-    (DoesNotFit, LeavesTooMany),                           // RFC 5732, 3.2.5
-    (DoesNotFit, LeavesAddressesOutside),                  // RFC 5732, 2.5
+    (StatusProhibits, SuperordinateIsDeleted), // RFC 5731, 2.3
+    (DoesNotFit, AddsWhatIsThere), // RFC 5732, 3.2.5
+    (DoesNotFit, RemovesWhatIsNot), // RFC 5732, 3.2.5
+    (DoesNotFit, LeavesTooMany), // RFC 5732, 3.2.5
+    (DoesNotFit, LeavesAddressesOutside), // RFC 5732, 2.5
 ];
 
 /// The table of the command.
@@ -184,9 +184,8 @@ pub fn rows(request: &Request) -> &'static [Row]
     ensures ordered { IsTrue (in_order result.now) }
 {
     match request {
-        Request::CheckContact { .. }
-        | Request::CheckDomain { .. }
-        | Request::CheckHost { .. } => &[],
+        Request::CheckContact { .. } | Request::CheckDomain { .. } | Request::CheckHost { .. } =>
+            &[],
         Request::InfoContact { .. } => CONTACT_INFO,
         Request::InfoDomain { .. } => DOMAIN_INFO,
         Request::InfoHost { .. } => HOST_INFO,

@@ -2,9 +2,9 @@ use super::command_of;
 use basis::list::Seq;
 use basis::text::Text;
 use names::Zone;
+use protocol::{Code, Command};
 use std::alloc::{AllocError, Global};
 use std::test::Fail;
-use protocol::{Code, Command};
 
 /// The zone `test`, with nothing reserved.
 fn zone(alloc: Global) -> Result<Zone, AllocError> {

@@ -1,6 +1,6 @@
 use super::order_bytes;
-use std::test::Fail;
 use protocol::Code;
+use std::test::Fail;
 
 /// An answer that counts objects, and one that doesn't.
 #[test]

@@ -7,9 +7,11 @@ use calendar::Moment;
 use objects::{
     ContactFace, Deletion, DomainFace, Links, ObjectKind, Postal, Roid, Transfer, TransferState,
 };
+use protocol::{
+    Code, ContactHidden, ContactInfo, Data, DomainHidden, DomainInfo, Reply, SvTrid, TransferInfo,
+};
 use std::alloc::{AllocError, Global};
 use std::test::Fail;
-use protocol::{Code, ContactHidden, ContactInfo, Data, DomainHidden, DomainInfo, Reply, SvTrid, TransferInfo};
 
 /// A text of no bytes, for what these tests don't look at.
 fn nothing(alloc: Global) -> Text {
