@@ -1,8 +1,15 @@
-//! Runs transcripts: scripts with the replies that must follow. `docs/TRANSCRIPTS.md` says how one is
-//! written.
+//! Runs transcripts: scripts with the replies that must follow. A line of one is
 //!
-//! The arguments name the files. Each transcript prints how many of its replies were as written, below
-//! what wasn't. The status is 1 where anything differs.
+//! - `transcript: NAME`: a transcript begins, over an empty registry,
+//! - `policy: FILE`: the policy that it runs under,
+//! - `prelude: FILE`: the transcripts whose lines are sent first,
+//! - `C: LINE`: a line of the script, and below it
+//! - `S: LINE`: its reply,
+//! - `ends: TEXT`: the line of standard error at the end, where there is one,
+//! - empty, or a remark that begins with `#`.
+//!
+//! `docs/TRANSCRIPTS.md` says more. The arguments name the files. Each transcript prints how many of its
+//! replies were as written, below what wasn't. The status is 1 where anything differs.
 #![tactic(auto)]
 
 mod line;
