@@ -89,7 +89,7 @@ fn check(alloc: Global) -> Result<Command, Fail> {
     let mut names = Seq::new(alloc);
     names.push(GivenName::Allowed(Text::from_str(alloc, "a.test")?))?;
     Ok(Command::Asked {
-        tag: None,
+        cl_trid: None,
         request: Request::CheckDomain { names },
     })
 }

@@ -36,7 +36,7 @@ fn changes() -> Result<History, Fail> {
     Ok(History {
         created: moment("2028-01-01T00:00:00Z")?,
         requested: moment("2028-02-29T12:00:00Z")?,
-        ac_date: moment("2028-03-01T00:00:00Z")?,
+        acted: moment("2028-03-01T00:00:00Z")?,
         deleted: moment("2028-03-03T00:00:00Z")?,
         restore_requested: moment("2028-03-04T00:00:00Z")?,
     })
@@ -61,7 +61,7 @@ fn transfer(at: History, loser: Text, requester: Text) -> TransferInfo {
             state: TransferState::ClientApproved,
         },
         requester,
-        loser,
+        losing_registrar: loser,
     }
 }
 
