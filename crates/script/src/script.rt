@@ -167,12 +167,12 @@ fn print<W: Write>(pending: &mut Vec<u8>, writer: &mut W, text: &[u8]) -> io::Re
     Ok(())
 }
 
-/// Writes what is pending.
+/// Writes what is pending. After a fault nothing of it is tried again, so that nothing is written twice.
 fn write_pending<W: Write>(pending: &mut Vec<u8>, writer: &mut W) -> io::Result<()>
-    ensures empty { OnOk result (pending.new.items ≡ []) }
+    ensures empty { pending.new.items ≡ [] }
     ensures bytes { OnOk result (Appends (W.contents writer.old) (W.contents writer.new) pending.old.items) }
 {
-    writer.write_all(pending)?;
+    let written = writer.write_all(pending);
     pending.clear();
-    Ok(())
+    written
 }

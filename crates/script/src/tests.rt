@@ -78,6 +78,35 @@ impl Write for Full {
     }
 }
 
+/// Takes so many bytes, fails once, and takes all then.
+#[derive(Drop)]
+struct FailsOnce {
+    room: usize,
+    has_failed: bool,
+    taken: Vec<u8>,
+}
+
+impl Write for FailsOnce {
+    fn write(&mut self, bytes: &[u8]) -> io::Result<usize> {
+        if self.has_failed {
+            self.taken.extend_from_slice(bytes)?;
+            return Ok(bytes.len());
+        }
+        if self.room == 0 {
+            self.has_failed = true;
+            return Err(io::Error::from(io::ErrorKind::BrokenPipe));
+        }
+        let taken = bytes.len().min(self.room);
+        self.taken.extend_from_slice(&bytes[..taken])?;
+        self.room -= taken;
+        Ok(taken)
+    }
+
+    fn flush(&mut self) -> io::Result<()> {
+        Ok(())
+    }
+}
+
 /// What a script prints, and its end.
 fn check(
     rt: &(impl Abort + AllocGlobal),
@@ -122,6 +151,28 @@ fn output_that_fails(rt: HostRuntime) -> Result<(), Fail> {
     }
     let exit = run_script(alloc, POLICY.as_bytes(), LINE, &mut Full(REPLY.len()));
     assert!(&rt; matches!(&exit, Exit::Done));
+    Ok(())
+}
+
+/// Behind a fault of the output nothing is written that stands there already.
+#[test]
+fn output_that_fails_once(rt: HostRuntime) -> Result<(), Fail> {
+    let alloc = rt.alloc();
+    let mut script = Vec::new(alloc);
+    for _ in 0..400 {
+        script.extend_from_slice(LINE)?;
+    }
+    let mut whole = Vec::new(alloc);
+    let exit = run_script(alloc, POLICY.as_bytes(), script.as_slice(), &mut whole);
+    assert!(&rt; matches!(&exit, Exit::Done));
+    let mut writer = FailsOnce {
+        room: 100,
+        has_failed: false,
+        taken: Vec::new(alloc),
+    };
+    let exit = run_script(alloc, POLICY.as_bytes(), script.as_slice(), &mut writer);
+    assert!(&rt; matches!(&exit, Exit::File));
+    assert!(&rt; whole.starts_with(&writer.taken));
     Ok(())
 }
 
