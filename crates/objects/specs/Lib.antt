@@ -1,6 +1,7 @@
 pub mod Statuses
 pub mod Transfers
 pub mod Links
+pub mod Graces
 pub mod Domains
 pub mod Contacts
 pub mod Hosts

@@ -5,7 +5,7 @@ use Rattle.std.specs.Ordering.{nat_cmp}
 use Rattle.std.specs.Cmp.Lexicographic.{slice_cmp}
 use Rattle.std.specs.Str.{bytes_eq}
 use Rattle.basis.specs.Bag.{precedes, sorted}
-use Rattle.objects.specs.declared.domain.Domain.{Domain}
+use Rattle.objects.specs.declared.domain.FullDomain.{FullDomain}
 use Rattle.objects.specs.declared.domain.DomainFace.{DomainFace}
 use Rattle.objects.specs.declared.domain.Links.{Links}
 use Rattle.objects.specs.declared.sight.Seen.{Seen}
@@ -24,8 +24,8 @@ abbrev pub names_host : List ℕ → Links → Bool
 names_host host links = has_name links.hosts host
 
 -- what a domain names, of what is seen of it
-abbrev pub links_seen : Seen Domain DomainFace → Links
-links_seen (Full d) = d.links
+abbrev pub links_seen : Seen FullDomain DomainFace → Links
+links_seen (Full full) = full.domain.links
 links_seen (TransferParty face t) = face.links
 links_seen (Public face) = face.links
 

@@ -5,6 +5,8 @@ use Rattle.objects.specs.declared.contact.Contact.{Contact}
 use Rattle.objects.specs.declared.contact.ContactFace.{ContactFace}
 use Rattle.objects.specs.declared.domain.Domain.{Domain}
 use Rattle.objects.specs.declared.domain.DomainFace.{DomainFace}
+use Rattle.objects.specs.declared.domain.FullDomain.{FullDomain}
+use Rattle.objects.specs.declared.grace.Standing.{Standing}
 use Rattle.objects.specs.declared.transfer.Transfer.{Transfer}
 use Rattle.objects.specs.declared.sight.Seen.{Seen}
 use Rattle.objects.specs.declared.sight.Seen.TheVariants.{Full, TransferParty, Public}
@@ -28,8 +30,10 @@ seen_by_outsider r face (Some t) = if names r t then TransferParty face t else P
 
 -- A registrar sees an object in full where it is a party to it or presents its secret; the face and
 -- the last transfer where that names it; and the face otherwise.
-abbrev pub domain_as : ℕ → Option (List ℕ) → Domain → Seen Domain DomainFace
-domain_as r presented d = if is_party r d.sponsor d.transfer || authorizes presented d.secret then Full d else seen_by_outsider r (face_of d) d.transfer
+abbrev pub domain_as : ℕ → Option (List ℕ) → Standing → Domain → Seen FullDomain DomainFace
+domain_as r presented standing d =
+    if is_party r d.sponsor d.transfer || authorizes presented d.secret then Full (record { domain = d; standing = standing })
+    else seen_by_outsider r (face_of standing d) d.transfer
 
 abbrev pub contact_as : ℕ → Option (List ℕ) → Contact → Seen Contact ContactFace
 contact_as r presented c = if is_party r c.sponsor c.transfer || authorizes presented c.secret then Full c else seen_by_outsider r (contact_face_of c) c.transfer

@@ -1,13 +1,14 @@
 //! Domains (RFC 5731).
 ghost use Rattle.std.specs.Prelude.{◌≡◌, ◌==◌, ◌||◌, IfOk, filter};
 ghost use Rattle.std.specs.Option.{option_copied};
-ghost use Rattle.objects.specs.Domains.{expiry, shows, shown, face_of};
+ghost use Rattle.objects.specs.Domains.{shown_expiry, shows, shown, face_of};
 ghost use Rattle.objects.specs.Sight.{is_party, authorizes, domain_as};
 ghost use Rattle.objects.specs.Transfers as transfers;
 
+use crate::grace::Standing;
 use crate::roid::Roid;
 use crate::sight::{self, Seen};
-use crate::status::{ALL, Rgp, Status, has_status};
+use crate::status::{ALL, Status, has_status};
 use crate::transfer::Transfer;
 use basis::list::Seq;
 use basis::registrar::RegistrarNo;
@@ -51,7 +52,14 @@ pub struct Domain {
     pub deletion: Option<Deletion>,
 }
 
-/// What everyone may know of a domain.
+/// A domain in full, with its graces and its phase at a moment.
+#[derive(Drop)]
+pub struct FullDomain {
+    pub domain: Domain,
+    pub standing: Standing,
+}
+
+/// What everyone may know of a domain at a moment.
 #[derive(Clone, Drop)]
 pub struct DomainFace {
     pub name: Text,
@@ -63,7 +71,7 @@ pub struct DomainFace {
     pub updated: Option<Moment>,
     /// The statuses that are shown.
     pub statuses: Seq<Status>,
-    pub rgp: Seq<Rgp>,
+    pub standing: Standing,
     pub links: Links,
 }
 
@@ -93,9 +101,9 @@ impl Clone for Domain {
 }
 
 impl Domain {
-    /// The moment to which it is registered.
+    /// The moment to which it is registered. One past the last moment is shown as the last.
     pub fn expiry(&self) -> Moment
-        ensures { result ≡ expiry self.now }
+        ensures { result ≡ shown_expiry self.now }
     {
         self.created.plus_years_capped(self.years)
     }
@@ -141,8 +149,8 @@ impl Domain {
     }
 
     /// What everyone may know of it.
-    pub fn face(&self, alloc: Global) -> Result<DomainFace, AllocError>
-        ensures { IfOk result (λ face. face ≡ face_of self.now) }
+    pub fn face(&self, alloc: Global, standing: Standing) -> Result<DomainFace, AllocError>
+        ensures { IfOk result (λ face. face ≡ face_of standing self.now) }
     {
         Ok(DomainFace {
             name: self.name.clone()?,
@@ -153,8 +161,18 @@ impl Domain {
             transferred: self.transferred,
             updated: self.updated,
             statuses: self.shown(alloc)?,
-            rgp: Seq::new(alloc),
+            standing,
             links: self.links.clone()?,
+        })
+    }
+
+    /// A copy, with its graces and its phase.
+    fn in_full(&self, standing: Standing) -> Result<FullDomain, AllocError>
+        ensures { IfOk result (λ full. full ≡ record { domain = self.now; standing = standing }) }
+    {
+        Ok(FullDomain {
+            domain: self.clone()?,
+            standing,
         })
     }
 
@@ -197,17 +215,19 @@ impl Domain {
         alloc: Global,
         registrar: RegistrarNo,
         presented: Option<&Text>,
-    ) -> Result<Seen<Domain, DomainFace>, AllocError>
-        ensures { IfOk result (λ seen. seen ≡ domain_as registrar (option_copied presented.entry) self.now) }
+        standing: Standing,
+    ) -> Result<Seen<FullDomain, DomainFace>, AllocError>
+        ensures { IfOk result (λ seen. seen ≡ domain_as registrar (option_copied presented.entry) standing self.now) }
     {
         if self.is_seen_in_full(registrar, presented) {
-            return Ok(Seen::Full(self.clone()?));
+            return Ok(Seen::Full(self.in_full(standing)?));
         }
         match &self.transfer {
-            Some(transfer) if transfer.names(registrar) => {
-                Ok(Seen::TransferParty(self.face(alloc)?, *transfer))
-            }
-            _ => Ok(Seen::Public(self.face(alloc)?)),
+            Some(transfer) if transfer.names(registrar) => Ok(Seen::TransferParty(
+                self.face(alloc, standing)?,
+                *transfer,
+            )),
+            _ => Ok(Seen::Public(self.face(alloc, standing)?)),
         }
     }
 }

@@ -7,6 +7,7 @@
 
 mod contact;
 mod domain;
+mod grace;
 mod host;
 mod links;
 mod roid;
@@ -15,7 +16,8 @@ mod status;
 mod transfer;
 
 pub use contact::{Contact, ContactFace, Postal, shown_contact};
-pub use domain::{Deletion, Domain, DomainFace, Links};
+pub use domain::{Deletion, Domain, DomainFace, FullDomain, Links};
+pub use grace::{Graces, Phase, Standing};
 pub use host::{Host, HostFace, is_below, shown_host};
 pub use links::{has_name, in_order};
 pub use roid::{ObjectKind, Roid};
