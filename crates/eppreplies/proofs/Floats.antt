@@ -14,6 +14,7 @@ use Rattle.protocol.specs.declared.reply.DomainInfo.{DomainInfo}
 use Rattle.protocol.specs.declared.reply.HostInfo.{HostInfo}
 use Rattle.protocol.specs.declared.reply.TransferInfo.{TransferInfo}
 use Rattle.objects.specs.declared.contact.Postal.{Postal}
+use Rattle.objects.specs.Graces.{states_of}
 use Rattle.objects.specs.StatusTexts.{status_text, rgp_text}
 use Rattle.eppreplies.specs.Members.{members_with, texts_value, moment_value}
 use Rattle.eppreplies.specs.Answer.{settled_value, answer_members, answer_value}
@@ -120,7 +121,7 @@ domain_plain d = (
                 (
                   maybe_moment (restore_requested_of d),
                   (
-                    texts (map rgp_text d.face.rgp),
+                    texts (map rgp_text (states_of d.face.standing)),
                     (
                       refl,
                       (

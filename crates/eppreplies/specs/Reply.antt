@@ -7,6 +7,7 @@ use Rattle.objects.specs.declared.contact.Postal.{Postal}
 use Rattle.objects.specs.declared.domain.Deletion.{Deletion}
 use Rattle.objects.specs.declared.transfer.TransferState.{TransferState}
 use Rattle.objects.specs.declared.transfer.TransferState.TheVariants.{Pending, ClientApproved, ClientRejected, ClientCancelled, ServerApproved}
+use Rattle.objects.specs.Graces.{states_of}
 use Rattle.objects.specs.StatusTexts.{status_text, rgp_text}
 use Rattle.objects.specs.Roid.{roid_text}
 use Rattle.protocol.specs.Codes.{number_of, message_of}
@@ -154,7 +155,7 @@ domain_members d =
     ∷ (codes "name", Some (string d.face.name))
     ∷ (codes "registrant", Some (string d.face.links.registrant))
     ∷ (codes "resDate", option_map moment_value (restore_requested_of d))
-    ∷ (codes "rgp", Some (texts_value (map rgp_text d.face.rgp)))
+    ∷ (codes "rgp", Some (texts_value (map rgp_text (states_of d.face.standing))))
     ∷ (codes "roid", Some (string (roid_text d.face.roid)))
     ∷ (codes "secret", option_map string (secret_of d))
     ∷ (codes "status", Some (texts_value (map status_text d.face.statuses)))

@@ -232,6 +232,7 @@ fn domain_value(alloc: Global, info: &DomainInfo) -> Result<Value, AllocError>
 {
     let face = &info.face;
     let links = &face.links;
+    let states = face.standing.states(alloc)?;
     let roid = roid_value(alloc, face.roid)?;
     let transfer = match transfer_of(info) {
         Some(transfer) => Item::Given(transfer_value(alloc, transfer)?),
@@ -247,7 +248,7 @@ fn domain_value(alloc: Global, info: &DomainInfo) -> Result<Value, AllocError>
         ("name", Item::Text(&face.name)),
         ("registrant", Item::Text(&links.registrant)),
         ("resDate", Item::MaybeTime(restore_requested_of(info))),
-        ("rgp", Item::Graces(&face.rgp)),
+        ("rgp", Item::Graces(&states)),
         ("roid", Item::Given(roid)),
         ("secret", secret_of(info)),
         ("status", Item::Statuses(&face.statuses)),

@@ -10,11 +10,12 @@ use Rattle.objects.specs.declared.contact.Contact.{Contact}
 use Rattle.objects.specs.declared.contact.ContactFace.{ContactFace}
 use Rattle.objects.specs.declared.domain.Domain.{Domain}
 use Rattle.objects.specs.declared.domain.DomainFace.{DomainFace}
+use Rattle.objects.specs.declared.domain.FullDomain.{FullDomain}
 use Rattle.objects.specs.declared.host.Host.{Host}
 use Rattle.objects.specs.declared.sight.Seen.{Seen}
 use Rattle.objects.specs.Hosts.{is_below}
 use Rattle.objects.specs.Links.{names_contact, names_host}
-use Rattle.objects.specs.Sight.{contact_as, domain_as, is_party}
+use Rattle.objects.specs.Sight.{contact_as, is_party}
 use Rattle.policy.specs.Rules.{PolicyRules}
 use Rattle.protocol.specs.declared.command.Command.{Command}
 use Rattle.facts.specs.declared.facts.AccountFacts.{AccountFacts}
@@ -25,6 +26,7 @@ use Rattle.facts.specs.declared.facts.Superordinate.{Superordinate}
 use Rattle.facts.specs.declared.facts.Facts.{Facts}
 use Rattle.facts.specs.declared.facts.TheConstants.{HOLDING_LIMIT}
 use Rattle.model.specs.Registry.{Registry, account_of}
+use Rattle.model.specs.View.{domain_sight}
 use Rattle.protocol.specs.Requests.{adds_a_held_domain, asked, contacts_asked, domains_asked, hosts_asked, new_host_asked, presented, presented_contact, reads_associations, references_fail}
 
 -- ---- what is found in a registry
@@ -52,7 +54,7 @@ superordinate_of_domain d = record { sponsor = d.sponsor; is_deleted = is_some d
 pub record Lookups : Type 0 where
   pub account : Account
   pub contact : List ℕ → Option (Seen Contact ContactFace)
-  pub domain : List ℕ → Option (Seen Domain DomainFace)
+  pub domain : List ℕ → Option (Seen FullDomain DomainFace)
   pub host : List ℕ → Option Host
   pub superordinate : List ℕ → Option Superordinate
   pub has_contact : List ℕ → Bool
@@ -67,7 +69,7 @@ abbrev pub lookups : PolicyRules → ℕ → Command → Registry → Lookups
 lookups p r c s = record {
   account = account_of r s;
   contact = λ name. option_map (contact_as r (presented_contact c name)) (get s.contacts name);
-  domain = λ name. option_map (domain_as r (presented c name)) (get s.domains name);
+  domain = λ name. option_map (domain_sight p r s (presented c name)) (get s.domains name);
   host = λ name. get s.hosts name;
   superordinate = λ name. option_map superordinate_of_domain (get s.domains name);
   has_contact = λ name. is_some (get s.contacts name);
@@ -136,7 +138,7 @@ host_at f name = find (λ known. bytes_eq known.name name) f.hosts
 abbrev pub contact_seen : Facts → List ℕ → Option (Seen Contact ContactFace)
 contact_seen f name = option_and_then (λ known. known.seen) (contact_at f name)
 
-abbrev pub domain_seen : Facts → List ℕ → Option (Seen Domain DomainFace)
+abbrev pub domain_seen : Facts → List ℕ → Option (Seen FullDomain DomainFace)
 domain_seen f name = option_and_then (λ known. known.seen) (domain_at f name)
 
 abbrev pub host_seen : Facts → List ℕ → Option Host

@@ -10,7 +10,7 @@ use basis::list::Seq;
 use basis::registrar::RegistrarNo;
 use basis::text::Text;
 use names::Zone;
-use objects::{Contact, ContactFace, Domain, DomainFace, Host, Seen};
+use objects::{Contact, ContactFace, DomainFace, FullDomain, Host, Seen};
 
 /// A registrar that holds so many domains gets no other (RFC 5730, 3, code 2308).
 pub const HOLDING_LIMIT: usize = 1_000_000;
@@ -50,7 +50,7 @@ pub struct ContactFacts {
 #[derive(Drop)]
 pub struct DomainFacts {
     pub name: Text,
-    pub seen: Option<Seen<Domain, DomainFace>>,
+    pub seen: Option<Seen<FullDomain, DomainFace>>,
     pub subordinate: Seq<Text>,
 }
 
@@ -157,7 +157,7 @@ impl Facts {
     }
 
     /// What is seen at a domain's name.
-    pub fn domain_seen(&self, name: &Text) -> Option<&Seen<Domain, DomainFace>>
+    pub fn domain_seen(&self, name: &Text) -> Option<&Seen<FullDomain, DomainFace>>
         ensures { option_copied result ≡ spec.domain_seen self.now name.now }
     {
         match self.domain(name) {

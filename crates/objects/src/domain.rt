@@ -100,6 +100,15 @@ impl Clone for Domain {
     }
 }
 
+impl FullDomain {
+    /// What everyone may know of it.
+    pub fn face(&self, alloc: Global) -> Result<DomainFace, AllocError>
+        ensures { IfOk result (λ face. face ≡ face_of self.now.standing self.now.domain) }
+    {
+        self.domain.face(alloc, self.standing)
+    }
+}
+
 impl Domain {
     /// The moment to which it is registered. One past the last moment is shown as the last.
     pub fn expiry(&self) -> Moment

@@ -15,6 +15,7 @@ use Rattle.objects.specs.declared.contact.Contact.{Contact}
 use Rattle.objects.specs.declared.contact.ContactFace.{ContactFace}
 use Rattle.objects.specs.declared.domain.Domain.{Domain}
 use Rattle.objects.specs.declared.domain.DomainFace.{DomainFace}
+use Rattle.objects.specs.declared.domain.FullDomain.{FullDomain}
 use Rattle.objects.specs.declared.host.Host.{Host}
 use Rattle.objects.specs.declared.roid.ObjectKind.{ObjectKind}
 use Rattle.objects.specs.declared.roid.ObjectKind.TheVariants as kinds
@@ -25,7 +26,7 @@ use Rattle.objects.specs.declared.transfer.Transfer.{Transfer}
 use Rattle.objects.specs.Contacts.{contact_face_of}
 use Rattle.objects.specs.Domains.{face_of}
 use Rattle.objects.specs.Links.{names_contact, names_host}
-use Rattle.objects.specs.Sight.{contact_as, domain_as, is_party, authorizes, seen_by_outsider}
+use Rattle.objects.specs.Sight.{contact_as, is_party, authorizes, seen_by_outsider}
 use Rattle.objects.specs.Statuses.{amended_statuses}
 use Rattle.objects.specs.Transfers.{names}
 use Rattle.policy.specs.Rules.{PolicyRules, IsRegistrar}
@@ -37,6 +38,7 @@ use Rattle.rules.proofs.LinkLemmas.{new-contacts, new-hosts, updated-contacts, u
 use Rattle.rules.proofs.NamedLemmas.{value-fails}
 use Rattle.verdict.proofs.RowLemmas.{unrefused}
 use Rattle.rules.proofs.StandInLemmas.{contact-updated, domain-updated, kept-put-contact, kept-put-domain, kept-put-host}
+use Rattle.rules.proofs.SightLemmas.{full_as}
 use Rattle.rules.proofs.ViewLemmas.{account_of-with_account}
 use Rattle.protocol.specs.declared.command.Command.{Command}
 use Rattle.protocol.specs.declared.command.Command.TheVariants.{Asked}
@@ -57,6 +59,8 @@ use Rattle.protocol.specs.Requests.{final_name, holds_of}
 use Rattle.facts.specs.Facts.{contact_facts, contact_seen, domain_facts, domain_seen, facts, lookups, host_facts, host_seen, is_linked_contact, is_linked_host, superordinate_of_domain}
 use Rattle.facts.specs.Lists.{amended, itself}
 use Rattle.model.specs.Registry.{Registry, account_of}
+use Rattle.model.specs.Standing.{standing_of}
+use Rattle.model.specs.View.{domain_sight}
 use Rattle.verdict.specs.Rules.{refusal_of}
 use Rattle.model.specs.WellFormed.{BelongsTo, HasRoid, IsRegistry}
 
@@ -77,15 +81,17 @@ contact-full r presented (Some o) c e =
     let same : contact_as r presented o ≡ Full c = cc in
     ap (λ (x : Contact). Some x) (full-is r o (contact_face_of o) o.transfer (is_party r o.sponsor o.transfer || authorizes presented o.secret) c same)
 
-domain-full : (r : ℕ) (presented : Option (List ℕ)) (found : Option Domain) (d : Domain) → option_map (domain_as r presented) found ≡ Some (Full d) → found ≡ Some d
-domain-full r presented None d e = absurd cc
-domain-full r presented (Some o) d e =
-    let same : domain_as r presented o ≡ Full d = cc in
-    ap (λ (x : Domain). Some x) (full-is r o (face_of o) o.transfer (is_party r o.sponsor o.transfer || authorizes presented o.secret) d same)
+pub domain-full : (p : PolicyRules) (r : ℕ) (s : Registry) (presented : Option (List ℕ)) (found : Option Domain) (known : FullDomain)
+    → option_map (domain_sight p r s presented) found ≡ Some (Full known) → found ≡ Some known.domain
+domain-full p r s presented None known e = absurd cc
+domain-full p r s presented (Some o) known e =
+    let same : domain_sight p r s presented o ≡ Full known = cc in
+    ap (λ (x : FullDomain). Some x.domain)
+      (full-is r (full_as (standing_of p s o) o) (face_of (standing_of p s o) o) o.transfer (is_party r o.sponsor o.transfer || authorizes presented o.secret) known same)
 
 -- ---- what is found first in a list of one, by its own name
 
-at-itself : {A : Type 0} (name : List ℕ) (known : A) → (let found : Option A = cond (bytes_eq name name) (Some known) None in found ≡ Some known)
+pub at-itself : {A : Type 0} (name : List ℕ) (known : A) → (let found : Option A = cond (bytes_eq name name) (Some known) None in found ≡ Some known)
 at-itself name known = ap (λ (b : Bool). let found : Option _ = cond b (Some known) None in found) ((bytes_decides name name).1 refl)
 
 -- ---- serials
@@ -252,10 +258,11 @@ module _ (p : PolicyRules) (r : ℕ) (cl_trid : Option (List ℕ)) (s : Registry
       linked : (facts p r (asked_domain u) s).reference_missing ≡ false
       linked = unrefused p r s.clock (requests.UpdateDomain u) (facts p r (asked_domain u) s) taken conditions.ReferenceIsMissing (search (inl, inr) depth 20)
 
-      by : (seen : Option (Seen Domain DomainFace)) → seen ≡ option_map (domain_as r None) (get s.domains (name_of u.name)) → IsRegistry p (changed_all (domain_changes s.clock u seen) after_count)
+      by : (seen : Option (Seen FullDomain DomainFace)) → seen ≡ option_map (domain_sight p r s None) (get s.domains (name_of u.name)) → IsRegistry p (changed_all (domain_changes s.clock u seen) after_count)
       by None e = kept-counted
-      by (Some (Full d)) e =
-          let at : get s.domains (name_of u.name) ≡ Some d = domain-full r None (get s.domains (name_of u.name)) d (sym e) in
+      by (Some (Full known)) e =
+          let d : Domain = known.domain in
+          let at : get s.domains (name_of u.name) ≡ Some d = domain-full p r s None (get s.domains (name_of u.name)) known (sym e) in
           let new : Domain = updated_domain s.clock u d in
           let k = is.domains (name_of u.name) d at in
           kept-put-domain p after_count kept-counted (name_of u.name) d new at refl

@@ -1,17 +1,20 @@
 -- Who can't tell two registries apart is answered alike, and can't tell them apart afterwards. No
 -- command is named here: facts are a function of the view, and each change commutes with it.
-use Rattle.std.proofs.Common.{◌≡◌, ℕ, sym, ap, ◌∙◌}
+use Rattle.std.proofs.Common.{◌≡◌, ℕ, sym, ap, subst, ◌∙◌}
 use Rattle.policy.specs.Rules.{PolicyRules}
 use Rattle.rules.specs.Changes.{changed_all}
 use Rattle.rules.specs.Decisions.{decided}
 use Rattle.rules.specs.Isolation.{IsIsolated}
 use Rattle.rules.specs.Steps.{answer, decision, effect, reply_of}
-use Rattle.rules.proofs.ViewLemmas.{same_facts, same_view, same_changed_all}
+use Rattle.rules.proofs.KeepingLemmas.{kept-lapsed}
+use Rattle.rules.proofs.MeetingLemmas.{meets-decided}
+use Rattle.rules.proofs.ViewLemmas.{AllMeet, same_facts, same_view, same_changed_all}
 use Rattle.protocol.specs.declared.command.Command.{Command}
 use Rattle.protocol.specs.declared.reply.Reply.{Reply}
 use Rattle.facts.specs.Facts.{facts}
 use Rattle.model.specs.Registry.{Registry, account_of, lapsed, now}
 use Rattle.model.specs.View.{view, view_for}
+use Rattle.model.specs.WellFormed.{IsRegistry}
 
 same_decision : (p : PolicyRules) (r : ℕ) (c : Command) (s t : Registry) → view_for p r c s ≡ view_for p r c t → decision p r c s ≡ decision p r c t
 same_decision p r c s t alike =
@@ -22,14 +25,16 @@ same_answer p r c s t alike =
     ap (λ d. reply_of p r c d.verdict (account_of r s).commands) (same_decision p r c s t alike)
     ∙ ap (λ v. reply_of p r c (decision p r c t).verdict v.account.commands) alike
 
-same_effect : (p : PolicyRules) (r : ℕ) (c : Command) (s t : Registry) → view_for p r c s ≡ view_for p r c t → view p r (effect p r c s) ≡ view p r (effect p r c t)
-same_effect p r c s t alike =
-    ap (λ d. view p r (changed_all d.changes s)) (same_decision p r c s t alike)
-    ∙ same_changed_all p r (decision p r c t).changes s t (same_view p r c s t alike)
+same_effect : (p : PolicyRules) (r : ℕ) (c : Command) (s t : Registry) → IsRegistry p s → IsRegistry p t → view_for p r c s ≡ view_for p r c t → view p r (effect p r c s) ≡ view p r (effect p r c t)
+same_effect p r c s t here there alike =
+    let one : decision p r c s ≡ decision p r c t = same_decision p r c s t alike in
+    ap (λ d. view p r (changed_all d.changes s)) one
+    ∙ same_changed_all p r (decision p r c t).changes s t (subst (λ d. AllMeet p r d.changes s) one (meets-decided p r c s here)) (meets-decided p r c t there) (same_view p r c s t alike)
 
 pub isolated : (p : PolicyRules) (r : ℕ) (c : Command) (moment : ℕ) (before after : Registry) (reply : Reply)
     → reply ≡ answer p r c (lapsed p moment before) → now p after ≡ now p (effect p r c (lapsed p moment before)) → IsIsolated p r c moment before after reply
 isolated p r c moment before after reply told left = record {
   same_reply = λ other alike. told ∙ sym (same_answer p r c _ _ alike);
-  same_view = λ formed other also alike. ap (view p r) left ∙ sym (same_effect p r c _ _ alike);
+  same_view = λ formed other also alike. ap (view p r) left
+      ∙ sym (same_effect p r c (lapsed p moment other) (lapsed p moment before) (kept-lapsed p moment (now p other) also) (kept-lapsed p moment (now p before) formed) alike);
 }

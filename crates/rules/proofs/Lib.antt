@@ -1,6 +1,5 @@
 pub mod SightLemmas
 pub mod ViewLemmas
-pub mod IsolationLemmas
 pub mod NameListLemmas
 pub mod NamedLemmas
 pub mod GrowthLemmas
@@ -9,4 +8,6 @@ pub mod LinkLemmas
 pub mod StandInLemmas
 pub mod CommandLemmas
 pub mod WellFormedLemmas
+pub mod MeetingLemmas
+pub mod IsolationLemmas
 pub mod OrderLemmas

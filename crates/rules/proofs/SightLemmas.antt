@@ -8,6 +8,10 @@ use Rattle.basis.specs.Bag.{add, precedes}
 use Rattle.objects.specs.declared.contact.Contact.{Contact}
 use Rattle.objects.specs.declared.domain.Domain.{Domain}
 use Rattle.objects.specs.declared.domain.DomainFace.{DomainFace}
+use Rattle.objects.specs.declared.domain.FullDomain.{FullDomain}
+use Rattle.objects.specs.declared.grace.Graces.{Graces}
+use Rattle.objects.specs.declared.grace.Standing.{Standing}
+use Rattle.objects.specs.declared.roid.Roid.{Roid}
 use Rattle.objects.specs.declared.sight.Seen.{Seen}
 use Rattle.objects.specs.declared.sight.Seen.TheVariants.{Full, TransferParty, Public}
 use Rattle.objects.specs.declared.transfer.Transfer.{Transfer}
@@ -44,8 +48,16 @@ forget-seen again r o face t true opened e = e
 forget-seen again r o face t false true e = e
 forget-seen again r o face t false false e = forget-outside again r face t
 
-pub forget-domain : (r : ℕ) (presented : Option (List ℕ)) (d : Domain) → forget (domain_as r None) (domain_as r presented d) ≡ domain_as r None d
-forget-domain r presented d = forget-seen (domain_as r None) r d (face_of d) d.transfer (is_party r d.sponsor d.transfer) (authorizes presented d.secret) refl
+-- a domain that stands so, in full
+abbrev pub full_as : Standing → Domain → FullDomain
+full_as standing d = record { domain = d; standing = standing }
+
+-- what is seen of it without a secret
+abbrev pub domain_again : ℕ → FullDomain → Seen FullDomain DomainFace
+domain_again r known = domain_as r None known.standing known.domain
+
+pub forget-domain : (r : ℕ) (presented : Option (List ℕ)) (standing : Standing) (d : Domain) → forget (domain_again r) (domain_as r presented standing d) ≡ domain_as r None standing d
+forget-domain r presented standing d = forget-seen (domain_again r) r (full_as standing d) (face_of standing d) d.transfer (is_party r d.sponsor d.transfer) (authorizes presented d.secret) refl
 
 pub forget-contact : (r : ℕ) (presented : Option (List ℕ)) (c : Contact) → forget (contact_as r None) (contact_as r presented c) ≡ contact_as r None c
 forget-contact r presented c = forget-seen (contact_as r None) r c (contact_face_of c) c.transfer (is_party r c.sponsor c.transfer) (authorizes presented c.secret) refl
@@ -59,49 +71,50 @@ same_shown h x r o face full named public true t = full
 same_shown h x r o face full named public false None = public
 same_shown {O} {F} h x r o face full named public false (Some t) = elim (names r t) as (λ (b : Bool). let seen : Seen O F = cond b (TransferParty face t) (Public face) in h seen ≡ x) [ true ↦ named t | false ↦ public ]
 
-pub links-seen : (r : ℕ) (presented : Option (List ℕ)) (d : Domain) → links_seen (domain_as r presented d) ≡ d.links
-links-seen r presented d = same_shown links_seen d.links r d (face_of d) refl (λ t. refl) refl (is_party r d.sponsor d.transfer || authorizes presented d.secret) d.transfer
+pub links-seen : (r : ℕ) (presented : Option (List ℕ)) (standing : Standing) (d : Domain) → links_seen (domain_as r presented standing d) ≡ d.links
+links-seen r presented standing d = same_shown links_seen d.links r (full_as standing d) (face_of standing d) refl (λ t. refl) refl (is_party r d.sponsor d.transfer || authorizes presented d.secret) d.transfer
 
 -- of what is seen of a domain, what its hosts hang on
-pub superordinate_seen : Seen Domain DomainFace → Superordinate
-superordinate_seen (Full d) = superordinate_of_domain d
+pub superordinate_seen : Seen FullDomain DomainFace → Superordinate
+superordinate_seen (Full known) = superordinate_of_domain known.domain
 superordinate_seen (TransferParty face t) = record { sponsor = face.sponsor; is_deleted = has_status face.statuses statuses.PendingDelete }
 superordinate_seen (Public face) = record { sponsor = face.sponsor; is_deleted = has_status face.statuses statuses.PendingDelete }
 
 shown-deleted : (d : Domain) → has_status (shown d) statuses.PendingDelete ≡ is_some d.deletion
 shown-deleted d = has_status-filter (shows d) statuses.PendingDelete
 
-pub superordinate-seen : (r : ℕ) (presented : Option (List ℕ)) (d : Domain) → superordinate_seen (domain_as r presented d) ≡ superordinate_of_domain d
+pub superordinate-seen : (r : ℕ) (presented : Option (List ℕ)) (standing : Standing) (d : Domain) → superordinate_seen (domain_as r presented standing d) ≡ superordinate_of_domain d
 unfolding superordinate_seen
-superordinate-seen r presented d =
+superordinate-seen r presented standing d =
     let told : (b : Bool) → b ≡ is_some d.deletion → ◌≡◌ {A = Superordinate} (record { sponsor = d.sponsor; is_deleted = b }) (superordinate_of_domain d) = λ b e. ap (λ (b : Bool). record (superordinate_of_domain d) { is_deleted = b }) e in
-    same_shown superordinate_seen (superordinate_of_domain d) r d (face_of d) refl (λ t. told _ (shown-deleted d)) (told _ (shown-deleted d))
+    same_shown superordinate_seen (superordinate_of_domain d) r (full_as standing d) (face_of standing d) refl (λ t. told _ (shown-deleted d)) (told _ (shown-deleted d))
     (is_party r d.sponsor d.transfer || authorizes presented d.secret) d.transfer
 
 -- the registrar holds what it sees, or gets it
-pub holds_seen : ℕ → Seen Domain DomainFace → Bool
-holds_seen r (Full d) = is_party r d.sponsor d.transfer
+pub holds_seen : ℕ → Seen FullDomain DomainFace → Bool
+holds_seen r (Full known) = is_party r known.domain.sponsor known.domain.transfer
 holds_seen r (TransferParty face t) = false
 holds_seen r (Public face) = false
 
 outside-held : (r : ℕ) (face : DomainFace) (t : Option Transfer) → holds_seen r (seen_by_outsider r face t) ≡ false
 unfolding holds_seen
 outside-held r face None = refl
-outside-held r face (Some t) = elim (names r t) as (λ (b : Bool). let seen : Seen Domain DomainFace = cond b (TransferParty face t) (Public face) in holds_seen r seen ≡ false) [ true ↦ refl | false ↦ refl ]
+outside-held r face (Some t) = elim (names r t) as (λ (b : Bool). let seen : Seen FullDomain DomainFace = cond b (TransferParty face t) (Public face) in holds_seen r seen ≡ false) [ true ↦ refl | false ↦ refl ]
 
-held-by : (r : ℕ) (d : Domain) (party opened : Bool) → is_party r d.sponsor d.transfer ≡ party → holds_seen r (cond (party || opened) (Full d) (seen_by_outsider r (face_of d) d.transfer)) ≡ party
+held-by : (r : ℕ) (standing : Standing) (d : Domain) (party opened : Bool) → is_party r d.sponsor d.transfer ≡ party
+    → holds_seen r (cond (party || opened) (Full (full_as standing d)) (seen_by_outsider r (face_of standing d) d.transfer)) ≡ party
 unfolding holds_seen
-held-by r d true opened e = e
-held-by r d false true e = e
-held-by r d false false e = outside-held r (face_of d) d.transfer
+held-by r standing d true opened e = e
+held-by r standing d false true e = e
+held-by r standing d false false e = outside-held r (face_of standing d) d.transfer
 
-pub holds-seen : (r : ℕ) (presented : Option (List ℕ)) (d : Domain) → holds_seen r (domain_as r presented d) ≡ is_party r d.sponsor d.transfer
-holds-seen r presented d = held-by r d (is_party r d.sponsor d.transfer) (authorizes presented d.secret) refl
+pub holds-seen : (r : ℕ) (presented : Option (List ℕ)) (standing : Standing) (d : Domain) → holds_seen r (domain_as r presented standing d) ≡ is_party r d.sponsor d.transfer
+holds-seen r presented standing d = held-by r standing d (is_party r d.sponsor d.transfer) (authorizes presented d.secret) refl
 
 -- ---- a domain that names a host by its new name
 
-pub relinked_seen : List ℕ → List ℕ → Seen Domain DomainFace → Seen Domain DomainFace
-relinked_seen old new (Full d) = Full (with_host_renamed old new d)
+pub relinked_seen : List ℕ → List ℕ → Seen FullDomain DomainFace → Seen FullDomain DomainFace
+relinked_seen old new (Full known) = Full (full_as known.standing (with_host_renamed old new known.domain))
 relinked_seen old new (TransferParty face t) = TransferParty (record face { links = links_with_host_renamed old new face.links }) t
 relinked_seen old new (Public face) = Public (record face { links = links_with_host_renamed old new face.links })
 
@@ -146,24 +159,90 @@ shows-relinked old new d statuses.ServerRenewProhibited = refl
 shows-relinked old new d statuses.ServerTransferProhibited = refl
 shows-relinked old new d statuses.ServerUpdateProhibited = refl
 
-relinked_face : List ℕ → List ℕ → Domain → DomainFace
-relinked_face old new d = record (face_of d) { links = links_with_host_renamed old new d.links }
+relinked_face : List ℕ → List ℕ → Standing → Domain → DomainFace
+relinked_face old new standing d = record (face_of standing d) { links = links_with_host_renamed old new d.links }
 
-face-relinked : (old new : List ℕ) (d : Domain) → face_of (with_host_renamed old new d) ≡ relinked_face old new d
+face-relinked : (old new : List ℕ) (standing : Standing) (d : Domain) → face_of standing (with_host_renamed old new d) ≡ relinked_face old new standing d
 unfolding relinked_face
-face-relinked old new d = ap (λ (f : Status → Bool). record (relinked_face old new d) { statuses = filter f all_statuses }) (λ i s. shows-relinked old new d s i)
+face-relinked old new standing d = ap (λ (f : Status → Bool). record (relinked_face old new standing d) { statuses = filter f all_statuses }) (λ i s. shows-relinked old new d s i)
 
 relinked-outside : (r : ℕ) (old new : List ℕ) (face : DomainFace) (t : Option Transfer) → seen_by_outsider r (record face { links = links_with_host_renamed old new face.links }) t ≡ relinked_seen old new (seen_by_outsider r face t)
 unfolding relinked_seen
 relinked-outside r old new face None = refl
-relinked-outside r old new face (Some t) = elim (names r t) as (λ (b : Bool). let seen : Seen Domain DomainFace = cond b (TransferParty face t) (Public face) in ◌≡◌ {A = Seen Domain DomainFace} (cond b (TransferParty (record face { links = links_with_host_renamed old new face.links }) t) (Public (record face { links = links_with_host_renamed old new face.links }))) (relinked_seen old new seen)) [ true ↦ refl | false ↦ refl ]
+relinked-outside r old new face (Some t) = elim (names r t) as (λ (b : Bool). let seen : Seen FullDomain DomainFace = cond b (TransferParty face t) (Public face) in ◌≡◌ {A = Seen FullDomain DomainFace} (cond b (TransferParty (record face { links = links_with_host_renamed old new face.links }) t) (Public (record face { links = links_with_host_renamed old new face.links }))) (relinked_seen old new seen)) [ true ↦ refl | false ↦ refl ]
 
-seen-relinked-by : (r : ℕ) (old new : List ℕ) (d : Domain) (b : Bool)
-    → cond b (Full (with_host_renamed old new d)) (seen_by_outsider r (face_of (with_host_renamed old new d)) d.transfer) ≡ relinked_seen old new (cond b (Full d) (seen_by_outsider r (face_of d) d.transfer))
+seen-relinked-by : (r : ℕ) (old new : List ℕ) (standing : Standing) (d : Domain) (b : Bool)
+    → cond b (Full (full_as standing (with_host_renamed old new d))) (seen_by_outsider r (face_of standing (with_host_renamed old new d)) d.transfer)
+      ≡ relinked_seen old new (cond b (Full (full_as standing d)) (seen_by_outsider r (face_of standing d) d.transfer))
 unfolding relinked_seen relinked_face
-seen-relinked-by r old new d true = refl
-seen-relinked-by r old new d false = ap (λ (face : DomainFace). seen_by_outsider r face d.transfer) (face-relinked old new d) ∙ relinked-outside r old new (face_of d) d.transfer
+seen-relinked-by r old new standing d true = refl
+seen-relinked-by r old new standing d false =
+    ap (λ (face : DomainFace). let seen : Seen FullDomain DomainFace = seen_by_outsider r face d.transfer in seen) (face-relinked old new standing d) ∙ relinked-outside r old new (face_of standing d) d.transfer
 
--- to relink a domain and to look is to look and to see it with_host_renamed
-pub seen-relinked : (r : ℕ) (presented : Option (List ℕ)) (old new : List ℕ) (d : Domain) → domain_as r presented (with_host_renamed old new d) ≡ relinked_seen old new (domain_as r presented d)
-seen-relinked r presented old new d = seen-relinked-by r old new d (is_party r d.sponsor d.transfer || authorizes presented d.secret)
+-- to relink a domain and to look is to look and to see it relinked
+pub seen-relinked : (r : ℕ) (presented : Option (List ℕ)) (old new : List ℕ) (standing : Standing) (d : Domain)
+    → domain_as r presented standing (with_host_renamed old new d) ≡ relinked_seen old new (domain_as r presented standing d)
+seen-relinked r presented old new standing d = seen-relinked-by r old new standing d (is_party r d.sponsor d.transfer || authorizes presented d.secret)
+
+-- ---- a domain with other graces
+
+abbrev pub with_graces : Standing → Graces → Standing
+with_graces standing g = record standing { graces = g }
+
+-- Other graces, by what all see of a domain: its sponsor, its ROID, its last completed transfer and its
+-- graces.
+abbrev pub Regrace : Type 0
+Regrace = ℕ → Roid → Option ℕ → Graces → Graces
+
+-- the standing of a domain with other graces
+abbrev restood : Regrace → ℕ → Roid → Option ℕ → Standing → Standing
+restood regrace sponsor roid transferred standing = with_graces standing (regrace sponsor roid transferred standing.graces)
+
+abbrev restood_face : Regrace → DomainFace → DomainFace
+restood_face regrace face = record face { standing = restood regrace face.sponsor face.roid face.transferred face.standing }
+
+pub regraced : Regrace → Seen FullDomain DomainFace → Seen FullDomain DomainFace
+regraced regrace (Full known) = Full (full_as (restood regrace known.domain.sponsor known.domain.roid known.domain.transferred known.standing) known.domain)
+regraced regrace (TransferParty face t) = TransferParty (restood_face regrace face) t
+regraced regrace (Public face) = Public (restood_face regrace face)
+
+module _ (regrace : Regrace) (r : ℕ) (standing : Standing) (d : Domain) where
+  abbrev afterwards : Standing
+  afterwards = restood regrace d.sponsor d.roid d.transferred standing
+
+  regraced-outside : (t : Option Transfer) → regraced regrace (seen_by_outsider r (face_of standing d) t) ≡ seen_by_outsider r (face_of afterwards d) t
+  unfolding regraced
+  regraced-outside None = refl
+  regraced-outside (Some t) = by (names r t)
+    where
+      by : (b : Bool) → regraced regrace (cond b (TransferParty (face_of standing d) t) (Public (face_of standing d))) ≡ cond b (TransferParty (face_of afterwards d) t) (Public (face_of afterwards d))
+      by true = refl
+      by false = refl
+
+  regraced-by : (b : Bool) → regraced regrace (cond b (Full (full_as standing d)) (seen_by_outsider r (face_of standing d) d.transfer)) ≡ cond b (Full (full_as afterwards d)) (seen_by_outsider r (face_of afterwards d) d.transfer)
+  unfolding regraced
+  regraced-by true = refl
+  regraced-by false = regraced-outside d.transfer
+
+  -- to give a domain other graces and to look is to look and to see other graces
+  pub regraced-seen : (presented : Option (List ℕ)) → regraced regrace (domain_as r presented standing d) ≡ domain_as r presented (restood regrace d.sponsor d.roid d.transferred standing) d
+  regraced-seen presented = regraced-by (is_party r d.sponsor d.transfer || authorizes presented d.secret)
+
+-- the sponsor and the graces that all see alike
+pub sponsor_seen : Seen FullDomain DomainFace → ℕ
+sponsor_seen (Full known) = known.domain.sponsor
+sponsor_seen (TransferParty face t) = face.sponsor
+sponsor_seen (Public face) = face.sponsor
+
+pub graces_seen : Seen FullDomain DomainFace → Graces
+graces_seen (Full known) = known.standing.graces
+graces_seen (TransferParty face t) = face.standing.graces
+graces_seen (Public face) = face.standing.graces
+
+pub sponsor-seen : (r : ℕ) (presented : Option (List ℕ)) (standing : Standing) (d : Domain) → sponsor_seen (domain_as r presented standing d) ≡ d.sponsor
+unfolding sponsor_seen
+sponsor-seen r presented standing d = same_shown sponsor_seen d.sponsor r (full_as standing d) (face_of standing d) refl (λ t. refl) refl (is_party r d.sponsor d.transfer || authorizes presented d.secret) d.transfer
+
+pub graces-seen : (r : ℕ) (presented : Option (List ℕ)) (standing : Standing) (d : Domain) → graces_seen (domain_as r presented standing d) ≡ standing.graces
+unfolding graces_seen
+graces-seen r presented standing d = same_shown graces_seen standing.graces r (full_as standing d) (face_of standing d) refl (λ t. refl) refl (is_party r d.sponsor d.transfer || authorizes presented d.secret) d.transfer

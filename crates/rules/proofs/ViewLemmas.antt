@@ -14,6 +14,10 @@ use Rattle.objects.specs.declared.contact.Contact.{Contact}
 use Rattle.objects.specs.declared.contact.ContactFace.{ContactFace}
 use Rattle.objects.specs.declared.domain.Domain.{Domain}
 use Rattle.objects.specs.declared.domain.DomainFace.{DomainFace}
+use Rattle.objects.specs.declared.domain.FullDomain.{FullDomain}
+use Rattle.objects.specs.declared.grace.Graces.{Graces}
+use Rattle.objects.specs.declared.grace.Standing.{Standing}
+use Rattle.objects.specs.Graces.{no_graces}
 use Rattle.objects.specs.declared.domain.Links.{Links}
 use Rattle.objects.specs.declared.sight.Seen.{Seen}
 use Rattle.objects.specs.Hosts.{is_below}
@@ -23,12 +27,13 @@ use Rattle.policy.specs.Rules.{PolicyRules}
 use Rattle.rules.specs.declared.change.Change.{Change}
 use Rattle.rules.specs.declared.change.Change.TheVariants.{MoveClock, OpenAccount, PutContact, DropContact, PutDomain, PutHost, DropHost, RenameHost, CountCommand, TakeSerial}
 use Rattle.rules.specs.Changes.{changed, changed_all, with_account, itself, with_host_renamed}
-use Rattle.rules.proofs.SightLemmas.{forget, forget-domain, forget-contact, holds_seen, holds-seen, links-seen, relinked_seen, seen-relinked, superordinate_seen, superordinate-seen}
+use Rattle.rules.proofs.SightLemmas.{domain_again, forget, forget-domain, forget-contact, graces_seen, holds_seen, holds-seen, links-seen, relinked_seen, seen-relinked, sponsor_seen, superordinate_seen, superordinate-seen}
 use Rattle.protocol.specs.declared.command.Command.{Command}
 use Rattle.facts.specs.Facts.{Lookups, facts, facts_by, lookups, held, subordinate, superordinate_of_domain}
 use Rattle.protocol.specs.Requests.{presented, presented_contact}
 use Rattle.model.specs.Registry.{Registry, account_of}
-use Rattle.model.specs.View.{View, Secrets, view, view_for, view_with, secrets_of}
+use Rattle.model.specs.Standing.{graces, phase, graces_of, standing_of}
+use Rattle.model.specs.View.{View, Secrets, domain_sight, view, view_for, view_with, secrets_of}
 
 -- ---- the facts lie in the view
 
@@ -53,8 +58,8 @@ finds_in r v = record {
 }
 
 module _ (p : PolicyRules) (r : ℕ) (c : Command) (s : Registry) where
-  abbrev sight : List ℕ → Domain → Seen Domain DomainFace
-  sight name = domain_as r (presented c name)
+  abbrev sight : List ℕ → Domain → Seen FullDomain DomainFace
+  sight name = domain_sight p r s (presented c name)
 
   contact-found : (name : List ℕ) → get (view_for p r c s).contacts name ≡ option_map (contact_as r (presented_contact c name)) (get s.contacts name)
   contact-found name = get-map_values (slice_cmp nat_cmp) nat_list_cmp_total names_apart (λ n. contact_as r (presented_contact c n)) s.contacts name
@@ -66,17 +71,17 @@ module _ (p : PolicyRules) (r : ℕ) (c : Command) (s : Registry) where
   domain-found name = get-map_values (slice_cmp nat_cmp) nat_list_cmp_total names_apart sight s.domains name
 
   superordinate-found : (name : List ℕ) → option_map superordinate_seen (get (view_for p r c s).domains name) ≡ option_map superordinate_of_domain (get s.domains name)
-  superordinate-found name = ap (option_map superordinate_seen) (domain-found name) ∙ map-twice (sight name) superordinate_seen superordinate_of_domain (superordinate-seen r (presented c name)) (get s.domains name)
+  superordinate-found name = ap (option_map superordinate_seen) (domain-found name) ∙ map-twice (sight name) superordinate_seen superordinate_of_domain (λ d. superordinate-seen r (presented c name) (standing_of p s d) d) (get s.domains name)
 
   -- the values that are seen
   values-found : values (view_for p r c s).domains ≡ map (λ (e : List ℕ × Domain). sight e.0 e.1) (entries s.domains)
   values-found =
-      ap (λ (es : List (List ℕ × Seen Domain DomainFace)). map (λ (e : List ℕ × Seen Domain DomainFace). e.1) es) (entries-map_values (slice_cmp nat_cmp) sight nat_list_cmp_total names_apart s.domains)
+      ap (λ (es : List (List ℕ × Seen FullDomain DomainFace)). map (λ (e : List ℕ × Seen FullDomain DomainFace). e.1) es) (entries-map_values (slice_cmp nat_cmp) sight nat_list_cmp_total names_apart s.domains)
       ∙ pairs-map (entries s.domains)
     where
-      pairs-map : (es : List (List ℕ × Domain)) → map (λ (e : List ℕ × Seen Domain DomainFace). e.1) (map (λ (e : List ℕ × Domain). (e.0, sight e.0 e.1)) es) ≡ map (λ (e : List ℕ × Domain). sight e.0 e.1) es
+      pairs-map : (es : List (List ℕ × Domain)) → map (λ (e : List ℕ × Seen FullDomain DomainFace). e.1) (map (λ (e : List ℕ × Domain). (e.0, sight e.0 e.1)) es) ≡ map (λ (e : List ℕ × Domain). sight e.0 e.1) es
       pairs-map [] = refl
-      pairs-map (e ∷ es) = ap (λ (rest : List (Seen Domain DomainFace)). sight e.0 e.1 ∷ rest) (pairs-map es)
+      pairs-map (e ∷ es) = ap (λ (rest : List (Seen FullDomain DomainFace)). sight e.0 e.1 ∷ rest) (pairs-map es)
 
   -- a test of what all see of a domain
   any-found : (test : Links → Bool) → list_any (λ seen. test (links_seen seen)) (values (view_for p r c s).domains) ≡ list_any (λ d. test d.links) (values s.domains)
@@ -84,19 +89,19 @@ module _ (p : PolicyRules) (r : ℕ) (c : Command) (s : Registry) where
     where
       by : (es : List (List ℕ × Domain)) → list_any (λ seen. test (links_seen seen)) (map (λ (e : List ℕ × Domain). sight e.0 e.1) es) ≡ list_any (λ d. test d.links) (map (λ (e : List ℕ × Domain). e.1) es)
       by [] = refl
-      by (e ∷ es) = λ i. test (links-seen r (presented c e.0) e.1 i) || by es i
+      by (e ∷ es) = λ i. test (links-seen r (presented c e.0) (standing_of p s e.1) e.1 i) || by es i
 
   held-found : length (filter (holds_seen r) (values (view_for p r c s).domains)) ≡ held r s
-  held-found = ap (λ (seen : List (Seen Domain DomainFace)). length (filter (holds_seen r) seen)) values-found ∙ by (entries s.domains)
+  held-found = ap (λ (seen : List (Seen FullDomain DomainFace)). length (filter (holds_seen r) seen)) values-found ∙ by (entries s.domains)
     where
-      one : (d : Domain) (seen : Seen Domain DomainFace) (ds : List Domain) (rest : List (Seen Domain DomainFace)) (b : Bool) → holds_seen r seen ≡ b → is_party r d.sponsor d.transfer ≡ b
+      one : (d : Domain) (seen : Seen FullDomain DomainFace) (ds : List Domain) (rest : List (Seen FullDomain DomainFace)) (b : Bool) → holds_seen r seen ≡ b → is_party r d.sponsor d.transfer ≡ b
           → length (filter (holds_seen r) rest) ≡ length (filter (λ d. is_party r d.sponsor d.transfer) ds) → length (filter (holds_seen r) (seen ∷ rest)) ≡ length (filter (λ d. is_party r d.sponsor d.transfer) (d ∷ ds))
       one d seen ds rest true e f more = rw (e, f) (ap suc more)
       one d seen ds rest false e f more = rw (e, f) more
 
       by : (es : List (List ℕ × Domain)) → length (filter (holds_seen r) (map (λ (e : List ℕ × Domain). sight e.0 e.1) es)) ≡ length (filter (λ d. is_party r d.sponsor d.transfer) (map (λ (e : List ℕ × Domain). e.1) es))
       by [] = refl
-      by (e ∷ es) = one e.1 (sight e.0 e.1) _ _ (is_party r e.1.sponsor e.1.transfer) (holds-seen r (presented c e.0) e.1) refl (by es)
+      by (e ∷ es) = one e.1 (sight e.0 e.1) _ _ (is_party r e.1.sponsor e.1.transfer) (holds-seen r (presented c e.0) (standing_of p s e.1) e.1) refl (by es)
 
   lookups-view : lookups p r c s ≡ finds_in r (view_for p r c s)
   unfolding finds_in
@@ -120,15 +125,15 @@ same_facts p r c s t alike = ap (λ found. facts_by found c) (lookups-view p r c
 -- ---- what is seen without the secrets of a command
 
 forget_view : ℕ → View → View
-forget_view r v = record v { contacts = map_values (λ name. forget (contact_as r None)) v.contacts; domains = map_values (λ name. forget (domain_as r None)) v.domains }
+forget_view r v = record v { contacts = map_values (λ name. forget (contact_as r None)) v.contacts; domains = map_values (λ name. forget (domain_again r)) v.domains }
 
 forget-view_with : (p : PolicyRules) (secrets : Secrets) (r : ℕ) (s : Registry) → forget_view r (view_with p secrets r s) ≡ view p r s
 unfolding forget_view
 forget-view_with p secrets r s = λ i. record (view p r s) {
   contacts = map_values-twice (slice_cmp nat_cmp) nat_list_cmp_total names_apart (λ name. contact_as r (secrets.contacts name)) (λ name. forget (contact_as r None)) (λ name. contact_as r None)
       (λ name c. forget-contact r (secrets.contacts name) c) s.contacts i;
-  domains = map_values-twice (slice_cmp nat_cmp) nat_list_cmp_total names_apart (λ name. domain_as r (secrets.domains name)) (λ name. forget (domain_as r None)) (λ name. domain_as r None)
-      (λ name d. forget-domain r (secrets.domains name) d) s.domains i;
+  domains = map_values-twice (slice_cmp nat_cmp) nat_list_cmp_total names_apart (λ name. domain_sight p r s (secrets.domains name)) (λ name. forget (domain_again r)) (λ name. domain_sight p r s None)
+      (λ name d. forget-domain r (secrets.domains name) (standing_of p s d) d) s.domains i;
 }
 
 pub same_view : (p : PolicyRules) (r : ℕ) (c : Command) (s t : Registry) → view_for p r c s ≡ view_for p r c t → view p r s ≡ view p r t
@@ -139,17 +144,29 @@ same_view p r c s t alike = sym (forget-view_with p (secrets_of c) r s) ∙ ap (
 abbrev pub own : ℕ → ℕ → (Account → Account) → Account → Account
 own r other f a = cond (eq_by_cmp nat_cmp r other) (f a) a
 
-seen_change : ℕ → Change → View → View
-seen_change r (MoveClock t) v = record v { clock = max t v.clock }
-seen_change r (OpenAccount other) v = record v { account = own r other itself v.account }
-seen_change r (PutContact c) v = record v { contacts = insert v.contacts c.name (contact_as r None c) }
-seen_change r (DropContact name) v = record v { contacts = remove v.contacts name }
-seen_change r (PutDomain d) v = record v { domains = insert v.domains d.name (domain_as r None d) }
-seen_change r (PutHost h) v = record v { hosts = insert v.hosts h.name h }
-seen_change r (DropHost name) v = record v { hosts = remove v.hosts name }
-seen_change r (RenameHost old new) v = record v { domains = map_values (λ name. relinked_seen old new) v.domains }
-seen_change r (CountCommand other) v = record v { account = own r other with_command v.account }
-seen_change r (TakeSerial other) v = record v { account = own r other with_serial v.account }
+-- of a domain that another sponsors, the graces that were seen, where its sponsor stays
+abbrev pub graces_kept : ℕ → Option (Seen FullDomain DomainFace) → Graces
+graces_kept sponsor None = no_graces
+graces_kept sponsor (Some seen) = cond (eq_by_cmp nat_cmp (sponsor_seen seen) sponsor) (graces_seen seen) no_graces
+
+-- the graces of a domain that is put: of the registrar's own, by its lines
+abbrev pub graces_put : PolicyRules → ℕ → Domain → View → Graces
+graces_put p r d v = cond (eq_by_cmp nat_cmp d.sponsor r) (graces p v.clock d.roid d.transferred v.account.lines) (graces_kept d.sponsor (get v.domains d.name))
+
+abbrev standing_put : PolicyRules → ℕ → Domain → View → Standing
+standing_put p r d v = record { graces = graces_put p r d v; phase = phase p v.clock d.deletion }
+
+seen_change : PolicyRules → ℕ → Change → View → View
+seen_change p r (MoveClock t) v = v
+seen_change p r (OpenAccount other) v = record v { account = own r other itself v.account }
+seen_change p r (PutContact c) v = record v { contacts = insert v.contacts c.name (contact_as r None c) }
+seen_change p r (DropContact name) v = record v { contacts = remove v.contacts name }
+seen_change p r (PutDomain d) v = record v { domains = insert v.domains d.name (domain_as r None (standing_put p r d v) d) }
+seen_change p r (PutHost h) v = record v { hosts = insert v.hosts h.name h }
+seen_change p r (DropHost name) v = record v { hosts = remove v.hosts name }
+seen_change p r (RenameHost old new) v = record v { domains = map_values (λ name. relinked_seen old new) v.domains }
+seen_change p r (CountCommand other) v = record v { account = own r other with_command v.account }
+seen_change p r (TakeSerial other) v = record v { account = own r other with_serial v.account }
 
 found-or : (b : Bool) (x d : Account) (o : Option Account) → unwrap_or (cond b (Some x) o) d ≡ cond b x (unwrap_or o d)
 found-or true x d o = refl
@@ -166,28 +183,71 @@ account_of-with_account r other f s =
     ∙ found-or (eq_by_cmp nat_cmp r other) (f (account_of other s)) empty_account (get s.accounts r)
     ∙ own-account f s r other (eq_by_cmp nat_cmp r other) refl
 
-relinked-view : (r : ℕ) (old new : List ℕ) (m : FinMap (slice_cmp nat_cmp) Domain)
-    → map_values (λ (name : List ℕ). domain_as r None) (map_values (λ (name : List ℕ). with_host_renamed old new) m) ≡ map_values (λ (name : List ℕ). relinked_seen old new) (map_values (λ (name : List ℕ). domain_as r None) m)
-relinked-view r old new m =
-    map_values-twice (slice_cmp nat_cmp) nat_list_cmp_total names_apart (λ name. with_host_renamed old new) (λ name. domain_as r None) (λ name d. domain_as r None (with_host_renamed old new d)) (λ name d. refl) m
-    ∙ sym (map_values-twice (slice_cmp nat_cmp) nat_list_cmp_total names_apart (λ name. domain_as r None) (λ name. relinked_seen old new) (λ name d. domain_as r None (with_host_renamed old new d)) (λ name d. sym (seen-relinked r None old new d)) m)
+-- ---- an account whose lines stay
+
+module _ (p : PolicyRules) (r q : ℕ) (f : Account → Account) (keeps : (a : Account) → (f a).lines ≡ a.lines) (s : Registry) where
+  lines-kept : (k : ℕ) → (account_of k (with_account q f s)).lines ≡ (account_of k s).lines
+  lines-kept k = ap (λ (a : Account). a.lines) (account_of-with_account k q f s) ∙ by (eq_by_cmp nat_cmp k q)
+    where
+      by : (b : Bool) → (cond b (f (account_of k s)) (account_of k s)).lines ≡ (account_of k s).lines
+      by true = keeps (account_of k s)
+      by false = refl
+
+  sights-kept : map_values (λ (name : List ℕ). domain_sight p r (with_account q f s) None) s.domains ≡ map_values (λ (name : List ℕ). domain_sight p r s None) s.domains
+  sights-kept = λ i. map_values (λ (name : List ℕ) (d : Domain).
+      domain_as r None (record { graces = graces p s.clock d.roid d.transferred (lines-kept d.sponsor i); phase = phase p s.clock d.deletion }) d) s.domains
+
+  view-account : view p r (with_account q f s) ≡ record (view p r s) { account = own r q f (view p r s).account }
+  view-account = λ i. record (view p r s) { account = account_of-with_account r q f s i; domains = sights-kept i }
+
+relinked-view : (p : PolicyRules) (r : ℕ) (s : Registry) (old new : List ℕ) (m : FinMap (slice_cmp nat_cmp) Domain)
+    → map_values (λ (name : List ℕ). domain_sight p r s None) (map_values (λ (name : List ℕ). with_host_renamed old new) m) ≡ map_values (λ (name : List ℕ). relinked_seen old new) (map_values (λ (name : List ℕ). domain_sight p r s None) m)
+relinked-view p r s old new m =
+    map_values-twice (slice_cmp nat_cmp) nat_list_cmp_total names_apart (λ name. with_host_renamed old new) (λ name. domain_sight p r s None) (λ name d. domain_sight p r s None (with_host_renamed old new d)) (λ name d. refl) m
+    ∙ sym (map_values-twice (slice_cmp nat_cmp) nat_list_cmp_total names_apart (λ name. domain_sight p r s None) (λ name. relinked_seen old new) (λ name d. domain_sight p r s None (with_host_renamed old new d))
+        (λ name d. sym (seen-relinked r None old new (standing_of p s d) d)) m)
+
+-- ---- each change, by what is seen
+
+-- What is asked of a change in a registry: a domain that is put has the graces that can be told from
+-- what is seen, and the clock stays, since graces and phases end by dates that aren't seen.
+abbrev pub Meets : PolicyRules → ℕ → Change → Registry → Type 0
+Meets p r (MoveClock t) s = ⊥
+Meets p r (OpenAccount other) s = Unit {0}
+Meets p r (PutContact c) s = Unit {0}
+Meets p r (DropContact name) s = Unit {0}
+Meets p r (PutDomain d) s = graces_of p s d ≡ graces_put p r d (view p r s)
+Meets p r (PutHost h) s = Unit {0}
+Meets p r (DropHost name) s = Unit {0}
+Meets p r (RenameHost old new) s = Unit {0}
+Meets p r (CountCommand other) s = Unit {0}
+Meets p r (TakeSerial other) s = Unit {0}
 
 -- to make a change and to look is to look and to see the change
-view-changed : (p : PolicyRules) (r : ℕ) (change : Change) (s : Registry) → view p r (changed change s) ≡ seen_change r change (view p r s)
+view-changed : (p : PolicyRules) (r : ℕ) (change : Change) (s : Registry) → Meets p r change s → view p r (changed change s) ≡ seen_change p r change (view p r s)
 unfolding seen_change
-view-changed p r (MoveClock t) s = refl
-view-changed p r (OpenAccount other) s = ap (λ a. record (view p r s) { account = a }) (account_of-with_account r other itself s)
-view-changed p r (PutContact c) s = ap (λ m. record (view p r s) { contacts = m }) (map_values-insert (slice_cmp nat_cmp) nat_list_cmp_total names_apart (λ name. contact_as r None) s.contacts c.name c)
-view-changed p r (DropContact name) s = ap (λ m. record (view p r s) { contacts = m }) (map_values-remove (slice_cmp nat_cmp) nat_list_cmp_total names_apart (λ name. contact_as r None) s.contacts name)
-view-changed p r (PutHost h) s = refl
-view-changed p r (DropHost name) s = refl
-view-changed p r (RenameHost old new) s = ap (λ m. record (view p r s) { domains = m }) (relinked-view r old new s.domains)
-view-changed p r (PutDomain d) s = ap (λ m. record (view p r s) { domains = m }) (map_values-insert (slice_cmp nat_cmp) nat_list_cmp_total names_apart (λ name. domain_as r None) s.domains d.name d)
-view-changed p r (CountCommand other) s = ap (λ a. record (view p r s) { account = a }) (account_of-with_account r other with_command s)
-view-changed p r (TakeSerial other) s = ap (λ a. record (view p r s) { account = a }) (account_of-with_account r other with_serial s)
+view-changed p r (MoveClock t) s meets = absurd meets
+view-changed p r (OpenAccount other) s meets = view-account p r other itself (λ a. refl) s
+view-changed p r (PutContact c) s meets = ap (λ m. record (view p r s) { contacts = m }) (map_values-insert (slice_cmp nat_cmp) nat_list_cmp_total names_apart (λ name. contact_as r None) s.contacts c.name c)
+view-changed p r (DropContact name) s meets = ap (λ m. record (view p r s) { contacts = m }) (map_values-remove (slice_cmp nat_cmp) nat_list_cmp_total names_apart (λ name. contact_as r None) s.contacts name)
+view-changed p r (PutHost h) s meets = refl
+view-changed p r (DropHost name) s meets = refl
+view-changed p r (RenameHost old new) s meets = ap (λ m. record (view p r s) { domains = m }) (relinked-view p r s old new s.domains)
+view-changed p r (PutDomain d) s meets =
+    ap (λ (m : FinMap (slice_cmp nat_cmp) (Seen FullDomain DomainFace)). record (view p r s) { domains = m })
+      (map_values-insert (slice_cmp nat_cmp) nat_list_cmp_total names_apart (λ name. domain_sight p r s None) s.domains d.name d
+      ∙ ap (λ (g : Graces). insert (view p r s).domains d.name (domain_as r None (record { graces = g; phase = phase p s.clock d.deletion }) d)) meets)
+view-changed p r (CountCommand other) s meets = view-account p r other with_command (λ a. refl) s
+view-changed p r (TakeSerial other) s meets = view-account p r other with_serial (λ a. refl) s
+
+-- each of the changes meets it when its turn comes
+abbrev pub AllMeet : PolicyRules → ℕ → List Change → Registry → Type 0
+AllMeet p r [] s = Unit {0}
+AllMeet p r (change ∷ changes) s = Meets p r change s × AllMeet p r changes (changed change s)
 
 -- two registries that look alike look alike after the same changes
-pub same_changed_all : (p : PolicyRules) (r : ℕ) (changes : List Change) (s t : Registry) → view p r s ≡ view p r t → view p r (changed_all changes s) ≡ view p r (changed_all changes t)
-same_changed_all p r [] s t alike = alike
-same_changed_all p r (change ∷ changes) s t alike = same_changed_all p r changes (changed change s) (changed change t)
-    (view-changed p r change s ∙ ap (seen_change r change) alike ∙ sym (view-changed p r change t))
+pub same_changed_all : (p : PolicyRules) (r : ℕ) (changes : List Change) (s t : Registry) → AllMeet p r changes s → AllMeet p r changes t
+    → view p r s ≡ view p r t → view p r (changed_all changes s) ≡ view p r (changed_all changes t)
+same_changed_all p r [] s t here there alike = alike
+same_changed_all p r (change ∷ changes) s t here there alike = same_changed_all p r changes (changed change s) (changed change t) here.1 there.1
+    (view-changed p r change s here.0 ∙ ap (seen_change p r change) alike ∙ sym (view-changed p r change t there.0))

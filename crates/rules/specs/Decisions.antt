@@ -8,6 +8,7 @@ use Rattle.objects.specs.declared.contact.Contact.{Contact}
 use Rattle.objects.specs.declared.contact.ContactFace.{ContactFace}
 use Rattle.objects.specs.declared.domain.Domain.{Domain}
 use Rattle.objects.specs.declared.domain.DomainFace.{DomainFace}
+use Rattle.objects.specs.declared.domain.FullDomain.{FullDomain}
 use Rattle.objects.specs.declared.domain.Links.{Links}
 use Rattle.objects.specs.declared.host.Host.{Host}
 use Rattle.objects.specs.declared.roid.ObjectKind.{ObjectKind}
@@ -151,9 +152,9 @@ contact_changes t u (Some (Full c)) = PutContact (updated_contact t u c) ∷ []
 contact_changes t u (Some (TransferParty face transfer)) = []
 contact_changes t u (Some (Public face)) = []
 
-abbrev pub domain_changes : ℕ → DomainUpdate → Option (Seen Domain DomainFace) → List Change
+abbrev pub domain_changes : ℕ → DomainUpdate → Option (Seen FullDomain DomainFace) → List Change
 domain_changes t u None = []
-domain_changes t u (Some (Full d)) = PutDomain (updated_domain t u d) ∷ []
+domain_changes t u (Some (Full known)) = PutDomain (updated_domain t u known.domain) ∷ []
 domain_changes t u (Some (TransferParty face transfer)) = []
 domain_changes t u (Some (Public face)) = []
 

@@ -12,7 +12,7 @@ use basis::text::Text;
 use calendar::Moment;
 use facts::Facts;
 use names::{GivenName, Zone};
-use objects::{Contact, ContactFace, Domain, DomainFace, Host, Seen};
+use objects::{Contact, ContactFace, DomainFace, FullDomain, Host, Seen};
 use policy::Policy;
 use protocol::{Code, Command, ContactUpdate, DomainUpdate, HostUpdate, Request};
 use std::alloc::{AllocError, Global};
@@ -192,14 +192,14 @@ fn update_contact(
 fn update_domain(
     alloc: Global,
     update: &DomainUpdate,
-    seen: Option<&Seen<Domain, DomainFace>>,
+    seen: Option<&Seen<FullDomain, DomainFace>>,
     moment: Moment,
 ) -> Result<Vec<Change>, AllocError>
     ensures { IfOk result (λ changes. changes.items ≡ spec.domain_changes moment update.now (option_copied seen.entry)) }
 {
     match seen {
-        Some(Seen::Full(domain)) => {
-            let domain = updated_domain(alloc, update, domain, moment)?;
+        Some(Seen::Full(known)) => {
+            let domain = updated_domain(alloc, update, &known.domain, moment)?;
             Ok(vec![in alloc; Change::PutDomain(domain)]?)
         }
         _ => Ok(Vec::new(alloc)),

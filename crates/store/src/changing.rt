@@ -1,7 +1,7 @@
 //! How a registry in ordered maps is changed.
 ghost use Rattle.std.specs.Prelude.{◌≡◌, ◌∷◌, [], IfOk, OnOk, OnErr};
 ghost use Rattle.store.specs.Edits as spec;
-ghost use Rattle.store.specs.Plain.{content_of};
+ghost use Rattle.store.specs.Plain.{content_of, registry_in};
 ghost use Rattle.model.specs.Registry.{account_of};
 
 use crate::content::Content;
@@ -18,7 +18,7 @@ use std::alloc::AllocError;
 impl Content {
     /// A copy of a registrar's account, which is empty where it was never opened.
     fn account(&self, registrar: RegistrarNo) -> Result<Account, AllocError>
-        ensures { IfOk result (λ account. account ≡ account_of registrar (content_of self.now).registry) }
+        ensures { IfOk result (λ account. account ≡ account_of registrar (registry_in self.now)) }
     {
         match self.accounts.get(registrar) {
             Some(account) => account.clone(),
@@ -28,7 +28,7 @@ impl Content {
 
     /// The edits that make a change.
     pub fn edits_of(&self, change: Change) -> Result<Vec<Edit>, AllocError>
-        ensures { IfOk result (λ edits. edits.items ≡ spec.edits_of change (content_of self.now).registry) }
+        ensures { IfOk result (λ edits. edits.items ≡ spec.edits_of change (registry_in self.now)) }
     {
         match change {
             Change::MoveClock(moment) => self.one(Edit::Clock(moment.later(self.clock))),
@@ -72,7 +72,7 @@ impl Content {
 
     /// The domains that name a host, each with the host's new name.
     fn renames(&self, from: &Text, to: &Text) -> Result<Vec<Edit>, AllocError>
-        ensures { IfOk result (λ edits. edits.items ≡ spec.edits_of (Change.RenameHost from.now to.now) (content_of self.now).registry) }
+        ensures { IfOk result (λ edits. edits.items ≡ spec.edits_of (Change.RenameHost from.now to.now) (registry_in self.now)) }
     {
         let mut edits = Vec::new(self.alloc);
         for (name, domain) in self.domains.iter() {

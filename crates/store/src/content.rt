@@ -5,11 +5,13 @@ ghost use Rattle.std.specs.Option.{option_copied};
 ghost use Rattle.std.specs.FinMap as finmap;
 ghost use Rattle.names.specs.GivenName.{name_of};
 ghost use Rattle.store.specs.Lookups as lookups;
-ghost use Rattle.store.specs.Plain.{content_of};
+ghost use Rattle.store.specs.Plain.{registry_in};
 ghost use Rattle.facts.specs.Facts as facts;
 ghost use Rattle.protocol.specs.Requests as requests;
 ghost use Rattle.model.specs.Objects as objects;
 ghost use Rattle.model.specs.Registry.{account_of};
+ghost use Rattle.model.specs.Standing.{standing_of};
+ghost use Rattle.model.specs.View.{domain_sight};
 
 use crate::edit::{copy_contact, copy_domain, copy_host};
 use accounts::Account;
@@ -23,7 +25,9 @@ use facts::{
 };
 use model::Object;
 use names::{GivenName, last_two_labels};
-use objects::{Contact, Domain, Host, ObjectKind, is_below};
+use objects::{
+    Contact, Domain, DomainFace, FullDomain, Graces, Host, ObjectKind, Phase, Seen, Standing, is_below,
+};
 use policy::{Policy, Terms};
 use protocol::{Command, Request};
 use std::alloc::{AllocError, Global};
@@ -41,7 +45,7 @@ pub(crate) struct Content {
 
 impl Content {
     fn account_facts(&self, registrar: RegistrarNo) -> AccountFacts
-        ensures { result ≡ facts.account_facts (account_of registrar (content_of self.now).registry) }
+        ensures { result ≡ facts.account_facts (account_of registrar (registry_in self.now)) }
     {
         match self.accounts.get(registrar) {
             Some(account) => AccountFacts {
@@ -67,7 +71,7 @@ impl Content {
         command: &Command,
         policy: &Policy,
     ) -> Result<Facts, AllocError>
-        ensures { IfOk result (λ it. it ≡ facts.facts policy.now caller command.now (content_of self.now).registry) }
+        ensures { IfOk result (λ it. it ≡ facts.facts policy.now caller command.now (registry_in self.now)) }
     {
         Ok(Facts {
             account: self.account_facts(caller),
@@ -86,7 +90,7 @@ impl Content {
         command: &Command,
         policy: &Policy,
     ) -> Result<Vec<ContactFacts>, AllocError>
-        ensures { IfOk result (λ it. it.items ≡ map (facts.contact_facts (facts.lookups policy.now caller command.now (content_of self.now).registry) command.now) (requests.asked [] requests.contacts_asked command.now)) }
+        ensures { IfOk result (λ it. it.items ≡ map (facts.contact_facts (facts.lookups policy.now caller command.now (registry_in self.now)) command.now) (requests.asked [] requests.contacts_asked command.now)) }
     {
         let mut contacts = Vec::new(self.alloc);
         for name in command.contacts() {
@@ -102,7 +106,7 @@ impl Content {
         policy: &Policy,
         name: &Text,
     ) -> Result<ContactFacts, AllocError>
-        ensures { IfOk result (λ known. known ≡ facts.contact_facts (facts.lookups policy.now caller command.now (content_of self.now).registry) command.now name.now) }
+        ensures { IfOk result (λ known. known ≡ facts.contact_facts (facts.lookups policy.now caller command.now (registry_in self.now)) command.now name.now) }
     {
         let presented = command.presented_for_contact(name);
         let seen = match self.contacts.get(name) {
@@ -118,7 +122,7 @@ impl Content {
 
     /// Whether a domain names the contact.
     fn is_linked_contact(&self, name: &Text) -> bool
-        ensures { result ≡ facts.is_linked_contact (content_of self.now).registry name.now }
+        ensures { result ≡ facts.is_linked_contact (registry_in self.now) name.now }
     {
         self.domains
             .values()
@@ -131,7 +135,10 @@ impl Content {
         command: &Command,
         policy: &Policy,
     ) -> Result<Vec<DomainFacts>, AllocError>
-        ensures { IfOk result (λ it. it.items ≡ map (λ name. facts.domain_facts (facts.lookups policy.now caller command.now (content_of self.now).registry) command.now (name_of name)) (requests.asked [] requests.domains_asked command.now)) }
+        ensures {
+            IfOk result (λ it. it.items
+                ≡ map (λ name. facts.domain_facts (facts.lookups policy.now caller command.now (registry_in self.now)) command.now (name_of name)) (requests.asked [] requests.domains_asked command.now))
+        }
     {
         let mut domains = Vec::new(self.alloc);
         for name in command.domains() {
@@ -147,11 +154,11 @@ impl Content {
         policy: &Policy,
         name: &Text,
     ) -> Result<DomainFacts, AllocError>
-        ensures { IfOk result (λ known. known ≡ facts.domain_facts (facts.lookups policy.now caller command.now (content_of self.now).registry) command.now name.now) }
+        ensures { IfOk result (λ known. known ≡ facts.domain_facts (facts.lookups policy.now caller command.now (registry_in self.now)) command.now name.now) }
     {
         let seen = match self.domains.get(name) {
             None => None,
-            Some(domain) => Some(domain.seen_by(self.alloc, caller, command.presented(name))?),
+            Some(domain) => Some(self.seen_domain(caller, policy, domain, command.presented(name))?),
         };
         Ok(DomainFacts {
             name: name.clone()?,
@@ -160,9 +167,38 @@ impl Content {
         })
     }
 
+    /// What the registrar sees of a domain, that presents a secret or none.
+    fn seen_domain(
+        &self,
+        caller: RegistrarNo,
+        policy: &Policy,
+        domain: &Domain,
+        presented: Option<&Text>,
+    ) -> Result<Seen<FullDomain, DomainFace>, AllocError>
+        ensures { IfOk result (λ seen. seen ≡ domain_sight policy.now caller (registry_in self.now) (option_copied presented.entry) domain.now) }
+    {
+        domain.seen_by(self.alloc, caller, presented, self.standing(policy, domain))
+    }
+
+    /// The graces that run for a domain, and the phase of its deletion.
+    #[tactic(auto, unfolding(model::specs::Standing::graces, model::specs::Standing::phase))]
+    fn standing(&self, _policy: &Policy, _domain: &Domain) -> Standing
+        ensures { result ≡ standing_of _policy.now (registry_in self.now) _domain.now }
+    {
+        Standing {
+            graces: Graces {
+                add: false,
+                auto_renew: false,
+                renew: false,
+                transfer: false,
+            },
+            phase: Phase::Live,
+        }
+    }
+
     /// The hosts below a domain, where the command asks.
     fn hosts_around(&self, command: &Command, domain: &Text) -> Result<Vec<Text>, AllocError>
-        ensures { IfOk result (λ names. names.items ≡ (if requests.asked false requests.reads_associations command.now then facts.subordinate (content_of self.now).registry domain.now else [])) }
+        ensures { IfOk result (λ names. names.items ≡ (if requests.asked false requests.reads_associations command.now then facts.subordinate (registry_in self.now) domain.now else [])) }
     {
         if command.reads_associations() {
             self.subordinate(domain)
@@ -173,7 +209,7 @@ impl Content {
 
     /// The hosts below a domain, in the order of their names.
     fn subordinate(&self, domain: &Text) -> Result<Vec<Text>, AllocError>
-        ensures { IfOk result (λ names. names.items ≡ facts.subordinate (content_of self.now).registry domain.now) }
+        ensures { IfOk result (λ names. names.items ≡ facts.subordinate (registry_in self.now) domain.now) }
     {
         let mut names = Vec::new(self.alloc);
         for name in self.hosts.keys() {
@@ -185,7 +221,10 @@ impl Content {
     }
 
     fn hosts_for(&self, command: &Command) -> Result<Vec<HostFacts>, AllocError>
-        ensures { IfOk result (λ it. it.items ≡ map (λ name. lookups.host_facts_in command.now (content_of self.now).registry (name_of name)) (requests.asked [] requests.hosts_asked command.now)) }
+        ensures {
+            IfOk result (λ it. it.items
+                ≡ map (λ name. lookups.host_facts_in command.now (registry_in self.now) (name_of name)) (requests.asked [] requests.hosts_asked command.now))
+        }
     {
         let mut hosts = Vec::new(self.alloc);
         for name in command.hosts() {
@@ -195,7 +234,10 @@ impl Content {
     }
 
     fn new_name_for(&self, command: &Command) -> Result<Option<HostFacts>, AllocError>
-        ensures { IfOk result (λ it. it ≡ option_map (λ name. lookups.host_facts_in command.now (content_of self.now).registry (name_of name)) (requests.asked None requests.new_host_asked command.now)) }
+        ensures {
+            IfOk result (λ it. it
+                ≡ option_map (λ name. lookups.host_facts_in command.now (registry_in self.now) (name_of name)) (requests.asked None requests.new_host_asked command.now))
+        }
     {
         match command.new_host() {
             None => Ok(None),
@@ -204,7 +246,7 @@ impl Content {
     }
 
     fn host_facts(&self, command: &Command, name: &Text) -> Result<HostFacts, AllocError>
-        ensures { IfOk result (λ known. known ≡ lookups.host_facts_in command.now (content_of self.now).registry name.now) }
+        ensures { IfOk result (λ known. known ≡ lookups.host_facts_in command.now (registry_in self.now) name.now) }
     {
         Ok(HostFacts {
             name: name.clone()?,
@@ -216,7 +258,7 @@ impl Content {
 
     /// What the domain is of a host's last two labels, as far as its hosts hang on it.
     fn superordinate(&self, host: &Text) -> Result<Option<Superordinate>, AllocError>
-        ensures { IfOk result (λ above. above ≡ lookups.superordinate_in (content_of self.now).registry host.now) }
+        ensures { IfOk result (λ above. above ≡ lookups.superordinate_in (registry_in self.now) host.now) }
     {
         match last_two_labels(self.alloc, host)? {
             None => Ok(None),
@@ -225,7 +267,7 @@ impl Content {
     }
 
     fn superordinate_at(&self, domain: &Text) -> Option<Superordinate>
-        ensures { result ≡ option_map facts.superordinate_of_domain (finmap.get (content_of self.now).registry.domains domain.now) }
+        ensures { result ≡ option_map facts.superordinate_of_domain (finmap.get (registry_in self.now).domains domain.now) }
     {
         match self.domains.get(domain) {
             None => None,
@@ -238,7 +280,7 @@ impl Content {
 
     /// Whether a domain names the host.
     fn is_linked_host(&self, name: &Text) -> bool
-        ensures { result ≡ facts.is_linked_host (content_of self.now).registry name.now }
+        ensures { result ≡ facts.is_linked_host (registry_in self.now) name.now }
     {
         self.domains
             .values()
@@ -247,7 +289,7 @@ impl Content {
 
     /// Whether a contact or host isn't there that a domain is to name from now on.
     fn reference_missing(&self, command: &Command) -> bool
-        ensures { result ≡ requests.asked false (lookups.references_fail_in (content_of self.now).registry) command.now }
+        ensures { result ≡ requests.asked false (lookups.references_fail_in (registry_in self.now)) command.now }
     {
         match command.request() {
             None => false,
@@ -256,7 +298,7 @@ impl Content {
     }
 
     fn any_reference_missing(&self, request: &Request) -> bool
-        ensures { result ≡ lookups.references_fail_in (content_of self.now).registry request.now }
+        ensures { result ≡ lookups.references_fail_in (registry_in self.now) request.now }
     {
         let added = request.added();
         self.lacks_registrant(request.registrant())
@@ -266,13 +308,13 @@ impl Content {
     }
 
     fn lacks_contact(&self, name: &Text) -> bool
-        ensures { result ≡ not (lookups.has_contact (content_of self.now).registry name.now) }
+        ensures { result ≡ not (lookups.has_contact (registry_in self.now) name.now) }
     {
         self.contacts.get(name).is_none()
     }
 
     fn lacks_registrant(&self, name: Option<&Text>) -> bool
-        ensures { result ≡ requests.holds_of (λ it. not (lookups.has_contact (content_of self.now).registry it)) (option_copied name.entry) }
+        ensures { result ≡ requests.holds_of (λ it. not (lookups.has_contact (registry_in self.now) it)) (option_copied name.entry) }
     {
         match name {
             None => false,
@@ -281,19 +323,19 @@ impl Content {
     }
 
     fn lacks_contacts(&self, names: &[Text]) -> bool
-        ensures { result ≡ list_any (λ name. not (lookups.has_contact (content_of self.now).registry name)) names.now }
+        ensures { result ≡ list_any (λ name. not (lookups.has_contact (registry_in self.now) name)) names.now }
     {
         names.iter().any(|name| self.lacks_contact(name))
     }
 
     fn lacks_host(&self, name: &Text) -> bool
-        ensures { result ≡ not (lookups.has_host (content_of self.now).registry name.now) }
+        ensures { result ≡ not (lookups.has_host (registry_in self.now) name.now) }
     {
         self.hosts.get(name).is_none()
     }
 
     fn lacks_hosts(&self, names: &[GivenName]) -> bool
-        ensures { result ≡ list_any (λ name. not (lookups.has_host (content_of self.now).registry (name_of name))) names.now }
+        ensures { result ≡ list_any (λ name. not (lookups.has_host (registry_in self.now) (name_of name))) names.now }
     {
         names.iter().any(|name| self.lacks_host(name.text()))
     }
@@ -301,7 +343,7 @@ impl Content {
     /// Whether the registrar holds as many domains as it may. Where there aren't so many at all, none
     /// is looked at.
     fn holds_the_most(&self, caller: RegistrarNo) -> bool
-        ensures { result ≡ nat_le HOLDING_LIMIT (facts.held caller (content_of self.now).registry) }
+        ensures { result ≡ nat_le HOLDING_LIMIT (facts.held caller (registry_in self.now)) }
     {
         if self.domains.len() < HOLDING_LIMIT {
             return false;
@@ -310,7 +352,7 @@ impl Content {
     }
 
     fn count_held(&self, caller: RegistrarNo) -> usize
-        ensures { result ≡ facts.held caller (content_of self.now).registry }
+        ensures { result ≡ facts.held caller (registry_in self.now) }
     {
         self.domains
             .values()
@@ -324,7 +366,7 @@ impl Content {
 impl Content {
     /// The object of a kind that stands under a name.
     pub fn object_at(&self, kind: ObjectKind, name: &Text) -> Result<Option<Object>, AllocError>
-        ensures { IfOk result (λ it. it ≡ objects.object_at (content_of self.now).registry kind name.now) }
+        ensures { IfOk result (λ it. it ≡ objects.object_at (registry_in self.now) kind name.now) }
     {
         match kind {
             ObjectKind::Contact => match copy_contact(self.contacts.get(name))? {

@@ -27,7 +27,7 @@ use std::alloc::{AllocError, Global};
 #[derive(Drop)]
 pub struct PlainBook {
     content: Content,
-    /// What undoes the transaction's changes, the latest last. Where going back at_begin no memory,
+    /// What undoes the transaction's changes, the latest last. Where going back finds no memory,
     /// what is still to be undone, which the next call undoes first.
     undo: Seq<Edit>,
     is_open: bool,

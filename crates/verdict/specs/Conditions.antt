@@ -12,6 +12,7 @@ use Rattle.objects.specs.declared.contact.Contact.{Contact}
 use Rattle.objects.specs.declared.contact.ContactFace.{ContactFace}
 use Rattle.objects.specs.declared.domain.Domain.{Domain}
 use Rattle.objects.specs.declared.domain.DomainFace.{DomainFace}
+use Rattle.objects.specs.declared.domain.FullDomain.{FullDomain}
 use Rattle.objects.specs.declared.host.Host.{Host}
 use Rattle.objects.specs.declared.sight.Seen.{Seen}
 use Rattle.objects.specs.declared.sight.Seen.TheVariants.{Full, TransferParty, Public}
@@ -36,7 +37,7 @@ use Rattle.verdict.specs.declared.rules.Condition.TheVariants.{NameIsRefused, Li
 abbrev pub the_contact : Request → Facts → Option (Seen Contact ContactFace)
 the_contact q f = option_and_then (contact_seen f) (slice_get (contacts_asked q) 0)
 
-abbrev pub the_domain : Request → Facts → Option (Seen Domain DomainFace)
+abbrev pub the_domain : Request → Facts → Option (Seen FullDomain DomainFace)
 the_domain q f = option_and_then (λ name. domain_seen f (name_of name)) (slice_get (domains_asked q) 0)
 
 abbrev pub host_known : Request → Facts → Option HostFacts
@@ -57,8 +58,11 @@ full (Public face) = None
 abbrev pub full_contact : Request → Facts → Option Contact
 full_contact q f = option_and_then full (the_contact q f)
 
+abbrev pub domain_in_full : Seen FullDomain DomainFace → Option Domain
+domain_in_full seen = option_map (λ (known : FullDomain). known.domain) (full seen)
+
 abbrev pub full_domain : Request → Facts → Option Domain
-full_domain q f = option_and_then full (the_domain q f)
+full_domain q f = option_and_then domain_in_full (the_domain q f)
 
 -- ---- the names and lists of a request
 
@@ -85,11 +89,11 @@ contact_sponsor c = c.sponsor
 abbrev pub contact_secret : Contact → List ℕ
 contact_secret c = c.secret
 
-abbrev pub domain_sponsor : Domain → ℕ
-domain_sponsor d = d.sponsor
+abbrev pub domain_sponsor : FullDomain → ℕ
+domain_sponsor known = known.domain.sponsor
 
-abbrev pub domain_secret : Domain → List ℕ
-domain_secret d = d.secret
+abbrev pub domain_secret : FullDomain → List ℕ
+domain_secret known = known.domain.secret
 
 -- the registrar sponsors what it sees
 abbrev pub is_own : {O F : Type 0} → (O → ℕ) → ℕ → Seen O F → Bool
@@ -159,8 +163,8 @@ contact_seen_shows (Full c) status = contact_shows false c status
 contact_seen_shows (TransferParty face t) status = has_status face.statuses status
 contact_seen_shows (Public face) status = has_status face.statuses status
 
-unfoldable pub domain_seen_shows : Seen Domain DomainFace → Status → Bool
-domain_seen_shows (Full d) status = shows d status
+unfoldable pub domain_seen_shows : Seen FullDomain DomainFace → Status → Bool
+domain_seen_shows (Full known) status = shows known.domain status
 domain_seen_shows (TransferParty face t) status = has_status face.statuses status
 domain_seen_shows (Public face) status = has_status face.statuses status
 

@@ -7,6 +7,7 @@ use Rattle.objects.specs.declared.contact.Contact.{Contact}
 use Rattle.objects.specs.declared.contact.ContactFace.{ContactFace}
 use Rattle.objects.specs.declared.domain.Domain.{Domain}
 use Rattle.objects.specs.declared.domain.DomainFace.{DomainFace}
+use Rattle.objects.specs.declared.domain.FullDomain.{FullDomain}
 use Rattle.objects.specs.declared.host.Host.{Host}
 use Rattle.objects.specs.declared.sight.Seen.{Seen}
 use Rattle.objects.specs.declared.sight.Seen.TheVariants.{Full, TransferParty, Public}
@@ -119,16 +120,16 @@ domain_face_info p subordinate face = record { face = face; sponsor = id_of p fa
 abbrev pub domain_hidden : PolicyRules → Option (List ℕ) → Domain → DomainHidden
 domain_hidden p secret d = record { secret = secret; transfer = option_map (transfer_info p) d.transfer; deletion = d.deletion }
 
-abbrev pub domain_full_info : PolicyRules → List (List ℕ) → Option (List ℕ) → Domain → DomainInfo
-domain_full_info p subordinate secret d = record (domain_face_info p subordinate (face_of d)) {
-  hidden = Some (domain_hidden p secret d);
+abbrev pub domain_full_info : PolicyRules → List (List ℕ) → Option (List ℕ) → FullDomain → DomainInfo
+domain_full_info p subordinate secret known = record (domain_face_info p subordinate (face_of known.standing known.domain)) {
+  hidden = Some (domain_hidden p secret known.domain);
 }
 
-abbrev pub domain_info : PolicyRules → ℕ → Option (List ℕ) → List (List ℕ) → Seen Domain DomainFace → DomainInfo
-domain_info p r secret subordinate (Full d) =
-    if d.sponsor == r then domain_full_info p subordinate (Some d.secret) d
-    else if authorizes secret d.secret then domain_full_info p subordinate None d
-    else domain_face_info p subordinate (face_of d)
+abbrev pub domain_info : PolicyRules → ℕ → Option (List ℕ) → List (List ℕ) → Seen FullDomain DomainFace → DomainInfo
+domain_info p r secret subordinate (Full known) =
+    if known.domain.sponsor == r then domain_full_info p subordinate (Some known.domain.secret) known
+    else if authorizes secret known.domain.secret then domain_full_info p subordinate None known
+    else domain_face_info p subordinate (face_of known.standing known.domain)
 domain_info p r secret subordinate (TransferParty face t) = domain_face_info p subordinate face
 domain_info p r secret subordinate (Public face) = domain_face_info p subordinate face
 

@@ -21,7 +21,9 @@ use basis::registrar::RegistrarNo;
 use calendar::Moment;
 use facts::{ContactFacts, Facts, HostFacts, count_kept};
 use names::GivenName;
-use objects::{Contact, ContactFace, Domain, DomainFace, Host, Seen, Status, has_status};
+use objects::{
+    Contact, ContactFace, Domain, DomainFace, FullDomain, Host, Seen, Status, has_status,
+};
 use policy::Policy;
 use protocol::{Action, Code, Request};
 
@@ -41,6 +43,16 @@ fn full<O, F>(seen: Option<&Seen<O, F>>) -> Option<&O>
 {
     match seen {
         Some(Seen::Full(object)) => Some(object),
+        _ => None,
+    }
+}
+
+/// The domain that is seen in full.
+fn full_domain(seen: Option<&Seen<FullDomain, DomainFace>>) -> Option<&Domain>
+    ensures { option_copied result ≡ option_and_then spec.domain_in_full (option_copied seen.entry) }
+{
+    match seen {
+        Some(Seen::Full(known)) => Some(&known.domain),
         _ => None,
     }
 }
@@ -66,7 +78,7 @@ impl<'a> Case<'a> {
         }
     }
 
-    fn domain(&self) -> Option<&'a Seen<Domain, DomainFace>>
+    fn domain(&self) -> Option<&'a Seen<FullDomain, DomainFace>>
         ensures { option_copied result ≡ spec.the_domain self.now.request.now self.now.facts.now }
     {
         match self.request.domains().first() {
@@ -184,7 +196,7 @@ impl Case<'_> {
     {
         let added = self.request.added();
         contact_has(added, full(self.contact()))
-            || domain_has(added, full(self.domain()))
+            || domain_has(added, full_domain(self.domain()))
             || host_has(added, self.host())
     }
 
@@ -193,7 +205,7 @@ impl Case<'_> {
     {
         let removed = self.request.removed();
         contact_lacks(removed, full(self.contact()))
-            || domain_lacks(removed, full(self.domain()))
+            || domain_lacks(removed, full_domain(self.domain()))
             || host_lacks(removed, self.host())
     }
 
@@ -201,7 +213,7 @@ impl Case<'_> {
         ensures { result ≡ spec.leaves_too_many self.now.request.now self.now.facts.now }
     {
         let (removed, added) = (self.request.removed(), self.request.added());
-        domain_is_over(removed, added, full(self.domain()))
+        domain_is_over(removed, added, full_domain(self.domain()))
             || host_is_over(removed, added, self.host())
     }
 

@@ -10,7 +10,7 @@ use basis::registrar::RegistrarNo;
 use basis::text::Text;
 use facts::HostFacts;
 use names::Zone;
-use objects::{Contact, ContactFace, Domain, DomainFace, Host, Seen, Status, has_status};
+use objects::{Contact, ContactFace, DomainFace, FullDomain, Host, Seen, Status, has_status};
 
 // ---- who sponsors what is seen
 
@@ -47,7 +47,7 @@ impl Sponsored for Contact {
     }
 }
 
-impl Sponsored for Domain {
+impl Sponsored for FullDomain {
     ghost use Rattle.verdict.specs.Conditions.{domain_sponsor, domain_secret};
 
     ghost sponsor = { domain_sponsor };
@@ -55,11 +55,11 @@ impl Sponsored for Domain {
     ghost secret = { domain_secret };
 
     fn is_of(&self, registrar: RegistrarNo) -> bool {
-        self.is_sponsored_by(registrar)
+        self.domain.is_sponsored_by(registrar)
     }
 
     fn authorizes(&self, presented: Option<&Text>) -> bool {
-        self.is_authorized_by(presented)
+        self.domain.is_authorized_by(presented)
     }
 }
 
@@ -192,7 +192,7 @@ impl Shows for Seen<Contact, ContactFace> {
     }
 }
 
-impl Shows for Seen<Domain, DomainFace> {
+impl Shows for Seen<FullDomain, DomainFace> {
     ghost use Rattle.verdict.specs.Conditions.{domain_seen_shows};
 
     ghost shown = { domain_seen_shows };
@@ -200,7 +200,7 @@ impl Shows for Seen<Domain, DomainFace> {
     #[tactic(auto, unfolding(crate::specs::Conditions::domain_seen_shows))]
     fn is_shown(&self, status: Status) -> bool {
         match self {
-            Seen::Full(domain) => domain.shows(status),
+            Seen::Full(known) => known.domain.shows(status),
             Seen::TransferParty(face, _) => has_status(face.statuses.as_slice(), status),
             Seen::Public(face) => has_status(face.statuses.as_slice(), status),
         }

@@ -9,7 +9,9 @@ use basis::text::{Text, copied};
 use calendar::Moment;
 use facts::{ContactFacts, DomainFacts, Facts, HostFacts};
 use names::GivenName;
-use objects::{Contact, ContactFace, Domain, DomainFace, Host, Seen, Transfer, with_linked};
+use objects::{
+    Contact, ContactFace, Domain, DomainFace, FullDomain, Host, Seen, Transfer, with_linked,
+};
 use policy::Policy;
 use protocol::{
     CheckResult, ContactHidden, ContactInfo, Created, Data, DomainHidden, DomainInfo, HostInfo,
@@ -297,19 +299,19 @@ fn domain_info(
     caller: RegistrarNo,
     secret: Option<&Text>,
     subordinate: &Seq<Text>,
-    seen: &Seen<Domain, DomainFace>,
+    seen: &Seen<FullDomain, DomainFace>,
 ) -> Result<DomainInfo, AllocError>
     ensures { IfOk result (λ info. info ≡ spec.domain_info policy.now caller (option_copied secret.entry) subordinate.now seen.now) }
 {
     match seen {
-        Seen::Full(domain) if domain.is_sponsored_by(caller) => {
-            let own = domain.secret.clone()?;
-            domain_full_info(alloc, policy, subordinate, Some(own), domain)
+        Seen::Full(known) if known.domain.is_sponsored_by(caller) => {
+            let own = known.domain.secret.clone()?;
+            domain_full_info(alloc, policy, subordinate, Some(own), known)
         }
-        Seen::Full(domain) if domain.is_authorized_by(secret) => {
-            domain_full_info(alloc, policy, subordinate, None, domain)
+        Seen::Full(known) if known.domain.is_authorized_by(secret) => {
+            domain_full_info(alloc, policy, subordinate, None, known)
         }
-        Seen::Full(domain) => domain_face_info(alloc, policy, subordinate, domain.face(alloc)?),
+        Seen::Full(known) => domain_face_info(alloc, policy, subordinate, known.face(alloc)?),
         Seen::TransferParty(face, _) => domain_face_info(alloc, policy, subordinate, face.clone()?),
         Seen::Public(face) => domain_face_info(alloc, policy, subordinate, face.clone()?),
     }
@@ -337,15 +339,15 @@ fn domain_full_info(
     policy: &Policy,
     subordinate: &Seq<Text>,
     secret: Option<Text>,
-    domain: &Domain,
+    known: &FullDomain,
 ) -> Result<DomainInfo, AllocError>
-    ensures { IfOk result (λ info. info ≡ spec.domain_full_info policy.now subordinate.now secret domain.now) }
+    ensures { IfOk result (λ info. info ≡ spec.domain_full_info policy.now subordinate.now secret known.now) }
 {
-    let sponsor = id_of(alloc, policy, domain.sponsor)?;
-    let hidden = domain_hidden(alloc, policy, secret, domain)?;
+    let sponsor = id_of(alloc, policy, known.domain.sponsor)?;
+    let hidden = domain_hidden(alloc, policy, secret, &known.domain)?;
     let subordinate = subordinate.clone()?;
     Ok(DomainInfo {
-        face: domain.face(alloc)?,
+        face: known.face(alloc)?,
         sponsor,
         subordinate,
         hidden: Some(hidden),

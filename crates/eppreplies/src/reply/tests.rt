@@ -5,7 +5,8 @@ use basis::registrar::RegistrarNo;
 use basis::text::Text;
 use calendar::Moment;
 use objects::{
-    ContactFace, Deletion, DomainFace, Links, ObjectKind, Postal, Roid, Transfer, TransferState,
+    ContactFace, Deletion, DomainFace, Graces, Links, ObjectKind, Phase, Postal, Roid, Standing,
+    Transfer, TransferState,
 };
 use protocol::{
     Code, ContactHidden, ContactInfo, Data, DomainHidden, DomainInfo, Reply, SvTrid, TransferInfo,
@@ -75,7 +76,15 @@ fn domain_face(alloc: Global, at: History) -> DomainFace {
         transferred: Some(at.acted),
         updated: None,
         statuses: Seq::new(alloc),
-        rgp: Seq::new(alloc),
+        standing: Standing {
+            graces: Graces {
+                add: false,
+                auto_renew: false,
+                renew: false,
+                transfer: false,
+            },
+            phase: Phase::Live,
+        },
         links: Links {
             registrant: nothing(alloc),
             admin: Seq::new(alloc),

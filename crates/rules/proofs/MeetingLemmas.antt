@@ -1,0 +1,141 @@
+-- What a command changes meets what is asked of changes.
+use Rattle.std.proofs.Common.{◌≡◌, ℕ, Bool, true, false, cond, List, [], ◌∷◌, Option, Some, None, option_and_then, option_map, refl, sym, ap, ◌∙◌}
+use Rattle.std.specs.Cmp.{nat_cmp_total, eq_by_cmp_equiv, Equal-is}
+use Rattle.std.specs.Cmp.Lexicographic.{slice_cmp, nat_list_cmp_total}
+use Rattle.std.specs.FinMap.{get, nat_cmp-IsAntisymmetric}
+use Rattle.std.specs.Ordering.{eq_by_cmp, nat_cmp}
+use Rattle.accounts.specs.Account.{with_command}
+use Rattle.basis.proofs.MapLemmas.{names_apart, get-map_values}
+use Rattle.names.specs.declared.given.GivenName.{GivenName}
+use Rattle.names.specs.GivenName.{name_of}
+use Rattle.objects.specs.declared.contact.Contact.{Contact}
+use Rattle.objects.specs.declared.contact.ContactFace.{ContactFace}
+use Rattle.objects.specs.declared.domain.Domain.{Domain}
+use Rattle.objects.specs.declared.domain.DomainFace.{DomainFace}
+use Rattle.objects.specs.declared.domain.FullDomain.{FullDomain}
+use Rattle.objects.specs.declared.grace.Graces.{Graces}
+use Rattle.objects.specs.declared.host.Host.{Host}
+use Rattle.objects.specs.declared.sight.Seen.{Seen}
+use Rattle.objects.specs.declared.sight.Seen.TheVariants.{Full, TransferParty, Public}
+use Rattle.objects.specs.Graces.{no_graces}
+use Rattle.policy.specs.Rules.{PolicyRules}
+use Rattle.rules.specs.declared.change.Change.{Change}
+use Rattle.rules.specs.Changes.{with_account}
+use Rattle.rules.specs.Decisions.{changes_after, changes_of, contact_changes, domain_changes, host_changes, new_domain, renaming, updated_domain, updated_host}
+use Rattle.rules.specs.Steps.{decision}
+use Rattle.rules.proofs.CommandLemmas.{at-itself, domain-full}
+use Rattle.rules.proofs.SightLemmas.{graces-seen, sponsor-seen}
+use Rattle.rules.proofs.ViewLemmas.{AllMeet, graces_kept, graces_put}
+use Rattle.protocol.specs.declared.code.Code.{Code}
+use Rattle.protocol.specs.declared.command.Command.{Command}
+use Rattle.protocol.specs.declared.command.Command.TheVariants.{Bad, Asked}
+use Rattle.protocol.specs.declared.command.ContactUpdate.{ContactUpdate}
+use Rattle.protocol.specs.declared.command.DomainUpdate.{DomainUpdate}
+use Rattle.protocol.specs.declared.command.HostUpdate.{HostUpdate}
+use Rattle.protocol.specs.declared.command.Request.{Request}
+use Rattle.protocol.specs.declared.command.Request.TheVariants as requests
+use Rattle.protocol.specs.Codes.{is_accepted}
+use Rattle.facts.specs.declared.facts.Facts.{Facts}
+use Rattle.facts.specs.Facts.{contact_seen, domain_facts, domain_seen, facts, host_seen, lookups}
+use Rattle.model.specs.Registry.{Registry, account_of}
+use Rattle.model.specs.Standing.{graces, graces_of, standing_of}
+use Rattle.model.specs.View.{domain_sight, view}
+use Rattle.model.specs.WellFormed.{IsRegistry}
+
+pub eq-self : (a : ℕ) → eq_by_cmp nat_cmp a a ≡ true
+eq-self a = (eq_by_cmp_equiv nat_cmp_total).refl a
+
+same_number : (a b : ℕ) → eq_by_cmp nat_cmp a b ≡ true → a ≡ b
+same_number a b e = nat_cmp-IsAntisymmetric a b ((Equal-is (nat_cmp a b)).0 e)
+
+-- ---- a domain that is put
+
+module _ (p : PolicyRules) (r : ℕ) (s : Registry) where
+  -- the registrar's own has the graces of its lines
+  pub put-own : (d : Domain) → eq_by_cmp nat_cmp d.sponsor r ≡ true → graces_of p s d ≡ graces_put p r d (view p r s)
+  put-own d e =
+      ap (λ (k : ℕ). graces p s.clock d.roid d.transferred (account_of k s).lines) (same_number d.sponsor r e)
+      ∙ sym (ap (λ (b : Bool). cond b (graces p s.clock d.roid d.transferred (account_of r s).lines) (graces_kept d.sponsor (get (view p r s).domains d.name))) e)
+
+  -- another's has those that were seen, where this was its sponsor before
+  kept-at : (sponsor : ℕ) (name : List ℕ) (before : Domain) → get s.domains name ≡ Some before
+      → graces_kept sponsor (get (view p r s).domains name) ≡ cond (eq_by_cmp nat_cmp before.sponsor sponsor) (graces_of p s before) no_graces
+  kept-at sponsor name before found =
+      ap (graces_kept sponsor) (get-map_values (slice_cmp nat_cmp) nat_list_cmp_total names_apart (λ name. domain_sight p r s None) s.domains name ∙ ap (option_map (domain_sight p r s None)) found)
+      ∙ (λ i. cond (eq_by_cmp nat_cmp (sponsor-seen r None (standing_of p s before) before i) sponsor) (graces-seen r None (standing_of p s before) before i) no_graces)
+
+  put-by : (d : Domain) (b : Bool) → eq_by_cmp nat_cmp d.sponsor r ≡ b → (b ≡ false → graces_of p s d ≡ graces_kept d.sponsor (get (view p r s).domains d.name)) → graces_of p s d ≡ graces_put p r d (view p r s)
+  put-by d true e h = put-own d e
+  put-by d false e h = h refl ∙ sym (ap (λ (b : Bool). cond b (graces p s.clock d.roid d.transferred (account_of r s).lines) (graces_kept d.sponsor (get (view p r s).domains d.name))) e)
+
+  -- one whose sponsor, ROID and last completed transfer stay has the graces that were seen
+  pub put-again : (before d : Domain) → get s.domains d.name ≡ Some before → d.sponsor ≡ before.sponsor → graces_of p s d ≡ graces_of p s before → graces_of p s d ≡ graces_put p r d (view p r s)
+  put-again before d found sponsor alike = put-by d (eq_by_cmp nat_cmp d.sponsor r) refl (λ not_own.
+      alike ∙ sym (kept-at d.sponsor d.name before found
+      ∙ ap (λ (b : Bool). cond b (graces_of p s before) no_graces) (ap (λ (k : ℕ). eq_by_cmp nat_cmp before.sponsor k) sponsor ∙ eq-self before.sponsor)))
+
+-- ---- each command
+
+meet-where : (p : PolicyRules) (r : ℕ) (s : Registry) (changes : List Change) (b : Bool) → AllMeet p r changes s → AllMeet p r (cond b changes []) s
+meet-where p r s changes true h = h
+meet-where p r s changes false h = tt
+
+meet-contact : (p : PolicyRules) (r t : ℕ) (u : ContactUpdate) (seen : Option (Seen Contact ContactFace)) (s : Registry) → AllMeet p r (contact_changes t u seen) s
+meet-contact p r t u None s = tt
+meet-contact p r t u (Some (Full c)) s = (tt, tt)
+meet-contact p r t u (Some (TransferParty face transfer)) s = tt
+meet-contact p r t u (Some (Public face)) s = tt
+
+meet-renaming : (p : PolicyRules) (r : ℕ) (old : List ℕ) (h : Host) (given : Option GivenName) (s : Registry) → AllMeet p r (renaming old h given) s
+meet-renaming p r old h None s = (tt, tt)
+meet-renaming p r old h (Some name) s = (tt, (tt, (tt, tt)))
+
+meet-host : (p : PolicyRules) (r t : ℕ) (u : HostUpdate) (seen : Option Host) (s : Registry) → AllMeet p r (host_changes p.zone r t u seen) s
+meet-host p r t u None s = tt
+meet-host p r t u (Some h) s = meet-renaming p r (name_of u.name) (updated_host p.zone r t u h) u.new_name s
+
+module _ (p : PolicyRules) (r : ℕ) (cl_trid : Option (List ℕ)) (s : Registry) (is : IsRegistry p s) where
+  -- the registry once the command is counted
+  abbrev counted : Registry
+  counted = with_account r with_command s
+
+  abbrev asked_domain : DomainUpdate → Command
+  asked_domain u = Asked cl_trid (requests.UpdateDomain u)
+
+  meet-domain : (u : DomainUpdate) → AllMeet p r (domain_changes s.clock u (domain_seen (facts p r (Asked cl_trid (requests.UpdateDomain u)) s) (name_of u.name))) counted
+  meet-domain u = by (domain_seen (facts p r (asked_domain u) s) (name_of u.name)) (ap (option_and_then (λ known. known.seen)) (at-itself (name_of u.name) (domain_facts (lookups p r (asked_domain u) s) (asked_domain u) (name_of u.name))))
+    where
+      by : (seen : Option (Seen FullDomain DomainFace)) → seen ≡ option_map (domain_sight p r s None) (get s.domains (name_of u.name)) → AllMeet p r (domain_changes s.clock u seen) counted
+      by None e = tt
+      by (Some (Full known)) e =
+          let d : Domain = known.domain in
+          let found : get s.domains (name_of u.name) ≡ Some d = domain-full p r s None (get s.domains (name_of u.name)) known (sym e) in
+          let named : d.name ≡ name_of u.name = (is.domains (name_of u.name) d found).named in
+          let there : get s.domains d.name ≡ Some d = ap (λ (name : List ℕ). get s.domains name) named ∙ found in
+          (put-again p r counted d (updated_domain s.clock u d) there refl refl, tt)
+      by (Some (TransferParty face transfer)) e = tt
+      by (Some (Public face)) e = tt
+
+  -- what an accepted command changes meets what is asked
+  meets : (q : Request) → AllMeet p r (changes_of p.zone r s.clock q (facts p r (Asked cl_trid q) s)) counted
+  unfolding changes_of
+  meets (requests.CreateContact new) = (tt, (tt, tt))
+  meets (requests.CreateDomain new) = (put-own p r counted (new_domain r s.clock (facts p r (Asked cl_trid (requests.CreateDomain new)) s) new) (eq-self r), (tt, tt))
+  meets (requests.CreateHost new) = (tt, (tt, tt))
+  meets (requests.DeleteContact name) = (tt, tt)
+  meets (requests.DeleteHost name) = (tt, tt)
+  meets (requests.UpdateContact u) = meet-contact p r s.clock u (contact_seen (facts p r (Asked cl_trid (requests.UpdateContact u)) s) u.name) counted
+  meets (requests.UpdateDomain u) = meet-domain u
+  meets (requests.UpdateHost u) = meet-host p r s.clock u (host_seen (facts p r (Asked cl_trid (requests.UpdateHost u)) s) (name_of u.name)) counted
+  meets (requests.CheckContact names) = tt
+  meets (requests.CheckDomain names) = tt
+  meets (requests.CheckHost names) = tt
+  meets (requests.InfoContact name secret) = tt
+  meets (requests.InfoDomain name secret) = tt
+  meets (requests.InfoHost name) = tt
+
+-- what a command changes meets what is asked
+pub meets-decided : (p : PolicyRules) (r : ℕ) (c : Command) (s : Registry) → IsRegistry p s → AllMeet p r (decision p r c s).changes s
+unfolding changes_after
+meets-decided p r (Bad cl_trid fault) s is = (tt, tt)
+meets-decided p r (Asked cl_trid q) s is = (tt, meet-where p r (counted p r cl_trid s is) (changes_of p.zone r s.clock q (facts p r (Asked cl_trid q) s)) (is_accepted (decision p r (Asked cl_trid q) s).verdict.code) (meets p r cl_trid s is q))
