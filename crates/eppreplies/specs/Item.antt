@@ -2,9 +2,9 @@
 use Rattle.std.specs.Prelude.{Option, Some, None, option_map, map}
 use Rattle.serde_json.specs.Data.{Data, string}
 use Rattle.serde_json.specs.View.{view}
-use Rattle.objects.specs.StatusTexts.{status_text, rgp_text}
+use Rattle.objects.specs.StatusTexts.{status_text}
 use Rattle.eppreplies.specs.declared.item.Item.{Item}
-use Rattle.eppreplies.specs.declared.item.Item.TheVariants.{Word, Text, MaybeText, Texts, Statuses, Graces, Time, MaybeTime, Given, Absent}
+use Rattle.eppreplies.specs.declared.item.Item.TheVariants.{Word, Text, MaybeText, Texts, Statuses, Time, MaybeTime, Given, Absent}
 use Rattle.eppreplies.specs.Members.{texts_value, moment_value}
 
 abbrev pub item_value : Item → Option Data
@@ -13,7 +13,6 @@ item_value (Text text) = Some (string text.now)
 item_value (MaybeText text) = option_map string text.now
 item_value (Texts texts) = Some (texts_value texts.now)
 item_value (Statuses statuses) = Some (texts_value (map status_text statuses.now))
-item_value (Graces states) = Some (texts_value (map rgp_text states.now))
 item_value (Time moment) = Some (moment_value moment)
 item_value (MaybeTime moment) = option_map moment_value moment
 item_value (Given value) = Some (view value)

@@ -2,13 +2,15 @@
 ghost use Rattle.std.specs.Prelude.{◌≡◌, IfOk, IsTrue, List, ℕ, map, option_map};
 ghost use Rattle.serde_json.specs.Data.{object};
 ghost use Rattle.serde_json.specs.View.{view};
+ghost use Rattle.objects.specs.Graces.{states_of};
+ghost use Rattle.objects.specs.StatusTexts.{rgp_text};
 ghost use Rattle.eppreplies.specs.Item.{item_value};
 ghost use Rattle.eppreplies.specs.Members.{are_in_order, members_with, texts_value, moment_value};
 
 use basis::list::Seq;
 use basis::text::Text;
 use calendar::Moment;
-use objects::{Rgp, Status};
+use objects::{Rgp, Standing, Status};
 use serde_json::{Map, Value};
 use std::alloc::{AllocError, Global};
 
@@ -21,7 +23,6 @@ pub enum Item<'a> {
     MaybeText(&'a Option<Text>),
     Texts(&'a Seq<Text>),
     Statuses(&'a Seq<Status>),
-    Graces(&'a Seq<Rgp>),
     Time(Moment),
     /// A moment, or no member.
     MaybeTime(Option<Moment>),
@@ -60,7 +61,6 @@ fn value_of_item(alloc: Global, item: Item<'_>) -> Result<Option<Value>, AllocEr
         },
         Item::Texts(list) => Some(texts(alloc, list.as_slice())?),
         Item::Statuses(list) => Some(texts(alloc, list.as_slice())?),
-        Item::Graces(list) => Some(texts(alloc, list.as_slice())?),
         Item::Time(moment) => Some(time(alloc, moment)?),
         Item::MaybeTime(moment) => match moment {
             Some(moment) => Some(time(alloc, moment)?),
@@ -69,6 +69,14 @@ fn value_of_item(alloc: Global, item: Item<'_>) -> Result<Option<Value>, AllocEr
         Item::Given(value) => Some(value),
         Item::Absent => None,
     })
+}
+
+/// The states of grace of a domain that stands so.
+pub fn states(alloc: Global, standing: Standing) -> Result<Value, AllocError>
+    ensures { IfOk result (λ v. view v ≡ texts_value (map rgp_text (states_of standing))) }
+{
+    let states = standing.states(alloc)?;
+    texts(alloc, states.as_slice())
 }
 
 fn time(alloc: Global, moment: Moment) -> Result<Value, AllocError>

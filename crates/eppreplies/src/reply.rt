@@ -7,7 +7,7 @@ ghost use Rattle.serde_json.specs.View.{view};
 ghost use Rattle.eppreplies.specs.Item.{item_value};
 ghost use Rattle.eppreplies.specs.Reply as spec;
 
-use crate::item::{Item, object};
+use crate::item::{Item, object, states};
 use calendar::Moment;
 use objects::{Deletion, Postal, Roid, TransferState};
 use protocol::{
@@ -232,7 +232,7 @@ fn domain_value(alloc: Global, info: &DomainInfo) -> Result<Value, AllocError>
 {
     let face = &info.face;
     let links = &face.links;
-    let states = face.standing.states(alloc)?;
+    let rgp = states(alloc, face.standing)?;
     let roid = roid_value(alloc, face.roid)?;
     let transfer = match transfer_of(info) {
         Some(transfer) => Item::Given(transfer_value(alloc, transfer)?),
@@ -248,7 +248,7 @@ fn domain_value(alloc: Global, info: &DomainInfo) -> Result<Value, AllocError>
         ("name", Item::Text(&face.name)),
         ("registrant", Item::Text(&links.registrant)),
         ("resDate", Item::MaybeTime(restore_requested_of(info))),
-        ("rgp", Item::Graces(&states)),
+        ("rgp", Item::Given(rgp)),
         ("roid", Item::Given(roid)),
         ("secret", secret_of(info)),
         ("status", Item::Statuses(&face.statuses)),
