@@ -2,18 +2,17 @@
 ghost use Rattle.std.specs.Prelude.{◌≡◌};
 ghost use Rattle.accounts.specs.Account.{saturating_next, empty_account, with_command, with_serial};
 
-use crate::line::Line;
-use crate::message::Message;
-use basis::list::Seq;
+use crate::queue::Queue;
+use crate::lines::Lines;
 use std::alloc::Global;
 
 /// What belongs to one registrar alone. Each counter stays at its greatest value.
 #[derive(Clone, Drop)]
 pub struct Account {
-    /// A bag: in the order of the lines themselves, and not of their arrival.
-    pub lines: Seq<Line>,
-    /// In the order of the messages.
-    pub queue: Seq<Message>,
+    /// Deposits and charges.
+    pub lines: Lines,
+    /// The messages that wait, in their order.
+    pub queue: Queue,
     /// The commands that were answered.
     pub commands: u64,
     /// The messages that commands brought.
@@ -39,8 +38,8 @@ impl Account {
         ensures { result ≡ empty_account }
     {
         Account {
-            lines: Seq::new(alloc),
-            queue: Seq::new(alloc),
+            lines: Lines::new(alloc),
+            queue: Queue::new(alloc),
             commands: 0,
             messages: 0,
             serial: 0,

@@ -1,10 +1,19 @@
 //! The accounts of registrars: lines of money, a queue of messages, and counters.
+//!
+//! A bag of [`Lines`] has no order of its own; a [`Queue`] is in the order of its messages. What time
+//! alone does to an account is a [`LapseEntry`], and entries commute.
 #![tactic(auto)]
 
 mod account;
+mod entries;
 mod line;
+mod lines;
 mod message;
+mod queue;
 
 pub use account::{Account, saturating_next};
-pub use line::{Line, LineKind};
-pub use message::{Message, MessageId, Notice};
+pub use entries::{AutoRenewal, LapseEntry, Posting};
+pub use line::{Line, LineChange, LineKind, TransferRefund, TransferStart};
+pub use lines::Lines;
+pub use message::{CommandNotice, LapseNotice, Message, Origin, Subject};
+pub use queue::Queue;

@@ -1,7 +1,9 @@
 //! Lines of an account.
+ghost use Rattle.std.specs.Prelude.{◌≡◌, ◌<◌};
+ghost use Rattle.accounts.specs.Lines as spec;
 
 use calendar::Moment;
-use objects::Roid;
+use objects::{ObjectKind, Roid};
 
 /// What a line is for.
 #[derive(Clone, Copy, Debug, PartialEq, Eq, Drop)]
@@ -28,4 +30,145 @@ pub struct Line {
     pub started: Option<Moment>,
     /// When it was given back, if it was.
     pub refunded: Option<Moment>,
+}
+
+impl LineKind {
+    fn rank(self) -> u8
+        ensures { result ≡ spec.kind_rank self }
+    {
+        match self {
+            LineKind::Deposit => 0,
+            LineKind::Create => 1,
+            LineKind::Renew => 2,
+            LineKind::AutoRenew => 3,
+            LineKind::Transfer => 4,
+            LineKind::Restore => 5,
+        }
+    }
+
+    /// Whether it is this kind.
+    pub fn is(self, other: LineKind) -> bool
+        ensures { result ≡ spec.is_kind self other }
+    {
+        self.rank() == other.rank()
+    }
+}
+
+fn object_rank(kind: ObjectKind) -> u8
+    ensures { result ≡ spec.object_rank kind }
+{
+    match kind {
+        ObjectKind::Contact => 0,
+        ObjectKind::Domain => 1,
+        ObjectKind::Host => 2,
+    }
+}
+
+/// Whether two identifiers are one.
+fn is_same_roid(a: &Roid, b: &Roid) -> bool
+    ensures { result ≡ spec.is_same_roid a.now b.now }
+{
+    object_rank(a.kind) == object_rank(b.kind) && a.creator == b.creator && a.serial == b.serial
+}
+
+impl Line {
+    /// Whether it was charged for the domain with this identifier.
+    pub fn is_on(&self, roid: &Roid) -> bool
+        ensures { result ≡ spec.is_on roid.now self.now }
+    {
+        match &self.roid {
+            None => false,
+            Some(other) => is_same_roid(other, roid),
+        }
+    }
+
+    /// Whether it was charged for a transfer of the domain, and not given back.
+    fn is_for_transfer(&self, roid: &Roid) -> bool
+        ensures { result ≡ spec.is_for_transfer roid.now self.now }
+    {
+        self.kind.is(LineKind::Transfer) && self.is_on(roid) && self.refunded.is_none()
+    }
+
+    /// Whether it was charged for a transfer of the domain that isn't completed.
+    fn waits(&self, roid: &Roid) -> bool
+        ensures { result ≡ spec.waits roid.now self.now }
+    {
+        self.is_for_transfer(roid) && self.started.is_none()
+    }
+
+    /// Whether its grace began before the moment, or then and with no more years.
+    fn begins_by(&self, moment: Moment, years: u32) -> bool
+        ensures { result ≡ spec.begins_by self.now.started self.now.years moment years }
+    {
+        let Some(started) = self.started else {
+            return false;
+        };
+        started < moment || (started == moment && self.years <= years)
+    }
+
+    /// What it adds to the balance.
+    pub fn amount(&self) -> i128
+        ensures value { result ≡ spec.amount self.now }
+        ensures small { self.now.cents < 18_446_744_073_709_551_616 }
+    {
+        let cents = i128::from(self.cents);
+        if self.kind.is(LineKind::Deposit) {
+            return cents;
+        }
+        if self.refunded.is_some() { 0 } else { -cents }
+    }
+}
+
+/// A change of single lines.
+pub trait LineChange {
+    ghost use Rattle.accounts.specs.declared.line.Line.{Line};
+
+    ghost changed: { Self → Line → Line };
+
+    fn changed(&self, line: Line) -> Line
+        ensures { result ≡ changed self.now line };
+}
+
+/// A transfer that was refused or withdrawn at a moment: its charge is given back.
+#[derive(Clone, Copy, Drop)]
+pub struct TransferRefund {
+    pub roid: Roid,
+    pub moment: Moment,
+}
+
+/// A transfer that was completed at a moment with so many years: its grace begins.
+#[derive(Clone, Copy, Drop)]
+pub struct TransferStart {
+    pub roid: Roid,
+    pub moment: Moment,
+    pub years: u32,
+}
+
+impl LineChange for TransferRefund {
+    ghost use Rattle.accounts.specs.Lines.{transfer_refunded};
+
+    ghost changed = { transfer_refunded };
+
+    fn changed(&self, line: Line) -> Line {
+        let mut line = line;
+        if line.waits(&self.roid) {
+            line.refunded = Some(self.moment);
+        }
+        line
+    }
+}
+
+impl LineChange for TransferStart {
+    ghost use Rattle.accounts.specs.Lines.{transfer_started};
+
+    ghost changed = { transfer_started };
+
+    fn changed(&self, line: Line) -> Line {
+        let mut line = line;
+        if line.is_for_transfer(&self.roid) && !line.begins_by(self.moment, self.years) {
+            line.started = Some(self.moment);
+            line.years = self.years;
+        }
+        line
+    }
 }

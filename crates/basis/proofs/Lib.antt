@@ -1,3 +1,7 @@
 pub mod MapLemmas
 pub mod BagLaws
 pub mod SetLemmas
+pub mod SweepLaws
+pub mod ApartLaws
+pub mod EntryLaws
+pub mod ChangeLaws

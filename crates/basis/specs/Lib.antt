@@ -1,3 +1,4 @@
 pub mod Maps
 pub mod Bag
 pub mod Sets
+pub mod Sweeps

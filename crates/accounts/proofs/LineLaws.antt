@@ -1,0 +1,201 @@
+-- Lines stand in an order, and balances are sums.
+use Rattle.std.proofs.Common.{◌≡◌, ℕ, ◌+◌, ◌*◌, ◌<◌, ◌≤◌, Bool, true, false, cond, nat_eq, List, [], ◌∷◌, ◌++◌, length, take, get_or, Option, Some, None, is_some, refl, sym, ap, ◌∙◌, arith, ℤ, pos, negsuc, ◌+ℤ◌, ◌-ℤ◌, ◌≤ℤ◌}
+use Rattle.std.specs.Int.{saturate_signed, w128}
+use Rattle.std.proofs.lemmas.Int.{ints}
+use Rattle.std.proofs.lemmas.List.{take_more}
+use Rattle.std.proofs.lemmas.Cmp.{nat_list_cmp_total}
+use Rattle.std.specs.Cmp.{IsTotalOrder}
+use Rattle.std.specs.Cmp.Lexicographic.{slice_cmp}
+use Rattle.std.specs.Ordering.{nat_cmp, is_le, ordering_reverse}
+use Rattle.std.specs.declared.cmp.Ordering.{Ordering}
+use Rattle.std.specs.declared.cmp.Ordering.TheVariants.{Less, Equal, Greater}
+use Rattle.std.specs.FinMap.{IsAntisymmetric, nat_cmp-IsAntisymmetric, slice_cmp-IsAntisymmetric}
+use Rattle.basis.specs.Bag.{IsLinear, add, bag_of}
+use Rattle.objects.specs.declared.roid.ObjectKind.{ObjectKind}
+use Rattle.objects.specs.declared.roid.ObjectKind.TheVariants as objects
+use Rattle.objects.specs.declared.roid.Roid.{Roid}
+use Rattle.accounts.specs.declared.line.Line.{Line}
+use Rattle.accounts.specs.declared.line.LineKind.{LineKind}
+use Rattle.accounts.specs.declared.line.LineKind.TheVariants as kinds
+use Rattle.accounts.specs.Lines.{amount, amount_of, balance, in_order, is_kind, kind_rank, maybe_number, numbers, object_rank, roid_numbers}
+
+-- ---- the order by an injective reading
+
+le_trans : {K : Type 0} (R : K → K → Ordering) → IsTotalOrder R → (x y z : K) (a b : Ordering) → R x y ≡ a → R y z ≡ b → is_le a ≡ true → is_le b ≡ true → is_le (R x z) ≡ true
+le_trans R h x y z Less Less e f p q = ap is_le (h.trans x y z e f)
+le_trans R h x y z Less Equal e f p q = ap is_le (h.antisymm x z ∙ ap ordering_reverse (sym (h.congr y z x f)) ∙ sym (h.antisymm x y) ∙ e)
+le_trans R h x y z Less Greater e f p q = cc
+le_trans R h x y z Equal b e f p q = ap is_le (h.congr x y z e ∙ f) ∙ q
+le_trans R h x y z Greater b e f p q = cc
+
+le_total : (a b : Ordering) → a ≡ ordering_reverse b → is_le b ≡ false → is_le a ≡ true
+le_total a Less e p = cc
+le_total a Equal e p = cc
+le_total a Greater e p = ap is_le e
+
+le_both : (a b : Ordering) → a ≡ ordering_reverse b → is_le a ≡ true → is_le b ≡ true → a ≡ Equal
+le_both a Less e p q = let never : true ≡ false = sym p ∙ ap is_le e in cc
+le_both a Equal e p q = e
+le_both a Greater e p q = cc
+
+linear_by : {A K : Type 0} (R : K → K → Ordering) (code : A → K) → IsTotalOrder R → IsAntisymmetric R → ((x y : A) → code x ≡ code y → x ≡ y) → IsLinear (λ x y. is_le (R (code x) (code y)))
+linear_by R code h anti only = record {
+  total = λ x y e. le_total (R (code y) (code x)) (R (code x) (code y)) (h.antisymm (code y) (code x)) e;
+  antisym = λ x y e f. only x y (anti (code x) (code y) (le_both (R (code x) (code y)) (R (code y) (code x)) (h.antisymm (code x) (code y)) e f));
+  trans = λ x y z e f. le_trans R h (code x) (code y) (code z) (R (code x) (code y)) (R (code y) (code z)) refl refl e f;
+}
+
+-- ---- the numbers tell a line
+
+maybe_only : (x y : Option ℕ) → maybe_number x ≡ maybe_number y → x ≡ y
+maybe_only None None e = refl
+maybe_only None (Some n) e = absurd (omega (arith, e))
+maybe_only (Some m) None e = absurd (omega (arith, e))
+maybe_only (Some m) (Some n) e = let same : m ≡ n = omega (arith, e) in ap Some same
+
+kind_of : ℕ → LineKind
+kind_of n = cond (nat_eq n 0) kinds.Deposit (cond (nat_eq n 1) kinds.Create (cond (nat_eq n 2) kinds.Renew (cond (nat_eq n 3) kinds.AutoRenew (cond (nat_eq n 4) kinds.Transfer kinds.Restore))))
+
+kind_back : (k : LineKind) → kind_of (kind_rank k) ≡ k
+unfolding kind_of
+kind_back kinds.Deposit = refl
+kind_back kinds.Create = refl
+kind_back kinds.Renew = refl
+kind_back kinds.AutoRenew = refl
+kind_back kinds.Transfer = refl
+kind_back kinds.Restore = refl
+
+object_of : ℕ → ObjectKind
+object_of n = cond (nat_eq n 0) objects.Contact (cond (nat_eq n 1) objects.Domain objects.Host)
+
+object_back : (k : ObjectKind) → object_of (object_rank k) ≡ k
+unfolding object_of
+object_back objects.Contact = refl
+object_back objects.Domain = refl
+object_back objects.Host = refl
+
+one_roid : (a b : Roid) → object_rank a.kind ≡ object_rank b.kind → a.creator ≡ b.creator → a.serial ≡ b.serial → a ≡ b
+one_roid a b e f g =
+    let kind : a.kind ≡ b.kind = sym (object_back a.kind) ∙ ap object_of e ∙ object_back b.kind in
+    λ i. record { kind = kind i; creator = f i; serial = g i }
+
+-- the roids, and what follows them in the numbers
+roid_only : (x y : Option Roid) (rest more : List ℕ) → (roid_numbers x ++ rest) ≡ (roid_numbers y ++ more) → (x ≡ y) × (rest ≡ more)
+roid_only None None rest more e = (refl, cc)
+roid_only None (Some b) rest more e = let heads : 0 ≡ 1 + object_rank b.kind = cc in absurd (omega (arith, heads))
+roid_only (Some a) None rest more e = let heads : 1 + object_rank a.kind ≡ 0 = cc in absurd (omega (arith, heads))
+roid_only (Some a) (Some b) rest more e =
+    let heads : 1 + object_rank a.kind ≡ 1 + object_rank b.kind = cc in
+    let kinds : object_rank a.kind ≡ object_rank b.kind = omega (arith, heads) in
+    let creators : a.creator ≡ b.creator = cc in
+    let serials : a.serial ≡ b.serial = cc in
+    (ap Some (one_roid a b kinds creators serials), cc)
+
+numbers_only : (a b : Line) → numbers a ≡ numbers b → a ≡ b
+unfolding numbers
+numbers_only a b e =
+    let kind_ranks : kind_rank a.kind ≡ kind_rank b.kind = cc in
+    let kind : a.kind ≡ b.kind = sym (kind_back a.kind) ∙ ap kind_of kind_ranks ∙ kind_back b.kind in
+    let tails : (roid_numbers a.roid ++ a.recorded ∷ a.years ∷ a.cents ∷ maybe_number a.started ∷ maybe_number a.refunded ∷ []) ≡ (roid_numbers b.roid ++ b.recorded ∷ b.years ∷ b.cents ∷ maybe_number b.started ∷ maybe_number b.refunded ∷ []) = cc in
+    let rest = roid_only a.roid b.roid _ _ tails in
+    let last : (a.recorded ∷ a.years ∷ a.cents ∷ maybe_number a.started ∷ maybe_number a.refunded ∷ []) ≡ (b.recorded ∷ b.years ∷ b.cents ∷ maybe_number b.started ∷ maybe_number b.refunded ∷ []) = rest.1 in
+    let starts : maybe_number a.started ≡ maybe_number b.started = cc in
+    let started : a.started ≡ b.started = maybe_only a.started b.started starts in
+    let ends : maybe_number a.refunded ≡ maybe_number b.refunded = cc in
+    let refunded : a.refunded ≡ b.refunded = maybe_only a.refunded b.refunded ends in
+    let recorded : a.recorded ≡ b.recorded = cc in
+    let years : a.years ≡ b.years = cc in
+    let cents : a.cents ≡ b.cents = cc in
+    λ i. record { kind = kind i; roid = rest.0 i; recorded = recorded i; years = years i; cents = cents i; started = started i; refunded = refunded i }
+
+pub lines_in_order : IsLinear in_order
+unfolding in_order
+lines_in_order = linear_by (slice_cmp nat_cmp) numbers nat_list_cmp_total (slice_cmp-IsAntisymmetric nat_cmp-IsAntisymmetric) numbers_only
+
+-- ---- sums
+
+add-step : (b : Bool) (x y : Line) (ys zs : List Line) → balance zs ≡ amount x +ℤ balance ys → balance (cond b (x ∷ y ∷ ys) (y ∷ zs)) ≡ amount x +ℤ balance (y ∷ ys)
+unfolding balance
+add-step true x y ys zs e = refl
+add-step false x y ys zs e = omega (arith, ints, e)
+
+-- a charge adds its amount
+pub balance-add : (x : Line) (ls : List Line) → balance (add in_order x ls) ≡ amount x +ℤ balance ls
+unfolding add balance
+balance-add x [] = refl
+balance-add x (y ∷ ys) = add-step (in_order x y) x y ys (add in_order x ys) (balance-add x ys)
+
+pub balance-bag_of : (ls : List Line) → balance (bag_of in_order ls) ≡ balance ls
+unfolding bag_of balance
+balance-bag_of [] = refl
+balance-bag_of (l ∷ ls) = balance-add l (bag_of in_order ls) ∙ ap (λ z. amount l +ℤ z) (balance-bag_of ls)
+
+-- ---- the loop of the sum
+
+balance-append : (xs ys : List Line) → balance (xs ++ ys) ≡ balance xs +ℤ balance ys
+unfolding balance
+balance-append [] ys = omega (arith, ints)
+balance-append (x ∷ xs) ys = omega (arith, ints, balance-append xs ys)
+
+balance-one : (x : Line) → balance (x ∷ []) ≡ amount x
+unfolding balance
+balance-one x = omega (arith, ints)
+
+pub balance-more : (xs : List Line) (i : ℕ) (x : Line) → i < length xs → x ≡ get_or xs i x → balance (take (i + 1) xs) ≡ balance (take i xs) +ℤ amount x
+balance-more xs i x h e =
+    ap balance (take_more xs i x h) ∙ balance-append (take i xs) (get_or xs i x ∷ []) ∙ ap (λ (y : Line). balance (take i xs) +ℤ balance (y ∷ [])) (sym e)
+    ∙ ap (λ z. balance (take i xs) +ℤ z) (balance-one x)
+
+-- the sum of few enough lines
+pub record IsSum (lines : List Line) (i : ℕ) (all : ℤ) : Type 0 where
+  pub sum : all ≡ balance (take i lines)
+  pub low : (pos 0 -ℤ pos (i * 18_446_744_073_709_551_615)) ≤ℤ all
+  pub high : all ≤ℤ pos (i * 18_446_744_073_709_551_615)
+
+
+pub sum-begins : (lines : List Line) → IsSum lines 0 (pos 0)
+unfolding balance
+sum-begins lines = record { sum = refl; low = omega (arith, ints); high = omega (arith, ints) }
+
+bound : (d r : Bool) (c : ℕ) → c < 18_446_744_073_709_551_616 → ((pos 0 -ℤ pos 18_446_744_073_709_551_615) ≤ℤ amount_of d r c) × (amount_of d r c ≤ℤ pos 18_446_744_073_709_551_615)
+bound true r c h = (omega (arith, ints), omega (arith, ints))
+bound false true c h = (omega (arith, ints), omega (arith, ints))
+bound false false c h = (omega (arith, ints), omega (arith, ints))
+
+amount-bound : (l : Line) → l.cents < 18_446_744_073_709_551_616 → ((pos 0 -ℤ pos 18_446_744_073_709_551_615) ≤ℤ amount l) × (amount l ≤ℤ pos 18_446_744_073_709_551_615)
+amount-bound l h = bound (is_kind l.kind kinds.Deposit) (is_some l.refunded) l.cents h
+
+pub sum-more : (lines : List Line) (i : ℕ) (l : Line) (all : ℤ) → i < length lines → l ≡ get_or lines i l → l.cents < 18_446_744_073_709_551_616 → IsSum lines i all → IsSum lines (i + 1) (all +ℤ amount l)
+sum-more lines i l all lt e small h =
+    let bound = amount-bound l small in
+    record {
+      sum = ap (λ z. z +ℤ amount l) h.sum ∙ sym (balance-more lines i l lt e);
+      low = omega (arith, ints, h.low, bound.0);
+      high = omega (arith, ints, h.high, bound.1);
+    }
+
+pub saturated : (lines : List Line) (i : ℕ) (z : ℤ) → i ≤ 4_611_686_018_427_387_904 → IsSum lines i z → saturate_signed w128 z ≡ z
+saturated lines i (pos n) few h = ap pos (omega (arith, ints, h.high))
+saturated lines i (negsuc n) few h = ap negsuc (omega (arith, ints, h.low))
+
+-- the step, in the words of the code
+pub sum-step : (lines : List Line) (i : ℕ) (l : Line) (all a r : ℤ) → i < length lines → l ≡ get_or lines i l → l.cents < 18_446_744_073_709_551_616 → length lines < 4_611_686_018_427_387_904
+    → a ≡ amount l → r ≡ saturate_signed w128 (all +ℤ a) → IsSum lines i all → IsSum lines (i + 1) r
+sum-step lines i l all a r lt e small few same sat h =
+    let next : IsSum lines (i + 1) (all +ℤ amount l) = sum-more lines i l all lt e small h in
+    let value : r ≡ all +ℤ amount l = sat ∙ ap (λ z. saturate_signed w128 (all +ℤ z)) same ∙ saturated lines (i + 1) (all +ℤ amount l) (omega arith) next in
+    rw value next
+
+length-step : (b : Bool) (x y : Line) (ys zs : List Line) → length zs ≡ length ys + 1 → length (cond b (x ∷ y ∷ ys) (y ∷ zs)) ≡ length (y ∷ ys) + 1
+length-step true x y ys zs e = omega arith
+length-step false x y ys zs e = omega (arith, e)
+
+pub length-add : (x : Line) (ls : List Line) → length (add in_order x ls) ≡ length ls + 1
+unfolding add
+length-add x [] = refl
+length-add x (y ∷ ys) = length-step (in_order x y) x y ys (add in_order x ys) (length-add x ys)
+
+pub length-bag_of : (ls : List Line) → length (bag_of in_order ls) ≡ length ls
+unfolding bag_of
+length-bag_of [] = refl
+length-bag_of (l ∷ ls) = omega (arith, length-add l (bag_of in_order ls), length-bag_of ls)

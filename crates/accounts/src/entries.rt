@@ -1,0 +1,70 @@
+//! What time alone enters into accounts. Entries commute, so that the order in which objects are
+//! looked at makes no difference.
+ghost use Rattle.std.specs.Prelude.{◌≡◌, OnOk, OnErr};
+ghost use Rattle.accounts.specs.Entries as spec;
+
+use crate::account::Account;
+use crate::line::{Line, LineKind, TransferStart};
+use crate::message::Message;
+use basis::registrar::RegistrarNo;
+use calendar::Moment;
+use objects::Roid;
+use std::alloc::AllocError;
+
+/// The charge of an automatic year, whose grace begins at once.
+#[derive(Clone, Copy, Drop)]
+pub struct AutoRenewal {
+    pub roid: Roid,
+    pub moment: Moment,
+    /// Whole cents.
+    pub cents: u64,
+}
+
+/// An entry that time makes in an account.
+#[derive(Drop)]
+pub enum LapseEntry {
+    Renewal(AutoRenewal),
+    /// The grace of a completed transfer begins.
+    Start(TransferStart),
+    Notice(Message),
+}
+
+/// An entry, and whose account it is made in.
+#[derive(Drop)]
+pub struct Posting {
+    pub registrar: RegistrarNo,
+    pub what: LapseEntry,
+}
+
+impl AutoRenewal {
+    fn line(self) -> Line
+        ensures { result ≡ spec.renewal_line self }
+    {
+        Line {
+            kind: LineKind::AutoRenew,
+            roid: Some(self.roid),
+            recorded: self.moment,
+            years: 1,
+            cents: self.cents,
+            started: Some(self.moment),
+            refunded: None,
+        }
+    }
+}
+
+impl Account {
+    /// Makes an entry that time brings.
+    pub fn enter(&mut self, what: LapseEntry) -> Result<(), AllocError>
+        ensures ok { OnOk result (self.new ≡ spec.entered what self.old) }
+        ensures err { OnErr result (self.new ≡ self.old) }
+    {
+        match what {
+            LapseEntry::Renewal(renewal) => self.lines.add(renewal.line()),
+            LapseEntry::Start(start) => {
+                self.lines.remake(&start);
+                Ok(())
+            }
+            LapseEntry::Notice(message) => self.queue.push(message),
+        }
+    }
+}
