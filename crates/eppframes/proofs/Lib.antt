@@ -1,3 +1,2 @@
-pub mod MoveLemmas
 pub mod FrontLemmas
 pub mod SplitLemmas

@@ -3,9 +3,9 @@ ghost use Rattle.std.specs.Prelude.{◌≡◌, ℕ, ◌+◌, ◌^◌, ◌<◌, �
 ghost use Rattle.std.specs.Io.KnownBytes.{Appends};
 ghost use Rattle.eppframes.specs.Frames.{frame, Receives};
 
-use crate::moves::{WriteFault, read_to_fill, write_whole};
 use std::alloc::{AllocError, Global};
 use std::io::{Read, Write};
+use streams::{WriteFault, read_to_fill, write_whole};
 
 /// The bytes of the length.
 const HEADER: usize = 4;

@@ -9,7 +9,6 @@
 mod clock;
 mod frame;
 mod laws;
-mod moves;
 #[cfg(test)]
 mod tests;
 mod texts;
@@ -17,5 +16,4 @@ mod texts;
 pub use clock::{Clock, ListClock};
 pub use frame::{ROOM, Received, frame_buffer, read_frame, write_frame};
 pub use laws::inputs_are_frames;
-pub use moves::{ReadFault, WriteFault};
 pub use texts::{CLOSING, FAILED, write_closing, write_failed};

@@ -2,8 +2,8 @@
 //! that a fault is answered only where a read or a write failed.
 
 use crate::{
-    Clock, ListClock, ROOM, Received, WriteFault, frame_buffer, read_frame, write_closing,
-    write_failed, write_frame,
+    Clock, ListClock, ROOM, Received, frame_buffer, read_frame, write_closing, write_failed,
+    write_frame,
 };
 use calendar::Moment;
 use std::alloc::Global;
@@ -11,6 +11,7 @@ use std::collections::VecDeque;
 use std::io;
 use std::io::{ErrorKind, Read, Write};
 use std::test::Fail;
+use streams::WriteFault;
 
 /// A reader that gives up to `step` bytes a read and none beyond the next cut, and whose read after
 /// `reads` others fails.

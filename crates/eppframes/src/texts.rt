@@ -5,8 +5,8 @@ ghost use Rattle.eppframes.specs.Frames.{frame};
 ghost use Rattle.eppframes.specs.Texts.{closing_text, failed_text};
 
 use crate::frame::write_frame;
-use crate::moves::WriteFault;
 use std::io::Write;
+use streams::WriteFault;
 
 /// The reply where a command could not be carried out (RFC 5730, 3: 2400).
 pub const FAILED: &[u8] = b"{\"code\":2400,\"msg\":\"Command failed\",\"svTRID\":\"ANON\"}";

@@ -1,7 +1,7 @@
 use Rattle.std.proofs.Common.{ℕ, ◌+◌, length, List}
 use Rattle.std.proofs.lemmas.Result.{on_err_weaker}
 use Rattle.std.specs.Int.{w32, to_be_bytes}
-use Rattle.eppframes.proofs.MoveLemmas.{began, went_on, OnErr-from}
+use Rattle.streams.proofs.MoveLemmas.{began, went_on, OnErr-from}
 use Rattle.eppframes.proofs.frame.write_frame.Goals as goal
 
 pub returns-in_err-write_whole-clause-err : goal.returns-in_err-write_whole-clause-err

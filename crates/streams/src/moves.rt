@@ -14,7 +14,7 @@ pub struct WriteFault;
 
 /// Reads until the buffer is full or the input ends, and answers how many bytes that were. After a
 /// fault nothing is known of the bytes that were taken.
-pub(crate) fn read_to_fill<R: Read>(reader: &mut R, buffer: &mut [u8]) -> Result<usize, ReadFault>
+pub fn read_to_fill<R: Read>(reader: &mut R, buffer: &mut [u8]) -> Result<usize, ReadFault>
     ensures bound { IfOk result (λ n. n ≤ length buffer.new) }
     ensures bytes { IfOk result (λ n. Consumes (R.remaining reader.old) (R.remaining reader.new) (take n buffer.new)) }
     ensures end { IfOk result (λ n. n < length buffer.new → IsAtEnd (R.remaining reader.new)) }
@@ -35,7 +35,7 @@ pub(crate) fn read_to_fill<R: Read>(reader: &mut R, buffer: &mut [u8]) -> Result
 }
 
 /// Writes all bytes. A fault leaves a beginning of them.
-pub(crate) fn write_whole<W: Write>(writer: &mut W, bytes: &[u8]) -> Result<(), WriteFault>
+pub fn write_whole<W: Write>(writer: &mut W, bytes: &[u8]) -> Result<(), WriteFault>
     ensures ok { OnOk result (Appends (W.contents writer.old) (W.contents writer.new) bytes.now) }
     ensures err { OnErr result ((n : ℕ) × Appends (W.contents writer.old) (W.contents writer.new) (take n bytes.now)) }
 {
