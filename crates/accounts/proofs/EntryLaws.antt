@@ -1,7 +1,8 @@
 -- What time enters into accounts commutes.
-use Rattle.std.proofs.Common.{◌≡◌, ℕ, Bool, true, false, not, cond, ◌&&◌, List, [], ◌∷◌, map, Option, Some, None, refl, sym, ap, ◌∙◌, arith}
+use Rattle.std.proofs.Common.{◌≡◌, ℕ, Bool, true, false, not, cond, ◌&&◌, List, [], ◌∷◌, map, Option, Some, None, refl, sym, ap, ◌∙◌, arith, Result, Ok, Err}
 use Rattle.std.proofs.lemmas.Bool.Decides.{nat_tests}
 use Rattle.std.proofs.lemmas.Cmp.{alike_right, nat_cmp_total}
+use Rattle.std.specs.Result.{OnOk}
 use Rattle.std.specs.BTreeSet.{insert_key}
 use Rattle.std.specs.Cmp.{IsTotalOrder}
 use Rattle.std.specs.FinMap.{FinMap, IsAntisymmetric, nat_cmp-IsAntisymmetric}
@@ -19,7 +20,7 @@ use Rattle.accounts.specs.declared.line.Line.{Line}
 use Rattle.accounts.specs.declared.line.TransferStart.{TransferStart}
 use Rattle.accounts.specs.declared.message.Message.{Message}
 use Rattle.accounts.specs.Account.{empty_account}
-use Rattle.accounts.specs.Entries.{entered, posted, renewal_line}
+use Rattle.accounts.specs.Entries.{Commutes, entered, posted, renewal_line}
 use Rattle.accounts.specs.Lines.{begins_by, in_order, is_for_transfer, transfer_started}
 use Rattle.accounts.specs.MessageOrder.{message_cmp_total}
 use Rattle.accounts.specs.Messages.{message_cmp}
@@ -142,13 +143,13 @@ on-after x y l false e = on x (begun y l) e
 starts-both : (x y : TransferStart) (l : Line) → is_for_transfer x.roid l ≡ true → is_for_transfer y.roid l ≡ true → transfer_started x (transfer_started y l) ≡ transfer_started y (transfer_started x l)
 starts-both x y l e f =
     let same : begins_by (Some x.moment) x.years y.moment y.years ≡ true → begins_by (Some y.moment) y.years x.moment x.years ≡ true → begun x l ≡ begun y l =
-      λ p q. let both = begins-both x.moment x.years y.moment y.years p q in λ i. record l { started = Some (both.0 i); years = both.1 i } in
+    λ p q. let both = begins-both x.moment x.years y.moment y.years p q in λ i. record l { started = Some (both.0 i); years = both.1 i } in
     ap (transfer_started x) (on y l f) ∙ on-after x y l (begins y l) e
     ∙ earliest l (begun x l) (begun y l) (begins x l) (begins y l) (begins_by (Some x.moment) x.years y.moment y.years) (begins_by (Some y.moment) y.years x.moment x.years)
-        (begins-trans l.started l.years x.moment x.years y.moment y.years)
-        (begins-trans l.started l.years y.moment y.years x.moment x.years)
-        (begins-total x.moment x.years y.moment y.years)
-        same
+    (begins-trans l.started l.years x.moment x.years y.moment y.years)
+    (begins-trans l.started l.years y.moment y.years x.moment x.years)
+    (begins-total x.moment x.years y.moment y.years)
+    same
     ∙ sym (ap (transfer_started y) (on x l e) ∙ on-after y x l (begins x l) f)
 
 starts-case : (x y : TransferStart) (l : Line) (a b : Bool) → is_for_transfer x.roid l ≡ a → is_for_transfer y.roid l ≡ b → transfer_started x (transfer_started y l) ≡ transfer_started y (transfer_started x l)
@@ -171,7 +172,6 @@ remade-swap f g e ls =
 
 -- ---- entries
 
-
 pub entries-swap : (g h : LapseEntry) (a : Account) → entered g (entered h a) ≡ entered h (entered g a)
 entries-swap (Renewal r) (Renewal s) a = ap (λ (ls : List Line). let b : Account = record a { lines = ls } in b) (add-add in_order lines_in_order (renewal_line r) (renewal_line s) a.lines)
 entries-swap (Renewal r) (Start s) a = ap (λ (ls : List Line). let b : Account = record a { lines = ls } in b) (sym (remade-add in_order lines_in_order (transfer_started s) (renewal_line r) a.lines))
@@ -186,3 +186,7 @@ entries-swap (Notice m) (Notice n) a = ap (λ (ms : List Message). let b : Accou
 -- what time posts into accounts makes the same of them in whatever order
 pub postings_commute : (accounts : FinMap nat_cmp Account) (g h : Posting) → posted (posted accounts g) h ≡ posted (posted accounts h) g
 postings_commute accounts g h = change_at-commutes nat_cmp nat_cmp_total nat_cmp-IsAntisymmetric empty_account accounts h.registrar g.registrar (entered h.what) (entered g.what) (λ same a. entries-swap h.what g.what a)
+
+pub entry-result : {X E : Type 0} (what : LapseEntry) (before after : Account) (r : Result X E) → OnOk r (after ≡ entered what before) → OnOk r (Commutes what before after)
+entry-result what before after (Ok x) e = λ other. ap (entered other) e ∙ entries-swap other what before
+entry-result what before after (Err x) e = e

@@ -152,7 +152,6 @@ pub record IsSum (lines : List Line) (i : ℕ) (all : ℤ) : Type 0 where
   pub low : (pos 0 -ℤ pos (i * 18_446_744_073_709_551_615)) ≤ℤ all
   pub high : all ≤ℤ pos (i * 18_446_744_073_709_551_615)
 
-
 pub sum-begins : (lines : List Line) → IsSum lines 0 (pos 0)
 unfolding balance
 sum-begins lines = record { sum = refl; low = omega (arith, ints); high = omega (arith, ints) }

@@ -66,10 +66,10 @@ message_cmp_only x y e =
     let third = then_equal _ _ fourth.0 in
     let second = then_equal _ _ third.0 in
     one_message x y
-      (nat_cmp-IsAntisymmetric x.moment y.moment second.0)
-      (one_origin x.origin y.origin
-        (nat_cmp-IsAntisymmetric (class_of x.origin) (class_of y.origin) second.1)
-        (nat_cmp-IsAntisymmetric (number_of x.origin) (number_of y.origin) third.1)
-        (nat_cmp-IsAntisymmetric (tie_of x.origin) (tie_of y.origin) sixth.1))
-      (slice_cmp-IsAntisymmetric nat_cmp-IsAntisymmetric x.name y.name fourth.1)
-      (sym (subject_back x.subject) ∙ ap subject_of_rank (nat_cmp-IsAntisymmetric (subject_rank x.subject) (subject_rank y.subject) fifth.1) ∙ subject_back y.subject)
+    (nat_cmp-IsAntisymmetric x.moment y.moment second.0)
+    (one_origin x.origin y.origin
+    (nat_cmp-IsAntisymmetric (class_of x.origin) (class_of y.origin) second.1)
+    (nat_cmp-IsAntisymmetric (number_of x.origin) (number_of y.origin) third.1)
+    (nat_cmp-IsAntisymmetric (tie_of x.origin) (tie_of y.origin) sixth.1))
+    (slice_cmp-IsAntisymmetric nat_cmp-IsAntisymmetric x.name y.name fourth.1)
+    (sym (subject_back x.subject) ∙ ap subject_of_rank (nat_cmp-IsAntisymmetric (subject_rank x.subject) (subject_rank y.subject) fifth.1) ∙ subject_back y.subject)

@@ -1,5 +1,5 @@
 -- What time alone enters into an account.
-use Rattle.std.specs.Prelude.{List, Some, None}
+use Rattle.std.specs.Prelude.{◌≡◌, List, Some, None}
 use Rattle.std.specs.FinMap.{FinMap}
 use Rattle.std.specs.Ordering.{nat_cmp}
 use Rattle.basis.specs.Bag.{add, remade}
@@ -31,6 +31,10 @@ abbrev pub entered : LapseEntry → Account → Account
 entered (Renewal r) a = with_lines (add in_order (renewal_line r)) a
 entered (Start s) a = with_lines (remade in_order (transfer_started s)) a
 entered (Notice m) a = with_queue (put m) a
+
+-- another entry after this one makes the same of the account as before it
+abbrev pub Commutes : LapseEntry → Account → Account → Type 0
+Commutes what before after = (other : LapseEntry) → entered other after ≡ entered what (entered other before)
 
 -- the accounts with an entry in one registrar's
 abbrev pub posted : FinMap nat_cmp Account → Posting → FinMap nat_cmp Account

@@ -65,9 +65,9 @@ tie_of (Command number notice) = command_rank notice
 abbrev pub message_cmp : Message → Message → Ordering
 message_cmp =
     then_cmp (then_cmp (then_cmp (then_cmp (then_cmp
-      (on (λ (m : Message). m.moment) nat_cmp)
-      (on (λ (m : Message). class_of m.origin) nat_cmp))
-      (on (λ (m : Message). number_of m.origin) nat_cmp))
-      (on (λ (m : Message). m.name) (slice_cmp nat_cmp)))
-      (on (λ (m : Message). subject_rank m.subject) nat_cmp))
-      (on (λ (m : Message). tie_of m.origin) nat_cmp)
+    (on (λ (m : Message). m.moment) nat_cmp)
+    (on (λ (m : Message). class_of m.origin) nat_cmp))
+    (on (λ (m : Message). number_of m.origin) nat_cmp))
+    (on (λ (m : Message). m.name) (slice_cmp nat_cmp)))
+    (on (λ (m : Message). subject_rank m.subject) nat_cmp))
+    (on (λ (m : Message). tie_of m.origin) nat_cmp)

@@ -2,8 +2,8 @@
 ghost use Rattle.std.specs.Prelude.{◌≡◌};
 ghost use Rattle.accounts.specs.Account.{saturating_next, empty_account, with_command, with_serial};
 
-use crate::queue::Queue;
 use crate::lines::Lines;
+use crate::queue::Queue;
 use std::alloc::Global;
 
 /// What belongs to one registrar alone. Each counter stays at its greatest value.

@@ -53,8 +53,17 @@ impl AutoRenewal {
 }
 
 impl Account {
-    /// Makes an entry that time brings.
+    /// Makes an entry that time brings. It makes no difference whether another one came before it or
+    /// comes after.
     pub fn enter(&mut self, what: LapseEntry) -> Result<(), AllocError>
+        ensures ok { OnOk result (self.new ≡ spec.entered what self.old) }
+        ensures commutes { OnOk result (spec.Commutes what self.old self.new) }
+        ensures err { OnErr result (self.new ≡ self.old) }
+    {
+        self.enter_any(what)
+    }
+
+    fn enter_any(&mut self, what: LapseEntry) -> Result<(), AllocError>
         ensures ok { OnOk result (self.new ≡ spec.entered what self.old) }
         ensures err { OnErr result (self.new ≡ self.old) }
     {

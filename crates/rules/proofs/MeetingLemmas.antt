@@ -38,7 +38,8 @@ use Rattle.protocol.specs.Codes.{is_accepted}
 use Rattle.facts.specs.declared.facts.Facts.{Facts}
 use Rattle.facts.specs.Facts.{contact_seen, domain_facts, domain_seen, facts, host_seen, lookups}
 use Rattle.model.specs.Registry.{Registry, account_of}
-use Rattle.model.specs.Standing.{graces, graces_of, standing_of}
+use Rattle.lifecycle.specs.Graces.{graces}
+use Rattle.model.specs.Standing.{graces_of, standing_of}
 use Rattle.model.specs.View.{domain_sight, view}
 use Rattle.model.specs.WellFormed.{IsRegistry}
 

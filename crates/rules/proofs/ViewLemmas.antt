@@ -32,7 +32,9 @@ use Rattle.protocol.specs.declared.command.Command.{Command}
 use Rattle.facts.specs.Facts.{Lookups, facts, facts_by, lookups, held, subordinate, superordinate_of_domain}
 use Rattle.protocol.specs.Requests.{presented, presented_contact}
 use Rattle.model.specs.Registry.{Registry, account_of}
-use Rattle.model.specs.Standing.{graces, phase, graces_of, standing_of}
+use Rattle.lifecycle.specs.Graces.{graces}
+use Rattle.lifecycle.specs.Phases.{phase}
+use Rattle.model.specs.Standing.{graces_of, standing_of}
 use Rattle.model.specs.View.{View, Secrets, domain_sight, view, view_for, view_with, secrets_of}
 
 -- ---- the facts lie in the view
@@ -154,7 +156,7 @@ abbrev pub graces_put : PolicyRules → ℕ → Domain → View → Graces
 graces_put p r d v = cond (eq_by_cmp nat_cmp d.sponsor r) (graces p v.clock d.roid d.transferred v.account.lines) (graces_kept d.sponsor (get v.domains d.name))
 
 abbrev standing_put : PolicyRules → ℕ → Domain → View → Standing
-standing_put p r d v = record { graces = graces_put p r d v; phase = phase p v.clock d.deletion }
+standing_put p r d v = record { graces = graces_put p r d v; phase = phase p v.clock d }
 
 seen_change : PolicyRules → ℕ → Change → View → View
 seen_change p r (MoveClock t) v = v
@@ -195,7 +197,7 @@ module _ (p : PolicyRules) (r q : ℕ) (f : Account → Account) (keeps : (a : A
 
   sights-kept : map_values (λ (name : List ℕ). domain_sight p r (with_account q f s) None) s.domains ≡ map_values (λ (name : List ℕ). domain_sight p r s None) s.domains
   sights-kept = λ i. map_values (λ (name : List ℕ) (d : Domain).
-      domain_as r None (record { graces = graces p s.clock d.roid d.transferred (lines-kept d.sponsor i); phase = phase p s.clock d.deletion }) d) s.domains
+      domain_as r None (record { graces = graces p s.clock d.roid d.transferred (lines-kept d.sponsor i); phase = phase p s.clock d }) d) s.domains
 
   view-account : view p r (with_account q f s) ≡ record (view p r s) { account = own r q f (view p r s).account }
   view-account = λ i. record (view p r s) { account = account_of-with_account r q f s i; domains = sights-kept i }
@@ -236,7 +238,7 @@ view-changed p r (RenameHost old new) s meets = ap (λ m. record (view p r s) { 
 view-changed p r (PutDomain d) s meets =
     ap (λ (m : FinMap (slice_cmp nat_cmp) (Seen FullDomain DomainFace)). record (view p r s) { domains = m })
       (map_values-insert (slice_cmp nat_cmp) nat_list_cmp_total names_apart (λ name. domain_sight p r s None) s.domains d.name d
-      ∙ ap (λ (g : Graces). insert (view p r s).domains d.name (domain_as r None (record { graces = g; phase = phase p s.clock d.deletion }) d)) meets)
+      ∙ ap (λ (g : Graces). insert (view p r s).domains d.name (domain_as r None (record { graces = g; phase = phase p s.clock d }) d)) meets)
 view-changed p r (CountCommand other) s meets = view-account p r other with_command (λ a. refl) s
 view-changed p r (TakeSerial other) s meets = view-account p r other with_serial (λ a. refl) s
 

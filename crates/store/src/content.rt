@@ -23,11 +23,10 @@ use calendar::Moment;
 use facts::{
     AccountFacts, ContactFacts, DomainFacts, Facts, HOLDING_LIMIT, HostFacts, Superordinate,
 };
+use lifecycle::standing;
 use model::Object;
 use names::{GivenName, last_two_labels};
-use objects::{
-    Contact, Domain, DomainFace, FullDomain, Graces, Host, ObjectKind, Phase, Seen, Standing, is_below,
-};
+use objects::{Contact, Domain, DomainFace, FullDomain, Host, ObjectKind, Seen, Standing, is_below};
 use policy::{Policy, Terms};
 use protocol::{Command, Request};
 use std::alloc::{AllocError, Global};
@@ -181,19 +180,11 @@ impl Content {
     }
 
     /// The graces that run for a domain, and the phase of its deletion.
-    #[tactic(auto, unfolding(model::specs::Standing::graces, model::specs::Standing::phase))]
-    fn standing(&self, _policy: &Policy, _domain: &Domain) -> Standing
-        ensures { result ≡ standing_of _policy.now (registry_in self.now) _domain.now }
+    fn standing(&self, policy: &Policy, domain: &Domain) -> Standing
+        ensures { result ≡ standing_of policy.now (registry_in self.now) domain.now }
     {
-        Standing {
-            graces: Graces {
-                add: false,
-                auto_renew: false,
-                renew: false,
-                transfer: false,
-            },
-            phase: Phase::Live,
-        }
+        let sponsor = self.accounts.get(domain.sponsor);
+        standing(domain, sponsor, self.clock, policy)
     }
 
     /// The hosts below a domain, where the command asks.

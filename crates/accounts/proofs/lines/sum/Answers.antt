@@ -12,4 +12,4 @@ loop-line-preserved c = λ few.
     let a : to_z w128 (of_z w128 c.amount.result) ≡ c.amount.result = omega (arith, ints) in
     let r : to_z w128 (of_z w128 c.saturating_add-all.result) ≡ c.saturating_add-all.result = omega (arith, ints) in
     sum-step c.args.lines.now c.loop-line.line-index c.line-item.result _ _ _ c.loop-line-test.true c.line-item.is c.amount.ensures.small few
-      (a ∙ c.amount.ensures.value) (r ∙ c.saturating_add-all.ensures) (c.loop-line.invariant few)
+    (a ∙ c.amount.ensures.value) (r ∙ c.saturating_add-all.ensures) (c.loop-line.invariant few)

@@ -1,0 +1,125 @@
+-- The lapse law: to lapse to a moment and then to a later one is to lapse to the later one.
+use Rattle.std.proofs.Common.{◌≡◌, ℕ, zero, suc, ◌+◌, ◌≤◌, ◌&&◌, Bool, true, false, cond, nat_lt, nat_le, List, [], ◌++◌, append_assoc, append-nil, Option, Some, None, refl, sym, ap, ◌∙◌, arith}
+use Rattle.std.proofs.lemmas.Bool.Decides.{nat_tests}
+use Rattle.policy.specs.Rules.{PolicyRules}
+use Rattle.objects.specs.declared.domain.Domain.{Domain}
+use Rattle.objects.specs.declared.domain.Deletion.{Deletion}
+use Rattle.objects.specs.declared.transfer.Transfer.{Transfer}
+use Rattle.accounts.specs.declared.entries.Posting.{Posting}
+use Rattle.lifecycle.specs.declared.lapsed.Lapsed.{Lapsed}
+use Rattle.objects.specs.Transfers.{is_pending_state}
+use Rattle.lifecycle.specs.Turns.{turns}
+use Rattle.lifecycle.specs.Phases.{purge_at}
+use Rattle.lifecycle.specs.Lapse.{leaves, after, next, ◌>>=◌, turn, renewals, raised, renewed, moved, completed, due_by, lived, purged, lapse_by, lapse}
+use Rattle.lifecycle.proofs.TurnLaws.{turns-add}
+
+-- one after another, in whatever groups
+next-after : (es fs : List Posting) (o : Option Domain) (g : Domain → Lapsed Domain) → next o (es ++ fs) g ≡ after es (next o fs g)
+next-after es fs None g = refl
+next-after es fs (Some d) g = ap (λ (events : List Posting). let l : Lapsed Domain = record { object = (g d).object; postings = events } in l) (append_assoc es fs (g d).postings)
+
+assoc : (o : Option Domain) (es : List Posting) (f g : Domain → Lapsed Domain) → (next o es f >>= g) ≡ next o es (λ d. f d >>= g)
+assoc None es f g = refl
+assoc (Some d) es f g = next-after es (f d).postings (f d).object g
+
+-- n turns and then k more
+renewals-add : (p : PolicyRules) (d : Domain) (n k : ℕ) → renewals p d (n + k) ≡ renewals p d n ++ renewals p (raised n d) k
+unfolding renewals
+renewals-add p d n zero = let none : n + 0 ≡ n = omega arith in rw none (sym (append-nil (renewals p d n)))
+renewals-add p d n (suc k) =
+    let one : n + suc k ≡ suc (n + k) = omega arith in
+    let years : d.years + (n + k) ≡ d.years + n + k = omega arith in
+    rw one (rw (renewals-add p d n k) (rw years (append_assoc (renewals p d n) (renewals p (raised n d) k) (turn p (raised n d) k))))
+
+renewed-add : (p : PolicyRules) (a b : ℕ) (d : Domain) → a ≤ b → (renewed p a d >>= renewed p b) ≡ renewed p b d
+renewed-add p a b d le =
+    let years : d.years + turns d a + turns (raised (turns d a) d) b ≡ d.years + (turns d a + turns (raised (turns d a) d) b) = omega arith in
+    rw (turns-add d a b le) (rw (renewals-add p d (turns d a) (turns (raised (turns d a) d) b)) (rw years refl))
+
+-- a domain that isn't deleted
+is-living : (p : PolicyRules) (t : ℕ) (o : Option Transfer) (d : Domain) → d.deletion ≡ None → due_by t d.transfer ≡ o → lapse p t d ≡ lived p t o d
+is-living p t o d e f = ap (λ x. lapse_by p t x d) e ∙ ap (λ x. lived p t x d) f
+
+-- of which no transfer is due
+quiet : (p : PolicyRules) (a b : ℕ) (d : Domain) → a ≤ b → d.deletion ≡ None → due_by b d.transfer ≡ None → (renewed p a d >>= lapse p b) ≡ renewed p b d
+quiet p a b d le e f = ap (after (renewals p d (turns d a))) (is-living p b None (raised (turns d a) d) e f) ∙ renewed-add p a b d le
+
+-- of which one becomes due between the two moments
+between : (p : PolicyRules) (a b : ℕ) (x : Transfer) (d : Domain) → a ≤ x.ac_date → d.deletion ≡ None → due_by b d.transfer ≡ Some x → (renewed p a d >>= lapse p b) ≡ lived p b (Some x) d
+between p a b x d le e f =
+    ap (after (renewals p d (turns d a))) (is-living p b (Some x) (raised (turns d a) d) e f)
+    ∙ sym (assoc (Some (raised (turns d a) d)) (renewals p d (turns d a)) (renewed p x.ac_date) (λ d. completed x d >>= renewed p b))
+    ∙ ap (λ (l : Lapsed Domain). l >>= (λ d. completed x d >>= renewed p b)) (renewed-add p a x.ac_date d le)
+
+-- of which one was due before both
+early : (p : PolicyRules) (a b : ℕ) (x : Transfer) (d : Domain) → a ≤ b → d.deletion ≡ None → (lived p a (Some x) d >>= lapse p b) ≡ lived p b (Some x) d
+early p a b x d le e =
+    let d1 : Domain = raised (turns d x.ac_date) d in
+    assoc (Some d1) (renewals p d (turns d x.ac_date)) (λ d. completed x d >>= renewed p a) (lapse p b)
+    ∙ ap (after (renewals p d (turns d x.ac_date)))
+    (assoc (Some (moved x d1)) (completed x d1).postings (renewed p a) (lapse p b)
+    ∙ ap (after (completed x d1).postings) (quiet p a b (moved x d1) le e refl))
+
+due_later : (c : Bool) (y x : Transfer) (q r : Bool) → (q ≡ true → r ≡ true) → cond (c && q) (Some y) None ≡ Some x → cond (c && r) (Some y) None ≡ Some x
+due_later false y x q r h e = e
+due_later true y x false r h e = cc
+due_later true y x true r h e = rw (h refl) e
+
+due_soon : (c : Bool) (y x : Transfer) (q r : Bool) → cond (c && q) (Some y) None ≡ None → cond (c && r) (Some y) None ≡ Some x → (q ≡ false) × (y ≡ x)
+due_soon false y x q r e f = cc
+due_soon true y x true r e f = cc
+due_soon true y x false false e f = cc
+due_soon true y x false true e f = (refl, cc)
+
+pub stays_due : (a b : ℕ) (o : Option Transfer) (x : Transfer) → a ≤ b → due_by a o ≡ Some x → due_by b o ≡ Some x
+stays_due a b None x le e = e
+stays_due a b (Some y) x le e = due_later (is_pending_state y.state) y x (nat_le y.ac_date a) (nat_le y.ac_date b) (λ h. grind (arith, nat_tests, h)) e
+
+due_after : (a b : ℕ) (o : Option Transfer) (x : Transfer) → due_by a o ≡ None → due_by b o ≡ Some x → a ≤ x.ac_date
+due_after a b None x e f = cc
+due_after a b (Some y) x e f =
+    let h : (nat_le y.ac_date a ≡ false) × (y ≡ x) = due_soon (is_pending_state y.state) y x (nat_le y.ac_date a) (nat_le y.ac_date b) e f in
+    let late : a ≤ y.ac_date = grind (arith, nat_tests, h.0) in
+    rw h.1 at late
+
+lived-law : (p : PolicyRules) (a b : ℕ) (d : Domain) (o q : Option Transfer) → a ≤ b → d.deletion ≡ None → due_by a d.transfer ≡ o → due_by b d.transfer ≡ q → (lived p a o d >>= lapse p b) ≡ lived p b q d
+lived-law p a b d None None le e f g = quiet p a b d le e g
+lived-law p a b d None (Some x) le e f g = between p a b x d (due_after a b d.transfer x f g) e g
+lived-law p a b d (Some x) q le e f g =
+    let same : q ≡ Some x = sym g ∙ stays_due a b d.transfer x le f in
+    rw same (early p a b x d le e)
+
+-- a deleted domain
+kept-law : (p : PolicyRules) (b : ℕ) (x : Deletion) (d : Domain) (q r : Bool) → (q ≡ false → r ≡ false) → lapse p b d ≡ cond r (leaves d []) (purged p x d) → (cond q (leaves d []) (purged p x d) >>= lapse p b) ≡ cond r (leaves d []) (purged p x d)
+kept-law p b x d true r h e = e
+kept-law p b x d false r h e = rw (h refl) refl
+
+law-by : (p : PolicyRules) (a b : ℕ) (d : Domain) (o : Option Deletion) → a ≤ b → d.deletion ≡ o → (lapse_by p a o d >>= lapse p b) ≡ lapse_by p b o d
+law-by p a b d None le e = lived-law p a b d (due_by a d.transfer) (due_by b d.transfer) le e refl refl
+law-by p a b d (Some x) le e = kept-law p b x d (nat_lt a (purge_at p x)) (nat_lt b (purge_at p x)) (λ h. grind (arith, nat_tests, h)) (ap (λ o. lapse_by p b o d) e)
+
+pub lapse-law : (p : PolicyRules) (a b : ℕ) (d : Domain) → a ≤ b → (lapse p a d >>= lapse p b) ≡ lapse p b d
+lapse-law p a b d le = law-by p a b d d.deletion le refl
+
+-- the steps of the code
+steps-bound : (p : PolicyRules) (t : ℕ) (x : Transfer) (d d1 d2 : Domain) (e1 e2 : List Posting)
+    → d1 ≡ raised (turns d x.ac_date) d → e1 ≡ renewals p d (turns d x.ac_date) → d2 ≡ moved x d1 → e2 ≡ e1 ++ (completed x d1).postings
+    → after e2 (renewed p t d2) ≡ lived p t (Some x) d
+steps-bound p t x d d1 d2 e1 e2 h1 g1 h2 g2 =
+    ap (λ (e : List Posting). after e (renewed p t d2)) g2
+    ∙ ap (λ (y : Domain). after (e1 ++ (completed x d1).postings) (renewed p t y)) h2
+    ∙ ap (λ (y : Domain). after (e1 ++ (completed x y).postings) (renewed p t (moved x y))) h1
+    ∙ ap (λ (e : List Posting). after (e ++ (completed x (raised (turns d x.ac_date) d)).postings) (renewed p t (moved x (raised (turns d x.ac_date) d)))) g1
+    ∙ next-after (renewals p d (turns d x.ac_date)) (completed x (raised (turns d x.ac_date) d)).postings (Some (moved x (raised (turns d x.ac_date) d))) (renewed p t)
+
+pub lapse-steps : (p : PolicyRules) (t : ℕ) (x : Transfer) (c d d1 d2 d3 : Domain) (e1 e2 e3 : List Posting)
+    → c ≡ d → d.deletion ≡ None → due_by t c.transfer ≡ Some x
+    → d1 ≡ raised (turns c x.ac_date) c → e1 ≡ renewals p c (turns c x.ac_date) → d2 ≡ moved x d1 → e2 ≡ e1 ++ (completed x d1).postings
+    → d3 ≡ raised (turns d2 t) d2 → e3 ≡ e2 ++ renewals p d2 (turns d2 t)
+    → (let l : Lapsed Domain = record { object = Some d3; postings = e3 } in l) ≡ lapse p t d
+lapse-steps p t x c d d1 d2 d3 e1 e2 e3 same alive due h1 g1 h2 g2 h3 g3 =
+    ap (λ (y : Domain). let l : Lapsed Domain = record { object = Some y; postings = e3 } in l) h3
+    ∙ ap (λ (e : List Posting). let l : Lapsed Domain = record { object = Some (raised (turns d2 t) d2); postings = e } in l) g3
+    ∙ steps-bound p t x c d1 d2 e1 e2 h1 g1 h2 g2
+    ∙ sym (is-living p t (Some x) c (ap (λ (y : Domain). y.deletion) same ∙ alive) due)
+    ∙ ap (lapse p t) same

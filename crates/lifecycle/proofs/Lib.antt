@@ -1,0 +1,7 @@
+pub mod TurnLaws
+pub mod LapseLaws
+pub mod RenewLemmas
+pub mod PastLemmas
+pub mod DueLaws
+pub mod ContactLaws
+pub mod GraceLaws

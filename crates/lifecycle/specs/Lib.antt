@@ -1,0 +1,6 @@
+pub mod Periods
+pub mod Turns
+pub mod Phases
+pub mod Graces
+pub mod Lapse
+pub mod Changes

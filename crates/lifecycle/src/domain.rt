@@ -1,0 +1,194 @@
+//! The lapse of a domain: what time alone has made of it.
+ghost use Rattle.std.specs.Prelude.{◌≡◌, ◌≤◌, ◌<◌, ◌+◌, ◌++◌, Some, IfOk, OnOk};
+ghost use Rattle.lifecycle.specs.Lapse as spec;
+
+use crate::deletion::purged_by;
+use crate::lapsed::Lapsed;
+use crate::renewal::{renew, told, years_by};
+use accounts::{LapseEntry, LapseNotice, Posting, Subject, TransferStart};
+use basis::list::Seq;
+use calendar::Moment;
+use objects::{Deletion, Domain, Transfer, TransferState};
+use policy::Policy;
+use std::alloc::{AllocError, Global};
+
+/// The year that a transfer completed at the moment brings, unless the expiry would pass ten years.
+fn gained(domain: &Domain, moment: Moment) -> u32
+    requires { moment ≤ 4_102_444_799 }
+    ensures value { result ≡ spec.gained domain.now moment }
+    ensures small { domain.now.years + result < 4_294_967_296 }
+{
+    let _ = moment.secs();
+    let Ok(limit) = moment.plus_years(10) else {
+        return 0;
+    };
+    let Some(years) = domain.years.checked_add(1) else {
+        return 0;
+    };
+    match years_by(domain.created, years, limit) {
+        Some(_) => 1,
+        None => 0,
+    }
+}
+
+/// The transfer, approved by the server.
+pub(crate) fn approved(transfer: Transfer) -> Transfer
+    ensures { result ≡ spec.approved transfer }
+{
+    let mut transfer = transfer;
+    transfer.state = TransferState::ServerApproved;
+    transfer
+}
+
+/// The beginning of a transfer's grace.
+fn start(domain: &Domain, transfer: &Transfer, years: u32) -> Posting
+    ensures { result ≡ spec.transfer_start transfer.now years domain.now }
+{
+    Posting {
+        registrar: transfer.requester,
+        what: LapseEntry::Start(TransferStart {
+            roid: domain.roid,
+            moment: transfer.ac_date,
+            years,
+        }),
+    }
+}
+
+/// Posts what the completion of a transfer brings.
+fn post_completion(
+    transfer: &Transfer,
+    years: u32,
+    domain: &Domain,
+    postings: &mut Seq<Posting>,
+) -> Result<(), AllocError>
+    ensures { OnOk result (postings.new ≡ postings.old ++ spec.completion transfer.now years domain.now) }
+{
+    let (moment, notice) = (transfer.ac_date, LapseNotice::TransferApproved);
+    let (loser, gainer) = (transfer.losing_registrar, transfer.requester);
+    postings.push(start(domain, transfer, years))?;
+    postings.push(told(loser, moment, notice, &domain.name, Subject::Domain)?)?;
+    postings.push(told(gainer, moment, notice, &domain.name, Subject::Domain)?)?;
+    Ok(())
+}
+
+/// Completes the transfer.
+fn complete(
+    transfer: Transfer,
+    domain: &mut Domain,
+    postings: &mut Seq<Posting>,
+) -> Result<(), AllocError>
+    requires { transfer.ac_date ≤ 4_102_444_799 }
+    ensures domain { OnOk result (domain.new ≡ spec.moved transfer domain.old) }
+    ensures postings { OnOk result (postings.new ≡ postings.old ++ (spec.completed transfer domain.old).postings) }
+{
+    let moment = transfer.ac_date;
+    let years = gained(domain, moment);
+    post_completion(&transfer, years, domain, postings)?;
+    hand_over(transfer, years, domain);
+    Ok(())
+}
+
+/// Makes the requester the sponsor.
+fn hand_over(transfer: Transfer, years: u32, domain: &mut Domain)
+    requires { domain.old.years + years < 4_294_967_296 }
+    ensures { domain.new ≡ spec.handed_over transfer years domain.old }
+{
+    let (sponsor, moment) = (transfer.requester, transfer.ac_date);
+    let last = Some(approved(transfer));
+    domain.sponsor = sponsor;
+    domain.years += years;
+    domain.transferred = Some(moment);
+    domain.transfer = last;
+}
+
+/// The transfer that is pending and due by the moment.
+pub(crate) fn due_by(moment: Moment, transfer: Option<Transfer>) -> Option<Transfer>
+    ensures { result ≡ spec.due_by moment transfer }
+{
+    let transfer = transfer?;
+    if transfer.is_pending() && transfer.ac_date <= moment {
+        Some(transfer)
+    } else {
+        None
+    }
+}
+
+/// Brings a domain that isn't deleted to the moment.
+fn advance(
+    policy: &Policy,
+    domain: &mut Domain,
+    moment: Moment,
+    postings: &mut Seq<Posting>,
+) -> Result<(), AllocError>
+    requires { moment ≤ 4_102_444_799 }
+    ensures domain { OnOk result (Some domain.new ≡ (spec.living policy.now moment domain.old).object) }
+    ensures postings { OnOk result (postings.new ≡ postings.old ++ (spec.living policy.now moment domain.old).postings) }
+{
+    let Some(transfer) = due_by(moment, domain.transfer) else {
+        return renew(policy, domain, moment, postings);
+    };
+    renew(policy, domain, transfer.ac_date, postings)?;
+    complete(transfer, domain, postings)?;
+    renew(policy, domain, moment, postings)
+}
+
+/// The domain as time alone leaves it at the moment, and what is posted into accounts. To lapse on
+/// from there is to lapse at once.
+pub fn lapse(
+    alloc: Global,
+    domain: &Domain,
+    moment: Moment,
+    policy: &Policy,
+) -> Result<Lapsed<Domain>, AllocError>
+    requires { moment ≤ 4_102_444_799 }
+    ensures { IfOk result (λ lapsed. spec.IsLapseOf policy.now moment domain.now lapsed) }
+{
+    lapse_any(alloc, domain, moment, policy)
+}
+
+/// The same for any domain.
+fn lapse_any(
+    alloc: Global,
+    domain: &Domain,
+    moment: Moment,
+    policy: &Policy,
+) -> Result<Lapsed<Domain>, AllocError>
+    requires { moment ≤ 4_102_444_799 }
+    ensures { IfOk result (λ lapsed. lapsed ≡ spec.lapse policy.now moment domain.now) }
+{
+    if let Some(deletion) = domain.deletion {
+        return lapse_deleted(alloc, domain, deletion, moment, policy);
+    }
+    let mut domain = domain.clone()?;
+    let mut postings = Seq::new(alloc);
+    advance(policy, &mut domain, moment, &mut postings)?;
+    Ok(Lapsed {
+        object: Some(domain),
+        postings,
+    })
+}
+
+/// The same for a deleted domain.
+fn lapse_deleted(
+    alloc: Global,
+    domain: &Domain,
+    deletion: Deletion,
+    moment: Moment,
+    policy: &Policy,
+) -> Result<Lapsed<Domain>, AllocError>
+    ensures { IfOk result (λ lapsed. lapsed ≡ spec.lapse_by policy.now moment (Some deletion) domain.now) }
+{
+    let mut postings = Seq::new(alloc);
+    let Some(end) = purged_by(&deletion, moment, policy) else {
+        return Ok(Lapsed {
+            object: Some(domain.clone()?),
+            postings,
+        });
+    };
+    let (sponsor, notice) = (domain.sponsor, LapseNotice::Purged);
+    postings.push(told(sponsor, end, notice, &domain.name, Subject::Domain)?)?;
+    Ok(Lapsed {
+        object: None,
+        postings,
+    })
+}

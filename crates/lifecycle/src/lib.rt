@@ -1,0 +1,27 @@
+//! What time makes of objects: the phases of a deletion and the graces of a domain (RFC 3915), and
+//! what an object has become at a moment (its lapse).
+//!
+//! A lapse is a closed form: to lapse to a moment and then to a later one is to lapse to the later.
+//! What it does outside the object is a list of postings into accounts, and postings commute.
+#![tactic(auto)]
+
+mod change;
+mod contact;
+mod deletion;
+mod domain;
+mod due;
+mod grace;
+mod lapsed;
+mod period;
+mod renewal;
+#[cfg(test)]
+mod tests;
+
+pub use change::{AccountChange, Notification, RunningRefund, change_account};
+pub use contact::lapse_contact;
+pub use deletion::phase;
+pub use domain::lapse;
+pub use due::{contact_due_at, due_at};
+pub use grace::{graces, runs, standing};
+pub use lapsed::Lapsed;
+pub use period::{end_of, is_within};
