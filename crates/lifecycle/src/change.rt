@@ -46,7 +46,7 @@ pub enum AccountChange {
     TakeSerial,
 }
 
-/// A refund, under the policy that say which graces run.
+/// A refund, under the policy that says which graces run.
 #[derive(Drop)]
 struct RefundUnder<'a> {
     refund: RunningRefund,

@@ -118,7 +118,10 @@ fn hosts_of(alloc: Global, rows: &[HostRow]) -> Result<NameMap<HostFace>, AllocE
     Ok(hosts)
 }
 
-/// Hosts, domains, and the lines of the zone after its first.
+/// Hosts and domains.
+type Rows = (&'static [HostRow], &'static [DomainRow]);
+
+/// Hosts, domains, and the lines of their zone after its first.
 type ZoneRow = (&'static [HostRow], &'static [DomainRow], &'static [u8]);
 
 const SOA: &[u8] =
@@ -177,23 +180,6 @@ const ZONES: &[ZoneRow] = &[
     ),
 ];
 
-#[test]
-fn zones(rt: HostRuntime) -> Result<(), Fail> {
-    let alloc = rt.alloc();
-    let policy = policy(alloc)?;
-    for (hosts, domains, lines) in ZONES.iter().copied() {
-        let hosts = hosts_of(alloc, hosts)?;
-        let domains = domains_of(alloc, domains)?;
-        let mut written = Vec::new(alloc);
-        let wrote = write_zone(alloc, &hosts, &domains, &policy, SERIAL, &mut written);
-        assert!(&rt; wrote.is_ok());
-        assert!(&rt; written.starts_with(SOA));
-        assert!(&rt; written.len() == SOA.len().saturating_add(lines.len()));
-        assert!(&rt; written.ends_with(lines));
-    }
-    Ok(())
-}
-
 /// A writer with room for some bytes.
 #[derive(Drop)]
 struct Full {
@@ -216,25 +202,61 @@ impl Write for Full {
     }
 }
 
+/// Writes the zone of these rows, and answers what became of it.
+fn write_rows(
+    alloc: Global,
+    policy: &Policy,
+    (hosts, domains): Rows,
+    writer: &mut Full,
+) -> Result<Result<(), ZoneFault>, AllocError> {
+    let hosts = hosts_of(alloc, hosts)?;
+    let domains = domains_of(alloc, domains)?;
+    Ok(write_zone(alloc, &hosts, &domains, policy, SERIAL, writer))
+}
+
+#[test]
+fn zones(rt: HostRuntime) -> Result<(), Fail> {
+    let alloc = rt.alloc();
+    let policy = policy(alloc)?;
+    for (hosts, domains, lines) in ZONES.iter().copied() {
+        let mut writer = Full {
+            taken: Vec::new(alloc),
+            room: 10_000,
+        };
+        assert_eq!(&rt;
+            write_rows(alloc, &policy, (hosts, domains), &mut writer)?,
+            Ok(())
+        );
+        assert!(&rt; writer.taken.starts_with(SOA));
+        assert!(&rt; writer.taken.len() == SOA.len().saturating_add(lines.len()));
+        assert!(&rt; writer.taken.ends_with(lines));
+    }
+    Ok(())
+}
+
+const SMALL: Rows = (
+    &[("ns1.foo.test", &["192.0.2.1"])],
+    &[("foo.test", Status::Fine, &["ns1.foo.test"])],
+);
+
+const SMALL_LINES: &[u8] =
+    b"foo.test. 86400 IN NS ns1.foo.test.\nns1.foo.test. 86400 IN A 192.0.2.1\n";
+
 /// Wherever the writer is full, what it took is a beginning of the zone.
 #[test]
 fn every_write_that_fails(rt: HostRuntime) -> Result<(), Fail> {
     let alloc = rt.alloc();
     let policy = policy(alloc)?;
-    let hosts = hosts_of(alloc, &[("ns1.foo.test", &["192.0.2.1"])])?;
-    let domains = domains_of(alloc, &[("foo.test", Status::Fine, &["ns1.foo.test"])])?;
-    let mut whole = Vec::new(alloc);
-    let wrote = write_zone(alloc, &hosts, &domains, &policy, SERIAL, &mut whole);
-    assert!(&rt; wrote.is_ok());
-    for room in 0..whole.len() {
+    for room in SOA.len()..SOA.len().saturating_add(SMALL_LINES.len()) {
         let mut writer = Full {
             taken: Vec::new(alloc),
             room,
         };
-        let wrote = write_zone(alloc, &hosts, &domains, &policy, SERIAL, &mut writer);
+        let wrote = write_rows(alloc, &policy, SMALL, &mut writer)?;
         assert_eq!(&rt; wrote, Err(ZoneFault::Write));
+        assert!(&rt; writer.taken.starts_with(SOA));
+        assert!(&rt; SMALL_LINES.starts_with(&writer.taken[SOA.len().min(writer.taken.len())..]));
         assert!(&rt; writer.taken.len() == room);
-        assert!(&rt; whole.starts_with(&writer.taken));
     }
     Ok(())
 }
