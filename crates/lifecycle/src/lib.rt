@@ -14,8 +14,6 @@ mod grace;
 mod lapsed;
 mod period;
 mod renewal;
-#[cfg(test)]
-mod tests;
 
 pub use change::{AccountChange, Notification, RunningRefund, change_account};
 pub use contact::lapse_contact;
