@@ -87,7 +87,7 @@ domain-full p r s presented None known e = absurd cc
 domain-full p r s presented (Some o) known e =
     let same : domain_sight p r s presented o ≡ Full known = cc in
     ap (λ (x : FullDomain). Some x.domain)
-      (full-is r (full_as (standing_of p s o) o) (face_of (standing_of p s o) o) o.transfer (is_party r o.sponsor o.transfer || authorizes presented o.secret) known same)
+    (full-is r (full_as (standing_of p s o) o) (face_of (standing_of p s o) o) o.transfer (is_party r o.sponsor o.transfer || authorizes presented o.secret) known same)
 
 -- ---- what is found first in a list of one, by its own name
 

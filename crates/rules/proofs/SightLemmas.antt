@@ -173,7 +173,7 @@ relinked-outside r old new face (Some t) = elim (names r t) as (λ (b : Bool). l
 
 seen-relinked-by : (r : ℕ) (old new : List ℕ) (standing : Standing) (d : Domain) (b : Bool)
     → cond b (Full (full_as standing (with_host_renamed old new d))) (seen_by_outsider r (face_of standing (with_host_renamed old new d)) d.transfer)
-      ≡ relinked_seen old new (cond b (Full (full_as standing d)) (seen_by_outsider r (face_of standing d) d.transfer))
+    ≡ relinked_seen old new (cond b (Full (full_as standing d)) (seen_by_outsider r (face_of standing d) d.transfer))
 unfolding relinked_seen relinked_face
 seen-relinked-by r old new standing d true = refl
 seen-relinked-by r old new standing d false =

@@ -207,7 +207,7 @@ relinked-view : (p : PolicyRules) (r : ℕ) (s : Registry) (old new : List ℕ) 
 relinked-view p r s old new m =
     map_values-twice (slice_cmp nat_cmp) nat_list_cmp_total names_apart (λ name. with_host_renamed old new) (λ name. domain_sight p r s None) (λ name d. domain_sight p r s None (with_host_renamed old new d)) (λ name d. refl) m
     ∙ sym (map_values-twice (slice_cmp nat_cmp) nat_list_cmp_total names_apart (λ name. domain_sight p r s None) (λ name. relinked_seen old new) (λ name d. domain_sight p r s None (with_host_renamed old new d))
-        (λ name d. sym (seen-relinked r None old new (standing_of p s d) d)) m)
+    (λ name d. sym (seen-relinked r None old new (standing_of p s d) d)) m)
 
 -- ---- each change, by what is seen
 
@@ -237,8 +237,8 @@ view-changed p r (DropHost name) s meets = refl
 view-changed p r (RenameHost old new) s meets = ap (λ m. record (view p r s) { domains = m }) (relinked-view p r s old new s.domains)
 view-changed p r (PutDomain d) s meets =
     ap (λ (m : FinMap (slice_cmp nat_cmp) (Seen FullDomain DomainFace)). record (view p r s) { domains = m })
-      (map_values-insert (slice_cmp nat_cmp) nat_list_cmp_total names_apart (λ name. domain_sight p r s None) s.domains d.name d
-      ∙ ap (λ (g : Graces). insert (view p r s).domains d.name (domain_as r None (record { graces = g; phase = phase p s.clock d }) d)) meets)
+    (map_values-insert (slice_cmp nat_cmp) nat_list_cmp_total names_apart (λ name. domain_sight p r s None) s.domains d.name d
+    ∙ ap (λ (g : Graces). insert (view p r s).domains d.name (domain_as r None (record { graces = g; phase = phase p s.clock d }) d)) meets)
 view-changed p r (CountCommand other) s meets = view-account p r other with_command (λ a. refl) s
 view-changed p r (TakeSerial other) s meets = view-account p r other with_serial (λ a. refl) s
 

@@ -26,7 +26,9 @@ use facts::{
 use lifecycle::standing;
 use model::Object;
 use names::{GivenName, last_two_labels};
-use objects::{Contact, Domain, DomainFace, FullDomain, Host, ObjectKind, Seen, Standing, is_below};
+use objects::{
+    Contact, Domain, DomainFace, FullDomain, Host, ObjectKind, Seen, Standing, is_below,
+};
 use policy::{Policy, Terms};
 use protocol::{Command, Request};
 use std::alloc::{AllocError, Global};
@@ -134,10 +136,8 @@ impl Content {
         command: &Command,
         policy: &Policy,
     ) -> Result<Vec<DomainFacts>, AllocError>
-        ensures {
-            IfOk result (λ it. it.items
-                ≡ map (λ name. facts.domain_facts (facts.lookups policy.now caller command.now (registry_in self.now)) command.now (name_of name)) (requests.asked [] requests.domains_asked command.now))
-        }
+        ensures { IfOk result (λ it. it.items
+            ≡ map (λ name. facts.domain_facts (facts.lookups policy.now caller command.now (registry_in self.now)) command.now (name_of name)) (requests.asked [] requests.domains_asked command.now)) }
     {
         let mut domains = Vec::new(self.alloc);
         for name in command.domains() {
@@ -157,7 +157,12 @@ impl Content {
     {
         let seen = match self.domains.get(name) {
             None => None,
-            Some(domain) => Some(self.seen_domain(caller, policy, domain, command.presented(name))?),
+            Some(domain) => Some(self.seen_domain(
+                caller,
+                policy,
+                domain,
+                command.presented(name),
+            )?),
         };
         Ok(DomainFacts {
             name: name.clone()?,
@@ -212,10 +217,8 @@ impl Content {
     }
 
     fn hosts_for(&self, command: &Command) -> Result<Vec<HostFacts>, AllocError>
-        ensures {
-            IfOk result (λ it. it.items
-                ≡ map (λ name. lookups.host_facts_in command.now (registry_in self.now) (name_of name)) (requests.asked [] requests.hosts_asked command.now))
-        }
+        ensures { IfOk result (λ it. it.items
+            ≡ map (λ name. lookups.host_facts_in command.now (registry_in self.now) (name_of name)) (requests.asked [] requests.hosts_asked command.now)) }
     {
         let mut hosts = Vec::new(self.alloc);
         for name in command.hosts() {
@@ -225,10 +228,8 @@ impl Content {
     }
 
     fn new_name_for(&self, command: &Command) -> Result<Option<HostFacts>, AllocError>
-        ensures {
-            IfOk result (λ it. it
-                ≡ option_map (λ name. lookups.host_facts_in command.now (registry_in self.now) (name_of name)) (requests.asked None requests.new_host_asked command.now))
-        }
+        ensures { IfOk result (λ it. it
+            ≡ option_map (λ name. lookups.host_facts_in command.now (registry_in self.now) (name_of name)) (requests.asked None requests.new_host_asked command.now)) }
     {
         match command.new_host() {
             None => Ok(None),
