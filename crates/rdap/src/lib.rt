@@ -1,0 +1,11 @@
+//! Answers of RDAP (RFC 7480, RFC 9083): how one stands on the wire, those that need no object, and
+//! the words by which the statuses of an object are shown.
+#![tactic(auto)]
+
+mod answer;
+mod status;
+#[cfg(test)]
+mod tests;
+
+pub use answer::{Outcome, answer_without_object, response};
+pub use status::{grace_word, status_word, status_words};
