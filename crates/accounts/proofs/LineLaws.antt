@@ -184,17 +184,3 @@ sum-step lines i l all a r lt e small few same sat h =
     let next : IsSum lines (i + 1) (all +ℤ amount l) = sum-more lines i l all lt e small h in
     let value : r ≡ all +ℤ amount l = sat ∙ ap (λ z. saturate_signed w128 (all +ℤ z)) same ∙ saturated lines (i + 1) (all +ℤ amount l) (omega arith) next in
     rw value next
-
-length-step : (b : Bool) (x y : Line) (ys zs : List Line) → length zs ≡ length ys + 1 → length (cond b (x ∷ y ∷ ys) (y ∷ zs)) ≡ length (y ∷ ys) + 1
-length-step true x y ys zs e = omega arith
-length-step false x y ys zs e = omega (arith, e)
-
-pub length-add : (x : Line) (ls : List Line) → length (add in_order x ls) ≡ length ls + 1
-unfolding add
-length-add x [] = refl
-length-add x (y ∷ ys) = length-step (in_order x y) x y ys (add in_order x ys) (length-add x ys)
-
-pub length-bag_of : (ls : List Line) → length (bag_of in_order ls) ≡ length ls
-unfolding bag_of
-length-bag_of [] = refl
-length-bag_of (l ∷ ls) = omega (arith, length-add l (bag_of in_order ls), length-bag_of ls)

@@ -8,6 +8,9 @@ use crate::line::{Line, LineChange};
 use std::alloc::{AllocError, Global};
 use std::marker::Model;
 
+/// No memory holds so many lines.
+const TOO_MANY: usize = 1 << 62;
+
 /// A bag of lines. What goes over all of them takes time linear in their number.
 #[derive(Clone, Drop)]
 pub struct Lines {
@@ -15,7 +18,7 @@ pub struct Lines {
 }
 
 impl Model for Lines {
-    ghost use Rattle.std.specs.Prelude.{List};
+    ghost use Rattle.std.specs.Prelude.{List, ◌<◌, length};
     ghost use Rattle.basis.specs.Bag.{bag_of};
     ghost use Rattle.accounts.specs.Lines.{in_order};
     ghost use Rattle.accounts.specs.declared.line.Line.{Line};
@@ -23,6 +26,8 @@ impl Model for Lines {
     ghost Value = { List Line };
 
     ghost view = { λ l. bag_of in_order l.items.items };
+
+    ghost invariant = { λ l. length l.items.items < 4_611_686_018_427_387_904 };
 }
 
 impl Lines {
@@ -47,6 +52,9 @@ impl Lines {
         ensures ok { OnOk result (self.new ≡ add in_order line self.old) }
         ensures err { OnErr result (self.new ≡ self.old) }
     {
+        if self.items.len() >= TOO_MANY - 1 {
+            return Err(AllocError);
+        }
         // Names a field of the line for the borrow checker.
         let line = Line {
             started: line.started,
@@ -65,7 +73,7 @@ impl Lines {
 
     /// Deposits less charges plus refunds.
     pub fn balance(&self) -> i128
-        ensures { length self.now < 4_611_686_018_427_387_904 → result ≡ spec.balance self.now }
+        ensures { result ≡ spec.balance self.now }
     {
         sum(&self.items)
     }

@@ -1,13 +1,15 @@
 //! Moments, and sums of them with days and years.
-ghost use Rattle.std.specs.Prelude.{◌≡◌, ◌/◌, ℕ, pos, max, nat_lt, IfOk, IfSome, string_bytes};
+ghost use Rattle.std.specs.Prelude.{◌≡◌, ◌/◌, ◌%◌, ℕ, pos, max, nat_lt, IfOk, IfSome, string_bytes};
+ghost use Rattle.std.specs.Str.{bytes_eq};
 ghost use Rattle.jiff.specs.Words.{civil_seconds};
-ghost use Rattle.calendar.specs.Calendar.{date_of};
+ghost use Rattle.calendar.specs.Calendar.{date_of, is_leap, month_length};
+ghost use Rattle.calendar.specs.Ranks.{rank};
 ghost use Rattle.calendar.specs.Shown.{Shows};
-ghost use Rattle.calendar.specs.Text.{date_text, moment_text, parts_of};
+ghost use Rattle.calendar.specs.Text.{date_text, is_date, moment_text, parts_of};
 ghost use Rattle.calendar.specs.Reading.{AreShort};
-ghost use Rattle.calendar.specs.Moment.{IsMoment, capped, checked, checked_signed, plus_days, plus_years};
+ghost use Rattle.calendar.specs.Moment.{IsMoment, capped, checked, checked_signed, plus_days, plus_years, years_later};
 
-use crate::reading::{Parts, parts_in};
+use crate::reading::{Parts, date_fields, parts_in};
 use jiff::civil::DateTime;
 use jiff::tz::Offset;
 use jiff::{Error, Timestamp, ToSpan};
@@ -51,6 +53,24 @@ impl Model for Moment {
     ghost invariant = { λ m. IsMoment m.secs };
 
     ghost inverse = { λ n. record { secs = n } };
+}
+
+/// Whether the year has a 29 February.
+fn is_leap(year: u128) -> bool
+    ensures { result ≡ is_leap year }
+{
+    year % 4 == 0 && (year % 100 != 0 || year % 400 == 0)
+}
+
+/// The days of a month.
+fn month_length(year: u128, month: u8) -> u8
+    ensures { result ≡ month_length year month }
+{
+    match month {
+        2 => if is_leap(year) { 29 } else { 28 },
+        4 | 6 | 9 | 11 => 30,
+        _ => 31,
+    }
 }
 
 impl Moment {
@@ -125,6 +145,63 @@ impl Moment {
         ensures { result ≡ nat_lt other self }
     {
         self.secs > other.secs
+    }
+
+    /// Whether the moment so many years later comes after the one so many years after the other. Such
+    /// sums may lie past the last moment.
+    pub fn is_later_by(&self, years: u64, other: &Moment, other_years: u64) -> bool
+        ensures { result ≡ nat_lt (plus_years other.now other_years) (plus_years self.now years) }
+    {
+        self.rank_after(years) > other.rank_after(other_years)
+    }
+
+    /// Where the moment so many years later stands in the order of time.
+    #[tactic(auto, unfolding(crate::specs::Ranks::rank))]
+    fn rank_after(&self, years: u64) -> u128
+        ensures { result ≡ rank (years_later (date_of (self.now / 86_400)) years) (self.now % 86_400) }
+    {
+        let year = u128::from(self.year()) + u128::from(years);
+        let month = self.month();
+        let day = self.day().min(month_length(year, month));
+        let days = (year * 12 + u128::from(month)) * 31 + u128::from(day);
+        days * 86_400 + u128::from(self.secs % DAY)
+    }
+
+    /// Whether the text is its date, `YYYY-MM-DD`.
+    pub fn is_on(&self, date: &str) -> bool
+        ensures { result ≡ bytes_eq date.now (date_text (date_of (self.now / 86_400))) }
+    {
+        // Shows the prover the field, and so that it is within the range.
+        let moment = self.secs;
+        match date_fields(date.as_bytes()) {
+            None => false,
+            Some((year, month, day)) => self.has_date(year, month, day),
+        }
+    }
+
+    fn has_date(&self, year: u16, month: u8, day: u8) -> bool
+        ensures { result ≡ is_date (date_of (self.now / 86_400)) year month day }
+    {
+        self.year() == year && self.month() == month && self.day() == day
+    }
+
+    /// The year of its date.
+    fn year(self) -> u16
+        ensures { result ≡ (date_of (self / 86_400)).year }
+    {
+        self.civil().year().unsigned_abs()
+    }
+
+    fn month(self) -> u8
+        ensures { result ≡ (date_of (self / 86_400)).month }
+    {
+        self.civil().month().unsigned_abs()
+    }
+
+    fn day(self) -> u8
+        ensures { result ≡ (date_of (self / 86_400)).day }
+    {
+        self.civil().day().unsigned_abs()
     }
 
     /// The text `YYYY-MM-DDTHH:MM:SSZ`.
