@@ -5,14 +5,14 @@ use Rattle.names.specs.Zone.{ZoneRules}
 use Rattle.objects.specs.declared.roid.ObjectKind.TheVariants as kinds
 use Rattle.protocol.specs.declared.form.FormFault.{FormFault}
 use Rattle.protocol.specs.declared.command.Request.{Request}
-use Rattle.protocol.specs.declared.command.Request.TheVariants.{CheckDomain, InfoDomain, CreateDomain, UpdateDomain}
+use Rattle.protocol.specs.declared.command.Request.TheVariants.{CheckDomain, InfoDomain, CreateDomain, UpdateDomain, RenewDomain}
 use Rattle.protocol.specs.declared.command.DomainLists.{DomainLists}
 use Rattle.eppforms.specs.declared.member.Member.TheVariants as members
 use Rattle.eppforms.specs.declared.member.Section.{Section}
 use Rattle.eppforms.specs.declared.member.Section.TheVariants.{Top, Add, Rem, Chg}
 use Rattle.eppcommands.specs.declared.reading.NameOf.TheVariants.{Domain, Host}
 use Rattle.eppforms.specs.Form.{◌>>=◌}
-use Rattle.eppcommands.specs.Reading.{name_at, names_at, text_at, maybe_text_at, texts_at, statuses_at, whole_at}
+use Rattle.eppcommands.specs.Reading.{name_at, names_at, text_at, maybe_text_at, texts_at, statuses_at, years_at, date_at}
 
 unfoldable pub check_domain : ZoneRules → Data → Result Request FormFault
 check_domain zone d = do
@@ -28,7 +28,7 @@ info_domain zone d = do
 unfoldable pub create_domain : ZoneRules → Data → Result Request FormFault
 create_domain zone d = do
   name ← name_at Domain Top members.Name zone d
-  years ← whole_at Top members.Years 1 d
+  years ← years_at Top members.Years d
   registrant ← text_at Top members.Registrant d
   admin ← texts_at Top members.Admin d
   tech ← texts_at Top members.Tech d
@@ -53,3 +53,10 @@ update_domain zone d = do
   registrant ← maybe_text_at Chg members.Registrant d
   secret ← maybe_text_at Chg members.Secret d
   Ok (UpdateDomain (record { name = name; add = add; rem = rem; registrant = registrant; secret = secret }))
+
+unfoldable pub renew_domain : ZoneRules → Data → Result Request FormFault
+renew_domain zone d = do
+  name ← name_at Domain Top members.Name zone d
+  expires ← date_at Top members.Expires d
+  years ← years_at Top members.Years d
+  Ok (RenewDomain name expires years)

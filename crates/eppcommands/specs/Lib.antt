@@ -1,3 +1,4 @@
+pub mod Dates
 pub mod Reading
 pub mod Contact
 pub mod Domain

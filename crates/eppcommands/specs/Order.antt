@@ -2,20 +2,21 @@
 use Rattle.std.specs.Prelude.{ℕ, ◌&&◌, ◌||◌, Bool, List, [], ◌∷◌, Option, Some, None, option_and_then, is_none, if◌then◌else◌, Result, Ok, Err, ok_or, codes}
 use Rattle.std.specs.List.{list_any}
 use Rattle.std.specs.Str.{bytes_eq, is_utf8}
-use Rattle.serde_json.specs.Data.{Data}
-use Rattle.serde_json.specs.Find.{as_str}
+use Rattle.serde_json.specs.Data.{Data, Num}
+use Rattle.serde_json.specs.Find.{as_str, as_number, as_i64}
 use Rattle.serde_json.specs.Read.{read}
 use Rattle.objects.specs.declared.roid.ObjectKind.{ObjectKind}
 use Rattle.objects.specs.declared.status.Status as the_status
 use Rattle.objects.specs.StatusTexts.{status_named}
 use Rattle.protocol.specs.declared.form.FormFault.{FormFault}
-use Rattle.protocol.specs.declared.form.FormFault.TheVariants.{SyntaxError, UnknownCommand}
+use Rattle.protocol.specs.declared.form.FormFault.TheVariants.{SyntaxError, UnknownCommand, ParameterRange}
 use Rattle.protocol.specs.declared.order.Order as the_order
-use Rattle.protocol.specs.declared.order.Order.TheVariants.{Status}
+use Rattle.protocol.specs.declared.order.Order.TheVariants.{Status, Deposit}
 use Rattle.eppforms.specs.declared.member.Member.{Member}
 use Rattle.eppforms.specs.declared.member.Member.TheVariants as members
 use Rattle.eppforms.specs.declared.member.Section.TheVariants.{Top}
-use Rattle.eppforms.specs.declared.table.TheConstants.{STATUS_ORDER_FORM}
+use Rattle.eppforms.specs.declared.table.TheConstants.{STATUS_ORDER_FORM, DEPOSIT_ORDER_FORM}
+use Rattle.eppforms.specs.declared.table.Field.{Field}
 use Rattle.eppforms.specs.Form.{◌>>=◌, refuse_unless, has_only, has_all}
 use Rattle.eppforms.specs.Member.{member_at, word_at}
 use Rattle.eppforms.specs.Table.{object_named}
@@ -41,16 +42,19 @@ any_unknown_status ds = list_any (λ d. is_none (status_told d)) ds
 abbrev pub list_at : Member → Data → Result (List Data) FormFault
 list_at m d = required items_in (member_at m d)
 
--- each member is there, and none but these
-abbrev pub has_form : Data → Bool
-has_form d = has_only STATUS_ORDER_FORM.now d && has_all STATUS_ORDER_FORM.now d
+-- each member of the form is there, and none but these
+abbrev pub has_form : List Field → Data → Bool
+has_form form d = has_only form d && has_all form d
+
+abbrev pub number_at : Member → Data → Result Num FormFault
+number_at m d = ok_or (option_and_then as_number (member_at m d)) SyntaxError
+
+-- ---- each order
 
 -- the kind of object of an order to set and take away statuses
 unfoldable pub kind_ordered : Data → Result ObjectKind FormFault
 kind_ordered d = do
-  _ ← refuse_unless (has_form d) SyntaxError
-  order ← ok_or (word_at members.Order d) SyntaxError
-  _ ← refuse_unless (bytes_eq order (codes "status")) UnknownCommand
+  _ ← refuse_unless (has_form STATUS_ORDER_FORM.now d) SyntaxError
   obj ← ok_or (word_at members.Obj d) SyntaxError
   ok_or (object_named obj) UnknownCommand
 
@@ -62,13 +66,36 @@ status_order d = do
   rem ← list_at members.Rem d
   Ok (Status (record { kind = kind; name = name; add = statuses_told add; rem = statuses_told rem; has_unknown_status = any_unknown_status add || any_unknown_status rem }))
 
+-- what a registrar paid
+unfoldable pub deposit_order : Data → Result the_order.Order FormFault
+deposit_order d = do
+  _ ← refuse_unless (has_form DEPOSIT_ORDER_FORM.now d) SyntaxError
+  registrar ← text_at Top members.Registrar d
+  number ← number_at members.Cents d
+  cents ← ok_or (as_i64 number) ParameterRange
+  Ok (Deposit registrar cents)
+
+-- ---- the order
+
+-- the order that `order` says
+abbrev pub order_said : List ℕ → Data → Result the_order.Order FormFault
+order_said order d =
+    if bytes_eq order (codes "status") then status_order d
+    else (if bytes_eq order (codes "deposit") then deposit_order d
+    else Err UnknownCommand)
+
+unfoldable pub order_told : Data → Result the_order.Order FormFault
+order_told d = do
+  order ← ok_or (word_at members.Order d) SyntaxError
+  order_said order d
+
 -- what is of another form is no order, whatever is wrong with it
 abbrev pub if_ok : {A : Type 0} → Result A FormFault → Option A
 if_ok (Ok x) = Some x
 if_ok (Err code) = None
 
 abbrev pub order_of_data : Data → Option the_order.Order
-order_of_data d = if_ok (status_order d)
+order_of_data d = if_ok (order_told d)
 
 abbrev pub order_in : List ℕ → Option the_order.Order
 order_in payload = option_and_then order_of_data (if is_utf8 payload then read payload else None)

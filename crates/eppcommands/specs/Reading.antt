@@ -1,5 +1,5 @@
 -- What a member of a well formed command says. A name, an address and a status are read here, which is the last step of the form.
-use Rattle.std.specs.Prelude.{◌≡◌, ℕ, ◌^◌, nat_lt, Bool, List, [], ◌∷◌, Option, Some, None, option_and_then, option_map, Result, Ok, Err, ok_or}
+use Rattle.std.specs.Prelude.{◌≡◌, ℕ, Bool, List, [], ◌∷◌, Option, Some, None, option_and_then, option_map, Result, Ok, Err, ok_or}
 use Rattle.serde_json.specs.Data.{Data}
 use Rattle.serde_json.specs.Find.{as_str, as_array, as_number, as_u64}
 use Rattle.names.specs.declared.fault.NameFault as name_fault
@@ -20,9 +20,11 @@ use Rattle.eppcommands.specs.declared.reading.Fault.{Fault}
 use Rattle.eppcommands.specs.declared.reading.Fault.TheVariants.{Refused, Memory}
 use Rattle.eppcommands.specs.declared.reading.NameOf.{NameOf}
 use Rattle.eppcommands.specs.declared.reading.NameOf.TheVariants.{Domain, Host}
+use Rattle.protocol.specs.Years.{years_of}
 use Rattle.eppforms.specs.Kind.{items_list}
 use Rattle.eppforms.specs.Form.{◌>>=◌, refuse_unless}
 use Rattle.eppforms.specs.Member.{value_at}
+use Rattle.eppcommands.specs.Dates.{date_in}
 
 -- what a function returned is what reading gives, unless memory ran out
 abbrev pub Gives : {A : Type 0} → Result A Fault → Result A FormFault → Type 0
@@ -96,12 +98,12 @@ maybe_in read (Some d) = do
   x ← read d
   Ok (Some x)
 
-abbrev pub whole_in : ℕ → Option Data → Result ℕ FormFault
-whole_in default None = Ok default
-whole_in default (Some d) = do
+-- years of which nothing is said are one
+abbrev pub years_in : Option Data → Result ℕ FormFault
+years_in None = Ok 1
+years_in (Some d) = do
   n ← ok_or (option_and_then as_u64 (as_number d)) SyntaxError
-  _ ← refuse_unless (nat_lt n (2 ^ 32)) ParameterRange
-  Ok n
+  ok_or (years_of n) ParameterRange
 
 abbrev pub required : {A : Type 0} → (Data → Result A FormFault) → Option Data → Result A FormFault
 required read o = do
@@ -134,6 +136,8 @@ addresses_at section m d = list_in address_in (value_at section m d)
 abbrev pub statuses_at : ObjectKind → Section → Member → Data → Result (List Status) FormFault
 statuses_at kind section m d = list_in (status_in kind) (value_at section m d)
 
--- a number, or the one that stands for none
-abbrev pub whole_at : Section → Member → ℕ → Data → Result ℕ FormFault
-whole_at section m default d = whole_in default (value_at section m d)
+abbrev pub years_at : Section → Member → Data → Result ℕ FormFault
+years_at section m d = years_in (value_at section m d)
+
+abbrev pub date_at : Section → Member → Data → Result (List ℕ) FormFault
+date_at section m d = required date_in (value_at section m d)

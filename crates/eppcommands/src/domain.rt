@@ -4,7 +4,8 @@ ghost use Rattle.eppcommands.specs.Reading.{Gives};
 ghost use Rattle.eppcommands.specs.Domain as spec;
 
 use crate::reading::{
-    Fault, NameOf, maybe_text_at, name_at, names_at, statuses_at, text_at, texts_at, whole_at,
+    Fault, NameOf, date_at, maybe_text_at, name_at, names_at, statuses_at, text_at, texts_at,
+    years_at,
 };
 use eppforms::Member;
 use eppforms::Section::{self, Add, Chg, Rem, Top};
@@ -36,7 +37,7 @@ pub fn create_domain(alloc: Global, value: &Value, zone: &Zone) -> Result<Reques
     ensures { Gives result (spec.create_domain zone.now (view value.now)) }
 {
     let name = name_at(alloc, NameOf::Domain, Top, Member::Name, value, zone)?;
-    let years = whole_at(Top, Member::Years, 1, value)?;
+    let years = years_at(Top, Member::Years, value)?;
     let registrant = text_at(alloc, Top, Member::Registrant, value)?;
     let admin = texts_at(alloc, Top, Member::Admin, value)?;
     let tech = texts_at(alloc, Top, Member::Tech, value)?;
@@ -90,5 +91,19 @@ fn lists_of_domain(
         admin,
         tech,
         statuses,
+    })
+}
+
+#[tactic(auto, unfolding(crate::specs::Domain::renew_domain))]
+pub fn renew_domain(alloc: Global, value: &Value, zone: &Zone) -> Result<Request, Fault>
+    ensures { Gives result (spec.renew_domain zone.now (view value.now)) }
+{
+    let name = name_at(alloc, NameOf::Domain, Top, Member::Name, value, zone)?;
+    let expires = date_at(alloc, Top, Member::Expires, value)?;
+    let years = years_at(Top, Member::Years, value)?;
+    Ok(Request::RenewDomain {
+        name,
+        expires,
+        years,
     })
 }

@@ -3,11 +3,13 @@
 //! - `command`: a payload as a command.
 //! - `request`, with `contact`, `domain` and `host`: what a well formed command asks for.
 //! - `reading`: what a member of a well formed command says.
+//! - `dates`: dates in members.
 //! - `order`: a payload as an order of the operator.
 #![tactic(auto)]
 
 mod command;
 mod contact;
+mod dates;
 mod domain;
 mod host;
 mod order;

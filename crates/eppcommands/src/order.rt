@@ -2,17 +2,20 @@
 ghost use Rattle.std.specs.Prelude.{◌≡◌, IfOk, is_none, map};
 ghost use Rattle.std.specs.List.{list_any};
 ghost use Rattle.std.specs.Result.{result_map_both};
-ghost use Rattle.serde_json.specs.View.{view};
+ghost use Rattle.serde_json.specs.View.{view, number_view};
 ghost use Rattle.eppcommands.specs.Reading.{Gives};
 ghost use Rattle.eppcommands.specs.Order as spec;
 
 use crate::reading::{Fault, items_in, text_at};
 use basis::list::Seq;
 use eppforms::Section::Top;
-use eppforms::{Member, STATUS_ORDER_FORM, has_all, has_only, member_of, object_named, word};
+use eppforms::{
+    DEPOSIT_ORDER_FORM, Field, Member, STATUS_ORDER_FORM, has_all, has_only, member_of,
+    object_named, word,
+};
 use objects::{ObjectKind, Status};
 use protocol::{FormFault, Order, StatusOrder};
-use serde_json::Value;
+use serde_json::{Number, Value};
 use std::alloc::{AllocError, Global};
 
 /// Reads an order. There is none where the payload is of another form.
@@ -29,11 +32,32 @@ pub fn order_of(alloc: Global, payload: &[u8]) -> Result<Option<Order>, AllocErr
 fn order_of_value(alloc: Global, value: &Value) -> Result<Option<Order>, AllocError>
     ensures { IfOk result (λ order. order ≡ spec.order_of_data (view value.now)) }
 {
-    match status_order(alloc, value) {
+    match order_told(alloc, value) {
         Ok(order) => Ok(Some(order)),
         Err(Fault::Refused(_)) => Ok(None),
         Err(Fault::Memory) => Err(AllocError),
     }
+}
+
+/// The order that `order` says.
+#[tactic(auto, unfolding(crate::specs::Order::order_told))]
+fn order_told(alloc: Global, value: &Value) -> Result<Order, Fault>
+    ensures { Gives result (spec.order_told (view value.now)) }
+{
+    let order = word(value, Member::Order).ok_or(FormFault::SyntaxError)?;
+    order_said(alloc, order, value)
+}
+
+fn order_said(alloc: Global, order: &str, value: &Value) -> Result<Order, Fault>
+    ensures { Gives result (spec.order_said order.now (view value.now)) }
+{
+    if order == "status" {
+        return status_order(alloc, value);
+    }
+    if order == "deposit" {
+        return deposit_order(alloc, value);
+    }
+    Err(Fault::Refused(FormFault::UnknownCommand))
 }
 
 #[tactic(auto, unfolding(crate::specs::Order::status_order))]
@@ -58,22 +82,40 @@ fn status_order(alloc: Global, value: &Value) -> Result<Order, Fault>
 fn kind_ordered(value: &Value) -> Result<ObjectKind, FormFault>
     ensures { result ≡ spec.kind_ordered (view value.now) }
 {
-    if !has_form(value) {
+    if !has_form(STATUS_ORDER_FORM, value) {
         return Err(FormFault::SyntaxError);
-    }
-    let order = word(value, Member::Order).ok_or(FormFault::SyntaxError)?;
-    if order != "status" {
-        return Err(FormFault::UnknownCommand);
     }
     let kind = word(value, Member::Obj).ok_or(FormFault::SyntaxError)?;
     object_named(kind).ok_or(FormFault::UnknownCommand)
 }
 
-/// Each member is there, and none but these.
-fn has_form(value: &Value) -> bool
-    ensures { result ≡ spec.has_form (view value.now) }
+/// The order to enter what a registrar paid.
+#[tactic(auto, unfolding(crate::specs::Order::deposit_order))]
+fn deposit_order(alloc: Global, value: &Value) -> Result<Order, Fault>
+    ensures { Gives result (spec.deposit_order (view value.now)) }
 {
-    has_only(STATUS_ORDER_FORM, value) && has_all(STATUS_ORDER_FORM, value)
+    if !has_form(DEPOSIT_ORDER_FORM, value) {
+        return Err(Fault::Refused(FormFault::SyntaxError));
+    }
+    let registrar = text_at(alloc, Top, Member::Registrar, value)?;
+    let number = number_at(Member::Cents, value)?;
+    let cents = number.as_i64().ok_or(FormFault::ParameterRange)?;
+    Ok(Order::Deposit { registrar, cents })
+}
+
+/// Each member of the form is there, and none but these.
+fn has_form(form: &[Field], value: &Value) -> bool
+    ensures { result ≡ spec.has_form form.now (view value.now) }
+{
+    has_only(form, value) && has_all(form, value)
+}
+
+fn number_at(at: Member, value: &Value) -> Result<&Number, FormFault>
+    ensures { result_map_both (λ number. number_view number.now) (λ code. code) result ≡ spec.number_at at (view value.now) }
+{
+    member_of(value, at)
+        .and_then(Value::as_number)
+        .ok_or(FormFault::SyntaxError)
 }
 
 fn list_at(at: Member, value: &Value) -> Result<&Vec<Value>, FormFault>

@@ -6,12 +6,13 @@ ghost use Rattle.serde_json.specs.View.{view};
 ghost use Rattle.eppcommands.specs.declared.reading.Fault.TheVariants.{Refused, Memory};
 ghost use Rattle.eppcommands.specs.Reading as spec;
 
+use crate::dates::date_in;
 use basis::list::Seq;
 use basis::text::Text;
 use eppforms::{Member, Section, value_at};
 use names::{Address, DomainName, GivenName, HostName, NameFault, Zone};
 use objects::{ObjectKind, Status};
-use protocol::FormFault;
+use protocol::{FormFault, Years};
 use serde_json::Value;
 use std::alloc::{AllocError, Global};
 
@@ -277,16 +278,20 @@ fn all_statuses(alloc: Global, kind: ObjectKind, items: &[Value]) -> Result<Seq<
     Ok(statuses)
 }
 
-/// A whole number, or the one that stands for none.
-pub fn whole_at(section: Section, at: Member, default: u32, value: &Value) -> Result<u32, FormFault>
-    ensures { result ≡ spec.whole_at section at default (view value.now) }
+/// Years; one where nothing is said of them.
+pub fn years_at(section: Section, at: Member, value: &Value) -> Result<Years, FormFault>
+    ensures { result ≡ spec.years_at section at (view value.now) }
 {
     let Some(found) = value_at(value, section, at) else {
-        return Ok(default);
+        return Ok(Years::one());
     };
     let number = found.as_u64().ok_or(FormFault::SyntaxError)?;
-    if number > u64::from(u32::MAX) {
-        return Err(FormFault::ParameterRange);
-    }
-    Ok(number as u32)
+    Years::of(number).ok_or(FormFault::ParameterRange)
+}
+
+pub fn date_at(alloc: Global, section: Section, at: Member, value: &Value) -> Result<Text, Fault>
+    ensures { spec.Gives result (spec.date_at section at (view value.now)) }
+{
+    let found = value_at(value, section, at).ok_or(FormFault::ParameterMissing)?;
+    date_in(alloc, found)
 }

@@ -4,7 +4,7 @@ ghost use Rattle.eppcommands.specs.Reading.{Gives};
 ghost use Rattle.eppcommands.specs.Request as spec;
 
 use crate::contact::{check_contact, create_contact, delete_contact, info_contact, update_contact};
-use crate::domain::{check_domain, create_domain, info_domain, update_domain};
+use crate::domain::{check_domain, create_domain, info_domain, renew_domain, update_domain};
 use crate::host::{check_host, create_host, delete_host, info_host, update_host};
 use crate::reading::Fault;
 use eppforms::{CommandKind, checked_command};
@@ -19,6 +19,7 @@ pub fn request_in(alloc: Global, value: &Value, zone: &Zone) -> Result<Request, 
     ensures { Gives result (spec.request_in zone.now (view value.now)) }
 {
     match checked_command(value)? {
+        CommandKind::Balance => Ok(Request::Balance),
         CommandKind::CheckContact => check_contact(alloc, value),
         CommandKind::CheckDomain => check_domain(alloc, value, zone),
         CommandKind::CheckHost => check_host(alloc, value, zone),
@@ -33,5 +34,6 @@ pub fn request_in(alloc: Global, value: &Value, zone: &Zone) -> Result<Request, 
         CommandKind::UpdateContact => update_contact(alloc, value),
         CommandKind::UpdateDomain => update_domain(alloc, value, zone),
         CommandKind::UpdateHost => update_host(alloc, value, zone),
+        CommandKind::RenewDomain => renew_domain(alloc, value, zone),
     }
 }

@@ -34,7 +34,10 @@ text_of members.City = codes "city"
 text_of members.Sp = codes "sp"
 text_of members.Pc = codes "pc"
 text_of members.Cc = codes "cc"
+text_of members.Expires = codes "expires"
 text_of members.Order = codes "order"
+text_of members.Registrar = codes "registrar"
+text_of members.Cents = codes "cents"
 
 abbrev pub is_section : Section → Section → Bool
 is_section Top Top = true

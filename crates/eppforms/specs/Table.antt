@@ -7,14 +7,16 @@ use Rattle.eppforms.specs.declared.table.Choice.{Choice}
 use Rattle.eppforms.specs.declared.table.Field.{Field}
 use Rattle.eppforms.specs.declared.table.TheConstants.{FORMS}
 use Rattle.eppforms.specs.declared.table.Verb.{Verb}
-use Rattle.eppforms.specs.declared.table.Verb.TheVariants.{Check, Info, Create, Delete, Update}
+use Rattle.eppforms.specs.declared.table.Verb.TheVariants.{Balance, Check, Info, Create, Delete, Update, Renew}
 
 abbrev pub verb_text : Verb → List ℕ
+verb_text Balance = codes "balance"
 verb_text Check = codes "check"
 verb_text Info = codes "info"
 verb_text Create = codes "create"
 verb_text Delete = codes "delete"
 verb_text Update = codes "update"
+verb_text Renew = codes "renew"
 
 -- what has to change something
 abbrev pub is_update : Verb → Bool

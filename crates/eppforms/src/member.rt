@@ -30,7 +30,10 @@ pub enum Member {
     Sp,
     Pc,
     Cc,
+    Expires,
     Order,
+    Registrar,
+    Cents,
 }
 
 impl Member {
@@ -64,7 +67,10 @@ impl Member {
             Member::Sp => "sp",
             Member::Pc => "pc",
             Member::Cc => "cc",
+            Member::Expires => "expires",
             Member::Order => "order",
+            Member::Registrar => "registrar",
+            Member::Cents => "cents",
         }
     }
 }

@@ -12,11 +12,13 @@ use objects::ObjectKind;
 /// What `cmd` may say.
 #[derive(Clone, Copy)]
 pub enum Verb {
+    Balance,
     Check,
     Info,
     Create,
     Delete,
     Update,
+    Renew,
 }
 
 impl Verb {
@@ -25,11 +27,13 @@ impl Verb {
         ensures { result.now ≡ spec.verb_text self }
     {
         match self {
+            Verb::Balance => "balance",
             Verb::Check => "check",
             Verb::Info => "info",
             Verb::Create => "create",
             Verb::Delete => "delete",
             Verb::Update => "update",
+            Verb::Renew => "renew",
         }
     }
 
@@ -68,6 +72,7 @@ pub fn object_named(text: &str) -> Option<ObjectKind>
 /// The commands.
 #[derive(Clone, Copy)]
 pub enum CommandKind {
+    Balance,
     CheckContact,
     CheckDomain,
     CheckHost,
@@ -82,6 +87,7 @@ pub enum CommandKind {
     UpdateContact,
     UpdateDomain,
     UpdateHost,
+    RenewDomain,
 }
 
 /// What chooses a form: `cmd`, and `obj` where the command is on an object.
@@ -110,6 +116,17 @@ macro_rules! on {
         Choice {
             cmd: Verb::$cmd,
             object: Some(ObjectKind::$object),
+            command: CommandKind::$command,
+        }
+    };
+}
+
+/// A command by its `cmd` alone.
+macro_rules! plain {
+    ($cmd:ident, $command:ident) => {
+        Choice {
+            cmd: Verb::$cmd,
+            object: None,
             command: CommandKind::$command,
         }
     };
@@ -224,6 +241,9 @@ const POSTAL_CODE: Kind = text!(limits!(1, 16), Line);
 
 const COUNTRY: Kind = text!(LINE_LENGTH, Country);
 
+/// A whole number, of which its reader says which it may be.
+const NUMBER: Kind = Whole(ANY);
+
 // ---- the members of each command
 
 const CMD: Field = must!(Top, Cmd, WORD);
@@ -239,6 +259,9 @@ macro_rules! members {
         &[CMD, OBJ, CL_TRID, $($field),*]
     };
 }
+
+/// What the caller's account has. It is on no object.
+const BALANCE: &[Field] = &[CMD, CL_TRID];
 
 /// RFC 5733, 3.1.1.
 const CHECK_CONTACT: &[Field] = members![must!(Top, Names, CHECKED_HANDLES)];
@@ -346,8 +369,16 @@ const UPDATE_HOST: &[Field] = members![
     must!(Chg, Name, NAME),
 ];
 
+/// RFC 5731, 3.2.3. A date has a rule of its own, as names have.
+const RENEW_DOMAIN: &[Field] = members![
+    must!(Top, Name, NAME),
+    must!(Top, Expires, WORD),
+    may!(Top, Years, YEARS),
+];
+
 /// The forms of the commands.
 pub const FORMS: &[CommandForm] = &[
+    (plain!(Balance, Balance), BALANCE),
     (on!(Check, Contact, CheckContact), CHECK_CONTACT),
     (on!(Check, Domain, CheckDomain), CHECK_DOMAIN),
     (on!(Check, Host, CheckHost), CHECK_HOST),
@@ -362,13 +393,23 @@ pub const FORMS: &[CommandForm] = &[
     (on!(Update, Contact, UpdateContact), UPDATE_CONTACT),
     (on!(Update, Domain, UpdateDomain), UPDATE_DOMAIN),
     (on!(Update, Host, UpdateHost), UPDATE_HOST),
+    (on!(Renew, Domain, RenewDomain), RENEW_DOMAIN),
 ];
+
+const ORDER: Field = must!(Top, Order, WORD);
 
 /// The members of the operator's order to set and take away statuses.
 pub const STATUS_ORDER_FORM: &[Field] = &[
-    must!(Top, Order, WORD),
+    ORDER,
     OBJ,
     must!(Top, Name, WORD),
     must!(Top, Add, STATUSES),
     must!(Top, Rem, STATUSES),
+];
+
+/// The members of the operator's order to enter what a registrar paid, in whole cents.
+pub const DEPOSIT_ORDER_FORM: &[Field] = &[
+    ORDER,
+    must!(Top, Registrar, WORD),
+    must!(Top, Cents, NUMBER),
 ];

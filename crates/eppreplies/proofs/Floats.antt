@@ -7,7 +7,7 @@ use Rattle.serde_json.specs.Written.{has_float, members_have_float}
 use Rattle.protocol.specs.declared.code.Code.{Code}
 use Rattle.protocol.specs.declared.reply.Reply.{Reply}
 use Rattle.protocol.specs.declared.reply.Data as the_data
-use Rattle.protocol.specs.declared.reply.Data.TheVariants.{Checked, Created, Contact, Domain, Host}
+use Rattle.protocol.specs.declared.reply.Data.TheVariants.{Checked, Created, Balance, Renewed, Contact, Domain, Host}
 use Rattle.protocol.specs.declared.reply.CheckResult.{CheckResult}
 use Rattle.protocol.specs.declared.reply.ContactInfo.{ContactInfo}
 use Rattle.protocol.specs.declared.reply.DomainInfo.{DomainInfo}
@@ -18,7 +18,8 @@ use Rattle.objects.specs.Graces.{states_of}
 use Rattle.objects.specs.StatusTexts.{status_text, rgp_text}
 use Rattle.eppreplies.specs.Members.{members_with, texts_value, moment_value}
 use Rattle.eppreplies.specs.Answer.{settled_value, answer_members, answer_value}
-use Rattle.eppreplies.specs.Reply.{reason_text, checked_members, checked_value, checks_value, created_members, transfer_members, transfer_value, postal_members, postal_value, contact_transfer_of, contact_members, host_members, domain_members, data_value, reply_members, reply_value, deleted_of, restore_requested_of, secret_of, transfer_of}
+use Rattle.eppreplies.specs.Greeting.{greeting_value}
+use Rattle.eppreplies.specs.Reply.{reason_text, checked_members, checked_value, checks_value, created_members, balance_members, renewed_members, transfer_members, transfer_value, postal_members, postal_value, contact_transfer_of, contact_members, host_members, domain_members, data_value, reply_members, reply_value, deleted_of, restore_requested_of, secret_of, transfer_of}
 
 abbrev pub IsPlain : Data → Type 0
 IsPlain d = has_float d ≡ false
@@ -155,6 +156,8 @@ domain_plain d = (
 data_plain : (d : the_data.Data) → IsPlain (data_value d)
 data_plain (Checked results) = members_plain ((codes "results", Some (checks_value results)) ∷ []) (items_plain checked_value results checked_plain, tt)
 data_plain (Created c) = members_plain (created_members c) (maybe_plain (λ cents. string (decimal cents)) c.charge (λ n. refl), (refl, (maybe_moment c.expires, (refl, tt))))
+data_plain (Balance cents) = members_plain (balance_members cents) (refl, tt)
+data_plain (Renewed r) = members_plain (renewed_members r) (refl, (refl, (refl, tt)))
 data_plain (Contact c) = members_plain (contact_members c) (contact_plain c)
 data_plain (Host h) = members_plain (host_members h) (host_plain h)
 data_plain (Domain d) = members_plain (domain_members d) (domain_plain d)
@@ -164,3 +167,6 @@ reply_plain r = members_plain (reply_members r) (maybe_text r.cl_trid, (refl, (m
 
 pub answer_plain : (code : Code) (done : Option ℕ) → IsPlain (answer_value code done)
 answer_plain code done = members_plain (answer_members code done) (refl, (maybe_plain settled_value done (λ n. refl), (refl, tt)))
+
+pub greeting_plain : (date : ℕ) → IsPlain (greeting_value date)
+greeting_plain date = refl

@@ -9,7 +9,7 @@ use Rattle.eppreplies.specs.Members.{members_with}
 abbrev pub settled_value : ℕ → Data
 settled_value done = object (members_with ((codes "done", Some (number (unsigned done))) ∷ []))
 
--- with a number of objects where the order counts them; `status` doesn't
+-- with a number of objects where the order counts them; `status` and `deposit` don't
 abbrev pub answer_members : Code → Option ℕ → List (List ℕ × Option Data)
 answer_members code done =
     (codes "code", Some (number (unsigned (number_of code))))

@@ -2,3 +2,4 @@ pub mod Members
 pub mod Item
 pub mod Reply
 pub mod Answer
+pub mod Greeting

@@ -1,5 +1,6 @@
 -- The text of a reply (RFC 5730, 2.6): compact JSON, the members of each object in the order of their names' bytes.
-use Rattle.std.specs.Prelude.{ℕ, List, [], ◌∷◌, ◌++◌, map, Option, Some, option_map, option_and_then, is_none, codes, decimal}
+use Rattle.std.specs.Fmt.{signed_decimal}
+use Rattle.std.specs.Prelude.{ℕ, List, [], ◌∷◌, ◌++◌, map, Option, Some, option_map, option_and_then, is_none, codes, decimal, ℤ}
 use Rattle.serde_json.specs.Data.{Data, boolean, number, unsigned, string, array, object}
 use Rattle.serde_json.specs.View.{items_of}
 use Rattle.serde_json.specs.Written.{compact_text}
@@ -14,11 +15,12 @@ use Rattle.protocol.specs.Codes.{number_of, message_of}
 use Rattle.protocol.specs.declared.reply.Reply.{Reply}
 use Rattle.protocol.specs.declared.reply.SvTrid.{SvTrid}
 use Rattle.protocol.specs.declared.reply.Data as the_data
-use Rattle.protocol.specs.declared.reply.Data.TheVariants.{Checked, Created, Contact, Domain, Host}
+use Rattle.protocol.specs.declared.reply.Data.TheVariants.{Checked, Created, Balance, Renewed, Contact, Domain, Host}
 use Rattle.protocol.specs.declared.reply.CheckResult.{CheckResult}
 use Rattle.protocol.specs.declared.reply.Reason.{Reason}
 use Rattle.protocol.specs.declared.reply.Reason.TheVariants.{Policy, InUse}
 use Rattle.protocol.specs.declared.reply.Created as the_created
+use Rattle.protocol.specs.declared.reply.Renewed as the_renewed
 use Rattle.protocol.specs.declared.reply.ContactInfo.{ContactInfo}
 use Rattle.protocol.specs.declared.reply.DomainInfo.{DomainInfo}
 use Rattle.protocol.specs.declared.reply.HostInfo.{HostInfo}
@@ -54,6 +56,28 @@ created_members c =
 
 abbrev pub created_value : the_created.Created → Data
 created_value c = object (members_with (created_members c))
+
+-- ---- money, which is shown as a text of whole cents
+
+abbrev pub cents_value : ℤ → Data
+cents_value cents = string (signed_decimal cents)
+
+abbrev pub balance_members : ℤ → List (List ℕ × Option Data)
+balance_members cents = (codes "balance", Some (cents_value cents)) ∷ []
+
+abbrev pub balance_value : ℤ → Data
+balance_value cents = object (members_with (balance_members cents))
+
+-- ---- renew (RFC 5731, 3.2.3)
+
+abbrev pub renewed_members : the_renewed.Renewed → List (List ℕ × Option Data)
+renewed_members r =
+    (codes "charge", Some (string (decimal r.charge)))
+    ∷ (codes "exDate", Some (moment_value r.expires))
+    ∷ (codes "name", Some (string r.name)) ∷ []
+
+abbrev pub renewed_value : the_renewed.Renewed → Data
+renewed_value r = object (members_with (renewed_members r))
 
 -- ---- transfers (RFC 5730, 2.9.3.4)
 
@@ -173,6 +197,8 @@ domain_value d = object (members_with (domain_members d))
 abbrev pub data_value : the_data.Data → Data
 data_value (Checked results) = object (members_with ((codes "results", Some (checks_value results)) ∷ []))
 data_value (Created c) = created_value c
+data_value (Balance cents) = balance_value cents
+data_value (Renewed r) = renewed_value r
 data_value (Contact c) = contact_value c
 data_value (Domain d) = domain_value d
 data_value (Host h) = host_value h

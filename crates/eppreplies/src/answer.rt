@@ -9,7 +9,7 @@ use serde_json::Value;
 use std::alloc::{AllocError, Global};
 
 /// The answer to an order: its code and the code's text, and a number of objects where the order
-/// counts them. `status` counts none.
+/// counts them. `status` and `deposit` count none.
 pub fn order_bytes(alloc: Global, code: Code, done: Option<u32>) -> Result<Vec<u8>, AllocError>
     ensures { IfOk result (λ bytes. bytes.items ≡ spec.answer_text code done) }
 {

@@ -86,7 +86,7 @@ fn time(alloc: Global, moment: Moment) -> Result<Value, AllocError>
 }
 
 /// What is shown by a text.
-trait Shown {
+pub trait Shown {
     ghost shown: { Self → List ℕ };
 
     fn shown(&self) -> &str
@@ -111,6 +111,14 @@ impl Shown for Status {
     }
 }
 
+impl Shown for &'static str {
+    ghost shown = { λ word. word.now };
+
+    fn shown(&self) -> &str {
+        self
+    }
+}
+
 impl Shown for Rgp {
     ghost use Rattle.objects.specs.StatusTexts.{rgp_text};
 
@@ -121,7 +129,8 @@ impl Shown for Rgp {
     }
 }
 
-fn texts<T: Shown>(alloc: Global, items: &[T]) -> Result<Value, AllocError>
+/// A list of what is shown by texts.
+pub fn texts<T: Shown>(alloc: Global, items: &[T]) -> Result<Value, AllocError>
     ensures { IfOk result (λ v. view v ≡ texts_value (map T.shown items.now)) }
 {
     let mut list = Vec::new(alloc);

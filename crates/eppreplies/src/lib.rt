@@ -3,12 +3,15 @@
 //!
 //! - `reply`: a reply as a payload.
 //! - `answer`: the answer to an order.
+//! - `greeting`: what answers hello.
 //! - `item`: what a member says, and an object of members.
 #![tactic(auto)]
 
 mod answer;
+mod greeting;
 mod item;
 mod reply;
 
 pub use answer::order_bytes;
+pub use greeting::greeting_bytes;
 pub use reply::reply_bytes;

@@ -11,7 +11,7 @@ use crate::item::{Item, object, states};
 use calendar::Moment;
 use objects::{Deletion, Postal, Roid, TransferState};
 use protocol::{
-    CheckResult, ContactInfo, Created, Data, DomainInfo, HostInfo, Reason, Reply, SvTrid,
+    CheckResult, ContactInfo, Created, Data, DomainInfo, HostInfo, Reason, Renewed, Reply, SvTrid,
     TransferInfo,
 };
 use serde_json::Value;
@@ -59,6 +59,8 @@ fn data_value(alloc: Global, content: &Data) -> Result<Value, AllocError>
             object(alloc, vec![in alloc; ("results", Item::Given(results))]?)
         }
         Data::Created(created) => created_value(alloc, created),
+        Data::Balance(cents) => balance_value(alloc, *cents),
+        Data::Renewed(renewed) => renewed_value(alloc, renewed),
         Data::Contact(info) => contact_value(alloc, info),
         Data::Domain(info) => domain_value(alloc, info),
         Data::Host(info) => host_value(alloc, info),
@@ -116,9 +118,35 @@ fn created_value(alloc: Global, created: &Created) -> Result<Value, AllocError>
     object(alloc, members)
 }
 
+fn balance_value(alloc: Global, cents: i128) -> Result<Value, AllocError>
+    ensures { IfOk result (λ v. view v ≡ spec.balance_value cents) }
+{
+    let balance = signed_cents_value(alloc, cents)?;
+    object(alloc, vec![in alloc; ("balance", Item::Given(balance))]?)
+}
+
+fn renewed_value(alloc: Global, renewed: &Renewed) -> Result<Value, AllocError>
+    ensures { IfOk result (λ v. view v ≡ spec.renewed_value renewed.now) }
+{
+    let charge = cents_value(alloc, renewed.charge)?;
+    let members = vec![in alloc;
+        ("charge", Item::Given(charge)),
+        ("exDate", Item::Time(renewed.expires)),
+        ("name", Item::Text(&renewed.name)),
+    ]?;
+    object(alloc, members)
+}
+
 /// Money is shown as a text of whole cents.
 fn cents_value(alloc: Global, cents: u64) -> Result<Value, AllocError>
     ensures { IfOk result (λ v. view v ≡ string (decimal cents)) }
+{
+    Ok(Value::String(format!(in alloc; "{cents}")?))
+}
+
+/// The same of money that may be owed.
+fn signed_cents_value(alloc: Global, cents: i128) -> Result<Value, AllocError>
+    ensures { IfOk result (λ v. view v ≡ spec.cents_value cents) }
 {
     Ok(Value::String(format!(in alloc; "{cents}")?))
 }

@@ -3,4 +3,4 @@
 #![tactic(auto)]
 
 pub use eppcommands::{command_of, order_of};
-pub use eppreplies::{order_bytes, reply_bytes};
+pub use eppreplies::{greeting_bytes, order_bytes, reply_bytes};

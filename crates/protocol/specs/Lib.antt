@@ -1,3 +1,4 @@
 pub mod Codes
+pub mod Years
 pub mod Requests
 pub mod Orders

@@ -8,14 +8,14 @@ use Rattle.names.specs.GivenName.{name_of}
 use Rattle.objects.specs.declared.status.Status.{Status}
 use Rattle.protocol.specs.declared.lists.Lists.{Lists}
 use Rattle.protocol.specs.declared.command.Action.{Action}
-use Rattle.protocol.specs.declared.command.Action.TheVariants.{Check, Info, Create, Delete, Update}
+use Rattle.protocol.specs.declared.command.Action.TheVariants as actions
 use Rattle.protocol.specs.declared.command.Command.{Command}
 use Rattle.protocol.specs.declared.command.Command.TheVariants.{Bad, Asked}
 use Rattle.protocol.specs.declared.command.DomainLists.{DomainLists}
 use Rattle.protocol.specs.declared.command.HostLists.{HostLists}
 use Rattle.protocol.specs.declared.command.HostUpdate.{HostUpdate}
 use Rattle.protocol.specs.declared.command.Request.{Request}
-use Rattle.protocol.specs.declared.command.Request.TheVariants.{CheckContact, CheckDomain, CheckHost, InfoContact, InfoDomain, InfoHost, CreateContact, CreateDomain, CreateHost, DeleteContact, DeleteHost, UpdateContact, UpdateDomain, UpdateHost}
+use Rattle.protocol.specs.declared.command.Request.TheVariants.{Balance, CheckContact, CheckDomain, CheckHost, InfoContact, InfoDomain, InfoHost, CreateContact, CreateDomain, CreateHost, DeleteContact, DeleteHost, UpdateContact, UpdateDomain, UpdateHost, RenewDomain}
 
 -- a test of what is there, if it is
 abbrev pub holds_of : {A : Type 0} → (A → Bool) → Option A → Bool
@@ -56,7 +56,8 @@ of_host lists = record no_lists { addresses = lists.addresses; statuses = lists.
 -- What a command does, the contacts, domains and hosts that it acts on, the name that a host is to have, the
 -- registrant that a domain is to have, what its object is to have and to have no longer, the secret
 -- that is presented for it, whether the command has to know what domains name and which hosts lie
--- below one, and whether it gives its registrar one domain more to hold.
+-- below one, whether it gives its registrar one domain more to hold, whether it has to know what its
+-- registrar's account has, for how many years it charges, and when it takes its domain to expire.
 pub record Asks : Type 0 where
   pub action : Action
   pub contacts : List (List ℕ)
@@ -69,6 +70,9 @@ pub record Asks : Type 0 where
   pub secret : Option (List ℕ)
   pub reads_associations : Bool
   pub adds_a_held_domain : Bool
+  pub reads_balance : Bool
+  pub years : ℕ
+  pub expires : Option (List ℕ)
 
 abbrev only : Action → Asks
 only action = record {
@@ -83,43 +87,51 @@ only action = record {
   secret = None;
   reads_associations = false;
   adds_a_held_domain = false;
+  reads_balance = false;
+  years = 0;
+  expires = None;
 }
 
 -- Info shows, and a delete is refused by, what hangs on the object (RFC 5731 to 5733, 3.1.2, 3.2.2).
+-- What is charged needs a balance (RFC 5730, 3: 2104).
 abbrev pub asks_of : Request → Asks
-asks_of (CheckContact names) = record (only Check) { contacts = names }
-asks_of (CheckDomain names) = record (only Check) { domains = names }
-asks_of (CheckHost names) = record (only Check) { hosts = names }
-asks_of (InfoContact name secret) = record (only Info) { contacts = name ∷ []; secret = secret; reads_associations = true }
-asks_of (InfoDomain name secret) = record (only Info) { domains = name ∷ []; secret = secret; reads_associations = true }
-asks_of (InfoHost name) = record (only Info) { hosts = name ∷ []; reads_associations = true }
-asks_of (CreateContact new) = record (only Create) { contacts = new.name ∷ [] }
-asks_of (CreateDomain new) = record (only Create) {
+asks_of Balance = record (only actions.Balance) { reads_balance = true }
+asks_of (CheckContact names) = record (only actions.Check) { contacts = names }
+asks_of (CheckDomain names) = record (only actions.Check) { domains = names }
+asks_of (CheckHost names) = record (only actions.Check) { hosts = names }
+asks_of (InfoContact name secret) = record (only actions.Info) { contacts = name ∷ []; secret = secret; reads_associations = true }
+asks_of (InfoDomain name secret) = record (only actions.Info) { domains = name ∷ []; secret = secret; reads_associations = true }
+asks_of (InfoHost name) = record (only actions.Info) { hosts = name ∷ []; reads_associations = true }
+asks_of (CreateContact new) = record (only actions.Create) { contacts = new.name ∷ [] }
+asks_of (CreateDomain new) = record (only actions.Create) {
   domains = new.name ∷ [];
   registrant = Some new.registrant;
   adds = record no_lists { hosts = new.hosts; admin = new.admin; tech = new.tech };
   adds_a_held_domain = true;
+  reads_balance = true;
+  years = new.years;
 }
-asks_of (CreateHost new) = record (only Create) { hosts = new.name ∷ []; adds = record no_lists { addresses = new.addresses } }
-asks_of (DeleteContact name) = record (only Delete) { contacts = name ∷ []; reads_associations = true }
-asks_of (DeleteHost name) = record (only Delete) { hosts = name ∷ []; reads_associations = true }
-asks_of (UpdateContact update) = record (only Update) {
+asks_of (CreateHost new) = record (only actions.Create) { hosts = new.name ∷ []; adds = record no_lists { addresses = new.addresses } }
+asks_of (DeleteContact name) = record (only actions.Delete) { contacts = name ∷ []; reads_associations = true }
+asks_of (DeleteHost name) = record (only actions.Delete) { hosts = name ∷ []; reads_associations = true }
+asks_of (UpdateContact update) = record (only actions.Update) {
   contacts = update.name ∷ [];
   adds = record no_lists { statuses = update.add };
   removes = record no_lists { statuses = update.rem };
 }
-asks_of (UpdateDomain update) = record (only Update) {
+asks_of (UpdateDomain update) = record (only actions.Update) {
   domains = update.name ∷ [];
   registrant = update.registrant;
   adds = of_domain update.add;
   removes = of_domain update.rem;
 }
-asks_of (UpdateHost update) = record (only Update) {
+asks_of (UpdateHost update) = record (only actions.Update) {
   hosts = update.name ∷ [];
   new_host = update.new_name;
   adds = of_host update.add;
   removes = of_host update.rem;
 }
+asks_of (RenewDomain name expires years) = record (only actions.Renew) { domains = name ∷ []; reads_balance = true; years = years; expires = Some expires }
 
 abbrev pub contacts_asked : Request → List (List ℕ)
 contacts_asked request = (asks_of request).contacts
@@ -139,6 +151,9 @@ reads_associations request = (asks_of request).reads_associations
 
 abbrev pub adds_a_held_domain : Request → Bool
 adds_a_held_domain request = (asks_of request).adds_a_held_domain
+
+abbrev pub reads_balance : Request → Bool
+reads_balance request = (asks_of request).reads_balance
 
 -- a contact or host that a domain is to name from now on fails its test
 abbrev pub any_reference_fails : (List ℕ → Bool) → (List ℕ → Bool) → Asks → Bool

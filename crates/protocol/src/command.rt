@@ -4,6 +4,7 @@ ghost use Rattle.std.specs.Option.{option_copied};
 ghost use Rattle.protocol.specs.Requests as spec;
 
 use crate::form::FormFault;
+use crate::years::Years;
 use basis::list::Seq;
 use basis::text::Text;
 use names::GivenName;
@@ -28,16 +29,20 @@ pub enum Command {
 /// What a command does with its object (RFC 5730, 2.9).
 #[derive(Clone, Copy, Drop)]
 pub enum Action {
+    Balance,
     Check,
     Info,
     Create,
     Delete,
     Update,
+    Renew,
 }
 
 /// What a well formed command asks for.
 #[derive(Drop)]
 pub enum Request {
+    /// What the registrar's account has.
+    Balance,
     /// Which of the names could be created (RFC 5733, 3.1.1).
     CheckContact {
         names: Seq<Text>,
@@ -84,6 +89,13 @@ pub enum Request {
     UpdateDomain(DomainUpdate),
     /// A host is to change (RFC 5732, 3.2.5).
     UpdateHost(HostUpdate),
+    /// A domain is to be registered for longer (RFC 5731, 3.2.3).
+    RenewDomain {
+        name: GivenName,
+        /// The date on which it expires now, `YYYY-MM-DD`.
+        expires: Text,
+        years: Years,
+    },
 }
 
 /// What a new contact is to have.
@@ -100,7 +112,7 @@ pub struct NewContact {
 #[derive(Drop)]
 pub struct NewDomain {
     pub name: GivenName,
-    pub years: u32,
+    pub years: Years,
     pub registrant: Text,
     pub admin: Seq<Text>,
     pub tech: Seq<Text>,
@@ -171,6 +183,7 @@ impl Request {
         ensures { result ≡ (spec.asks_of self.now).action }
     {
         match self {
+            Request::Balance => Action::Balance,
             Request::CheckContact { .. }
             | Request::CheckDomain { .. }
             | Request::CheckHost { .. } => Action::Check,
@@ -183,6 +196,7 @@ impl Request {
             Request::UpdateContact(_) | Request::UpdateDomain(_) | Request::UpdateHost(_) => {
                 Action::Update
             }
+            Request::RenewDomain { .. } => Action::Renew,
         }
     }
 
@@ -209,6 +223,7 @@ impl Request {
             Request::InfoDomain { name, .. } => slice::from_ref(name),
             Request::CreateDomain(new) => slice::from_ref(&new.name),
             Request::UpdateDomain(update) => slice::from_ref(&update.name),
+            Request::RenewDomain { name, .. } => slice::from_ref(name),
             _ => &[],
         }
     }
@@ -248,6 +263,27 @@ impl Request {
         }
     }
 
+    /// For how many years it charges, none for most.
+    pub fn years(&self) -> u32
+        ensures { result ≡ (spec.asks_of self.now).years }
+    {
+        match self {
+            Request::CreateDomain(new) => new.years.number(),
+            Request::RenewDomain { years, .. } => years.number(),
+            _ => 0,
+        }
+    }
+
+    /// The date on which it takes its domain to expire.
+    pub fn expires(&self) -> Option<&Text>
+        ensures { option_copied result ≡ (spec.asks_of self.now).expires }
+    {
+        match self {
+            Request::RenewDomain { expires, .. } => Some(expires),
+            _ => None,
+        }
+    }
+
     /// The secret that it presents.
     pub fn secret(&self) -> Option<&Text>
         ensures { option_copied result ≡ (spec.asks_of self.now).secret }
@@ -278,6 +314,16 @@ impl Request {
         ensures { result ≡ spec.adds_a_held_domain self.now }
     {
         matches!(self, Request::CreateDomain(_))
+    }
+
+    /// Whether it has to know what the registrar's account has.
+    fn reads_balance(&self) -> bool
+        ensures { result ≡ spec.reads_balance self.now }
+    {
+        matches!(
+            self,
+            Request::Balance | Request::CreateDomain(_) | Request::RenewDomain { .. }
+        )
     }
 
     /// The secret that it presents for a domain.
@@ -381,6 +427,16 @@ impl Command {
         match self {
             Command::Bad { .. } => false,
             Command::Asked { request, .. } => request.adds_a_held_domain(),
+        }
+    }
+
+    /// Whether it has to know what the registrar's account has.
+    pub fn reads_balance(&self) -> bool
+        ensures { result ≡ spec.asked false spec.reads_balance self.now }
+    {
+        match self {
+            Command::Bad { .. } => false,
+            Command::Asked { request, .. } => request.reads_balance(),
         }
     }
 

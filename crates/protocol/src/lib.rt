@@ -8,6 +8,7 @@ mod form;
 mod lists;
 mod order;
 mod reply;
+mod years;
 
 pub use code::Code;
 pub use command::{
@@ -19,5 +20,6 @@ pub use lists::{Lists, MOST_ADDRESSES, MOST_CONTACTS, MOST_HOSTS};
 pub use order::{Order, StatusOrder};
 pub use reply::{
     CheckResult, ContactHidden, ContactInfo, Created, Data, DomainHidden, DomainInfo, HostInfo,
-    Reason, Reply, SvTrid, TransferInfo,
+    Reason, Renewed, Reply, SvTrid, TransferInfo,
 };
+pub use years::Years;

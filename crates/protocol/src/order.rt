@@ -14,6 +14,13 @@ use std::alloc::{AllocError, Global};
 pub enum Order {
     /// Statuses of an object are to be set or taken away.
     Status(StatusOrder),
+    /// A registrar has paid.
+    Deposit {
+        /// The registrar's id as it was sent.
+        registrar: Text,
+        /// In whole cents, as they were sent.
+        cents: i64,
+    },
 }
 
 /// Which statuses of which object.

@@ -29,6 +29,9 @@ pub enum Data {
     /// In the order in which the names were sent.
     Checked(Seq<CheckResult>),
     Created(Created),
+    /// What an account has, in whole cents.
+    Balance(i128),
+    Renewed(Renewed),
     Contact(ContactInfo),
     Domain(DomainInfo),
     Host(HostInfo),
@@ -58,6 +61,15 @@ pub struct Created {
     pub expires: Option<Moment>,
     /// In whole cents.
     pub charge: Option<u64>,
+}
+
+/// A domain that is registered for longer.
+#[derive(Drop)]
+pub struct Renewed {
+    pub name: Text,
+    pub expires: Moment,
+    /// In whole cents.
+    pub charge: u64,
 }
 
 /// What info tells of a contact.

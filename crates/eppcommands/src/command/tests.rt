@@ -82,7 +82,7 @@ const COMMANDS: [(&str, Code); 20] = [
     ),
     ("[", Code::SyntaxError),
     (
-        r#"{"cmd":"delete","obj":"domain","x":1}"#,
+        r#"{"cmd":"renew","obj":"host","x":1}"#,
         Code::UnknownCommand,
     ),
     (
@@ -108,6 +108,126 @@ fn commands(rt: HostRuntime) -> Result<(), Fail> {
             answer(rt.alloc(), &zone, payload.as_bytes())? == wanted,
             "{payload}"
         );
+    }
+    Ok(())
+}
+
+/// Of money: balance, and renew with its dates and years.
+const MONEY: [(&str, Code); 25] = [
+    (r#"{"cmd":"balance"}"#, Code::Completed),
+    (r#"{"cmd":"balance","obj":"domain"}"#, Code::SyntaxError),
+    (r#"{"cmd":"balance","clTRID":"ab"}"#, Code::ParameterRange),
+    (r#"{"cmd":"balance","obj":1}"#, Code::SyntaxError),
+    (
+        r#"{"cmd":"renew","obj":"domain","name":"foo.test","expires":"2029-02-28","years":3}"#,
+        Code::Completed,
+    ),
+    (
+        r#"{"cmd":"renew","obj":"domain","name":"foo.test","expires":"2028-02-29"}"#,
+        Code::Completed,
+    ),
+    (
+        r#"{"cmd":"renew","obj":"domain","name":"foo.test","expires":"0000-02-29"}"#,
+        Code::Completed,
+    ),
+    (
+        r#"{"cmd":"renew","obj":"domain","name":"foo.test","expires":"9999-12-31","years":10}"#,
+        Code::Completed,
+    ),
+    (
+        r#"{"cmd":"renew","obj":"domain","name":"foo.test","expires":"2029-02-29"}"#,
+        Code::ParameterSyntax,
+    ),
+    (
+        r#"{"cmd":"renew","obj":"domain","name":"foo.test","expires":"2100-02-29"}"#,
+        Code::ParameterSyntax,
+    ),
+    (
+        r#"{"cmd":"renew","obj":"domain","name":"foo.test","expires":"2029-00-01"}"#,
+        Code::ParameterSyntax,
+    ),
+    (
+        r#"{"cmd":"renew","obj":"domain","name":"foo.test","expires":"2029-13-01"}"#,
+        Code::ParameterSyntax,
+    ),
+    (
+        r#"{"cmd":"renew","obj":"domain","name":"foo.test","expires":"2029-04-31"}"#,
+        Code::ParameterSyntax,
+    ),
+    (
+        r#"{"cmd":"renew","obj":"domain","name":"foo.test","expires":"2029-01-00"}"#,
+        Code::ParameterSyntax,
+    ),
+    (
+        r#"{"cmd":"renew","obj":"domain","name":"foo.test","expires":"2029-1-01"}"#,
+        Code::ParameterSyntax,
+    ),
+    (
+        r#"{"cmd":"renew","obj":"domain","name":"foo.test","expires":""}"#,
+        Code::ParameterSyntax,
+    ),
+    (
+        r#"{"cmd":"renew","obj":"domain","name":"foo.test","expires":"2029-02-29","years":11}"#,
+        Code::ParameterRange,
+    ),
+    (
+        r#"{"cmd":"renew","obj":"domain","name":"foo.test","expires":"2029-02-28","years":0}"#,
+        Code::ParameterRange,
+    ),
+    (
+        r#"{"cmd":"renew","obj":"domain","name":"foo.test","expires":"2029-02-28","years":-1}"#,
+        Code::ParameterRange,
+    ),
+    (
+        r#"{"cmd":"renew","obj":"domain","name":"foo.test","expires":"2029-02-28","years":1.0}"#,
+        Code::SyntaxError,
+    ),
+    (
+        r#"{"cmd":"renew","obj":"domain","name":"foo.test","years":11}"#,
+        Code::ParameterMissing,
+    ),
+    (
+        r#"{"cmd":"renew","obj":"domain","name":"foo.test","expires":20290228}"#,
+        Code::SyntaxError,
+    ),
+    (r#"{"cmd":"renew"}"#, Code::SyntaxError),
+    (
+        r#"{"cmd":"renew","obj":"contact","expires":1}"#,
+        Code::UnknownCommand,
+    ),
+    (
+        r#"{"cmd":"renew","obj":"domain","name":"_","expires":"2029-02-30","years":11}"#,
+        Code::ParameterRange,
+    ),
+];
+
+#[test]
+fn of_money(rt: HostRuntime) -> Result<(), Fail> {
+    let zone = zone(rt.alloc())?;
+    for (payload, wanted) in MONEY {
+        assert!(rt;
+            answer(rt.alloc(), &zone, payload.as_bytes())? == wanted,
+            "{payload}"
+        );
+    }
+    Ok(())
+}
+
+/// What has no row yet, whatever else is wrong with it.
+const UNKNOWN: [&str; 5] = [
+    r#"{"cmd":"delete","obj":"domain","name":"foo.test"}"#,
+    r#"{"cmd":"restore","name":"foo.test","op":"request"}"#,
+    r#"{"cmd":"transfer","obj":"domain","name":"foo.test","op":"query"}"#,
+    r#"{"cmd":"poll","op":"req"}"#,
+    r#"{"cmd":"login","obj":1,"id":"alfa","pw":"pass-alfa","version":"1.0"}"#,
+];
+
+#[test]
+fn no_row(rt: HostRuntime) -> Result<(), Fail> {
+    let zone = zone(rt.alloc())?;
+    for payload in UNKNOWN {
+        let code = answer(rt.alloc(), &zone, payload.as_bytes())?;
+        assert!(rt; code == Code::UnknownCommand, "{payload}");
     }
     Ok(())
 }

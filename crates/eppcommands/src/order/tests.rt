@@ -3,7 +3,7 @@ use std::alloc::{AllocError, Global};
 use std::test::Fail;
 
 /// Payloads, and whether each is an order.
-const ORDERS: [(&str, bool); 5] = [
+const ORDERS: [(&str, bool); 18] = [
     (
         r#"{"order":"status","obj":"contact","name":"_","add":["serverUpdateProhibited"],"rem":["hold"]}"#,
         true,
@@ -21,6 +21,34 @@ const ORDERS: [(&str, bool); 5] = [
         r#"{"add":[],"name":"a","obj":"domain","order":"sing","rem":[]}"#,
         false,
     ),
+    (r#"{"order":"deposit","registrar":"alfa","cents":1}"#, true),
+    (r#"{"order":"deposit","registrar":"","cents":-1}"#, true),
+    (
+        r#"{"order":"deposit","registrar":"x","cents":9223372036854775807}"#,
+        true,
+    ),
+    (
+        r#"{"order":"deposit","registrar":"x","cents":-9223372036854775808}"#,
+        true,
+    ),
+    (
+        r#"{"order":"deposit","registrar":"x","cents":9223372036854775808}"#,
+        false,
+    ),
+    (r#"{"order":"deposit","registrar":"x","cents":1.0}"#, false),
+    (r#"{"order":"deposit","registrar":"x","cents":"1"}"#, false),
+    (r#"{"order":"deposit","registrar":"x"}"#, false),
+    (
+        r#"{"order":"deposit","registrar":"x","cents":1,"clTRID":"abc"}"#,
+        false,
+    ),
+    (r#"{"order":"deposit","registrar":1,"cents":1}"#, false),
+    (r#"{"order":"deposit","cents":1}"#, false),
+    (
+        r#"{"obj":"domain","order":"deposit","registrar":"x","cents":1}"#,
+        false,
+    ),
+    (r#"{"registrar":"x","cents":1}"#, false),
 ];
 
 fn is_order(alloc: Global, payload: &[u8]) -> Result<bool, AllocError> {

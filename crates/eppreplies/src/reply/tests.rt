@@ -1,4 +1,5 @@
-//! What no command gives yet: a transfer, a deletion and a restore that is requested.
+//! What is told of money; and what no command gives yet: a transfer, a deletion and a restore that is
+//! requested.
 use super::reply_bytes;
 use basis::list::Seq;
 use basis::registrar::RegistrarNo;
@@ -9,7 +10,8 @@ use objects::{
     Transfer, TransferState,
 };
 use protocol::{
-    Code, ContactHidden, ContactInfo, Data, DomainHidden, DomainInfo, Reply, SvTrid, TransferInfo,
+    Code, ContactHidden, ContactInfo, Data, DomainHidden, DomainInfo, Renewed, Reply, SvTrid,
+    TransferInfo,
 };
 use std::alloc::{AllocError, Global};
 use std::test::Fail;
@@ -79,11 +81,11 @@ fn domain_face(alloc: Global, at: History) -> DomainFace {
         standing: Standing {
             graces: Graces {
                 add: false,
-                auto_renew: false,
+                auto_renew: true,
                 renew: false,
-                transfer: false,
+                transfer: true,
             },
-            phase: Phase::Live,
+            phase: Phase::Restoring,
         },
         links: Links {
             registrant: nothing(alloc),
@@ -167,7 +169,7 @@ fn is_told(alloc: Global, content: Data, wanted: &str) -> Result<bool, AllocErro
 }
 
 const DOMAIN: &str =
-    r#"{"code":1000,"data":{"admin":[],"clID":"","crDate":"2028-01-01T00:00:00Z","delDate":"2028-03-03T00:00:00Z","exDate":"2028-01-01T00:00:00Z","hosts":[],"name":"","registrant":"","resDate":"2028-03-04T00:00:00Z","rgp":[],"roid":"D2_12-REG","status":[],"subordinate":[],"tech":[],"trDate":"2028-03-01T00:00:00Z","transfer":{"acDate":"2028-03-01T00:00:00Z","acID":"beta","reDate":"2028-02-29T12:00:00Z","reID":"alfa","status":"clientApproved"}},"msg":"Command completed successfully","svTRID":"-3"}"#;
+    r#"{"code":1000,"data":{"admin":[],"clID":"","crDate":"2028-01-01T00:00:00Z","delDate":"2028-03-03T00:00:00Z","exDate":"2028-01-01T00:00:00Z","hosts":[],"name":"","registrant":"","resDate":"2028-03-04T00:00:00Z","rgp":["autoRenewPeriod","pendingRestore","transferPeriod"],"roid":"D2_12-REG","status":[],"subordinate":[],"tech":[],"trDate":"2028-03-01T00:00:00Z","transfer":{"acDate":"2028-03-01T00:00:00Z","acID":"beta","reDate":"2028-02-29T12:00:00Z","reID":"alfa","status":"clientApproved"}},"msg":"Command completed successfully","svTRID":"-3"}"#;
 
 const CONTACT: &str =
     r#"{"code":1000,"data":{"clID":"","crDate":"2028-01-01T00:00:00Z","mail":"","name":"","postal":{"cc":"","city":"","name":"","street":[]},"roid":"C2_12-REG","status":[],"trDate":"2028-03-01T00:00:00Z","transfer":{"acDate":"2028-03-01T00:00:00Z","acID":"beta","reDate":"2028-02-29T12:00:00Z","reID":"alfa","status":"clientApproved"}},"msg":"Command completed successfully","svTRID":"-3"}"#;
@@ -191,5 +193,39 @@ fn contact_in_full(rt: HostRuntime) -> Result<(), Fail> {
     let requester = Text::from_str(alloc, "alfa")?;
     let content = contact(alloc, at, transfer(at, loser, requester));
     assert!(rt; is_told(alloc, content, CONTACT)?);
+    Ok(())
+}
+
+/// What is told of money, and the data of the reply that tells it.
+fn of_money(alloc: Global, place: usize) -> Result<(Data, &'static str), Fail> {
+    Ok(match place {
+        0 => (Data::Balance(96800), r#"{"balance":"96800"}"#),
+        1 => (Data::Balance(-800), r#"{"balance":"-800"}"#),
+        _ => (
+            Data::Renewed(Renewed {
+                name: Text::from_str(alloc, "foo.test")?,
+                expires: moment("2032-02-29T00:00:00Z")?,
+                charge: 2400,
+            }),
+            r#"{"charge":"2400","exDate":"2032-02-29T00:00:00Z","name":"foo.test"}"#,
+        ),
+    })
+}
+
+/// Whether the reply with the data has these data.
+fn is_reply_of(alloc: Global, content: Data, wanted: &str) -> Result<bool, AllocError> {
+    let text = format!(in alloc;
+        r#"{{"code":1000,"data":{wanted},"msg":"Command completed successfully","svTRID":"-3"}}"#
+    )?;
+    is_told(alloc, content, text.as_str())
+}
+
+#[test]
+fn money(rt: HostRuntime) -> Result<(), Fail> {
+    let alloc = rt.alloc();
+    for place in 0..3 {
+        let (content, wanted) = of_money(alloc, place)?;
+        assert!(rt; is_reply_of(alloc, content, wanted)?, "{wanted}");
+    }
     Ok(())
 }
