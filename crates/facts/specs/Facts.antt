@@ -1,9 +1,10 @@
 -- The facts of a registry that bear on a command of a registrar.
-use Rattle.std.specs.Prelude.{ℕ, Bool, false, ◌&&◌, nat_le, List, [], map, filter, length, Option, Some, None, option_map, option_and_then, is_some, find, if◌then◌else◌}
+use Rattle.std.specs.Prelude.{ℕ, Bool, false, ◌&&◌, nat_le, ℤ, pos, List, [], map, filter, length, Option, Some, None, option_map, option_and_then, is_some, find, if◌then◌else◌}
 use Rattle.std.specs.FinMap.{get, keys, values}
 use Rattle.std.specs.List.{list_any}
 use Rattle.std.specs.Str.{bytes_eq}
 use Rattle.accounts.specs.declared.account.Account.{Account}
+use Rattle.accounts.specs.Lines.{balance}
 use Rattle.names.specs.GivenName.{name_of}
 use Rattle.names.specs.Zone.{ZoneRules, last_two_of, superordinate_of}
 use Rattle.objects.specs.declared.contact.Contact.{Contact}
@@ -27,7 +28,7 @@ use Rattle.facts.specs.declared.facts.Facts.{Facts}
 use Rattle.facts.specs.declared.facts.TheConstants.{HOLDING_LIMIT}
 use Rattle.model.specs.Registry.{Registry, account_of}
 use Rattle.model.specs.View.{domain_sight}
-use Rattle.protocol.specs.Requests.{adds_a_held_domain, asked, contacts_asked, domains_asked, hosts_asked, new_host_asked, presented, presented_contact, reads_associations, references_fail}
+use Rattle.protocol.specs.Requests.{adds_a_held_domain, asked, contacts_asked, domains_asked, hosts_asked, new_host_asked, presented, presented_contact, reads_associations, reads_balance, references_fail}
 
 -- ---- what is found in a registry
 
@@ -82,8 +83,12 @@ lookups p r c s = record {
 
 -- ---- the facts
 
-abbrev pub account_facts : Account → AccountFacts
-account_facts a = record { commands = a.commands; serial = a.serial }
+-- what the account has, where the command has to know it
+abbrev pub balance_asked : Command → Account → ℤ
+balance_asked c a = if asked false reads_balance c then balance a.lines else pos 0
+
+abbrev pub account_facts : Command → Account → AccountFacts
+account_facts c a = record { commands = a.commands; serial = a.serial; balance = balance_asked c a }
 
 abbrev pub contact_facts : Lookups → Command → List ℕ → ContactFacts
 contact_facts found c name = record {
@@ -110,7 +115,7 @@ host_facts found c name = record {
 -- the facts of a command, by what is found
 abbrev pub facts_by : Lookups → Command → Facts
 facts_by found c = record {
-  account = account_facts found.account;
+  account = account_facts c found.account;
   contacts = map (contact_facts found c) (asked [] contacts_asked c);
   domains = map (λ name. domain_facts found c (name_of name)) (asked [] domains_asked c);
   hosts = map (λ name. host_facts found c (name_of name)) (asked [] hosts_asked c);

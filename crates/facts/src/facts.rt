@@ -20,6 +20,8 @@ pub const HOLDING_LIMIT: usize = 1_000_000;
 pub struct AccountFacts {
     pub commands: u64,
     pub serial: u64,
+    /// What it has, in whole cents, where the command asks.
+    pub balance: i128,
 }
 
 impl AccountFacts {

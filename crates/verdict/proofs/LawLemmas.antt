@@ -1,19 +1,22 @@
 -- The laws that the tables keep, row by row.
-use Rattle.std.proofs.Common.{◌≡◌, ℕ, Bool, true, false, not, inl, inr, List, Option, Some, None, Result, Ok, Err, IfOk, refl, sym, ap, subst, ◌∙◌}
+use Rattle.std.proofs.Common.{◌≡◌, ℕ, ◌*◌, ◌<◌, Bool, true, false, not, ◌&&◌, nat_lt, ℤ, pos, int_lt, ◌≤ℤ◌, inl, inr, List, Option, Some, None, Result, Ok, Err, IfOk, refl, sym, ap, subst, ◌∙◌, arith}
+use Rattle.std.proofs.lemmas.Bool.{and_cases, lt-ltb}
+use Rattle.std.proofs.lemmas.Int.{ints}
 use Rattle.policy.specs.Rules.{PolicyRules}
 use Rattle.facts.specs.declared.facts.Facts.{Facts}
-use Rattle.objects.specs.declared.status.Status.TheVariants.{ClientDeleteProhibited, ClientUpdateProhibited, PendingTransfer, ServerDeleteProhibited, ServerUpdateProhibited}
+use Rattle.objects.specs.declared.status.Status.TheVariants.{ClientDeleteProhibited, ClientRenewProhibited, ClientUpdateProhibited, PendingTransfer, ServerDeleteProhibited, ServerRenewProhibited, ServerUpdateProhibited}
 use Rattle.protocol.specs.declared.code.Code.{Code}
-use Rattle.protocol.specs.declared.command.Action.TheVariants.{Create, Delete, Update}
+use Rattle.protocol.specs.declared.command.Action.TheVariants.{Create, Delete, Update, Renew}
 use Rattle.protocol.specs.declared.command.Command.{Command}
 use Rattle.protocol.specs.declared.command.Command.TheVariants.{Bad, Asked}
 use Rattle.protocol.specs.declared.command.Request.{Request}
-use Rattle.protocol.specs.declared.command.Request.TheVariants.{CheckContact, CheckDomain, CheckHost, InfoContact, InfoDomain, InfoHost, CreateContact, CreateDomain, CreateHost, DeleteContact, DeleteHost, UpdateContact, UpdateDomain, UpdateHost}
+use Rattle.protocol.specs.declared.command.Request.TheVariants.{Balance, CheckContact, CheckDomain, CheckHost, InfoContact, InfoDomain, InfoHost, CreateContact, CreateDomain, CreateHost, DeleteContact, DeleteHost, UpdateContact, UpdateDomain, UpdateHost, RenewDomain}
 use Rattle.protocol.specs.Codes.{is_accepted}
 use Rattle.protocol.specs.Requests.{asks_of}
 use Rattle.verdict.specs.declared.rules.Condition.{Condition}
-use Rattle.verdict.specs.declared.rules.Condition.TheVariants.{IsThere, IsMissing, IsAnothers, SecretIsWrong, Shows, StillShows, IsLinked}
+use Rattle.verdict.specs.declared.rules.Condition.TheVariants.{IsThere, IsMissing, IsAnothers, SecretIsWrong, Shows, StillShows, IsLinked, LacksMoney}
 use Rattle.verdict.specs.declared.verdict.Verdict.{Verdict}
+use Rattle.verdict.specs.Charges.{charge_of}
 use Rattle.verdict.specs.Conditions.{holds, is_linked, is_of_another, is_there, secret_is_wrong, shows_status, still_shows}
 use Rattle.verdict.specs.Laws.{ActsOnObject, Alters, AnswersLawfully, IsLawful, KeepsLaws}
 use Rattle.verdict.specs.ResponseData.{response_data}
@@ -28,6 +31,14 @@ there-is false e = absurd cc
 apart : true ≡ false → ⊥
 apart e = cc
 
+-- what is charged and isn't more than the balance can be paid
+affordable : (charge : ℕ) (balance : ℤ) → 0 < charge → (nat_lt 0 charge && int_lt balance (pos charge)) ≡ false → pos charge ≤ℤ balance
+affordable charge balance some enough =
+    elim (and_cases (nat_lt 0 charge) (int_lt balance (pos charge)) enough) [
+      | inl none ↦ absurd (let is : nat_lt 0 charge ≡ true = lt-ltb 0 charge some in apart (sym is ∙ none))
+      | inr less ↦ omega (arith, ints)
+    ]
+
 module _ (p : PolicyRules) (r t : ℕ) (f : Facts) where
   sponsor-law : (q : Request) → refusal_of p r t q f ≡ None → Alters (asks_of q).action → is_of_another p.zone r q f ≡ false
   sponsor-law (DeleteContact name) taken is = unrefused p r t (DeleteContact name) f taken IsAnothers (search (inl, inr) depth 20)
@@ -35,6 +46,7 @@ module _ (p : PolicyRules) (r t : ℕ) (f : Facts) where
   sponsor-law (UpdateContact update) taken is = unrefused p r t (UpdateContact update) f taken IsAnothers (search (inl, inr) depth 20)
   sponsor-law (UpdateDomain update) taken is = unrefused p r t (UpdateDomain update) f taken IsAnothers (search (inl, inr) depth 20)
   sponsor-law (UpdateHost update) taken is = unrefused p r t (UpdateHost update) f taken IsAnothers (search (inl, inr) depth 20)
+  sponsor-law (RenewDomain name expires years) taken is = unrefused p r t (RenewDomain name expires years) f taken IsAnothers (search (inl, inr) depth 20)
   sponsor-law _ taken is = absurd (is)
 
   there-law : (q : Request) → refusal_of p r t q f ≡ None → ActsOnObject (asks_of q).action → is_there q f ≡ true
@@ -46,6 +58,7 @@ module _ (p : PolicyRules) (r t : ℕ) (f : Facts) where
   there-law (UpdateContact update) taken is = there-is _ (unrefused p r t (UpdateContact update) f taken IsMissing (search (inl, inr) depth 20))
   there-law (UpdateDomain update) taken is = there-is _ (unrefused p r t (UpdateDomain update) f taken IsMissing (search (inl, inr) depth 20))
   there-law (UpdateHost update) taken is = there-is _ (unrefused p r t (UpdateHost update) f taken IsMissing (search (inl, inr) depth 20))
+  there-law (RenewDomain name expires years) taken is = there-is _ (unrefused p r t (RenewDomain name expires years) f taken IsMissing (search (inl, inr) depth 20))
   there-law _ taken is = absurd (is)
 
   new-law : (q : Request) → refusal_of p r t q f ≡ None → (asks_of q).action ≡ Create → is_there q f ≡ false
@@ -86,7 +99,20 @@ module _ (p : PolicyRules) (r t : ℕ) (f : Facts) where
   server-update-law (UpdateHost update) taken is = unrefused p r t (UpdateHost update) f taken (Shows ServerUpdateProhibited) (search (inl, inr) depth 20)
   server-update-law _ taken is = absurd (cc)
 
-  lawful : (q : Request) → refusal_of p r t q f ≡ None → IsLawful p.zone r q f
+  client-renew-law : (q : Request) → refusal_of p r t q f ≡ None → (asks_of q).action ≡ Renew → shows_status ClientRenewProhibited q f ≡ false
+  client-renew-law (RenewDomain name expires years) taken is = unrefused p r t (RenewDomain name expires years) f taken (Shows ClientRenewProhibited) (search (inl, inr) depth 20)
+  client-renew-law _ taken is = absurd (cc)
+
+  server-renew-law : (q : Request) → refusal_of p r t q f ≡ None → (asks_of q).action ≡ Renew → shows_status ServerRenewProhibited q f ≡ false
+  server-renew-law (RenewDomain name expires years) taken is = unrefused p r t (RenewDomain name expires years) f taken (Shows ServerRenewProhibited) (search (inl, inr) depth 20)
+  server-renew-law _ taken is = absurd (cc)
+
+  paid-law : (q : Request) → refusal_of p r t q f ≡ None → 0 < charge_of p q → pos (charge_of p q) ≤ℤ f.account.balance
+  paid-law (CreateDomain new) taken some = affordable _ _ some (unrefused p r t (CreateDomain new) f taken LacksMoney (search (inl, inr) depth 20))
+  paid-law (RenewDomain name expires years) taken some = affordable _ _ some (unrefused p r t (RenewDomain name expires years) f taken LacksMoney (search (inl, inr) depth 20))
+  paid-law _ taken some = absurd (omega arith)
+
+  lawful : (q : Request) → refusal_of p r t q f ≡ None → IsLawful p r q f
   lawful q taken = record {
     sponsor = sponsor-law q taken;
     there = there-law q taken;
@@ -97,6 +123,9 @@ module _ (p : PolicyRules) (r t : ℕ) (f : Facts) where
     transfer = transfer-law q taken;
     client_update = client-update-law q taken;
     server_update = server-update-law q taken;
+    client_renew = client-renew-law q taken;
+    server_renew = server-renew-law q taken;
+    paid = paid-law q taken;
   }
 
   -- info alone presents a secret
@@ -105,14 +134,14 @@ module _ (p : PolicyRules) (r t : ℕ) (f : Facts) where
   secret-law (InfoDomain name secret) taken wrong = absurd (apart (sym wrong ∙ unrefused p r t (InfoDomain name secret) f taken SecretIsWrong (search (inl, inr) depth 20)))
   secret-law _ taken wrong = absurd cc
 
-  by-refusal : (q : Request) (refusal : Option Code) → refusal_of p r t q f ≡ refusal → KeepsLaws p.zone r q f (unless_refused refusal (granted p r t q f))
+  by-refusal : (q : Request) (refusal : Option Code) → refusal_of p r t q f ≡ refusal → KeepsLaws p r q f (unless_refused refusal (granted p r t q f))
   by-refusal q None taken = record { carried_out = λ accepted. lawful q taken; secret = secret-law q taken }
   by-refusal q (Some code) is = record { carried_out = λ accepted. absurd (apart (sym accepted ∙ refusing p r t q f code is)); secret = λ wrong. refl }
 
-pub answers-lawfully : (p : PolicyRules) (r t : ℕ) (c : Command) (f : Facts) (v : Verdict) → v ≡ judged p r t c f → AnswersLawfully p.zone r c f v
+pub answers-lawfully : (p : PolicyRules) (r t : ℕ) (c : Command) (f : Facts) (v : Verdict) → v ≡ judged p r t c f → AnswersLawfully p r c f v
 unfolding AnswersLawfully judged
 answers-lawfully p r t (Bad cl_trid code) f v is = ap (λ (w : Verdict). w.content) is
-answers-lawfully p r t (Asked cl_trid request) f v is = subst (λ (w : Verdict). KeepsLaws p.zone r request f w) (sym is) (by-refusal p r t f request (refusal_of p r t request f) refl)
+answers-lawfully p r t (Asked cl_trid request) f v is = subst (λ (w : Verdict). KeepsLaws p r request f w) (sym is) (by-refusal p r t f request (refusal_of p r t request f) refl)
 
 -- what is granted to a request that isn't refused is its verdict
 pub granted-is-judged : {E : Type 0} (p : PolicyRules) (r t : ℕ) (c : Command) (cl_trid : Option (List ℕ)) (q : Request) (f : Facts) (result : Result Verdict E)

@@ -1,6 +1,10 @@
 -- The conditions on which commands are refused.
-use Rattle.std.specs.Prelude.{ℕ, Bool, false, not, ◌&&◌, ◌||◌, ◌==◌, ◌+◌, List, Option, Some, None, is_some, is_none, option_and_then, option_map, length}
+use Rattle.std.specs.Prelude.{ℕ, Bool, false, not, ◌&&◌, ◌||◌, ◌==◌, ◌+◌, ◌/◌, nat_lt, pos, int_lt, List, Option, Some, None, is_some, is_none, option_and_then, option_map, length}
 use Rattle.std.specs.List.{list_any, slice_get}
+use Rattle.std.specs.Str.{bytes_eq}
+use Rattle.calendar.specs.Calendar.{date_of}
+use Rattle.calendar.specs.Moment.{plus_years}
+use Rattle.calendar.specs.Text.{date_text}
 use Rattle.facts.specs.declared.facts.Facts.{Facts}
 use Rattle.facts.specs.declared.facts.HostFacts.{HostFacts}
 use Rattle.facts.specs.Facts.{contact_at, contact_seen, domain_seen, host_at, host_sponsor, is_inside, new_name_seen, or_else}
@@ -18,19 +22,20 @@ use Rattle.objects.specs.declared.sight.Seen.{Seen}
 use Rattle.objects.specs.declared.sight.Seen.TheVariants.{Full, TransferParty, Public}
 use Rattle.objects.specs.declared.status.Status.{Status}
 use Rattle.objects.specs.Contacts.{contact_shows}
-use Rattle.objects.specs.Domains.{shows}
+use Rattle.objects.specs.Domains.{shown_expiry, shows}
 use Rattle.objects.specs.Hosts.{host_shows}
 use Rattle.objects.specs.Sight.{authorizes}
 use Rattle.objects.specs.Statuses.{has_status}
 use Rattle.objects.specs.StatusTexts.{status_text}
 use Rattle.policy.specs.Rules.{PolicyRules}
 use Rattle.protocol.specs.declared.command.Action.{Action}
-use Rattle.protocol.specs.declared.command.Action.TheVariants.{Check, Info, Create, Delete, Update}
+use Rattle.protocol.specs.declared.command.Action.TheVariants.{Balance, Check, Info, Create, Delete, Update, Renew}
 use Rattle.protocol.specs.declared.command.Request.{Request}
 use Rattle.protocol.specs.declared.lists.TheConstants.{MOST_ADDRESSES, MOST_CONTACTS, MOST_HOSTS}
 use Rattle.protocol.specs.Requests.{GivenLists, asks_of, contacts_asked, domains_asked, holds_of, hosts_asked}
 use Rattle.verdict.specs.declared.rules.Condition.{Condition}
-use Rattle.verdict.specs.declared.rules.Condition.TheVariants.{NameIsRefused, ListRepeats, IsThere, IsMissing, ReferenceIsMissing, NewNameIsTaken, SuperordinateIsMissing, IsAnothers, SuperordinateIsAnothers, SecretIsWrong, Shows, StillShows, SuperordinateIsDeleted, IsLinked, AddsWhatIsThere, RemovesWhatIsNot, LeavesTooMany, LeavesAddressesOutside, HoldsTheMost}
+use Rattle.verdict.specs.declared.rules.Condition.TheVariants.{NameIsRefused, ListRepeats, IsThere, IsMissing, ReferenceIsMissing, NewNameIsTaken, SuperordinateIsMissing, IsAnothers, SuperordinateIsAnothers, SecretIsWrong, Shows, StillShows, SuperordinateIsDeleted, IsLinked, AddsWhatIsThere, RemovesWhatIsNot, LeavesTooMany, LeavesAddressesOutside, HoldsTheMost, PassesTenYears, ExpiresOtherwise, LacksMoney}
+use Rattle.verdict.specs.Charges.{charge_of}
 
 -- ---- the object that a request is about: of the three at most one is there
 
@@ -140,9 +145,11 @@ secret_is_wrong r q f =
 abbrev pub known_by : Action → Option HostFacts → Option HostFacts → Option HostFacts
 known_by Create given new = given
 known_by Update given new = new
+known_by Balance given new = None
 known_by Check given new = None
 known_by Info given new = None
 known_by Delete given new = None
+known_by Renew given new = None
 
 abbrev pub host_to_be : Request → Facts → Option HostFacts
 host_to_be q f = known_by (asks_of q).action (host_known q f) f.at_new_name
@@ -272,6 +279,30 @@ host_name_after q = or_else (asks_of q).new_host (slice_get (hosts_asked q) 0)
 abbrev pub leaves_addresses_outside : ZoneRules → Request → Facts → Bool
 leaves_addresses_outside zone q f = holds_of (λ name. not (is_inside zone (name_of name))) (host_name_after q) && has_addresses_after q f
 
+-- ---- renewal (RFC 5731, 3.2.3)
+
+-- the moment to which a domain is registered once it is renewed for so many years
+abbrev pub renewed_expiry : ℕ → Domain → ℕ
+renewed_expiry years d = plus_years d.created (d.years + years)
+
+-- the domain would be registered for more than ten years from the moment on
+abbrev pub passes_ten_years : ℕ → Request → Facts → Bool
+passes_ten_years t q f = holds_of (λ d. nat_lt (plus_years t 10) (renewed_expiry (asks_of q).years d)) (full_domain q f)
+
+-- the date isn't that on which the domain is shown to expire
+abbrev pub is_another_date : Domain → List ℕ → Bool
+is_another_date d date = not (bytes_eq date (date_text (date_of (shown_expiry d / 86_400))))
+
+-- so that a renewal that is sent twice doesn't renew twice
+abbrev pub expires_otherwise : Request → Facts → Bool
+expires_otherwise q f = holds_of (λ d. holds_of (is_another_date d) (asks_of q).expires) (full_domain q f)
+
+-- ---- money (RFC 5730, 3, code 2104)
+
+-- the account has less than what is charged; who is charged nothing may be in debt
+abbrev pub lacks_money : PolicyRules → Request → Facts → Bool
+lacks_money p q f = nat_lt 0 (charge_of p q) && int_lt f.account.balance (pos (charge_of p q))
+
 -- ---- each condition
 
 -- a condition holds of a registrar's request at a moment, by the facts
@@ -295,3 +326,6 @@ holds p r t q f RemovesWhatIsNot = removes_unknown q f
 holds p r t q f LeavesTooMany = leaves_too_many q f
 holds p r t q f LeavesAddressesOutside = leaves_addresses_outside p.zone q f
 holds p r t q f HoldsTheMost = f.holding_limit_reached
+holds p r t q f PassesTenYears = passes_ten_years t q f
+holds p r t q f ExpiresOtherwise = expires_otherwise q f
+holds p r t q f LacksMoney = lacks_money p q f

@@ -1,4 +1,5 @@
 pub mod Refusals
+pub mod Charges
 pub mod Conditions
 pub mod Rules
 pub mod ResponseData

@@ -36,9 +36,12 @@ use Rattle.protocol.specs.declared.reply.DomainInfo.{DomainInfo}
 use Rattle.protocol.specs.declared.reply.HostInfo.{HostInfo}
 use Rattle.protocol.specs.declared.reply.Reason.{Reason}
 use Rattle.protocol.specs.declared.reply.Reason.TheVariants.{Policy, InUse}
+use Rattle.protocol.specs.declared.reply.Renewed.{Renewed}
 use Rattle.protocol.specs.declared.reply.TransferInfo.{TransferInfo}
 use Rattle.facts.specs.Facts.{host_sponsor}
 use Rattle.facts.specs.Facts.{contact_at, contact_seen, domain_at, domain_seen, host_at, host_seen}
+use Rattle.verdict.specs.Charges.{charge_of}
+use Rattle.verdict.specs.Conditions.{domain_in_full, renewed_expiry}
 
 -- the id of the registrar at a place
 abbrev pub id_of : PolicyRules → ℕ → List ℕ
@@ -70,14 +73,22 @@ host_result f name = result_of (λ text. is_some (host_seen f text)) name
 abbrev pub created_plain : ℕ → List ℕ → Created
 created_plain t name = record { name = name; created = t; expires = None; charge = None }
 
--- Prices count as 0 as long as accounts have no money.
-abbrev pub created_domain : ℕ → NewDomain → Created
-created_domain t new = record {
+abbrev pub created_domain : ℕ → ℕ → NewDomain → Created
+created_domain charge t new = record {
   name = name_of new.name;
   created = t;
   expires = Some (capped (plus_years t new.years));
-  charge = Some 0;
+  charge = Some charge;
 }
+
+-- ---- renew
+
+abbrev pub renewed : ℕ → GivenName → ℕ → Domain → Renewed
+renewed charge name years d = record { name = name_of name; expires = capped (renewed_expiry years d); charge = charge }
+
+-- of a domain that is seen in full
+abbrev pub renewed_at : ℕ → GivenName → ℕ → Facts → Option Renewed
+renewed_at charge name years f = option_map (renewed charge name years) (option_and_then domain_in_full (domain_seen f (name_of name)))
 
 -- ---- info of contacts and domains: the sponsor is told all; who presents the right secret all but
 -- the secret; another the face
@@ -144,9 +155,10 @@ host_info p known h = let sponsor : ℕ = unwrap_or (host_sponsor p.zone known h
 abbrev pub host_info_at : PolicyRules → HostFacts → Option HostInfo
 host_info_at p known = option_map (host_info p known) known.host
 
--- ---- the data of an response_data command
+-- ---- the data of each command
 
 abbrev pub response_data : PolicyRules → ℕ → ℕ → Request → Facts → Option Data
+response_data p r t requests.Balance f = Some (told.Balance f.account.balance)
 response_data p r t (requests.CheckContact names) f = Some (told.Checked (map (contact_result f) names))
 response_data p r t (requests.CheckDomain names) f = Some (told.Checked (map (domain_result f) names))
 response_data p r t (requests.CheckHost names) f = Some (told.Checked (map (host_result f) names))
@@ -154,10 +166,11 @@ response_data p r t (requests.InfoContact name secret) f = option_map told.Conta
 response_data p r t (requests.InfoDomain name secret) f = option_map told.Domain (option_and_then (domain_info_at p r secret) (domain_at f (name_of name)))
 response_data p r t (requests.InfoHost name) f = option_map told.Host (option_and_then (host_info_at p) (host_at f (name_of name)))
 response_data p r t (requests.CreateContact new) f = Some (told.Created (created_plain t new.name))
-response_data p r t (requests.CreateDomain new) f = Some (told.Created (created_domain t new))
+response_data p r t (requests.CreateDomain new) f = Some (told.Created (created_domain (charge_of p (requests.CreateDomain new)) t new))
 response_data p r t (requests.CreateHost new) f = Some (told.Created (created_plain t (name_of new.name)))
 response_data p r t (requests.DeleteContact name) f = None
 response_data p r t (requests.DeleteHost name) f = None
 response_data p r t (requests.UpdateContact update) f = None
 response_data p r t (requests.UpdateDomain update) f = None
 response_data p r t (requests.UpdateHost update) f = None
+response_data p r t (requests.RenewDomain name expires years) f = option_map told.Renewed (renewed_at (charge_of p (requests.RenewDomain name expires years)) name years f)

@@ -12,10 +12,12 @@ use crate::amended::{
     any_refused, contact_has, contact_lacks, domain_has, domain_is_over, domain_lacks, host_has,
     host_is_over, host_lacks, list_repeats,
 };
+use crate::charge::charge_of;
 use crate::conditions::{
     has_no_superordinate, host_is_anothers, is_anothers, is_shown, presents_wrong,
     superordinate_is_anothers, superordinate_is_deleted,
 };
+use crate::renewal::{expires_otherwise, passes_ten_years};
 use crate::rules::{Condition, Row, rows};
 use basis::registrar::RegistrarNo;
 use calendar::Moment;
@@ -48,7 +50,7 @@ fn full<O, F>(seen: Option<&Seen<O, F>>) -> Option<&O>
 }
 
 /// The domain that is seen in full.
-fn full_domain(seen: Option<&Seen<FullDomain, DomainFace>>) -> Option<&Domain>
+pub(crate) fn full_domain(seen: Option<&Seen<FullDomain, DomainFace>>) -> Option<&Domain>
     ensures { option_copied result ≡ option_and_then spec.domain_in_full (option_copied seen.entry) }
 {
     match seen {
@@ -117,7 +119,7 @@ impl<'a> Case<'a> {
         match self.request.action() {
             Action::Create => self.host_known(),
             Action::Update => self.facts.at_new_name.as_ref(),
-            Action::Check | Action::Info | Action::Delete => None,
+            Action::Balance | Action::Check | Action::Info | Action::Delete | Action::Renew => None,
         }
     }
 }
@@ -252,6 +254,26 @@ impl Case<'_> {
         }
     }
 
+    fn passes_ten_years(&self) -> bool
+        ensures { result ≡ spec.passes_ten_years self.now.moment self.now.request.now self.now.facts.now }
+    {
+        let domain = full_domain(self.domain());
+        passes_ten_years(self.moment, self.request.years(), domain)
+    }
+
+    fn expires_otherwise(&self) -> bool
+        ensures { result ≡ spec.expires_otherwise self.now.request.now self.now.facts.now }
+    {
+        expires_otherwise(self.request.expires(), full_domain(self.domain()))
+    }
+
+    fn lacks_money(&self) -> bool
+        ensures { result ≡ spec.lacks_money self.now.policy.now self.now.request.now self.now.facts.now }
+    {
+        let charge = charge_of(self.policy, self.request);
+        charge > 0 && self.facts.account.balance < i128::from(charge)
+    }
+
     /// Whether the condition holds.
     fn meets(&self, condition: Condition) -> bool
         ensures { result ≡ spec.holds self.now.policy.now self.now.caller self.now.moment self.now.request.now self.now.facts.now condition }
@@ -281,6 +303,9 @@ impl Case<'_> {
             Condition::LeavesTooMany => self.leaves_too_many(),
             Condition::LeavesAddressesOutside => self.leaves_addresses_outside(),
             Condition::HoldsTheMost => self.facts.holding_limit_reached,
+            Condition::PassesTenYears => self.passes_ten_years(),
+            Condition::ExpiresOtherwise => self.expires_otherwise(),
+            Condition::LacksMoney => self.lacks_money(),
         }
     }
 

@@ -1,8 +1,12 @@
 //! What an accepted command is told.
 ghost use Rattle.std.specs.Prelude.{◌≡◌, IfOk, map, option_and_then, option_map, unwrap_or};
 ghost use Rattle.std.specs.Option.{option_copied};
+ghost use Rattle.verdict.specs.Conditions.{domain_in_full};
 ghost use Rattle.verdict.specs.ResponseData as spec;
 
+use crate::case::full_domain;
+use crate::charge::charge_of;
+use crate::renewal::renewed_expiry;
 use basis::list::Seq;
 use basis::registrar::RegistrarNo;
 use basis::text::{Text, copied};
@@ -15,7 +19,7 @@ use objects::{
 use policy::Policy;
 use protocol::{
     CheckResult, ContactHidden, ContactInfo, Created, Data, DomainHidden, DomainInfo, HostInfo,
-    NewDomain, Reason, Request, TransferInfo,
+    NewDomain, Reason, Renewed, Request, TransferInfo, Years,
 };
 use std::alloc::{AllocError, Global};
 
@@ -31,6 +35,7 @@ pub(crate) fn response_data(
     ensures { IfOk result (λ content. content ≡ spec.response_data policy.now caller moment request.now facts.now) }
 {
     match request {
+        Request::Balance => Ok(Some(Data::Balance(facts.account.balance))),
         Request::CheckContact { names } => {
             let results = check_contacts(alloc, facts, names.as_slice())?;
             Ok(Some(Data::Checked(Seq::from_vec(results))))
@@ -55,9 +60,16 @@ pub(crate) fn response_data(
         ),
         Request::InfoHost { name } => host_data(alloc, policy, facts.host(name.text())),
         Request::CreateContact(new) => Ok(Some(Data::Created(created_plain(&new.name, moment)?))),
-        Request::CreateDomain(new) => Ok(Some(Data::Created(created_domain(new, moment)?))),
+        Request::CreateDomain(new) => {
+            let charge = charge_of(policy, request);
+            Ok(Some(Data::Created(created_domain(charge, new, moment)?)))
+        }
         Request::CreateHost(new) => {
             Ok(Some(Data::Created(created_plain(new.name.text(), moment)?)))
+        }
+        Request::RenewDomain { name, years, .. } => {
+            let charge = charge_of(policy, request);
+            renewed_data(charge, name, *years, facts.domain_seen(name.text()))
         }
         _ => Ok(None),
     }
@@ -146,14 +158,45 @@ fn created_plain(name: &Text, moment: Moment) -> Result<Created, AllocError>
     })
 }
 
-fn created_domain(new: &NewDomain, moment: Moment) -> Result<Created, AllocError>
-    ensures { IfOk result (λ created. created ≡ spec.created_domain moment new.now) }
+fn created_domain(charge: u64, new: &NewDomain, moment: Moment) -> Result<Created, AllocError>
+    ensures { IfOk result (λ created. created ≡ spec.created_domain charge moment new.now) }
 {
     Ok(Created {
         name: new.name.text().clone()?,
         created: moment,
-        expires: Some(moment.plus_years_capped(new.years)),
-        charge: Some(0),
+        expires: Some(moment.plus_years_capped(new.years.number())),
+        charge: Some(charge),
+    })
+}
+
+// ---- renew
+
+fn renewed_data(
+    charge: u64,
+    name: &GivenName,
+    years: Years,
+    seen: Option<&Seen<FullDomain, DomainFace>>,
+) -> Result<Option<Data>, AllocError>
+    ensures { IfOk result (λ content. content ≡ option_map Data.Renewed (option_map (spec.renewed charge name.now years) (option_and_then domain_in_full (option_copied seen.entry)))) }
+{
+    match full_domain(seen) {
+        None => Ok(None),
+        Some(domain) => Ok(Some(Data::Renewed(renewed(charge, name, years, domain)?))),
+    }
+}
+
+fn renewed(
+    charge: u64,
+    name: &GivenName,
+    years: Years,
+    domain: &Domain,
+) -> Result<Renewed, AllocError>
+    ensures { IfOk result (λ renewed. renewed ≡ spec.renewed charge name.now years domain.now) }
+{
+    Ok(Renewed {
+        name: name.text().clone()?,
+        expires: renewed_expiry(domain, years.number()),
+        charge,
     })
 }
 

@@ -5,18 +5,18 @@ ghost use Rattle.verdict.specs.Refusals.{in_order};
 ghost use Rattle.verdict.specs.Rules as spec;
 
 use crate::refusal::Cause::{
-    self, AssociationProhibits, BadNames, DoesNotFit, Exists, LimitReached, Missing, NotSponsor,
-    StatusProhibits, WrongSecret,
+    self, AssociationProhibits, BadNames, DoesNotFit, Exists, LimitReached, Missing, NoMoney,
+    NotRenewable, NotSponsor, StatusProhibits, WrongSecret,
 };
 use Condition::{
-    AddsWhatIsThere, HoldsTheMost, IsAnothers, IsLinked, IsMissing, IsThere,
-    LeavesAddressesOutside, LeavesTooMany, ListRepeats, NameIsRefused, NewNameIsTaken,
-    ReferenceIsMissing, RemovesWhatIsNot, SecretIsWrong, Shows, StillShows,
+    AddsWhatIsThere, ExpiresOtherwise, HoldsTheMost, IsAnothers, IsLinked, IsMissing, IsThere,
+    LacksMoney, LeavesAddressesOutside, LeavesTooMany, ListRepeats, NameIsRefused, NewNameIsTaken,
+    PassesTenYears, ReferenceIsMissing, RemovesWhatIsNot, SecretIsWrong, Shows, StillShows,
     SuperordinateIsAnothers, SuperordinateIsDeleted, SuperordinateIsMissing,
 };
 use objects::Status::{
-    self, ClientDeleteProhibited, ClientUpdateProhibited, PendingDelete, PendingTransfer,
-    ServerDeleteProhibited, ServerUpdateProhibited,
+    self, ClientDeleteProhibited, ClientRenewProhibited, ClientUpdateProhibited, PendingDelete,
+    PendingTransfer, ServerDeleteProhibited, ServerRenewProhibited, ServerUpdateProhibited,
 };
 use protocol::Request;
 
@@ -61,6 +61,12 @@ pub enum Condition {
     LeavesAddressesOutside,
     /// The registrar holds as many domains as it may.
     HoldsTheMost,
+    /// The domain would be registered for more than ten years from now on.
+    PassesTenYears,
+    /// The domain is shown to expire on another date than the renewal names.
+    ExpiresOtherwise,
+    /// The command is charged more than the registrar's account has.
+    LacksMoney,
 }
 
 /// A row of a command's table.
@@ -97,6 +103,7 @@ pub const DOMAIN_CREATION: &[Row] = &[
     (Exists, IsThere), // RFC 5730, 3, code 2302
     (Missing, ReferenceIsMissing), // RFC 5731, 3.2.1
     (LimitReached, HoldsTheMost), // RFC 5730, 3, code 2308
+    (NoMoney, LacksMoney), // RFC 5730, 3, code 2104
 ];
 
 /// RFC 5732, 3.2.1.
@@ -178,14 +185,30 @@ pub const HOST_UPDATE: &[Row] = &[
     (DoesNotFit, LeavesAddressesOutside), // RFC 5732, 2.5
 ];
 
+/// RFC 5731, 3.2.3.
+pub const DOMAIN_RENEWAL: &[Row] = &[
+    (BadNames, NameIsRefused), // RFC 5730, 3, code 2306
+    (Missing, IsMissing), // RFC 5730, 3, code 2303
+    (NotSponsor, IsAnothers), // RFC 5731, 3.2.3
+    (StatusProhibits, Shows(PendingDelete)), // RFC 5731, 3.2.3
+    (StatusProhibits, Shows(PendingTransfer)), // RFC 5731, 2.3
+    (StatusProhibits, Shows(ClientRenewProhibited)), // RFC 5731, 2.3
+    (StatusProhibits, Shows(ServerRenewProhibited)), // RFC 5731, 2.3
+    (NotRenewable, PassesTenYears), // RFC 5730, 3, code 2105
+    (DoesNotFit, ExpiresOtherwise), // RFC 5731, 3.2.3
+    (NoMoney, LacksMoney), // RFC 5730, 3, code 2104
+];
+
 /// The table of the command.
 pub fn rows(request: &Request) -> &'static [Row]
     ensures table { result.now ≡ spec.rows_of request.now }
     ensures ordered { IsTrue (in_order result.now) }
 {
     match request {
-        Request::CheckContact { .. } | Request::CheckDomain { .. } | Request::CheckHost { .. } =>
-            &[],
+        Request::Balance
+        | Request::CheckContact { .. }
+        | Request::CheckDomain { .. }
+        | Request::CheckHost { .. } => &[],
         Request::InfoContact { .. } => CONTACT_INFO,
         Request::InfoDomain { .. } => DOMAIN_INFO,
         Request::InfoHost { .. } => HOST_INFO,
@@ -197,5 +220,6 @@ pub fn rows(request: &Request) -> &'static [Row]
         Request::UpdateContact(_) => CONTACT_UPDATE,
         Request::UpdateDomain(_) => DOMAIN_UPDATE,
         Request::UpdateHost(_) => HOST_UPDATE,
+        Request::RenewDomain { .. } => DOMAIN_RENEWAL,
     }
 }
