@@ -28,14 +28,14 @@ accounts-after : ℕ → Registry → FinMap nat_cmp Account
 accounts-after zero s = s.accounts
 accounts-after (suc n) s = (with_account (suc n) itself (record s { accounts = accounts-after n s })).accounts
 
-changed_all-push : (changes : List Change) (change : Change) (s : Registry) → changed_all (changes ++ change ∷ []) s ≡ changed change (changed_all changes s)
-changed_all-push [] change s = refl
-changed_all-push (first ∷ changes) change s = changed_all-push changes change (changed first s)
+changed_all-push : (p : PolicyRules) (changes : List Change) (change : Change) (s : Registry) → changed_all p (changes ++ change ∷ []) s ≡ changed p change (changed_all p changes s)
+changed_all-push p [] change s = refl
+changed_all-push p (first ∷ changes) change s = changed_all-push p changes change (changed p first s)
 
-changed-openings : (n : ℕ) (s : Registry) → changed_all (openings n) s ≡ record s { accounts = accounts-after n s }
+changed-openings : (p : PolicyRules) (n : ℕ) (s : Registry) → changed_all p (openings n) s ≡ record s { accounts = accounts-after n s }
 unfolding openings accounts-after
-changed-openings zero s = refl
-changed-openings (suc n) s = changed_all-push (openings n) (OpenAccount (suc n)) s ∙ ap (λ (t : Registry). changed (OpenAccount (suc n)) t) (changed-openings n s)
+changed-openings p zero s = refl
+changed-openings p (suc n) s = changed_all-push p (openings n) (OpenAccount (suc n)) s ∙ ap (λ (t : Registry). changed p (OpenAccount (suc n)) t) (changed-openings p n s)
 
 -- each account that was there is as it was
 same-account : (n r : ℕ) (s : Registry) → account_of r (record s { accounts = accounts-after n s }) ≡ account_of r s
@@ -63,7 +63,7 @@ places-after (suc n) r s =
 
 -- ---- a registry is opened under a policy that continues its own
 
-kept-opened : (p q : PolicyRules) (s : Registry) → q.zone ≡ p.zone → length q.registrars ≤ length p.registrars → IsRegistry q s → IsRegistry p (changed_all (openings (length p.registrars)) s)
+kept-opened : (p q : PolicyRules) (s : Registry) → q.zone ≡ p.zone → length q.registrars ≤ length p.registrars → IsRegistry q s → IsRegistry p (changed_all p (openings (length p.registrars)) s)
 kept-opened p q s zone more is =
     let n : ℕ = length p.registrars in
     let grows : Grows q p s (record s { accounts = accounts-after n s }) = record {
@@ -74,7 +74,7 @@ kept-opened p q s zone more is =
     } in
     let places : (r : ℕ) → IsSome (get (accounts-after n s) r) ↔ IsRegistrar p r = λ r.
     (λ there. ⊎_elim (λ was. grows.place r ((is.accounts r).0 was)) (λ place. place) ((places-after n r s).0 there), λ place. (places-after n r s).1 (inr place)) in
-    subst (IsRegistry p) (sym (changed-openings n s)) (kept-grown q p s (accounts-after n s) s.clock grows places is)
+    subst (IsRegistry p) (sym (changed-openings p n s)) (kept-grown q p s (accounts-after n s) s.clock grows places is)
 
 -- ---- what was never opened is the registry of a policy without registrars
 

@@ -25,7 +25,7 @@ openings (suc n) = openings n ++ OpenAccount (suc n) ∷ []
 
 -- what an opened book holds: the registrars have accounts, and the policy's terms are put down
 abbrev pub opened : PolicyRules → Stored → Stored
-opened p s = record { registry = changed_all (openings (length p.registrars)) s.registry; terms = Some (terms_of p) }
+opened p s = record { registry = changed_all p (openings (length p.registrars)) s.registry; terms = Some (terms_of p) }
 
 pub record Opens (p : PolicyRules) (old new : BookState) : Type 0 where
   pub counted : NoRefusal old new

@@ -75,7 +75,7 @@ fn install<B: Book>(book: &mut B, alloc: Global, policy: &Policy, own: Terms) ->
     ensures follows { Follows (B.state book.old) (B.state book.new) }
 {
     let accounts = or_rollback(book, openings(alloc, policy.registrars()))?;
-    apply(book, accounts)?;
+    apply(book, accounts, policy)?;
     keep_terms(book, own)?;
     commit(book)
 }

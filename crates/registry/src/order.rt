@@ -1,17 +1,18 @@
 //! How an order of the operator is carried out.
 ghost use Rattle.std.specs.Prelude.{◌≡◌, true, false, IfOk, IfErr, OnOk};
 ghost use Rattle.registry.specs.Execution.{GoesBack, Keeps, OrderSteps, SameTerms};
-ghost use Rattle.rules.specs.Orders.{status_decision};
+ghost use Rattle.rules.specs.Orders.{deposit_decision, status_decision};
 ghost use Rattle.store.specs.Book.{Follows, IsSame, with_changes};
 ghost use Rattle.model.specs.Objects.{object_ordered};
 
 use crate::fault::Fault;
 use crate::transaction::{advance_clock, keep, object_at, or_rollback};
+use basis::text::Text;
 use calendar::Moment;
 use model::Object;
 use policy::Policy;
 use protocol::{Code, Order, StatusOrder};
-use rules::{OrderDecision, decide_order};
+use rules::{OrderDecision, decide_deposit, decide_order};
 use std::alloc::Global;
 use store::Book;
 
@@ -30,9 +31,12 @@ pub(crate) fn execute_order_in<B: Book>(
     ensures fault { IfErr result (λ fault. GoesBack fault (B.state book.old) (B.state book.new)) }
     ensures follows { Follows (B.state book.old) (B.state book.new) }
 {
-    advance_clock(book, alloc, moment, policy)?;
+    let now = advance_clock(book, alloc, moment, policy)?;
     match order {
         Order::Status(order) => set_statuses(book, alloc, order, policy),
+        Order::Deposit { registrar, cents } => {
+            deposit(book, alloc, registrar, *cents, now, policy)
+        }
     }
 }
 
@@ -45,13 +49,34 @@ fn set_statuses<B: Book>(
 ) -> Result<Code, Fault>
     requires { (B.state book.old).is_open ≡ true }
     ensures code { IfOk result (λ code. (B.state book.new).is_clean ≡ true → code ≡ (status_decision policy.now.zone order.now (B.state book.old).content.registry).code) }
-    ensures kept { OnOk result (Keeps (B.state book.old) (B.state book.new) (with_changes (status_decision policy.now.zone order.now (B.state book.old).content.registry).changes (B.state book.old).content)) }
+    ensures kept { OnOk result (Keeps (B.state book.old) (B.state book.new) (with_changes policy.now (status_decision policy.now.zone order.now (B.state book.old).content.registry).changes (B.state book.old).content)) }
     ensures fault { IfErr result (λ fault. GoesBack fault (B.state book.old) (B.state book.new)) }
     ensures follows { Follows (B.state book.old) (B.state book.new) }
 {
     let object = object_ordered(book, alloc, order, policy)?;
     let OrderDecision { code, changes } = or_rollback(book, decide_order(alloc, order, object))?;
-    keep(book, changes)?;
+    keep(book, changes, policy)?;
+    Ok(code)
+}
+
+/// Enters what a registrar paid, in an open transaction, and keeps it.
+fn deposit<B: Book>(
+    book: &mut B,
+    alloc: Global,
+    registrar: &Text,
+    cents: i64,
+    now: Moment,
+    policy: &Policy,
+) -> Result<Code, Fault>
+    requires { (B.state book.old).is_open ≡ true }
+    ensures code { IfOk result (λ code. code ≡ (deposit_decision policy.now now registrar.now cents).code) }
+    ensures kept { OnOk result (Keeps (B.state book.old) (B.state book.new) (with_changes policy.now (deposit_decision policy.now now registrar.now cents).changes (B.state book.old).content)) }
+    ensures fault { IfErr result (λ fault. GoesBack fault (B.state book.old) (B.state book.new)) }
+    ensures follows { Follows (B.state book.old) (B.state book.new) }
+{
+    let decided = decide_deposit(alloc, registrar, cents, now, policy);
+    let OrderDecision { code, changes } = or_rollback(book, decided)?;
+    keep(book, changes, policy)?;
     Ok(code)
 }
 

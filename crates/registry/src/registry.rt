@@ -112,8 +112,9 @@ impl<B: Book + Drop> Registry<B> {
     }
 
     /// Carries out an order of the operator at a moment; one before the clock counts as the clock.
-    /// It is answered `Completed`, `ObjectMissing` where its object isn't there or its name doesn't
-    /// read, `StatusProhibits` where it comes too late, or `ParameterPolicy` where a status is amiss.
+    /// It is answered `Completed`, `ParameterRange` where the cents of a deposit aren't 1 to 10^12,
+    /// `ObjectMissing` where its registrar or its object isn't there or its name doesn't read,
+    /// `StatusProhibits` where it comes too late, or `ParameterPolicy` where a status is amiss.
     /// A well formed registry stays well formed.
     pub fn operator(&mut self, order: &Order, moment: Moment) -> Result<Code, Fault>
         ensures step { IfOk result (λ code. OrderSteps self.old.policy order.now moment code (B.state self.old.book) (B.state self.new.book)) }
@@ -188,7 +189,7 @@ fn execute_in<B: Book>(
 {
     let now = advance_clock(book, alloc, moment, policy)?;
     let prepared = prepare(book, alloc, caller, command, now, policy)?;
-    keep_prepared(book, prepared)
+    keep_prepared(book, prepared, policy)
 }
 
 /// A reply, and the changes that go with it.
@@ -238,15 +239,15 @@ fn prepared_by(
 }
 
 /// Makes the changes in an open transaction and keeps them, and gives the reply.
-fn keep_prepared<B: Book>(book: &mut B, prepared: Prepared) -> Result<Reply, Fault>
+fn keep_prepared<B: Book>(book: &mut B, prepared: Prepared, policy: &Policy) -> Result<Reply, Fault>
     requires { (B.state book.old).is_open ≡ true }
     ensures reply { IfOk result (λ reply. reply ≡ prepared.reply) }
-    ensures kept { OnOk result (Keeps (B.state book.old) (B.state book.new) (with_changes prepared.changes (B.state book.old).content)) }
+    ensures kept { OnOk result (Keeps (B.state book.old) (B.state book.new) (with_changes policy.now prepared.changes (B.state book.old).content)) }
     ensures fault { IfErr result (λ fault. GoesBack fault (B.state book.old) (B.state book.new)) }
     ensures follows { Follows (B.state book.old) (B.state book.new) }
 {
     let Prepared { reply, changes } = prepared;
-    match keep(book, changes) {
+    match keep(book, changes, policy) {
         Ok(()) => Ok(reply),
         Err(fault) => {
             drop(reply);

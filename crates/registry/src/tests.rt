@@ -180,12 +180,13 @@ fn opens_a_book_of_its_own_terms(rt: HostRuntime) -> Result<(), Fail> {
 #[test]
 fn a_book_goes_back(rt: HostRuntime) -> Result<(), Fail> {
     let alloc = rt.alloc();
+    let policy = policy(alloc, POLICY)?;
     let mut book = PlainBook::new(alloc);
     book.begin()?;
     let mut changes = Seq::new(alloc);
     changes.push(rules::Change::OpenAccount(RegistrarNo::of_place(1)))?;
     changes.push(rules::Change::MoveClock(moment(1_830_297_600)?))?;
-    book.apply(changes)?;
+    book.apply(changes, &policy)?;
     assert_eq!(rt; book.clock()?.secs(), 1_830_297_600);
     assert!(rt; book.active());
     book.back();

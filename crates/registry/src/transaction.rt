@@ -79,13 +79,17 @@ pub(crate) fn object_at<B: Book>(
 }
 
 /// Makes changes in an open transaction.
-pub(crate) fn apply<B: Book>(book: &mut B, changes: Seq<Change>) -> Result<(), Fault>
+pub(crate) fn apply<B: Book>(
+    book: &mut B,
+    changes: Seq<Change>,
+    policy: &Policy,
+) -> Result<(), Fault>
     requires { (B.state book.old).is_open ≡ true }
-    ensures ok { OnOk result (Moves (B.state book.old) (B.state book.new) (with_changes changes (B.state book.old).content)) }
+    ensures ok { OnOk result (Moves (B.state book.old) (B.state book.new) (with_changes policy.now changes (B.state book.old).content)) }
     ensures fault { IfErr result (λ fault. GoesBack fault (B.state book.old) (B.state book.new)) }
     ensures follows { Follows (B.state book.old) (B.state book.new) }
 {
-    Ok(book.apply(changes)?)
+    Ok(book.apply(changes, policy)?)
 }
 
 /// The terms under which a book was opened, in an open transaction.
@@ -120,13 +124,17 @@ pub(crate) fn commit<B: Book>(book: &mut B) -> Result<(), Fault>
 }
 
 /// Makes changes in an open transaction and keeps them.
-pub(crate) fn keep<B: Book>(book: &mut B, changes: Seq<Change>) -> Result<(), Fault>
+pub(crate) fn keep<B: Book>(
+    book: &mut B,
+    changes: Seq<Change>,
+    policy: &Policy,
+) -> Result<(), Fault>
     requires { (B.state book.old).is_open ≡ true }
-    ensures kept { OnOk result (Keeps (B.state book.old) (B.state book.new) (with_changes changes (B.state book.old).content)) }
+    ensures kept { OnOk result (Keeps (B.state book.old) (B.state book.new) (with_changes policy.now changes (B.state book.old).content)) }
     ensures fault { IfErr result (λ fault. GoesBack fault (B.state book.old) (B.state book.new)) }
     ensures follows { Follows (B.state book.old) (B.state book.new) }
 {
-    apply(book, changes)?;
+    apply(book, changes, policy)?;
     commit(book)
 }
 
@@ -144,7 +152,7 @@ pub(crate) fn advance_clock<B: Book>(
     ensures follows { Follows (B.state book.old) (B.state book.new) }
 {
     let passing = or_rollback(book, passing(alloc, moment))?;
-    apply(book, passing)?;
+    apply(book, passing, policy)?;
     clock(book)
 }
 

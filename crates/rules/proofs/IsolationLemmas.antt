@@ -28,7 +28,7 @@ same_answer p r c s t alike =
 same_effect : (p : PolicyRules) (r : ℕ) (c : Command) (s t : Registry) → IsRegistry p s → IsRegistry p t → view_for p r c s ≡ view_for p r c t → view p r (effect p r c s) ≡ view p r (effect p r c t)
 same_effect p r c s t here there alike =
     let one : decision p r c s ≡ decision p r c t = same_decision p r c s t alike in
-    ap (λ d. view p r (changed_all d.changes s)) one
+    ap (λ d. view p r (changed_all p d.changes s)) one
     ∙ same_changed_all p r (decision p r c t).changes s t (subst (λ d. AllMeet p r d.changes s) one (meets-decided p r c s here)) (meets-decided p r c t there) (same_view p r c s t alike)
 
 pub isolated : (p : PolicyRules) (r : ℕ) (c : Command) (moment : ℕ) (before after : Registry) (reply : Reply)

@@ -144,13 +144,13 @@ module _ (p : PolicyRules) (s : Registry) (is : IsRegistry p s) where
   same-domain contacts hosts domains name d of free there-contacts there-hosts =
       domain-grown p p s (with_objects contacts hosts domains s) (same-time p s contacts hosts domains) name d d.links free there-contacts there-hosts of
 
-  pub put-contact : (name : List ℕ) (c : Contact) → IsContactOf p s name c → IsItsOwn contact_roid s.contacts name c.roid → IsRegistry p (changed (PutContact c) s)
+  pub put-contact : (name : List ℕ) (c : Contact) → IsContactOf p s name c → IsItsOwn contact_roid s.contacts name c.roid → IsRegistry p (changed p (PutContact c) s)
   put-contact name c fits own =
       let contacts : Contacts = insert s.contacts c.name c in
-      let grows : Grows p p s (changed (PutContact c) s) = same-time p s contacts s.hosts s.domains in
+      let grows : Grows p p s (changed p (PutContact c) s) = same-time p s contacts s.hosts s.domains in
       record {
         accounts = is.accounts;
-        contacts = at-put (IsContactOf p (changed (PutContact c) s)) s.contacts c.name c (contact-grown p p s _ grows c.name c (subst (λ (n : List ℕ). IsContactOf p s n c) (sym fits.named) fits)) (λ n x at. contact-grown p p s _ grows n x (is.contacts n x at));
+        contacts = at-put (IsContactOf p (changed p (PutContact c) s)) s.contacts c.name c (contact-grown p p s _ grows c.name c (subst (λ (n : List ℕ). IsContactOf p s n c) (sym fits.named) fits)) (λ n x at. contact-grown p p s _ grows n x (is.contacts n x at));
         hosts = λ n h at. host-grown p p s _ grows (λ domain there. there) n h (is.hosts n h at);
         domains = λ n d at. let k = is.domains n d at in same-domain contacts s.hosts s.domains n d k (λ host there. inl there) (λ contact named. put-keeps s.contacts c.name c contact (k.contacts contact named)) k.hosts;
         contact_roids = apart-put contact_roid s.contacts is.contact_roids c.name c (λ n x at same. own n x at same ∙ sym fits.named);
@@ -159,10 +159,10 @@ module _ (p : PolicyRules) (s : Registry) (is : IsRegistry p s) where
       }
 
   -- a contact that no domain names
-  pub drop-contact : (name : List ℕ) → ((n : List ℕ) (d : Domain) → get s.domains n ≡ Some d → names_contact name d.links ≢ true) → IsRegistry p (changed (DropContact name) s)
+  pub drop-contact : (name : List ℕ) → ((n : List ℕ) (d : Domain) → get s.domains n ≡ Some d → names_contact name d.links ≢ true) → IsRegistry p (changed p (DropContact name) s)
   drop-contact name unnamed =
       let contacts : Contacts = remove s.contacts name in
-      let grows : Grows p p s (changed (DropContact name) s) = same-time p s contacts s.hosts s.domains in
+      let grows : Grows p p s (changed p (DropContact name) s) = same-time p s contacts s.hosts s.domains in
       record {
         accounts = is.accounts;
         contacts = λ n c at. contact-grown p p s _ grows n c (is.contacts n c (drop-cases s.contacts name n c at).1);
@@ -174,14 +174,14 @@ module _ (p : PolicyRules) (s : Registry) (is : IsRegistry p s) where
         domain_roids = is.domain_roids;
       }
 
-  pub put-host : (name : List ℕ) (h : Host) → IsHostOf p s name h → IsItsOwn host_roid s.hosts name h.roid → IsSome (get s.hosts name) ⊎ IsUndeleted p s name → IsRegistry p (changed (PutHost h) s)
+  pub put-host : (name : List ℕ) (h : Host) → IsHostOf p s name h → IsItsOwn host_roid s.hosts name h.roid → IsSome (get s.hosts name) ⊎ IsUndeleted p s name → IsRegistry p (changed p (PutHost h) s)
   put-host name h fits own free =
       let hosts : Hosts = insert s.hosts h.name h in
-      let grows : Grows p p s (changed (PutHost h) s) = same-time p s s.contacts hosts s.domains in
+      let grows : Grows p p s (changed p (PutHost h) s) = same-time p s s.contacts hosts s.domains in
       record {
         accounts = is.accounts;
         contacts = λ n c at. contact-grown p p s _ grows n c (is.contacts n c at);
-        hosts = at-put (IsHostOf p (changed (PutHost h) s)) s.hosts h.name h (host-grown p p s _ grows (λ domain there. there) h.name h (subst (λ (n : List ℕ). IsHostOf p s n h) (sym fits.named) fits)) (λ n x at. host-grown p p s _ grows (λ domain there. there) n x (is.hosts n x at));
+        hosts = at-put (IsHostOf p (changed p (PutHost h) s)) s.hosts h.name h (host-grown p p s _ grows (λ domain there. there) h.name h (subst (λ (n : List ℕ). IsHostOf p s n h) (sym fits.named) fits)) (λ n x at. host-grown p p s _ grows (λ domain there. there) n x (is.hosts n x at));
         domains = λ n d at. let k = is.domains n d at in same-domain s.contacts hosts s.domains n d k
             (λ host there. ⊎_elim
             (λ same. ⊎_elim (λ before. inl (subst (λ (q : List ℕ). IsSome (get s.hosts q)) (sym (same ∙ fits.named)) before)) (λ other. inr (subst (λ (q : List ℕ). IsSome d.deletion → superordinate_of p.zone q ≢ Some d.name) (sym (same ∙ fits.named)) (other n d at))) free)
@@ -193,10 +193,10 @@ module _ (p : PolicyRules) (s : Registry) (is : IsRegistry p s) where
       }
 
   -- a host that no domain names
-  pub drop-host : (name : List ℕ) → ((n : List ℕ) (d : Domain) → get s.domains n ≡ Some d → names_host name d.links ≢ true) → IsRegistry p (changed (DropHost name) s)
+  pub drop-host : (name : List ℕ) → ((n : List ℕ) (d : Domain) → get s.domains n ≡ Some d → names_host name d.links ≢ true) → IsRegistry p (changed p (DropHost name) s)
   drop-host name unnamed =
       let hosts : Hosts = remove s.hosts name in
-      let grows : Grows p p s (changed (DropHost name) s) = same-time p s s.contacts hosts s.domains in
+      let grows : Grows p p s (changed p (DropHost name) s) = same-time p s s.contacts hosts s.domains in
       record {
         accounts = is.accounts;
         contacts = λ n c at. contact-grown p p s _ grows n c (is.contacts n c at);
@@ -208,16 +208,16 @@ module _ (p : PolicyRules) (s : Registry) (is : IsRegistry p s) where
         domain_roids = is.domain_roids;
       }
 
-  pub put-domain : (name : List ℕ) (d : Domain) → IsDomainOf p s name d → IsItsOwn domain_roid s.domains name d.roid → IsRegistry p (changed (PutDomain d) s)
+  pub put-domain : (name : List ℕ) (d : Domain) → IsDomainOf p s name d → IsItsOwn domain_roid s.domains name d.roid → IsRegistry p (changed p (PutDomain d) s)
   put-domain name d fits own =
       let domains : Domains = insert s.domains d.name d in
-      let grows : Grows p p s (changed (PutDomain d) s) = same-time p s s.contacts s.hosts domains in
-      let same : (n : List ℕ) (x : Domain) → IsDomainOf p s n x → IsDomainOf p (changed (PutDomain d) s) n x = λ n x k. same-domain s.contacts s.hosts domains n x k (λ host there. inl there) k.contacts k.hosts in
+      let grows : Grows p p s (changed p (PutDomain d) s) = same-time p s s.contacts s.hosts domains in
+      let same : (n : List ℕ) (x : Domain) → IsDomainOf p s n x → IsDomainOf p (changed p (PutDomain d) s) n x = λ n x k. same-domain s.contacts s.hosts domains n x k (λ host there. inl there) k.contacts k.hosts in
       record {
         accounts = is.accounts;
         contacts = λ n c at. contact-grown p p s _ grows n c (is.contacts n c at);
         hosts = λ n h at. host-grown p p s _ grows (λ domain there. put-keeps s.domains d.name d domain there) n h (is.hosts n h at);
-        domains = at-put (IsDomainOf p (changed (PutDomain d) s)) s.domains d.name d (same d.name d (subst (λ (n : List ℕ). IsDomainOf p s n d) (sym fits.named) fits)) (λ n x at. same n x (is.domains n x at));
+        domains = at-put (IsDomainOf p (changed p (PutDomain d) s)) s.domains d.name d (same d.name d (subst (λ (n : List ℕ). IsDomainOf p s n d) (sym fits.named) fits)) (λ n x at. same n x (is.domains n x at));
         contact_roids = is.contact_roids;
         host_roids = is.host_roids;
         domain_roids = apart-put domain_roid s.domains is.domain_roids d.name d (λ n x at same. own n x at same ∙ sym fits.named);
@@ -241,7 +241,7 @@ renamed-listed old new hosts n e = by (has_name hosts old) refl e
 module _ (p : PolicyRules) (s : Registry) (is : IsRegistry p s) where
   -- A host goes from one name to another, and domains that named it name it still.
   pub rename-host : (old : List ℕ) (o h : Host) → get s.hosts old ≡ Some o → h.roid ≡ o.roid → IsHostOf p s h.name h → IsUndeleted p s h.name
-      → IsRegistry p (changed (RenameHost old h.name) (changed (PutHost h) (changed (DropHost old) s)))
+      → IsRegistry p (changed p (RenameHost old h.name) (changed p (PutHost h) (changed p (DropHost old) s)))
   rename-host old o h at-old same fits free =
       let left : Hosts = remove s.hosts old in
       let hosts : Hosts = insert left h.name h in

@@ -1,5 +1,5 @@
 -- What a command changes meets what is asked of changes.
-use Rattle.std.proofs.Common.{◌≡◌, ℕ, Bool, true, false, cond, List, [], ◌∷◌, Option, Some, None, option_and_then, option_map, refl, sym, ap, ◌∙◌}
+use Rattle.std.proofs.Common.{◌≡◌, inl, ℕ, Bool, true, false, cond, List, [], ◌∷◌, Option, Some, None, option_and_then, option_map, refl, sym, ap, ◌∙◌}
 use Rattle.std.specs.Cmp.{nat_cmp_total, eq_by_cmp_equiv, Equal-is}
 use Rattle.std.specs.Cmp.Lexicographic.{slice_cmp, nat_list_cmp_total}
 use Rattle.std.specs.FinMap.{get, nat_cmp-IsAntisymmetric}
@@ -21,7 +21,7 @@ use Rattle.objects.specs.Graces.{no_graces}
 use Rattle.policy.specs.Rules.{PolicyRules}
 use Rattle.rules.specs.declared.change.Change.{Change}
 use Rattle.rules.specs.Changes.{with_account}
-use Rattle.rules.specs.Decisions.{changes_after, changes_of, contact_changes, domain_changes, host_changes, new_domain, renaming, updated_domain, updated_host}
+use Rattle.rules.specs.Decisions.{changes_after, changes_of, contact_changes, domain_changes, host_changes, new_domain, renaming, renewal_changes, renewed_domain, updated_domain, updated_host}
 use Rattle.rules.specs.Steps.{decision}
 use Rattle.rules.proofs.CommandLemmas.{at-itself, domain-full}
 use Rattle.rules.proofs.SightLemmas.{graces-seen, sponsor-seen}
@@ -117,17 +117,36 @@ module _ (p : PolicyRules) (r : ℕ) (cl_trid : Option (List ℕ)) (s : Registry
       by (Some (TransferParty face transfer)) e = tt
       by (Some (Public face)) e = tt
 
+  abbrev asked_renewal : GivenName → List ℕ → ℕ → Command
+  asked_renewal name expires years = Asked cl_trid (requests.RenewDomain name expires years)
+
+  meet-renewal : (name : GivenName) (expires : List ℕ) (years : ℕ) → AllMeet p r (renewal_changes p r s.clock (requests.RenewDomain name expires years) (domain_seen (facts p r (asked_renewal name expires years) s) (name_of name))) counted
+  meet-renewal name expires years = by (domain_seen (facts p r (asked_renewal name expires years) s) (name_of name)) (ap (option_and_then (λ known. known.seen)) (at-itself (name_of name) (domain_facts (lookups p r (asked_renewal name expires years) s) (asked_renewal name expires years) (name_of name))))
+    where
+      by : (seen : Option (Seen FullDomain DomainFace)) → seen ≡ option_map (domain_sight p r s None) (get s.domains (name_of name)) → AllMeet p r (renewal_changes p r s.clock (requests.RenewDomain name expires years) seen) counted
+      by None e = tt
+      by (Some (Full known)) e =
+          let d : Domain = known.domain in
+          let found : get s.domains (name_of name) ≡ Some d = domain-full p r s None (get s.domains (name_of name)) known (sym e) in
+          let named : d.name ≡ name_of name = (is.domains (name_of name) d found).named in
+          let there : get s.domains d.name ≡ Some d = ap (λ (n : List ℕ). get s.domains n) named ∙ found in
+          (put-again p r counted d (renewed_domain s.clock years d) there refl refl, (inl refl, tt))
+      by (Some (TransferParty face transfer)) e = tt
+      by (Some (Public face)) e = tt
+
   -- what an accepted command changes meets what is asked
-  meets : (q : Request) → AllMeet p r (changes_of p.zone r s.clock q (facts p r (Asked cl_trid q) s)) counted
+  meets : (q : Request) → AllMeet p r (changes_of p r s.clock q (facts p r (Asked cl_trid q) s)) counted
   unfolding changes_of
-  meets (requests.CreateContact new) = (tt, (tt, tt))
-  meets (requests.CreateDomain new) = (put-own p r counted (new_domain r s.clock (facts p r (Asked cl_trid (requests.CreateDomain new)) s) new) (eq-self r), (tt, tt))
-  meets (requests.CreateHost new) = (tt, (tt, tt))
+  meets requests.Balance = tt
+  meets (requests.CreateContact new) = (tt, (inl refl, tt))
+  meets (requests.CreateDomain new) = (put-own p r counted (new_domain r s.clock (facts p r (Asked cl_trid (requests.CreateDomain new)) s) new) (eq-self r), (inl refl, (inl refl, tt)))
+  meets (requests.CreateHost new) = (tt, (inl refl, tt))
   meets (requests.DeleteContact name) = (tt, tt)
   meets (requests.DeleteHost name) = (tt, tt)
   meets (requests.UpdateContact u) = meet-contact p r s.clock u (contact_seen (facts p r (Asked cl_trid (requests.UpdateContact u)) s) u.name) counted
   meets (requests.UpdateDomain u) = meet-domain u
   meets (requests.UpdateHost u) = meet-host p r s.clock u (host_seen (facts p r (Asked cl_trid (requests.UpdateHost u)) s) (name_of u.name)) counted
+  meets (requests.RenewDomain name expires years) = meet-renewal name expires years
   meets (requests.CheckContact names) = tt
   meets (requests.CheckDomain names) = tt
   meets (requests.CheckHost names) = tt
@@ -138,5 +157,5 @@ module _ (p : PolicyRules) (r : ℕ) (cl_trid : Option (List ℕ)) (s : Registry
 -- what a command changes meets what is asked
 pub meets-decided : (p : PolicyRules) (r : ℕ) (c : Command) (s : Registry) → IsRegistry p s → AllMeet p r (decision p r c s).changes s
 unfolding changes_after
-meets-decided p r (Bad cl_trid fault) s is = (tt, tt)
-meets-decided p r (Asked cl_trid q) s is = (tt, meet-where p r (counted p r cl_trid s is) (changes_of p.zone r s.clock q (facts p r (Asked cl_trid q) s)) (is_accepted (decision p r (Asked cl_trid q) s).verdict.code) (meets p r cl_trid s is q))
+meets-decided p r (Bad cl_trid fault) s is = (inl refl, tt)
+meets-decided p r (Asked cl_trid q) s is = (inl refl, meet-where p r (counted p r cl_trid s is) (changes_of p r s.clock q (facts p r (Asked cl_trid q) s)) (is_accepted (decision p r (Asked cl_trid q) s).verdict.code) (meets p r cl_trid s is q))

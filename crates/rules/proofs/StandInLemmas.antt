@@ -19,13 +19,13 @@ use Rattle.model.specs.Registry.{Registry}
 use Rattle.model.specs.WellFormed.{HasBeen, IsContactOf, IsDeletion, IsDomainOf, IsHostOf, IsRegistry}
 
 module _ (p : PolicyRules) (s : Registry) (is : IsRegistry p s) (name : List ℕ) where
-  pub kept-put-contact : (c other : Contact) → get s.contacts name ≡ Some c → other.roid ≡ c.roid → IsContactOf p s name other → IsRegistry p (changed (PutContact other) s)
+  pub kept-put-contact : (c other : Contact) → get s.contacts name ≡ Some c → other.roid ≡ c.roid → IsContactOf p s name other → IsRegistry p (changed p (PutContact other) s)
   kept-put-contact c other at same fits = put-contact p s is name other fits (λ n x at-n alike. is.contact_roids n name x c at-n at (alike ∙ same))
 
-  pub kept-put-domain : (d other : Domain) → get s.domains name ≡ Some d → other.roid ≡ d.roid → IsDomainOf p s name other → IsRegistry p (changed (PutDomain other) s)
+  pub kept-put-domain : (d other : Domain) → get s.domains name ≡ Some d → other.roid ≡ d.roid → IsDomainOf p s name other → IsRegistry p (changed p (PutDomain other) s)
   kept-put-domain d other at same fits = put-domain p s is name other fits (λ n x at-n alike. is.domain_roids n name x d at-n at (alike ∙ same))
 
-  pub kept-put-host : (h other : Host) → get s.hosts name ≡ Some h → other.roid ≡ h.roid → IsHostOf p s name other → IsRegistry p (changed (PutHost other) s)
+  pub kept-put-host : (h other : Host) → get s.hosts name ≡ Some h → other.roid ≡ h.roid → IsHostOf p s name other → IsRegistry p (changed p (PutHost other) s)
   kept-put-host h other at same fits = put-host p s is name other fits (λ n x at-n alike. is.host_roids n name x h at-n at (alike ∙ same)) (inl (is-there (get s.hosts name) h at))
 
 module _ (p : PolicyRules) (s : Registry) (name : List ℕ) where
@@ -65,6 +65,25 @@ module _ (p : PolicyRules) (s : Registry) (name : List ℕ) where
     hosts = hosts;
   }
 
+  deletion-renewed : (d : Domain) (years : ℕ) (updated : Option ℕ) (deletion : Option Deletion) → IsDeletion p s d deletion → IsDeletion p s (record d { years = years; updated = updated }) deletion
+  deletion-renewed d years updated None k = tt
+  deletion-renewed d years updated (Some deletion) k = record { deleted = k.deleted; requested = k.requested; hosts = k.hosts; transfer = k.transfer }
+
+  -- a domain that is registered for other years
+  pub domain-renewed : (d : Domain) (years : ℕ) (updated : Option ℕ) → HasBeen s updated → IsDomainOf p s name d → IsDomainOf p s name (record d { years = years; updated = updated })
+  domain-renewed d years updated been k = record {
+    named = k.named;
+    roid = k.roid;
+    sponsor = k.sponsor;
+    created = k.created;
+    transferred = k.transferred;
+    updated = been;
+    transfer = k.transfer;
+    deletion = deletion-renewed d years updated d.deletion k.deletion;
+    contacts = k.contacts;
+    hosts = k.hosts;
+  }
+
   -- a host with other content, of the same name
   pub host-updated : (h : Host) (updated : Option ℕ) (statuses : List Status) (addresses : List (List ℕ)) → HasBeen s updated
       → IsHostOf p s name h → IsHostOf p s name (record h { updated = updated; statuses = statuses; addresses = addresses })
@@ -73,17 +92,17 @@ module _ (p : PolicyRules) (s : Registry) (name : List ℕ) where
 -- ---- other statuses are set on an object
 
 module _ (p : PolicyRules) (s : Registry) (is : IsRegistry p s) (name : List ℕ) (statuses : List Status) where
-  pub kept-contact-statuses : (c : Contact) → get s.contacts name ≡ Some c → IsRegistry p (changed (PutContact (record c { statuses = statuses })) s)
+  pub kept-contact-statuses : (c : Contact) → get s.contacts name ≡ Some c → IsRegistry p (changed p (PutContact (record c { statuses = statuses })) s)
   kept-contact-statuses c at =
       let k = is.contacts name c at in
       kept-put-contact p s is name c (record c { statuses = statuses }) at refl (contact-updated p s name c c.updated statuses c.secret c.postal c.voice c.mail k.updated k)
 
-  pub kept-domain-statuses : (d : Domain) → get s.domains name ≡ Some d → IsRegistry p (changed (PutDomain (record d { statuses = statuses })) s)
+  pub kept-domain-statuses : (d : Domain) → get s.domains name ≡ Some d → IsRegistry p (changed p (PutDomain (record d { statuses = statuses })) s)
   kept-domain-statuses d at =
       let k = is.domains name d at in
       kept-put-domain p s is name d (record d { statuses = statuses }) at refl (domain-updated p s name d d.updated statuses d.secret d.links k.updated k.contacts k.hosts k)
 
-  pub kept-host-statuses : (h : Host) → get s.hosts name ≡ Some h → IsRegistry p (changed (PutHost (record h { statuses = statuses })) s)
+  pub kept-host-statuses : (h : Host) → get s.hosts name ≡ Some h → IsRegistry p (changed p (PutHost (record h { statuses = statuses })) s)
   kept-host-statuses h at =
       let k = is.hosts name h at in
       kept-put-host p s is name h (record h { statuses = statuses }) at refl (host-updated p s name h h.updated statuses h.addresses k.updated k)

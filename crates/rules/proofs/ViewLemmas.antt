@@ -1,5 +1,5 @@
 -- The facts of a command lie in the view, and each change is seen by the view alone.
-use Rattle.std.proofs.Common.{◌≡◌, ℕ, suc, Bool, true, false, cond, List, [], ◌∷◌, map, filter, length, Option, Some, None, refl, sym, ap, ◌∙◌}
+use Rattle.std.proofs.Common.{◌≡◌, ◌⊎◌, ⊎_elim, inl, inr, ℕ, suc, Bool, true, false, cond, List, [], ◌∷◌, map, filter, length, Option, Some, None, refl, sym, ap, ◌∙◌}
 use Rattle.std.specs.Prelude.{◌||◌, is_some, max, option_map, unwrap_or}
 use Rattle.std.specs.List.{list_any}
 use Rattle.std.specs.Cmp.{nat_cmp_total, Equal-is}
@@ -7,7 +7,9 @@ use Rattle.std.specs.Cmp.Lexicographic.{slice_cmp, nat_list_cmp_total}
 use Rattle.std.specs.FinMap.{FinMap, get, insert, remove, entries, keys, values, get-insert, nat_cmp-IsAntisymmetric}
 use Rattle.std.specs.Ordering.{eq_by_cmp, nat_cmp}
 use Rattle.accounts.specs.declared.account.Account.{Account}
-use Rattle.accounts.specs.Account.{empty_account, with_command, with_serial}
+use Rattle.accounts.specs.Account.{empty_account}
+use Rattle.accounts.specs.declared.line.Line.{Line}
+use Rattle.lifecycle.specs.Changes.{changed as account_changed}
 use Rattle.basis.specs.Maps.{map_values}
 use Rattle.basis.proofs.MapLemmas.{names_apart, entries-map_values, get-map_values, map_values-insert, map_values-remove, map_values-twice, map-twice}
 use Rattle.objects.specs.declared.contact.Contact.{Contact}
@@ -25,9 +27,9 @@ use Rattle.objects.specs.Links.{links_seen, names_contact, names_host}
 use Rattle.objects.specs.Sight.{contact_as, domain_as, is_party}
 use Rattle.policy.specs.Rules.{PolicyRules}
 use Rattle.rules.specs.declared.change.Change.{Change}
-use Rattle.rules.specs.declared.change.Change.TheVariants.{MoveClock, OpenAccount, PutContact, DropContact, PutDomain, PutHost, DropHost, RenameHost, CountCommand, TakeSerial}
+use Rattle.rules.specs.declared.change.Change.TheVariants.{MoveClock, OpenAccount, PutContact, DropContact, PutDomain, PutHost, DropHost, RenameHost, Give}
 use Rattle.rules.specs.Changes.{changed, changed_all, with_account, itself, with_host_renamed}
-use Rattle.rules.proofs.SightLemmas.{domain_again, forget, forget-domain, forget-contact, graces_seen, holds_seen, holds-seen, links-seen, relinked_seen, seen-relinked, sponsor_seen, superordinate_seen, superordinate-seen}
+use Rattle.rules.proofs.SightLemmas.{domain_again, forget, forget-domain, forget-contact, graces_seen, holds_seen, holds-seen, links-seen, Regrace, regraced, regraced-seen, relinked_seen, seen-relinked, sponsor_seen, superordinate_seen, superordinate-seen}
 use Rattle.protocol.specs.declared.command.Command.{Command}
 use Rattle.facts.specs.Facts.{Lookups, facts, facts_by, lookups, held, subordinate, superordinate_of_domain}
 use Rattle.protocol.specs.Requests.{presented, presented_contact}
@@ -158,6 +160,14 @@ graces_put p r d v = cond (eq_by_cmp nat_cmp d.sponsor r) (graces p v.clock d.ro
 abbrev standing_put : PolicyRules → ℕ → Domain → View → Standing
 standing_put p r d v = record { graces = graces_put p r d v; phase = phase p v.clock d }
 
+-- the registrar's own domains have the graces that these lines give
+abbrev own_graces : PolicyRules → ℕ → ℕ → List Line → Regrace
+own_graces p r clock lines sponsor roid transferred g = cond (eq_by_cmp nat_cmp sponsor r) (graces p clock roid transferred lines) g
+
+-- another account
+abbrev with_seen_account : PolicyRules → ℕ → Account → View → View
+with_seen_account p r a v = record v { account = a; domains = map_values (λ name. regraced (own_graces p r v.clock a.lines)) v.domains }
+
 seen_change : PolicyRules → ℕ → Change → View → View
 seen_change p r (MoveClock t) v = v
 seen_change p r (OpenAccount other) v = record v { account = own r other itself v.account }
@@ -167,8 +177,7 @@ seen_change p r (PutDomain d) v = record v { domains = insert v.domains d.name (
 seen_change p r (PutHost h) v = record v { hosts = insert v.hosts h.name h }
 seen_change p r (DropHost name) v = record v { hosts = remove v.hosts name }
 seen_change p r (RenameHost old new) v = record v { domains = map_values (λ name. relinked_seen old new) v.domains }
-seen_change p r (CountCommand other) v = record v { account = own r other with_command v.account }
-seen_change p r (TakeSerial other) v = record v { account = own r other with_serial v.account }
+seen_change p r (Give other what) v = with_seen_account p r (own r other (account_changed p what) v.account) v
 
 found-or : (b : Bool) (x d : Account) (o : Option Account) → unwrap_or (cond b (Some x) o) d ≡ cond b x (unwrap_or o d)
 found-or true x d o = refl
@@ -202,6 +211,49 @@ module _ (p : PolicyRules) (r q : ℕ) (f : Account → Account) (keeps : (a : A
   view-account : view p r (with_account q f s) ≡ record (view p r s) { account = own r q f (view p r s).account }
   view-account = λ i. record (view p r s) { account = account_of-with_account r q f s i; domains = sights-kept i }
 
+-- ---- an account whose lines change: the registrar's own, or one whose lines stay
+
+same-number : (a b : ℕ) → eq_by_cmp nat_cmp a b ≡ true → a ≡ b
+same-number a b e = nat_cmp-IsAntisymmetric a b ((Equal-is (nat_cmp a b)).0 e)
+
+module _ (p : PolicyRules) (r q : ℕ) (f : Account → Account) (s : Registry) (own_or_kept : (q ≡ r) ⊎ ((f (account_of q s)).lines ≡ (account_of q s).lines)) where
+  abbrev given : Registry
+  given = with_account q f s
+
+  abbrev own_after : Account
+  own_after = own r q f (account_of r s)
+
+  -- the lines of another's account stay
+  lines-of-another : (k : ℕ) → eq_by_cmp nat_cmp k r ≡ false → (account_of k given).lines ≡ (account_of k s).lines
+  lines-of-another k other = ap (λ (a : Account). a.lines) (account_of-with_account k q f s) ∙ by (eq_by_cmp nat_cmp k q) refl
+    where
+      by : (b : Bool) → eq_by_cmp nat_cmp k q ≡ b → (cond b (f (account_of k s)) (account_of k s)).lines ≡ (account_of k s).lines
+      by true e =
+          let same : k ≡ q = same-number k q e in
+          ⊎_elim
+          (λ own. absurd (let never : true ≡ false = sym e ∙ ap (λ (n : ℕ). eq_by_cmp nat_cmp k n) own ∙ other in cc))
+          (λ kept. ap (λ (n : ℕ). (f (account_of n s)).lines) same ∙ kept ∙ ap (λ (n : ℕ). (account_of n s).lines) (sym same)) own_or_kept
+      by false e = refl
+
+  graces-given : (d : Domain) → graces_of p given d ≡ own_graces p r s.clock own_after.lines d.sponsor d.roid d.transferred (graces_of p s d)
+  graces-given d = by (eq_by_cmp nat_cmp d.sponsor r) refl
+    where
+      by : (b : Bool) → eq_by_cmp nat_cmp d.sponsor r ≡ b → graces_of p given d ≡ cond b (graces p s.clock d.roid d.transferred own_after.lines) (graces_of p s d)
+      by true e = ap (λ (k : ℕ). graces p s.clock d.roid d.transferred (account_of k given).lines) (same-number d.sponsor r e) ∙ ap (λ (a : Account). graces p s.clock d.roid d.transferred a.lines) (account_of-with_account r q f s)
+      by false e = ap (λ (lines : List Line). graces p s.clock d.roid d.transferred lines) (lines-of-another d.sponsor e)
+
+  sight-given : (d : Domain) → domain_sight p r given None d ≡ regraced (own_graces p r s.clock own_after.lines) (domain_sight p r s None d)
+  sight-given d =
+      ap (λ (g : Graces). domain_as r None (record { graces = g; phase = phase p s.clock d }) d) (graces-given d)
+      ∙ sym (regraced-seen (own_graces p r s.clock own_after.lines) r (standing_of p s d) d None)
+
+  sights-given : map_values (λ (name : List ℕ). domain_sight p r given None) s.domains ≡ map_values (λ (name : List ℕ). regraced (own_graces p r s.clock own_after.lines)) (map_values (λ (name : List ℕ). domain_sight p r s None) s.domains)
+  sights-given = sym (map_values-twice (slice_cmp nat_cmp) nat_list_cmp_total names_apart (λ name. domain_sight p r s None) (λ name. regraced (own_graces p r s.clock own_after.lines)) (λ name. domain_sight p r given None)
+      (λ name d. sym (sight-given d)) s.domains)
+
+  view-given : view p r given ≡ with_seen_account p r (own r q f (view p r s).account) (view p r s)
+  view-given = λ i. record (view p r s) { account = account_of-with_account r q f s i; domains = sights-given i }
+
 relinked-view : (p : PolicyRules) (r : ℕ) (s : Registry) (old new : List ℕ) (m : FinMap (slice_cmp nat_cmp) Domain)
     → map_values (λ (name : List ℕ). domain_sight p r s None) (map_values (λ (name : List ℕ). with_host_renamed old new) m) ≡ map_values (λ (name : List ℕ). relinked_seen old new) (map_values (λ (name : List ℕ). domain_sight p r s None) m)
 relinked-view p r s old new m =
@@ -212,7 +264,8 @@ relinked-view p r s old new m =
 -- ---- each change, by what is seen
 
 -- What is asked of a change in a registry: a domain that is put has the graces that can be told from
--- what is seen, and the clock stays, since graces and phases end by dates that aren't seen.
+-- what is seen, the lines of an account stay that isn't seen, and the clock stays, since graces and
+-- phases end by dates that aren't seen.
 abbrev pub Meets : PolicyRules → ℕ → Change → Registry → Type 0
 Meets p r (MoveClock t) s = ⊥
 Meets p r (OpenAccount other) s = Unit {0}
@@ -222,11 +275,10 @@ Meets p r (PutDomain d) s = graces_of p s d ≡ graces_put p r d (view p r s)
 Meets p r (PutHost h) s = Unit {0}
 Meets p r (DropHost name) s = Unit {0}
 Meets p r (RenameHost old new) s = Unit {0}
-Meets p r (CountCommand other) s = Unit {0}
-Meets p r (TakeSerial other) s = Unit {0}
+Meets p r (Give other what) s = (other ≡ r) ⊎ ((account_changed p what (account_of other s)).lines ≡ (account_of other s).lines)
 
 -- to make a change and to look is to look and to see the change
-view-changed : (p : PolicyRules) (r : ℕ) (change : Change) (s : Registry) → Meets p r change s → view p r (changed change s) ≡ seen_change p r change (view p r s)
+view-changed : (p : PolicyRules) (r : ℕ) (change : Change) (s : Registry) → Meets p r change s → view p r (changed p change s) ≡ seen_change p r change (view p r s)
 unfolding seen_change
 view-changed p r (MoveClock t) s meets = absurd meets
 view-changed p r (OpenAccount other) s meets = view-account p r other itself (λ a. refl) s
@@ -239,17 +291,16 @@ view-changed p r (PutDomain d) s meets =
     ap (λ (m : FinMap (slice_cmp nat_cmp) (Seen FullDomain DomainFace)). record (view p r s) { domains = m })
     (map_values-insert (slice_cmp nat_cmp) nat_list_cmp_total names_apart (λ name. domain_sight p r s None) s.domains d.name d
     ∙ ap (λ (g : Graces). insert (view p r s).domains d.name (domain_as r None (record { graces = g; phase = phase p s.clock d }) d)) meets)
-view-changed p r (CountCommand other) s meets = view-account p r other with_command (λ a. refl) s
-view-changed p r (TakeSerial other) s meets = view-account p r other with_serial (λ a. refl) s
+view-changed p r (Give other what) s meets = view-given p r other (account_changed p what) s meets
 
 -- each of the changes meets it when its turn comes
 abbrev pub AllMeet : PolicyRules → ℕ → List Change → Registry → Type 0
 AllMeet p r [] s = Unit {0}
-AllMeet p r (change ∷ changes) s = Meets p r change s × AllMeet p r changes (changed change s)
+AllMeet p r (change ∷ changes) s = Meets p r change s × AllMeet p r changes (changed p change s)
 
 -- two registries that look alike look alike after the same changes
 pub same_changed_all : (p : PolicyRules) (r : ℕ) (changes : List Change) (s t : Registry) → AllMeet p r changes s → AllMeet p r changes t
-    → view p r s ≡ view p r t → view p r (changed_all changes s) ≡ view p r (changed_all changes t)
+    → view p r s ≡ view p r t → view p r (changed_all p changes s) ≡ view p r (changed_all p changes t)
 same_changed_all p r [] s t here there alike = alike
-same_changed_all p r (change ∷ changes) s t here there alike = same_changed_all p r changes (changed change s) (changed change t) here.1 there.1
+same_changed_all p r (change ∷ changes) s t here there alike = same_changed_all p r changes (changed p change s) (changed p change t) here.1 there.1
     (view-changed p r change s here.0 ∙ ap (seen_change p r change) alike ∙ sym (view-changed p r change t there.0))

@@ -6,13 +6,13 @@ use Rattle.rules.specs.declared.change.Change.{Change}
 use Rattle.rules.specs.Changes.{changed_all, with_account}
 use Rattle.rules.specs.Decisions.{changes_after, changes_of}
 use Rattle.rules.specs.Steps.{effect}
-use Rattle.rules.proofs.CommandLemmas.{kept-contact-deletion, kept-contact-update, kept-counted, kept-domain-update, kept-host-deletion, kept-host-update, kept-new-contact, kept-new-domain, kept-new-host}
+use Rattle.rules.proofs.CommandLemmas.{kept-contact-deletion, kept-contact-update, kept-counted, kept-domain-update, kept-host-deletion, kept-host-update, kept-renewal, kept-new-contact, kept-new-domain, kept-new-host}
 use Rattle.verdict.proofs.RowLemmas.{refusing, unrefused}
 use Rattle.protocol.specs.declared.code.Code.{Code}
 use Rattle.protocol.specs.declared.command.Command.{Command}
 use Rattle.protocol.specs.declared.command.Command.TheVariants.{Asked, Bad}
 use Rattle.protocol.specs.declared.command.Request.{Request}
-use Rattle.protocol.specs.declared.command.Request.TheVariants.{CheckContact, CheckDomain, CheckHost, InfoContact, InfoDomain, InfoHost, CreateContact, CreateDomain, CreateHost, DeleteContact, DeleteHost, UpdateContact, UpdateDomain, UpdateHost}
+use Rattle.protocol.specs.declared.command.Request.TheVariants.{Balance, CheckContact, CheckDomain, CheckHost, InfoContact, InfoDomain, InfoHost, CreateContact, CreateDomain, CreateHost, DeleteContact, DeleteHost, UpdateContact, UpdateDomain, UpdateHost, RenewDomain}
 use Rattle.protocol.specs.declared.reply.Data.{Data}
 use Rattle.verdict.specs.declared.rules.Condition.TheVariants.{ReferenceIsMissing}
 use Rattle.protocol.specs.Codes.{is_accepted}
@@ -25,8 +25,9 @@ use Rattle.model.specs.WellFormed.{IsRegistry}
 
 module _ (p : PolicyRules) (r : ℕ) (cl_trid : Option (List ℕ)) (s : Registry) (place : IsRegistrar p r) (is : IsRegistry p s) (small : (account_of r s).serial < 4_611_686_018_427_387_904) where
   kept-accepted : (request : Request) → refusal_of p r s.clock request (facts p r (Asked cl_trid request) s) ≡ None
-      → IsRegistry p (changed_all (changes_of p.zone r s.clock request (facts p r (Asked cl_trid request) s)) (with_account r with_command s))
+      → IsRegistry p (changed_all p (changes_of p r s.clock request (facts p r (Asked cl_trid request) s)) (with_account r with_command s))
   unfolding changes_of
+  kept-accepted Balance taken = kept-counted p r cl_trid s place is
   kept-accepted (CheckContact names) taken = kept-counted p r cl_trid s place is
   kept-accepted (CheckDomain names) taken = kept-counted p r cl_trid s place is
   kept-accepted (CheckHost names) taken = kept-counted p r cl_trid s place is
@@ -40,15 +41,16 @@ module _ (p : PolicyRules) (r : ℕ) (cl_trid : Option (List ℕ)) (s : Registry
   kept-accepted (DeleteHost name) taken = kept-host-deletion p r cl_trid s place is name taken
   kept-accepted (UpdateContact u) taken = kept-contact-update p r cl_trid s place is u
   kept-accepted (UpdateDomain u) taken = kept-domain-update p r cl_trid s place is u taken
+  kept-accepted (RenewDomain name expires years) taken = kept-renewal p r cl_trid s place is name expires years
   kept-accepted (UpdateHost u) taken = kept-host-update p r cl_trid s place is u taken
 
   -- a refused command changes nothing but the caller's counter
   kept-judged : (request : Request) (refusal : Option Code) → refusal_of p r s.clock request (facts p r (Asked cl_trid request) s) ≡ refusal
-      → IsRegistry p (changed_all (cond (is_accepted (unless_refused refusal (granted p r s.clock request (facts p r (Asked cl_trid request) s))).code) (changes_of p.zone r s.clock request (facts p r (Asked cl_trid request) s)) []) (with_account r with_command s))
+      → IsRegistry p (changed_all p (cond (is_accepted (unless_refused refusal (granted p r s.clock request (facts p r (Asked cl_trid request) s))).code) (changes_of p r s.clock request (facts p r (Asked cl_trid request) s)) []) (with_account r with_command s))
   kept-judged request None taken = kept-accepted request taken
   kept-judged request (Some code) refused =
-      let changes : List Change = changes_of p.zone r s.clock request (facts p r (Asked cl_trid request) s) in
-      subst (λ (b : Bool). IsRegistry p (changed_all (cond b changes []) (with_account r with_command s)))
+      let changes : List Change = changes_of p r s.clock request (facts p r (Asked cl_trid request) s) in
+      subst (λ (b : Bool). IsRegistry p (changed_all p (cond b changes []) (with_account r with_command s)))
       (sym (refusing p r s.clock request (facts p r (Asked cl_trid request) s) code refused)) (kept-counted p r cl_trid s place is)
 
 -- A registrar's command leaves a registry well formed, but that a serial at its greatest would be

@@ -5,14 +5,15 @@ use Rattle.std.specs.Ordering.{nat_cmp}
 use Rattle.std.specs.Cmp.Lexicographic.{slice_cmp}
 use Rattle.std.specs.Str.{bytes_eq}
 use Rattle.accounts.specs.declared.account.Account.{Account}
-use Rattle.accounts.specs.Account.{with_command, with_serial}
+use Rattle.lifecycle.specs.Changes.{changed as account_changed}
+use Rattle.policy.specs.Rules.{PolicyRules}
 use Rattle.basis.specs.Bag.{add, precedes}
 use Rattle.basis.specs.Maps.{map_values}
 use Rattle.objects.specs.declared.domain.Domain.{Domain}
 use Rattle.objects.specs.declared.domain.Links.{Links}
 use Rattle.objects.specs.Links.{has_name}
 use Rattle.rules.specs.declared.change.Change.{Change}
-use Rattle.rules.specs.declared.change.Change.TheVariants.{MoveClock, OpenAccount, PutContact, DropContact, PutDomain, PutHost, DropHost, RenameHost, CountCommand, TakeSerial}
+use Rattle.rules.specs.declared.change.Change.TheVariants.{MoveClock, OpenAccount, PutContact, DropContact, PutDomain, PutHost, DropHost, RenameHost, Give}
 use Rattle.model.specs.Registry.{Registry, account_of}
 
 -- one registrar's account is changed
@@ -34,18 +35,17 @@ with_host_renamed old new d = record d { links = links_with_host_renamed old new
 
 -- One change. The clock moves and nothing else: what lapses is a list of changes of its own. An
 -- account that is opened and was there stays as it is.
-abbrev pub changed : Change → Registry → Registry
-changed (MoveClock t) s = record s { clock = max t s.clock }
-changed (OpenAccount r) s = with_account r itself s
-changed (PutContact c) s = record s { contacts = insert s.contacts c.name c }
-changed (DropContact name) s = record s { contacts = remove s.contacts name }
-changed (PutDomain d) s = record s { domains = insert s.domains d.name d }
-changed (PutHost h) s = record s { hosts = insert s.hosts h.name h }
-changed (DropHost name) s = record s { hosts = remove s.hosts name }
-changed (RenameHost old new) s = record s { domains = map_values (λ name. with_host_renamed old new) s.domains }
-changed (CountCommand r) s = with_account r with_command s
-changed (TakeSerial r) s = with_account r with_serial s
+abbrev pub changed : PolicyRules → Change → Registry → Registry
+changed p (MoveClock t) s = record s { clock = max t s.clock }
+changed p (OpenAccount r) s = with_account r itself s
+changed p (PutContact c) s = record s { contacts = insert s.contacts c.name c }
+changed p (DropContact name) s = record s { contacts = remove s.contacts name }
+changed p (PutDomain d) s = record s { domains = insert s.domains d.name d }
+changed p (PutHost h) s = record s { hosts = insert s.hosts h.name h }
+changed p (DropHost name) s = record s { hosts = remove s.hosts name }
+changed p (RenameHost old new) s = record s { domains = map_values (λ name. with_host_renamed old new) s.domains }
+changed p (Give r what) s = with_account r (account_changed p what) s
 
 -- changes, one after another
-abbrev pub changed_all : List Change → Registry → Registry
-changed_all changes s = fold (λ s change. changed change s) s changes
+abbrev pub changed_all : PolicyRules → List Change → Registry → Registry
+changed_all p changes s = fold (λ s change. changed p change s) s changes

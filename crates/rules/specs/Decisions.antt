@@ -1,6 +1,10 @@
 -- What a command is answered and what it changes, by the facts that bear on it.
-use Rattle.std.specs.Prelude.{ℕ, List, [], ◌∷◌, map, Option, Some, None, if◌then◌else◌}
+use Rattle.std.specs.Prelude.{ℕ, ◌+◌, min, List, [], ◌∷◌, map, Option, Some, None, if◌then◌else◌}
 use Rattle.accounts.specs.Account.{saturating_next}
+use Rattle.accounts.specs.declared.line.Line.{Line}
+use Rattle.accounts.specs.declared.line.LineKind.{LineKind}
+use Rattle.accounts.specs.declared.line.LineKind.TheVariants as lines
+use Rattle.lifecycle.specs.declared.change.AccountChange.TheVariants.{Charge, CountCommand, TakeSerial}
 use Rattle.names.specs.declared.given.GivenName.{GivenName}
 use Rattle.names.specs.GivenName.{name_of}
 use Rattle.names.specs.Zone.{ZoneRules}
@@ -20,7 +24,7 @@ use Rattle.objects.specs.Links.{in_order}
 use Rattle.objects.specs.Statuses.{amended_statuses}
 use Rattle.policy.specs.Rules.{PolicyRules}
 use Rattle.rules.specs.declared.change.Change.{Change}
-use Rattle.rules.specs.declared.change.Change.TheVariants.{PutContact, DropContact, PutDomain, PutHost, DropHost, RenameHost, CountCommand, TakeSerial}
+use Rattle.rules.specs.declared.change.Change.TheVariants.{PutContact, DropContact, PutDomain, PutHost, DropHost, RenameHost, Give}
 use Rattle.rules.specs.declared.decision.Decision.{Decision}
 use Rattle.protocol.specs.declared.code.Code.{Code}
 use Rattle.protocol.specs.declared.command.Command.{Command}
@@ -36,10 +40,11 @@ use Rattle.protocol.specs.declared.command.Request.TheVariants as requests
 use Rattle.facts.specs.declared.facts.Facts.{Facts}
 use Rattle.verdict.specs.declared.verdict.Verdict.{Verdict}
 use Rattle.protocol.specs.Codes.{is_accepted}
-use Rattle.protocol.specs.Requests.{final_name}
+use Rattle.protocol.specs.Requests.{asks_of, final_name}
 use Rattle.facts.specs.Facts.{is_inside, or_else}
 use Rattle.facts.specs.Facts.{contact_seen, domain_seen, host_seen}
 use Rattle.facts.specs.Lists.{amended, itself}
+use Rattle.verdict.specs.Charges.{charge_of}
 use Rattle.verdict.specs.Verdicts.{judged}
 
 -- ---- new objects: its own serial's ROID, and nothing set, transferred or deleted
@@ -98,6 +103,23 @@ new_host zone r t f new = record {
   addresses = in_order new.addresses;
 }
 
+-- ---- charges: each adds its line, also one of nothing, and its grace begins at once (RFC 3915, 3.1)
+
+-- what a request charges for the domain with this identifier
+abbrev pub charge_line : LineKind → PolicyRules → ℕ → Roid → Request → Line
+charge_line kind p t roid q = record {
+  kind = kind;
+  roid = Some roid;
+  recorded = t;
+  years = (asks_of q).years;
+  cents = charge_of p q;
+  started = Some t;
+  refunded = None;
+}
+
+abbrev pub charge : LineKind → PolicyRules → ℕ → ℕ → Roid → Request → Change
+charge kind p r t roid q = Give r (Charge (charge_line kind p t roid q))
+
 -- ---- updated objects: what isn't given stays
 
 abbrev pub or_old : {A : Type 0} → Option A → A → A
@@ -130,6 +152,14 @@ updated_domain t u d = record d {
   links = updated_links u d.links;
 }
 
+-- so many years more; their number stays at its greatest
+abbrev pub more_years : ℕ → ℕ → ℕ
+more_years years more = min (years + more) 0xFFFF_FFFF
+
+-- registered for longer (RFC 5731, 3.2.3)
+abbrev pub renewed_domain : ℕ → ℕ → Domain → Domain
+renewed_domain t years d = record d { years = more_years d.years years; updated = Some t }
+
 -- the same after an update, which may rename the host
 abbrev pub external_sponsor_after : ZoneRules → ℕ → Option GivenName → Option ℕ → Option ℕ
 external_sponsor_after zone r None by = by
@@ -158,6 +188,12 @@ domain_changes t u (Some (Full known)) = PutDomain (updated_domain t u known.dom
 domain_changes t u (Some (TransferParty face transfer)) = []
 domain_changes t u (Some (Public face)) = []
 
+abbrev pub renewal_changes : PolicyRules → ℕ → ℕ → Request → Option (Seen FullDomain DomainFace) → List Change
+renewal_changes p r t q None = []
+renewal_changes p r t q (Some (Full known)) = PutDomain (renewed_domain t (asks_of q).years known.domain) ∷ charge lines.Renew p r t known.domain.roid q ∷ []
+renewal_changes p r t q (Some (TransferParty face transfer)) = []
+renewal_changes p r t q (Some (Public face)) = []
+
 -- under a new name, a host is linked as before
 abbrev pub renaming : List ℕ → Host → Option GivenName → List Change
 renaming old h None = PutHost h ∷ []
@@ -168,29 +204,32 @@ host_changes zone r t u None = []
 host_changes zone r t u (Some h) = renaming (name_of u.name) (updated_host zone r t u h) u.new_name
 
 -- what an accepted command changes
-unfoldable pub changes_of : ZoneRules → ℕ → ℕ → Request → Facts → List Change
-changes_of zone r t (requests.CreateContact new) f = PutContact (new_contact r t f new) ∷ TakeSerial r ∷ []
-changes_of zone r t (requests.CreateDomain new) f = PutDomain (new_domain r t f new) ∷ TakeSerial r ∷ []
-changes_of zone r t (requests.CreateHost new) f = PutHost (new_host zone r t f new) ∷ TakeSerial r ∷ []
-changes_of zone r t (requests.DeleteContact name) f = DropContact name ∷ []
-changes_of zone r t (requests.DeleteHost name) f = DropHost (name_of name) ∷ []
-changes_of zone r t (requests.UpdateContact u) f = contact_changes t u (contact_seen f u.name)
-changes_of zone r t (requests.UpdateDomain u) f = domain_changes t u (domain_seen f (name_of u.name))
-changes_of zone r t (requests.UpdateHost u) f = host_changes zone r t u (host_seen f (name_of u.name))
-changes_of zone r t (requests.CheckContact names) f = []
-changes_of zone r t (requests.CheckDomain names) f = []
-changes_of zone r t (requests.CheckHost names) f = []
-changes_of zone r t (requests.InfoContact name secret) f = []
-changes_of zone r t (requests.InfoDomain name secret) f = []
-changes_of zone r t (requests.InfoHost name) f = []
+unfoldable pub changes_of : PolicyRules → ℕ → ℕ → Request → Facts → List Change
+changes_of p r t requests.Balance f = []
+changes_of p r t (requests.CreateContact new) f = PutContact (new_contact r t f new) ∷ Give r TakeSerial ∷ []
+changes_of p r t (requests.CreateDomain new) f =
+    PutDomain (new_domain r t f new) ∷ Give r TakeSerial ∷ charge lines.Create p r t (new_roid kinds.Domain r f) (requests.CreateDomain new) ∷ []
+changes_of p r t (requests.CreateHost new) f = PutHost (new_host p.zone r t f new) ∷ Give r TakeSerial ∷ []
+changes_of p r t (requests.DeleteContact name) f = DropContact name ∷ []
+changes_of p r t (requests.DeleteHost name) f = DropHost (name_of name) ∷ []
+changes_of p r t (requests.UpdateContact u) f = contact_changes t u (contact_seen f u.name)
+changes_of p r t (requests.UpdateDomain u) f = domain_changes t u (domain_seen f (name_of u.name))
+changes_of p r t (requests.UpdateHost u) f = host_changes p.zone r t u (host_seen f (name_of u.name))
+changes_of p r t (requests.RenewDomain name expires years) f = renewal_changes p r t (requests.RenewDomain name expires years) (domain_seen f (name_of name))
+changes_of p r t (requests.CheckContact names) f = []
+changes_of p r t (requests.CheckDomain names) f = []
+changes_of p r t (requests.CheckHost names) f = []
+changes_of p r t (requests.InfoContact name secret) f = []
+changes_of p r t (requests.InfoDomain name secret) f = []
+changes_of p r t (requests.InfoHost name) f = []
 
 -- a refused command changes nothing but the caller's counter
-unfoldable pub changes_after : ZoneRules → ℕ → ℕ → Command → Facts → Code → List Change
-changes_after zone r t (Bad cl_trid code) f answered = []
-changes_after zone r t (Asked cl_trid request) f answered = if is_accepted answered then changes_of zone r t request f else []
+unfoldable pub changes_after : PolicyRules → ℕ → ℕ → Command → Facts → Code → List Change
+changes_after p r t (Bad cl_trid code) f answered = []
+changes_after p r t (Asked cl_trid request) f answered = if is_accepted answered then changes_of p r t request f else []
 
-abbrev pub decided_with : ZoneRules → ℕ → ℕ → Command → Facts → Verdict → Decision
-decided_with zone r t c f v = record { verdict = v; changes = CountCommand r ∷ changes_after zone r t c f v.code }
+abbrev pub decided_with : PolicyRules → ℕ → ℕ → Command → Facts → Verdict → Decision
+decided_with p r t c f v = record { verdict = v; changes = Give r CountCommand ∷ changes_after p r t c f v.code }
 
 abbrev pub decided : PolicyRules → ℕ → ℕ → Command → Facts → Decision
-decided p r t c f = decided_with p.zone r t c f (judged p r t c f)
+decided p r t c f = decided_with p r t c f (judged p r t c f)

@@ -1,14 +1,19 @@
 -- What an order of the operator is answered and what it changes.
-use Rattle.std.specs.Prelude.{List, [], ◌∷◌, Option, Some, None, if◌then◌else◌}
+use Rattle.std.specs.Prelude.{ℕ, nat_le, ◌&&◌, ℤ, pos, negsuc, List, [], ◌∷◌, Option, Some, None, if◌then◌else◌}
+use Rattle.accounts.specs.declared.line.Line.{Line}
+use Rattle.accounts.specs.declared.line.LineKind.TheVariants as lines
+use Rattle.lifecycle.specs.declared.change.AccountChange.TheVariants.{Charge}
 use Rattle.names.specs.Zone.{ZoneRules}
-use Rattle.policy.specs.Rules.{PolicyRules}
+use Rattle.policy.specs.Rules.{PolicyRules, place_of}
 use Rattle.objects.specs.declared.status.Status.{Status}
 use Rattle.objects.specs.Statuses.{amended_statuses}
 use Rattle.rules.specs.declared.change.Change.{Change}
-use Rattle.rules.specs.declared.change.Change.TheVariants.{PutContact, PutDomain, PutHost}
+use Rattle.rules.specs.declared.change.Change.TheVariants.{PutContact, PutDomain, PutHost, Give}
 use Rattle.rules.specs.declared.order.OrderDecision.{OrderDecision}
+use Rattle.rules.specs.declared.order.TheConstants.{MOST_DEPOSITED}
 use Rattle.rules.specs.Changes.{changed_all}
 use Rattle.protocol.specs.declared.code.Code.{Code}
+use Rattle.protocol.specs.declared.code.Code.TheVariants.{Completed, ObjectMissing, ParameterRange}
 use Rattle.model.specs.declared.object.Object.{Object}
 use Rattle.model.specs.declared.object.Object.TheVariants as objects
 use Rattle.protocol.specs.declared.order.Order.{Order}
@@ -40,9 +45,33 @@ decided_order o object code = record { code = code; changes = if is_accepted cod
 abbrev pub status_decision : ZoneRules → StatusOrder → Registry → OrderDecision
 status_decision zone o s = decided_order o (object_ordered zone o s) (order_code o (object_ordered zone o s))
 
+-- ---- deposits
+
+-- the cents that can be deposited at once
+abbrev pub cents_of : ℤ → Option ℕ
+cents_of (pos n) = if nat_le 1 n && nat_le n MOST_DEPOSITED then Some n else None
+cents_of (negsuc n) = None
+
+abbrev pub deposit_line : ℕ → ℕ → Line
+deposit_line t cents = record { kind = lines.Deposit; roid = None; recorded = t; years = 0; cents = cents; started = None; refunded = None }
+
+-- to a registrar, if there is such a one
+abbrev pub deposited_to : ℕ → ℕ → Option ℕ → OrderDecision
+deposited_to t cents None = record { code = ObjectMissing; changes = [] }
+deposited_to t cents (Some r) = record { code = Completed; changes = Give r (Charge (deposit_line t cents)) ∷ [] }
+
+abbrev pub deposited : PolicyRules → ℕ → List ℕ → Option ℕ → OrderDecision
+deposited p t registrar None = record { code = ParameterRange; changes = [] }
+deposited p t registrar (Some cents) = deposited_to t cents (place_of registrar p)
+
+-- a deposit at a moment, with the cents that were sent
+abbrev pub deposit_decision : PolicyRules → ℕ → List ℕ → ℤ → OrderDecision
+deposit_decision p t registrar cents = deposited p t registrar (cents_of cents)
+
 -- the decision on an order in a registry
 abbrev pub order_decision : PolicyRules → Order → Registry → OrderDecision
 order_decision p (orders.Status o) s = status_decision p.zone o s
+order_decision p (orders.Deposit registrar cents) s = deposit_decision p s.clock registrar cents
 
 -- what an order is answered
 abbrev pub order_answer : PolicyRules → Order → Registry → Code
@@ -50,4 +79,4 @@ order_answer p order s = (order_decision p order s).code
 
 -- what it leaves
 abbrev pub order_effect : PolicyRules → Order → Registry → Registry
-order_effect p order s = changed_all (order_decision p order s).changes s
+order_effect p order s = changed_all p (order_decision p order s).changes s

@@ -32,4 +32,4 @@ answer p r c s = reply_of p r c (decision p r c s).verdict (account_of r s).comm
 
 -- what it leaves
 abbrev pub effect : PolicyRules → ℕ → Command → Registry → Registry
-effect p r c s = changed_all (decision p r c s).changes s
+effect p r c s = changed_all p (decision p r c s).changes s

@@ -3,6 +3,7 @@
 use basis::registrar::RegistrarNo;
 use basis::text::Text;
 use calendar::Moment;
+use lifecycle::AccountChange;
 use objects::{Contact as ContactRecord, Domain as DomainRecord, Host as HostRecord};
 
 /// One change of the registry. It has a value for the object that a command names, and is an
@@ -25,8 +26,6 @@ pub enum Change {
     MoveClock(Moment),
     /// The registrar has an account.
     OpenAccount(RegistrarNo),
-    /// One command more of the registrar was answered.
-    CountCommand(RegistrarNo),
-    /// The registrar created one object more.
-    TakeSerial(RegistrarNo),
+    /// The registrar's account is changed.
+    Give(RegistrarNo, AccountChange),
 }

@@ -14,7 +14,7 @@ use protocol::{NewContact, NewDomain, NewHost};
 use std::alloc::{AllocError, Global};
 
 /// The ROID of the caller's next object.
-fn new_roid(kind: ObjectKind, facts: &Facts, caller: RegistrarNo) -> Roid
+pub(crate) fn new_roid(kind: ObjectKind, facts: &Facts, caller: RegistrarNo) -> Roid
     ensures { result ≡ spec.new_roid kind caller facts.now }
 {
     Roid {
@@ -63,7 +63,7 @@ pub(crate) fn new_domain(
         roid: new_roid(ObjectKind::Domain, facts, caller),
         sponsor: caller,
         created: moment,
-        years: new.years,
+        years: new.years.number(),
         transferred: None,
         updated: None,
         statuses: Seq::new(alloc),

@@ -4,15 +4,18 @@ ghost use Rattle.std.specs.Option.{option_copied};
 ghost use Rattle.rules.specs.Decisions as spec;
 
 use crate::change::Change;
-use crate::created::{new_contact, new_domain, new_host};
-use crate::updated::{updated_contact, updated_domain, updated_host};
+use crate::charge::charge;
+use crate::created::{new_contact, new_domain, new_host, new_roid};
+use crate::updated::{renewed_domain, updated_contact, updated_domain, updated_host};
+use accounts::LineKind;
 use basis::list::Seq;
 use basis::registrar::RegistrarNo;
 use basis::text::Text;
 use calendar::Moment;
 use facts::Facts;
+use lifecycle::AccountChange;
 use names::{GivenName, Zone};
-use objects::{Contact, ContactFace, DomainFace, FullDomain, Host, Seen};
+use objects::{Contact, ContactFace, Domain, DomainFace, FullDomain, Host, ObjectKind, Seen};
 use policy::Policy;
 use protocol::{Code, Command, ContactUpdate, DomainUpdate, HostUpdate, Request};
 use std::alloc::{AllocError, Global};
@@ -71,7 +74,7 @@ fn all_changes(
     answered: Code,
     policy: &Policy,
 ) -> Result<Vec<Change>, AllocError>
-    ensures { IfOk result (λ changes. changes.items ≡ Change.CountCommand caller ∷ spec.changes_after policy.now.zone caller moment command.now facts.now answered) }
+    ensures { IfOk result (λ changes. changes.items ≡ Change.Give caller AccountChange.CountCommand ∷ spec.changes_after policy.now caller moment command.now facts.now answered) }
 {
     let rest = changes_after(alloc, facts, caller, command, moment, answered, policy)?;
     with_count(alloc, caller, rest)
@@ -83,9 +86,9 @@ fn with_count(
     caller: RegistrarNo,
     mut rest: Vec<Change>,
 ) -> Result<Vec<Change>, AllocError>
-    ensures { IfOk result (λ changes. changes.items ≡ Change.CountCommand caller ∷ rest.items) }
+    ensures { IfOk result (λ changes. changes.items ≡ Change.Give caller AccountChange.CountCommand ∷ rest.items) }
 {
-    let mut changes = vec![in alloc; Change::CountCommand(caller)]?;
+    let mut changes = vec![in alloc; Change::Give(caller, AccountChange::CountCommand)]?;
     changes.append(&mut rest)?;
     Ok(changes)
 }
@@ -101,11 +104,11 @@ fn changes_after(
     answered: Code,
     policy: &Policy,
 ) -> Result<Vec<Change>, AllocError>
-    ensures { IfOk result (λ changes. changes.items ≡ spec.changes_after policy.now.zone caller moment command.now facts.now answered) }
+    ensures { IfOk result (λ changes. changes.items ≡ spec.changes_after policy.now caller moment command.now facts.now answered) }
 {
     match command {
         Command::Asked { request, .. } if answered.is_accepted() => {
-            accept(alloc, facts, caller, request, moment, policy.zone())
+            accept(alloc, facts, caller, request, moment, policy)
         }
         _ => Ok(Vec::new(alloc)),
     }
@@ -119,9 +122,9 @@ fn accept(
     caller: RegistrarNo,
     request: &Request,
     moment: Moment,
-    zone: &Zone,
+    policy: &Policy,
 ) -> Result<Vec<Change>, AllocError>
-    ensures { IfOk result (λ changes. changes.items ≡ spec.changes_of zone.now caller moment request.now facts.now) }
+    ensures { IfOk result (λ changes. changes.items ≡ spec.changes_of policy.now caller moment request.now facts.now) }
 {
     match request {
         Request::CreateContact(new) => {
@@ -130,10 +133,10 @@ fn accept(
         }
         Request::CreateDomain(new) => {
             let domain = new_domain(alloc, facts, caller, new, moment)?;
-            created(alloc, caller, Change::PutDomain(domain))
+            create_domain(alloc, facts, caller, request, domain, moment, policy)
         }
         Request::CreateHost(new) => {
-            let host = new_host(alloc, facts, caller, new, moment, zone)?;
+            let host = new_host(alloc, facts, caller, new, moment, policy.zone())?;
             created(alloc, caller, Change::PutHost(host))
         }
         Request::DeleteContact { name } => {
@@ -159,7 +162,15 @@ fn accept(
             update,
             facts.host_seen(update.name.text()),
             moment,
-            zone,
+            policy.zone(),
+        ),
+        Request::RenewDomain { name, .. } => renew_domain(
+            alloc,
+            caller,
+            request,
+            facts.domain_seen(name.text()),
+            moment,
+            policy,
         ),
         _ => Ok(Vec::new(alloc)),
     }
@@ -167,9 +178,57 @@ fn accept(
 
 /// A new object takes its creator's next number.
 fn created(alloc: Global, caller: RegistrarNo, put: Change) -> Result<Vec<Change>, AllocError>
-    ensures { IfOk result (λ changes. changes.items ≡ put ∷ Change.TakeSerial caller ∷ []) }
+    ensures { IfOk result (λ changes. changes.items ≡ put ∷ Change.Give caller AccountChange.TakeSerial ∷ []) }
 {
-    Ok(vec![in alloc; put, Change::TakeSerial(caller)]?)
+    Ok(vec![in alloc; put, Change::Give(caller, AccountChange::TakeSerial)]?)
+}
+
+/// A new domain is charged for.
+fn create_domain(
+    alloc: Global,
+    facts: &Facts,
+    caller: RegistrarNo,
+    request: &Request,
+    domain: Domain,
+    moment: Moment,
+    policy: &Policy,
+) -> Result<Vec<Change>, AllocError>
+    ensures { IfOk result (λ changes. changes.items ≡ Change.PutDomain domain ∷ Change.Give caller AccountChange.TakeSerial ∷ spec.charge LineKind.Create policy.now caller moment (spec.new_roid ObjectKind.Domain caller facts.now) request.now ∷ []) }
+{
+    let roid = new_roid(ObjectKind::Domain, facts, caller);
+    Ok(vec![in alloc;
+        Change::PutDomain(domain),
+        Change::Give(caller, AccountChange::TakeSerial),
+        charge(LineKind::Create, caller, roid, request, moment, policy),
+    ]?)
+}
+
+/// A domain is registered for longer, and that is charged for.
+fn renew_domain(
+    alloc: Global,
+    caller: RegistrarNo,
+    request: &Request,
+    seen: Option<&Seen<FullDomain, DomainFace>>,
+    moment: Moment,
+    policy: &Policy,
+) -> Result<Vec<Change>, AllocError>
+    ensures { IfOk result (λ changes. changes.items ≡ spec.renewal_changes policy.now caller moment request.now (option_copied seen.entry)) }
+{
+    match seen {
+        Some(Seen::Full(known)) => {
+            let renewed = renewed_domain(&known.domain, request.years(), moment)?;
+            let line = charge(
+                LineKind::Renew,
+                caller,
+                known.domain.roid,
+                request,
+                moment,
+                policy,
+            );
+            Ok(vec![in alloc; Change::PutDomain(renewed), line]?)
+        }
+        _ => Ok(Vec::new(alloc)),
+    }
 }
 
 fn update_contact(

@@ -2,6 +2,7 @@
 #![tactic(auto)]
 
 mod change;
+mod charge;
 mod created;
 mod decision;
 mod order;
@@ -9,4 +10,4 @@ mod updated;
 
 pub use change::Change;
 pub use decision::{Decision, decide};
-pub use order::{OrderDecision, decide_order};
+pub use order::{MOST_DEPOSITED, OrderDecision, decide_deposit, decide_order};

@@ -1,12 +1,17 @@
 //! What an order of the operator is answered, and what it changes.
-ghost use Rattle.std.specs.Prelude.{◌≡◌, ◌∷◌, [], IfOk};
+ghost use Rattle.std.specs.Prelude.{◌≡◌, ◌≤◌, ◌∷◌, [], IfOk, IfSome};
 ghost use Rattle.rules.specs.Orders as spec;
 ghost use Rattle.verdict.specs.Orders.{order_code};
 
 use crate::change::Change;
+use accounts::{Line, LineKind};
 use basis::list::Seq;
+use basis::text::Text;
+use calendar::Moment;
+use lifecycle::AccountChange;
 use model::Object;
 use objects::{Status, amended_statuses};
+use policy::Policy;
 use protocol::{Code, StatusOrder};
 use std::alloc::{AllocError, Global};
 use verdict::judge_order;
@@ -74,4 +79,68 @@ fn ordered(alloc: Global, order: &StatusOrder, old: &[Status]) -> Result<Seq<Sta
     ensures { IfOk result (λ statuses. statuses ≡ spec.ordered order.now old.now) }
 {
     amended_statuses(alloc, old, order.rem.as_slice(), order.add.as_slice())
+}
+
+// ---- deposits
+
+/// The most cents that are deposited at once: 10^12.
+pub const MOST_DEPOSITED: u64 = 1_000_000_000_000;
+
+/// The cents that were sent, if so many can be deposited at once.
+fn cents_of(cents: i64) -> Option<u64>
+    ensures { result ≡ spec.cents_of cents }
+{
+    if 1 <= cents && cents <= MOST_DEPOSITED as i64 {
+        Some(cents as u64)
+    } else {
+        None
+    }
+}
+
+fn deposit_line(cents: u64, moment: Moment) -> Line
+    ensures { result ≡ spec.deposit_line moment cents }
+{
+    Line {
+        kind: LineKind::Deposit,
+        roid: None,
+        recorded: moment,
+        years: 0,
+        cents,
+        started: None,
+        refunded: None,
+    }
+}
+
+/// Decides on a deposit at a moment. It is answered `ParameterRange` where the cents aren't 1 to
+/// 10^12, and `ObjectMissing` where there is no such registrar.
+pub fn decide_deposit(
+    alloc: Global,
+    registrar: &Text,
+    cents: i64,
+    moment: Moment,
+    policy: &Policy,
+) -> Result<OrderDecision, AllocError>
+    ensures { IfOk result (λ decision. decision ≡ spec.deposit_decision policy.now moment registrar.now cents) }
+{
+    let Some(cents) = cents_of(cents) else {
+        return Ok(refused(alloc, Code::ParameterRange));
+    };
+    let Some(registrar) = policy.find(registrar.as_str()) else {
+        return Ok(refused(alloc, Code::ObjectMissing));
+    };
+    let line = deposit_line(cents, moment);
+    let change = Change::Give(registrar, AccountChange::Charge(line));
+    Ok(OrderDecision {
+        code: Code::Completed,
+        changes: Seq::from_vec(vec![in alloc; change]?),
+    })
+}
+
+fn refused(alloc: Global, code: Code) -> OrderDecision
+    ensures { result ≡ record { code = code; changes = [] } }
+{
+    OrderDecision {
+        code,
+        changes: Seq::new(alloc),
+    }
 }

@@ -129,6 +129,33 @@ fn updated_links(alloc: Global, update: &DomainUpdate, links: &Links) -> Result<
     })
 }
 
+/// So many years more; their number stays at its greatest.
+fn more_years(years: u32, more: u32) -> u32
+    ensures { result ≡ spec.more_years years more }
+{
+    years.saturating_add(more)
+}
+
+/// The domain, registered for longer.
+pub(crate) fn renewed_domain(
+    domain: &Domain,
+    years: u32,
+    moment: Moment,
+) -> Result<Domain, AllocError>
+    ensures { IfOk result (λ renewed. renewed ≡ spec.renewed_domain moment years domain.now) }
+{
+    let mut renewed = copy(domain)?;
+    renewed.years = more_years(domain.years, years);
+    renewed.updated = Some(moment);
+    Ok(renewed)
+}
+
+fn copy(domain: &Domain) -> Result<Domain, AllocError>
+    ensures { IfOk result (λ copy. copy ≡ domain.now) }
+{
+    domain.clone()
+}
+
 /// The registrar that gave an external host its name, after an update that may rename it.
 fn external_sponsor_after(
     zone: &Zone,

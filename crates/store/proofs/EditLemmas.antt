@@ -1,6 +1,6 @@
 -- To take an edit back is to go back, and the edits of a change make it.
 use Rattle.std.proofs.Common.{◌≡◌, ℕ, ◌+◌, ◌-◌, ◌<◌, length, take, get_or, arith, Bool, true, false, cond, not, ◌&&◌, T, map, filter, List, [], ◌∷◌, ◌++◌, Option, Some, None, Result, Ok, Err, OnOk, OnErr, refl, sym, ap, ◌∙◌}
-use Rattle.std.specs.Prelude.{option_map, slice_get}
+use Rattle.std.specs.Prelude.{option_map, slice_get, unwrap_or}
 use Rattle.std.specs.Ordering.{is_lt}
 use Rattle.std.specs.Str.{bytes_eq}
 use Rattle.std.proofs.Math.Seq.{take-length}
@@ -8,7 +8,7 @@ use Rattle.std.proofs.lemmas.List.{take_more}
 use Rattle.std.proofs.lemmas.Option.{slice_get_within, slice_get-get_or}
 use Rattle.std.specs.declared.cmp.Ordering.{Ordering}
 use Rattle.std.specs.declared.cmp.Ordering.TheVariants.{Less, Equal, Greater}
-use Rattle.std.specs.Cmp.{IsTotalOrder, Equal-is, nat_cmp_total}
+use Rattle.std.specs.Cmp.{IsTotalOrder, Equal-is, eq_by_cmp_equiv, nat_cmp_total}
 use Rattle.std.specs.Cmp.Lexicographic.{slice_cmp, nat_list_cmp_total}
 use Rattle.std.specs.FinMap.{FinMap, IsAntisymmetric, entries, entries_sorted, find, get, get-entries, insert, is_sorted, get-insert, get-remove, same_map, nat_cmp-IsAntisymmetric}
 use Rattle.std.specs.FinMap.Entries.{below_all}
@@ -18,13 +18,21 @@ use Rattle.basis.specs.Maps.{map_values}
 use Rattle.basis.proofs.MapLemmas.{names_apart, get-map_values}
 use Rattle.objects.specs.declared.domain.Domain.{Domain}
 use Rattle.objects.specs.Links.{names_host}
+use Rattle.policy.specs.Rules.{PolicyRules}
 use Rattle.rules.specs.Changes.{with_host_renamed}
 use Rattle.rules.specs.declared.change.Change.{Change}
-use Rattle.rules.specs.declared.change.Change.TheVariants.{MoveClock, OpenAccount, PutContact, DropContact, PutDomain, PutHost, DropHost, RenameHost, CountCommand, TakeSerial}
+use Rattle.rules.specs.declared.change.Change.TheVariants.{MoveClock, OpenAccount, PutContact, DropContact, PutDomain, PutHost, DropHost, RenameHost, Give}
 use Rattle.store.specs.declared.edit.Edit.{Edit}
 use Rattle.store.specs.declared.edit.Edit.TheVariants as edit
 use Rattle.store.specs.Book.{Stored, with_changes}
-use Rattle.store.specs.Edits.{put, edited, edited_all, edits_of, inverse, undone_all}
+use Rattle.accounts.specs.declared.account.Account.{Account}
+use Rattle.accounts.specs.Account.{empty_account}
+use Rattle.lifecycle.specs.declared.change.AccountChange.{AccountChange}
+use Rattle.lifecycle.specs.declared.change.AccountChange.TheVariants as gifts
+use Rattle.model.specs.Registry.{account_of}
+use Rattle.store.specs.declared.ledgers.Counters.{Counters}
+use Rattle.store.specs.Ledgers.{counters_of, put, with_counted, with_counters}
+use Rattle.store.specs.Edits.{counters_back, edited, edited_all, edits_of, gift_edit, inverse, undone_all}
 
 -- ---- entries in order
 
@@ -68,12 +76,45 @@ module _ {K X : Type 0} (R : K → K → Ordering) (o : IsTotalOrder R) (apart :
   put-same : (m : FinMap R X) (k : K) → put m k (get m k) ≡ m
   put-same m k = same_map o apart _ _ (λ q. get-put m k (get m k) q ∙ still-before m k q (eq_by_cmp R q k) refl)
 
+-- ---- the counters of an account
+
+module _ (r : ℕ) (x : Counters) (m : FinMap nat_cmp Account) where
+  -- what stands at a registrar's place once its counters were changed
+  counted-there : (a : Account) → get m r ≡ Some a → unwrap_or (get (with_counted m r x) r) empty_account ≡ with_counters x a
+  counted-there a e =
+      ap (λ (o : Option Account). unwrap_or o empty_account)
+      (get-insert nat_cmp_total m r (with_counters x (unwrap_or (get m r) empty_account)) r
+      ∙ ap (λ (b : Bool). cond b (Some (with_counters x (unwrap_or (get m r) empty_account))) (get m r)) ((eq_by_cmp_equiv nat_cmp_total).refl r))
+      ∙ ap (λ (o : Option Account). with_counters x (unwrap_or o empty_account)) e
+
+  with_accounts : Stored → FinMap nat_cmp Account → Stored
+  with_accounts s n = record s { registry = record s.registry { accounts = n } }
+
+  counters-back : (s : Stored) (o : Option Account) → get m r ≡ o → edited (counters_back r (option_map counters_of o)) (with_accounts s (with_counted m r x)) ≡ with_accounts s m
+  unfolding with_accounts
+  counters-back s None e = ap (with_accounts s) (ap (put (with_counted m r x) r) (sym e) ∙ put-back nat_cmp nat_cmp_total nat_cmp-IsAntisymmetric m r (Some (with_counters x (unwrap_or (get m r) empty_account))))
+  counters-back s (Some a) e =
+      ap (with_accounts s)
+      (ap (λ (b : Account). insert (with_counted m r x) r (with_counters (counters_of a) b)) (counted-there a e)
+      ∙ ap (put (with_counted m r x) r) (sym e)
+      ∙ put-back nat_cmp nat_cmp_total nat_cmp-IsAntisymmetric m r (Some (with_counters x (unwrap_or (get m r) empty_account))))
+
+  counters-same : (s : Stored) (o : Option Account) → get m r ≡ o → edited (counters_back r (option_map counters_of o)) (with_accounts s m) ≡ with_accounts s m
+  unfolding with_accounts
+  counters-same s None e = ap (with_accounts s) (ap (put m r) (sym e) ∙ put-same nat_cmp nat_cmp_total nat_cmp-IsAntisymmetric m r)
+  counters-same s (Some a) e =
+      ap (with_accounts s)
+      (ap (λ (o : Option Account). insert m r (with_counters (counters_of a) (unwrap_or o empty_account))) e
+      ∙ ap (put m r) (sym e) ∙ put-same nat_cmp nat_cmp_total nat_cmp-IsAntisymmetric m r)
+
 -- ---- one edit
 
 -- what takes an edit back goes back from where that leads
 edited-back : (e : Edit) (s : Stored) → edited (inverse e s) (edited e s) ≡ s
+unfolding with_accounts
 edited-back (edit.Clock t) s = refl
 edited-back (edit.Account r value) s = ap (λ m. record s { registry = record s.registry { accounts = m } }) (put-back nat_cmp nat_cmp_total nat_cmp-IsAntisymmetric s.registry.accounts r value)
+edited-back (edit.Counters r x) s = counters-back r x s.registry.accounts s (get s.registry.accounts r) refl
 edited-back (edit.Contact name value) s = ap (λ m. record s { registry = record s.registry { contacts = m } }) (put-back (slice_cmp nat_cmp) nat_list_cmp_total names_apart s.registry.contacts name value)
 edited-back (edit.Domain name value) s = ap (λ m. record s { registry = record s.registry { domains = m } }) (put-back (slice_cmp nat_cmp) nat_list_cmp_total names_apart s.registry.domains name value)
 edited-back (edit.Host name value) s = ap (λ m. record s { registry = record s.registry { hosts = m } }) (put-back (slice_cmp nat_cmp) nat_list_cmp_total names_apart s.registry.hosts name value)
@@ -81,8 +122,10 @@ edited-back (edit.Terms value) s = refl
 
 -- and leaves what wasn't edited
 edited-same : (e : Edit) (s : Stored) → edited (inverse e s) s ≡ s
+unfolding with_accounts
 edited-same (edit.Clock t) s = refl
 edited-same (edit.Account r value) s = ap (λ m. record s { registry = record s.registry { accounts = m } }) (put-same nat_cmp nat_cmp_total nat_cmp-IsAntisymmetric s.registry.accounts r)
+edited-same (edit.Counters r x) s = counters-same r x s.registry.accounts s (get s.registry.accounts r) refl
 edited-same (edit.Contact name value) s = ap (λ m. record s { registry = record s.registry { contacts = m } }) (put-same (slice_cmp nat_cmp) nat_list_cmp_total names_apart s.registry.contacts name)
 edited-same (edit.Domain name value) s = ap (λ m. record s { registry = record s.registry { domains = m } }) (put-same (slice_cmp nat_cmp) nat_list_cmp_total names_apart s.registry.domains name)
 edited-same (edit.Host name value) s = ap (λ m. record s { registry = record s.registry { hosts = m } }) (put-same (slice_cmp nat_cmp) nat_list_cmp_total names_apart s.registry.hosts name)
@@ -183,21 +226,31 @@ mapped test f still m = same_map nat_list_cmp_total names_apart _ _ (λ q.
 not-linked : (old new : List ℕ) (d : Domain) → names_host old d.links ≡ false → with_host_renamed old new d ≡ d
 not-linked old new d e = ap (λ (b : Bool). record d { links = record d.links { hosts = cond b (add (precedes (slice_cmp nat_cmp)) new (filter (λ host. not (bytes_eq host old)) d.links.hosts)) d.links.hosts } }) e
 
-pub made : (c : Change) (s : Stored) → edited_all (edits_of c s.registry) s ≡ with_changes (c ∷ []) s
+-- an account is changed by one edit
+given : (p : PolicyRules) (r : ℕ) (what : AccountChange) (s : Stored) → edited (gift_edit p r what (account_of r s.registry)) s ≡ with_changes p (Give r what ∷ []) s
+given p r gifts.CountCommand s = refl
+given p r gifts.TakeSerial s = refl
+given p r (gifts.Charge line) s = refl
+given p r (gifts.RefundRunning refund) s = refl
+given p r (gifts.RefundTransfer refund) s = refl
+given p r (gifts.Lapse entry) s = refl
+given p r (gifts.Tell n) s = refl
+given p r (gifts.Ack id) s = refl
+
+pub made : (p : PolicyRules) (c : Change) (s : Stored) → edited_all (edits_of p c s.registry) s ≡ with_changes p (c ∷ []) s
 unfolding edits_where with_domains
-made (MoveClock t) s = refl
-made (OpenAccount r) s = refl
-made (PutContact c) s = refl
-made (DropContact name) s = refl
-made (PutDomain d) s = refl
-made (PutHost h) s = refl
-made (DropHost name) s = refl
-made (RenameHost old new) s =
+made p (MoveClock t) s = refl
+made p (OpenAccount r) s = refl
+made p (PutContact c) s = refl
+made p (DropContact name) s = refl
+made p (PutDomain d) s = refl
+made p (PutHost h) s = refl
+made p (DropHost name) s = refl
+made p (RenameHost old new) s =
     edited-where (λ (d : Domain). names_host old d.links) (with_host_renamed old new) (entries s.registry.domains) s
     ∙ ap (with_domains s) (mapped (λ (d : Domain). names_host old d.links) (with_host_renamed old new) (not-linked old new) s.registry.domains)
-made (CountCommand r) s = refl
-made (TakeSerial r) s = refl
+made p (Give r what) s = given p r what s
 
-pub made-by : {A E : Type 0} (r : Result A E) (edits : List Edit) (c : Change) (s t : Stored) → edits ≡ edits_of c s.registry → OnOk r (t ≡ edited_all edits s) → OnOk r (t ≡ with_changes (c ∷ []) s)
-made-by (Ok a) edits c s t e done = done ∙ ap (λ (es : List Edit). edited_all es s) e ∙ made c s
-made-by (Err f) edits c s t e done = tt
+pub made-by : {A E : Type 0} (p : PolicyRules) (r : Result A E) (edits : List Edit) (c : Change) (s t : Stored) → edits ≡ edits_of p c s.registry → OnOk r (t ≡ edited_all edits s) → OnOk r (t ≡ with_changes p (c ∷ []) s)
+made-by p (Ok a) edits c s t e done = done ∙ ap (λ (es : List Edit). edited_all es s) e ∙ made p c s
+made-by p (Err f) edits c s t e done = tt

@@ -1,25 +1,26 @@
 -- How a book in memory makes a change, and takes it back: values at keys.
-use Rattle.std.specs.Prelude.{List, [], ◌∷◌, map, max, filter, fold, Option, Some, None}
-use Rattle.std.specs.declared.cmp.Ordering.{Ordering}
-use Rattle.std.specs.FinMap.{FinMap, entries, get, insert, remove}
-use Rattle.accounts.specs.Account.{with_command, with_serial}
+use Rattle.std.specs.Prelude.{ℕ, List, [], ◌∷◌, map, max, filter, fold, Option, Some, None, option_map}
+use Rattle.std.specs.FinMap.{entries, get}
+use Rattle.accounts.specs.declared.account.Account.{Account}
+use Rattle.lifecycle.specs.Changes.{changed as account_changed}
+use Rattle.lifecycle.specs.declared.change.AccountChange.{AccountChange}
+use Rattle.lifecycle.specs.declared.change.AccountChange.TheVariants.{Charge, RefundRunning, RefundTransfer, Lapse, Tell, Ack, CountCommand, TakeSerial}
 use Rattle.objects.specs.Links.{names_host}
+use Rattle.policy.specs.Rules.{PolicyRules}
 use Rattle.rules.specs.declared.change.Change.{Change}
-use Rattle.rules.specs.declared.change.Change.TheVariants.{MoveClock, OpenAccount, PutContact, DropContact, PutDomain, PutHost, DropHost, RenameHost, CountCommand, TakeSerial}
+use Rattle.rules.specs.declared.change.Change.TheVariants.{MoveClock, OpenAccount, PutContact, DropContact, PutDomain, PutHost, DropHost, RenameHost, Give}
 use Rattle.rules.specs.Changes.{with_host_renamed}
 use Rattle.store.specs.declared.edit.Edit.{Edit}
 use Rattle.store.specs.declared.edit.Edit.TheVariants as edit
 use Rattle.store.specs.Book.{Stored}
+use Rattle.store.specs.declared.ledgers.Counters.{Counters}
+use Rattle.store.specs.Ledgers.{counters_of, next_command, next_serial, put, with_counted}
 use Rattle.model.specs.Registry.{Registry, account_of}
-
--- the key has this value, or none
-abbrev pub put : {K X : Type 0} {R : K → K → Ordering} → FinMap R X → K → Option X → FinMap R X
-put m k None = remove m k
-put m k (Some x) = insert m k x
 
 abbrev pub edited : Edit → Stored → Stored
 edited (edit.Clock t) s = record s { registry = record s.registry { clock = t } }
 edited (edit.Account r value) s = record s { registry = record s.registry { accounts = put s.registry.accounts r value } }
+edited (edit.Counters r x) s = record s { registry = record s.registry { accounts = with_counted s.registry.accounts r x } }
 edited (edit.Contact name value) s = record s { registry = record s.registry { contacts = put s.registry.contacts name value } }
 edited (edit.Domain name value) s = record s { registry = record s.registry { domains = put s.registry.domains name value } }
 edited (edit.Host name value) s = record s { registry = record s.registry { hosts = put s.registry.hosts name value } }
@@ -29,8 +30,14 @@ edited (edit.Terms value) s = record s { terms = value }
 abbrev pub edited_all : List Edit → Stored → Stored
 edited_all edits s = fold (λ s e. edited e s) s edits
 
+-- what gives an account its counters back, or takes away one that wasn't there
+abbrev pub counters_back : ℕ → Option Counters → Edit
+counters_back r None = edit.Account r None
+counters_back r (Some x) = edit.Counters r x
+
 -- what takes an edit back: what stands at its key
 abbrev pub inverse : Edit → Stored → Edit
+inverse (edit.Counters r x) s = counters_back r (option_map counters_of (get s.registry.accounts r))
 inverse (edit.Clock t) s = edit.Clock s.registry.clock
 inverse (edit.Account r value) s = edit.Account r (get s.registry.accounts r)
 inverse (edit.Contact name value) s = edit.Contact name (get s.registry.contacts name)
@@ -43,15 +50,37 @@ abbrev pub undone_all : List Edit → Stored → Stored
 undone_all [] s = s
 undone_all (e ∷ es) s = edited e (undone_all es s)
 
--- the edits that make a change: for a host's new name, one for each domain that names the host
-abbrev pub edits_of : Change → Registry → List Edit
-edits_of (MoveClock t) s = edit.Clock (max t s.clock) ∷ []
-edits_of (OpenAccount r) s = edit.Account r (Some (account_of r s)) ∷ []
-edits_of (PutContact c) s = edit.Contact c.name (Some c) ∷ []
-edits_of (DropContact name) s = edit.Contact name None ∷ []
-edits_of (PutDomain d) s = edit.Domain d.name (Some d) ∷ []
-edits_of (PutHost h) s = edit.Host h.name (Some h) ∷ []
-edits_of (DropHost name) s = edit.Host name None ∷ []
-edits_of (RenameHost old new) s = map (λ e. edit.Domain e.0 (Some (with_host_renamed old new e.1))) (filter (λ e. names_host old e.1.links) (entries s.domains))
-edits_of (CountCommand r) s = edit.Account r (Some (with_command (account_of r s))) ∷ []
-edits_of (TakeSerial r) s = edit.Account r (Some (with_serial (account_of r s))) ∷ []
+-- the counters of an account after a change of these alone
+abbrev pub counted_by : AccountChange → Account → Option Counters
+counted_by CountCommand a = Some (next_command (counters_of a))
+counted_by TakeSerial a = Some (next_serial (counters_of a))
+counted_by (Charge line) a = None
+counted_by (RefundRunning r) a = None
+counted_by (RefundTransfer r) a = None
+counted_by (Lapse what) a = None
+counted_by (Tell n) a = None
+counted_by (Ack id) a = None
+
+abbrev pub gift_by : PolicyRules → ℕ → AccountChange → Account → Option Counters → Edit
+gift_by p r what a (Some x) = edit.Counters r x
+gift_by p r what a None = edit.Account r (Some (account_changed p what a))
+
+-- for a registrar's account, one edit
+abbrev pub gift_edit : PolicyRules → ℕ → AccountChange → Account → Edit
+gift_edit p r what a = gift_by p r what a (counted_by what a)
+
+-- for a host's new name, an edit for each domain that names the host
+abbrev pub renames : List ℕ → List ℕ → Registry → List Edit
+renames old new s = map (λ e. edit.Domain e.0 (Some (with_host_renamed old new e.1))) (filter (λ e. names_host old e.1.links) (entries s.domains))
+
+-- the edits that make a change
+abbrev pub edits_of : PolicyRules → Change → Registry → List Edit
+edits_of p (MoveClock t) s = edit.Clock (max t s.clock) ∷ []
+edits_of p (OpenAccount r) s = edit.Account r (Some (account_of r s)) ∷ []
+edits_of p (PutContact c) s = edit.Contact c.name (Some c) ∷ []
+edits_of p (DropContact name) s = edit.Contact name None ∷ []
+edits_of p (PutDomain d) s = edit.Domain d.name (Some d) ∷ []
+edits_of p (PutHost h) s = edit.Host h.name (Some h) ∷ []
+edits_of p (DropHost name) s = edit.Host name None ∷ []
+edits_of p (RenameHost old new) s = renames old new s
+edits_of p (Give r what) s = gift_edit p r what (account_of r s) ∷ []

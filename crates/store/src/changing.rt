@@ -1,17 +1,21 @@
 //! How a registry in ordered maps is changed.
-ghost use Rattle.std.specs.Prelude.{◌≡◌, ◌∷◌, [], IfOk, OnOk, OnErr};
+ghost use Rattle.std.specs.Prelude.{◌≡◌, ◌∷◌, [], None, option_map, IfOk, OnOk, OnErr};
+ghost use Rattle.std.specs.FinMap as finmap;
 ghost use Rattle.store.specs.Edits as spec;
+ghost use Rattle.store.specs.Ledgers.{counters_of};
 ghost use Rattle.store.specs.Plain.{content_of, registry_in};
+ghost use Rattle.lifecycle.specs.Changes.{changed as account_changed};
 ghost use Rattle.model.specs.Registry.{account_of};
 
 use crate::content::Content;
-use crate::edit::{
-    Edit, copy_account, copy_contact, copy_domain, copy_host, copy_terms, put_named,
-};
+use crate::edit::{Edit, copy_contact, copy_domain, copy_host, copy_terms, put_named};
+use crate::ledgers::Counters;
 use crate::renamed::with_host_renamed;
 use accounts::Account;
 use basis::registrar::RegistrarNo;
 use basis::text::Text;
+use lifecycle::{AccountChange, change_account};
+use policy::Policy;
 use rules::Change;
 use std::alloc::AllocError;
 
@@ -20,15 +24,61 @@ impl Content {
     fn account(&self, registrar: RegistrarNo) -> Result<Account, AllocError>
         ensures { IfOk result (λ account. account ≡ account_of registrar (registry_in self.now)) }
     {
-        match self.accounts.get(registrar) {
-            Some(account) => account.clone(),
+        match self.accounts.copy(registrar)? {
+            Some(account) => Ok(account),
             None => Ok(Account::empty(self.alloc)),
         }
     }
 
+    /// What a registrar's account counts after a change of its counters alone.
+    fn counters_after(&self, registrar: RegistrarNo, what: &AccountChange) -> Option<Counters>
+        ensures { result ≡ spec.counted_by what.now (account_of registrar (registry_in self.now)) }
+    {
+        match what {
+            AccountChange::CountCommand => Some(self.accounts.counters(registrar).next_command()),
+            AccountChange::TakeSerial => Some(self.accounts.counters(registrar).next_serial()),
+            AccountChange::Charge(_)
+            | AccountChange::RefundRunning(_)
+            | AccountChange::RefundTransfer(_)
+            | AccountChange::Lapse(_)
+            | AccountChange::Tell(_)
+            | AccountChange::Ack(_) => None,
+        }
+    }
+
+    /// A registrar's account after a change.
+    fn account_after(
+        &self,
+        registrar: RegistrarNo,
+        what: AccountChange,
+        policy: &Policy,
+    ) -> Result<Account, AllocError>
+        ensures { IfOk result (λ account. account ≡ account_changed policy.now what (account_of registrar (registry_in self.now))) }
+    {
+        let mut account = self.account(registrar)?;
+        change_account(self.alloc, &mut account, what, policy)?;
+        Ok(account)
+    }
+
+    /// The edit that changes a registrar's account. What counts alone copies no line.
+    fn gift(
+        &self,
+        registrar: RegistrarNo,
+        what: AccountChange,
+        policy: &Policy,
+    ) -> Result<Edit, AllocError>
+        ensures { IfOk result (λ edit. edit ≡ spec.gift_edit policy.now registrar what (account_of registrar (registry_in self.now))) }
+    {
+        if let Some(counters) = self.counters_after(registrar, &what) {
+            return Ok(Edit::Counters(registrar, counters));
+        }
+        let account = self.account_after(registrar, what, policy)?;
+        Ok(Edit::Account(registrar, Some(account)))
+    }
+
     /// The edits that make a change.
-    pub fn edits_of(&self, change: Change) -> Result<Vec<Edit>, AllocError>
-        ensures { IfOk result (λ edits. edits.items ≡ spec.edits_of change (registry_in self.now)) }
+    pub fn edits_of(&self, change: Change, policy: &Policy) -> Result<Vec<Edit>, AllocError>
+        ensures { IfOk result (λ edits. edits.items ≡ spec.edits_of policy.now change (registry_in self.now)) }
     {
         match change {
             Change::MoveClock(moment) => self.one(Edit::Clock(moment.later(self.clock))),
@@ -36,15 +86,9 @@ impl Content {
                 let account = self.account(registrar)?;
                 self.one(Edit::Account(registrar, Some(account)))
             }
-            Change::CountCommand(registrar) => {
-                let mut account = self.account(registrar)?;
-                account.count_command();
-                self.one(Edit::Account(registrar, Some(account)))
-            }
-            Change::TakeSerial(registrar) => {
-                let mut account = self.account(registrar)?;
-                account.take_serial();
-                self.one(Edit::Account(registrar, Some(account)))
+            Change::Give(registrar, what) => {
+                let edit = self.gift(registrar, what, policy)?;
+                self.one(edit)
             }
             Change::PutContact(contact) => {
                 let name = contact.name.clone()?;
@@ -72,7 +116,7 @@ impl Content {
 
     /// The domains that name a host, each with the host's new name.
     fn renames(&self, from: &Text, to: &Text) -> Result<Vec<Edit>, AllocError>
-        ensures { IfOk result (λ edits. edits.items ≡ spec.edits_of (Change.RenameHost from.now to.now) (registry_in self.now)) }
+        ensures { IfOk result (λ edits. edits.items ≡ spec.renames from.now to.now (registry_in self.now)) }
     {
         let mut edits = Vec::new(self.alloc);
         for (name, domain) in self.domains.iter() {
@@ -84,6 +128,16 @@ impl Content {
         Ok(edits)
     }
 
+    /// What gives a registrar's account its counters back.
+    fn counters_back(&self, registrar: RegistrarNo) -> Edit
+        ensures { result ≡ spec.counters_back registrar (option_map counters_of (finmap.get self.now.accounts registrar)) }
+    {
+        match self.accounts.counters_there(registrar) {
+            None => Edit::Account(registrar, None),
+            Some(counters) => Edit::Counters(registrar, counters),
+        }
+    }
+
     /// What takes an edit back.
     pub fn inverse(&self, edit: &Edit) -> Result<Edit, AllocError>
         ensures { IfOk result (λ inverse. inverse ≡ spec.inverse edit.now (content_of self.now)) }
@@ -91,9 +145,10 @@ impl Content {
         match edit {
             Edit::Clock(_) => Ok(Edit::Clock(self.clock)),
             Edit::Account(registrar, _) => {
-                let old = copy_account(self.accounts.get(*registrar))?;
+                let old = self.accounts.copy(*registrar)?;
                 Ok(Edit::Account(*registrar, old))
             }
+            Edit::Counters(registrar, _) => Ok(self.counters_back(*registrar)),
             Edit::Contact(name, _) => {
                 let old = copy_contact(self.contacts.get(name))?;
                 Ok(Edit::Contact(name.clone()?, old))
@@ -120,7 +175,10 @@ impl Content {
                 self.clock = moment;
                 Ok(())
             }
-            Edit::Account(registrar, value) => self.set_account(registrar, value),
+            Edit::Account(registrar, value) => self.accounts.put(registrar, value),
+            Edit::Counters(registrar, counters) => {
+                self.accounts.count(self.alloc, registrar, counters)
+            }
             Edit::Contact(name, value) => put_named(&mut self.contacts, name, value),
             Edit::Domain(name, value) => put_named(&mut self.domains, name, value),
             Edit::Host(name, value) => put_named(&mut self.hosts, name, value),
@@ -128,23 +186,6 @@ impl Content {
                 self.terms = terms;
                 Ok(())
             }
-        }
-    }
-
-    fn set_account(
-        &mut self,
-        registrar: RegistrarNo,
-        value: Option<Account>,
-    ) -> Result<(), AllocError>
-        ensures ok { OnOk result (content_of self.new ≡ spec.edited (Edit.Account registrar value) (content_of self.old)) }
-        ensures err { OnErr result (content_of self.new ≡ content_of self.old) }
-    {
-        match value {
-            None => {
-                self.accounts.remove(registrar);
-                Ok(())
-            }
-            Some(account) => self.accounts.insert(registrar, account),
         }
     }
 }

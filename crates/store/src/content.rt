@@ -1,9 +1,11 @@
 //! A registry in ordered maps.
-ghost use Rattle.std.specs.Prelude.{◌≡◌, ◌||◌, if◌then◌else◌, [], map, nat_le, not, false, is_some, option_map, option_and_then, Some, None, IfOk};
+ghost use Rattle.std.specs.Prelude.{◌≡◌, pos, ◌||◌, if◌then◌else◌, [], map, nat_le, not, false, is_some, option_map, option_and_then, Some, None, IfOk};
 ghost use Rattle.std.specs.List.{list_any};
 ghost use Rattle.std.specs.Option.{option_copied};
 ghost use Rattle.std.specs.FinMap as finmap;
+ghost use Rattle.accounts.specs.Lines.{balance};
 ghost use Rattle.names.specs.GivenName.{name_of};
+ghost use Rattle.store.specs.Ledgers.{lines_of};
 ghost use Rattle.store.specs.Lookups as lookups;
 ghost use Rattle.store.specs.Plain.{registry_in};
 ghost use Rattle.facts.specs.Facts as facts;
@@ -14,9 +16,10 @@ ghost use Rattle.model.specs.Standing.{standing_of};
 ghost use Rattle.model.specs.View.{domain_sight};
 
 use crate::edit::{copy_contact, copy_domain, copy_host};
+use crate::ledgers::Ledgers;
 use accounts::Account;
 use basis::list::Seq;
-use basis::maps::{NameMap, RegistrarMap};
+use basis::maps::NameMap;
 use basis::registrar::RegistrarNo;
 use basis::text::Text;
 use calendar::Moment;
@@ -39,25 +42,35 @@ pub(crate) struct Content {
     pub contacts: NameMap<Contact>,
     pub hosts: NameMap<Host>,
     pub domains: NameMap<Domain>,
-    pub accounts: RegistrarMap<Account>,
+    pub accounts: Ledgers,
     pub clock: Moment,
     pub terms: Option<Terms>,
 }
 
 impl Content {
-    fn account_facts(&self, registrar: RegistrarNo) -> AccountFacts
-        ensures { result ≡ facts.account_facts (account_of registrar (registry_in self.now)) }
+    fn account_facts(&self, registrar: RegistrarNo, command: &Command) -> AccountFacts
+        ensures { result ≡ facts.account_facts command.now (account_of registrar (registry_in self.now)) }
     {
-        match self.accounts.get(registrar) {
-            Some(account) => AccountFacts {
-                commands: account.commands,
-                serial: account.serial,
-            },
-            None => AccountFacts {
-                commands: 0,
-                serial: 0,
-            },
+        let counters = self.accounts.counters(registrar);
+        AccountFacts {
+            commands: counters.commands,
+            serial: counters.serial,
+            balance: known_balance(self.accounts.ledger(registrar), command),
         }
+    }
+}
+
+/// What an account has, where the command asks. All its lines are gone through then.
+#[tactic(auto, unfolding(accounts::specs::Lines::balance))]
+fn known_balance(account: Option<&Account>, command: &Command) -> i128
+    ensures { result ≡ (if requests.asked false requests.reads_balance command.now then balance (lines_of (option_copied account.entry)) else pos 0) }
+{
+    if !command.reads_balance() {
+        return 0;
+    }
+    match account {
+        None => 0,
+        Some(account) => account.lines.balance(),
     }
 }
 
@@ -75,7 +88,7 @@ impl Content {
         ensures { IfOk result (λ it. it ≡ facts.facts policy.now caller command.now (registry_in self.now)) }
     {
         Ok(Facts {
-            account: self.account_facts(caller),
+            account: self.account_facts(caller, command),
             contacts: Seq::from_vec(self.contacts_for(caller, command, policy)?),
             domains: Seq::from_vec(self.domains_for(caller, command, policy)?),
             hosts: Seq::from_vec(self.hosts_for(command)?),
@@ -188,7 +201,7 @@ impl Content {
     fn standing(&self, policy: &Policy, domain: &Domain) -> Standing
         ensures { result ≡ standing_of policy.now (registry_in self.now) domain.now }
     {
-        let sponsor = self.accounts.get(domain.sponsor);
+        let sponsor = self.accounts.ledger(domain.sponsor);
         standing(domain, sponsor, self.clock, policy)
     }
 

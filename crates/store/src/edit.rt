@@ -1,8 +1,9 @@
 //! Values at keys.
 ghost use Rattle.std.specs.Prelude.{◌≡◌, IfOk, OnErr, OnOk};
 ghost use Rattle.std.specs.Option.{option_copied};
-ghost use Rattle.store.specs.Edits.{put};
+ghost use Rattle.store.specs.Ledgers.{put};
 
+use crate::ledgers::Counters as AccountCounters;
 use accounts::Account as AccountRecord;
 use basis::maps::NameMap;
 use basis::registrar::RegistrarNo;
@@ -17,6 +18,8 @@ use std::alloc::AllocError;
 pub(crate) enum Edit {
     Clock(Moment),
     Account(RegistrarNo, Option<AccountRecord>),
+    /// What the account counts, and nothing else of it.
+    Counters(RegistrarNo, AccountCounters),
     Contact(Text, Option<ContactRecord>),
     Domain(Text, Option<DomainRecord>),
     Host(Text, Option<HostRecord>),
@@ -33,6 +36,7 @@ impl Edit {
             Edit::Account(registrar, value) => {
                 Ok(Edit::Account(*registrar, copy_account(value.as_ref())?))
             }
+            Edit::Counters(registrar, counters) => Ok(Edit::Counters(*registrar, *counters)),
             Edit::Contact(name, value) => {
                 let name = name.clone()?;
                 Ok(Edit::Contact(name, copy_contact(value.as_ref())?))
@@ -79,7 +83,7 @@ pub(crate) fn copy_account(
     }
 }
 
-fn account_clone(account: &AccountRecord) -> Result<AccountRecord, AllocError>
+pub(crate) fn account_clone(account: &AccountRecord) -> Result<AccountRecord, AllocError>
     ensures { IfOk result (λ copy. copy ≡ account.now) }
 {
     account.clone()

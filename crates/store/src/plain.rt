@@ -9,8 +9,9 @@ use crate::content::Content;
 use crate::due::Due;
 use crate::edit::{Edit, copy_terms};
 use crate::fault::BookFault;
+use crate::ledgers::Ledgers;
 use basis::list::Seq;
-use basis::maps::{NameMap, RegistrarMap};
+use basis::maps::NameMap;
 use basis::registrar::RegistrarNo;
 use basis::text::Text;
 use calendar::Moment;
@@ -44,7 +45,7 @@ impl PlainBook {
                 contacts: NameMap::new(alloc),
                 hosts: NameMap::new(alloc),
                 domains: NameMap::new(alloc),
-                accounts: RegistrarMap::new(alloc),
+                accounts: Ledgers::new(alloc),
                 clock: Moment::first(),
                 terms: None,
             },
@@ -104,25 +105,25 @@ impl PlainBook {
     }
 
     /// Makes a change that can be undone.
-    fn make(&mut self, change: Change) -> Result<(), AllocError>
+    fn make(&mut self, change: Change, policy: &Policy) -> Result<(), AllocError>
         ensures at_begin { at_begin self.new ≡ at_begin self.old }
         ensures open { self.new.is_open ≡ self.old.is_open }
-        ensures ok { OnOk result (content_of self.new.content ≡ with_changes (change ∷ []) (content_of self.old.content)) }
+        ensures ok { OnOk result (content_of self.new.content ≡ with_changes policy.now (change ∷ []) (content_of self.old.content)) }
     {
-        let edits = self.content.edits_of(change)?;
+        let edits = self.content.edits_of(change, policy)?;
         self.set_all(edits)
     }
 }
 
 impl PlainBook {
     /// Makes changes that can be undone, one after another.
-    fn make_all(&mut self, changes: Seq<Change>) -> Result<(), AllocError>
+    fn make_all(&mut self, changes: Seq<Change>, policy: &Policy) -> Result<(), AllocError>
         ensures at_begin { at_begin self.new ≡ at_begin self.old }
         ensures open { self.new.is_open ≡ self.old.is_open }
-        ensures ok { OnOk result (content_of self.new.content ≡ with_changes changes (content_of self.old.content)) }
+        ensures ok { OnOk result (content_of self.new.content ≡ with_changes policy.now changes (content_of self.old.content)) }
     {
         for change in changes.into_vec() {
-            self.make(change)?;
+            self.make(change, policy)?;
         }
         Ok(())
     }
@@ -227,8 +228,8 @@ impl Book for PlainBook {
         Ok(())
     }
 
-    fn apply(&mut self, changes: Seq<Change>) -> Result<(), BookFault> {
-        match self.make_all(changes) {
+    fn apply(&mut self, changes: Seq<Change>, policy: &Policy) -> Result<(), BookFault> {
+        match self.make_all(changes, policy) {
             Ok(()) => Ok(()),
             Err(error) => self.fail(error),
         }

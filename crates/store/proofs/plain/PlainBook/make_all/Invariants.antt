@@ -7,4 +7,4 @@ use Rattle.store.proofs.plain.PlainBook.make_all.Given as goal
 abbrev pub invariant-loop-change : goal.invariant-loop-change
 invariant-loop-change l =
     (at_begin l.self ≡ at_begin l.fn.self) × (l.self.is_open ≡ l.fn.self.is_open)
-    × (with_changes l.change-iterator.rest.items (content_of l.self.content) ≡ with_changes l.fn.changes (content_of l.fn.self.content))
+    × (with_changes l.policy l.change-iterator.rest.items (content_of l.self.content) ≡ with_changes l.policy l.fn.changes (content_of l.fn.self.content))

@@ -1,0 +1,130 @@
+-- Accounts, of which some have other counters.
+use Rattle.std.proofs.Common.{◌≡◌, ℕ, Bool, true, false, cond, Bor, Option, Some, None, Result, Ok, Err, OnOk, refl, sym, ap, ◌∙◌}
+use Rattle.std.specs.Prelude.{is_some, option_map, unwrap_or}
+use Rattle.std.specs.Option.{option_copied}
+use Rattle.std.specs.Cmp.{nat_cmp_total, Equal-is}
+use Rattle.std.specs.FinMap.{FinMap, empty, get, get-empty, insert, remove, get-insert, get-remove, same_map, nat_cmp-IsAntisymmetric}
+use Rattle.std.specs.Ordering.{eq_by_cmp, nat_cmp}
+use Rattle.accounts.specs.declared.account.Account.{Account}
+use Rattle.accounts.specs.Account.{empty_account}
+use Rattle.basis.specs.Maps.{map_values}
+use Rattle.basis.proofs.MapLemmas.{get-map_values}
+use Rattle.store.specs.declared.ledgers.Counters.{Counters}
+use Rattle.store.specs.Ledgers.{accounts_of, counted, counters_of, lines_of, put, with_counted, with_counters}
+
+abbrev Accounts : Type 0
+Accounts = FinMap nat_cmp Account
+
+pub get-accounts : (m : Accounts) (x : FinMap nat_cmp Counters) (q : ℕ) → get (accounts_of m x) q ≡ option_map (counted (get x q)) (get m q)
+get-accounts m x q = get-map_values nat_cmp nat_cmp_total nat_cmp-IsAntisymmetric (λ r a. counted (get x r) a) m q
+
+same-accounts : (a b : Accounts) → ((q : ℕ) → get a q ≡ get b q) → a ≡ b
+same-accounts a b e = same_map nat_cmp_total nat_cmp-IsAntisymmetric a b e
+
+uncounted : (v : Option Account) → option_map (counted None) v ≡ v
+uncounted None = refl
+uncounted (Some a) = refl
+
+get-put : (m : Accounts) (r : ℕ) (v : Option Account) (q : ℕ) → get (put m r v) q ≡ cond (eq_by_cmp nat_cmp q r) v (get m q)
+get-put m r None q = get-remove nat_cmp_total m r q
+get-put m r (Some a) q = get-insert nat_cmp_total m r a q
+
+-- what is put has its own counters
+pub accounts-put : (m : Accounts) (x : FinMap nat_cmp Counters) (r : ℕ) (v : Option Account) → accounts_of (put m r v) (remove x r) ≡ put (accounts_of m x) r v
+accounts-put m x r v = same-accounts _ _ (λ q.
+    get-accounts (put m r v) (remove x r) q
+    ∙ (λ i. option_map (counted (get-remove nat_cmp_total x r q i)) (get-put m r v q i))
+    ∙ by q (eq_by_cmp nat_cmp q r)
+    ∙ ap (λ (o : Option Account). cond (eq_by_cmp nat_cmp q r) v o) (sym (get-accounts m x q))
+    ∙ sym (get-put (accounts_of m x) r v q))
+  where
+    by : (q : ℕ) (b : Bool) → option_map (counted (cond b None (get x q))) (cond b v (get m q)) ≡ cond b v (option_map (counted (get x q)) (get m q))
+    by q true = uncounted v
+    by q false = refl
+
+recounted : (c : Counters) (o : Option Counters) (a : Account) → with_counters c (counted o a) ≡ with_counters c a
+recounted c None a = refl
+recounted c (Some x) a = refl
+
+-- an account gets other counters
+pub accounts-counted : (m : Accounts) (x : FinMap nat_cmp Counters) (r : ℕ) (c : Counters) (a : Account) → get m r ≡ Some a
+    → accounts_of m (insert x r c) ≡ with_counted (accounts_of m x) r c
+accounts-counted m x r c a found = same-accounts _ _ (λ q.
+    get-accounts m (insert x r c) q
+    ∙ ap (λ (o : Option Counters). option_map (counted o) (get m q)) (get-insert nat_cmp_total x r c q)
+    ∙ by q (eq_by_cmp nat_cmp q r) refl
+    ∙ ap (λ (o : Option Account). cond (eq_by_cmp nat_cmp q r) (Some (with_counters c (unwrap_or (get (accounts_of m x) r) empty_account))) o) (sym (get-accounts m x q))
+    ∙ sym (get-insert nat_cmp_total (accounts_of m x) r (with_counters c (unwrap_or (get (accounts_of m x) r) empty_account)) q))
+  where
+    at : with_counters c (unwrap_or (get (accounts_of m x) r) empty_account) ≡ with_counters c a
+    at = ap (λ (o : Option Account). with_counters c (unwrap_or o empty_account)) (get-accounts m x r ∙ ap (option_map (counted (get x r))) found) ∙ recounted c (get x r) a
+
+    by : (q : ℕ) (b : Bool) → eq_by_cmp nat_cmp q r ≡ b
+        → option_map (counted (cond b (Some c) (get x q))) (get m q) ≡ cond b (Some (with_counters c (unwrap_or (get (accounts_of m x) r) empty_account))) (option_map (counted (get x q)) (get m q))
+    by q true e =
+        ap (λ (o : Option Account). option_map (with_counters c) o) (ap (get m) (nat_cmp-IsAntisymmetric q r ((Equal-is (nat_cmp q r)).0 e)) ∙ found)
+        ∙ ap (λ (b : Account). Some b) (sym at)
+    by q false e = refl
+
+-- no account, no counters
+pub accounts-none : accounts_of empty empty ≡ empty
+accounts-none = same-accounts _ _ (λ q. get-accounts empty empty q ∙ ap (option_map (counted (get empty q))) (get-empty nat_cmp q) ∙ sym (get-empty nat_cmp q))
+
+-- ---- by the fields of the accounts
+
+module _ (m : Accounts) (x : FinMap nat_cmp Counters) (now : Accounts) (view : accounts_of m x ≡ now) (r : ℕ) where
+  pub found : (o : Option Account) → o ≡ get m r → option_map (counted (get x r)) o ≡ get now r
+  found o e = ap (option_map (counted (get x r))) e ∙ sym (get-accounts m x r) ∙ ap (λ (a : Accounts). get a r) view
+
+  lines-kept : (c : Option Counters) (a : Account) → (counted c a).lines ≡ a.lines
+  lines-kept None a = refl
+  lines-kept (Some y) a = refl
+
+  lines-of-counted : (c : Option Counters) (o : Option Account) → lines_of (option_map (counted c) o) ≡ lines_of o
+  lines-of-counted c None = refl
+  lines-of-counted c (Some a) = lines-kept c a
+
+  pub lines-found : (o : Option Account) → o ≡ get m r → lines_of o ≡ lines_of (get now r)
+  lines-found o e = sym (lines-of-counted (get x r) o) ∙ ap (λ (p : Option Account). lines_of p) (found o e)
+
+  some-copied : {A B : Type 0} (f : A → B) (o : Option (Bor A)) → is_some o ≡ is_some (option_map f (option_copied o))
+  some-copied f None = refl
+  some-copied f (Some a) = refl
+
+  pub has-found : (o : Option (Bor Account)) → option_copied o ≡ get m r → is_some o ≡ is_some (get now r)
+  has-found o e = some-copied (counted (get x r)) o ∙ ap (λ (p : Option Account). is_some p) (found (option_copied o) e)
+
+  pub put-found : (v : Option Account) (m' : Accounts) (x' : FinMap nat_cmp Counters) → m' ≡ put m r v → x' ≡ remove x r → accounts_of m' x' ≡ put now r v
+  put-found v m' x' e f = (λ i. accounts_of (e i) (f i)) ∙ accounts-put m x r v ∙ ap (λ (a : Accounts). put a r v) view
+
+  there : (o : Option Account) → get m r ≡ o → is_some (get now r) ≡ true → (a : Account) × (get m r ≡ Some a)
+  there None e h = absurd (let never : true ≡ false = sym h ∙ ap (λ (p : Option Account). is_some p) (sym (found None (sym e))) in cc)
+  there (Some a) e h = (a, e)
+
+  pub counted-found : {E : Type 0} (result : Result (Unit {0}) E) (c : Counters) (x' : FinMap nat_cmp Counters) → is_some (get now r) ≡ true → OnOk result (x' ≡ insert x r c)
+      → OnOk result (accounts_of m x' ≡ with_counted now r c)
+  counted-found (Ok u) c x' h e = ap (λ (y : FinMap nat_cmp Counters). accounts_of m y) e ∙ accounts-counted m x r c (there (get m r) refl h).0 (there (get m r) refl h).1 ∙ ap (λ (a : Accounts). with_counted a r c) view
+  counted-found (Err f) c x' h e = tt
+
+-- the counters that an account has now are its own
+pub given-counters : (c : Option Counters) (a : Account) → with_counters (counters_of (counted c a)) a ≡ counted c a
+given-counters None a = refl
+given-counters (Some y) a = refl
+
+absent : (o : Option Account) → is_some o ≡ false → empty_account ≡ unwrap_or o empty_account
+absent None h = refl
+absent (Some a) h = absurd cc
+
+pub opened-counted : {E : Type 0} (result : Result (Unit {0}) E) (now new : Accounts) (r : ℕ) (c : Counters) (b : Account) → is_some (get now r) ≡ false → b ≡ with_counters c empty_account
+    → OnOk result (new ≡ insert now r b) → OnOk result (new ≡ with_counted now r c)
+opened-counted (Ok u) now new r c b h e f = f ∙ ap (λ (a : Account). insert now r a) (e ∙ ap (with_counters c) (absent (get now r) h))
+opened-counted (Err g) now new r c b h e f = tt
+
+-- the counters of an account that is there, or isn't
+pub counters-some : (o : Option Account) → is_some o ≡ true → Some (counters_of (unwrap_or o empty_account)) ≡ option_map counters_of o
+counters-some None h = absurd cc
+counters-some (Some a) h = refl
+
+pub counters-none : (o : Option Account) → is_some o ≡ false → None ≡ option_map counters_of o
+counters-none None h = refl
+counters-none (Some a) h = absurd cc

@@ -1,0 +1,44 @@
+-- The accounts of a book in memory.
+use Rattle.std.specs.Prelude.{ℕ, List, Option, Some, None, unwrap_or}
+use Rattle.std.specs.declared.cmp.Ordering.{Ordering}
+use Rattle.std.specs.FinMap.{FinMap, get, insert, remove}
+use Rattle.std.specs.Ordering.{nat_cmp}
+use Rattle.accounts.specs.declared.account.Account.{Account}
+use Rattle.accounts.specs.declared.line.Line.{Line}
+use Rattle.accounts.specs.Account.{empty_account, saturating_next}
+use Rattle.basis.specs.Maps.{map_values}
+use Rattle.store.specs.declared.ledgers.Counters.{Counters}
+
+-- the key has this value, or none
+abbrev pub put : {K X : Type 0} {R : K → K → Ordering} → FinMap R X → K → Option X → FinMap R X
+put m k None = remove m k
+put m k (Some x) = insert m k x
+
+abbrev pub counters_of : Account → Counters
+counters_of a = record { commands = a.commands; messages = a.messages; serial = a.serial }
+
+abbrev pub with_counters : Counters → Account → Account
+with_counters x a = record a { commands = x.commands; messages = x.messages; serial = x.serial }
+
+-- an account, which may have other counters by now
+abbrev pub counted : Option Counters → Account → Account
+counted None a = a
+counted (Some x) a = with_counters x a
+
+-- accounts, of which some have other counters
+abbrev pub accounts_of : FinMap nat_cmp Account → FinMap nat_cmp Counters → FinMap nat_cmp Account
+accounts_of accounts counters = map_values (λ r a. counted (get counters r) a) accounts
+
+abbrev pub lines_of : Option Account → List Line
+lines_of account = (unwrap_or account empty_account).lines
+
+-- one command more, and one object more
+abbrev pub next_command : Counters → Counters
+next_command x = record x { commands = saturating_next x.commands }
+
+abbrev pub next_serial : Counters → Counters
+next_serial x = record x { serial = saturating_next x.serial }
+
+-- the accounts, where a registrar's has these counters
+abbrev pub with_counted : FinMap nat_cmp Account → ℕ → Counters → FinMap nat_cmp Account
+with_counted accounts r x = insert accounts r (with_counters x (unwrap_or (get accounts r) empty_account))

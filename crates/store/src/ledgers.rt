@@ -1,0 +1,224 @@
+//! The accounts of a book in memory: counters apart from lines and messages, so that a command that
+//! adds no line copies none.
+ghost use Rattle.std.specs.Prelude.{◌≡◌, IfOk, OnOk, OnErr, is_some, option_map, unwrap_or};
+ghost use Rattle.std.specs.FinMap as map;
+ghost use Rattle.std.specs.Option.{option_copied};
+ghost use Rattle.accounts.specs.Account.{empty_account};
+ghost use Rattle.store.specs.Ledgers as spec;
+ghost use Rattle.store.specs.Ledgers.{put};
+
+use crate::edit::account_clone;
+use accounts::{Account, saturating_next};
+use basis::maps::RegistrarMap;
+use basis::registrar::RegistrarNo;
+use std::alloc::{AllocError, Global};
+use std::marker::Model;
+
+/// The counters of an account.
+#[derive(Clone, Copy, Drop)]
+pub(crate) struct Counters {
+    pub commands: u64,
+    pub messages: u64,
+    pub serial: u64,
+}
+
+impl Counters {
+    /// Those of an account.
+    fn of(account: &Account) -> Counters
+        ensures { result ≡ spec.counters_of account.now }
+    {
+        Counters {
+            commands: account.commands,
+            messages: account.messages,
+            serial: account.serial,
+        }
+    }
+
+    /// Those of an account that was never opened.
+    fn none() -> Counters
+        ensures { result ≡ spec.counters_of empty_account }
+    {
+        Counters {
+            commands: 0,
+            messages: 0,
+            serial: 0,
+        }
+    }
+
+    /// With one command more.
+    pub fn next_command(self) -> Counters
+        ensures { result ≡ spec.next_command self }
+    {
+        Counters {
+            commands: saturating_next(self.commands),
+            messages: self.messages,
+            serial: self.serial,
+        }
+    }
+
+    /// With one object more.
+    pub fn next_serial(self) -> Counters
+        ensures { result ≡ spec.next_serial self }
+    {
+        Counters {
+            commands: self.commands,
+            messages: self.messages,
+            serial: saturating_next(self.serial),
+        }
+    }
+
+    /// Gives them to an account.
+    fn give(self, account: &mut Account)
+        ensures { account.new ≡ spec.with_counters self account.old }
+    {
+        account.commands = self.commands;
+        account.messages = self.messages;
+        account.serial = self.serial;
+    }
+}
+
+/// The registrars' accounts.
+#[derive(Drop)]
+pub(crate) struct Ledgers {
+    /// The accounts, with counters that may be old.
+    accounts: RegistrarMap<Account>,
+    /// The counters of those accounts that have others by now.
+    counters: RegistrarMap<Counters>,
+}
+
+impl Model for Ledgers {
+    ghost use Rattle.std.specs.FinMap.{FinMap};
+    ghost use Rattle.std.specs.Ordering.{nat_cmp};
+    ghost use Rattle.accounts.specs.declared.account.Account.{Account};
+    ghost use Rattle.std.specs.FinMap as map;
+    ghost use Rattle.std.specs.Coded.{coded_ℕ};
+    ghost use Rattle.accounts.specs.contracts.account.Account as account;
+    ghost use Rattle.store.specs.Ledgers.{accounts_of};
+
+    ghost coded = { map.code coded_ℕ account.the_row.coded };
+
+    ghost Value = { FinMap nat_cmp Account };
+
+    ghost view = { λ l. accounts_of l.accounts l.counters };
+}
+
+impl Ledgers {
+    pub fn new(alloc: Global) -> Ledgers
+        ensures { result ≡ map.empty }
+    {
+        Ledgers {
+            accounts: RegistrarMap::new(alloc),
+            counters: RegistrarMap::new(alloc),
+        }
+    }
+
+    /// A registrar's account, for its lines and messages: its counters may be old.
+    pub fn ledger(&self, registrar: RegistrarNo) -> Option<&Account>
+        ensures { spec.lines_of (option_copied result) ≡ spec.lines_of (map.get self.now registrar) }
+    {
+        self.accounts.get(registrar)
+    }
+
+    /// The counters of a registrar's account, which are 0 where it was never opened.
+    pub fn counters(&self, registrar: RegistrarNo) -> Counters
+        ensures { result ≡ spec.counters_of (unwrap_or (map.get self.now registrar) empty_account) }
+    {
+        match self.accounts.get(registrar) {
+            None => Counters::none(),
+            Some(account) => counters_now(account, self.counters.get(registrar)),
+        }
+    }
+
+    /// The counters of a registrar's account, if it was opened.
+    pub fn counters_there(&self, registrar: RegistrarNo) -> Option<Counters>
+        ensures { result ≡ option_map spec.counters_of (map.get self.now registrar) }
+    {
+        if self.has(registrar) {
+            Some(self.counters(registrar))
+        } else {
+            None
+        }
+    }
+
+    /// A copy of a registrar's account.
+    pub fn copy(&self, registrar: RegistrarNo) -> Result<Option<Account>, AllocError>
+        ensures { IfOk result (λ copy. copy ≡ map.get self.now registrar) }
+    {
+        match self.accounts.get(registrar) {
+            None => Ok(None),
+            Some(account) => {
+                let counters = counters_now(account, self.counters.get(registrar));
+                let mut copy = account_clone(account)?;
+                counters.give(&mut copy);
+                Ok(Some(copy))
+            }
+        }
+    }
+
+    /// Whether a registrar has an account.
+    fn has(&self, registrar: RegistrarNo) -> bool
+        ensures { result ≡ is_some (map.get self.now registrar) }
+    {
+        self.accounts.get(registrar).is_some()
+    }
+
+    /// Puts a registrar's account.
+    fn insert(&mut self, registrar: RegistrarNo, account: Account) -> Result<(), AllocError>
+        ensures ok { OnOk result (self.new ≡ map.insert self.old registrar account) }
+        ensures err { OnErr result (self.new ≡ self.old) }
+    {
+        self.accounts.insert(registrar, account)?;
+        self.counters.remove(registrar);
+        Ok(())
+    }
+
+    /// Takes a registrar's account away.
+    fn remove(&mut self, registrar: RegistrarNo)
+        ensures { self.new ≡ map.remove self.old registrar }
+    {
+        self.accounts.remove(registrar);
+        self.counters.remove(registrar);
+    }
+
+    /// Puts a registrar's account, or takes it away.
+    pub fn put(&mut self, registrar: RegistrarNo, value: Option<Account>) -> Result<(), AllocError>
+        ensures ok { OnOk result (self.new ≡ put self.old registrar value) }
+        ensures err { OnErr result (self.new ≡ self.old) }
+    {
+        match value {
+            None => {
+                self.remove(registrar);
+                Ok(())
+            }
+            Some(account) => self.insert(registrar, account),
+        }
+    }
+
+    /// Gives a registrar's account other counters. What was never opened is opened.
+    pub fn count(
+        &mut self,
+        alloc: Global,
+        registrar: RegistrarNo,
+        counters: Counters,
+    ) -> Result<(), AllocError>
+        ensures ok { OnOk result (self.new ≡ spec.with_counted self.old registrar counters) }
+        ensures err { OnErr result (self.new ≡ self.old) }
+    {
+        if self.has(registrar) {
+            return self.counters.insert(registrar, counters);
+        }
+        let mut account = Account::empty(alloc);
+        counters.give(&mut account);
+        self.insert(registrar, account)
+    }
+}
+
+/// The counters of an account, which may have others by now.
+fn counters_now(account: &Account, other: Option<&Counters>) -> Counters
+    ensures { result ≡ spec.counters_of (spec.counted (option_copied other.entry) account.now) }
+{
+    match other {
+        None => Counters::of(account),
+        Some(counters) => *counters,
+    }
+}
