@@ -1,4 +1,4 @@
-ghost use Rattle.std.specs.Prelude.{◌≡◌, false, IfOk};
+ghost use Rattle.std.specs.Prelude.{◌≡◌, true, false, IfOk, OnOk};
 ghost use Rattle.store.specs.Plain.{plain_state};
 
 use crate::{Fault, OpenFault, Registry};
@@ -177,16 +177,38 @@ fn opens_a_book_of_its_own_terms(rt: HostRuntime) -> Result<(), Fail> {
     Ok(())
 }
 
+/// An account and a later clock.
+fn changes(alloc: Global) -> Result<Seq<rules::Change>, Fail> {
+    let later = moment(1_830_297_600)?;
+    let mut changes = Seq::new(alloc);
+    changes.push(rules::Change::OpenAccount(RegistrarNo::of_place(1)))?;
+    changes.push(rules::Change::MoveClock(later))?;
+    Ok(changes)
+}
+
+/// Makes the changes in an open transaction.
+fn change(alloc: Global, book: &mut PlainBook) -> Result<(), Fail>
+    requires { (plain_state book.old).is_open ≡ true }
+    ensures { OnOk result ((plain_state book.new).is_open ≡ true) }
+{
+    let made = changes(alloc)?;
+    let done = match policy(alloc, POLICY) {
+        Ok(policy) => book.apply(made, &policy).is_ok(),
+        Err(fail) => return Err(fail),
+    };
+    if done {
+        Ok(())
+    } else {
+        Err(Fail::from("not applied"))
+    }
+}
+
 #[test]
 fn a_book_goes_back(rt: HostRuntime) -> Result<(), Fail> {
     let alloc = rt.alloc();
-    let policy = policy(alloc, POLICY)?;
     let mut book = PlainBook::new(alloc);
     book.begin()?;
-    let mut changes = Seq::new(alloc);
-    changes.push(rules::Change::OpenAccount(RegistrarNo::of_place(1)))?;
-    changes.push(rules::Change::MoveClock(moment(1_830_297_600)?))?;
-    book.apply(changes, &policy)?;
+    change(alloc, &mut book)?;
     assert_eq!(rt; book.clock()?.secs(), 1_830_297_600);
     assert!(rt; book.active());
     book.back();
