@@ -43,7 +43,7 @@ use Rattle.rules.proofs.KeepingLemmas.{IsUndeleted, drop-contact, drop-host, kep
 use Rattle.rules.proofs.LinkLemmas.{new-contacts, new-hosts, updated-contacts, updated-hosts}
 use Rattle.rules.proofs.NamedLemmas.{value-fails}
 use Rattle.verdict.proofs.RowLemmas.{unrefused}
-use Rattle.rules.proofs.StandInLemmas.{contact-updated, domain-renewed, domain-updated, kept-put-contact, kept-put-domain, kept-put-host}
+use Rattle.rules.proofs.StandInLemmas.{contact-updated, domain-updated, kept-put-contact, kept-put-domain, kept-put-host}
 use Rattle.rules.proofs.SightLemmas.{full_as}
 use Rattle.rules.proofs.ViewLemmas.{account_of-with_account}
 use Rattle.protocol.specs.declared.command.Command.{Command}
@@ -278,7 +278,7 @@ module _ (p : PolicyRules) (r : ℕ) (cl_trid : Option (List ℕ)) (s : Registry
           let new : Domain = updated_domain s.clock u d in
           let k = is.domains (name_of u.name) d at in
           kept-put-domain p after_count kept-counted (name_of u.name) d new at refl
-          (domain-updated p after_count (name_of u.name) d (Some s.clock) new.statuses new.secret new.links (omega arith)
+          (domain-updated p after_count (name_of u.name) d d.years (Some s.clock) new.statuses new.secret new.links (omega arith)
           (updated-contacts (λ name. is_some (get s.contacts name)) (λ name. is_some (get s.hosts name)) u d.links linked k.contacts)
           (updated-hosts (λ name. is_some (get s.contacts name)) (λ name. is_some (get s.hosts name)) u d.links linked k.hosts)
           (kept-counted.domains (name_of u.name) d at))
@@ -294,18 +294,16 @@ module _ (p : PolicyRules) (r : ℕ) (cl_trid : Option (List ℕ)) (s : Registry
       → IsRegistry p (changed_all p (renewal_changes p r s.clock (requests.RenewDomain name expires years) (domain_seen (facts p r (Asked cl_trid (requests.RenewDomain name expires years)) s) (name_of name))) after_count)
   kept-renewal name expires years = by (domain_seen (facts p r (asked_renewal name expires years) s) (name_of name)) (ap (option_and_then (λ known. known.seen)) (at-itself (name_of name) (domain_facts (lookups p r (asked_renewal name expires years) s) (asked_renewal name expires years) (name_of name))))
     where
-      request : Request
-      request = requests.RenewDomain name expires years
-
       by : (seen : Option (Seen FullDomain DomainFace)) → seen ≡ option_map (domain_sight p r s None) (get s.domains (name_of name)) → IsRegistry p (changed_all p (renewal_changes p r s.clock (requests.RenewDomain name expires years) seen) after_count)
       by None e = kept-counted
       by (Some (Full known)) e =
           let d : Domain = known.domain in
           let at : get s.domains (name_of name) ≡ Some d = domain-full p r s None (get s.domains (name_of name)) known (sym e) in
           let new : Domain = renewed_domain s.clock years d in
+          let k = kept-counted.domains (name_of name) d at in
           kept-charged (charge_line lines.Renew p s.clock d.roid (requests.RenewDomain name expires years)) (changed_all p (PutDomain new ∷ []) after_count)
           (kept-put-domain p after_count kept-counted (name_of name) d new at refl
-          (domain-renewed p after_count (name_of name) d new.years (Some s.clock) (omega arith) (kept-counted.domains (name_of name) d at)))
+          (domain-updated p after_count (name_of name) d new.years (Some s.clock) d.statuses d.secret d.links (omega arith) k.contacts k.hosts k))
       by (Some (TransferParty face transfer)) e = kept-counted
       by (Some (Public face)) e = kept-counted
 

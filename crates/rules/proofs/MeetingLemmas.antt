@@ -1,8 +1,8 @@
 -- What a command changes meets what is asked of changes.
 use Rattle.std.proofs.Common.{◌≡◌, inl, ℕ, Bool, true, false, cond, List, [], ◌∷◌, Option, Some, None, option_and_then, option_map, refl, sym, ap, ◌∙◌}
-use Rattle.std.specs.Cmp.{nat_cmp_total, eq_by_cmp_equiv, Equal-is}
+use Rattle.std.specs.Cmp.{nat_cmp_total, eq_by_cmp_equiv}
 use Rattle.std.specs.Cmp.Lexicographic.{slice_cmp, nat_list_cmp_total}
-use Rattle.std.specs.FinMap.{get, nat_cmp-IsAntisymmetric}
+use Rattle.std.specs.FinMap.{get}
 use Rattle.std.specs.Ordering.{eq_by_cmp, nat_cmp}
 use Rattle.accounts.specs.Account.{with_command}
 use Rattle.basis.proofs.MapLemmas.{names_apart, get-map_values}
@@ -25,7 +25,7 @@ use Rattle.rules.specs.Decisions.{changes_after, changes_of, contact_changes, do
 use Rattle.rules.specs.Steps.{decision}
 use Rattle.rules.proofs.CommandLemmas.{at-itself, domain-full}
 use Rattle.rules.proofs.SightLemmas.{graces-seen, sponsor-seen}
-use Rattle.rules.proofs.ViewLemmas.{AllMeet, graces_kept, graces_put}
+use Rattle.rules.proofs.ViewLemmas.{AllMeet, graces_kept, graces_put, same_number}
 use Rattle.protocol.specs.declared.code.Code.{Code}
 use Rattle.protocol.specs.declared.command.Command.{Command}
 use Rattle.protocol.specs.declared.command.Command.TheVariants.{Bad, Asked}
@@ -45,9 +45,6 @@ use Rattle.model.specs.WellFormed.{IsRegistry}
 
 pub eq-self : (a : ℕ) → eq_by_cmp nat_cmp a a ≡ true
 eq-self a = (eq_by_cmp_equiv nat_cmp_total).refl a
-
-same_number : (a b : ℕ) → eq_by_cmp nat_cmp a b ≡ true → a ≡ b
-same_number a b e = nat_cmp-IsAntisymmetric a b ((Equal-is (nat_cmp a b)).0 e)
 
 -- ---- a domain that is put
 

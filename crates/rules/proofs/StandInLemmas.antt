@@ -42,17 +42,17 @@ module _ (p : PolicyRules) (s : Registry) (name : List ℕ) where
     transfer = k.transfer;
   }
 
-  deletion-same : (d : Domain) (updated : Option ℕ) (statuses : List Status) (secret : List ℕ) (links : Links) (deletion : Option Deletion)
-      → IsDeletion p s d deletion → IsDeletion p s (record d { updated = updated; statuses = statuses; secret = secret; links = links }) deletion
-  deletion-same d updated statuses secret links None k = tt
-  deletion-same d updated statuses secret links (Some deletion) k = record { deleted = k.deleted; requested = k.requested; hosts = k.hosts; transfer = k.transfer }
+  deletion-same : (d : Domain) (years : ℕ) (updated : Option ℕ) (statuses : List Status) (secret : List ℕ) (links : Links) (deletion : Option Deletion)
+      → IsDeletion p s d deletion → IsDeletion p s (record d { years = years; updated = updated; statuses = statuses; secret = secret; links = links }) deletion
+  deletion-same d years updated statuses secret links None k = tt
+  deletion-same d years updated statuses secret links (Some deletion) k = record { deleted = k.deleted; requested = k.requested; hosts = k.hosts; transfer = k.transfer }
 
-  -- a domain with other content, which names what is there
-  pub domain-updated : (d : Domain) (updated : Option ℕ) (statuses : List Status) (secret : List ℕ) (links : Links) → HasBeen s updated
+  -- a domain with other content, registered for other years, which names what is there
+  pub domain-updated : (d : Domain) (years : ℕ) (updated : Option ℕ) (statuses : List Status) (secret : List ℕ) (links : Links) → HasBeen s updated
       → ((contact : List ℕ) → names_contact contact links ≡ true → IsSome (get s.contacts contact))
       → ((host : List ℕ) → names_host host links ≡ true → IsSome (get s.hosts host))
-      → IsDomainOf p s name d → IsDomainOf p s name (record d { updated = updated; statuses = statuses; secret = secret; links = links })
-  domain-updated d updated statuses secret links been contacts hosts k = record {
+      → IsDomainOf p s name d → IsDomainOf p s name (record d { years = years; updated = updated; statuses = statuses; secret = secret; links = links })
+  domain-updated d years updated statuses secret links been contacts hosts k = record {
     named = k.named;
     roid = k.roid;
     sponsor = k.sponsor;
@@ -60,28 +60,9 @@ module _ (p : PolicyRules) (s : Registry) (name : List ℕ) where
     transferred = k.transferred;
     updated = been;
     transfer = k.transfer;
-    deletion = deletion-same d updated statuses secret links d.deletion k.deletion;
+    deletion = deletion-same d years updated statuses secret links d.deletion k.deletion;
     contacts = contacts;
     hosts = hosts;
-  }
-
-  deletion-renewed : (d : Domain) (years : ℕ) (updated : Option ℕ) (deletion : Option Deletion) → IsDeletion p s d deletion → IsDeletion p s (record d { years = years; updated = updated }) deletion
-  deletion-renewed d years updated None k = tt
-  deletion-renewed d years updated (Some deletion) k = record { deleted = k.deleted; requested = k.requested; hosts = k.hosts; transfer = k.transfer }
-
-  -- a domain that is registered for other years
-  pub domain-renewed : (d : Domain) (years : ℕ) (updated : Option ℕ) → HasBeen s updated → IsDomainOf p s name d → IsDomainOf p s name (record d { years = years; updated = updated })
-  domain-renewed d years updated been k = record {
-    named = k.named;
-    roid = k.roid;
-    sponsor = k.sponsor;
-    created = k.created;
-    transferred = k.transferred;
-    updated = been;
-    transfer = k.transfer;
-    deletion = deletion-renewed d years updated d.deletion k.deletion;
-    contacts = k.contacts;
-    hosts = k.hosts;
   }
 
   -- a host with other content, of the same name
@@ -100,7 +81,7 @@ module _ (p : PolicyRules) (s : Registry) (is : IsRegistry p s) (name : List ℕ
   pub kept-domain-statuses : (d : Domain) → get s.domains name ≡ Some d → IsRegistry p (changed p (PutDomain (record d { statuses = statuses })) s)
   kept-domain-statuses d at =
       let k = is.domains name d at in
-      kept-put-domain p s is name d (record d { statuses = statuses }) at refl (domain-updated p s name d d.updated statuses d.secret d.links k.updated k.contacts k.hosts k)
+      kept-put-domain p s is name d (record d { statuses = statuses }) at refl (domain-updated p s name d d.years d.updated statuses d.secret d.links k.updated k.contacts k.hosts k)
 
   pub kept-host-statuses : (h : Host) → get s.hosts name ≡ Some h → IsRegistry p (changed p (PutHost (record h { statuses = statuses })) s)
   kept-host-statuses h at =

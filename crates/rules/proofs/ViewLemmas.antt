@@ -213,8 +213,8 @@ module _ (p : PolicyRules) (r q : ℕ) (f : Account → Account) (keeps : (a : A
 
 -- ---- an account whose lines change: the registrar's own, or one whose lines stay
 
-same-number : (a b : ℕ) → eq_by_cmp nat_cmp a b ≡ true → a ≡ b
-same-number a b e = nat_cmp-IsAntisymmetric a b ((Equal-is (nat_cmp a b)).0 e)
+pub same_number : (a b : ℕ) → eq_by_cmp nat_cmp a b ≡ true → a ≡ b
+same_number a b e = nat_cmp-IsAntisymmetric a b ((Equal-is (nat_cmp a b)).0 e)
 
 module _ (p : PolicyRules) (r q : ℕ) (f : Account → Account) (s : Registry) (own_or_kept : (q ≡ r) ⊎ ((f (account_of q s)).lines ≡ (account_of q s).lines)) where
   abbrev given : Registry
@@ -229,7 +229,7 @@ module _ (p : PolicyRules) (r q : ℕ) (f : Account → Account) (s : Registry) 
     where
       by : (b : Bool) → eq_by_cmp nat_cmp k q ≡ b → (cond b (f (account_of k s)) (account_of k s)).lines ≡ (account_of k s).lines
       by true e =
-          let same : k ≡ q = same-number k q e in
+          let same : k ≡ q = same_number k q e in
           ⊎_elim
           (λ own. absurd (let never : true ≡ false = sym e ∙ ap (λ (n : ℕ). eq_by_cmp nat_cmp k n) own ∙ other in cc))
           (λ kept. ap (λ (n : ℕ). (f (account_of n s)).lines) same ∙ kept ∙ ap (λ (n : ℕ). (account_of n s).lines) (sym same)) own_or_kept
@@ -239,7 +239,7 @@ module _ (p : PolicyRules) (r q : ℕ) (f : Account → Account) (s : Registry) 
   graces-given d = by (eq_by_cmp nat_cmp d.sponsor r) refl
     where
       by : (b : Bool) → eq_by_cmp nat_cmp d.sponsor r ≡ b → graces_of p given d ≡ cond b (graces p s.clock d.roid d.transferred own_after.lines) (graces_of p s d)
-      by true e = ap (λ (k : ℕ). graces p s.clock d.roid d.transferred (account_of k given).lines) (same-number d.sponsor r e) ∙ ap (λ (a : Account). graces p s.clock d.roid d.transferred a.lines) (account_of-with_account r q f s)
+      by true e = ap (λ (k : ℕ). graces p s.clock d.roid d.transferred (account_of k given).lines) (same_number d.sponsor r e) ∙ ap (λ (a : Account). graces p s.clock d.roid d.transferred a.lines) (account_of-with_account r q f s)
       by false e = ap (λ (lines : List Line). graces p s.clock d.roid d.transferred lines) (lines-of-another d.sponsor e)
 
   sight-given : (d : Domain) → domain_sight p r given None d ≡ regraced (own_graces p r s.clock own_after.lines) (domain_sight p r s None d)
