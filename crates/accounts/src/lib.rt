@@ -10,8 +10,6 @@ mod line;
 mod lines;
 mod message;
 mod queue;
-#[cfg(test)]
-mod tests;
 
 pub use account::{Account, saturating_next};
 pub use entries::{AutoRenewal, LapseEntry, Posting};

@@ -268,6 +268,3 @@ impl Moment {
         Moment::of_secs(instant.as_second())
     }
 }
-
-#[cfg(test)]
-mod tests;

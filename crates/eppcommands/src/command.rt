@@ -57,6 +57,3 @@ fn copied(alloc: Global, text: Option<&str>) -> Result<Option<Text>, AllocError>
         None => Ok(None),
     }
 }
-
-#[cfg(test)]
-mod tests;

@@ -158,6 +158,3 @@ fn statuses_told(alloc: Global, items: &[Value]) -> Result<Seq<Status>, AllocErr
     }
     Ok(statuses)
 }
-
-#[cfg(test)]
-mod tests;

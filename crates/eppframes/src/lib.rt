@@ -9,8 +9,6 @@
 mod clock;
 mod frame;
 mod laws;
-#[cfg(test)]
-mod tests;
 mod texts;
 
 pub use clock::{Clock, ListClock};

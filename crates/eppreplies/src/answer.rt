@@ -39,6 +39,3 @@ fn settled_value(alloc: Global, done: u32) -> Result<Value, AllocError>
         vec![in alloc; ("done", Item::Given(Value::from(done)))]?,
     )
 }
-
-#[cfg(test)]
-mod tests;

@@ -43,6 +43,3 @@ fn objects_value(alloc: Global) -> Result<Value, AllocError>
 {
     texts(alloc, &["contact", "domain", "host"])
 }
-
-#[cfg(test)]
-mod tests;

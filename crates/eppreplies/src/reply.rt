@@ -353,6 +353,3 @@ fn state_text(state: TransferState) -> &'static str
         TransferState::ServerApproved => "serverApproved",
     }
 }
-
-#[cfg(test)]
-mod tests;

@@ -14,8 +14,6 @@ mod given;
 mod host;
 mod ipv6;
 mod label;
-#[cfg(test)]
-mod tests;
 mod zone;
 
 pub use address::Address;

@@ -17,8 +17,6 @@ mod prices;
 mod registrar;
 mod soa;
 mod terms;
-#[cfg(test)]
-mod tests;
 mod texts;
 
 pub use days::{Days, Period};

@@ -4,8 +4,6 @@
 
 mod answer;
 mod status;
-#[cfg(test)]
-mod tests;
 
 pub use answer::{Outcome, answer_without_object, response};
 pub use status::{grace_word, status_word, status_words};

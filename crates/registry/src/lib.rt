@@ -7,8 +7,6 @@ mod fault;
 mod opening;
 mod order;
 mod registry;
-#[cfg(test)]
-mod tests;
 mod transaction;
 
 pub use fault::{Fault, OpenFault};

@@ -5,8 +5,6 @@ mod answer;
 mod exit;
 mod line;
 mod script;
-#[cfg(test)]
-mod tests;
 
 pub use exit::Exit;
 pub use line::{Line, Sender};

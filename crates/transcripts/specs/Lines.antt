@@ -1,13 +1,14 @@
 -- The lines of a file of transcripts.
 use Rattle.std.specs.Prelude.{◌≡◌, ℕ, List, ◌++◌, codes}
 use Rattle.transcripts.specs.declared.line.Mark.{Mark}
-use Rattle.transcripts.specs.declared.line.Mark.TheVariants.{Remark, Begin, Policy, Prelude, Sent, Reply, End}
+use Rattle.transcripts.specs.declared.line.Mark.TheVariants.{Remark, Begin, Policy, Change, Prelude, Sent, Reply, End}
 
 -- how a line is written
 abbrev pub IsLine : Mark → List ℕ → Type 0
 IsLine Remark line = Unit {0}
 IsLine (Begin name) line = line ≡ codes "transcript: " ++ name.now
 IsLine (Policy file) line = line ≡ codes "policy: " ++ file.now
+IsLine (Change text) line = line ≡ codes "change: " ++ text.now
 IsLine (Prelude file) line = line ≡ codes "prelude: " ++ file.now
 IsLine (Sent text) line = line ≡ codes "C: " ++ text.now
 IsLine (Reply text) line = line ≡ codes "S: " ++ text.now

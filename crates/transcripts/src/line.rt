@@ -14,6 +14,8 @@ pub enum Mark<'a> {
     Begin(&'a [u8]),
     /// The file with the policy.
     Policy(&'a [u8]),
+    /// What stands in the policy, and what takes its place.
+    Change(&'a [u8]),
     /// The file whose lines are sent before.
     Prelude(&'a [u8]),
     /// A line of the script.
@@ -39,6 +41,9 @@ impl<'a> Mark<'a> {
         }
         if let Some(file) = behind(b"policy: ", text) {
             return Some(Mark::Policy(file));
+        }
+        if let Some(change) = behind(b"change: ", text) {
+            return Some(Mark::Change(change));
         }
         if let Some(file) = behind(b"prelude: ", text) {
             return Some(Mark::Prelude(file));

@@ -2,6 +2,7 @@
 //!
 //! - `transcript: NAME`: a transcript begins, over an empty registry,
 //! - `policy: FILE`: the policy that it runs under,
+//! - `change: OLD => NEW`: a text of that policy, and what takes its place,
 //! - `prelude: FILE`: the transcripts whose lines are sent first,
 //! - `C: LINE`: a line of the script, and below it
 //! - `S: LINE`: its reply,
@@ -40,7 +41,7 @@ fn run_one(
     let Some(policy) = transcript.policy() else {
         bail!("a transcript without a policy");
     };
-    let policy = read_named(rt, policy)?;
+    let policy = transcript.changed(alloc, read_named(rt, policy)?)?;
     let before = match transcript.prelude() {
         Some(prelude) => read_named(rt, prelude)?,
         None => Vec::new(alloc),

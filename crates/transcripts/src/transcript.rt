@@ -4,8 +4,10 @@ ghost use Rattle.std.specs.List.{before_first, after_first, position};
 ghost use Rattle.transcripts.specs.declared.transcript.TheConstants.{LINE_FEED};
 
 use crate::line::{Line, Mark};
+use anyhow::{Context, Result, bail};
 use script::run_script;
-use std::alloc::{AllocError, Global};
+use std::alloc::Global;
+use std::str;
 
 const LINE_FEED: u8 = b'\n';
 
@@ -36,6 +38,17 @@ impl<'a> Transcript<'a> {
         None
     }
 
+    /// The policy with its changes, one after the other.
+    pub fn changed(self, alloc: Global, policy: Vec<u8>) -> Result<Vec<u8>> {
+        let mut policy = policy;
+        for line in self.lines {
+            if let Mark::Change(change) = line.mark {
+                policy = changed(alloc, &policy, change)?;
+            }
+        }
+        Ok(policy)
+    }
+
     /// The file whose lines are sent before.
     pub fn prelude(self) -> Option<&'a [u8]> {
         for line in self.lines {
@@ -57,6 +70,21 @@ impl<'a> Transcript<'a> {
     }
 }
 
+/// A text in which `NEW` of `OLD => NEW` takes the place of `OLD`, which stands there. Where `NEW` has
+/// `\\n`, a line ends.
+fn changed(alloc: Global, text: &[u8], change: &[u8]) -> Result<Vec<u8>> {
+    let text = str::from_utf8(text).context("a policy with changes is no text")?;
+    let change = str::from_utf8(change).context("a change is no text")?;
+    let Some((old, new)) = change.split_once(" => ") else {
+        bail!("a change without an arrow: {change}");
+    };
+    if !text.contains(old) {
+        bail!("no such text in the policy: {old}");
+    }
+    let new = new.replace(alloc, "\\n", "\n")?;
+    Ok(text.replace(alloc, old, new.as_str())?.into_bytes())
+}
+
 /// What a run of a transcript gave.
 #[derive(Drop)]
 pub struct Outcome {
@@ -74,7 +102,7 @@ pub fn run_transcript(
     policy: &[u8],
     prelude: &[Line<'_>],
     transcript: Transcript<'_>,
-) -> Result<Outcome, AllocError> {
+) -> Result<Outcome> {
     let mut script = Vec::new(alloc);
     add_script(&mut script, prelude)?;
     add_script(&mut script, transcript.lines)?;
@@ -92,7 +120,7 @@ pub fn run_transcript(
 }
 
 /// Adds the lines of the script.
-fn add_script(script: &mut Vec<u8>, lines: &[Line<'_>]) -> Result<(), AllocError> {
+fn add_script(script: &mut Vec<u8>, lines: &[Line<'_>]) -> Result<()> {
     for line in lines {
         if let Mark::Sent(sent) = line.mark {
             script.extend_from_slice(sent)?;
@@ -141,7 +169,7 @@ fn compare(
     printed: &[u8],
     end: &[u8],
     differences: &mut Vec<u8>,
-) -> Result<usize, AllocError> {
+) -> Result<usize> {
     let mut as_written = 0;
     let mut rest = printed;
     let mut sent: &[u8] = b"";
@@ -173,21 +201,18 @@ fn compare(
     Ok(as_written)
 }
 
-fn add_line_number(
-    alloc: Global,
-    differences: &mut Vec<u8>,
-    number: usize,
-) -> Result<(), AllocError> {
+fn add_line_number(alloc: Global, differences: &mut Vec<u8>, number: usize) -> Result<()> {
     let text = format!(in alloc; "line {number}:")?;
-    differences.extend_from_slice(text.as_bytes())
+    differences.extend_from_slice(text.as_bytes())?;
+    Ok(())
 }
 
-fn add_texts(differences: &mut Vec<u8>, wanted: &[u8], given: &[u8]) -> Result<(), AllocError> {
+fn add_texts(differences: &mut Vec<u8>, wanted: &[u8], given: &[u8]) -> Result<()> {
     add_line(differences, b"  wanted ", wanted)?;
     add_line(differences, b"  given  ", given)
 }
 
-fn add_line(text: &mut Vec<u8>, mark: &[u8], line: &[u8]) -> Result<(), AllocError> {
+fn add_line(text: &mut Vec<u8>, mark: &[u8], line: &[u8]) -> Result<()> {
     text.extend_from_slice(mark)?;
     text.extend_from_slice(line)?;
     text.push(LINE_FEED)?;

@@ -10,8 +10,6 @@ mod delegation;
 mod fault;
 mod glue;
 mod line;
-#[cfg(test)]
-mod tests;
 mod zone;
 
 pub use delegation::is_served;

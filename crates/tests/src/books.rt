@@ -1,0 +1,82 @@
+//! Books that were used before.
+ghost use Rattle.std.specs.Prelude.{◌≡◌, true, false, IfOk, OnOk};
+ghost use Rattle.store.specs.Plain.{plain_state};
+
+use crate::fixtures::{POLICY, policy_of};
+use basis::list::Seq;
+use basis::registrar::RegistrarNo;
+use calendar::Moment;
+use registry::{OpenFault, Registry};
+use rules::Change;
+use std::alloc::Global;
+use std::test::Fail;
+use store::{Book, PlainBook};
+
+/// A book that was used under a policy.
+fn used_under(alloc: Global, text: &str) -> Result<PlainBook, Fail>
+    ensures { IfOk result (λ book. (plain_state book).is_open ≡ false) }
+{
+    let terms = policy_of(alloc, text)?.terms(alloc)?;
+    let mut book = PlainBook::new(alloc);
+    book.begin()?;
+    book.keep_terms(terms)?;
+    book.commit()?;
+    Ok(book)
+}
+
+/// What stops a book that was used under one policy from being opened under another.
+fn fault_of(alloc: Global, earlier: &str, later: &str) -> Result<Option<OpenFault>, Fail> {
+    let book = used_under(alloc, earlier)?;
+    match Registry::open(alloc, book, policy_of(alloc, later)?) {
+        Ok(_) => Ok(None),
+        Err((fault, _)) => Ok(Some(fault)),
+    }
+}
+
+#[test]
+fn used_books(rt: HostRuntime) -> Result<(), Fail> {
+    let alloc = rt.alloc();
+    let dearer = POLICY.replace(alloc, "create = 800", "create = 900")?;
+    assert!(rt; fault_of(alloc, POLICY, POLICY)?.is_none());
+    assert!(rt; fault_of(alloc, dearer.as_str(), POLICY)? == Some(OpenFault::Policy));
+    Ok(())
+}
+
+/// An account and a later clock.
+fn changes(alloc: Global) -> Result<Seq<Change>, Fail> {
+    let later = Moment::of_secs(1_830_297_600).map_err(|_| "range")?;
+    let mut changes = Seq::new(alloc);
+    changes.push(Change::OpenAccount(RegistrarNo::of_place(1)))?;
+    changes.push(Change::MoveClock(later))?;
+    Ok(changes)
+}
+
+/// Makes the changes in an open transaction.
+fn change(alloc: Global, book: &mut PlainBook) -> Result<(), Fail>
+    requires { (plain_state book.old).is_open ≡ true }
+    ensures { OnOk result ((plain_state book.new).is_open ≡ true) }
+{
+    let made = changes(alloc)?;
+    let done = match policy_of(alloc, POLICY) {
+        Ok(policy) => book.apply(made, &policy).is_ok(),
+        Err(fail) => return Err(fail),
+    };
+    if done {
+        Ok(())
+    } else {
+        Err(Fail::from("not applied"))
+    }
+}
+
+#[test]
+fn a_book_goes_back(rt: HostRuntime) -> Result<(), Fail> {
+    let alloc = rt.alloc();
+    let mut book = PlainBook::new(alloc);
+    book.begin()?;
+    change(alloc, &mut book)?;
+    assert_eq!(rt; book.clock()?.secs(), 1_830_297_600);
+    book.back();
+    assert_eq!(rt; book.clock()?.secs(), 946_684_800);
+    assert!(rt; book.terms()?.is_none());
+    Ok(())
+}

@@ -1,0 +1,24 @@
+//! What no contract says of public functions and no transcript can show: that they succeed where
+//! memory is ample, and what becomes of inputs and outputs that fail.
+#![tactic(auto)]
+
+#[cfg(test)]
+mod books;
+#[cfg(test)]
+mod fixtures;
+#[cfg(test)]
+mod frames;
+#[cfg(test)]
+mod messages;
+#[cfg(test)]
+mod moments;
+#[cfg(test)]
+mod names;
+#[cfg(test)]
+mod rdap_answers;
+#[cfg(test)]
+mod replies;
+#[cfg(test)]
+mod scripts;
+#[cfg(test)]
+mod zone;

@@ -1,0 +1,253 @@
+//! Zones of faces, with the lines that the standards give, and writes that fail.
+
+use crate::fixtures::{POLICY, policy_of};
+use basis::list::Seq;
+use basis::maps::NameMap;
+use basis::registrar::RegistrarNo;
+use basis::text::Text;
+use calendar::Moment;
+use objects::{DomainFace, Graces, HostFace, Links, ObjectKind, Phase, Roid, Standing, Status};
+use policy::Policy;
+use std::alloc::{AllocError, Global};
+use std::io;
+use std::io::{ErrorKind, Write};
+use std::test::Fail;
+use zonefile::{ZoneFault, write_zone};
+
+fn texts(alloc: Global, texts: &[&str]) -> Result<Seq<Text>, AllocError> {
+    let mut list = Seq::new(alloc);
+    for text in texts {
+        list.push(Text::from_str(alloc, text)?)?;
+    }
+    Ok(list)
+}
+
+fn links(alloc: Global, hosts: &[&str]) -> Result<Links, AllocError> {
+    let registrant = Text::from_str(alloc, "c-alfa")?;
+    Ok(Links {
+        registrant,
+        admin: Seq::new(alloc),
+        tech: Seq::new(alloc),
+        hosts: texts(alloc, hosts)?,
+    })
+}
+
+fn roid(kind: ObjectKind) -> Roid {
+    Roid {
+        kind,
+        creator: RegistrarNo::of_place(1),
+        serial: 3,
+    }
+}
+
+fn standing() -> Standing {
+    Standing {
+        graces: Graces {
+            add: false,
+            auto_renew: false,
+            renew: false,
+            transfer: false,
+        },
+        phase: Phase::Live,
+    }
+}
+
+fn domain(alloc: Global, row: &DomainRow) -> Result<DomainFace, AllocError> {
+    let (name, status, hosts) = *row;
+    let name = Text::from_str(alloc, name)?;
+    let mut statuses = Seq::new(alloc);
+    statuses.push(status)?;
+    Ok(DomainFace {
+        name,
+        roid: roid(ObjectKind::Domain),
+        sponsor: RegistrarNo::of_place(1),
+        created: Moment::first(),
+        expires: Moment::first(),
+        transferred: None,
+        updated: None,
+        statuses,
+        standing: standing(),
+        links: links(alloc, hosts)?,
+    })
+}
+
+fn host(alloc: Global, row: &HostRow) -> Result<HostFace, AllocError> {
+    let (name, addresses) = *row;
+    let name = Text::from_str(alloc, name)?;
+    Ok(HostFace {
+        name,
+        roid: roid(ObjectKind::Host),
+        sponsor: RegistrarNo::of_place(1),
+        created: Moment::first(),
+        updated: None,
+        statuses: Seq::new(alloc),
+        addresses: texts(alloc, addresses)?,
+    })
+}
+
+/// A domain's name, a status of it, and its hosts.
+type DomainRow = (&'static str, Status, &'static [&'static str]);
+
+/// A host's name and its addresses.
+type HostRow = (&'static str, &'static [&'static str]);
+
+fn domains_of(alloc: Global, rows: &[DomainRow]) -> Result<NameMap<DomainFace>, AllocError> {
+    let mut domains = NameMap::new(alloc);
+    for row in rows {
+        let name = Text::from_str(alloc, row.0)?;
+        domains.insert(name, domain(alloc, row)?)?;
+    }
+    Ok(domains)
+}
+
+fn hosts_of(alloc: Global, rows: &[HostRow]) -> Result<NameMap<HostFace>, AllocError> {
+    let mut hosts = NameMap::new(alloc);
+    for row in rows {
+        let name = Text::from_str(alloc, row.0)?;
+        hosts.insert(name, host(alloc, row)?)?;
+    }
+    Ok(hosts)
+}
+
+/// Hosts and domains.
+type Rows = (&'static [HostRow], &'static [DomainRow]);
+
+/// Hosts, domains, and the lines of their zone after its first.
+type ZoneRow = (&'static [HostRow], &'static [DomainRow], &'static [u8]);
+
+const SOA: &[u8] =
+    b"test. 86400 IN SOA ns1.nic.test. hostmaster.nic.test. 1864598400 7200 3600 1209600 3600\n";
+
+const SERIAL: u32 = 1_864_598_400;
+
+/// The names stand out of order here, as no map keeps them.
+const HOSTS: &[HostRow] = &[
+    ("ns2.bar.test", &["192.0.2.22"]),
+    ("ns1.example.net", &["192.0.2.99"]),
+    (
+        "ns1.foo.test",
+        &[
+            "192.0.2.1",
+            "198.51.100.1",
+            "2001:db8:0:0:0:0:0:1",
+            "203.0.113.1",
+        ],
+    ),
+    ("ns1.bar.test", &["192.0.2.21"]),
+    ("ns3.bar.test", &[]),
+];
+
+const ZONES: &[ZoneRow] = &[
+    (HOSTS, &[], b""),
+    (
+        &[("ns1.example.net", &[])],
+        &[("foo.test", Status::Fine, &["ns1.example.net"])],
+        b"foo.test. 86400 IN NS ns1.example.net.\n",
+    ),
+    (
+        &[("ns1.foo.test", &["192.0.2.1", "2001:db8:0:0:0:0:0:1"])],
+        &[("foo.test", Status::Fine, &["ns1.foo.test"])],
+        b"foo.test. 86400 IN NS ns1.foo.test.\nns1.foo.test. 86400 IN A 192.0.2.1\nns1.foo.test. 86400 IN AAAA 2001:db8:0:0:0:0:0:1\n",
+    ),
+    (
+        HOSTS,
+        &[
+            (
+                "foo.test",
+                Status::ClientUpdateProhibited,
+                &["ns1.example.net", "ns1.foo.test"],
+            ),
+            ("bar.test", Status::ClientHold, &["ns1.bar.test"]),
+            ("baz.test", Status::ServerHold, &["ns1.bar.test"]),
+            ("bee.test", Status::PendingDelete, &["ns1.bar.test"]),
+            ("bin.test", Status::Inactive, &[]),
+            (
+                "boa.test",
+                Status::PendingTransfer,
+                &["ns1.foo.test", "ns2.bar.test", "ns3.bar.test"],
+            ),
+        ],
+        b"boa.test. 86400 IN NS ns1.foo.test.\nboa.test. 86400 IN NS ns2.bar.test.\nboa.test. 86400 IN NS ns3.bar.test.\nfoo.test. 86400 IN NS ns1.example.net.\nfoo.test. 86400 IN NS ns1.foo.test.\nns1.foo.test. 86400 IN A 192.0.2.1\nns1.foo.test. 86400 IN A 198.51.100.1\nns1.foo.test. 86400 IN A 203.0.113.1\nns1.foo.test. 86400 IN AAAA 2001:db8:0:0:0:0:0:1\nns2.bar.test. 86400 IN A 192.0.2.22\n",
+    ),
+];
+
+/// A writer with room for some bytes.
+#[derive(Drop)]
+struct Full {
+    taken: Vec<u8>,
+    room: usize,
+}
+
+impl Write for Full {
+    fn write(&mut self, buf: &[u8]) -> io::Result<usize> {
+        let count = self.room.min(buf.len());
+        match self.taken.extend_from_slice(&buf[..count]) {
+            Ok(()) => self.room -= count,
+            Err(_) => return Err(io::Error::from(ErrorKind::OutOfMemory)),
+        }
+        Ok(count)
+    }
+
+    fn flush(&mut self) -> io::Result<()> {
+        Ok(())
+    }
+}
+
+/// Writes the zone of these rows, and answers what became of it.
+fn write_rows(
+    alloc: Global,
+    policy: &Policy,
+    (hosts, domains): Rows,
+    writer: &mut Full,
+) -> Result<Result<(), ZoneFault>, AllocError> {
+    let hosts = hosts_of(alloc, hosts)?;
+    let domains = domains_of(alloc, domains)?;
+    Ok(write_zone(alloc, &hosts, &domains, policy, SERIAL, writer))
+}
+
+#[test]
+fn zones(rt: HostRuntime) -> Result<(), Fail> {
+    let alloc = rt.alloc();
+    let policy = policy_of(alloc, POLICY)?;
+    for (hosts, domains, lines) in ZONES.iter().copied() {
+        let mut writer = Full {
+            taken: Vec::new(alloc),
+            room: 10_000,
+        };
+        assert_eq!(&rt;
+            write_rows(alloc, &policy, (hosts, domains), &mut writer)?,
+            Ok(())
+        );
+        assert!(&rt; writer.taken.starts_with(SOA));
+        assert!(&rt; writer.taken.len() == SOA.len().saturating_add(lines.len()));
+        assert!(&rt; writer.taken.ends_with(lines));
+    }
+    Ok(())
+}
+
+const SMALL: Rows = (
+    &[("ns1.foo.test", &["192.0.2.1"])],
+    &[("foo.test", Status::Fine, &["ns1.foo.test"])],
+);
+
+const SMALL_LINES: &[u8] =
+    b"foo.test. 86400 IN NS ns1.foo.test.\nns1.foo.test. 86400 IN A 192.0.2.1\n";
+
+/// Wherever the writer is full, what it took is a beginning of the zone.
+#[test]
+fn every_write_that_fails(rt: HostRuntime) -> Result<(), Fail> {
+    let alloc = rt.alloc();
+    let policy = policy_of(alloc, POLICY)?;
+    for room in SOA.len()..SOA.len().saturating_add(SMALL_LINES.len()) {
+        let mut writer = Full {
+            taken: Vec::new(alloc),
+            room,
+        };
+        let wrote = write_rows(alloc, &policy, SMALL, &mut writer)?;
+        assert_eq!(&rt; wrote, Err(ZoneFault::Write));
+        assert!(&rt; writer.taken.starts_with(SOA));
+        assert!(&rt; SMALL_LINES.starts_with(&writer.taken[SOA.len().min(writer.taken.len())..]));
+        assert!(&rt; writer.taken.len() == room);
+    }
+    Ok(())
+}
