@@ -13,12 +13,12 @@ mod messages;
 #[cfg(test)]
 mod moments;
 #[cfg(test)]
-mod names;
-#[cfg(test)]
 mod rdap_answers;
 #[cfg(test)]
 mod replies;
 #[cfg(test)]
 mod scripts;
+#[cfg(test)]
+mod unicode;
 #[cfg(test)]
 mod zone;
