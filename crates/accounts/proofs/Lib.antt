@@ -1,3 +1,4 @@
 pub mod MessageLaws
 pub mod LineLaws
+pub mod GroupLaws
 pub mod EntryLaws

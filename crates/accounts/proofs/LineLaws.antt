@@ -1,8 +1,10 @@
 -- Lines stand in an order, and balances are sums.
-use Rattle.std.proofs.Common.{◌≡◌, ℕ, ◌+◌, ◌*◌, ◌<◌, ◌≤◌, Bool, true, false, cond, nat_eq, List, [], ◌∷◌, ◌++◌, length, take, get_or, Option, Some, None, is_some, refl, sym, ap, ◌∙◌, arith, ℤ, pos, negsuc, ◌+ℤ◌, ◌-ℤ◌, ◌≤ℤ◌}
+use Rattle.std.proofs.Common.{◌≡◌, ℕ, ◌+◌, ◌*◌, ◌<◌, ◌≤◌, Bool, true, false, cond, nat_eq, List, [], ◌∷◌, ◌++◌, length, take, get_or, Option, Some, None, is_some, refl, sym, ap, subst, ◌∙◌, arith, ℤ, pos, negsuc, ◌+ℤ◌, ◌-ℤ◌, ◌≤ℤ◌}
 use Rattle.std.specs.Int.{saturate_signed, w128}
+use Rattle.std.specs.List.{All}
 use Rattle.std.proofs.lemmas.Int.{ints}
 use Rattle.std.proofs.lemmas.List.{take_more}
+use Rattle.std.proofs.lemmas.List.Elements.{All-more}
 use Rattle.std.proofs.lemmas.Cmp.{nat_list_cmp_total}
 use Rattle.std.specs.Cmp.{IsTotalOrder}
 use Rattle.std.specs.Cmp.Lexicographic.{slice_cmp}
@@ -17,6 +19,7 @@ use Rattle.objects.specs.declared.roid.Roid.{Roid}
 use Rattle.accounts.specs.declared.line.Line.{Line}
 use Rattle.accounts.specs.declared.line.LineKind.{LineKind}
 use Rattle.accounts.specs.declared.line.LineKind.TheVariants as kinds
+use Rattle.accounts.specs.Groups.{IsSmall}
 use Rattle.accounts.specs.Lines.{amount, amount_of, balance, in_order, is_kind, kind_rank, maybe_number, numbers, object_rank, roid_numbers}
 
 -- ---- the order by an injective reading
@@ -132,7 +135,7 @@ balance-bag_of (l ∷ ls) = balance-add l (bag_of in_order ls) ∙ ap (λ z. amo
 
 -- ---- the loop of the sum
 
-balance-append : (xs ys : List Line) → balance (xs ++ ys) ≡ balance xs +ℤ balance ys
+pub balance-append : (xs ys : List Line) → balance (xs ++ ys) ≡ balance xs +ℤ balance ys
 unfolding balance
 balance-append [] ys = omega (arith, ints)
 balance-append (x ∷ xs) ys = omega (arith, ints, balance-append xs ys)
@@ -161,7 +164,7 @@ bound true r c h = (omega (arith, ints), omega (arith, ints))
 bound false true c h = (omega (arith, ints), omega (arith, ints))
 bound false false c h = (omega (arith, ints), omega (arith, ints))
 
-amount-bound : (l : Line) → l.cents < 18_446_744_073_709_551_616 → ((pos 0 -ℤ pos 18_446_744_073_709_551_615) ≤ℤ amount l) × (amount l ≤ℤ pos 18_446_744_073_709_551_615)
+pub amount-bound : (l : Line) → l.cents < 18_446_744_073_709_551_616 → ((pos 0 -ℤ pos 18_446_744_073_709_551_615) ≤ℤ amount l) × (amount l ≤ℤ pos 18_446_744_073_709_551_615)
 amount-bound l h = bound (is_kind l.kind kinds.Deposit) (is_some l.refunded) l.cents h
 
 pub sum-more : (lines : List Line) (i : ℕ) (l : Line) (all : ℤ) → i < length lines → l ≡ get_or lines i l → l.cents < 18_446_744_073_709_551_616 → IsSum lines i all → IsSum lines (i + 1) (all +ℤ amount l)
@@ -184,3 +187,12 @@ sum-step lines i l all a r lt e small few same sat h =
     let next : IsSum lines (i + 1) (all +ℤ amount l) = sum-more lines i l all lt e small h in
     let value : r ≡ all +ℤ amount l = sat ∙ ap (λ z. saturate_signed w128 (all +ℤ z)) same ∙ saturated lines (i + 1) (all +ℤ amount l) (omega arith) next in
     rw value next
+
+-- the same, and no line read so far is of more cents than fit
+pub record IsSummed (lines : List Line) (i : ℕ) (all : ℤ) : Type 0 where
+  pub small : All IsSmall (take i lines)
+  pub sum : length lines < 4_611_686_018_427_387_904 → IsSum lines i all
+
+-- the line at a place is one more
+pub All-read : (lines : List Line) (i : ℕ) (l : Line) → i < length lines → l ≡ get_or lines i l → IsSmall l → All IsSmall (take i lines) → All IsSmall (take (i + 1) lines)
+All-read lines i l lt e small h = All-more IsSmall lines i l lt h (subst IsSmall e small)

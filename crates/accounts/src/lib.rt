@@ -1,11 +1,13 @@
 //! The accounts of registrars: lines of money, a queue of messages, and counters.
 //!
-//! A bag of [`Lines`] has no order of its own; a [`Queue`] is in the order of its messages. What time
+//! A bag of [`Lines`] has no order of its own, finds those of a domain by a look-up and keeps their
+//! sum; a [`Queue`] is in the order of its messages. What time
 //! alone does to an account is a [`LapseEntry`], and entries commute.
 #![tactic(auto)]
 
 mod account;
 mod entries;
+mod groups;
 mod line;
 mod lines;
 mod message;

@@ -54,7 +54,7 @@ impl LineKind {
     }
 }
 
-fn object_rank(kind: ObjectKind) -> u8
+pub(crate) fn object_rank(kind: ObjectKind) -> u8
     ensures { result ≡ spec.object_rank kind }
 {
     match kind {
@@ -119,14 +119,28 @@ impl Line {
     }
 }
 
-/// A change of single lines.
+/// A change of the lines of one domain.
 pub trait LineChange {
+    ghost use Rattle.std.specs.Prelude.{◌≡◌, false};
+    ghost use Rattle.accounts.specs.Lines.{is_on};
     ghost use Rattle.accounts.specs.declared.line.Line.{Line};
+    ghost use Rattle.objects.specs.declared.roid.Roid.{Roid};
+
+    ghost domain: { Self → Roid };
 
     ghost changed: { Self → Line → Line };
 
+    /// The domain that it is about.
+    fn domain(&self) -> Roid
+        ensures { result ≡ domain self.now };
+
     fn changed(&self, line: Line) -> Line
         ensures { result ≡ changed self.now line };
+
+    /// Lines of another domain stay as they are, and those of this one stay its own.
+    ghost elsewhere: { (change : Self) (line : Line) → is_on (domain change) line ≡ false → changed change line ≡ line };
+
+    ghost stays: { (change : Self) (line : Line) → (changed change line).roid ≡ line.roid };
 }
 
 /// A transfer that was refused or withdrawn at a moment: its charge is given back.
@@ -145,9 +159,20 @@ pub struct TransferStart {
 }
 
 impl LineChange for TransferRefund {
+    ghost use Rattle.accounts.specs.LineChanges.{refund-elsewhere, refund-stays};
     ghost use Rattle.accounts.specs.Lines.{transfer_refunded};
 
+    ghost domain = { λ x. x.roid };
+
     ghost changed = { transfer_refunded };
+
+    ghost elsewhere = { refund-elsewhere };
+
+    ghost stays = { refund-stays };
+
+    fn domain(&self) -> Roid {
+        self.roid
+    }
 
     fn changed(&self, line: Line) -> Line {
         let mut line = line;
@@ -159,9 +184,20 @@ impl LineChange for TransferRefund {
 }
 
 impl LineChange for TransferStart {
+    ghost use Rattle.accounts.specs.LineChanges.{start-elsewhere, start-stays};
     ghost use Rattle.accounts.specs.Lines.{transfer_started};
 
+    ghost domain = { λ x. x.roid };
+
     ghost changed = { transfer_started };
+
+    ghost elsewhere = { start-elsewhere };
+
+    ghost stays = { start-stays };
+
+    fn domain(&self) -> Roid {
+        self.roid
+    }
 
     fn changed(&self, line: Line) -> Line {
         let mut line = line;

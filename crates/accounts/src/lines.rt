@@ -1,50 +1,56 @@
 //! The lines of an account as contracts see them: a bag, whatever the order in which they came.
-ghost use Rattle.std.specs.Prelude.{◌≡◌, ◌<◌, [], length, map, OnOk, OnErr};
+ghost use Rattle.std.specs.Prelude.{◌≡◌, [], OnOk, OnErr};
+ghost use Rattle.std.specs.List.{filter};
 ghost use Rattle.basis.specs.Bag.{add, bag_of, remade};
 ghost use Rattle.accounts.specs.Lines as spec;
 ghost use Rattle.accounts.specs.Lines.{in_order};
 
+use crate::groups::Groups;
 use crate::line::{Line, LineChange};
+use objects::Roid;
 use std::alloc::{AllocError, Global};
 use std::marker::Model;
 
 /// No memory holds so many lines.
 const TOO_MANY: usize = 1 << 62;
 
-/// A bag of lines. What goes over all of them takes time linear in their number.
+/// A bag of lines, with what they add up to. The lines of a domain are found by a look-up, and no
+/// call goes over those of others.
 #[derive(Clone, Drop)]
 pub struct Lines {
-    items: Vec<Line>,
+    groups: Groups,
+    count: usize,
+    balance: i128,
 }
 
 impl Model for Lines {
-    ghost use Rattle.std.specs.Prelude.{List, ◌<◌, length};
-    ghost use Rattle.basis.specs.Bag.{bag_of};
-    ghost use Rattle.accounts.specs.Lines.{in_order};
+    ghost use Rattle.std.specs.Prelude.{List};
+    ghost use Rattle.accounts.specs.Groups.{IsCounted};
     ghost use Rattle.accounts.specs.declared.line.Line.{Line};
 
     ghost Value = { List Line };
 
-    ghost view = { λ l. bag_of in_order l.items.items };
+    ghost view = { λ l. l.groups };
 
-    ghost invariant = { λ l. length l.items.items < 4_611_686_018_427_387_904 };
+    ghost invariant = { λ l. IsCounted l.groups l.count l.balance };
 }
 
 impl Lines {
-    #[tactic(auto, unfolding(basis::specs::Bag::bag_of))]
     pub fn new(alloc: Global) -> Lines
         ensures { result ≡ [] }
     {
         Lines {
-            items: Vec::new(alloc),
+            groups: Groups::new(alloc),
+            count: 0,
+            balance: 0,
         }
     }
 
-    /// The lines in the order in which they came.
-    pub fn as_slice(&self) -> &[Line]
-        ensures { bag_of in_order result.now ≡ self.now }
+    /// The lines on a domain, in the order in which they came.
+    pub fn on(&self, roid: &Roid) -> &[Line]
+        ensures { bag_of in_order result.now ≡ filter (spec.is_on roid.now) self.now }
     {
-        &self.items
+        self.groups.on(roid)
     }
 
     /// Adds a deposit or a charge.
@@ -52,15 +58,12 @@ impl Lines {
         ensures ok { OnOk result (self.new ≡ add in_order line self.old) }
         ensures err { OnErr result (self.new ≡ self.old) }
     {
-        if self.items.len() >= TOO_MANY - 1 {
+        if self.count >= TOO_MANY - 1 {
             return Err(AllocError);
         }
-        // Names a field of the line for the borrow checker.
-        let line = Line {
-            started: line.started,
-            ..line
-        };
-        self.items.push(line)?;
+        self.groups.add(line)?;
+        self.count += 1;
+        self.balance = self.balance.saturating_add(line.amount());
         Ok(())
     }
 
@@ -68,32 +71,14 @@ impl Lines {
     pub fn remake<C: LineChange>(&mut self, change: &C)
         ensures { self.new ≡ remade in_order (C.changed change.now) self.old }
     {
-        remake_each(&mut self.items, change);
+        let gain = self.groups.remake(change);
+        self.balance = self.balance.saturating_add(gain);
     }
 
     /// Deposits less charges plus refunds.
     pub fn balance(&self) -> i128
         ensures { result ≡ spec.balance self.now }
     {
-        sum(&self.items)
+        self.balance
     }
-}
-
-fn remake_each<C: LineChange>(lines: &mut [Line], change: &C)
-    ensures { lines.new ≡ map (C.changed change.now) lines.old }
-{
-    for line in lines.iter_mut() {
-        *line = change.changed(*line);
-    }
-}
-
-/// What the lines add up to.
-fn sum(lines: &[Line]) -> i128
-    ensures { length lines.now < 4_611_686_018_427_387_904 → result ≡ spec.balance lines.now }
-{
-    let mut all: i128 = 0;
-    for line in lines {
-        all = all.saturating_add(line.amount());
-    }
-    all
 }

@@ -1,17 +1,22 @@
-use Rattle.std.proofs.Common.{◌≡◌, ◌∙◌, List, sym, ap, map, length}
-use Rattle.std.proofs.lemmas.List.{length-map, with_items_is}
-use Rattle.basis.specs.Bag.{bag_of, remade}
-use Rattle.basis.proofs.BagLaws.{remade-bag_of}
+use Rattle.std.proofs.Common.{◌≡◌, ◌∙◌, ◌+ℤ◌, List, length, sym, ap, arith, to_z, of_z}
+use Rattle.std.specs.Int.{w128}
+use Rattle.std.proofs.lemmas.Int.{ints}
 use Rattle.accounts.specs.declared.line.Line.{Line}
-use Rattle.accounts.specs.Lines.{in_order}
-use Rattle.accounts.proofs.LineLaws.{lines_in_order}
+use Rattle.accounts.specs.Lines.{balance}
+use Rattle.accounts.proofs.GroupLaws.{length-remade, sum-fits}
 use Rattle.accounts.proofs.lines.Lines.remake.Goals as goal
 
-pub returns : goal.returns
-returns g c =
-    let changed = g.C.LineChange.changed c.args.change.now in
-    let items : c.remake_each.new.lines ≡ map changed c.self.inside.items.items = c.remake_each.ensures ∙ ap (map changed) c.deref_mut.ensures.value in
-    let many : length c.remake_each.new.lines ≡ c.self.inside.items.len = ap (λ (ls : List Line). length ls) items ∙ length-map c.self.inside.items.items changed ∙ sym c.self.inside.items.ok.0 in
-    ap (bag_of in_order) (with_items_is c.self.inside.items c.remake_each.new.lines many ∙ items)
-    ∙ sym (remade-bag_of in_order lines_in_order changed c.self.inside.items.items)
-    ∙ ap (remade in_order changed) c.self.view_is
+pub invariant_of-self : goal.invariant_of-self
+invariant_of-self g c =
+    let old = c.self.inside.groups in
+    let new = c.remake-gain.new.self in
+    let same : length new ≡ length old = ap (λ (ls : List Line). length ls) c.remake-gain.ensures.value ∙ length-remade (g.C.LineChange.changed c.args.change.now) old in
+    let gain : to_z w128 (of_z w128 c.remake-gain.result) ≡ c.remake-gain.result = omega (arith, ints) in
+    let before : to_z w128 (of_z w128 c.self.inside.balance) ≡ c.self.inside.balance = omega (arith, ints) in
+    let back : to_z w128 (of_z w128 c.saturating_add-self-inside.result) ≡ c.saturating_add-self-inside.result = omega (arith, ints) in
+    let sum : balance new ≡ balance old +ℤ to_z w128 (of_z w128 c.remake-gain.result) = omega (arith, ints, gain, c.remake-gain.ensures.gain c.self.invariant.few) in
+    record {
+      count = c.self.invariant.count ∙ sym same;
+      few = omega (arith, same, c.self.invariant.few);
+      sum = back ∙ sum-fits old new _ _ _ (omega (arith, same, c.self.invariant.few)) c.remake-gain.ensures.bounded (before ∙ c.self.invariant.sum) sum c.saturating_add-self-inside.ensures;
+    }

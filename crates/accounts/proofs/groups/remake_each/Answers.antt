@@ -1,7 +1,7 @@
 use Rattle.std.proofs.Common.{◌∙◌, sym, ap, set, arith}
 use Rattle.std.proofs.lemmas.List.Edits.{map_over_more}
 use Rattle.accounts.specs.declared.line.Line.{Line}
-use Rattle.accounts.proofs.lines.remake_each.Goals as goal
+use Rattle.accounts.proofs.groups.remake_each.Goals as goal
 
 pub loop-line-preserved : goal.loop-line-preserved
 loop-line-preserved g c =

@@ -1,0 +1,394 @@
+-- The bag of lines that are kept by their domains.
+use Rattle.std.proofs.Common.{◌≡◌, ℕ, ◌+◌, ◌<◌, ◌≤◌, ◌==◌, suc, Bool, true, false, cond, ◌&&◌, List, [], ◌∷◌, ◌++◌, map, length, length-append, Option, Some, None, Result, Ok, Err, refl, sym, ap, subst, ◌∙◌, arith, ℤ, pos, negsuc, ◌+ℤ◌, ◌-ℤ◌, ◌≤ℤ◌}
+use Rattle.std.specs.Prelude.{unwrap_or}
+use Rattle.std.proofs.lemmas.Bool.Decides.{nat_tests}
+use Rattle.std.proofs.lemmas.Cmp.{nat_list_cmp_total}
+use Rattle.std.proofs.lemmas.Int.{ints}
+use Rattle.std.proofs.lemmas.List.{length-map, map-append}
+use Rattle.std.proofs.lemmas.List.Elements.{filter-append, recursion_from_All}
+use Rattle.std.proofs.lemmas.Map.{NonePasses, none_passes_from_lookup}
+use Rattle.std.proofs.lemmas.Map.Entries.{none_past_head}
+use Rattle.std.proofs.lemmas.Map.Steps.{set_value_same}
+use Rattle.std.proofs.lemmas.Map.Keys.{IsDistinct-from_sorted, IsDistinct-tail}
+use Rattle.std.specs.BTreeMap.{insert_entry, is_at}
+use Rattle.std.specs.Cmp.{Equal-is, IsEquivalence, eq_by_cmp_equiv}
+use Rattle.std.specs.Cmp.Lexicographic.{slice_cmp}
+use Rattle.std.specs.FinMap.{nat_cmp-IsAntisymmetric, slice_cmp-IsAntisymmetric}
+use Rattle.std.specs.List.{All, AllByRecursion, IsDistinct, filter}
+use Rattle.std.specs.List.Sorted.{IsStrictlySortedBy}
+use Rattle.std.specs.Int.{saturate_signed, w128}
+use Rattle.std.specs.Result.{OnErr, OnOk}
+use Rattle.std.specs.Map.{keys_of, lookup, set_value}
+use Rattle.std.specs.Ordering.{eq_by_cmp, is_eq, nat_cmp, ordering_then}
+use Rattle.std.specs.declared.cmp.Ordering.{Ordering}
+use Rattle.std.specs.declared.cmp.Ordering.TheVariants.{Less, Equal, Greater}
+use Rattle.basis.specs.Bag.{add, bag_of, remade}
+use Rattle.basis.proofs.BagLaws.{add-add, filter-bag_of, remade-bag_of}
+use Rattle.objects.specs.declared.roid.Roid.{Roid}
+use Rattle.accounts.specs.declared.line.Line.{Line}
+use Rattle.accounts.specs.Groups.{IsBounded, IsGroup, IsGrouped, IsSmall, IsUnder, all_lines}
+use Rattle.accounts.specs.Lines.{balance, in_order, is_of, is_on, object_rank, roid_numbers}
+use Rattle.accounts.proofs.LineLaws.{amount-bound, balance-append, balance-bag_of, lines_in_order}
+
+abbrev by_numbers : List ℕ → List ℕ → Ordering
+by_numbers = slice_cmp nat_cmp
+
+abbrev at : List ℕ → List ℕ → Bool
+at key = is_at (slice_cmp nat_cmp key)
+
+abbrev bag : List Line → List Line
+bag = bag_of in_order
+
+-- ---- a line more
+
+under : (ls xs ys : List Line) (x : Line) → bag xs ≡ add in_order x (bag ys) → bag (ls ++ xs) ≡ add in_order x (bag (ls ++ ys))
+unfolding bag_of
+under [] xs ys x e = e
+under (l ∷ ls) xs ys x e = ap (add in_order l) (under ls xs ys x e) ∙ add-add in_order lines_in_order l x (bag (ls ++ ys))
+
+at_end : (ls rest : List Line) (x : Line) → bag ((ls ++ x ∷ []) ++ rest) ≡ add in_order x (bag (ls ++ rest))
+unfolding bag_of
+at_end [] rest x = refl
+at_end (l ∷ ls) rest x = ap (add in_order l) (at_end ls rest x) ∙ add-add in_order lines_in_order l x (bag (ls ++ rest))
+
+pushed-at : (key : List ℕ) (x : Line) (g : List ℕ × List Line) (gs : List (List ℕ × List Line)) (ls : List Line) (b : Bool) → cond b (Some g.1) (lookup (at key) gs) ≡ Some ls
+    → (lookup (at key) gs ≡ Some ls → bag (all_lines (set_value (at key) gs (ls ++ x ∷ []))) ≡ add in_order x (bag (all_lines gs)))
+    → bag (all_lines (cond b ((g.0, ls ++ x ∷ []) ∷ gs) (g ∷ set_value (at key) gs (ls ++ x ∷ [])))) ≡ add in_order x (bag (g.1 ++ all_lines gs))
+pushed-at key x g gs ls true e ih =
+    let same : ls ≡ g.1 = cc in
+    at_end ls (all_lines gs) x ∙ ap (λ (ms : List Line). add in_order x (bag (ms ++ all_lines gs))) same
+pushed-at key x g gs ls false e ih = under g.1 (all_lines (set_value (at key) gs (ls ++ x ∷ []))) (all_lines gs) x (ih e)
+
+-- in a group that is there
+pub pushed : (key : List ℕ) (x : Line) (gs : List (List ℕ × List Line)) (ls : List Line) → lookup (at key) gs ≡ Some ls
+    → bag (all_lines (set_value (at key) gs (ls ++ x ∷ []))) ≡ add in_order x (bag (all_lines gs))
+pushed key x [] ls e = cc
+pushed key x (g ∷ gs) ls e = pushed-at key x g gs ls (at key g.0) e (pushed key x gs ls)
+
+inserted-at : (key : List ℕ) (x : Line) (g : List ℕ × List Line) (gs : List (List ℕ × List Line)) (o : Ordering) → by_numbers key g.0 ≡ o → cond (is_eq o) (Some g.1) (lookup (at key) gs) ≡ None
+    → (lookup (at key) gs ≡ None → bag (all_lines (insert_entry by_numbers gs key (x ∷ []))) ≡ add in_order x (bag (all_lines gs)))
+    → bag (all_lines (insert_entry by_numbers (g ∷ gs) key (x ∷ []))) ≡ add in_order x (bag (g.1 ++ all_lines gs))
+unfolding bag_of
+inserted-at key x g gs Less o e ih = rw o refl
+inserted-at key x g gs Equal o e ih = cc
+inserted-at key x g gs Greater o e ih = rw o (under g.1 (all_lines (insert_entry by_numbers gs key (x ∷ []))) (all_lines gs) x (ih e))
+
+-- in a group of its own
+pub inserted : (key : List ℕ) (x : Line) (gs : List (List ℕ × List Line)) → lookup (at key) gs ≡ None
+    → bag (all_lines (insert_entry by_numbers gs key (x ∷ []))) ≡ add in_order x (bag (all_lines gs))
+unfolding bag_of
+inserted key x [] e = refl
+inserted key x (g ∷ gs) e = inserted-at key x g gs (by_numbers key g.0) refl e (inserted key x gs)
+
+-- ---- groups stay groups
+
+same_key : (key other : List ℕ) → at key other ≡ true → key ≡ other
+same_key key other e = slice_cmp-IsAntisymmetric nat_cmp-IsAntisymmetric key other ((Equal-is (by_numbers key other)).0 e)
+
+set-at : (key : List ℕ) (w : List Line) (g : List ℕ × List Line) (gs : List (List ℕ × List Line)) (b : Bool) → at key g.0 ≡ b → AllByRecursion IsGroup (g ∷ gs) → AllByRecursion (IsUnder key) w
+    → AllByRecursion IsGroup (set_value (at key) gs w) → AllByRecursion IsGroup (cond b ((g.0, w) ∷ gs) (g ∷ set_value (at key) gs w))
+set-at key w g gs true e groups group ih = (rw (sym (same_key key g.0 e)) group, groups.1)
+set-at key w g gs false e groups group ih = (groups.0, ih)
+
+pub groups-set_value : (key : List ℕ) (w : List Line) (gs : List (List ℕ × List Line)) → AllByRecursion IsGroup gs → AllByRecursion (IsUnder key) w → AllByRecursion IsGroup (set_value (at key) gs w)
+groups-set_value key w [] groups group = tt
+groups-set_value key w (g ∷ gs) groups group = set-at key w g gs (at key g.0) refl groups group (groups-set_value key w gs groups.1 group)
+
+inserted-group : (key : List ℕ) (w : List Line) (g : List ℕ × List Line) (gs : List (List ℕ × List Line)) (o : Ordering) → by_numbers key g.0 ≡ o → AllByRecursion IsGroup (g ∷ gs) → IsGroup (key, w)
+    → AllByRecursion IsGroup (insert_entry by_numbers gs key w) → AllByRecursion IsGroup (insert_entry by_numbers (g ∷ gs) key w)
+inserted-group key w g gs Less o groups group ih = rw o (group, groups)
+inserted-group key w g gs Equal o groups group ih = rw o (rw (sym (same_key key g.0 (ap is_eq o))) group, groups.1)
+inserted-group key w g gs Greater o groups group ih = rw o (groups.0, ih)
+
+pub groups-insert_entry : (key : List ℕ) (w : List Line) (gs : List (List ℕ × List Line)) → AllByRecursion IsGroup gs → IsGroup (key, w) → AllByRecursion IsGroup (insert_entry by_numbers gs key w)
+groups-insert_entry key w [] groups group = (group, tt)
+groups-insert_entry key w (g ∷ gs) groups group = inserted-group key w g gs (by_numbers key g.0) refl groups group (groups-insert_entry key w gs groups.1 group)
+
+-- the group that is found
+found-at : (key : List ℕ) (g : List ℕ × List Line) (gs : List (List ℕ × List Line)) (ls : List Line) (b : Bool) → at key g.0 ≡ b → AllByRecursion IsGroup (g ∷ gs) → cond b (Some g.1) (lookup (at key) gs) ≡ Some ls
+    → (lookup (at key) gs ≡ Some ls → AllByRecursion (IsUnder key) ls) → AllByRecursion (IsUnder key) ls
+found-at key g gs ls true e groups found ih =
+    let same : ls ≡ g.1 = cc in
+    rw (same, same_key key g.0 e) groups.0
+found-at key g gs ls false e groups found ih = ih found
+
+pub found : (key : List ℕ) (gs : List (List ℕ × List Line)) (ls : List Line) → AllByRecursion IsGroup gs → lookup (at key) gs ≡ Some ls → AllByRecursion (IsUnder key) ls
+found key [] ls groups e = cc
+found key (g ∷ gs) ls groups e = found-at key g gs ls (at key g.0) refl groups e (found key gs ls groups.1)
+
+-- ---- the lines on a domain
+
+is_eq-then : (a b : Ordering) → is_eq (ordering_then a b) ≡ (is_eq a && is_eq b)
+is_eq-then Less b = refl
+is_eq-then Equal b = refl
+is_eq-then Greater b = refl
+
+is_eq-nat_cmp : (x y : ℕ) → is_eq (nat_cmp x y) ≡ (y == x)
+is_eq-nat_cmp x y = grind (arith, nat_tests)
+
+and-true : (b : Bool) → (b && true) ≡ b
+and-true true = refl
+and-true false = refl
+
+at-three : (a b c x y z : ℕ) → at (a ∷ b ∷ c ∷ []) (x ∷ y ∷ z ∷ []) ≡ ((x == a) && ((y == b) && (z == c)))
+at-three a b c x y z =
+    is_eq-then (nat_cmp a x) (by_numbers (b ∷ c ∷ []) (y ∷ z ∷ []))
+    ∙ (λ i. is_eq-nat_cmp a x i && is_eq-then (nat_cmp b y) (by_numbers (c ∷ []) (z ∷ [])) i)
+    ∙ (λ i. (x == a) && (is_eq-nat_cmp b y i && is_eq-then (nat_cmp c z) Equal i))
+    ∙ (λ i. (x == a) && ((y == b) && (is_eq-nat_cmp c z i && true)))
+    ∙ (λ i. (x == a) && ((y == b) && and-true (z == c) i))
+
+zero-suc : (n : ℕ) → (0 == suc n) ≡ false
+zero-suc n = grind (arith, nat_tests)
+
+suc-suc : (m n : ℕ) → (suc m == suc n) ≡ (m == n)
+suc-suc m n = grind (arith, nat_tests)
+
+-- a line is on a domain where it stands under its numbers
+on-key : (roid : Roid) (o : Option Roid) → is_of roid o ≡ at (roid_numbers (Some roid)) (roid_numbers o)
+on-key roid None = sym (at-three (suc (object_rank roid.kind)) roid.creator roid.serial 0 0 0 ∙ (λ i. zero-suc (object_rank roid.kind) i && ((0 == roid.creator) && (0 == roid.serial))))
+on-key roid (Some other) =
+    sym (at-three (suc (object_rank roid.kind)) roid.creator roid.serial (suc (object_rank other.kind)) other.creator other.serial
+    ∙ (λ i. suc-suc (object_rank other.kind) (object_rank roid.kind) i && ((other.creator == roid.creator) && (other.serial == roid.serial))))
+
+abbrev key_of : Roid → List ℕ
+key_of roid = roid_numbers (Some roid)
+
+on-group : (roid : Roid) (key : List ℕ) (l : Line) (b : Bool) → at (key_of roid) key ≡ b → IsUnder key l → is_on roid l ≡ b
+on-group roid key l b e h = on-key roid l.roid ∙ ap (at (key_of roid)) h.domain ∙ e
+
+filter-group : (roid : Roid) (key : List ℕ) (ls : List Line) (b : Bool) → at (key_of roid) key ≡ b → AllByRecursion (IsUnder key) ls → filter (is_on roid) ls ≡ cond b ls []
+filter-group roid key [] true e group = refl
+filter-group roid key [] false e group = refl
+filter-group roid key (l ∷ ls) true e group = (λ i. cond (on-group roid key l true e group.0 i) (l ∷ filter (is_on roid) ls) (filter (is_on roid) ls)) ∙ ap (λ ms. l ∷ ms) (filter-group roid key ls true e group.1)
+filter-group roid key (l ∷ ls) false e group = (λ i. cond (on-group roid key l false e group.0 i) (l ∷ filter (is_on roid) ls) (filter (is_on roid) ls)) ∙ filter-group roid key ls false e group.1
+
+-- no group but one has lines on a domain
+filter-none : (roid : Roid) (gs : List (List ℕ × List Line)) → AllByRecursion IsGroup gs → NonePasses (at (key_of roid)) gs → filter (is_on roid) (all_lines gs) ≡ []
+filter-none roid [] groups none = refl
+filter-none roid (g ∷ gs) groups none =
+    filter-append (is_on roid) g.1 (all_lines gs)
+    ∙ (λ i. filter-group roid g.0 g.1 false none.0 groups.0 i ++ filter-none roid gs groups.1 none.1 i)
+
+numbers_equiv : IsEquivalence (eq_by_cmp by_numbers)
+numbers_equiv = eq_by_cmp_equiv nat_list_cmp_total
+
+append-nil : (ls : List Line) → ls ++ [] ≡ ls
+append-nil [] = refl
+append-nil (l ∷ ls) = ap (λ ms. l ∷ ms) (append-nil ls)
+
+filter-at : (roid : Roid) (g : List ℕ × List Line) (gs : List (List ℕ × List Line)) (b : Bool) → at (key_of roid) g.0 ≡ b → AllByRecursion IsGroup (g ∷ gs) → IsDistinct (eq_by_cmp by_numbers) (keys_of (g ∷ gs))
+    → filter (is_on roid) (all_lines gs) ≡ unwrap_or (lookup (at (key_of roid)) gs) []
+    → (filter (is_on roid) g.1 ++ filter (is_on roid) (all_lines gs)) ≡ unwrap_or (cond b (Some g.1) (lookup (at (key_of roid)) gs)) []
+filter-at roid g gs true e groups apart ih =
+    (λ i. filter-group roid g.0 g.1 true e groups.0 i ++ filter-none roid gs groups.1 (none_past_head numbers_equiv (key_of roid) g gs apart e) i) ∙ append-nil g.1
+filter-at roid g gs false e groups apart ih = (λ i. filter-group roid g.0 g.1 false e groups.0 i ++ ih i)
+
+filter-found : (roid : Roid) (gs : List (List ℕ × List Line)) → AllByRecursion IsGroup gs → IsDistinct (eq_by_cmp by_numbers) (keys_of gs)
+    → filter (is_on roid) (all_lines gs) ≡ unwrap_or (lookup (at (key_of roid)) gs) []
+filter-found roid [] groups apart = refl
+filter-found roid (g ∷ gs) groups apart =
+    filter-append (is_on roid) g.1 (all_lines gs)
+    ∙ filter-at roid g gs (at (key_of roid) g.0) refl groups apart (filter-found roid gs groups.1 (IsDistinct-tail (eq_by_cmp by_numbers) g.0 (keys_of gs) apart))
+
+-- the lines on a domain are those of its group
+pub on-found : (roid : Roid) (key : List ℕ) (gs : List (List ℕ × List Line)) (group : Option (List Line)) → IsGrouped gs → key ≡ key_of roid → group ≡ lookup (at key) gs
+    → bag (unwrap_or group []) ≡ filter (is_on roid) (bag (all_lines gs))
+on-found roid key gs group h k e =
+    ap (λ (o : Option (List Line)). bag (unwrap_or o [])) (e ∙ ap (λ (q : List ℕ). lookup (at q) gs) k)
+    ∙ ap (bag_of in_order) (sym (filter-found roid gs h.under (IsDistinct-from_sorted by_numbers (keys_of gs) h.sorted)))
+    ∙ sym (filter-bag_of in_order lines_in_order (is_on roid) (all_lines gs))
+
+-- ---- the lines on a domain made anew
+
+module _ (roid : Roid) (f : Line → Line) (elsewhere : (l : Line) → is_on roid l ≡ false → f l ≡ l) where
+  map-group : (key : List ℕ) (ls : List Line) → at (key_of roid) key ≡ false → AllByRecursion (IsUnder key) ls → map f ls ≡ ls
+  map-group key [] e group = refl
+  map-group key (l ∷ ls) e group = λ i. elsewhere l (on-group roid key l false e group.0) i ∷ map-group key ls e group.1 i
+
+  map-none : (gs : List (List ℕ × List Line)) → AllByRecursion IsGroup gs → NonePasses (at (key_of roid)) gs → map f (all_lines gs) ≡ all_lines gs
+  map-none [] groups none = refl
+  map-none (g ∷ gs) groups none = map-append f g.1 (all_lines gs) ∙ (λ i. map-group g.0 g.1 none.0 groups.0 i ++ map-none gs groups.1 none.1 i)
+
+  map-at : (g : List ℕ × List Line) (gs : List (List ℕ × List Line)) (ls : List Line) (b : Bool) → at (key_of roid) g.0 ≡ b → AllByRecursion IsGroup (g ∷ gs) → IsDistinct (eq_by_cmp by_numbers) (keys_of (g ∷ gs))
+      → cond b (Some g.1) (lookup (at (key_of roid)) gs) ≡ Some ls
+      → (lookup (at (key_of roid)) gs ≡ Some ls → all_lines (set_value (at (key_of roid)) gs (map f ls)) ≡ map f (all_lines gs))
+      → all_lines (cond b ((g.0, map f ls) ∷ gs) (g ∷ set_value (at (key_of roid)) gs (map f ls))) ≡ map f g.1 ++ map f (all_lines gs)
+  map-at g gs ls true e groups apart found ih =
+      let same : ls ≡ g.1 = cc in
+      (λ i. map f (same i) ++ sym (map-none gs groups.1 (none_past_head numbers_equiv (key_of roid) g gs apart e)) i)
+  map-at g gs ls false e groups apart found ih = (λ i. sym (map-group g.0 g.1 e groups.0) i ++ ih found i)
+
+  map-found : (gs : List (List ℕ × List Line)) (ls : List Line) → AllByRecursion IsGroup gs → IsDistinct (eq_by_cmp by_numbers) (keys_of gs) → lookup (at (key_of roid)) gs ≡ Some ls
+      → all_lines (set_value (at (key_of roid)) gs (map f ls)) ≡ map f (all_lines gs)
+  map-found [] ls groups apart e = cc
+  map-found (g ∷ gs) ls groups apart e =
+      map-at g gs ls (at (key_of roid) g.0) refl groups apart e (map-found gs ls groups.1 (IsDistinct-tail (eq_by_cmp by_numbers) g.0 (keys_of gs) apart))
+      ∙ sym (map-append f g.1 (all_lines gs))
+
+  -- where the domain has lines
+  pub remade-found : (key : List ℕ) (gs ns : List (List ℕ × List Line)) (ls ms : List Line) → IsGrouped gs → key ≡ key_of roid → Some ls ≡ lookup (at key) gs → ns ≡ set_value (at key) gs ms → ms ≡ map f ls
+      → bag (all_lines ns) ≡ remade in_order f (bag (all_lines gs))
+  remade-found key gs ns ls ms h k e n made =
+      ap (λ (m : List (List ℕ × List Line)). bag (all_lines m)) (n ∙ (λ i. set_value (at (k i)) gs (made i)))
+      ∙ ap (bag_of in_order) (map-found gs ls h.under (IsDistinct-from_sorted by_numbers (keys_of gs) h.sorted) (ap (λ (q : List ℕ). lookup (at q) gs) (sym k) ∙ sym e))
+      ∙ sym (remade-bag_of in_order lines_in_order f (all_lines gs))
+
+  -- where it has none
+  pub remade-none : (key : List ℕ) (gs : List (List ℕ × List Line)) → IsGrouped gs → key ≡ key_of roid → None ≡ lookup (at key) gs → bag (all_lines gs) ≡ remade in_order f (bag (all_lines gs))
+  remade-none key gs h k e =
+      ap (bag_of in_order) (sym (map-none gs h.under (none_passes_from_lookup (at (key_of roid)) gs (ap (λ (q : List ℕ). lookup (at q) gs) (sym k) ∙ sym e))))
+      ∙ sym (remade-bag_of in_order lines_in_order f (all_lines gs))
+
+-- ---- what a group adds to the balance
+
+gained-at : (key : List ℕ) (w : List Line) (g : List ℕ × List Line) (gs : List (List ℕ × List Line)) (ls : List Line) (b : Bool) → cond b (Some g.1) (lookup (at key) gs) ≡ Some ls
+    → (lookup (at key) gs ≡ Some ls → balance (all_lines (set_value (at key) gs w)) ≡ balance (all_lines gs) +ℤ (balance w -ℤ balance ls))
+    → balance (all_lines (cond b ((g.0, w) ∷ gs) (g ∷ set_value (at key) gs w))) ≡ balance (g.1 ++ all_lines gs) +ℤ (balance w -ℤ balance ls)
+gained-at key w g gs ls true e ih =
+    let same : balance ls ≡ balance g.1 = cc in
+    omega (arith, ints, same, balance-append w (all_lines gs), balance-append g.1 (all_lines gs))
+gained-at key w g gs ls false e ih =
+    omega (arith, ints, ih e, balance-append g.1 (all_lines (set_value (at key) gs w)), balance-append g.1 (all_lines gs))
+
+gained-all : (key : List ℕ) (w : List Line) (gs : List (List ℕ × List Line)) (ls : List Line) → lookup (at key) gs ≡ Some ls
+    → balance (all_lines (set_value (at key) gs w)) ≡ balance (all_lines gs) +ℤ (balance w -ℤ balance ls)
+gained-all key w [] ls e = cc
+gained-all key w (g ∷ gs) ls e = gained-at key w g gs ls (at key g.0) e (gained-all key w gs ls)
+
+pub gained : (key : List ℕ) (gs ns : List (List ℕ × List Line)) (ls ms : List Line) → Some ls ≡ lookup (at key) gs → ns ≡ set_value (at key) gs ms
+    → balance ms -ℤ balance ls ≡ balance (bag (all_lines ns)) -ℤ balance (bag (all_lines gs))
+gained key gs ns ls ms e n =
+    let after : balance (bag (all_lines ns)) ≡ balance (all_lines (set_value (at key) gs ms)) = balance-bag_of (all_lines ns) ∙ ap (λ (m : List (List ℕ × List Line)). balance (all_lines m)) n in
+    omega (arith, ints, after, gained-all key ms gs ls (sym e), balance-bag_of (all_lines gs))
+
+-- ---- sums fit
+
+few-at : (g : List ℕ × List Line) (gs : List (List ℕ × List Line)) (key : List ℕ) (ls : List Line) (b : Bool) → cond b (Some g.1) (lookup (at key) gs) ≡ Some ls
+    → (lookup (at key) gs ≡ Some ls → length ls ≤ length (all_lines gs)) → length ls ≤ length (g.1 ++ all_lines gs)
+few-at g gs key ls true e ih =
+    let same : length ls ≡ length g.1 = cc in
+    omega (arith, same, length-append g.1 (all_lines gs))
+few-at g gs key ls false e ih = omega (arith, ih e, length-append g.1 (all_lines gs))
+
+few-all : (key : List ℕ) (gs : List (List ℕ × List Line)) (ls : List Line) → lookup (at key) gs ≡ Some ls → length ls ≤ length (all_lines gs)
+few-all key [] ls e = cc
+few-all key (g ∷ gs) ls e = few-at g gs key ls (at key g.0) e (few-all key gs ls)
+
+length-add-step : (b : Bool) (x y : Line) (ys zs : List Line) → length zs ≡ length ys + 1 → length (cond b (x ∷ y ∷ ys) (y ∷ zs)) ≡ length (y ∷ ys) + 1
+length-add-step true x y ys zs e = omega arith
+length-add-step false x y ys zs e = omega (arith, e)
+
+pub length-add : (x : Line) (ls : List Line) → length (add in_order x ls) ≡ length ls + 1
+unfolding add
+length-add x [] = refl
+length-add x (y ∷ ys) = length-add-step (in_order x y) x y ys (add in_order x ys) (length-add x ys)
+
+pub length-bag_of : (ls : List Line) → length (bag ls) ≡ length ls
+unfolding bag_of
+length-bag_of [] = refl
+length-bag_of (l ∷ ls) = length-add l (bag ls) ∙ omega (arith, length-bag_of ls)
+
+pub length-remade : (f : Line → Line) (ls : List Line) → length (remade in_order f ls) ≡ length ls
+length-remade f ls = length-bag_of (map f ls) ∙ length-map ls f
+
+-- a group has no more lines than the bag
+pub few-found : (key : List ℕ) (gs : List (List ℕ × List Line)) (ls : List Line) → Some ls ≡ lookup (at key) gs → length ls ≤ length (bag (all_lines gs))
+few-found key gs ls e = omega (arith, few-all key gs ls (sym e), length-bag_of (all_lines gs))
+
+bounded-under : (key : List ℕ) (ls rest : List Line) → AllByRecursion (IsUnder key) ls → IsBounded rest → IsBounded (ls ++ rest)
+unfolding balance
+bounded-under key [] rest group h = h
+bounded-under key (l ∷ ls) rest group h =
+    let more : IsBounded (ls ++ rest) = bounded-under key ls rest group.1 h in
+    let bound = amount-bound l group.0.small in
+    record { low = omega (arith, ints, more.low, bound.0); high = omega (arith, ints, more.high, bound.1) }
+
+bounded-all : (gs : List (List ℕ × List Line)) → AllByRecursion IsGroup gs → IsBounded (all_lines gs)
+unfolding balance
+bounded-all [] groups = record { low = omega (arith, ints); high = omega (arith, ints) }
+bounded-all (g ∷ gs) groups = bounded-under g.0 g.1 (all_lines gs) groups.0 (bounded-all gs groups.1)
+
+pub bounded : (gs : List (List ℕ × List Line)) → AllByRecursion IsGroup gs → IsBounded (bag (all_lines gs))
+bounded gs groups =
+    let all : IsBounded (all_lines gs) = bounded-all gs groups in
+    record {
+      low = rw (length-bag_of (all_lines gs), balance-bag_of (all_lines gs)) all.low;
+      high = rw (length-bag_of (all_lines gs), balance-bag_of (all_lines gs)) all.high;
+    }
+
+-- ---- a group after a call
+
+under-push : (key : List ℕ) (ls : List Line) (x : Line) → AllByRecursion (IsUnder key) ls → IsUnder key x → AllByRecursion (IsUnder key) (ls ++ x ∷ [])
+under-push key [] x group h = (h, tt)
+under-push key (l ∷ ls) x group h = (group.0, under-push key ls x group.1 h)
+
+-- in which a line was put, if there was memory for it
+module _ {E : Type 0} (key : List ℕ) (x : Line) (gs ns : List (List ℕ × List Line)) (ls ms : List Line) (h : IsGrouped gs) (e : Some ls ≡ lookup (at key) gs) (n : ns ≡ set_value (at key) gs ms) where
+  pub push-grouped : (r : Result Unit E) → IsStrictlySortedBy by_numbers (keys_of ns) → IsUnder key x → OnOk r (ms ≡ ls ++ x ∷ []) → OnErr r (ms ≡ ls) → IsGrouped ns
+  push-grouped (Ok u) sorted under ok err =
+      let group : AllByRecursion (IsUnder key) ms = subst (AllByRecursion (IsUnder key)) (sym ok) (under-push key ls x (found key gs ls h.under (sym e)) under) in
+      record { sorted = sorted; under = subst (AllByRecursion IsGroup) (sym n) (groups-set_value key ms gs h.under group) }
+  push-grouped (Err u) sorted under ok err =
+      let group : AllByRecursion (IsUnder key) ms = subst (AllByRecursion (IsUnder key)) (sym err) (found key gs ls h.under (sym e)) in
+      record { sorted = sorted; under = subst (AllByRecursion IsGroup) (sym n) (groups-set_value key ms gs h.under group) }
+
+  pub push-ok : (r : Result Unit E) → OnOk r (ms ≡ ls ++ x ∷ []) → OnOk r (bag (all_lines ns) ≡ add in_order x (bag (all_lines gs)))
+  push-ok (Ok u) ok = ap (λ (m : List (List ℕ × List Line)). bag (all_lines m)) (n ∙ ap (set_value (at key) gs) ok) ∙ pushed key x gs ls (sym e)
+  push-ok (Err u) ok = ok
+
+  pub push-err : (r : Result Unit E) → OnErr r (ms ≡ ls) → OnErr r (bag (all_lines ns) ≡ bag (all_lines gs))
+  push-err (Ok u) err = err
+  push-err (Err u) err = ap (λ (m : List (List ℕ × List Line)). bag (all_lines m)) (n ∙ ap (set_value (at key) gs) err ∙ set_value_same (at key) gs ls (sym e))
+
+pub bounded-on : {X E : Type 0} (r : Result X E) (gs : List (List ℕ × List Line)) → IsGrouped gs → OnOk r (IsBounded (bag (all_lines gs)))
+bounded-on (Ok u) gs h = bounded gs h.under
+bounded-on (Err u) gs h = tt
+
+-- of its own
+pub insert-grouped : (key : List ℕ) (x : Line) (gs ns : List (List ℕ × List Line)) (ms : List Line) → IsGrouped gs → ns ≡ insert_entry by_numbers gs key ms → IsStrictlySortedBy by_numbers (keys_of ns) → IsUnder key x → ms ≡ x ∷ [] → IsGrouped ns
+insert-grouped key x gs ns ms h n sorted under e =
+    let group : AllByRecursion (IsUnder key) ms = subst (AllByRecursion (IsUnder key)) (sym e) (under, tt) in
+    record { sorted = sorted; under = subst (AllByRecursion IsGroup) (sym n) (groups-insert_entry key ms gs h.under group) }
+
+pub insert-bag : (key : List ℕ) (x : Line) (gs ns : List (List ℕ × List Line)) (ms : List Line) → None ≡ lookup (at key) gs → ns ≡ insert_entry by_numbers gs key ms → ms ≡ x ∷ [] → bag (all_lines ns) ≡ add in_order x (bag (all_lines gs))
+insert-bag key x gs ns ms none n e = ap (λ (m : List (List ℕ × List Line)). bag (all_lines m)) (n ∙ ap (insert_entry by_numbers gs key) e) ∙ inserted key x gs (sym none)
+
+-- in which each line was made anew
+all-under : (f : Line → Line) → ((l : Line) → (f l).roid ≡ l.roid) → (key : List ℕ) (ls : List Line) → AllByRecursion (IsUnder key) ls → AllByRecursion IsSmall (map f ls) → AllByRecursion (IsUnder key) (map f ls)
+all-under f stays key [] group small = tt
+all-under f stays key (l ∷ ls) group small = (record { domain = ap roid_numbers (stays l) ∙ group.0.domain; small = small.0 }, all-under f stays key ls group.1 small.1)
+
+pub remade-grouped : (f : Line → Line) → ((l : Line) → (f l).roid ≡ l.roid) → (key : List ℕ) (gs ns : List (List ℕ × List Line)) (ls ms : List Line) → IsGrouped gs → Some ls ≡ lookup (at key) gs → ns ≡ set_value (at key) gs ms
+    → IsStrictlySortedBy by_numbers (keys_of ns) → ms ≡ map f ls → All IsSmall ms → IsGrouped ns
+remade-grouped f stays key gs ns ls ms h e n sorted made small =
+    let smalls : AllByRecursion IsSmall (map f ls) = recursion_from_All IsSmall (map f ls) (subst (All IsSmall) made small) in
+    let group : AllByRecursion (IsUnder key) ms = subst (AllByRecursion (IsUnder key)) (sym made) (all-under f stays key ls (found key gs ls h.under (sym e)) smalls) in
+    record { sorted = sorted; under = subst (AllByRecursion IsGroup) (sym n) (groups-set_value key ms gs h.under group) }
+
+-- ---- sums in 128 bits
+
+pub fits : (z : ℤ) → (pos 0 -ℤ pos 170_141_183_460_469_231_731_687_303_715_884_105_728) ≤ℤ z → z ≤ℤ pos 170_141_183_460_469_231_731_687_303_715_884_105_727 → saturate_signed w128 z ≡ z
+fits (pos n) low high = ap pos (omega (arith, ints, high))
+fits (negsuc n) low high = ap negsuc (omega (arith, ints, low))
+
+bounded-small : (ls : List Line) → AllByRecursion IsSmall ls → IsBounded ls
+unfolding balance
+bounded-small [] small = record { low = omega (arith, ints); high = omega (arith, ints) }
+bounded-small (l ∷ ls) small =
+    let more : IsBounded ls = bounded-small ls small.1 in
+    let bound = amount-bound l small.0 in
+    record { low = omega (arith, ints, more.low, bound.0); high = omega (arith, ints, more.high, bound.1) }
+
+-- what a few lines gain
+pub gain-fits : (old new : List Line) (a b r : ℤ) → length old < 4_611_686_018_427_387_904 → length new ≡ length old → All IsSmall old → All IsSmall new
+    → a ≡ balance old → b ≡ balance new → r ≡ saturate_signed w128 (b -ℤ a) → r ≡ balance new -ℤ balance old
+gain-fits old new a b r few same small-old small-new e f sat =
+    let before : IsBounded old = bounded-small old (recursion_from_All IsSmall old small-old) in
+    let after : IsBounded new = bounded-small new (recursion_from_All IsSmall new small-new) in
+    sat ∙ ap (saturate_signed w128) (λ i. f i -ℤ e i) ∙ fits (balance new -ℤ balance old) (omega (arith, ints, before.low, before.high, after.low, after.high, few, same)) (omega (arith, ints, before.low, before.high, after.low, after.high, few, same))
+
+-- a sum is kept by what is gained
+pub sum-fits : (old new : List Line) (all gain r : ℤ) → length new < 4_611_686_018_427_387_904 → IsBounded new → all ≡ balance old → balance new ≡ balance old +ℤ gain → r ≡ saturate_signed w128 (all +ℤ gain) → r ≡ balance new
+sum-fits old new all gain r few bounded e more sat =
+    sat ∙ ap (saturate_signed w128) (ap (λ z. z +ℤ gain) e ∙ sym more) ∙ fits (balance new) (omega (arith, ints, bounded.low, few)) (omega (arith, ints, bounded.high, few))

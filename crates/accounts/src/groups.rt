@@ -1,0 +1,188 @@
+//! Lines by the domains that they are for.
+ghost use Rattle.std.specs.Prelude.{◌≡◌, ◌<◌, ◌++◌, ◌∷◌, [], length, map, IfOk, OnOk, OnErr, ◌-ℤ◌};
+ghost use Rattle.std.specs.List.{All, filter};
+ghost use Rattle.basis.specs.Bag.{add, bag_of, remade};
+ghost use Rattle.accounts.specs.Groups.{IsBounded, IsSmall};
+ghost use Rattle.accounts.specs.Lines as spec;
+ghost use Rattle.accounts.specs.Lines.{in_order};
+
+use crate::line::{Line, LineChange, object_rank};
+use objects::Roid;
+use std::alloc::{AllocError, Global};
+use std::collections::BTreeMap;
+use std::marker::Model;
+
+/// Lines in the order in which they came.
+#[derive(Drop)]
+struct Group {
+    lines: Vec<Line>,
+}
+
+impl Model for Group {
+    ghost use Rattle.std.specs.Prelude.{List};
+    ghost use Rattle.accounts.specs.declared.line.Line.{Line};
+
+    ghost Value = { List Line };
+
+    ghost view = { λ g. g.lines.items };
+}
+
+impl Clone for Group {
+    ghost is_clone = { λ group copy. copy ≡ group };
+
+    fn clone(&self) -> Result<Group, AllocError> {
+        Ok(Group {
+            lines: self.lines.clone()?,
+        })
+    }
+}
+
+impl Group {
+    fn new(alloc: Global) -> Group
+        ensures { result ≡ [] }
+    {
+        Group {
+            lines: Vec::new(alloc),
+        }
+    }
+
+    fn push(&mut self, line: Line) -> Result<(), AllocError>
+        ensures ok { OnOk result (self.new ≡ self.old ++ line ∷ []) }
+        ensures err { OnErr result (self.new ≡ self.old) }
+        ensures small { IsSmall line }
+    {
+        // Names a field of the line for the borrow checker.
+        let line = Line {
+            started: line.started,
+            ..line
+        };
+        self.lines.push(line)?;
+        Ok(())
+    }
+
+    /// Makes each line what the change makes of it, and gives what that adds to their sum.
+    fn remake<C: LineChange>(&mut self, change: &C) -> i128
+        ensures value { self.new ≡ map (C.changed change.now) self.old }
+        ensures small { All IsSmall self.new }
+        ensures gain { length self.old < 4_611_686_018_427_387_904 → result ≡ spec.balance self.new -ℤ spec.balance self.old }
+    {
+        let before = sum(&self.lines);
+        remake_each(&mut self.lines, change);
+        sum(&self.lines).saturating_sub(before)
+    }
+}
+
+fn remake_each<C: LineChange>(lines: &mut [Line], change: &C)
+    ensures { lines.new ≡ map (C.changed change.now) lines.old }
+{
+    for line in lines.iter_mut() {
+        *line = change.changed(*line);
+    }
+}
+
+/// What the lines add up to.
+fn sum(lines: &[Line]) -> i128
+    ensures small { All IsSmall lines.now }
+    ensures sum { length lines.now < 4_611_686_018_427_387_904 → result ≡ spec.balance lines.now }
+{
+    let mut all: i128 = 0;
+    for line in lines {
+        all = all.saturating_add(line.amount());
+    }
+    all
+}
+
+/// The key of a domain's lines, and of those of none.
+fn key_of(roid: &Option<Roid>) -> [u64; 3]
+    ensures { result ≡ spec.roid_numbers roid.now }
+{
+    match roid {
+        None => [0, 0, 0],
+        Some(roid) => [
+            1 + u64::from(object_rank(roid.kind)),
+            u64::from(roid.creator.place()),
+            roid.serial,
+        ],
+    }
+}
+
+/// A bag of lines. Those of one domain are found by a look-up.
+#[derive(Drop)]
+pub(crate) struct Groups {
+    alloc: Global,
+    groups: BTreeMap<[u64; 3], Group>,
+}
+
+impl Model for Groups {
+    ghost use Rattle.std.specs.Prelude.{List};
+    ghost use Rattle.basis.specs.Bag.{bag_of};
+    ghost use Rattle.accounts.specs.Groups.{IsGrouped, all_lines};
+    ghost use Rattle.accounts.specs.Lines.{in_order};
+    ghost use Rattle.accounts.specs.declared.line.Line.{Line};
+
+    ghost Value = { List Line };
+
+    ghost view = { λ g. bag_of in_order (all_lines g.groups.entries) };
+
+    ghost invariant = { λ g. IsGrouped g.groups.entries };
+}
+
+impl Clone for Groups {
+    ghost is_clone = { λ groups copy. copy ≡ groups };
+
+    fn clone(&self) -> Result<Groups, AllocError> {
+        Ok(Groups {
+            alloc: self.alloc,
+            groups: self.groups.clone()?,
+        })
+    }
+}
+
+impl Groups {
+    pub(crate) fn new(alloc: Global) -> Groups
+        ensures { result ≡ [] }
+    {
+        Groups {
+            alloc,
+            groups: BTreeMap::new(alloc),
+        }
+    }
+
+    /// The lines on a domain, in the order in which they came.
+    pub(crate) fn on(&self, roid: &Roid) -> &[Line]
+        ensures { bag_of in_order result.now ≡ filter (spec.is_on roid.now) self.now }
+    {
+        match self.groups.get(&key_of(&Some(*roid))) {
+            Some(group) => &group.lines,
+            None => &[],
+        }
+    }
+
+    pub(crate) fn add(&mut self, line: Line) -> Result<(), AllocError>
+        ensures ok { OnOk result (self.new ≡ add in_order line self.old) }
+        ensures err { OnErr result (self.new ≡ self.old) }
+        ensures bounded { OnOk result (IsBounded self.new) }
+    {
+        let key = key_of(&line.roid);
+        if let Some(group) = self.groups.get_mut(&key) {
+            return group.push(line);
+        }
+        let mut group = Group::new(self.alloc);
+        group.push(line)?;
+        self.groups.insert(key, group)?;
+        Ok(())
+    }
+
+    /// Makes each line what the change makes of it, and gives what that adds to their sum. It goes
+    /// over the lines of the change's domain alone.
+    pub(crate) fn remake<C: LineChange>(&mut self, change: &C) -> i128
+        ensures value { self.new ≡ remade in_order (C.changed change.now) self.old }
+        ensures bounded { IsBounded self.new }
+        ensures gain { length self.old < 4_611_686_018_427_387_904 → result ≡ spec.balance self.new -ℤ spec.balance self.old }
+    {
+        let Some(group) = self.groups.get_mut(&key_of(&Some(change.domain()))) else {
+            return 0;
+        };
+        group.remake(change)
+    }
+}
