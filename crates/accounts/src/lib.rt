@@ -1,8 +1,8 @@
 //! The accounts of registrars: lines of money, a queue of messages, and counters.
 //!
-//! A bag of [`Lines`] has no order of its own, finds those of a domain by a look-up and keeps their
-//! sum; a [`Queue`] is in the order of its messages. What time
-//! alone does to an account is a [`LapseEntry`], and entries commute.
+//! A bag of [`Lines`] has no order of its own: it keeps its sum, and finds those of a domain by a
+//! look-up. A [`Queue`] is in the order of its messages. What time alone does to an account is a
+//! [`LapseEntry`], and entries commute.
 #![tactic(auto)]
 
 mod account;

@@ -1,20 +1,36 @@
--- Graces don't hang on the order of lines.
-use Rattle.std.proofs.Common.{◌≡◌, ℕ, List, Option}
+-- Graces hang on the lines of the domain alone, and not on their order.
+use Rattle.std.proofs.Common.{◌≡◌, ℕ, Bool, true, false, cond, ◌||◌, List, [], ◌∷◌, Option, refl, sym, ap, ◌∙◌}
+use Rattle.std.specs.List.{filter, list_any}
 use Rattle.accounts.specs.declared.line.Line.{Line}
+use Rattle.accounts.specs.declared.line.LineKind.{LineKind}
 use Rattle.accounts.specs.declared.line.LineKind.TheVariants as kinds
-use Rattle.accounts.specs.Lines.{in_order}
+use Rattle.accounts.specs.LineChanges.{unasked}
+use Rattle.accounts.specs.Lines.{in_order, is_kind, is_on}
 use Rattle.basis.specs.Bag.{bag_of}
 use Rattle.basis.proofs.BagLaws.{any-bag_of}
-use Rattle.objects.specs.declared.grace.Graces.{Graces}
 use Rattle.objects.specs.declared.roid.Roid.{Roid}
 use Rattle.policy.specs.Rules.{PolicyRules}
 use Rattle.lifecycle.specs.Graces.{graces, gives}
 
-pub graces-bag_of : (p : PolicyRules) (t : ℕ) (roid : Roid) (since : Option ℕ) (lines : List Line) → graces p t roid since (bag_of in_order lines) ≡ graces p t roid since lines
+any-cons : (test : Line → Bool) (l : Line) (ls rest : List Line) (b : Bool) → (b ≡ false → test l ≡ false) → list_any test rest ≡ list_any test ls → list_any test (cond b (l ∷ rest) rest) ≡ list_any test (l ∷ ls)
+any-cons test l ls rest true out ih = ap (λ b. test l || b) ih
+any-cons test l ls rest false out ih = ih ∙ sym (ap (λ b. b || list_any test ls) (out refl))
+
+-- what no other item passes is asked of a part alone
+any-filter : (test part : Line → Bool) → ((l : Line) → part l ≡ false → test l ≡ false) → (ls : List Line) → list_any test (filter part ls) ≡ list_any test ls
+any-filter test part out [] = refl
+any-filter test part out (l ∷ ls) = any-cons test l ls (filter part ls) (part l) (out l) (any-filter test part out ls)
+
+on-domain : (p : PolicyRules) (t : ℕ) (roid : Roid) (since : Option ℕ) (kind : LineKind) (lines bag : List Line) → bag_of in_order lines ≡ filter (is_on roid) bag → list_any (gives kind p t roid since) lines ≡ list_any (gives kind p t roid since) bag
+on-domain p t roid since kind lines bag e =
+    sym (any-bag_of in_order (gives kind p t roid since) lines) ∙ ap (list_any (gives kind p t roid since)) e
+    ∙ any-filter (gives kind p t roid since) (is_on roid) (λ l out. unasked (is_kind l.kind kind) (is_on roid l) _ out) bag
+
+pub graces-on : (p : PolicyRules) (t : ℕ) (roid : Roid) (since : Option ℕ) (lines bag : List Line) → bag_of in_order lines ≡ filter (is_on roid) bag → graces p t roid since lines ≡ graces p t roid since bag
 unfolding graces
-graces-bag_of p t roid since lines = λ i. record {
-  add = any-bag_of in_order (gives kinds.Create p t roid since) lines i;
-  auto_renew = any-bag_of in_order (gives kinds.AutoRenew p t roid since) lines i;
-  renew = any-bag_of in_order (gives kinds.Renew p t roid since) lines i;
-  transfer = any-bag_of in_order (gives kinds.Transfer p t roid since) lines i;
+graces-on p t roid since lines bag e = λ i. record {
+  add = on-domain p t roid since kinds.Create lines bag e i;
+  auto_renew = on-domain p t roid since kinds.AutoRenew lines bag e i;
+  renew = on-domain p t roid since kinds.Renew lines bag e i;
+  transfer = on-domain p t roid since kinds.Transfer lines bag e i;
 }

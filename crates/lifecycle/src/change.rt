@@ -55,8 +55,19 @@ struct RefundUnder<'a> {
 
 impl LineChange for RefundUnder<'_> {
     ghost use Rattle.lifecycle.specs.Changes.{refunded_under};
+    ghost use Rattle.lifecycle.specs.Refunds.{refund-elsewhere, refund-stays};
+
+    ghost domain = { λ r. r.refund.roid };
 
     ghost changed = { refunded_under };
+
+    ghost elsewhere = { refund-elsewhere };
+
+    ghost stays = { refund-stays };
+
+    fn domain(&self) -> Roid {
+        self.refund.roid
+    }
 
     fn changed(&self, line: Line) -> Line {
         let refund = &self.refund;

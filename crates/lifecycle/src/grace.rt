@@ -78,7 +78,7 @@ fn has_grace(
     })
 }
 
-/// The graces that its sponsor's lines give a domain. It goes over all of them.
+/// The graces that these lines give a domain.
 #[tactic(auto, unfolding(crate::specs::Graces::graces))]
 pub fn graces(domain: &Domain, lines: &[Line], moment: Moment, policy: &Policy) -> Graces
     ensures { result ≡ spec.graces policy.now moment domain.now.roid domain.now.transferred lines.now }
@@ -91,11 +91,11 @@ pub fn graces(domain: &Domain, lines: &[Line], moment: Moment, policy: &Policy) 
     }
 }
 
-/// The same of a bag.
+/// The graces that its sponsor's lines give a domain. It goes over those of the domain alone.
 fn graces_by(domain: &Domain, lines: &Lines, moment: Moment, policy: &Policy) -> Graces
     ensures { result ≡ spec.graces policy.now moment domain.now.roid domain.now.transferred lines.now }
 {
-    graces(domain, lines.as_slice(), moment, policy)
+    graces(domain, lines.on(&domain.roid), moment, policy)
 }
 
 /// The graces and the phase of a domain whose sponsor has this account, or none.
