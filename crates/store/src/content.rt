@@ -60,7 +60,7 @@ impl Content {
     }
 }
 
-/// What an account has, where the command asks. All its lines are gone through then.
+/// What an account has, where the command asks.
 #[tactic(auto, unfolding(accounts::specs::Lines::balance))]
 fn known_balance(account: Option<&Account>, command: &Command) -> i128
     ensures { result ≡ (if requests.asked false requests.reads_balance command.now then balance (lines_of (option_copied account.entry)) else pos 0) }
