@@ -4,4 +4,4 @@ pub mod Phases
 pub mod Graces
 pub mod Lapse
 pub mod Changes
-pub mod Refunds
+pub mod Untouched

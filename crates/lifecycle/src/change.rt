@@ -55,7 +55,7 @@ struct RefundUnder<'a> {
 
 impl LineChange for RefundUnder<'_> {
     ghost use Rattle.lifecycle.specs.Changes.{refunded_under};
-    ghost use Rattle.lifecycle.specs.Refunds.{refund-elsewhere, refund-stays};
+    ghost use Rattle.lifecycle.specs.Untouched.{refund-elsewhere, refund-stays};
 
     ghost domain = { λ r. r.refund.roid };
 
