@@ -5,3 +5,4 @@ pub mod PastLemmas
 pub mod DueLaws
 pub mod ContactLaws
 pub mod GraceLaws
+pub mod RefundLaws

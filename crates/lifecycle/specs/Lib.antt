@@ -5,3 +5,4 @@ pub mod Graces
 pub mod Lapse
 pub mod Changes
 pub mod Untouched
+pub mod Refunds

@@ -13,6 +13,7 @@ mod due;
 mod grace;
 mod lapsed;
 mod period;
+mod refund;
 mod renewal;
 
 pub use change::{AccountChange, Notification, RunningRefund, change_account};
@@ -23,3 +24,4 @@ pub use due::{contact_due_at, due_at};
 pub use grace::{graces, runs, standing};
 pub use lapsed::Lapsed;
 pub use period::{end_of, is_within};
+pub use refund::{GivenBack, given_back};

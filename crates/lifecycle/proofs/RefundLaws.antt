@@ -1,0 +1,113 @@
+-- What is given back is what the balance rises by, and it is given back once.
+use Rattle.std.proofs.Common.{◌≡◌, ℕ, ◌+◌, Bool, true, false, cond, not, ◌&&◌, List, [], ◌∷◌, map, Option, Some, None, is_some, refl, sym, ap, ◌∙◌, arith, ℤ, pos, ◌+ℤ◌}
+use Rattle.std.specs.List.{sum_by}
+use Rattle.std.proofs.lemmas.Bool.{and_parts}
+use Rattle.std.proofs.lemmas.Int.{ints}
+use Rattle.std.proofs.lemmas.List.Sums.{sum_by-cons}
+use Rattle.accounts.specs.declared.line.Line.{Line}
+use Rattle.accounts.specs.declared.line.LineKind.{LineKind}
+use Rattle.accounts.specs.declared.line.LineKind.TheVariants as kinds
+use Rattle.accounts.specs.Lines.{amount, amount_of, balance, in_order, is_kind, is_on}
+use Rattle.accounts.proofs.LineLaws.{balance-bag_of}
+use Rattle.basis.specs.Bag.{add, bag_of, remade}
+use Rattle.policy.specs.Rules.{PolicyRules}
+use Rattle.lifecycle.specs.declared.change.RunningRefund.{RunningRefund}
+use Rattle.lifecycle.specs.declared.refund.GivenBack.{GivenBack}
+use Rattle.lifecycle.specs.Changes.{refunded_by}
+use Rattle.lifecycle.specs.Graces.{period_of, runs, runs_from}
+use Rattle.lifecycle.specs.Refunds.{IsGivenBack, cents_back, given_back, is_given_back, nothing, years_back}
+
+-- ---- sums over bags
+
+module _ {A : Type 0} (f : A → ℕ) (le : A → A → Bool) where
+  add-placed : (b : Bool) (x y : A) (ys zs : List A) → sum_by f zs ≡ f x + sum_by f ys → sum_by f (cond b (x ∷ y ∷ ys) (y ∷ zs)) ≡ f x + sum_by f (y ∷ ys)
+  add-placed true x y ys zs e = sum_by-cons f x (y ∷ ys)
+  add-placed false x y ys zs e = sum_by-cons f y zs ∙ omega (arith, e, sum_by-cons f y ys)
+
+  sum-add : (x : A) (ys : List A) → sum_by f (add le x ys) ≡ f x + sum_by f ys
+  unfolding add
+  sum-add x [] = sum_by-cons f x []
+  sum-add x (y ∷ ys) = add-placed (le x y) x y ys (add le x ys) (sum-add x ys)
+
+  pub sum-bag_of : (xs : List A) → sum_by f (bag_of le xs) ≡ sum_by f xs
+  unfolding bag_of
+  sum-bag_of [] = refl
+  sum-bag_of (x ∷ xs) = sum-add x (bag_of le xs) ∙ ap (λ n. f x + n) (sum-bag_of xs) ∙ sym (sum_by-cons f x xs)
+
+  sum-none : {B : Type 0} (g : B → A) → ((x : B) → f (g x) ≡ 0) → (xs : List B) → sum_by f (map g xs) ≡ 0
+  sum-none g none [] = refl
+  sum-none g none (x ∷ xs) = sum_by-cons f (g x) (map g xs) ∙ omega (arith, none x, sum-none g none xs)
+
+-- ---- one line
+
+-- a deposit has no grace
+not-deposit : (p : PolicyRules) (t : ℕ) (since started : Option ℕ) (kind : LineKind) → runs_from p t since started (period_of kind) ≡ true → is_kind kind kinds.Deposit ≡ false
+not-deposit p t since None kind e = absurd cc
+not-deposit p t since (Some start) kinds.Deposit e = absurd cc
+not-deposit p t since (Some start) kinds.Create e = refl
+not-deposit p t since (Some start) kinds.Renew e = refl
+not-deposit p t since (Some start) kinds.AutoRenew e = refl
+not-deposit p t since (Some start) kinds.Transfer e = refl
+not-deposit p t since (Some start) kinds.Restore e = refl
+
+unset : (b : Bool) → not b ≡ true → b ≡ false
+unset true e = absurd cc
+unset false e = refl
+
+never : (b rest : Bool) → (b && (false && rest)) ≡ false
+never true rest = refl
+never false rest = refl
+
+-- a charge that wasn't given back rises by its cents
+rises-charge : (deposit refunded : Bool) (cents : ℕ) → deposit ≡ false → refunded ≡ false → amount_of deposit true cents ≡ amount_of deposit refunded cents +ℤ pos cents
+rises-charge true refunded cents charge open_still = absurd cc
+rises-charge false true cents charge open_still = absurd cc
+rises-charge false false cents charge open_still = omega (arith, ints)
+
+module _ (p : PolicyRules) (r : RunningRefund) where
+  abbrev back : Line → Line
+  back = refunded_by p r
+
+  amount-rises : (l : Line) → amount (back l) ≡ amount l +ℤ pos (cents_back p r l)
+  amount-rises l = by (is_given_back p r l) refl
+    where
+      by : (b : Bool) → is_given_back p r l ≡ b → amount (cond b (record l { refunded = Some r.moment }) l) ≡ amount l +ℤ pos (cond b l.cents 0)
+      by true e =
+          let parts = and_parts (is_on r.roid l) (not (is_some l.refunded) && runs_from p r.moment r.transferred l.started (period_of l.kind)) e in
+          let rest = and_parts (not (is_some l.refunded)) (runs_from p r.moment r.transferred l.started (period_of l.kind)) parts.1 in
+          rises-charge (is_kind l.kind kinds.Deposit) (is_some l.refunded) l.cents (not-deposit p r.moment r.transferred l.started l.kind rest.1) (unset (is_some l.refunded) rest.0)
+      by false e = omega (arith, ints)
+
+  not-again : (l : Line) → is_given_back p r (back l) ≡ false
+  not-again l = by (is_given_back p r l) refl
+    where
+      by : (b : Bool) → is_given_back p r l ≡ b → is_given_back p r (cond b (record l { refunded = Some r.moment }) l) ≡ false
+      by true e = never (is_on r.roid l) (runs_from p r.moment r.transferred l.started (period_of l.kind))
+      by false e = e
+
+  no-cents : (l : Line) → cents_back p r (back l) ≡ 0
+  no-cents l = ap (λ (b : Bool). cond b (back l).cents 0) (not-again l)
+
+  no-years : (l : Line) → years_back p r (back l) ≡ 0
+  no-years l = ap (λ (b : Bool). cond b (back l).years 0) (not-again l)
+
+  -- ---- all lines
+
+  all-rise : (ls : List Line) → balance (map back ls) ≡ balance ls +ℤ pos (sum_by (cents_back p r) ls)
+  unfolding balance
+  all-rise [] = omega (arith, ints)
+  all-rise (l ∷ ls) = omega (arith, ints, amount-rises l, all-rise ls, sum_by-cons (cents_back p r) l ls)
+
+  pub is-given-back : (ls : List Line) (given : GivenBack) → given ≡ given_back p r ls → IsGivenBack p r ls given
+  is-given-back ls given e = record {
+    value = e;
+    rises = balance-bag_of (map back ls) ∙ all-rise ls ∙ ap (λ (g : GivenBack). balance ls +ℤ pos g.cents) (sym e);
+    once = λ i. record {
+      cents = (sum-bag_of (cents_back p r) in_order (map back ls) ∙ sum-none (cents_back p r) in_order back no-cents ls) i;
+      years = (sum-bag_of (years_back p r) in_order (map back ls) ∙ sum-none (years_back p r) in_order back no-years ls) i;
+    };
+  }
+
+  -- what is given back doesn't hang on the order of lines
+  pub given_back-bag_of : (ls : List Line) → given_back p r (bag_of in_order ls) ≡ given_back p r ls
+  given_back-bag_of ls = λ i. record { cents = sum-bag_of (cents_back p r) in_order ls i; years = sum-bag_of (years_back p r) in_order ls i }
