@@ -15,7 +15,7 @@ use Rattle.protocol.specs.declared.command.DomainLists.{DomainLists}
 use Rattle.protocol.specs.declared.command.HostLists.{HostLists}
 use Rattle.protocol.specs.declared.command.HostUpdate.{HostUpdate}
 use Rattle.protocol.specs.declared.command.Request.{Request}
-use Rattle.protocol.specs.declared.command.Request.TheVariants.{Balance, CheckContact, CheckDomain, CheckHost, InfoContact, InfoDomain, InfoHost, CreateContact, CreateDomain, CreateHost, DeleteContact, DeleteHost, UpdateContact, UpdateDomain, UpdateHost, RenewDomain}
+use Rattle.protocol.specs.declared.command.Request.TheVariants.{Balance, CheckContact, CheckDomain, CheckHost, InfoContact, InfoDomain, InfoHost, CreateContact, CreateDomain, CreateHost, DeleteContact, DeleteDomain, DeleteHost, UpdateContact, UpdateDomain, UpdateHost, RenewDomain}
 
 -- a test of what is there, if it is
 abbrev pub holds_of : {A : Type 0} → (A → Bool) → Option A → Bool
@@ -57,7 +57,8 @@ of_host lists = record no_lists { addresses = lists.addresses; statuses = lists.
 -- registrant that a domain is to have, what its object is to have and to have no longer, the secret
 -- that is presented for it, whether the command has to know what domains name and which hosts lie
 -- below one, whether it gives its registrar one domain more to hold, whether it has to know what its
--- registrar's account has, for how many years it charges, and when it takes its domain to expire.
+-- registrar's account has, and what of it is given back where its domain is deleted, for how many
+-- years it charges, and when it takes its domain to expire.
 pub record Asks : Type 0 where
   pub action : Action
   pub contacts : List (List ℕ)
@@ -71,6 +72,7 @@ pub record Asks : Type 0 where
   pub reads_associations : Bool
   pub adds_a_held_domain : Bool
   pub reads_balance : Bool
+  pub reads_refund : Bool
   pub years : ℕ
   pub expires : Option (List ℕ)
 
@@ -88,12 +90,14 @@ only action = record {
   reads_associations = false;
   adds_a_held_domain = false;
   reads_balance = false;
+  reads_refund = false;
   years = 0;
   expires = None;
 }
 
 -- Info shows, and a delete is refused by, what hangs on the object (RFC 5731 to 5733, 3.1.2, 3.2.2).
--- What is charged needs a balance (RFC 5730, 3: 2104).
+-- What is charged needs a balance (RFC 5730, 3: 2104). What a deletion gives back hangs on the
+-- graces that run (RFC 3915, 3.1).
 abbrev pub asks_of : Request → Asks
 asks_of Balance = record (only actions.Balance) { reads_balance = true }
 asks_of (CheckContact names) = record (only actions.Check) { contacts = names }
@@ -113,6 +117,7 @@ asks_of (CreateDomain new) = record (only actions.Create) {
 }
 asks_of (CreateHost new) = record (only actions.Create) { hosts = new.name ∷ []; adds = record no_lists { addresses = new.addresses } }
 asks_of (DeleteContact name) = record (only actions.Delete) { contacts = name ∷ []; reads_associations = true }
+asks_of (DeleteDomain name) = record (only actions.Delete) { domains = name ∷ []; reads_associations = true; reads_refund = true }
 asks_of (DeleteHost name) = record (only actions.Delete) { hosts = name ∷ []; reads_associations = true }
 asks_of (UpdateContact update) = record (only actions.Update) {
   contacts = update.name ∷ [];
@@ -154,6 +159,9 @@ adds_a_held_domain request = (asks_of request).adds_a_held_domain
 
 abbrev pub reads_balance : Request → Bool
 reads_balance request = (asks_of request).reads_balance
+
+abbrev pub reads_refund : Request → Bool
+reads_refund request = (asks_of request).reads_refund
 
 -- a contact or host that a domain is to name from now on fails its test
 abbrev pub any_reference_fails : (List ℕ → Bool) → (List ℕ → Bool) → Asks → Bool

@@ -79,6 +79,10 @@ pub enum Request {
     DeleteContact {
         name: Text,
     },
+    /// A domain is to go (RFC 5731, 3.2.2).
+    DeleteDomain {
+        name: GivenName,
+    },
     /// A host is to go (RFC 5732, 3.2.2).
     DeleteHost {
         name: GivenName,
@@ -192,7 +196,9 @@ impl Request {
             Request::CreateContact(_) | Request::CreateDomain(_) | Request::CreateHost(_) => {
                 Action::Create
             }
-            Request::DeleteContact { .. } | Request::DeleteHost { .. } => Action::Delete,
+            Request::DeleteContact { .. }
+            | Request::DeleteDomain { .. }
+            | Request::DeleteHost { .. } => Action::Delete,
             Request::UpdateContact(_) | Request::UpdateDomain(_) | Request::UpdateHost(_) => {
                 Action::Update
             }
@@ -222,6 +228,7 @@ impl Request {
             Request::CheckDomain { names } => names.as_slice(),
             Request::InfoDomain { name, .. } => slice::from_ref(name),
             Request::CreateDomain(new) => slice::from_ref(&new.name),
+            Request::DeleteDomain { name } => slice::from_ref(name),
             Request::UpdateDomain(update) => slice::from_ref(&update.name),
             Request::RenewDomain { name, .. } => slice::from_ref(name),
             _ => &[],
@@ -305,6 +312,7 @@ impl Request {
                 | Request::InfoDomain { .. }
                 | Request::InfoHost { .. }
                 | Request::DeleteContact { .. }
+                | Request::DeleteDomain { .. }
                 | Request::DeleteHost { .. }
         )
     }
@@ -324,6 +332,13 @@ impl Request {
             self,
             Request::Balance | Request::CreateDomain(_) | Request::RenewDomain { .. }
         )
+    }
+
+    /// Whether it has to know what is given back where its domain is deleted.
+    fn reads_refund(&self) -> bool
+        ensures { result ≡ spec.reads_refund self.now }
+    {
+        matches!(self, Request::DeleteDomain { .. })
     }
 
     /// The secret that it presents for a domain.
@@ -437,6 +452,16 @@ impl Command {
         match self {
             Command::Bad { .. } => false,
             Command::Asked { request, .. } => request.reads_balance(),
+        }
+    }
+
+    /// Whether it has to know what is given back where its domain is deleted.
+    pub fn reads_refund(&self) -> bool
+        ensures { result ≡ spec.asked false spec.reads_refund self.now }
+    {
+        match self {
+            Command::Bad { .. } => false,
+            Command::Asked { request, .. } => request.reads_refund(),
         }
     }
 

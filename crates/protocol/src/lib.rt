@@ -19,7 +19,7 @@ pub use form::FormFault;
 pub use lists::{Lists, MOST_ADDRESSES, MOST_CONTACTS, MOST_HOSTS};
 pub use order::{Order, StatusOrder};
 pub use reply::{
-    CheckResult, ContactHidden, ContactInfo, Created, Data, DomainHidden, DomainInfo, HostInfo,
-    Reason, Renewed, Reply, SvTrid, TransferInfo,
+    CheckResult, ContactHidden, ContactInfo, Created, Data, Deleted, DomainHidden, DomainInfo,
+    HostInfo, Reason, Renewed, Reply, SvTrid, TransferInfo,
 };
 pub use years::Years;

@@ -32,6 +32,8 @@ pub enum Data {
     /// What an account has, in whole cents.
     Balance(i128),
     Renewed(Renewed),
+    /// A domain.
+    Deleted(Deleted),
     Contact(ContactInfo),
     Domain(DomainInfo),
     Host(HostInfo),
@@ -70,6 +72,14 @@ pub struct Renewed {
     pub expires: Moment,
     /// In whole cents.
     pub charge: u64,
+}
+
+/// A domain that was deleted.
+#[derive(Drop)]
+pub struct Deleted {
+    pub name: Text,
+    /// What was given back, in whole cents.
+    pub refund: u128,
 }
 
 /// What info tells of a contact.
