@@ -5,6 +5,8 @@ use Rattle.std.specs.List.{list_any}
 use Rattle.std.specs.Str.{bytes_eq}
 use Rattle.accounts.specs.declared.account.Account.{Account}
 use Rattle.accounts.specs.Lines.{balance}
+use Rattle.lifecycle.specs.declared.refund.GivenBack.{GivenBack}
+use Rattle.lifecycle.specs.Refunds.{given_back, nothing, refund_at}
 use Rattle.names.specs.GivenName.{name_of}
 use Rattle.names.specs.Zone.{ZoneRules, last_two_of, superordinate_of}
 use Rattle.objects.specs.declared.contact.Contact.{Contact}
@@ -14,6 +16,7 @@ use Rattle.objects.specs.declared.domain.DomainFace.{DomainFace}
 use Rattle.objects.specs.declared.domain.FullDomain.{FullDomain}
 use Rattle.objects.specs.declared.host.Host.{Host}
 use Rattle.objects.specs.declared.sight.Seen.{Seen}
+use Rattle.objects.specs.declared.sight.Seen.TheVariants.{Full, TransferParty, Public}
 use Rattle.objects.specs.Hosts.{is_below}
 use Rattle.objects.specs.Links.{names_contact, names_host}
 use Rattle.objects.specs.Sight.{contact_as, is_party}
@@ -28,7 +31,7 @@ use Rattle.facts.specs.declared.facts.Facts.{Facts}
 use Rattle.facts.specs.declared.facts.TheConstants.{HOLDING_LIMIT}
 use Rattle.model.specs.Registry.{Registry, account_of}
 use Rattle.model.specs.View.{domain_sight}
-use Rattle.protocol.specs.Requests.{adds_a_held_domain, asked, contacts_asked, domains_asked, hosts_asked, new_host_asked, presented, presented_contact, reads_associations, reads_balance, references_fail}
+use Rattle.protocol.specs.Requests.{adds_a_held_domain, asked, contacts_asked, domains_asked, hosts_asked, new_host_asked, presented, presented_contact, reads_associations, reads_balance, reads_refund, references_fail}
 
 -- ---- what is found in a registry
 
@@ -64,6 +67,7 @@ pub record Lookups : Type 0 where
   pub host_is_linked : List ℕ → Bool
   pub hosts_below : List ℕ → List (List ℕ)
   pub domains_held : ℕ
+  pub given_back : Domain → GivenBack
 
 -- what a registrar lookups in a registry with a command
 abbrev pub lookups : PolicyRules → ℕ → Command → Registry → Lookups
@@ -79,6 +83,7 @@ lookups p r c s = record {
   host_is_linked = is_linked_host s;
   hosts_below = subordinate s;
   domains_held = held r s;
+  given_back = λ d. given_back p (refund_at s.clock d) (account_of r s).lines;
 }
 
 -- ---- the facts
@@ -97,11 +102,23 @@ contact_facts found c name = record {
   linked = asked false reads_associations c && found.contact_is_linked name;
 }
 
+-- what the account of the one who sees a domain in full gets back for it
+abbrev pub back_for : Lookups → Option (Seen FullDomain DomainFace) → GivenBack
+back_for found None = nothing
+back_for found (Some (Full known)) = found.given_back known.domain
+back_for found (Some (TransferParty face t)) = nothing
+back_for found (Some (Public face)) = nothing
+
+-- where the command has to know it
+abbrev pub back_asked : Lookups → Command → Option (Seen FullDomain DomainFace) → GivenBack
+back_asked found c seen = if asked false reads_refund c then back_for found seen else nothing
+
 abbrev pub domain_facts : Lookups → Command → List ℕ → DomainFacts
 domain_facts found c name = record {
   name = name;
   seen = found.domain name;
   subordinate = if asked false reads_associations c then found.hosts_below name else [];
+  given_back = back_asked found c (found.domain name);
 }
 
 abbrev pub host_facts : Lookups → Command → List ℕ → HostFacts

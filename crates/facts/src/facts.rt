@@ -9,6 +9,7 @@ use accounts::saturating_next;
 use basis::list::Seq;
 use basis::registrar::RegistrarNo;
 use basis::text::Text;
+use lifecycle::GivenBack;
 use names::Zone;
 use objects::{Contact, ContactFace, DomainFace, FullDomain, Host, Seen};
 
@@ -48,12 +49,14 @@ pub struct ContactFacts {
     pub linked: bool,
 }
 
-/// What the caller sees at a domain's name, and the hosts below that name, where the command asks.
+/// What the caller sees at a domain's name, the hosts below that name, and what the caller gets back
+/// if it deletes the domain, the last two where the command asks.
 #[derive(Drop)]
 pub struct DomainFacts {
     pub name: Text,
     pub seen: Option<Seen<FullDomain, DomainFace>>,
     pub subordinate: Seq<Text>,
+    pub given_back: GivenBack,
 }
 
 /// What everyone may know of a superordinate domain.
