@@ -4,20 +4,21 @@ use Rattle.std.proofs.lemmas.Bool.{and_cases, lt-ltb}
 use Rattle.std.proofs.lemmas.Int.{ints}
 use Rattle.policy.specs.Rules.{PolicyRules}
 use Rattle.facts.specs.declared.facts.Facts.{Facts}
-use Rattle.objects.specs.declared.status.Status.TheVariants.{ClientDeleteProhibited, ClientRenewProhibited, ClientUpdateProhibited, PendingTransfer, ServerDeleteProhibited, ServerRenewProhibited, ServerUpdateProhibited}
+use Rattle.names.specs.declared.given.GivenName.{GivenName}
+use Rattle.objects.specs.declared.status.Status.TheVariants.{ClientDeleteProhibited, ClientRenewProhibited, ClientUpdateProhibited, PendingDelete, PendingTransfer, ServerDeleteProhibited, ServerRenewProhibited, ServerUpdateProhibited}
 use Rattle.protocol.specs.declared.code.Code.{Code}
 use Rattle.protocol.specs.declared.command.Action.TheVariants.{Create, Delete, Update, Renew}
 use Rattle.protocol.specs.declared.command.Command.{Command}
 use Rattle.protocol.specs.declared.command.Command.TheVariants.{Bad, Asked}
 use Rattle.protocol.specs.declared.command.Request.{Request}
-use Rattle.protocol.specs.declared.command.Request.TheVariants.{Balance, CheckContact, CheckDomain, CheckHost, InfoContact, InfoDomain, InfoHost, CreateContact, CreateDomain, CreateHost, DeleteContact, DeleteHost, UpdateContact, UpdateDomain, UpdateHost, RenewDomain}
+use Rattle.protocol.specs.declared.command.Request.TheVariants.{Balance, CheckContact, CheckDomain, CheckHost, InfoContact, InfoDomain, InfoHost, CreateContact, CreateDomain, CreateHost, DeleteContact, DeleteDomain, DeleteHost, UpdateContact, UpdateDomain, UpdateHost, RenewDomain}
 use Rattle.protocol.specs.Codes.{is_accepted}
 use Rattle.protocol.specs.Requests.{asks_of}
 use Rattle.verdict.specs.declared.rules.Condition.{Condition}
-use Rattle.verdict.specs.declared.rules.Condition.TheVariants.{IsThere, IsMissing, IsAnothers, SecretIsWrong, Shows, StillShows, IsLinked, LacksMoney}
+use Rattle.verdict.specs.declared.rules.Condition.TheVariants.{IsThere, IsMissing, IsAnothers, SecretIsWrong, Shows, StillShows, IsLinked, HasSubordinates, LacksMoney}
 use Rattle.verdict.specs.declared.verdict.Verdict.{Verdict}
 use Rattle.verdict.specs.Charges.{charge_of}
-use Rattle.verdict.specs.Conditions.{holds, is_linked, is_of_another, is_there, secret_is_wrong, shows_status, still_shows}
+use Rattle.verdict.specs.Conditions.{has_subordinates, holds, is_linked, is_of_another, is_there, secret_is_wrong, shows_status, still_shows}
 use Rattle.verdict.specs.Laws.{ActsOnObject, Alters, AnswersLawfully, IsLawful, KeepsLaws}
 use Rattle.verdict.specs.ResponseData.{response_data}
 use Rattle.verdict.specs.Rules.{refusal_of}
@@ -42,6 +43,7 @@ affordable charge balance some enough =
 module _ (p : PolicyRules) (r t : ℕ) (f : Facts) where
   sponsor-law : (q : Request) → refusal_of p r t q f ≡ None → Alters (asks_of q).action → is_of_another p.zone r q f ≡ false
   sponsor-law (DeleteContact name) taken is = unrefused p r t (DeleteContact name) f taken IsAnothers (search (inl, inr) depth 20)
+  sponsor-law (DeleteDomain name) taken is = unrefused p r t (DeleteDomain name) f taken IsAnothers (search (inl, inr) depth 20)
   sponsor-law (DeleteHost name) taken is = unrefused p r t (DeleteHost name) f taken IsAnothers (search (inl, inr) depth 20)
   sponsor-law (UpdateContact update) taken is = unrefused p r t (UpdateContact update) f taken IsAnothers (search (inl, inr) depth 20)
   sponsor-law (UpdateDomain update) taken is = unrefused p r t (UpdateDomain update) f taken IsAnothers (search (inl, inr) depth 20)
@@ -54,6 +56,7 @@ module _ (p : PolicyRules) (r t : ℕ) (f : Facts) where
   there-law (InfoDomain name secret) taken is = there-is _ (unrefused p r t (InfoDomain name secret) f taken IsMissing (search (inl, inr) depth 20))
   there-law (InfoHost name) taken is = there-is _ (unrefused p r t (InfoHost name) f taken IsMissing (search (inl, inr) depth 20))
   there-law (DeleteContact name) taken is = there-is _ (unrefused p r t (DeleteContact name) f taken IsMissing (search (inl, inr) depth 20))
+  there-law (DeleteDomain name) taken is = there-is _ (unrefused p r t (DeleteDomain name) f taken IsMissing (search (inl, inr) depth 20))
   there-law (DeleteHost name) taken is = there-is _ (unrefused p r t (DeleteHost name) f taken IsMissing (search (inl, inr) depth 20))
   there-law (UpdateContact update) taken is = there-is _ (unrefused p r t (UpdateContact update) f taken IsMissing (search (inl, inr) depth 20))
   there-law (UpdateDomain update) taken is = there-is _ (unrefused p r t (UpdateDomain update) f taken IsMissing (search (inl, inr) depth 20))
@@ -69,21 +72,35 @@ module _ (p : PolicyRules) (r t : ℕ) (f : Facts) where
 
   linked-law : (q : Request) → refusal_of p r t q f ≡ None → (asks_of q).action ≡ Delete → is_linked q f ≡ false
   linked-law (DeleteContact name) taken is = unrefused p r t (DeleteContact name) f taken IsLinked (search (inl, inr) depth 20)
+  linked-law (DeleteDomain name) taken is = refl
   linked-law (DeleteHost name) taken is = unrefused p r t (DeleteHost name) f taken IsLinked (search (inl, inr) depth 20)
   linked-law _ taken is = absurd (cc)
 
+  subordinates-law : (q : Request) → refusal_of p r t q f ≡ None → (asks_of q).action ≡ Delete → has_subordinates q f ≡ false
+  subordinates-law (DeleteContact name) taken is = refl
+  subordinates-law (DeleteDomain name) taken is = unrefused p r t (DeleteDomain name) f taken HasSubordinates (search (inl, inr) depth 20)
+  subordinates-law (DeleteHost name) taken is = refl
+  subordinates-law _ taken is = absurd (cc)
+
+  once-law : (q : Request) → refusal_of p r t q f ≡ None → (name : GivenName) → q ≡ DeleteDomain name → shows_status PendingDelete q f ≡ false
+  once-law (DeleteDomain name) taken other is = unrefused p r t (DeleteDomain name) f taken (Shows PendingDelete) (search (inl, inr) depth 20)
+  once-law _ taken other is = absurd (cc)
+
   client-delete-law : (q : Request) → refusal_of p r t q f ≡ None → (asks_of q).action ≡ Delete → shows_status ClientDeleteProhibited q f ≡ false
   client-delete-law (DeleteContact name) taken is = unrefused p r t (DeleteContact name) f taken (Shows ClientDeleteProhibited) (search (inl, inr) depth 20)
+  client-delete-law (DeleteDomain name) taken is = unrefused p r t (DeleteDomain name) f taken (Shows ClientDeleteProhibited) (search (inl, inr) depth 20)
   client-delete-law (DeleteHost name) taken is = unrefused p r t (DeleteHost name) f taken (Shows ClientDeleteProhibited) (search (inl, inr) depth 20)
   client-delete-law _ taken is = absurd (cc)
 
   server-delete-law : (q : Request) → refusal_of p r t q f ≡ None → (asks_of q).action ≡ Delete → shows_status ServerDeleteProhibited q f ≡ false
   server-delete-law (DeleteContact name) taken is = unrefused p r t (DeleteContact name) f taken (Shows ServerDeleteProhibited) (search (inl, inr) depth 20)
+  server-delete-law (DeleteDomain name) taken is = unrefused p r t (DeleteDomain name) f taken (Shows ServerDeleteProhibited) (search (inl, inr) depth 20)
   server-delete-law (DeleteHost name) taken is = unrefused p r t (DeleteHost name) f taken (Shows ServerDeleteProhibited) (search (inl, inr) depth 20)
   server-delete-law _ taken is = absurd (cc)
 
   transfer-law : (q : Request) → refusal_of p r t q f ≡ None → (asks_of q).action ≡ Delete → shows_status PendingTransfer q f ≡ false
   transfer-law (DeleteContact name) taken is = unrefused p r t (DeleteContact name) f taken (Shows PendingTransfer) (search (inl, inr) depth 20)
+  transfer-law (DeleteDomain name) taken is = unrefused p r t (DeleteDomain name) f taken (Shows PendingTransfer) (search (inl, inr) depth 20)
   transfer-law (DeleteHost name) taken is = unrefused p r t (DeleteHost name) f taken (Shows PendingTransfer) (search (inl, inr) depth 20)
   transfer-law _ taken is = absurd (cc)
 
@@ -118,6 +135,8 @@ module _ (p : PolicyRules) (r t : ℕ) (f : Facts) where
     there = there-law q taken;
     new = new-law q taken;
     linked = linked-law q taken;
+    subordinates = subordinates-law q taken;
+    deletes_once = once-law q taken;
     client_delete = client-delete-law q taken;
     server_delete = server-delete-law q taken;
     transfer = transfer-law q taken;

@@ -6,8 +6,9 @@ use Rattle.calendar.specs.Calendar.{date_of}
 use Rattle.calendar.specs.Moment.{plus_years}
 use Rattle.calendar.specs.Text.{date_text}
 use Rattle.facts.specs.declared.facts.Facts.{Facts}
+use Rattle.facts.specs.declared.facts.DomainFacts.{DomainFacts}
 use Rattle.facts.specs.declared.facts.HostFacts.{HostFacts}
-use Rattle.facts.specs.Facts.{contact_at, contact_seen, domain_seen, host_at, host_sponsor, is_inside, new_name_seen, or_else}
+use Rattle.facts.specs.Facts.{contact_at, contact_seen, domain_at, domain_seen, host_at, host_sponsor, is_inside, new_name_seen, or_else}
 use Rattle.facts.specs.Lists.{adds_what_is_there, has_twice, is_over, itself, kept, removes_what_is_not}
 use Rattle.names.specs.declared.given.GivenName.{GivenName}
 use Rattle.names.specs.GivenName.{name_of, is_refused}
@@ -22,7 +23,7 @@ use Rattle.objects.specs.declared.sight.Seen.{Seen}
 use Rattle.objects.specs.declared.sight.Seen.TheVariants.{Full, TransferParty, Public}
 use Rattle.objects.specs.declared.status.Status.{Status}
 use Rattle.objects.specs.Contacts.{contact_shows}
-use Rattle.objects.specs.Domains.{shown_expiry, shows}
+use Rattle.objects.specs.Domains.{is_empty, shown_expiry, shows}
 use Rattle.objects.specs.Hosts.{host_shows}
 use Rattle.objects.specs.Sight.{authorizes}
 use Rattle.objects.specs.Statuses.{has_status}
@@ -34,7 +35,7 @@ use Rattle.protocol.specs.declared.command.Request.{Request}
 use Rattle.protocol.specs.declared.lists.TheConstants.{MOST_ADDRESSES, MOST_CONTACTS, MOST_HOSTS}
 use Rattle.protocol.specs.Requests.{GivenLists, asks_of, contacts_asked, domains_asked, holds_of, hosts_asked}
 use Rattle.verdict.specs.declared.rules.Condition.{Condition}
-use Rattle.verdict.specs.declared.rules.Condition.TheVariants.{NameIsRefused, ListRepeats, IsThere, IsMissing, ReferenceIsMissing, NewNameIsTaken, SuperordinateIsMissing, IsAnothers, SuperordinateIsAnothers, SecretIsWrong, Shows, StillShows, SuperordinateIsDeleted, IsLinked, AddsWhatIsThere, RemovesWhatIsNot, LeavesTooMany, LeavesAddressesOutside, HoldsTheMost, PassesTenYears, ExpiresOtherwise, LacksMoney}
+use Rattle.verdict.specs.declared.rules.Condition.TheVariants.{NameIsRefused, ListRepeats, IsThere, IsMissing, ReferenceIsMissing, NewNameIsTaken, SuperordinateIsMissing, IsAnothers, SuperordinateIsAnothers, SecretIsWrong, Shows, StillShows, SuperordinateIsDeleted, IsLinked, HasSubordinates, AddsWhatIsThere, RemovesWhatIsNot, LeavesTooMany, LeavesAddressesOutside, HoldsTheMost, PassesTenYears, ExpiresOtherwise, LacksMoney}
 use Rattle.verdict.specs.Charges.{charge_of}
 
 -- ---- the object that a request is about: of the three at most one is there
@@ -203,6 +204,14 @@ host_is_linked q f = holds_of (λ known. known.linked) (host_known q f)
 abbrev pub is_linked : Request → Facts → Bool
 is_linked q f = contact_is_linked q f || host_is_linked q f
 
+-- ---- the hosts below a domain (RFC 5731, 3.2.2)
+
+abbrev pub domain_known : Request → Facts → Option DomainFacts
+domain_known q f = option_and_then (λ name. domain_at f (name_of name)) (slice_get (domains_asked q) 0)
+
+abbrev pub has_subordinates : Request → Facts → Bool
+has_subordinates q f = holds_of (λ known. not (is_empty known.subordinate)) (domain_known q f)
+
 -- ---- what is added and removed, against what is there
 
 -- a status of the list is set, or one isn't
@@ -321,6 +330,7 @@ holds p r t q f (Shows status) = shows_status status q f
 holds p r t q f (StillShows status) = still_shows status q f
 holds p r t q f SuperordinateIsDeleted = holds_of (superordinate_is_deleted p.zone) (host_to_be q f)
 holds p r t q f IsLinked = is_linked q f
+holds p r t q f HasSubordinates = has_subordinates q f
 holds p r t q f AddsWhatIsThere = adds_known q f
 holds p r t q f RemovesWhatIsNot = removes_unknown q f
 holds p r t q f LeavesTooMany = leaves_too_many q f

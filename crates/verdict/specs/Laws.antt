@@ -1,18 +1,20 @@
 -- What the tables keep, in the words of the standards (RFC 5730 to 5733).
 use Rattle.std.specs.Prelude.{◌≡◌, ℕ, ◌<◌, pos, ◌≤ℤ◌, true, false, None}
 use Rattle.facts.specs.declared.facts.Facts.{Facts}
-use Rattle.objects.specs.declared.status.Status.TheVariants.{ClientDeleteProhibited, ClientRenewProhibited, ClientUpdateProhibited, PendingTransfer, ServerDeleteProhibited, ServerRenewProhibited, ServerUpdateProhibited}
+use Rattle.names.specs.declared.given.GivenName.{GivenName}
+use Rattle.objects.specs.declared.status.Status.TheVariants.{ClientDeleteProhibited, ClientRenewProhibited, ClientUpdateProhibited, PendingDelete, PendingTransfer, ServerDeleteProhibited, ServerRenewProhibited, ServerUpdateProhibited}
 use Rattle.policy.specs.Rules.{PolicyRules}
 use Rattle.protocol.specs.declared.command.Action.{Action}
 use Rattle.protocol.specs.declared.command.Action.TheVariants.{Balance, Check, Info, Create, Delete, Update, Renew}
 use Rattle.protocol.specs.declared.command.Command.{Command}
 use Rattle.protocol.specs.declared.command.Command.TheVariants.{Bad, Asked}
 use Rattle.protocol.specs.declared.command.Request.{Request}
+use Rattle.protocol.specs.declared.command.Request.TheVariants.{DeleteDomain}
 use Rattle.protocol.specs.Codes.{is_accepted}
 use Rattle.protocol.specs.Requests.{asks_of}
 use Rattle.verdict.specs.declared.verdict.Verdict.{Verdict}
 use Rattle.verdict.specs.Charges.{charge_of}
-use Rattle.verdict.specs.Conditions.{is_linked, is_of_another, is_there, secret_is_wrong, shows_status, still_shows}
+use Rattle.verdict.specs.Conditions.{has_subordinates, is_linked, is_of_another, is_there, secret_is_wrong, shows_status, still_shows}
 
 -- it changes, renews or deletes an object
 abbrev pub Alters : Action → Type 0
@@ -36,13 +38,16 @@ ActsOnObject Renew = Unit {0}
 
 -- What a request that is carried out can't have met: an object of another's that it changes, renews
 -- or deletes (RFC 5731 to 5733, 3.2), no object at all, an object of the name that it creates, one
--- that is deleted while a domain names it, one whose status prohibits it (RFC 5731, 2.3), an account
--- that has less than is charged (RFC 5730, 3, code 2104).
+-- that is deleted while a domain names it, or while hosts lie below it (RFC 5731, 3.2.2), a domain
+-- that is deleted twice, an object whose status prohibits it (RFC 5731, 2.3), an account that has
+-- less than is charged (RFC 5730, 3, code 2104).
 pub record IsLawful (p : PolicyRules) (r : ℕ) (q : Request) (f : Facts) : Type 0 where
   pub sponsor : Alters (asks_of q).action → is_of_another p.zone r q f ≡ false
   pub there : ActsOnObject (asks_of q).action → is_there q f ≡ true
   pub new : (asks_of q).action ≡ Create → is_there q f ≡ false
   pub linked : (asks_of q).action ≡ Delete → is_linked q f ≡ false
+  pub subordinates : (asks_of q).action ≡ Delete → has_subordinates q f ≡ false
+  pub deletes_once : (name : GivenName) → q ≡ DeleteDomain name → shows_status PendingDelete q f ≡ false
   pub client_delete : (asks_of q).action ≡ Delete → shows_status ClientDeleteProhibited q f ≡ false
   pub server_delete : (asks_of q).action ≡ Delete → shows_status ServerDeleteProhibited q f ≡ false
   pub transfer : (asks_of q).action ≡ Delete → shows_status PendingTransfer q f ≡ false

@@ -1,6 +1,7 @@
 pub mod Refusals
 pub mod Charges
 pub mod Conditions
+pub mod Deletion
 pub mod Rules
 pub mod ResponseData
 pub mod Verdicts

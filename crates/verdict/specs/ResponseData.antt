@@ -42,6 +42,7 @@ use Rattle.facts.specs.Facts.{host_sponsor}
 use Rattle.facts.specs.Facts.{contact_at, contact_seen, domain_at, domain_seen, host_at, host_seen}
 use Rattle.verdict.specs.Charges.{charge_of}
 use Rattle.verdict.specs.Conditions.{domain_in_full, renewed_expiry}
+use Rattle.verdict.specs.Deletion.{deleted}
 
 -- the id of the registrar at a place
 abbrev pub id_of : PolicyRules → ℕ → List ℕ
@@ -169,6 +170,7 @@ response_data p r t (requests.CreateContact new) f = Some (told.Created (created
 response_data p r t (requests.CreateDomain new) f = Some (told.Created (created_domain (charge_of p (requests.CreateDomain new)) t new))
 response_data p r t (requests.CreateHost new) f = Some (told.Created (created_plain t (name_of new.name)))
 response_data p r t (requests.DeleteContact name) f = None
+response_data p r t (requests.DeleteDomain name) f = option_map told.Deleted (option_map deleted (domain_at f (name_of name)))
 response_data p r t (requests.DeleteHost name) f = None
 response_data p r t (requests.UpdateContact update) f = None
 response_data p r t (requests.UpdateDomain update) f = None

@@ -3,11 +3,11 @@ use Rattle.std.specs.Prelude.{ℕ, List, [], Option}
 use Rattle.policy.specs.Rules.{PolicyRules}
 use Rattle.protocol.specs.declared.code.Code.{Code}
 use Rattle.protocol.specs.declared.command.Request.{Request}
-use Rattle.protocol.specs.declared.command.Request.TheVariants.{Balance, CheckContact, CheckDomain, CheckHost, InfoContact, InfoDomain, InfoHost, CreateContact, CreateDomain, CreateHost, DeleteContact, DeleteHost, UpdateContact, UpdateDomain, UpdateHost, RenewDomain}
+use Rattle.protocol.specs.declared.command.Request.TheVariants.{Balance, CheckContact, CheckDomain, CheckHost, InfoContact, InfoDomain, InfoHost, CreateContact, CreateDomain, CreateHost, DeleteContact, DeleteDomain, DeleteHost, UpdateContact, UpdateDomain, UpdateHost, RenewDomain}
 use Rattle.facts.specs.declared.facts.Facts.{Facts}
 use Rattle.verdict.specs.declared.refusal.Cause.{Cause}
 use Rattle.verdict.specs.declared.rules.Condition.{Condition}
-use Rattle.verdict.specs.declared.rules.TheConstants.{CONTACT_INFO, DOMAIN_INFO, HOST_INFO, CONTACT_CREATION, DOMAIN_CREATION, HOST_CREATION, CONTACT_DELETION, HOST_DELETION, CONTACT_UPDATE, DOMAIN_UPDATE, HOST_UPDATE, DOMAIN_RENEWAL}
+use Rattle.verdict.specs.declared.rules.TheConstants.{CONTACT_INFO, DOMAIN_INFO, HOST_INFO, CONTACT_CREATION, DOMAIN_CREATION, HOST_CREATION, CONTACT_DELETION, DOMAIN_DELETION, HOST_DELETION, CONTACT_UPDATE, DOMAIN_UPDATE, HOST_UPDATE, DOMAIN_RENEWAL}
 use Rattle.verdict.specs.Conditions.{holds}
 use Rattle.verdict.specs.Refusals.{first_refusal}
 
@@ -23,6 +23,7 @@ rows_of (CreateContact new) = CONTACT_CREATION.now
 rows_of (CreateDomain new) = DOMAIN_CREATION.now
 rows_of (CreateHost new) = HOST_CREATION.now
 rows_of (DeleteContact name) = CONTACT_DELETION.now
+rows_of (DeleteDomain name) = DOMAIN_DELETION.now
 rows_of (DeleteHost name) = HOST_DELETION.now
 rows_of (UpdateContact update) = CONTACT_UPDATE.now
 rows_of (UpdateDomain update) = DOMAIN_UPDATE.now

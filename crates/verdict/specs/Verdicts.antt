@@ -8,16 +8,40 @@ use Rattle.protocol.specs.Codes.{code_of_form}
 use Rattle.protocol.specs.declared.command.Command.TheVariants.{Bad, Asked}
 use Rattle.facts.specs.declared.facts.Facts.{Facts}
 use Rattle.protocol.specs.declared.command.Request.{Request}
+use Rattle.protocol.specs.declared.command.Request.TheVariants as requests
 use Rattle.verdict.specs.declared.verdict.Verdict.{Verdict}
+use Rattle.facts.specs.Facts.{domain_seen}
+use Rattle.names.specs.GivenName.{name_of}
+use Rattle.verdict.specs.Deletion.{code_of_deletion}
 use Rattle.verdict.specs.Rules.{refusal_of}
 use Rattle.verdict.specs.ResponseData.{response_data}
 
 abbrev pub refused : Code → Verdict
 refused code = record { code = code; content = None }
 
+-- the code of a request that isn't refused
+abbrev pub code_granted : Request → Facts → Code
+code_granted requests.Balance f = Completed
+code_granted (requests.CheckContact names) f = Completed
+code_granted (requests.CheckDomain names) f = Completed
+code_granted (requests.CheckHost names) f = Completed
+code_granted (requests.InfoContact name secret) f = Completed
+code_granted (requests.InfoDomain name secret) f = Completed
+code_granted (requests.InfoHost name) f = Completed
+code_granted (requests.CreateContact new) f = Completed
+code_granted (requests.CreateDomain new) f = Completed
+code_granted (requests.CreateHost new) f = Completed
+code_granted (requests.DeleteContact name) f = Completed
+code_granted (requests.DeleteDomain name) f = code_of_deletion (domain_seen f (name_of name))
+code_granted (requests.DeleteHost name) f = Completed
+code_granted (requests.UpdateContact update) f = Completed
+code_granted (requests.UpdateDomain update) f = Completed
+code_granted (requests.UpdateHost update) f = Completed
+code_granted (requests.RenewDomain name expires years) f = Completed
+
 -- what a request is answered that isn't refused
 abbrev pub granted : PolicyRules → ℕ → ℕ → Request → Facts → Verdict
-granted p r t request f = record { code = Completed; content = response_data p r t request f }
+granted p r t request f = record { code = code_granted request f; content = response_data p r t request f }
 
 -- the code of the first refusal, or what is granted
 abbrev pub unless_refused : Option Code → Verdict → Verdict

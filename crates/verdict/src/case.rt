@@ -21,7 +21,7 @@ use crate::renewal::{expires_otherwise, passes_ten_years};
 use crate::rules::{Condition, Row, rows};
 use basis::registrar::RegistrarNo;
 use calendar::Moment;
-use facts::{ContactFacts, Facts, HostFacts, count_kept};
+use facts::{ContactFacts, DomainFacts, Facts, HostFacts, count_kept};
 use names::GivenName;
 use objects::{
     Contact, ContactFace, Domain, DomainFace, FullDomain, Host, Seen, Status, has_status,
@@ -77,6 +77,15 @@ impl<'a> Case<'a> {
         match self.request.contacts().first() {
             None => None,
             Some(name) => self.facts.contact_seen(name),
+        }
+    }
+
+    fn domain_known(&self) -> Option<&'a DomainFacts>
+        ensures { option_copied result ≡ spec.domain_known self.now.request.now self.now.facts.now }
+    {
+        match self.request.domains().first() {
+            None => None,
+            Some(name) => self.facts.domain(name.text()),
         }
     }
 
@@ -193,6 +202,15 @@ impl Case<'_> {
         }
     }
 
+    fn has_subordinates(&self) -> bool
+        ensures { result ≡ spec.has_subordinates self.now.request.now self.now.facts.now }
+    {
+        match self.domain_known() {
+            None => false,
+            Some(known) => !known.subordinate.as_slice().is_empty(),
+        }
+    }
+
     fn adds_known(&self) -> bool
         ensures { result ≡ spec.adds_known self.now.request.now self.now.facts.now }
     {
@@ -298,6 +316,7 @@ impl Case<'_> {
             Condition::StillShows(status) => self.still_shows(status),
             Condition::SuperordinateIsDeleted => superordinate_is_deleted(zone, self.host_to_be()),
             Condition::IsLinked => self.contact_is_linked() || self.host_is_linked(),
+            Condition::HasSubordinates => self.has_subordinates(),
             Condition::AddsWhatIsThere => self.adds_known(),
             Condition::RemovesWhatIsNot => self.removes_unknown(),
             Condition::LeavesTooMany => self.leaves_too_many(),

@@ -6,6 +6,7 @@ mod amended;
 mod case;
 mod charge;
 mod conditions;
+mod deletion;
 mod order;
 mod refusal;
 mod renewal;
@@ -14,12 +15,13 @@ mod rules;
 mod verdict;
 
 pub use charge::charge_of;
+pub use deletion::goes_at_once;
 pub use order::{OrderCondition, STATUS_ORDER, judge_order};
 pub use refusal::Cause;
 pub use response::id_of;
 pub use rules::{
     CONTACT_CREATION, CONTACT_DELETION, CONTACT_INFO, CONTACT_UPDATE, Condition, DOMAIN_CREATION,
-    DOMAIN_INFO, DOMAIN_RENEWAL, DOMAIN_UPDATE, HOST_CREATION, HOST_DELETION, HOST_INFO,
-    HOST_UPDATE, Row,
+    DOMAIN_DELETION, DOMAIN_INFO, DOMAIN_RENEWAL, DOMAIN_UPDATE, HOST_CREATION, HOST_DELETION,
+    HOST_INFO, HOST_UPDATE, Row,
 };
 pub use verdict::{Verdict, judge};

@@ -6,6 +6,7 @@ ghost use Rattle.verdict.specs.ResponseData as spec;
 
 use crate::case::full_domain;
 use crate::charge::charge_of;
+use crate::deletion::deleted_data;
 use crate::renewal::renewed_expiry;
 use basis::list::Seq;
 use basis::registrar::RegistrarNo;
@@ -67,6 +68,7 @@ pub(crate) fn response_data(
         Request::CreateHost(new) => {
             Ok(Some(Data::Created(created_plain(new.name.text(), moment)?)))
         }
+        Request::DeleteDomain { name } => deleted_data(facts.domain(name.text())),
         Request::RenewDomain { name, years, .. } => {
             let charge = charge_of(policy, request);
             renewed_data(charge, name, *years, facts.domain_seen(name.text()))

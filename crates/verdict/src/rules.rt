@@ -9,10 +9,11 @@ use crate::refusal::Cause::{
     NotRenewable, NotSponsor, StatusProhibits, WrongSecret,
 };
 use Condition::{
-    AddsWhatIsThere, ExpiresOtherwise, HoldsTheMost, IsAnothers, IsLinked, IsMissing, IsThere,
-    LacksMoney, LeavesAddressesOutside, LeavesTooMany, ListRepeats, NameIsRefused, NewNameIsTaken,
-    PassesTenYears, ReferenceIsMissing, RemovesWhatIsNot, SecretIsWrong, Shows, StillShows,
-    SuperordinateIsAnothers, SuperordinateIsDeleted, SuperordinateIsMissing,
+    AddsWhatIsThere, ExpiresOtherwise, HasSubordinates, HoldsTheMost, IsAnothers, IsLinked,
+    IsMissing, IsThere, LacksMoney, LeavesAddressesOutside, LeavesTooMany, ListRepeats,
+    NameIsRefused, NewNameIsTaken, PassesTenYears, ReferenceIsMissing, RemovesWhatIsNot,
+    SecretIsWrong, Shows, StillShows, SuperordinateIsAnothers, SuperordinateIsDeleted,
+    SuperordinateIsMissing,
 };
 use objects::Status::{
     self, ClientDeleteProhibited, ClientRenewProhibited, ClientUpdateProhibited, PendingDelete,
@@ -51,6 +52,8 @@ pub enum Condition {
     SuperordinateIsDeleted,
     /// A domain names the object.
     IsLinked,
+    /// There are hosts below the domain.
+    HasSubordinates,
     /// Something is added that is there.
     AddsWhatIsThere,
     /// Something is removed that isn't there.
@@ -125,6 +128,18 @@ pub const CONTACT_DELETION: &[Row] = &[
     (StatusProhibits, Shows(ClientDeleteProhibited)), // RFC 5733, 2.2
     (StatusProhibits, Shows(ServerDeleteProhibited)), // RFC 5733, 2.2
     (AssociationProhibits, IsLinked), // RFC 5733, 3.2.2
+];
+
+/// RFC 5731, 3.2.2.
+pub const DOMAIN_DELETION: &[Row] = &[
+    (BadNames, NameIsRefused), // RFC 5730, 3, code 2306
+    (Missing, IsMissing), // RFC 5730, 3, code 2303
+    (NotSponsor, IsAnothers), // RFC 5731, 3.2.2
+    (StatusProhibits, Shows(PendingDelete)), // RFC 5731, 2.3
+    (StatusProhibits, Shows(PendingTransfer)), // RFC 5731, 2.3
+    (StatusProhibits, Shows(ClientDeleteProhibited)), // RFC 5731, 2.3
+    (StatusProhibits, Shows(ServerDeleteProhibited)), // RFC 5731, 2.3
+    (AssociationProhibits, HasSubordinates), // RFC 5731, 3.2.2
 ];
 
 /// RFC 5732, 3.2.2.
@@ -216,6 +231,7 @@ pub fn rows(request: &Request) -> &'static [Row]
         Request::CreateDomain(_) => DOMAIN_CREATION,
         Request::CreateHost(_) => HOST_CREATION,
         Request::DeleteContact { .. } => CONTACT_DELETION,
+        Request::DeleteDomain { .. } => DOMAIN_DELETION,
         Request::DeleteHost { .. } => HOST_DELETION,
         Request::UpdateContact(_) => CONTACT_UPDATE,
         Request::UpdateDomain(_) => DOMAIN_UPDATE,

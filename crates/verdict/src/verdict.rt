@@ -5,6 +5,7 @@ ghost use Rattle.verdict.specs.Rules as spec;
 ghost use Rattle.verdict.specs.Verdicts.{granted, judged};
 
 use crate::case::Case;
+use crate::deletion::code_granted;
 use crate::response::response_data;
 use basis::registrar::RegistrarNo;
 use calendar::Moment;
@@ -71,7 +72,7 @@ fn grant(
     ensures { IfOk result (λ verdict. verdict ≡ granted policy.now caller moment request.now facts.now) }
 {
     Ok(Verdict {
-        code: Code::Completed,
+        code: code_granted(request, facts),
         content: response_data(alloc, facts, caller, request, moment, policy)?,
     })
 }
