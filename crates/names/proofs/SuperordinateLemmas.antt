@@ -103,24 +103,32 @@ cut_last-Some (b ∷ rest) before label e = by (cut_last rest) refl e (λ x y. c
     by (Some parts) cut some more = ap (λ l. b ∷ l) (more parts.0 parts.1 cut) ∙ ap (λ (p : List ℕ × List ℕ). p.0 ++ 46 ∷ p.1) (same_Some _ _ some)
     by None cut some more = none (is_dot b) refl some
 
-at_zone : (zone : ZoneRules) (host domain : List ℕ) (upper lower : List ℕ × List ℕ) (v : Bool) → bytes_eq upper.1 zone.label ≡ v → cut_last host ≡ Some upper → cut_last upper.0 ≡ Some lower → IsStable host → option_map (domain_at zone) (cond v (Some lower.1) None) ≡ Some domain → IsStable domain
-at_zone zone host domain upper lower false eq cut cut_again stable e = absurd cc
-at_zone zone host domain upper lower true eq cut cut_again stable e =
+-- the name of a host in the zone is some labels, a dot and its superordinate domain
+abbrev Spells : List ℕ → List ℕ → Type 0
+Spells host domain = (lower : List ℕ) × (host ≡ lower ++ 46 ∷ domain)
+
+at_zone : (zone : ZoneRules) (host domain : List ℕ) (upper lower : List ℕ × List ℕ) (v : Bool) → bytes_eq upper.1 zone.label ≡ v → cut_last host ≡ Some upper → cut_last upper.0 ≡ Some lower → option_map (domain_at zone) (cond v (Some lower.1) None) ≡ Some domain → Spells host domain
+at_zone zone host domain upper lower false eq cut cut_again e = absurd cc
+at_zone zone host domain upper lower true eq cut cut_again e =
     let top : upper.1 ≡ zone.label = (bytes_decides _ _).0 eq in
     let below : upper.0 ≡ lower.0 ++ 46 ∷ lower.1 = cut_last-Some upper.0 lower.0 lower.1 cut_again in
     let whole : host ≡ upper.0 ++ 46 ∷ upper.1 = cut_last-Some host upper.0 upper.1 cut in
     let same : domain_at zone lower.1 ≡ domain = same_Some _ _ e in
-    let spelled : host ≡ lower.0 ++ 46 ∷ domain = whole ∙ ap (λ l. l ++ 46 ∷ upper.1) below ∙ append_assoc lower.0 (46 ∷ lower.1) (46 ∷ upper.1) ∙ ap (λ l. lower.0 ++ 46 ∷ (lower.1 ++ 46 ∷ l)) top ∙ ap (λ l. lower.0 ++ 46 ∷ l) same in
-    IsStable-after lower.0 domain (subst IsStable spelled stable)
+    (lower.0, whole ∙ ap (λ l. l ++ 46 ∷ upper.1) below ∙ append_assoc lower.0 (46 ∷ lower.1) (46 ∷ upper.1) ∙ ap (λ l. lower.0 ++ 46 ∷ (lower.1 ++ 46 ∷ l)) top ∙ ap (λ l. lower.0 ++ 46 ∷ l) same)
 
-below_zone : (zone : ZoneRules) (host domain : List ℕ) (upper : List ℕ × List ℕ) (o : Option (List ℕ × List ℕ)) → cut_last host ≡ Some upper → cut_last upper.0 ≡ o → IsStable host → option_map (domain_at zone) (o >>= (λ lower. cond (bytes_eq upper.1 zone.label) (Some lower.1) None)) ≡ Some domain → IsStable domain
-below_zone zone host domain upper None cut cut_again stable e = absurd cc
-below_zone zone host domain upper (Some lower) cut cut_again stable e = at_zone zone host domain upper lower (bytes_eq upper.1 zone.label) refl cut cut_again stable e
+below_zone : (zone : ZoneRules) (host domain : List ℕ) (upper : List ℕ × List ℕ) (o : Option (List ℕ × List ℕ)) → cut_last host ≡ Some upper → cut_last upper.0 ≡ o → option_map (domain_at zone) (o >>= (λ lower. cond (bytes_eq upper.1 zone.label) (Some lower.1) None)) ≡ Some domain → Spells host domain
+below_zone zone host domain upper None cut cut_again e = absurd cc
+below_zone zone host domain upper (Some lower) cut cut_again e = at_zone zone host domain upper lower (bytes_eq upper.1 zone.label) refl cut cut_again e
+
+pub spells-superordinate_of : (zone : ZoneRules) (host domain : List ℕ) → superordinate_of zone host ≡ Some domain → (lower : List ℕ) × (host ≡ lower ++ 46 ∷ domain)
+unfolding superordinate_of superordinate_label
+spells-superordinate_of zone host domain e = by (cut_last host) refl e
+  where
+    by : (o : Option (List ℕ × List ℕ)) → cut_last host ≡ o → option_map (domain_at zone) (o >>= (λ upper. cut_last upper.0 >>= (λ lower. cond (bytes_eq upper.1 zone.label) (Some lower.1) None))) ≡ Some domain → Spells host domain
+    by None cut some = absurd cc
+    by (Some upper) cut some = below_zone zone host domain upper (cut_last upper.0) cut refl some
 
 pub IsStable-superordinate_of : (zone : ZoneRules) (host domain : List ℕ) → IsStable host → superordinate_of zone host ≡ Some domain → IsStable domain
-unfolding superordinate_of superordinate_label
-IsStable-superordinate_of zone host domain stable e = by (cut_last host) refl e
-  where
-    by : (o : Option (List ℕ × List ℕ)) → cut_last host ≡ o → option_map (domain_at zone) (o >>= (λ upper. cut_last upper.0 >>= (λ lower. cond (bytes_eq upper.1 zone.label) (Some lower.1) None))) ≡ Some domain → IsStable domain
-    by None cut some = absurd cc
-    by (Some upper) cut some = below_zone zone host domain upper (cut_last upper.0) cut refl stable some
+IsStable-superordinate_of zone host domain stable e =
+    let spelled = spells-superordinate_of zone host domain e in
+    IsStable-after spelled.0 domain (subst IsStable spelled.1 stable)

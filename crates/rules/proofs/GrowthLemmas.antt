@@ -53,21 +53,24 @@ module _ (p q : PolicyRules) (s t : Registry) (grows : Grows p q s t) where
     transfer = transfer-grown c.created c.transferred c.transfer h.transfer;
   }
 
-  -- the domains that were there are
-  module _ (there : (domain : List ℕ) → IsSome (get s.domains domain) → IsSome (get t.domains domain)) where
-    belongs-grown : (above : Option (List ℕ)) (by : Option ℕ) → BelongsTo p s above by → BelongsTo q t above by
-    belongs-grown (Some domain) by h = (there domain h.0, h.1)
-    belongs-grown None None h = h
-    belongs-grown None (Some registrar) h = grows.place registrar h
+  belongs-grown : (above : Option (List ℕ)) (by : Option ℕ) → ((domain : List ℕ) → above ≡ Some domain → IsSome (get s.domains domain) → IsSome (get t.domains domain)) → BelongsTo p s above by → BelongsTo q t above by
+  belongs-grown (Some domain) by there h = (there domain refl h.0, h.1)
+  belongs-grown None None there h = h
+  belongs-grown None (Some registrar) there h = grows.place registrar h
 
-    pub host-grown : (name : List ℕ) (h : Host) → IsHostOf p s name h → IsHostOf q t name h
-    host-grown name h is = record {
-      named = is.named;
-      roid = roid-grown _ h.roid is.roid;
-      belongs = subst (λ (zone : ZoneRules). BelongsTo q t (superordinate_of zone name) h.external_sponsor) grows.zone (belongs-grown (superordinate_of p.zone name) h.external_sponsor is.belongs);
-      created = omega (arith, is.created, grows.clock);
-      updated = been-grown h.updated is.updated;
-    }
+  -- a host whose superordinate domain is there still, if it has one
+  pub host-grown-below : (name : List ℕ) (h : Host) → ((domain : List ℕ) → superordinate_of p.zone name ≡ Some domain → IsSome (get s.domains domain) → IsSome (get t.domains domain)) → IsHostOf p s name h → IsHostOf q t name h
+  host-grown-below name h there is = record {
+    named = is.named;
+    roid = roid-grown _ h.roid is.roid;
+    belongs = subst (λ (zone : ZoneRules). BelongsTo q t (superordinate_of zone name) h.external_sponsor) grows.zone (belongs-grown (superordinate_of p.zone name) h.external_sponsor there is.belongs);
+    created = omega (arith, is.created, grows.clock);
+    updated = been-grown h.updated is.updated;
+  }
+
+  -- the domains that were there are
+  pub host-grown : ((domain : List ℕ) → IsSome (get s.domains domain) → IsSome (get t.domains domain)) → (name : List ℕ) (h : Host) → IsHostOf p s name h → IsHostOf q t name h
+  host-grown there name h is = host-grown-below name h (λ domain above. there domain) is
 
   -- a host that wasn't there doesn't lie below a deleted domain
   abbrev pub IsFree : Domain → Type 0

@@ -17,9 +17,9 @@ use Rattle.objects.specs.declared.host.Host.{Host}
 use Rattle.objects.specs.declared.roid.Roid.{Roid}
 use Rattle.objects.specs.Links.{has_name, names_contact, names_host}
 use Rattle.policy.specs.Rules.{PolicyRules, IsRegistrar}
-use Rattle.rules.specs.declared.change.Change.TheVariants.{PutContact, DropContact, PutDomain, PutHost, DropHost, RenameHost}
+use Rattle.rules.specs.declared.change.Change.TheVariants.{PutContact, DropContact, PutDomain, DropDomain, PutHost, DropHost, RenameHost}
 use Rattle.rules.specs.Changes.{changed, with_account, with_host_renamed, links_with_host_renamed, renamed}
-use Rattle.rules.proofs.GrowthLemmas.{Grows, contact-grown, domain-grown, host-grown}
+use Rattle.rules.proofs.GrowthLemmas.{Grows, contact-grown, domain-grown, host-grown, host-grown-below}
 use Rattle.rules.proofs.NameListLemmas.{has_name-filter}
 use Rattle.rules.proofs.NamedLemmas.{drop-cases, drop-keeps, drop-there, is-there, put-cases, put-is, put-keeps, put-there, remade-cases, remade-keeps}
 use Rattle.rules.proofs.ViewLemmas.{account_of-with_account}
@@ -221,6 +221,22 @@ module _ (p : PolicyRules) (s : Registry) (is : IsRegistry p s) where
         contact_roids = is.contact_roids;
         host_roids = is.host_roids;
         domain_roids = apart-put domain_roid s.domains is.domain_roids d.name d (λ n x at same. own n x at same ∙ sym fits.named);
+      }
+
+  -- a domain that no host lies below
+  pub drop-domain : (name : List ℕ) → ((host : List ℕ) → IsSome (get s.hosts host) → superordinate_of p.zone host ≢ Some name) → IsRegistry p (changed p (DropDomain name) s)
+  drop-domain name alone =
+      let domains : Domains = remove s.domains name in
+      let grows : Grows p p s (changed p (DropDomain name) s) = same-time p s s.contacts s.hosts domains in
+      record {
+        accounts = is.accounts;
+        contacts = λ n c at. contact-grown p p s _ grows n c (is.contacts n c at);
+        hosts = λ n h at. host-grown-below p p s _ grows n h
+            (λ domain above there. drop-keeps s.domains name domain (λ same. alone n (is-there (get s.hosts n) h at) (above ∙ ap (λ (q : List ℕ). Some q) same)) there) (is.hosts n h at);
+        domains = λ n d at. let k = is.domains n d (drop-cases s.domains name n d at).1 in same-domain s.contacts s.hosts domains n d k (λ host there. inl there) k.contacts k.hosts;
+        contact_roids = is.contact_roids;
+        host_roids = is.host_roids;
+        domain_roids = apart-drop domain_roid s.domains is.domain_roids name;
       }
 
 -- ---- a host gets a new name

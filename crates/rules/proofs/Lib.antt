@@ -7,6 +7,8 @@ pub mod KeepingLemmas
 pub mod LinkLemmas
 pub mod StandInLemmas
 pub mod CommandLemmas
+pub mod BelowLemmas
+pub mod DeletionLemmas
 pub mod WellFormedLemmas
 pub mod MeetingLemmas
 pub mod IsolationLemmas

@@ -1,5 +1,5 @@
 -- What a command changes meets what is asked of changes.
-use Rattle.std.proofs.Common.{◌≡◌, inl, ℕ, Bool, true, false, cond, List, [], ◌∷◌, Option, Some, None, option_and_then, option_map, refl, sym, ap, ◌∙◌}
+use Rattle.std.proofs.Common.{◌≡◌, inl, ℕ, Bool, true, false, cond, List, [], ◌∷◌, Option, Some, None, option_and_then, option_map, refl, sym, ap, subst, ◌∙◌}
 use Rattle.std.specs.Cmp.{nat_cmp_total, eq_by_cmp_equiv}
 use Rattle.std.specs.Cmp.Lexicographic.{slice_cmp, nat_list_cmp_total}
 use Rattle.std.specs.FinMap.{get}
@@ -21,11 +21,11 @@ use Rattle.objects.specs.Graces.{no_graces}
 use Rattle.policy.specs.Rules.{PolicyRules}
 use Rattle.rules.specs.declared.change.Change.{Change}
 use Rattle.rules.specs.Changes.{with_account}
-use Rattle.rules.specs.Decisions.{changes_after, changes_of, contact_changes, domain_changes, host_changes, new_domain, renaming, renewal_changes, renewed_domain, updated_domain, updated_host}
+use Rattle.rules.specs.Decisions.{changes_after, changes_of, contact_changes, deleted_domain, deletion_at, deletion_changes, domain_changes, ending, host_changes, new_domain, renaming, renewal_changes, renewed_domain, updated_domain, updated_host}
 use Rattle.rules.specs.Steps.{decision}
 use Rattle.rules.proofs.CommandLemmas.{at-itself, domain-full}
 use Rattle.rules.proofs.SightLemmas.{graces-seen, sponsor-seen}
-use Rattle.rules.proofs.ViewLemmas.{AllMeet, graces_kept, graces_put, same_number}
+use Rattle.rules.proofs.ViewLemmas.{AllMeet, Meets, graces_kept, graces_put, same_number}
 use Rattle.protocol.specs.declared.code.Code.{Code}
 use Rattle.protocol.specs.declared.command.Command.{Command}
 use Rattle.protocol.specs.declared.command.Command.TheVariants.{Bad, Asked}
@@ -35,13 +35,15 @@ use Rattle.protocol.specs.declared.command.HostUpdate.{HostUpdate}
 use Rattle.protocol.specs.declared.command.Request.{Request}
 use Rattle.protocol.specs.declared.command.Request.TheVariants as requests
 use Rattle.protocol.specs.Codes.{is_accepted}
+use Rattle.facts.specs.declared.facts.DomainFacts.{DomainFacts}
 use Rattle.facts.specs.declared.facts.Facts.{Facts}
-use Rattle.facts.specs.Facts.{contact_seen, domain_facts, domain_seen, facts, host_seen, lookups}
+use Rattle.facts.specs.Facts.{contact_seen, domain_at, domain_facts, domain_seen, facts, host_seen, lookups}
 use Rattle.model.specs.Registry.{Registry, account_of}
 use Rattle.lifecycle.specs.Graces.{graces}
 use Rattle.model.specs.Standing.{graces_of, standing_of}
 use Rattle.model.specs.View.{domain_sight, view}
 use Rattle.model.specs.WellFormed.{IsRegistry}
+use Rattle.verdict.specs.Deletion.{goes_at_once}
 
 pub eq-self : (a : ℕ) → eq_by_cmp nat_cmp a a ≡ true
 eq-self a = (eq_by_cmp_equiv nat_cmp_total).refl a
@@ -131,6 +133,31 @@ module _ (p : PolicyRules) (r : ℕ) (cl_trid : Option (List ℕ)) (s : Registry
       by (Some (TransferParty face transfer)) e = tt
       by (Some (Public face)) e = tt
 
+  abbrev asked_deletion : GivenName → Command
+  asked_deletion name = Asked cl_trid (requests.DeleteDomain name)
+
+  -- what is known of the domain that is deleted
+  abbrev known_at : GivenName → DomainFacts
+  known_at name = domain_facts (lookups p r (asked_deletion name) s) (asked_deletion name) (name_of name)
+
+  meet-ending : (name : GivenName) (d : Domain) → get s.domains d.name ≡ Some d → (at_once : Bool) → Meets p r (ending at_once s.clock (known_at name) d) counted
+  meet-ending name d there true = tt
+  meet-ending name d there false = put-again p r counted d (deleted_domain s.clock (known_at name).given_back.years d) there refl refl
+
+  meet-known : (name : GivenName) (seen : Option (Seen FullDomain DomainFace)) → (known_at name).seen ≡ seen → AllMeet p r (deletion_changes r s.clock (known_at name) seen) counted
+  meet-known name None e = tt
+  meet-known name (Some (Full full)) e =
+      let d : Domain = full.domain in
+      let found : get s.domains (name_of name) ≡ Some d = domain-full p r s None (get s.domains (name_of name)) full e in
+      let named : d.name ≡ name_of name = (is.domains (name_of name) d found).named in
+      let there : get s.domains d.name ≡ Some d = ap (λ (n : List ℕ). get s.domains n) named ∙ found in
+      (meet-ending name d there (goes_at_once (Some (Full full))), (inl refl, tt))
+  meet-known name (Some (TransferParty face transfer)) e = tt
+  meet-known name (Some (Public face)) e = tt
+
+  meet-deletion : (name : GivenName) → AllMeet p r (deletion_at r s.clock (domain_at (facts p r (asked_deletion name) s) (name_of name))) counted
+  meet-deletion name = subst (λ (o : Option DomainFacts). AllMeet p r (deletion_at r s.clock o) counted) (sym (at-itself (name_of name) (known_at name))) (meet-known name (known_at name).seen refl)
+
   -- what an accepted command changes meets what is asked
   meets : (q : Request) → AllMeet p r (changes_of p r s.clock q (facts p r (Asked cl_trid q) s)) counted
   unfolding changes_of
@@ -139,6 +166,7 @@ module _ (p : PolicyRules) (r : ℕ) (cl_trid : Option (List ℕ)) (s : Registry
   meets (requests.CreateDomain new) = (put-own p r counted (new_domain r s.clock (facts p r (Asked cl_trid (requests.CreateDomain new)) s) new) (eq-self r), (inl refl, (inl refl, tt)))
   meets (requests.CreateHost new) = (tt, (inl refl, tt))
   meets (requests.DeleteContact name) = (tt, tt)
+  meets (requests.DeleteDomain name) = meet-deletion name
   meets (requests.DeleteHost name) = (tt, tt)
   meets (requests.UpdateContact u) = meet-contact p r s.clock u (contact_seen (facts p r (Asked cl_trid (requests.UpdateContact u)) s) u.name) counted
   meets (requests.UpdateDomain u) = meet-domain u

@@ -1,13 +1,14 @@
 -- What stands at a name after a map by names was changed.
-use Rattle.std.proofs.Common.{◌≡◌, ◌≢◌, ◌⊎◌, inl, inr, ⊎_elim, ℕ, Bool, true, false, cond, List, [], ◌∷◌, map, Option, Some, None, IsSome, is_some, option_map, refl, sym, ap, ◌∙◌}
+use Rattle.std.proofs.Common.{◌≡◌, ◌≢◌, ◌⊎◌, inl, inr, ⊎_elim, ℕ, Bool, true, false, cond, List, [], ◌∷◌, map, Option, Some, None, IsSome, is_some, option_map, refl, sym, ap, ◌∙◌, suc, length, filter, eqb-true, arith}
 use Rattle.std.specs.Cmp.{Equal-is, eq_by_cmp_equiv}
 use Rattle.std.specs.Cmp.Lexicographic.{slice_cmp, nat_list_cmp_total}
-use Rattle.std.specs.FinMap.{FinMap, entries, find, get, get-entries, insert, remove, values, get-insert, get-remove}
+use Rattle.std.specs.FinMap.{FinMap, entries, find, get, get-entries, insert, keys, remove, values, get-insert, get-remove}
 use Rattle.std.specs.List.{list_any}
 use Rattle.std.specs.Ordering.{eq_by_cmp, nat_cmp}
 use Rattle.std.proofs.lemmas.Bool.{or_parts}
 use Rattle.std.proofs.lemmas.Option.{same_Some}
 use Rattle.basis.specs.Maps.{map_values}
+use Rattle.objects.specs.Domains.{is_empty}
 use Rattle.basis.proofs.MapLemmas.{names_apart, get-map_values}
 
 -- what is some value is there
@@ -104,3 +105,26 @@ found-fails {X} test n x (p ∷ es) e none =
 -- what none of a map's values passes, no value passes that stands at a name
 pub value-fails : {X : Type 0} (test : X → Bool) (m : FinMap (slice_cmp nat_cmp) X) (n : List ℕ) (x : X) → get m n ≡ Some x → list_any test (values m) ≡ false → test x ≡ false
 value-fails test m n x e none = found-fails test n x (entries m) (sym (get-entries m n) ∙ e) none
+
+-- ---- a test of all names
+
+none-passes : (test : List ℕ → Bool) (k : List ℕ) (ks : List (List ℕ)) → is_empty (filter test (k ∷ ks)) ≡ true → (test k ≡ false) × (is_empty (filter test ks) ≡ true)
+none-passes test k ks e = by (test k) refl e
+  where
+    by : (b : Bool) → test k ≡ b → is_empty (cond b (k ∷ filter test ks) (filter test ks)) ≡ true → (test k ≡ false) × (is_empty (filter test ks) ≡ true)
+    by true is e = absurd (let none : suc (length (filter test ks)) ≡ 0 = eqb-true (suc (length (filter test ks))) 0 e in omega (arith, none))
+    by false is e = (is, e)
+
+listed-fails : {X : Type 0} (test : List ℕ → Bool) (n : List ℕ) (es : List (List ℕ × X)) → IsSome (find (slice_cmp nat_cmp) n es) → is_empty (filter test (map (λ (e : List ℕ × X). e.0) es)) ≡ true → test n ≡ false
+listed-fails test n [] there none = absurd cc
+listed-fails {X} test n (p ∷ es) there none =
+    let parts = none-passes test p.0 (map (λ (e : List ℕ × X). e.0) es) none in
+    by (eq_by_cmp (slice_cmp nat_cmp) n p.0) refl there parts.0 (λ found. listed-fails test n es found parts.1)
+  where
+    by : (b : Bool) → eq_by_cmp (slice_cmp nat_cmp) n p.0 ≡ b → IsSome (cond b (Some p.1) (find (slice_cmp nat_cmp) n es)) → test p.0 ≡ false → (IsSome (find (slice_cmp nat_cmp) n es) → test n ≡ false) → test n ≡ false
+    by true same there first more = ap test (same_name n p.0 same) ∙ first
+    by false same there first more = more there
+
+-- what no name of a map passes, no name passes at which something stands
+pub name-fails : {X : Type 0} (test : List ℕ → Bool) (m : FinMap (slice_cmp nat_cmp) X) (n : List ℕ) → IsSome (get m n) → is_empty (filter test (keys m)) ≡ true → test n ≡ false
+name-fails test m n there none = listed-fails test n (entries m) (ap is_some (sym (get-entries m n)) ∙ there) none

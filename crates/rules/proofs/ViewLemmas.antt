@@ -27,7 +27,7 @@ use Rattle.objects.specs.Links.{links_seen, names_contact, names_host}
 use Rattle.objects.specs.Sight.{contact_as, domain_as, is_party}
 use Rattle.policy.specs.Rules.{PolicyRules}
 use Rattle.rules.specs.declared.change.Change.{Change}
-use Rattle.rules.specs.declared.change.Change.TheVariants.{MoveClock, OpenAccount, PutContact, DropContact, PutDomain, PutHost, DropHost, RenameHost, Give}
+use Rattle.rules.specs.declared.change.Change.TheVariants.{MoveClock, OpenAccount, PutContact, DropContact, PutDomain, DropDomain, PutHost, DropHost, RenameHost, Give}
 use Rattle.rules.specs.Changes.{changed, changed_all, with_account, itself, with_host_renamed}
 use Rattle.rules.proofs.SightLemmas.{domain_again, forget, forget-domain, forget-contact, graces_seen, holds_seen, holds-seen, links-seen, Regrace, regraced, regraced-seen, relinked_seen, seen-relinked, sponsor_seen, superordinate_seen, superordinate-seen}
 use Rattle.protocol.specs.declared.command.Command.{Command}
@@ -36,6 +36,7 @@ use Rattle.protocol.specs.Requests.{presented, presented_contact}
 use Rattle.model.specs.Registry.{Registry, account_of}
 use Rattle.lifecycle.specs.Graces.{graces}
 use Rattle.lifecycle.specs.Phases.{phase}
+use Rattle.lifecycle.specs.Refunds.{given_back, refund_at}
 use Rattle.model.specs.Standing.{graces_of, standing_of}
 use Rattle.model.specs.View.{View, Secrets, domain_sight, view, view_for, view_with, secrets_of}
 
@@ -46,8 +47,8 @@ some-map f None = refl
 some-map f (Some x) = refl
 
 -- what is found in a view
-finds_in : ℕ → View → Lookups
-finds_in r v = record {
+finds_in : PolicyRules → ℕ → View → Lookups
+finds_in p r v = record {
   account = v.account;
   contact = λ name. get v.contacts name;
   domain = λ name. get v.domains name;
@@ -59,6 +60,7 @@ finds_in r v = record {
   host_is_linked = λ name. list_any (λ seen. names_host name (links_seen seen)) (values v.domains);
   hosts_below = λ name. filter (is_below name) (keys v.hosts);
   domains_held = length (filter (holds_seen r) (values v.domains));
+  given_back = λ d. given_back p (refund_at v.clock d) v.account.lines;
 }
 
 module _ (p : PolicyRules) (r : ℕ) (c : Command) (s : Registry) where
@@ -107,7 +109,7 @@ module _ (p : PolicyRules) (r : ℕ) (c : Command) (s : Registry) where
       by [] = refl
       by (e ∷ es) = one e.1 (sight e.0 e.1) _ _ (is_party r e.1.sponsor e.1.transfer) (holds-seen r (presented c e.0) (standing_of p s e.1) e.1) refl (by es)
 
-  lookups-view : lookups p r c s ≡ finds_in r (view_for p r c s)
+  lookups-view : lookups p r c s ≡ finds_in p r (view_for p r c s)
   unfolding finds_in
   lookups-view = λ i. record {
     account = account_of r s;
@@ -121,10 +123,11 @@ module _ (p : PolicyRules) (r : ℕ) (c : Command) (s : Registry) where
     host_is_linked = λ name. sym (any-found (names_host name)) i;
     hosts_below = subordinate s;
     domains_held = sym held-found i;
+    given_back = λ d. given_back p (refund_at s.clock d) (account_of r s).lines;
   }
 
 pub same_facts : (p : PolicyRules) (r : ℕ) (c : Command) (s t : Registry) → view_for p r c s ≡ view_for p r c t → facts p r c s ≡ facts p r c t
-same_facts p r c s t alike = ap (λ found. facts_by found c) (lookups-view p r c s ∙ ap (finds_in r) alike ∙ sym (lookups-view p r c t))
+same_facts p r c s t alike = ap (λ found. facts_by found c) (lookups-view p r c s ∙ ap (finds_in p r) alike ∙ sym (lookups-view p r c t))
 
 -- ---- what is seen without the secrets of a command
 
@@ -174,6 +177,7 @@ seen_change p r (OpenAccount other) v = record v { account = own r other itself 
 seen_change p r (PutContact c) v = record v { contacts = insert v.contacts c.name (contact_as r None c) }
 seen_change p r (DropContact name) v = record v { contacts = remove v.contacts name }
 seen_change p r (PutDomain d) v = record v { domains = insert v.domains d.name (domain_as r None (standing_put p r d v) d) }
+seen_change p r (DropDomain name) v = record v { domains = remove v.domains name }
 seen_change p r (PutHost h) v = record v { hosts = insert v.hosts h.name h }
 seen_change p r (DropHost name) v = record v { hosts = remove v.hosts name }
 seen_change p r (RenameHost old new) v = record v { domains = map_values (λ name. relinked_seen old new) v.domains }
@@ -272,6 +276,7 @@ Meets p r (OpenAccount other) s = Unit {0}
 Meets p r (PutContact c) s = Unit {0}
 Meets p r (DropContact name) s = Unit {0}
 Meets p r (PutDomain d) s = graces_of p s d ≡ graces_put p r d (view p r s)
+Meets p r (DropDomain name) s = Unit {0}
 Meets p r (PutHost h) s = Unit {0}
 Meets p r (DropHost name) s = Unit {0}
 Meets p r (RenameHost old new) s = Unit {0}
@@ -284,6 +289,7 @@ view-changed p r (MoveClock t) s meets = absurd meets
 view-changed p r (OpenAccount other) s meets = view-account p r other itself (λ a. refl) s
 view-changed p r (PutContact c) s meets = ap (λ m. record (view p r s) { contacts = m }) (map_values-insert (slice_cmp nat_cmp) nat_list_cmp_total names_apart (λ name. contact_as r None) s.contacts c.name c)
 view-changed p r (DropContact name) s meets = ap (λ m. record (view p r s) { contacts = m }) (map_values-remove (slice_cmp nat_cmp) nat_list_cmp_total names_apart (λ name. contact_as r None) s.contacts name)
+view-changed p r (DropDomain name) s meets = ap (λ (m : FinMap (slice_cmp nat_cmp) (Seen FullDomain DomainFace)). record (view p r s) { domains = m }) (map_values-remove (slice_cmp nat_cmp) nat_list_cmp_total names_apart (λ name. domain_sight p r s None) s.domains name)
 view-changed p r (PutHost h) s meets = refl
 view-changed p r (DropHost name) s meets = refl
 view-changed p r (RenameHost old new) s meets = ap (λ m. record (view p r s) { domains = m }) (relinked-view p r s old new s.domains)

@@ -1,5 +1,5 @@
 -- Each step of the rules keeps a registry well formed.
-use Rattle.std.proofs.Common.{◌≡◌, ℕ, ◌<◌, Bool, cond, List, [], Option, Some, None, inl, inr, refl, sym, subst}
+use Rattle.std.proofs.Common.{◌≡◌, ℕ, ◌<◌, Bool, true, false, cond, List, [], Option, Some, None, inl, inr, refl, sym, subst}
 use Rattle.accounts.specs.Account.{with_command}
 use Rattle.policy.specs.Rules.{PolicyRules, IsRegistrar}
 use Rattle.rules.specs.declared.change.Change.{Change}
@@ -7,20 +7,25 @@ use Rattle.rules.specs.Changes.{changed_all, with_account}
 use Rattle.rules.specs.Decisions.{changes_after, changes_of}
 use Rattle.rules.specs.Steps.{effect}
 use Rattle.rules.proofs.CommandLemmas.{kept-contact-deletion, kept-contact-update, kept-counted, kept-domain-update, kept-host-deletion, kept-host-update, kept-renewal, kept-new-contact, kept-new-domain, kept-new-host}
+use Rattle.rules.proofs.DeletionLemmas.{kept-domain-deletion}
 use Rattle.verdict.proofs.RowLemmas.{refusing, unrefused}
 use Rattle.protocol.specs.declared.code.Code.{Code}
+use Rattle.protocol.specs.declared.code.Code.TheVariants.{Completed, CompletedActionPending}
 use Rattle.protocol.specs.declared.command.Command.{Command}
 use Rattle.protocol.specs.declared.command.Command.TheVariants.{Asked, Bad}
 use Rattle.protocol.specs.declared.command.Request.{Request}
-use Rattle.protocol.specs.declared.command.Request.TheVariants.{Balance, CheckContact, CheckDomain, CheckHost, InfoContact, InfoDomain, InfoHost, CreateContact, CreateDomain, CreateHost, DeleteContact, DeleteHost, UpdateContact, UpdateDomain, UpdateHost, RenewDomain}
+use Rattle.protocol.specs.declared.command.Request.TheVariants.{Balance, CheckContact, CheckDomain, CheckHost, InfoContact, InfoDomain, InfoHost, CreateContact, CreateDomain, CreateHost, DeleteContact, DeleteDomain, DeleteHost, UpdateContact, UpdateDomain, UpdateHost, RenewDomain}
 use Rattle.protocol.specs.declared.reply.Data.{Data}
 use Rattle.verdict.specs.declared.rules.Condition.TheVariants.{ReferenceIsMissing}
 use Rattle.protocol.specs.Codes.{is_accepted}
-use Rattle.facts.specs.Facts.{facts}
+use Rattle.facts.specs.declared.facts.Facts.{Facts}
+use Rattle.facts.specs.Facts.{domain_seen, facts}
+use Rattle.names.specs.GivenName.{name_of}
 use Rattle.model.specs.Registry.{Registry, account_of}
+use Rattle.verdict.specs.Deletion.{goes_at_once}
 use Rattle.verdict.specs.Rules.{refusal_of}
 use Rattle.verdict.specs.ResponseData.{response_data}
-use Rattle.verdict.specs.Verdicts.{granted, judged, unless_refused}
+use Rattle.verdict.specs.Verdicts.{code_granted, granted, judged, unless_refused}
 use Rattle.model.specs.WellFormed.{IsRegistry}
 
 module _ (p : PolicyRules) (r : ℕ) (cl_trid : Option (List ℕ)) (s : Registry) (place : IsRegistrar p r) (is : IsRegistry p s) (small : (account_of r s).serial < 4_611_686_018_427_387_904) where
@@ -38,16 +43,25 @@ module _ (p : PolicyRules) (r : ℕ) (cl_trid : Option (List ℕ)) (s : Registry
   kept-accepted (CreateDomain new) taken = kept-new-domain p r cl_trid s place is small new (unrefused p r s.clock (CreateDomain new) (facts p r (Asked cl_trid (CreateDomain new)) s) taken ReferenceIsMissing (search (inl, inr) depth 20))
   kept-accepted (CreateHost new) taken = kept-new-host p r cl_trid s place is small new taken
   kept-accepted (DeleteContact name) taken = kept-contact-deletion p r cl_trid s place is name taken
+  kept-accepted (DeleteDomain name) taken = kept-domain-deletion p r cl_trid s place is name taken
   kept-accepted (DeleteHost name) taken = kept-host-deletion p r cl_trid s place is name taken
   kept-accepted (UpdateContact u) taken = kept-contact-update p r cl_trid s place is u
   kept-accepted (UpdateDomain u) taken = kept-domain-update p r cl_trid s place is u taken
   kept-accepted (RenewDomain name expires years) taken = kept-renewal p r cl_trid s place is name expires years
   kept-accepted (UpdateHost u) taken = kept-host-update p r cl_trid s place is u taken
 
+  -- a request that isn't refused is answered that it is carried out
+  carried-out : (request : Request) (f : Facts) → is_accepted (code_granted request f) ≡ true
+  carried-out (DeleteDomain name) f = elim (goes_at_once (domain_seen f (name_of name))) as (λ (b : Bool). is_accepted (cond b Completed CompletedActionPending) ≡ true) [ true ↦ refl | false ↦ refl ]
+  carried-out _ f = refl
+
   -- a refused command changes nothing but the caller's counter
   kept-judged : (request : Request) (refusal : Option Code) → refusal_of p r s.clock request (facts p r (Asked cl_trid request) s) ≡ refusal
       → IsRegistry p (changed_all p (cond (is_accepted (unless_refused refusal (granted p r s.clock request (facts p r (Asked cl_trid request) s))).code) (changes_of p r s.clock request (facts p r (Asked cl_trid request) s)) []) (with_account r with_command s))
-  kept-judged request None taken = kept-accepted request taken
+  kept-judged request None taken =
+      let changes : List Change = changes_of p r s.clock request (facts p r (Asked cl_trid request) s) in
+      subst (λ (b : Bool). IsRegistry p (changed_all p (cond b changes []) (with_account r with_command s)))
+      (sym (carried-out request (facts p r (Asked cl_trid request) s))) (kept-accepted request taken)
   kept-judged request (Some code) refused =
       let changes : List Change = changes_of p r s.clock request (facts p r (Asked cl_trid request) s) in
       subst (λ (b : Bool). IsRegistry p (changed_all p (cond b changes []) (with_account r with_command s)))

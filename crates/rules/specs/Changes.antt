@@ -13,7 +13,7 @@ use Rattle.objects.specs.declared.domain.Domain.{Domain}
 use Rattle.objects.specs.declared.domain.Links.{Links}
 use Rattle.objects.specs.Links.{has_name}
 use Rattle.rules.specs.declared.change.Change.{Change}
-use Rattle.rules.specs.declared.change.Change.TheVariants.{MoveClock, OpenAccount, PutContact, DropContact, PutDomain, PutHost, DropHost, RenameHost, Give}
+use Rattle.rules.specs.declared.change.Change.TheVariants.{MoveClock, OpenAccount, PutContact, DropContact, PutDomain, DropDomain, PutHost, DropHost, RenameHost, Give}
 use Rattle.model.specs.Registry.{Registry, account_of}
 
 -- one registrar's account is changed
@@ -41,6 +41,7 @@ changed p (OpenAccount r) s = with_account r itself s
 changed p (PutContact c) s = record s { contacts = insert s.contacts c.name c }
 changed p (DropContact name) s = record s { contacts = remove s.contacts name }
 changed p (PutDomain d) s = record s { domains = insert s.domains d.name d }
+changed p (DropDomain name) s = record s { domains = remove s.domains name }
 changed p (PutHost h) s = record s { hosts = insert s.hosts h.name h }
 changed p (DropHost name) s = record s { hosts = remove s.hosts name }
 changed p (RenameHost old new) s = record s { domains = map_values (λ name. with_host_renamed old new) s.domains }

@@ -1,10 +1,11 @@
 -- What a command is answered and what it changes, by the facts that bear on it.
-use Rattle.std.specs.Prelude.{ℕ, ◌+◌, min, List, [], ◌∷◌, map, Option, Some, None, if◌then◌else◌}
+use Rattle.std.specs.Prelude.{ℕ, Bool, ◌+◌, ◌-◌, min, List, [], ◌∷◌, map, Option, Some, None, if◌then◌else◌}
 use Rattle.accounts.specs.Account.{saturating_next}
 use Rattle.accounts.specs.declared.line.Line.{Line}
 use Rattle.accounts.specs.declared.line.LineKind.{LineKind}
 use Rattle.accounts.specs.declared.line.LineKind.TheVariants as lines
-use Rattle.lifecycle.specs.declared.change.AccountChange.TheVariants.{Charge, CountCommand, TakeSerial}
+use Rattle.lifecycle.specs.declared.change.AccountChange.TheVariants.{Charge, CountCommand, RefundRunning, TakeSerial}
+use Rattle.lifecycle.specs.Refunds.{refund_at}
 use Rattle.names.specs.declared.given.GivenName.{GivenName}
 use Rattle.names.specs.GivenName.{name_of}
 use Rattle.names.specs.Zone.{ZoneRules}
@@ -24,7 +25,7 @@ use Rattle.objects.specs.Links.{in_order}
 use Rattle.objects.specs.Statuses.{amended_statuses}
 use Rattle.policy.specs.Rules.{PolicyRules}
 use Rattle.rules.specs.declared.change.Change.{Change}
-use Rattle.rules.specs.declared.change.Change.TheVariants.{PutContact, DropContact, PutDomain, PutHost, DropHost, RenameHost, Give}
+use Rattle.rules.specs.declared.change.Change.TheVariants.{PutContact, DropContact, PutDomain, DropDomain, PutHost, DropHost, RenameHost, Give}
 use Rattle.rules.specs.declared.decision.Decision.{Decision}
 use Rattle.protocol.specs.declared.code.Code.{Code}
 use Rattle.protocol.specs.declared.command.Command.{Command}
@@ -37,14 +38,16 @@ use Rattle.protocol.specs.declared.command.NewDomain.{NewDomain}
 use Rattle.protocol.specs.declared.command.NewHost.{NewHost}
 use Rattle.protocol.specs.declared.command.Request.{Request}
 use Rattle.protocol.specs.declared.command.Request.TheVariants as requests
+use Rattle.facts.specs.declared.facts.DomainFacts.{DomainFacts}
 use Rattle.facts.specs.declared.facts.Facts.{Facts}
 use Rattle.verdict.specs.declared.verdict.Verdict.{Verdict}
 use Rattle.protocol.specs.Codes.{is_accepted}
 use Rattle.protocol.specs.Requests.{asks_of, final_name}
 use Rattle.facts.specs.Facts.{is_inside, or_else}
-use Rattle.facts.specs.Facts.{contact_seen, domain_seen, host_seen}
+use Rattle.facts.specs.Facts.{contact_seen, domain_at, domain_seen, host_seen}
 use Rattle.facts.specs.Lists.{amended, itself}
 use Rattle.verdict.specs.Charges.{charge_of}
+use Rattle.verdict.specs.Deletion.{goes_at_once}
 use Rattle.verdict.specs.Verdicts.{judged}
 
 -- ---- new objects: its own serial's ROID, and nothing set, transferred or deleted
@@ -160,6 +163,14 @@ more_years years more = min (years + more) 0xFFFF_FFFF
 abbrev pub renewed_domain : ℕ → ℕ → Domain → Domain
 renewed_domain t years d = record d { years = more_years d.years years; updated = Some t }
 
+-- deleted, without the years that are given back (RFC 5731, 3.2.2; RFC 3915, 3.1)
+abbrev pub deleted_domain : ℕ → ℕ → Domain → Domain
+deleted_domain t given d = record d {
+  years = d.years - given;
+  updated = Some t;
+  deletion = Some (record { deleted = t; restore_requested = None });
+}
+
 -- the same after an update, which may rename the host
 abbrev pub external_sponsor_after : ZoneRules → ℕ → Option GivenName → Option ℕ → Option ℕ
 external_sponsor_after zone r None by = by
@@ -194,6 +205,21 @@ renewal_changes p r t q (Some (Full known)) = PutDomain (renewed_domain t (asks_
 renewal_changes p r t q (Some (TransferParty face transfer)) = []
 renewal_changes p r t q (Some (Public face)) = []
 
+-- a domain that can be restored first stays
+abbrev pub ending : Bool → ℕ → DomainFacts → Domain → Change
+ending at_once t known d = if at_once then DropDomain known.name else PutDomain (deleted_domain t known.given_back.years d)
+
+-- its sponsor gets back what it was charged in a grace that runs
+abbrev pub deletion_changes : ℕ → ℕ → DomainFacts → Option (Seen FullDomain DomainFace) → List Change
+deletion_changes r t known None = []
+deletion_changes r t known (Some (Full full)) = ending (goes_at_once (Some (Full full))) t known full.domain ∷ Give r (RefundRunning (refund_at t full.domain)) ∷ []
+deletion_changes r t known (Some (TransferParty face transfer)) = []
+deletion_changes r t known (Some (Public face)) = []
+
+abbrev pub deletion_at : ℕ → ℕ → Option DomainFacts → List Change
+deletion_at r t None = []
+deletion_at r t (Some known) = deletion_changes r t known known.seen
+
 -- under a new name, a host is linked as before
 abbrev pub renaming : List ℕ → Host → Option GivenName → List Change
 renaming old h None = PutHost h ∷ []
@@ -211,6 +237,7 @@ changes_of p r t (requests.CreateDomain new) f =
     PutDomain (new_domain r t f new) ∷ Give r TakeSerial ∷ charge lines.Create p r t (new_roid kinds.Domain r f) (requests.CreateDomain new) ∷ []
 changes_of p r t (requests.CreateHost new) f = PutHost (new_host p.zone r t f new) ∷ Give r TakeSerial ∷ []
 changes_of p r t (requests.DeleteContact name) f = DropContact name ∷ []
+changes_of p r t (requests.DeleteDomain name) f = deletion_at r t (domain_at f (name_of name))
 changes_of p r t (requests.DeleteHost name) f = DropHost (name_of name) ∷ []
 changes_of p r t (requests.UpdateContact u) f = contact_changes t u (contact_seen f u.name)
 changes_of p r t (requests.UpdateDomain u) f = domain_changes t u (domain_seen f (name_of u.name))

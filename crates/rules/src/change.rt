@@ -16,6 +16,8 @@ pub enum Change {
     DropContact(Text),
     /// The domain stands under its name.
     PutDomain(DomainRecord),
+    /// There is no such domain any more.
+    DropDomain(Text),
     /// The host stands under its name.
     PutHost(HostRecord),
     /// There is no such host any more.

@@ -2,24 +2,27 @@
 ghost use Rattle.std.specs.Prelude.{◌≡◌, ◌∷◌, ◌++◌, [], IfOk, IsOk, OnOk};
 ghost use Rattle.std.specs.Option.{option_copied};
 ghost use Rattle.rules.specs.Decisions as spec;
+ghost use Rattle.verdict.specs.Deletion.{goes_at_once};
 
 use crate::change::Change;
 use crate::charge::charge;
 use crate::created::{new_contact, new_domain, new_host, new_roid};
-use crate::updated::{renewed_domain, updated_contact, updated_domain, updated_host};
+use crate::updated::{
+    deleted_domain, renewed_domain, updated_contact, updated_domain, updated_host,
+};
 use accounts::LineKind;
 use basis::list::Seq;
 use basis::registrar::RegistrarNo;
 use basis::text::Text;
 use calendar::Moment;
-use facts::Facts;
-use lifecycle::AccountChange;
+use facts::{DomainFacts, Facts};
+use lifecycle::{AccountChange, RunningRefund};
 use names::{GivenName, Zone};
 use objects::{Contact, ContactFace, Domain, DomainFace, FullDomain, Host, ObjectKind, Seen};
 use policy::Policy;
 use protocol::{Code, Command, ContactUpdate, DomainUpdate, HostUpdate, Request};
 use std::alloc::{AllocError, Global};
-use verdict::{Verdict, judge};
+use verdict::{Verdict, goes_at_once, judge};
 
 /// What a command is answered, and the changes that it makes, in order.
 #[derive(Drop)]
@@ -143,6 +146,9 @@ fn accept(
             let change = Change::DropContact(name.clone()?);
             Ok(vec![in alloc; change]?)
         }
+        Request::DeleteDomain { name } => {
+            delete_domain(alloc, caller, facts.domain(name.text()), moment)
+        }
         Request::DeleteHost { name } => {
             let change = Change::DropHost(name.text().clone()?);
             Ok(vec![in alloc; change]?)
@@ -201,6 +207,40 @@ fn create_domain(
         Change::Give(caller, AccountChange::TakeSerial),
         charge(LineKind::Create, caller, roid, request, moment, policy),
     ]?)
+}
+
+/// A domain is deleted, and its sponsor gets back what it was charged in a grace that runs.
+fn delete_domain(
+    alloc: Global,
+    caller: RegistrarNo,
+    known: Option<&DomainFacts>,
+    moment: Moment,
+) -> Result<Vec<Change>, AllocError>
+    ensures { IfOk result (λ changes. changes.items ≡ spec.deletion_at caller moment (option_copied known.entry)) }
+{
+    let Some(known) = known else {
+        return Ok(Vec::new(alloc));
+    };
+    match &known.seen {
+        Some(Seen::Full(full)) => {
+            let ending = ending(known, &full.domain, moment)?;
+            let refund = RunningRefund::of(&full.domain, moment);
+            let given = Change::Give(caller, AccountChange::RefundRunning(refund));
+            Ok(vec![in alloc; ending, given]?)
+        }
+        _ => Ok(Vec::new(alloc)),
+    }
+}
+
+/// A domain that can be restored first stays.
+fn ending(known: &DomainFacts, domain: &Domain, moment: Moment) -> Result<Change, AllocError>
+    ensures { IfOk result (λ change. change ≡ spec.ending (goes_at_once known.now.seen) moment known.now domain.now) }
+{
+    if goes_at_once(known.seen.as_ref()) {
+        return Ok(Change::DropDomain(known.name.clone()?));
+    }
+    let deleted = deleted_domain(domain, known.given_back.years, moment)?;
+    Ok(Change::PutDomain(deleted))
 }
 
 /// A domain is registered for longer, and that is charged for.

@@ -1,5 +1,5 @@
 //! Updated objects: what an update doesn't give stays.
-ghost use Rattle.std.specs.Prelude.{◌≡◌, IfOk};
+ghost use Rattle.std.specs.Prelude.{◌≡◌, ◌-◌, IfOk};
 ghost use Rattle.std.specs.Option.{option_copied};
 ghost use Rattle.facts.specs.Facts.{or_else};
 ghost use Rattle.rules.specs.Decisions as spec;
@@ -10,7 +10,7 @@ use basis::text::{Text, copied};
 use calendar::Moment;
 use facts::amended_names;
 use names::{GivenName, Zone};
-use objects::{Contact, Domain, Host, Links, Postal, amended_statuses};
+use objects::{Contact, Deletion, Domain, Host, Links, Postal, amended_statuses};
 use protocol::{ContactUpdate, DomainUpdate, HostUpdate};
 use std::alloc::{AllocError, Global};
 
@@ -148,6 +148,34 @@ pub(crate) fn renewed_domain(
     renewed.years = more_years(domain.years, years);
     renewed.updated = Some(moment);
     Ok(renewed)
+}
+
+/// The years without those that are given back.
+fn years_left(years: u32, given: u128) -> u32
+    ensures { result ≡ years - given }
+{
+    match u32::try_from(given) {
+        Ok(given) => years.saturating_sub(given),
+        Err(_) => 0,
+    }
+}
+
+/// The domain, deleted at the moment, without the years that are given back.
+pub(crate) fn deleted_domain(
+    domain: &Domain,
+    given: u128,
+    moment: Moment,
+) -> Result<Domain, AllocError>
+    ensures { IfOk result (λ deleted. deleted ≡ spec.deleted_domain moment given domain.now) }
+{
+    let mut deleted = copy(domain)?;
+    deleted.years = years_left(domain.years, given);
+    deleted.updated = Some(moment);
+    deleted.deletion = Some(Deletion {
+        deleted: moment,
+        restore_requested: None,
+    });
+    Ok(deleted)
 }
 
 fn copy(domain: &Domain) -> Result<Domain, AllocError>
