@@ -21,7 +21,7 @@ use Rattle.objects.specs.Links.{names_host}
 use Rattle.policy.specs.Rules.{PolicyRules}
 use Rattle.rules.specs.Changes.{with_host_renamed}
 use Rattle.rules.specs.declared.change.Change.{Change}
-use Rattle.rules.specs.declared.change.Change.TheVariants.{MoveClock, OpenAccount, PutContact, DropContact, PutDomain, PutHost, DropHost, RenameHost, Give}
+use Rattle.rules.specs.declared.change.Change.TheVariants.{MoveClock, OpenAccount, PutContact, DropContact, PutDomain, DropDomain, PutHost, DropHost, RenameHost, Give}
 use Rattle.store.specs.declared.edit.Edit.{Edit}
 use Rattle.store.specs.declared.edit.Edit.TheVariants as edit
 use Rattle.store.specs.Book.{Stored, with_changes}
@@ -244,6 +244,7 @@ made p (OpenAccount r) s = refl
 made p (PutContact c) s = refl
 made p (DropContact name) s = refl
 made p (PutDomain d) s = refl
+made p (DropDomain name) s = refl
 made p (PutHost h) s = refl
 made p (DropHost name) s = refl
 made p (RenameHost old new) s =

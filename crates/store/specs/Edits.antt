@@ -8,7 +8,7 @@ use Rattle.lifecycle.specs.declared.change.AccountChange.TheVariants.{Charge, Re
 use Rattle.objects.specs.Links.{names_host}
 use Rattle.policy.specs.Rules.{PolicyRules}
 use Rattle.rules.specs.declared.change.Change.{Change}
-use Rattle.rules.specs.declared.change.Change.TheVariants.{MoveClock, OpenAccount, PutContact, DropContact, PutDomain, PutHost, DropHost, RenameHost, Give}
+use Rattle.rules.specs.declared.change.Change.TheVariants.{MoveClock, OpenAccount, PutContact, DropContact, PutDomain, DropDomain, PutHost, DropHost, RenameHost, Give}
 use Rattle.rules.specs.Changes.{with_host_renamed}
 use Rattle.store.specs.declared.edit.Edit.{Edit}
 use Rattle.store.specs.declared.edit.Edit.TheVariants as edit
@@ -80,6 +80,7 @@ edits_of p (OpenAccount r) s = edit.Account r (Some (account_of r s)) ∷ []
 edits_of p (PutContact c) s = edit.Contact c.name (Some c) ∷ []
 edits_of p (DropContact name) s = edit.Contact name None ∷ []
 edits_of p (PutDomain d) s = edit.Domain d.name (Some d) ∷ []
+edits_of p (DropDomain name) s = edit.Domain name None ∷ []
 edits_of p (PutHost h) s = edit.Host h.name (Some h) ∷ []
 edits_of p (DropHost name) s = edit.Host name None ∷ []
 edits_of p (RenameHost old new) s = renames old new s

@@ -99,6 +99,7 @@ impl Content {
                 let name = domain.name.clone()?;
                 self.one(Edit::Domain(name, Some(domain)))
             }
+            Change::DropDomain(name) => self.one(Edit::Domain(name, None)),
             Change::PutHost(host) => {
                 let name = host.name.clone()?;
                 self.one(Edit::Host(name, Some(host)))

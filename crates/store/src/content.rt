@@ -4,6 +4,7 @@ ghost use Rattle.std.specs.List.{list_any};
 ghost use Rattle.std.specs.Option.{option_copied};
 ghost use Rattle.std.specs.FinMap as finmap;
 ghost use Rattle.accounts.specs.Lines.{balance};
+ghost use Rattle.lifecycle.specs.Refunds.{given_back, refund_at};
 ghost use Rattle.names.specs.GivenName.{name_of};
 ghost use Rattle.store.specs.Ledgers.{lines_of};
 ghost use Rattle.store.specs.Lookups as lookups;
@@ -26,7 +27,7 @@ use calendar::Moment;
 use facts::{
     AccountFacts, ContactFacts, DomainFacts, Facts, HOLDING_LIMIT, HostFacts, Superordinate,
 };
-use lifecycle::standing;
+use lifecycle::{GivenBack, RunningRefund, given_back, standing};
 use model::Object;
 use names::{GivenName, last_two_labels};
 use objects::{
@@ -177,11 +178,40 @@ impl Content {
                 command.presented(name),
             )?),
         };
+        let given_back = self.given_back(caller, command, policy, seen.as_ref());
         Ok(DomainFacts {
             name: name.clone()?,
             seen,
             subordinate: Seq::from_vec(self.hosts_around(command, name)?),
+            given_back,
         })
+    }
+
+    /// What the caller gets back for a domain that it sees in full, where the command asks. All lines
+    /// of its account are gone through then.
+    fn given_back(
+        &self,
+        caller: RegistrarNo,
+        command: &Command,
+        policy: &Policy,
+        seen: Option<&Seen<FullDomain, DomainFace>>,
+    ) -> GivenBack
+        ensures { result ≡ facts.back_asked (facts.lookups policy.now caller command.now (registry_in self.now)) command.now (option_copied seen.entry) }
+    {
+        match seen {
+            Some(Seen::Full(known)) if command.reads_refund() => {
+                self.back_for(caller, policy, &known.domain)
+            }
+            _ => GivenBack::nothing(),
+        }
+    }
+
+    /// What a registrar's account gets back for a domain.
+    fn back_for(&self, registrar: RegistrarNo, policy: &Policy, domain: &Domain) -> GivenBack
+        ensures { result ≡ given_back policy.now (refund_at self.now.clock domain.now) (account_of registrar (registry_in self.now)).lines }
+    {
+        let refund = RunningRefund::of(domain, self.clock);
+        given_back(self.accounts.ledger(registrar), &refund, policy)
     }
 
     /// What the registrar sees of a domain, that presents a secret or none.
