@@ -1,6 +1,6 @@
 -- What is given back is what the balance rises by, and it is given back once.
 use Rattle.std.proofs.Common.{◌≡◌, ℕ, ◌+◌, Bool, true, false, cond, not, ◌&&◌, List, [], ◌∷◌, map, Option, Some, None, is_some, refl, sym, ap, ◌∙◌, arith, ℤ, pos, ◌+ℤ◌}
-use Rattle.std.specs.List.{sum_by}
+use Rattle.std.specs.List.{filter, sum_by}
 use Rattle.std.proofs.lemmas.Bool.{and_parts}
 use Rattle.std.proofs.lemmas.Int.{ints}
 use Rattle.std.proofs.lemmas.List.Sums.{sum_by-cons}
@@ -37,6 +37,16 @@ module _ {A : Type 0} (f : A → ℕ) (le : A → A → Bool) where
   sum-none : {B : Type 0} (g : B → A) → ((x : B) → f (g x) ≡ 0) → (xs : List B) → sum_by f (map g xs) ≡ 0
   sum-none g none [] = refl
   sum-none g none (x ∷ xs) = sum_by-cons f (g x) (map g xs) ∙ omega (arith, none x, sum-none g none xs)
+
+module _ {A : Type 0} (f : A → ℕ) (part : A → Bool) (none : (x : A) → part x ≡ false → f x ≡ 0) where
+  sum-kept : (x : A) (xs rest : List A) (b : Bool) → (b ≡ false → f x ≡ 0) → sum_by f rest ≡ sum_by f xs → sum_by f (cond b (x ∷ rest) rest) ≡ sum_by f (x ∷ xs)
+  sum-kept x xs rest true out ih = sum_by-cons f x rest ∙ ap (λ n. f x + n) ih ∙ sym (sum_by-cons f x xs)
+  sum-kept x xs rest false out ih = omega (arith, ih, out refl, sum_by-cons f x xs)
+
+  -- what is nothing for all others is added up over a part alone
+  sum-filter : (xs : List A) → sum_by f (filter part xs) ≡ sum_by f xs
+  sum-filter [] = refl
+  sum-filter (x ∷ xs) = sum-kept x xs (filter part xs) (part x) (none x) (sum-filter xs)
 
 -- ---- one line
 
@@ -109,5 +119,20 @@ module _ (p : PolicyRules) (r : RunningRefund) where
   }
 
   -- what is given back doesn't hang on the order of lines
-  pub given_back-bag_of : (ls : List Line) → given_back p r (bag_of in_order ls) ≡ given_back p r ls
+  given_back-bag_of : (ls : List Line) → given_back p r (bag_of in_order ls) ≡ given_back p r ls
   given_back-bag_of ls = λ i. record { cents = sum-bag_of (cents_back p r) in_order ls i; years = sum-bag_of (years_back p r) in_order ls i }
+
+  cents-elsewhere : (l : Line) → is_on r.roid l ≡ false → cents_back p r l ≡ 0
+  cents-elsewhere l e = rw e refl
+
+  years-elsewhere : (l : Line) → is_on r.roid l ≡ false → years_back p r l ≡ 0
+  years-elsewhere l e = rw e refl
+
+  -- nor on lines of other domains
+  pub given_back-on : (lines bag : List Line) → bag_of in_order lines ≡ filter (is_on r.roid) bag → given_back p r lines ≡ given_back p r bag
+  given_back-on lines bag e =
+      sym (given_back-bag_of lines) ∙ ap (given_back p r) e
+      ∙ (λ i. record {
+        cents = sum-filter (cents_back p r) (is_on r.roid) cents-elsewhere bag i;
+        years = sum-filter (years_back p r) (is_on r.roid) years-elsewhere bag i;
+      })

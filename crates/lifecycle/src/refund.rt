@@ -92,7 +92,7 @@ fn all_years_back(lines: &[Line], refund: &RunningRefund, policy: &Policy) -> u1
         .sum()
 }
 
-/// The same of all lines.
+/// The same of these lines.
 fn all_back(lines: &[Line], refund: &RunningRefund, policy: &Policy) -> GivenBack
     ensures { result ≡ spec.given_back policy.now refund.now lines.now }
 {
@@ -106,7 +106,7 @@ fn all_back(lines: &[Line], refund: &RunningRefund, policy: &Policy) -> GivenBac
 fn all_back_by(lines: &Lines, refund: &RunningRefund, policy: &Policy) -> GivenBack
     ensures { result ≡ spec.given_back policy.now refund.now lines.now }
 {
-    all_back(lines.as_slice(), refund, policy)
+    all_back(lines.on(&refund.roid), refund, policy)
 }
 
 /// The same of an account, if there is one.
@@ -120,7 +120,7 @@ fn back_of(sponsor: Option<&Account>, refund: &RunningRefund, policy: &Policy) -
 }
 
 /// What a refund gives back of the lines of a domain's sponsor, which has this account or none. It
-/// goes over all of them.
+/// goes over those of the domain alone.
 pub fn given_back(sponsor: Option<&Account>, refund: &RunningRefund, policy: &Policy) -> GivenBack
     ensures { spec.IsGivenBack policy.now refund.now (unwrap_or (option_copied sponsor.entry) empty_account).lines result }
 {
