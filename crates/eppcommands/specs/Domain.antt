@@ -5,7 +5,7 @@ use Rattle.names.specs.Zone.{ZoneRules}
 use Rattle.objects.specs.declared.roid.ObjectKind.TheVariants as kinds
 use Rattle.protocol.specs.declared.form.FormFault.{FormFault}
 use Rattle.protocol.specs.declared.command.Request.{Request}
-use Rattle.protocol.specs.declared.command.Request.TheVariants.{CheckDomain, InfoDomain, CreateDomain, UpdateDomain, RenewDomain}
+use Rattle.protocol.specs.declared.command.Request.TheVariants.{CheckDomain, InfoDomain, CreateDomain, DeleteDomain, UpdateDomain, RenewDomain}
 use Rattle.protocol.specs.declared.command.DomainLists.{DomainLists}
 use Rattle.eppforms.specs.declared.member.Member.TheVariants as members
 use Rattle.eppforms.specs.declared.member.Section.{Section}
@@ -35,6 +35,11 @@ create_domain zone d = do
   hosts ← names_at Host Top members.Hosts zone d
   secret ← text_at Top members.Secret d
   Ok (CreateDomain (record { name = name; years = years; registrant = registrant; admin = admin; tech = tech; hosts = hosts; secret = secret }))
+
+unfoldable pub delete_domain : ZoneRules → Data → Result Request FormFault
+delete_domain zone d = do
+  name ← name_at Domain Top members.Name zone d
+  Ok (DeleteDomain name)
 
 -- what an update adds or removes
 unfoldable pub lists_of_domain : Section → ZoneRules → Data → Result DomainLists FormFault

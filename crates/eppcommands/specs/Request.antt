@@ -9,7 +9,7 @@ use Rattle.eppforms.specs.declared.table.CommandKind.{CommandKind}
 use Rattle.eppforms.specs.declared.table.CommandKind.TheVariants as kinds
 use Rattle.eppforms.specs.Form.{◌>>=◌, checked_command}
 use Rattle.eppcommands.specs.Contact.{check_contact, info_contact, create_contact, delete_contact, update_contact}
-use Rattle.eppcommands.specs.Domain.{check_domain, info_domain, create_domain, update_domain, renew_domain}
+use Rattle.eppcommands.specs.Domain.{check_domain, info_domain, create_domain, delete_domain, update_domain, renew_domain}
 use Rattle.eppcommands.specs.Host.{check_host, info_host, create_host, delete_host, update_host}
 
 abbrev pub request_of : CommandKind → ZoneRules → Data → Result Request FormFault
@@ -24,6 +24,7 @@ request_of kinds.CreateContact zone d = create_contact d
 request_of kinds.CreateDomain zone d = create_domain zone d
 request_of kinds.CreateHost zone d = create_host zone d
 request_of kinds.DeleteContact zone d = delete_contact d
+request_of kinds.DeleteDomain zone d = delete_domain zone d
 request_of kinds.DeleteHost zone d = delete_host zone d
 request_of kinds.UpdateContact zone d = update_contact d
 request_of kinds.UpdateDomain zone d = update_domain zone d

@@ -54,6 +54,14 @@ pub fn create_domain(alloc: Global, value: &Value, zone: &Zone) -> Result<Reques
     }))
 }
 
+#[tactic(auto, unfolding(crate::specs::Domain::delete_domain))]
+pub fn delete_domain(alloc: Global, value: &Value, zone: &Zone) -> Result<Request, Fault>
+    ensures { Gives result (spec.delete_domain zone.now (view value.now)) }
+{
+    let name = name_at(alloc, NameOf::Domain, Top, Member::Name, value, zone)?;
+    Ok(Request::DeleteDomain { name })
+}
+
 #[tactic(auto, unfolding(crate::specs::Domain::update_domain))]
 pub fn update_domain(alloc: Global, value: &Value, zone: &Zone) -> Result<Request, Fault>
     ensures { Gives result (spec.update_domain zone.now (view value.now)) }

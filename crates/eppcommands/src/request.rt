@@ -4,7 +4,9 @@ ghost use Rattle.eppcommands.specs.Reading.{Gives};
 ghost use Rattle.eppcommands.specs.Request as spec;
 
 use crate::contact::{check_contact, create_contact, delete_contact, info_contact, update_contact};
-use crate::domain::{check_domain, create_domain, info_domain, renew_domain, update_domain};
+use crate::domain::{
+    check_domain, create_domain, delete_domain, info_domain, renew_domain, update_domain,
+};
 use crate::host::{check_host, create_host, delete_host, info_host, update_host};
 use crate::reading::Fault;
 use eppforms::{CommandKind, checked_command};
@@ -30,6 +32,7 @@ pub fn request_in(alloc: Global, value: &Value, zone: &Zone) -> Result<Request, 
         CommandKind::CreateDomain => create_domain(alloc, value, zone),
         CommandKind::CreateHost => create_host(alloc, value, zone),
         CommandKind::DeleteContact => delete_contact(alloc, value),
+        CommandKind::DeleteDomain => delete_domain(alloc, value, zone),
         CommandKind::DeleteHost => delete_host(alloc, value, zone),
         CommandKind::UpdateContact => update_contact(alloc, value),
         CommandKind::UpdateDomain => update_domain(alloc, value, zone),

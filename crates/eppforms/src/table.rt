@@ -83,6 +83,7 @@ pub enum CommandKind {
     CreateDomain,
     CreateHost,
     DeleteContact,
+    DeleteDomain,
     DeleteHost,
     UpdateContact,
     UpdateDomain,
@@ -314,6 +315,9 @@ const CREATE_HOST: &[Field] = members![must!(Top, Name, NAME), may!(Top, Addrs, 
 /// RFC 5733, 3.2.2.
 const DELETE_CONTACT: &[Field] = members![must!(Top, Name, HANDLE)];
 
+/// RFC 5731, 3.2.2.
+const DELETE_DOMAIN: &[Field] = members![must!(Top, Name, NAME)];
+
 /// RFC 5732, 3.2.2.
 const DELETE_HOST: &[Field] = members![must!(Top, Name, NAME)];
 
@@ -389,6 +393,7 @@ pub const FORMS: &[CommandForm] = &[
     (on!(Create, Domain, CreateDomain), CREATE_DOMAIN),
     (on!(Create, Host, CreateHost), CREATE_HOST),
     (on!(Delete, Contact, DeleteContact), DELETE_CONTACT),
+    (on!(Delete, Domain, DeleteDomain), DELETE_DOMAIN),
     (on!(Delete, Host, DeleteHost), DELETE_HOST),
     (on!(Update, Contact, UpdateContact), UPDATE_CONTACT),
     (on!(Update, Domain, UpdateDomain), UPDATE_DOMAIN),

@@ -15,12 +15,13 @@ use Rattle.protocol.specs.Codes.{number_of, message_of}
 use Rattle.protocol.specs.declared.reply.Reply.{Reply}
 use Rattle.protocol.specs.declared.reply.SvTrid.{SvTrid}
 use Rattle.protocol.specs.declared.reply.Data as the_data
-use Rattle.protocol.specs.declared.reply.Data.TheVariants.{Checked, Created, Balance, Renewed, Contact, Domain, Host}
+use Rattle.protocol.specs.declared.reply.Data.TheVariants.{Checked, Created, Balance, Renewed, Deleted, Contact, Domain, Host}
 use Rattle.protocol.specs.declared.reply.CheckResult.{CheckResult}
 use Rattle.protocol.specs.declared.reply.Reason.{Reason}
 use Rattle.protocol.specs.declared.reply.Reason.TheVariants.{Policy, InUse}
 use Rattle.protocol.specs.declared.reply.Created as the_created
 use Rattle.protocol.specs.declared.reply.Renewed as the_renewed
+use Rattle.protocol.specs.declared.reply.Deleted as the_deleted
 use Rattle.protocol.specs.declared.reply.ContactInfo.{ContactInfo}
 use Rattle.protocol.specs.declared.reply.DomainInfo.{DomainInfo}
 use Rattle.protocol.specs.declared.reply.HostInfo.{HostInfo}
@@ -78,6 +79,16 @@ renewed_members r =
 
 abbrev pub renewed_value : the_renewed.Renewed → Data
 renewed_value r = object (members_with (renewed_members r))
+
+-- ---- delete of a domain (RFC 5731, 3.2.2)
+
+abbrev pub deleted_members : the_deleted.Deleted → List (List ℕ × Option Data)
+deleted_members d =
+    (codes "name", Some (string d.name))
+    ∷ (codes "refund", Some (string (decimal d.refund))) ∷ []
+
+abbrev pub deleted_value : the_deleted.Deleted → Data
+deleted_value d = object (members_with (deleted_members d))
 
 -- ---- transfers (RFC 5730, 2.9.3.4)
 
@@ -199,6 +210,7 @@ data_value (Checked results) = object (members_with ((codes "results", Some (che
 data_value (Created c) = created_value c
 data_value (Balance cents) = balance_value cents
 data_value (Renewed r) = renewed_value r
+data_value (Deleted d) = deleted_value d
 data_value (Contact c) = contact_value c
 data_value (Domain d) = domain_value d
 data_value (Host h) = host_value h

@@ -11,8 +11,8 @@ use crate::item::{Item, object, states};
 use calendar::Moment;
 use objects::{Deletion, Postal, Roid, TransferState};
 use protocol::{
-    CheckResult, ContactInfo, Created, Data, DomainInfo, HostInfo, Reason, Renewed, Reply, SvTrid,
-    TransferInfo,
+    CheckResult, ContactInfo, Created, Data, Deleted, DomainInfo, HostInfo, Reason, Renewed, Reply,
+    SvTrid, TransferInfo,
 };
 use serde_json::Value;
 use std::alloc::{AllocError, Global};
@@ -61,6 +61,7 @@ fn data_value(alloc: Global, content: &Data) -> Result<Value, AllocError>
         Data::Created(created) => created_value(alloc, created),
         Data::Balance(cents) => balance_value(alloc, *cents),
         Data::Renewed(renewed) => renewed_value(alloc, renewed),
+        Data::Deleted(deleted) => deleted_value(alloc, deleted),
         Data::Contact(info) => contact_value(alloc, info),
         Data::Domain(info) => domain_value(alloc, info),
         Data::Host(info) => host_value(alloc, info),
@@ -106,7 +107,7 @@ fn created_value(alloc: Global, created: &Created) -> Result<Value, AllocError>
     ensures { IfOk result (λ v. view v ≡ spec.created_value created.now) }
 {
     let charge = match created.charge {
-        Some(cents) => Item::Given(cents_value(alloc, cents)?),
+        Some(cents) => Item::Given(cents_value(alloc, u128::from(cents))?),
         None => Item::Absent,
     };
     let members = vec![in alloc;
@@ -128,7 +129,7 @@ fn balance_value(alloc: Global, cents: i128) -> Result<Value, AllocError>
 fn renewed_value(alloc: Global, renewed: &Renewed) -> Result<Value, AllocError>
     ensures { IfOk result (λ v. view v ≡ spec.renewed_value renewed.now) }
 {
-    let charge = cents_value(alloc, renewed.charge)?;
+    let charge = cents_value(alloc, u128::from(renewed.charge))?;
     let members = vec![in alloc;
         ("charge", Item::Given(charge)),
         ("exDate", Item::Time(renewed.expires)),
@@ -137,8 +138,19 @@ fn renewed_value(alloc: Global, renewed: &Renewed) -> Result<Value, AllocError>
     object(alloc, members)
 }
 
+fn deleted_value(alloc: Global, deleted: &Deleted) -> Result<Value, AllocError>
+    ensures { IfOk result (λ v. view v ≡ spec.deleted_value deleted.now) }
+{
+    let refund = cents_value(alloc, deleted.refund)?;
+    let members = vec![in alloc;
+        ("name", Item::Text(&deleted.name)),
+        ("refund", Item::Given(refund)),
+    ]?;
+    object(alloc, members)
+}
+
 /// Money is shown as a text of whole cents.
-fn cents_value(alloc: Global, cents: u64) -> Result<Value, AllocError>
+fn cents_value(alloc: Global, cents: u128) -> Result<Value, AllocError>
     ensures { IfOk result (λ v. view v ≡ string (decimal cents)) }
 {
     Ok(Value::String(format!(in alloc; "{cents}")?))
