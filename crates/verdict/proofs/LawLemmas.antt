@@ -1,5 +1,5 @@
 -- The laws that the tables keep, row by row.
-use Rattle.std.proofs.Common.{◌≡◌, ℕ, ◌*◌, ◌<◌, Bool, true, false, not, ◌&&◌, nat_lt, ℤ, pos, int_lt, ◌≤ℤ◌, inl, inr, List, Option, Some, None, Result, Ok, Err, IfOk, refl, sym, ap, subst, ◌∙◌, arith}
+use Rattle.std.proofs.Common.{◌≡◌, ℕ, ◌<◌, Bool, true, false, not, ◌&&◌, nat_lt, ℤ, pos, int_lt, ◌≤ℤ◌, inl, inr, List, Option, Some, None, Result, Ok, Err, IfOk, refl, sym, ap, subst, ◌∙◌, arith}
 use Rattle.std.proofs.lemmas.Bool.{and_cases, lt-ltb}
 use Rattle.std.proofs.lemmas.Int.{ints}
 use Rattle.policy.specs.Rules.{PolicyRules}
@@ -11,14 +11,12 @@ use Rattle.protocol.specs.declared.command.Action.TheVariants.{Create, Delete, U
 use Rattle.protocol.specs.declared.command.Command.{Command}
 use Rattle.protocol.specs.declared.command.Command.TheVariants.{Bad, Asked}
 use Rattle.protocol.specs.declared.command.Request.{Request}
-use Rattle.protocol.specs.declared.command.Request.TheVariants.{Balance, CheckContact, CheckDomain, CheckHost, InfoContact, InfoDomain, InfoHost, CreateContact, CreateDomain, CreateHost, DeleteContact, DeleteDomain, DeleteHost, UpdateContact, UpdateDomain, UpdateHost, RenewDomain}
-use Rattle.protocol.specs.Codes.{is_accepted}
+use Rattle.protocol.specs.declared.command.Request.TheVariants.{InfoContact, InfoDomain, InfoHost, CreateContact, CreateDomain, CreateHost, DeleteContact, DeleteDomain, DeleteHost, UpdateContact, UpdateDomain, UpdateHost, RenewDomain}
 use Rattle.protocol.specs.Requests.{asks_of}
-use Rattle.verdict.specs.declared.rules.Condition.{Condition}
 use Rattle.verdict.specs.declared.rules.Condition.TheVariants.{IsThere, IsMissing, IsAnothers, SecretIsWrong, Shows, StillShows, IsLinked, HasSubordinates, LacksMoney}
 use Rattle.verdict.specs.declared.verdict.Verdict.{Verdict}
 use Rattle.verdict.specs.Charges.{charge_of}
-use Rattle.verdict.specs.Conditions.{has_subordinates, holds, is_linked, is_of_another, is_there, secret_is_wrong, shows_status, still_shows}
+use Rattle.verdict.specs.Conditions.{has_subordinates, is_linked, is_of_another, is_there, secret_is_wrong, shows_status, still_shows}
 use Rattle.verdict.specs.Laws.{ActsOnObject, Alters, AnswersLawfully, IsLawful, KeepsLaws}
 use Rattle.verdict.specs.ResponseData.{response_data}
 use Rattle.verdict.specs.Rules.{refusal_of}

@@ -1,5 +1,5 @@
 -- What a command is answered.
-use Rattle.std.specs.Prelude.{ℕ, List, Option, Some, None}
+use Rattle.std.specs.Prelude.{ℕ, Option, Some, None}
 use Rattle.policy.specs.Rules.{PolicyRules}
 use Rattle.protocol.specs.declared.code.Code.{Code}
 use Rattle.protocol.specs.declared.code.Code.TheVariants.{Completed}
