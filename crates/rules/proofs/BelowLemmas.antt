@@ -1,5 +1,5 @@
 -- A host in the zone lies below its superordinate domain (RFC 5732, 1.1).
-use Rattle.std.proofs.Common.{◌≡◌, ℕ, ◌+◌, ◌-◌, ◌<◌, ◌==◌, nat_lt, nat_eq, Bool, true, ◌&&◌, List, ◌∷◌, ◌++◌, Some, drop, length, get_or, slice_index, refl, sym, ap, subst, ◌∙◌, arith}
+use Rattle.std.proofs.Common.{◌≡◌, ℕ, ◌+◌, ◌-◌, ◌==◌, nat_eq, true, ◌&&◌, List, ◌∷◌, ◌++◌, Some, drop, length, get_or, slice_index, sym, ap, subst, ◌∙◌, arith}
 use Rattle.std.specs.Cmp.Lexicographic.{pointwise}
 use Rattle.std.specs.List.{ends_with}
 use Rattle.std.proofs.Math.Seq.{drop-append-add, get_or-append_seam}

@@ -1,5 +1,5 @@
 -- The deletion of a domain keeps a registry well formed.
-use Rattle.std.proofs.Common.{◌≡◌, ◌≢◌, inl, inr, ℕ, Bool, true, false, not, List, Option, Some, None, IsSome, option_and_then, option_map, refl, sym, ap, subst, ◌∙◌, arith}
+use Rattle.std.proofs.Common.{◌≡◌, ◌≢◌, inl, inr, ℕ, Bool, true, false, not, List, Option, Some, None, IsSome, option_and_then, refl, sym, ap, subst, ◌∙◌, arith}
 use Rattle.std.specs.FinMap.{get}
 use Rattle.std.proofs.lemmas.Bool.{not-false, or_parts}
 use Rattle.accounts.specs.Account.{with_command}
@@ -26,7 +26,6 @@ use Rattle.protocol.specs.Requests.{holds_of}
 use Rattle.facts.specs.declared.facts.DomainFacts.{DomainFacts}
 use Rattle.facts.specs.Facts.{domain_at, domain_facts, facts, lookups, subordinate}
 use Rattle.model.specs.Registry.{Registry}
-use Rattle.model.specs.View.{domain_sight}
 use Rattle.model.specs.WellFormed.{IsRegistry}
 use Rattle.verdict.specs.declared.rules.Condition.TheVariants.{HasSubordinates, Shows}
 use Rattle.verdict.specs.Conditions.{domain_seen_shows, is_shown}

@@ -1,5 +1,5 @@
 -- What a command changes meets what is asked of changes.
-use Rattle.std.proofs.Common.{◌≡◌, inl, ℕ, Bool, true, false, cond, List, [], ◌∷◌, Option, Some, None, option_and_then, option_map, refl, sym, ap, subst, ◌∙◌}
+use Rattle.std.proofs.Common.{◌≡◌, inl, ℕ, Bool, true, false, cond, List, [], Option, Some, None, option_and_then, option_map, refl, sym, ap, subst, ◌∙◌}
 use Rattle.std.specs.Cmp.{nat_cmp_total, eq_by_cmp_equiv}
 use Rattle.std.specs.Cmp.Lexicographic.{slice_cmp, nat_list_cmp_total}
 use Rattle.std.specs.FinMap.{get}
@@ -13,7 +13,6 @@ use Rattle.objects.specs.declared.contact.ContactFace.{ContactFace}
 use Rattle.objects.specs.declared.domain.Domain.{Domain}
 use Rattle.objects.specs.declared.domain.DomainFace.{DomainFace}
 use Rattle.objects.specs.declared.domain.FullDomain.{FullDomain}
-use Rattle.objects.specs.declared.grace.Graces.{Graces}
 use Rattle.objects.specs.declared.host.Host.{Host}
 use Rattle.objects.specs.declared.sight.Seen.{Seen}
 use Rattle.objects.specs.declared.sight.Seen.TheVariants.{Full, TransferParty, Public}
@@ -26,7 +25,6 @@ use Rattle.rules.specs.Steps.{decision}
 use Rattle.rules.proofs.CommandLemmas.{at-itself, domain-full}
 use Rattle.rules.proofs.SightLemmas.{graces-seen, sponsor-seen}
 use Rattle.rules.proofs.ViewLemmas.{AllMeet, Meets, graces_kept, graces_put, same_number}
-use Rattle.protocol.specs.declared.code.Code.{Code}
 use Rattle.protocol.specs.declared.command.Command.{Command}
 use Rattle.protocol.specs.declared.command.Command.TheVariants.{Bad, Asked}
 use Rattle.protocol.specs.declared.command.ContactUpdate.{ContactUpdate}
@@ -36,7 +34,6 @@ use Rattle.protocol.specs.declared.command.Request.{Request}
 use Rattle.protocol.specs.declared.command.Request.TheVariants as requests
 use Rattle.protocol.specs.Codes.{is_accepted}
 use Rattle.facts.specs.declared.facts.DomainFacts.{DomainFacts}
-use Rattle.facts.specs.declared.facts.Facts.{Facts}
 use Rattle.facts.specs.Facts.{contact_seen, domain_at, domain_facts, domain_seen, facts, host_seen, lookups}
 use Rattle.model.specs.Registry.{Registry, account_of}
 use Rattle.lifecycle.specs.Graces.{graces}

@@ -15,7 +15,6 @@ use Rattle.protocol.specs.declared.command.Command.{Command}
 use Rattle.protocol.specs.declared.command.Command.TheVariants.{Asked, Bad}
 use Rattle.protocol.specs.declared.command.Request.{Request}
 use Rattle.protocol.specs.declared.command.Request.TheVariants.{Balance, CheckContact, CheckDomain, CheckHost, InfoContact, InfoDomain, InfoHost, CreateContact, CreateDomain, CreateHost, DeleteContact, DeleteDomain, DeleteHost, UpdateContact, UpdateDomain, UpdateHost, RenewDomain}
-use Rattle.protocol.specs.declared.reply.Data.{Data}
 use Rattle.verdict.specs.declared.rules.Condition.TheVariants.{ReferenceIsMissing}
 use Rattle.protocol.specs.Codes.{is_accepted}
 use Rattle.facts.specs.declared.facts.Facts.{Facts}
@@ -24,7 +23,6 @@ use Rattle.names.specs.GivenName.{name_of}
 use Rattle.model.specs.Registry.{Registry, account_of}
 use Rattle.verdict.specs.Deletion.{goes_at_once}
 use Rattle.verdict.specs.Rules.{refusal_of}
-use Rattle.verdict.specs.ResponseData.{response_data}
 use Rattle.verdict.specs.Verdicts.{code_granted, granted, judged, unless_refused}
 use Rattle.model.specs.WellFormed.{IsRegistry}
 
