@@ -1,10 +1,10 @@
 -- The bag of lines that are kept by their domains.
-use Rattle.std.proofs.Common.{◌≡◌, ℕ, ◌+◌, ◌<◌, ◌≤◌, ◌==◌, suc, Bool, true, false, cond, ◌&&◌, List, [], ◌∷◌, ◌++◌, map, length, length-append, Option, Some, None, Result, Ok, Err, refl, sym, ap, subst, ◌∙◌, arith, ℤ, pos, negsuc, ◌+ℤ◌, ◌-ℤ◌, ◌≤ℤ◌}
+use Rattle.std.proofs.Common.{◌≡◌, ℕ, ◌+◌, ◌<◌, ◌≤◌, ◌==◌, suc, Bool, true, false, cond, ◌&&◌, List, [], ◌∷◌, ◌++◌, map, length, length-append, Option, Some, None, Result, Ok, Err, refl, sym, ap, subst, ◌∙◌, arith, ℤ, ◌+ℤ◌, ◌-ℤ◌}
 use Rattle.std.specs.Prelude.{unwrap_or}
 use Rattle.std.proofs.lemmas.Bool.Decides.{nat_tests}
 use Rattle.std.proofs.lemmas.Cmp.{nat_list_cmp_total}
 use Rattle.std.proofs.lemmas.Int.{ints}
-use Rattle.std.proofs.lemmas.List.{length-map, map-append}
+use Rattle.std.proofs.lemmas.List.{append-nil, length-map, map-append}
 use Rattle.std.proofs.lemmas.List.Elements.{filter-append, recursion_from_All}
 use Rattle.std.proofs.lemmas.Map.{NonePasses, none_passes_from_lookup}
 use Rattle.std.proofs.lemmas.Map.Entries.{none_past_head}
@@ -28,7 +28,7 @@ use Rattle.objects.specs.declared.roid.Roid.{Roid}
 use Rattle.accounts.specs.declared.line.Line.{Line}
 use Rattle.accounts.specs.Groups.{IsBounded, IsGroup, IsGrouped, IsSmall, IsUnder, all_lines}
 use Rattle.accounts.specs.Lines.{balance, in_order, is_of, is_on, object_rank, roid_numbers}
-use Rattle.accounts.proofs.LineLaws.{amount-bound, balance-append, balance-bag_of, lines_in_order}
+use Rattle.accounts.proofs.LineLaws.{balance-append, balance-bag_of, bounded-cons, bounded-small, fits, lines_in_order}
 
 abbrev by_numbers : List ℕ → List ℕ → Ordering
 by_numbers = slice_cmp nat_cmp
@@ -173,10 +173,6 @@ filter-none roid (g ∷ gs) groups none =
 numbers_equiv : IsEquivalence (eq_by_cmp by_numbers)
 numbers_equiv = eq_by_cmp_equiv nat_list_cmp_total
 
-append-nil : (ls : List Line) → ls ++ [] ≡ ls
-append-nil [] = refl
-append-nil (l ∷ ls) = ap (λ ms. l ∷ ms) (append-nil ls)
-
 filter-at : (roid : Roid) (g : List ℕ × List Line) (gs : List (List ℕ × List Line)) (b : Bool) → at (key_of roid) g.0 ≡ b → AllByRecursion IsGroup (g ∷ gs) → IsDistinct (eq_by_cmp by_numbers) (keys_of (g ∷ gs))
     → filter (is_on roid) (all_lines gs) ≡ unwrap_or (lookup (at (key_of roid)) gs) []
     → (filter (is_on roid) g.1 ++ filter (is_on roid) (all_lines gs)) ≡ unwrap_or (cond b (Some g.1) (lookup (at (key_of roid)) gs)) []
@@ -297,16 +293,11 @@ pub few-found : (key : List ℕ) (gs : List (List ℕ × List Line)) (ls : List 
 few-found key gs ls e = omega (arith, few-all key gs ls (sym e), length-bag_of (all_lines gs))
 
 bounded-under : (key : List ℕ) (ls rest : List Line) → AllByRecursion (IsUnder key) ls → IsBounded rest → IsBounded (ls ++ rest)
-unfolding balance
 bounded-under key [] rest group h = h
-bounded-under key (l ∷ ls) rest group h =
-    let more : IsBounded (ls ++ rest) = bounded-under key ls rest group.1 h in
-    let bound = amount-bound l group.0.small in
-    record { low = omega (arith, ints, more.low, bound.0); high = omega (arith, ints, more.high, bound.1) }
+bounded-under key (l ∷ ls) rest group h = bounded-cons l (ls ++ rest) group.0.small (bounded-under key ls rest group.1 h)
 
 bounded-all : (gs : List (List ℕ × List Line)) → AllByRecursion IsGroup gs → IsBounded (all_lines gs)
-unfolding balance
-bounded-all [] groups = record { low = omega (arith, ints); high = omega (arith, ints) }
+bounded-all [] groups = bounded-small [] tt
 bounded-all (g ∷ gs) groups = bounded-under g.0 g.1 (all_lines gs) groups.0 (bounded-all gs groups.1)
 
 pub bounded : (gs : List (List ℕ × List Line)) → AllByRecursion IsGroup gs → IsBounded (bag (all_lines gs))
@@ -367,18 +358,6 @@ remade-grouped f stays key gs ns ls ms h e n sorted made small =
     record { sorted = sorted; under = subst (AllByRecursion IsGroup) (sym n) (groups-set_value key ms gs h.under group) }
 
 -- ---- sums in 128 bits
-
-pub fits : (z : ℤ) → (pos 0 -ℤ pos 170_141_183_460_469_231_731_687_303_715_884_105_728) ≤ℤ z → z ≤ℤ pos 170_141_183_460_469_231_731_687_303_715_884_105_727 → saturate_signed w128 z ≡ z
-fits (pos n) low high = ap pos (omega (arith, ints, high))
-fits (negsuc n) low high = ap negsuc (omega (arith, ints, low))
-
-bounded-small : (ls : List Line) → AllByRecursion IsSmall ls → IsBounded ls
-unfolding balance
-bounded-small [] small = record { low = omega (arith, ints); high = omega (arith, ints) }
-bounded-small (l ∷ ls) small =
-    let more : IsBounded ls = bounded-small ls small.1 in
-    let bound = amount-bound l small.0 in
-    record { low = omega (arith, ints, more.low, bound.0); high = omega (arith, ints, more.high, bound.1) }
 
 -- what a few lines gain
 pub gain-fits : (old new : List Line) (a b r : ℤ) → length old < 4_611_686_018_427_387_904 → length new ≡ length old → All IsSmall old → All IsSmall new

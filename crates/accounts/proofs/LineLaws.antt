@@ -1,10 +1,10 @@
 -- Lines stand in an order, and balances are sums.
-use Rattle.std.proofs.Common.{◌≡◌, ℕ, ◌+◌, ◌*◌, ◌<◌, ◌≤◌, Bool, true, false, cond, nat_eq, List, [], ◌∷◌, ◌++◌, length, take, get_or, Option, Some, None, is_some, refl, sym, ap, subst, ◌∙◌, arith, ℤ, pos, negsuc, ◌+ℤ◌, ◌-ℤ◌, ◌≤ℤ◌}
+use Rattle.std.proofs.Common.{◌≡◌, ℕ, ◌+◌, ◌<◌, Bool, true, false, cond, nat_eq, List, [], ◌∷◌, ◌++◌, length, take, get_or, Option, Some, None, is_some, refl, sym, ap, subst, ◌∙◌, arith, ℤ, pos, negsuc, ◌+ℤ◌, ◌-ℤ◌, ◌≤ℤ◌}
 use Rattle.std.specs.Int.{saturate_signed, w128}
-use Rattle.std.specs.List.{All}
+use Rattle.std.specs.List.{All, AllByRecursion}
 use Rattle.std.proofs.lemmas.Int.{ints}
-use Rattle.std.proofs.lemmas.List.{take_more}
-use Rattle.std.proofs.lemmas.List.Elements.{All-more}
+use Rattle.std.proofs.lemmas.List.{length-take-le, take_more}
+use Rattle.std.proofs.lemmas.List.Elements.{All-more, All-nil, recursion_from_All}
 use Rattle.std.proofs.lemmas.Cmp.{nat_list_cmp_total}
 use Rattle.std.specs.Cmp.{IsTotalOrder}
 use Rattle.std.specs.Cmp.Lexicographic.{slice_cmp}
@@ -19,7 +19,7 @@ use Rattle.objects.specs.declared.roid.Roid.{Roid}
 use Rattle.accounts.specs.declared.line.Line.{Line}
 use Rattle.accounts.specs.declared.line.LineKind.{LineKind}
 use Rattle.accounts.specs.declared.line.LineKind.TheVariants as kinds
-use Rattle.accounts.specs.Groups.{IsSmall}
+use Rattle.accounts.specs.Groups.{IsBounded, IsSmall}
 use Rattle.accounts.specs.Lines.{amount, amount_of, balance, in_order, is_kind, kind_rank, maybe_number, numbers, object_rank, roid_numbers}
 
 -- ---- the order by an injective reading
@@ -144,55 +144,52 @@ balance-one : (x : Line) → balance (x ∷ []) ≡ amount x
 unfolding balance
 balance-one x = omega (arith, ints)
 
-pub balance-more : (xs : List Line) (i : ℕ) (x : Line) → i < length xs → x ≡ get_or xs i x → balance (take (i + 1) xs) ≡ balance (take i xs) +ℤ amount x
+balance-more : (xs : List Line) (i : ℕ) (x : Line) → i < length xs → x ≡ get_or xs i x → balance (take (i + 1) xs) ≡ balance (take i xs) +ℤ amount x
 balance-more xs i x h e =
     ap balance (take_more xs i x h) ∙ balance-append (take i xs) (get_or xs i x ∷ []) ∙ ap (λ (y : Line). balance (take i xs) +ℤ balance (y ∷ [])) (sym e)
     ∙ ap (λ z. balance (take i xs) +ℤ z) (balance-one x)
-
--- the sum of few enough lines
-pub record IsSum (lines : List Line) (i : ℕ) (all : ℤ) : Type 0 where
-  pub sum : all ≡ balance (take i lines)
-  pub low : (pos 0 -ℤ pos (i * 18_446_744_073_709_551_615)) ≤ℤ all
-  pub high : all ≤ℤ pos (i * 18_446_744_073_709_551_615)
-
-pub sum-begins : (lines : List Line) → IsSum lines 0 (pos 0)
-unfolding balance
-sum-begins lines = record { sum = refl; low = omega (arith, ints); high = omega (arith, ints) }
 
 bound : (d r : Bool) (c : ℕ) → c < 18_446_744_073_709_551_616 → ((pos 0 -ℤ pos 18_446_744_073_709_551_615) ≤ℤ amount_of d r c) × (amount_of d r c ≤ℤ pos 18_446_744_073_709_551_615)
 bound true r c h = (omega (arith, ints), omega (arith, ints))
 bound false true c h = (omega (arith, ints), omega (arith, ints))
 bound false false c h = (omega (arith, ints), omega (arith, ints))
 
-pub amount-bound : (l : Line) → l.cents < 18_446_744_073_709_551_616 → ((pos 0 -ℤ pos 18_446_744_073_709_551_615) ≤ℤ amount l) × (amount l ≤ℤ pos 18_446_744_073_709_551_615)
-amount-bound l h = bound (is_kind l.kind kinds.Deposit) (is_some l.refunded) l.cents h
+bounded-nil : IsBounded []
+unfolding balance
+bounded-nil = record { low = omega (arith, ints); high = omega (arith, ints) }
 
-pub sum-more : (lines : List Line) (i : ℕ) (l : Line) (all : ℤ) → i < length lines → l ≡ get_or lines i l → l.cents < 18_446_744_073_709_551_616 → IsSum lines i all → IsSum lines (i + 1) (all +ℤ amount l)
-sum-more lines i l all lt e small h =
-    let bound = amount-bound l small in
-    record {
-      sum = ap (λ z. z +ℤ amount l) h.sum ∙ sym (balance-more lines i l lt e);
-      low = omega (arith, ints, h.low, bound.0);
-      high = omega (arith, ints, h.high, bound.1);
-    }
+pub bounded-cons : (l : Line) (ls : List Line) → IsSmall l → IsBounded ls → IsBounded (l ∷ ls)
+unfolding balance
+bounded-cons l ls small h =
+    let most = bound (is_kind l.kind kinds.Deposit) (is_some l.refunded) l.cents small in
+    record { low = omega (arith, ints, h.low, most.0); high = omega (arith, ints, h.high, most.1) }
 
-pub saturated : (lines : List Line) (i : ℕ) (z : ℤ) → i ≤ 4_611_686_018_427_387_904 → IsSum lines i z → saturate_signed w128 z ≡ z
-saturated lines i (pos n) few h = ap pos (omega (arith, ints, h.high))
-saturated lines i (negsuc n) few h = ap negsuc (omega (arith, ints, h.low))
+pub bounded-small : (ls : List Line) → AllByRecursion IsSmall ls → IsBounded ls
+bounded-small [] small = bounded-nil
+bounded-small (l ∷ ls) small = bounded-cons l ls small.0 (bounded-small ls small.1)
+
+pub fits : (z : ℤ) → (pos 0 -ℤ pos 170_141_183_460_469_231_731_687_303_715_884_105_728) ≤ℤ z → z ≤ℤ pos 170_141_183_460_469_231_731_687_303_715_884_105_727 → saturate_signed w128 z ≡ z
+fits (pos n) low high = ap pos (omega (arith, ints, high))
+fits (negsuc n) low high = ap negsuc (omega (arith, ints, low))
+
+-- the sum of the lines so far, and that none is of more cents than fit
+pub record IsSum (lines : List Line) (i : ℕ) (all : ℤ) : Type 0 where
+  pub small : All IsSmall (take i lines)
+  pub sum : length lines < 4_611_686_018_427_387_904 → all ≡ balance (take i lines)
+
+pub sum-begins : (lines : List Line) → IsSum lines 0 (pos 0)
+unfolding balance
+sum-begins lines = record { small = All-nil IsSmall; sum = λ few. refl }
 
 -- the step, in the words of the code
-pub sum-step : (lines : List Line) (i : ℕ) (l : Line) (all a r : ℤ) → i < length lines → l ≡ get_or lines i l → l.cents < 18_446_744_073_709_551_616 → length lines < 4_611_686_018_427_387_904
-    → a ≡ amount l → r ≡ saturate_signed w128 (all +ℤ a) → IsSum lines i all → IsSum lines (i + 1) r
-sum-step lines i l all a r lt e small few same sat h =
-    let next : IsSum lines (i + 1) (all +ℤ amount l) = sum-more lines i l all lt e small h in
-    let value : r ≡ all +ℤ amount l = sat ∙ ap (λ z. saturate_signed w128 (all +ℤ z)) same ∙ saturated lines (i + 1) (all +ℤ amount l) (omega arith) next in
-    rw value next
-
--- the same, and no line read so far is of more cents than fit
-pub record IsSummed (lines : List Line) (i : ℕ) (all : ℤ) : Type 0 where
-  pub small : All IsSmall (take i lines)
-  pub sum : length lines < 4_611_686_018_427_387_904 → IsSum lines i all
-
--- the line at a place is one more
-pub All-read : (lines : List Line) (i : ℕ) (l : Line) → i < length lines → l ≡ get_or lines i l → IsSmall l → All IsSmall (take i lines) → All IsSmall (take (i + 1) lines)
-All-read lines i l lt e small h = All-more IsSmall lines i l lt h (subst IsSmall e small)
+pub sum-step : (lines : List Line) (i : ℕ) (l : Line) (all a r : ℤ) → i < length lines → l ≡ get_or lines i l → IsSmall l → a ≡ amount l → r ≡ saturate_signed w128 (all +ℤ a) → IsSum lines i all → IsSum lines (i + 1) r
+sum-step lines i l all a r lt e small same sat h =
+    let smalls : All IsSmall (take (i + 1) lines) = All-more IsSmall lines i l lt h.small (subst IsSmall e small) in
+    let bounded : IsBounded (take (i + 1) lines) = bounded-small (take (i + 1) lines) (recursion_from_All IsSmall (take (i + 1) lines) smalls) in
+    let many : length (take (i + 1) lines) ≡ i + 1 = length-take-le (i + 1) lines (omega (arith, lt)) in
+    record {
+      small = smalls;
+      sum = λ few.
+          let more : balance (take (i + 1) lines) ≡ all +ℤ a = balance-more lines i l lt e ∙ (λ j. sym (h.sum few) j +ℤ sym same j) in
+          sat ∙ ap (saturate_signed w128) (sym more) ∙ fits (balance (take (i + 1) lines)) (omega (arith, ints, bounded.low, many, few, lt)) (omega (arith, ints, bounded.high, many, few, lt));
+    }
