@@ -67,7 +67,7 @@ impl Lines {
         Ok(())
     }
 
-    /// Makes each line what the change makes of it.
+    /// Makes each line what the change makes of it. It goes over those of the change's domain alone.
     pub fn remake<C: LineChange>(&mut self, change: &C)
         ensures { self.new ≡ remade in_order (C.changed change.now) self.old }
     {
