@@ -1,11 +1,12 @@
 -- The bag of lines that are kept by their domains.
-use Rattle.std.proofs.Common.{◌≡◌, ℕ, ◌+◌, ◌<◌, ◌≤◌, ◌==◌, suc, Bool, true, false, cond, ◌&&◌, List, [], ◌∷◌, ◌++◌, map, length, length-append, Option, Some, None, Result, Ok, Err, refl, sym, ap, subst, ◌∙◌, arith, ℤ, ◌+ℤ◌, ◌-ℤ◌}
+use Rattle.std.proofs.Common.{◌≡◌, ℕ, ◌+◌, ◌<◌, ◌≤◌, ◌==◌, suc, Bool, true, false, cond, ◌&&◌, ◌||◌, List, [], ◌∷◌, ◌++◌, map, length, length-append, Option, Some, None, Result, Ok, Err, refl, sym, ap, subst, ◌∙◌, arith, ℤ, ◌+ℤ◌, ◌-ℤ◌}
 use Rattle.std.specs.Prelude.{unwrap_or}
 use Rattle.std.proofs.lemmas.Bool.Decides.{nat_tests}
 use Rattle.std.proofs.lemmas.Cmp.{nat_list_cmp_total}
 use Rattle.std.proofs.lemmas.Int.{ints}
 use Rattle.std.proofs.lemmas.List.{append-nil, length-map, map-append}
 use Rattle.std.proofs.lemmas.List.Elements.{filter-append, recursion_from_All}
+use Rattle.std.proofs.lemmas.List.Folds.{list_any-append}
 use Rattle.std.proofs.lemmas.Map.{NonePasses, none_passes_from_lookup}
 use Rattle.std.proofs.lemmas.Map.Entries.{none_past_head}
 use Rattle.std.proofs.lemmas.Map.Steps.{set_value_same}
@@ -14,7 +15,7 @@ use Rattle.std.specs.BTreeMap.{insert_entry, is_at}
 use Rattle.std.specs.Cmp.{Equal-is, IsEquivalence, eq_by_cmp_equiv}
 use Rattle.std.specs.Cmp.Lexicographic.{slice_cmp}
 use Rattle.std.specs.FinMap.{nat_cmp-IsAntisymmetric, slice_cmp-IsAntisymmetric}
-use Rattle.std.specs.List.{All, AllByRecursion, IsDistinct, filter}
+use Rattle.std.specs.List.{All, AllByRecursion, IsDistinct, filter, list_any}
 use Rattle.std.specs.List.Sorted.{IsStrictlySortedBy}
 use Rattle.std.specs.Int.{saturate_signed, w128}
 use Rattle.std.specs.Result.{OnErr, OnOk}
@@ -22,13 +23,13 @@ use Rattle.std.specs.Map.{keys_of, lookup, set_value}
 use Rattle.std.specs.Ordering.{eq_by_cmp, is_eq, nat_cmp, ordering_then}
 use Rattle.std.specs.declared.cmp.Ordering.{Ordering}
 use Rattle.std.specs.declared.cmp.Ordering.TheVariants.{Less, Equal, Greater}
-use Rattle.basis.specs.Bag.{add, bag_of, remade}
-use Rattle.basis.proofs.BagLaws.{add-add, filter-bag_of, remade-bag_of}
+use Rattle.basis.specs.Bag.{add, bag_of, remade, same, taken}
+use Rattle.basis.proofs.BagLaws.{add-add, filter-bag_of, remade-bag_of, taken-absent, taken-bag_of, taken-before, taken-behind, taken-present}
 use Rattle.objects.specs.declared.roid.Roid.{Roid}
 use Rattle.accounts.specs.declared.line.Line.{Line}
 use Rattle.accounts.specs.Groups.{IsBounded, IsGroup, IsGrouped, IsSmall, IsUnder, all_lines}
 use Rattle.accounts.specs.Lines.{balance, in_order, is_of, is_on, object_rank, roid_numbers}
-use Rattle.accounts.proofs.LineLaws.{balance-append, balance-bag_of, bounded-cons, bounded-small, fits, lines_in_order}
+use Rattle.accounts.proofs.LineLaws.{balance-append, balance-bag_of, bounded-cons, bounded-small, fits, lines_in_order, same-in_order}
 
 abbrev by_numbers : List ℕ → List ℕ → Ordering
 by_numbers = slice_cmp nat_cmp
@@ -357,6 +358,112 @@ remade-grouped f stays key gs ns ls ms h e n sorted made small =
     let group : AllByRecursion (IsUnder key) ms = subst (AllByRecursion (IsUnder key)) (sym made) (all-under f stays key ls (found key gs ls h.under (sym e)) smalls) in
     record { sorted = sorted; under = subst (AllByRecursion IsGroup) (sym n) (groups-set_value key ms gs h.under group) }
 
+-- ---- a line taken back
+
+abbrev any : Line → List Line → Bool
+any x ls = list_any (same in_order x) ls
+
+under-taken-at : (key : List ℕ) (x l : Line) (ls : List Line) (b : Bool) → AllByRecursion (IsUnder key) (l ∷ ls) → AllByRecursion (IsUnder key) (taken in_order x ls) → AllByRecursion (IsUnder key) (cond b ls (l ∷ taken in_order x ls))
+under-taken-at key x l ls true group ih = group.1
+under-taken-at key x l ls false group ih = (group.0, ih)
+
+under-taken : (key : List ℕ) (x : Line) (ls : List Line) → AllByRecursion (IsUnder key) ls → AllByRecursion (IsUnder key) (taken in_order x ls)
+unfolding taken
+under-taken key x [] group = tt
+under-taken key x (l ∷ ls) group = under-taken-at key x l ls (same in_order x l) group (under-taken key x ls group.1)
+
+-- no group but its own has a line
+elsewhere-step : (x l : Line) (key : List ℕ) (b : Bool) → same in_order x l ≡ b → at (roid_numbers x.roid) key ≡ false → IsUnder key l → b ≡ false
+elsewhere-step x l key false e apart h = refl
+elsewhere-step x l key true e apart h =
+    let is : x ≡ l = same-in_order x l e in
+    let own : at key key ≡ true = (eq_by_cmp_equiv nat_list_cmp_total).refl key in
+    sym own ∙ ap (λ (k : List ℕ). at k key) (sym (ap (λ (m : Line). roid_numbers m.roid) is ∙ h.domain)) ∙ apart
+
+any-elsewhere : (x : Line) (key : List ℕ) (ls : List Line) → at (roid_numbers x.roid) key ≡ false → AllByRecursion (IsUnder key) ls → any x ls ≡ false
+any-elsewhere x key [] apart group = refl
+any-elsewhere x key (l ∷ ls) apart group = rw (elsewhere-step x l key (same in_order x l) refl apart group.0) (any-elsewhere x key ls apart group.1)
+
+any-none : (x : Line) (gs : List (List ℕ × List Line)) → AllByRecursion IsGroup gs → NonePasses (at (roid_numbers x.roid)) gs → any x (all_lines gs) ≡ false
+any-none x [] groups none = refl
+any-none x (g ∷ gs) groups none =
+    list_any-append (same in_order x) g.1 (all_lines gs) ∙ (λ i. any-elsewhere x g.0 g.1 none.0 groups.0 i || any-none x gs groups.1 none.1 i)
+
+or-false : (b : Bool) → (b || false) ≡ b
+or-false true = refl
+or-false false = refl
+
+module _ (x : Line) where
+  abbrev own : List ℕ
+  own = roid_numbers x.roid
+
+  any-at : (g : List ℕ × List Line) (gs : List (List ℕ × List Line)) (ls : List Line) (b : Bool) → at own g.0 ≡ b → AllByRecursion IsGroup (g ∷ gs) → IsDistinct (eq_by_cmp by_numbers) (keys_of (g ∷ gs))
+      → cond b (Some g.1) (lookup (at own) gs) ≡ Some ls → (lookup (at own) gs ≡ Some ls → any x (all_lines gs) ≡ any x ls) → (any x g.1 || any x (all_lines gs)) ≡ any x ls
+  any-at g gs ls true e groups apart found ih =
+      let same : g.1 ≡ ls = cc in
+      (λ i. any x (same i) || any-none x gs groups.1 (none_past_head numbers_equiv own g gs apart e) i) ∙ or-false (any x ls)
+  any-at g gs ls false e groups apart found ih = (λ i. any-elsewhere x g.0 g.1 e groups.0 i || ih found i)
+
+  any-found : (gs : List (List ℕ × List Line)) (ls : List Line) → AllByRecursion IsGroup gs → IsDistinct (eq_by_cmp by_numbers) (keys_of gs) → lookup (at own) gs ≡ Some ls → any x (all_lines gs) ≡ any x ls
+  any-found [] ls groups apart e = cc
+  any-found (g ∷ gs) ls groups apart e =
+      list_any-append (same in_order x) g.1 (all_lines gs)
+      ∙ any-at g gs ls (at own g.0) refl groups apart e (any-found gs ls groups.1 (IsDistinct-tail (eq_by_cmp by_numbers) g.0 (keys_of gs) apart))
+
+  taken-at : (g : List ℕ × List Line) (gs : List (List ℕ × List Line)) (ls : List Line) (b : Bool) → at own g.0 ≡ b → AllByRecursion IsGroup (g ∷ gs) → IsDistinct (eq_by_cmp by_numbers) (keys_of (g ∷ gs))
+      → cond b (Some g.1) (lookup (at own) gs) ≡ Some ls
+      → (lookup (at own) gs ≡ Some ls → all_lines (set_value (at own) gs (taken in_order x ls)) ≡ taken in_order x (all_lines gs))
+      → all_lines (cond b ((g.0, taken in_order x ls) ∷ gs) (g ∷ set_value (at own) gs (taken in_order x ls))) ≡ taken in_order x (g.1 ++ all_lines gs)
+  taken-at g gs ls true e groups apart found ih =
+      let same : ls ≡ g.1 = cc in
+      ap (λ (ms : List Line). taken in_order x ms ++ all_lines gs) same
+      ∙ sym (taken-before in_order x g.1 (all_lines gs) (any-none x gs groups.1 (none_past_head numbers_equiv own g gs apart e)))
+  taken-at g gs ls false e groups apart found ih =
+      ap (λ (ms : List Line). g.1 ++ ms) (ih found) ∙ sym (taken-behind in_order x g.1 (all_lines gs) (any-elsewhere x g.0 g.1 e groups.0))
+
+  taken-all : (gs : List (List ℕ × List Line)) (ls : List Line) → AllByRecursion IsGroup gs → IsDistinct (eq_by_cmp by_numbers) (keys_of gs) → lookup (at own) gs ≡ Some ls
+      → all_lines (set_value (at own) gs (taken in_order x ls)) ≡ taken in_order x (all_lines gs)
+  taken-all [] ls groups apart e = cc
+  taken-all (g ∷ gs) ls groups apart e =
+      taken-at g gs ls (at own g.0) refl groups apart e (taken-all gs ls groups.1 (IsDistinct-tail (eq_by_cmp by_numbers) g.0 (keys_of gs) apart))
+
+  bag-present : (ls : List Line) → any x ls ≡ true → bag ls ≡ add in_order x (taken in_order x (bag ls))
+  bag-present ls there = taken-present in_order lines_in_order x ls there ∙ ap (add in_order x) (sym (taken-bag_of in_order lines_in_order x ls))
+
+  bag-absent : (ls : List Line) → any x ls ≡ false → taken in_order x (bag ls) ≡ bag ls
+  bag-absent ls none = taken-bag_of in_order lines_in_order x ls ∙ ap (bag_of in_order) (taken-absent in_order x ls none)
+
+  module _ (key : List ℕ) (gs : List (List ℕ × List Line)) (h : IsGrouped gs) (k : key ≡ own) where
+    apart : IsDistinct (eq_by_cmp by_numbers) (keys_of gs)
+    apart = IsDistinct-from_sorted by_numbers (keys_of gs) h.sorted
+
+    by_key : (o : Option (List Line)) → o ≡ lookup (at key) gs → lookup (at own) gs ≡ o
+    by_key o e = ap (λ (q : List ℕ). lookup (at q) gs) (sym k) ∙ sym e
+
+    -- where the domain has none
+    pub taken-nowhere : None ≡ lookup (at key) gs → bag (all_lines gs) ≡ taken in_order x (bag (all_lines gs))
+    taken-nowhere e = sym (bag-absent (all_lines gs) (any-none x gs h.under (none_passes_from_lookup (at own) gs (by_key None e))))
+
+    -- where it has lines
+    module _ (ns : List (List ℕ × List Line)) (ls ms : List Line) (e : Some ls ≡ lookup (at key) gs) (n : ns ≡ set_value (at key) gs ms) (t : ms ≡ taken in_order x ls) where
+      pub taken-grouped : IsStrictlySortedBy by_numbers (keys_of ns) → IsGrouped ns
+      taken-grouped sorted =
+          let group : AllByRecursion (IsUnder key) ms = subst (AllByRecursion (IsUnder key)) (sym t) (under-taken key x ls (found key gs ls h.under (sym e))) in
+          record { sorted = sorted; under = subst (AllByRecursion IsGroup) (sym n) (groups-set_value key ms gs h.under group) }
+
+      pub taken-there : bag (all_lines ns) ≡ taken in_order x (bag (all_lines gs))
+      taken-there =
+          ap (λ (m : List (List ℕ × List Line)). bag (all_lines m)) (n ∙ (λ i. set_value (at (k i)) gs (t i)))
+          ∙ ap (bag_of in_order) (taken-all gs ls h.under apart (by_key (Some ls) e)) ∙ sym (taken-bag_of in_order lines_in_order x (all_lines gs))
+
+      pub taken-found : (b : Bool) → b ≡ any x ls → b ≡ true → bag (all_lines gs) ≡ add in_order x (bag (all_lines ns))
+      taken-found b there is =
+          bag-present (all_lines gs) (any-found gs ls h.under apart (by_key (Some ls) e) ∙ sym there ∙ is) ∙ ap (add in_order x) (sym taken-there)
+
+      pub taken-missed : (b : Bool) → b ≡ any x ls → b ≡ false → bag (all_lines ns) ≡ bag (all_lines gs)
+      taken-missed b there is =
+          taken-there ∙ bag-absent (all_lines gs) (any-found gs ls h.under apart (by_key (Some ls) e) ∙ sym there ∙ is)
+
 -- ---- sums in 128 bits
 
 -- what a few lines gain
@@ -371,3 +478,9 @@ gain-fits old new a b r few same small-old small-new e f sat =
 pub sum-fits : (old new : List Line) (all gain r : ℤ) → length new < 4_611_686_018_427_387_904 → IsBounded new → all ≡ balance old → balance new ≡ balance old +ℤ gain → r ≡ saturate_signed w128 (all +ℤ gain) → r ≡ balance new
 sum-fits old new all gain r few bounded e more sat =
     sat ∙ ap (saturate_signed w128) (ap (λ z. z +ℤ gain) e ∙ sym more) ∙ fits (balance new) (omega (arith, ints, bounded.low, few)) (omega (arith, ints, bounded.high, few))
+
+-- and by what is lost
+pub rest-fits : (old new : List Line) (a all loss r : ℤ) → length new < 4_611_686_018_427_387_904 → IsBounded new → all ≡ balance old → loss ≡ a → balance old ≡ a +ℤ balance new → r ≡ saturate_signed w128 (all -ℤ loss) → r ≡ balance new
+rest-fits old new a all loss r few bounded e f less sat =
+    let rest : all -ℤ loss ≡ balance new = omega (arith, ints, e, f, less) in
+    sat ∙ ap (saturate_signed w128) rest ∙ fits (balance new) (omega (arith, ints, bounded.low, few)) (omega (arith, ints, bounded.high, few))

@@ -1,7 +1,8 @@
 -- Lines stand in an order, and balances are sums.
-use Rattle.std.proofs.Common.{◌≡◌, ℕ, ◌+◌, ◌<◌, Bool, true, false, cond, nat_eq, List, [], ◌∷◌, ◌++◌, length, take, get_or, Option, Some, None, is_some, refl, sym, ap, subst, ◌∙◌, arith, ℤ, pos, negsuc, ◌+ℤ◌, ◌-ℤ◌, ◌≤ℤ◌}
+use Rattle.std.proofs.Common.{◌≡◌, ℕ, ◌+◌, ◌<◌, ◌==◌, Bool, true, false, cond, ◌&&◌, nat_eq, List, [], ◌∷◌, ◌++◌, length, take, get_or, Option, Some, None, is_some, refl, sym, ap, subst, ◌∙◌, arith, ℤ, pos, negsuc, ◌+ℤ◌, ◌-ℤ◌, ◌≤ℤ◌}
 use Rattle.std.specs.Int.{saturate_signed, w128}
 use Rattle.std.specs.List.{All, AllByRecursion}
+use Rattle.std.proofs.lemmas.Bool.Decides.{nat_tests}
 use Rattle.std.proofs.lemmas.Int.{ints}
 use Rattle.std.proofs.lemmas.List.{length-take-le, take_more}
 use Rattle.std.proofs.lemmas.List.Elements.{All-more, All-nil, recursion_from_All}
@@ -12,7 +13,8 @@ use Rattle.std.specs.Ordering.{nat_cmp, is_le, ordering_reverse}
 use Rattle.std.specs.declared.cmp.Ordering.{Ordering}
 use Rattle.std.specs.declared.cmp.Ordering.TheVariants.{Less, Equal, Greater}
 use Rattle.std.specs.FinMap.{IsAntisymmetric, nat_cmp-IsAntisymmetric, slice_cmp-IsAntisymmetric}
-use Rattle.basis.specs.Bag.{IsLinear, add, bag_of}
+use Rattle.basis.specs.Bag.{IsLinear, add, bag_of, same}
+use Rattle.basis.proofs.BagLaws.{le-itself, same-is}
 use Rattle.objects.specs.declared.roid.ObjectKind.{ObjectKind}
 use Rattle.objects.specs.declared.roid.ObjectKind.TheVariants as objects
 use Rattle.objects.specs.declared.roid.Roid.{Roid}
@@ -20,7 +22,7 @@ use Rattle.accounts.specs.declared.line.Line.{Line}
 use Rattle.accounts.specs.declared.line.LineKind.{LineKind}
 use Rattle.accounts.specs.declared.line.LineKind.TheVariants as kinds
 use Rattle.accounts.specs.Groups.{IsBounded, IsSmall}
-use Rattle.accounts.specs.Lines.{amount, amount_of, balance, in_order, is_kind, kind_rank, maybe_number, numbers, object_rank, roid_numbers}
+use Rattle.accounts.specs.Lines.{amount, amount_of, balance, in_order, is_kind, is_line, is_line_for, is_same_domain, is_same_number, is_same_roid, kind_rank, maybe_number, numbers, object_rank, roid_numbers}
 
 -- ---- the order by an injective reading
 
@@ -114,6 +116,93 @@ numbers_only a b e =
 pub lines_in_order : IsLinear in_order
 unfolding in_order
 lines_in_order = linear_by (slice_cmp nat_cmp) numbers nat_list_cmp_total (slice_cmp-IsAntisymmetric nat_cmp-IsAntisymmetric) numbers_only
+
+-- ---- a line is told by what it says
+
+both-left : (a b : Bool) → (a && b) ≡ true → a ≡ true
+both-left true b e = refl
+both-left false b e = e
+
+both-right : (a b : Bool) → (a && b) ≡ true → b ≡ true
+both-right true b e = e
+both-right false b e = absurd (let never : false ≡ true = e in cc)
+
+same-number : (a b : ℕ) → (a == b) ≡ true → a ≡ b
+same-number a b e = grind (arith, nat_tests, e)
+
+itself-number : (a : ℕ) → (a == a) ≡ true
+itself-number a = grind (arith, nat_tests)
+
+same-kind : (a b : LineKind) → is_kind a b ≡ true → a ≡ b
+same-kind a b e = sym (kind_back a) ∙ ap kind_of (same-number (kind_rank a) (kind_rank b) e) ∙ kind_back b
+
+same-roids : (a b : Roid) → is_same_roid a b ≡ true → a ≡ b
+same-roids a b e =
+    let kinds = both-left (object_rank a.kind == object_rank b.kind) _ e in
+    let rest = both-right (object_rank a.kind == object_rank b.kind) _ e in
+    one_roid a b (same-number _ _ kinds) (same-number _ _ (both-left (a.creator == b.creator) _ rest)) (same-number _ _ (both-right (a.creator == b.creator) _ rest))
+
+same-domains : (a b : Option Roid) → is_same_domain a b ≡ true → a ≡ b
+same-domains None None e = refl
+same-domains (Some a) (Some b) e = ap Some (same-roids a b e)
+same-domains None (Some b) e = cc
+same-domains (Some a) None e = cc
+
+same-numbers : (a b : Option ℕ) → is_same_number a b ≡ true → a ≡ b
+same-numbers None None e = refl
+same-numbers (Some a) (Some b) e = ap Some (same-number a b e)
+same-numbers None (Some b) e = cc
+same-numbers (Some a) None e = cc
+
+same-lines : (a b : Line) → is_line a b ≡ true → a ≡ b
+unfolding is_line is_line_for
+same-lines a b e =
+    let for = both-left (is_line_for a b) _ e in
+    let rest = both-right (is_line_for a b) _ e in
+    let kind = same-kind a.kind b.kind (both-left (is_kind a.kind b.kind) _ for) in
+    let for-2 = both-right (is_kind a.kind b.kind) _ for in
+    let roid = same-domains a.roid b.roid (both-left (is_same_domain a.roid b.roid) _ for-2) in
+    let for-3 = both-right (is_same_domain a.roid b.roid) _ for-2 in
+    let recorded = same-number a.recorded b.recorded (both-left (a.recorded == b.recorded) _ for-3) in
+    let years = same-number a.years b.years (both-right (a.recorded == b.recorded) _ for-3) in
+    let cents = same-number a.cents b.cents (both-left (a.cents == b.cents) _ rest) in
+    let rest-2 = both-right (a.cents == b.cents) _ rest in
+    let started = same-numbers a.started b.started (both-left (is_same_number a.started b.started) _ rest-2) in
+    let refunded = same-numbers a.refunded b.refunded (both-right (is_same_number a.started b.started) _ rest-2) in
+    λ i. record { kind = kind i; roid = roid i; recorded = recorded i; years = years i; cents = cents i; started = started i; refunded = refunded i }
+
+itself-roid : (a : Roid) → is_same_roid a a ≡ true
+itself-roid a = rw (itself-number (object_rank a.kind), itself-number a.creator, itself-number a.serial) refl
+
+itself-domain : (a : Option Roid) → is_same_domain a a ≡ true
+itself-domain None = refl
+itself-domain (Some a) = itself-roid a
+
+itself-numbers : (a : Option ℕ) → is_same_number a a ≡ true
+itself-numbers None = refl
+itself-numbers (Some a) = itself-number a
+
+itself-line : (a : Line) → is_line a a ≡ true
+unfolding is_line is_line_for
+itself-line a = rw (itself-number (kind_rank a.kind), itself-domain a.roid, itself-number a.recorded, itself-number a.years, itself-number a.cents, itself-numbers a.started, itself-numbers a.refunded) refl
+
+told : (a b : Line) (c d : Bool) → is_line a b ≡ c → same in_order a b ≡ d → c ≡ d
+told a b true true e f = refl
+told a b false false e f = refl
+told a b true false e f =
+    let is : a ≡ b = same-lines a b e in
+    let itself : same in_order a a ≡ true = rw (le-itself in_order lines_in_order a (in_order a a) refl) refl in
+    sym itself ∙ ap (same in_order a) is ∙ f
+told a b false true e f =
+    let is : a ≡ b = same-is in_order lines_in_order a b (in_order a b) (in_order b a) refl refl f in
+    sym e ∙ ap (is_line a) (sym is) ∙ itself-line a
+
+-- in their order as well
+pub line-told : (a b : Line) → is_line a b ≡ same in_order a b
+line-told a b = told a b (is_line a b) (same in_order a b) refl refl
+
+pub same-in_order : (a b : Line) → same in_order a b ≡ true → a ≡ b
+same-in_order a b e = same-is in_order lines_in_order a b (in_order a b) (in_order b a) refl refl e
 
 -- ---- sums
 

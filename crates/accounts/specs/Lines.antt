@@ -1,5 +1,5 @@
 -- Lines of an account.
-use Rattle.std.specs.Prelude.{ℕ, suc, ◌==◌, nat_le, nat_lt, Bool, false, not, ◌&&◌, ◌||◌, if◌then◌else◌, List, [], ◌∷◌, ◌++◌, Option, Some, None, is_some, ℤ, pos, ◌+ℤ◌, ◌-ℤ◌}
+use Rattle.std.specs.Prelude.{ℕ, suc, ◌==◌, nat_le, nat_lt, Bool, true, false, not, ◌&&◌, ◌||◌, if◌then◌else◌, List, [], ◌∷◌, ◌++◌, Option, Some, None, is_some, ℤ, pos, ◌+ℤ◌, ◌-ℤ◌}
 use Rattle.std.specs.Cmp.Lexicographic.{slice_cmp}
 use Rattle.std.specs.Ordering.{nat_cmp}
 use Rattle.basis.specs.Bag.{precedes}
@@ -32,6 +32,26 @@ object_rank objects.Host = 2
 
 abbrev pub is_same_roid : Roid → Roid → Bool
 is_same_roid a b = (object_rank a.kind == object_rank b.kind) && ((a.creator == b.creator) && (a.serial == b.serial))
+
+abbrev pub is_same_domain : Option Roid → Option Roid → Bool
+is_same_domain None None = true
+is_same_domain (Some a) (Some b) = is_same_roid a b
+is_same_domain None (Some b) = false
+is_same_domain (Some a) None = false
+
+abbrev pub is_same_number : Option ℕ → Option ℕ → Bool
+is_same_number None None = true
+is_same_number (Some a) (Some b) = a == b
+is_same_number None (Some b) = false
+is_same_number (Some a) None = false
+
+-- two lines are for the same
+unfoldable pub is_line_for : Line → Line → Bool
+is_line_for a b = is_kind a.kind b.kind && (is_same_domain a.roid b.roid && ((a.recorded == b.recorded) && (a.years == b.years)))
+
+-- and are the same in all that they say
+unfoldable pub is_line : Line → Line → Bool
+is_line a b = is_line_for a b && ((a.cents == b.cents) && (is_same_number a.started b.started && is_same_number a.refunded b.refunded))
 
 abbrev pub is_of : Roid → Option Roid → Bool
 is_of roid None = false

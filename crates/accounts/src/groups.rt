@@ -1,7 +1,7 @@
 //! Lines by the domains that they are for.
-ghost use Rattle.std.specs.Prelude.{◌≡◌, ◌<◌, ◌++◌, ◌∷◌, [], length, map, IfOk, OnOk, OnErr, ◌-ℤ◌};
-ghost use Rattle.std.specs.List.{All, filter};
-ghost use Rattle.basis.specs.Bag.{add, bag_of, remade};
+ghost use Rattle.std.specs.Prelude.{◌≡◌, ◌<◌, ◌++◌, ◌∷◌, [], length, map, true, false, IfOk, IfSome, OnOk, OnErr, ◌-ℤ◌};
+ghost use Rattle.std.specs.List.{All, filter, list_any, position};
+ghost use Rattle.basis.specs.Bag.{add, bag_of, remade, same, taken};
 ghost use Rattle.accounts.specs.Groups.{IsBounded, IsSmall};
 ghost use Rattle.accounts.specs.Lines as spec;
 ghost use Rattle.accounts.specs.Lines.{in_order};
@@ -60,6 +60,20 @@ impl Group {
         Ok(())
     }
 
+    /// Takes a line out, and gives whether it was there.
+    fn take(&mut self, line: &Line) -> bool
+        ensures taken { self.new ≡ taken in_order line.now self.old }
+        ensures there { result ≡ list_any (same in_order line.now) self.old }
+    {
+        match place_of(&self.lines, line) {
+            None => false,
+            Some(at) => {
+                self.lines.remove(at);
+                true
+            }
+        }
+    }
+
     /// Makes each line what the change makes of it, and gives what that adds to their sum.
     fn remake<C: LineChange>(&mut self, change: &C) -> i128
         ensures value { self.new ≡ map (C.changed change.now) self.old }
@@ -70,6 +84,14 @@ impl Group {
         remake_each(&mut self.lines, change);
         sum(&self.lines).saturating_sub(before)
     }
+}
+
+/// The index of a line.
+fn place_of(lines: &[Line], line: &Line) -> Option<usize>
+    ensures value { result ≡ position (spec.is_line line.now) lines.now }
+    ensures bound { IfSome result (λ at. at < length lines.now) }
+{
+    lines.iter().position(|it| line.is(it))
 }
 
 fn remake_each<C: LineChange>(lines: &mut [Line], change: &C)
@@ -171,6 +193,19 @@ impl Groups {
         group.push(line)?;
         self.groups.insert(key, group)?;
         Ok(())
+    }
+
+    /// Takes a line out, if it is there, and gives whether it was.
+    pub(crate) fn take(&mut self, line: &Line) -> bool
+        ensures taken { self.new ≡ taken in_order line.now self.old }
+        ensures found { result ≡ true → self.old ≡ add in_order line.now self.new }
+        ensures missed { result ≡ false → self.new ≡ self.old }
+        ensures bounded { IsBounded self.new }
+    {
+        let Some(group) = self.groups.get_mut(&key_of(&line.roid)) else {
+            return false;
+        };
+        group.take(line)
     }
 
     /// Makes each line what the change makes of it, and gives what that adds to their sum. It goes

@@ -64,6 +64,28 @@ pub(crate) fn object_rank(kind: ObjectKind) -> u8
     }
 }
 
+/// Whether two moments are one, or there is neither.
+fn is_same_moment(a: Option<Moment>, b: Option<Moment>) -> bool
+    ensures { result ≡ spec.is_same_number a b }
+{
+    match (a, b) {
+        (None, None) => true,
+        (Some(a), Some(b)) => a == b,
+        _ => false,
+    }
+}
+
+/// Whether two lines are on one domain, or both on none.
+fn is_same_domain(a: &Option<Roid>, b: &Option<Roid>) -> bool
+    ensures { result ≡ spec.is_same_domain a.now b.now }
+{
+    match (a, b) {
+        (None, None) => true,
+        (Some(a), Some(b)) => is_same_roid(a, b),
+        _ => false,
+    }
+}
+
 /// Whether two identifiers are one.
 fn is_same_roid(a: &Roid, b: &Roid) -> bool
     ensures { result ≡ spec.is_same_roid a.now b.now }
@@ -72,6 +94,28 @@ fn is_same_roid(a: &Roid, b: &Roid) -> bool
 }
 
 impl Line {
+    /// Whether another line is the same in all that it says.
+    #[tactic(auto, unfolding(crate::specs::Lines::is_line))]
+    pub(crate) fn is(&self, other: &Line) -> bool
+        ensures { result ≡ spec.is_line self.now other.now }
+    {
+        self.is_for(other)
+            && self.cents == other.cents
+            && is_same_moment(self.started, other.started)
+            && is_same_moment(self.refunded, other.refunded)
+    }
+
+    /// Whether another line is for the same.
+    #[tactic(auto, unfolding(crate::specs::Lines::is_line_for))]
+    fn is_for(&self, other: &Line) -> bool
+        ensures { result ≡ spec.is_line_for self.now other.now }
+    {
+        self.kind.is(other.kind)
+            && is_same_domain(&self.roid, &other.roid)
+            && self.recorded == other.recorded
+            && self.years == other.years
+    }
+
     /// Whether it was charged for the domain with this identifier.
     pub fn is_on(&self, roid: &Roid) -> bool
         ensures { result ≡ spec.is_on roid.now self.now }

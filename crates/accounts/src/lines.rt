@@ -1,7 +1,7 @@
 //! The lines of an account as contracts see them: a bag, whatever the order in which they came.
 ghost use Rattle.std.specs.Prelude.{◌≡◌, [], OnOk, OnErr};
 ghost use Rattle.std.specs.List.{filter};
-ghost use Rattle.basis.specs.Bag.{add, bag_of, remade};
+ghost use Rattle.basis.specs.Bag.{add, bag_of, remade, taken};
 ghost use Rattle.accounts.specs.Lines as spec;
 ghost use Rattle.accounts.specs.Lines.{in_order};
 
@@ -65,6 +65,16 @@ impl Lines {
         self.count += 1;
         self.balance = self.balance.saturating_add(line.amount());
         Ok(())
+    }
+
+    /// Takes a line back that was added. It goes over those of the same domain alone.
+    pub fn take_back(&mut self, line: &Line)
+        ensures { self.new ≡ taken in_order line.now self.old }
+    {
+        if self.groups.take(line) {
+            self.count -= 1;
+            self.balance = self.balance.saturating_sub(line.amount());
+        }
     }
 
     /// Makes each line what the change makes of it. It goes over those of the change's domain alone.

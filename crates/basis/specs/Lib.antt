@@ -2,3 +2,4 @@ pub mod Maps
 pub mod Bag
 pub mod Sets
 pub mod Sweeps
+pub mod Lending

@@ -1,8 +1,10 @@
 //! Ordered maps as contracts see them: finite maps.
 ghost use Rattle.std.specs.Prelude.{◌≡◌, List, ℕ, IfOk, OnOk, OnErr, None};
-ghost use Rattle.std.specs.Option.{option_copied};
+ghost use Rattle.std.specs.Borrow.{sem};
+ghost use Rattle.std.specs.Option.{option_copied, option_copied_mut};
 ghost use Rattle.std.specs.FinMap as map;
 ghost use Rattle.std.specs.Map.Iter.{ShowsInOrder, deref, deref_pair};
+ghost use Rattle.basis.specs.Lending.{LendsValue};
 
 use crate::registrar::RegistrarNo;
 use crate::text::Text;
@@ -136,6 +138,14 @@ impl<V: Drop> RegistrarMap<V> {
         ensures { option_copied result ≡ map.get self.now place }
     {
         self.tree.get(&place.place())
+    }
+
+    /// The value at a place, to be changed where it stands.
+    pub fn get_mut(&mut self, place: RegistrarNo) -> Option<&mut V>
+        ensures* writes_back { sem 𝓛 (LendsValue V.row self.entry place result) }
+        ensures value { option_copied_mut result ≡ map.get self.old place }
+    {
+        self.tree.get_mut(&place.place())
     }
 
     /// Puts a value at a place. Only a new place can fail.
