@@ -37,7 +37,8 @@ pub struct Posting {
 }
 
 impl AutoRenewal {
-    fn line(self) -> Line
+    /// What the year is charged by.
+    pub fn line(self) -> Line
         ensures { result ≡ spec.renewal_line self }
     {
         Line {

@@ -1,9 +1,9 @@
 -- To take an edit back is to go back, and the edits of a change make it.
-use Rattle.std.proofs.Common.{◌≡◌, ℕ, ◌+◌, ◌-◌, ◌<◌, length, take, get_or, arith, Bool, true, false, cond, not, ◌&&◌, T, map, filter, List, [], ◌∷◌, ◌++◌, Option, Some, None, Result, Ok, Err, OnOk, OnErr, refl, sym, ap, ◌∙◌}
+use Rattle.std.proofs.Common.{◌≡◌, ℕ, ◌+◌, ◌-◌, ◌<◌, length, length-append, take, get_or, arith, Bool, true, false, cond, not, ◌&&◌, T, map, filter, List, [], ◌∷◌, ◌++◌, Option, Some, None, Result, Ok, Err, OnOk, OnErr, refl, sym, ap, ◌∙◌}
 use Rattle.std.specs.Prelude.{option_map, slice_get, unwrap_or}
 use Rattle.std.specs.Ordering.{is_lt}
 use Rattle.std.specs.Str.{bytes_eq}
-use Rattle.std.proofs.Math.Seq.{take-length}
+use Rattle.std.proofs.Math.Seq.{take-append_seam, take-length}
 use Rattle.std.proofs.lemmas.List.{take_more}
 use Rattle.std.proofs.lemmas.Option.{slice_get_within, slice_get-get_or}
 use Rattle.std.specs.declared.cmp.Ordering.{Ordering}
@@ -13,7 +13,8 @@ use Rattle.std.specs.Cmp.Lexicographic.{slice_cmp, nat_list_cmp_total}
 use Rattle.std.specs.FinMap.{FinMap, IsAntisymmetric, entries, entries_sorted, find, get, get-entries, insert, is_sorted, get-insert, get-remove, same_map, nat_cmp-IsAntisymmetric}
 use Rattle.std.specs.FinMap.Entries.{below_all}
 use Rattle.std.specs.Ordering.{eq_by_cmp, nat_cmp}
-use Rattle.basis.specs.Bag.{add, precedes}
+use Rattle.basis.specs.Bag.{add, precedes, taken}
+use Rattle.basis.proofs.BagLaws.{taken-add}
 use Rattle.basis.specs.Maps.{map_values}
 use Rattle.basis.proofs.MapLemmas.{names_apart, get-map_values}
 use Rattle.objects.specs.declared.domain.Domain.{Domain}
@@ -27,12 +28,17 @@ use Rattle.store.specs.declared.edit.Edit.TheVariants as edit
 use Rattle.store.specs.Book.{Stored, with_changes}
 use Rattle.accounts.specs.declared.account.Account.{Account}
 use Rattle.accounts.specs.Account.{empty_account}
+use Rattle.accounts.specs.Entries.{with_lines}
+use Rattle.accounts.specs.Lines.{in_order}
+use Rattle.accounts.specs.declared.entries.LapseEntry.TheVariants.{Renewal, Start, Notice}
+use Rattle.accounts.specs.declared.line.Line.{Line}
+use Rattle.accounts.proofs.LineLaws.{lines_in_order}
 use Rattle.lifecycle.specs.declared.change.AccountChange.{AccountChange}
 use Rattle.lifecycle.specs.declared.change.AccountChange.TheVariants as gifts
 use Rattle.model.specs.Registry.{account_of}
 use Rattle.store.specs.declared.ledgers.Counters.{Counters}
-use Rattle.store.specs.Ledgers.{counters_of, put, with_counted, with_counters}
-use Rattle.store.specs.Edits.{counters_back, edited, edited_all, edits_of, gift_edit, inverse, undone_all}
+use Rattle.store.specs.Ledgers.{counters_of, put, with_counted, with_counters, with_line}
+use Rattle.store.specs.Edits.{counters_back, edited, edited_all, edits_of, gift_edit, inverse, line_back, undone_all}
 
 -- ---- entries in order
 
@@ -69,12 +75,9 @@ module _ {K X : Type 0} (R : K → K → Ordering) (o : IsTotalOrder R) (apart :
   put-back m k value = same_map o apart _ _ (λ q.
       get-put (put m k value) k (get m k) q ∙ ap (cond (eq_by_cmp R q k) (get m k)) (get-put m k value q) ∙ as-before m k q value (eq_by_cmp R q k) refl)
 
-  still-before : (m : FinMap R X) (k q : K) (b : Bool) → eq_by_cmp R q k ≡ b → cond b (get m k) (get m q) ≡ get m q
-  still-before m k q true e = ap (get m) (sym (apart q k ((Equal-is (R q k)).0 e)))
-  still-before m k q false e = refl
 
-  put-same : (m : FinMap R X) (k : K) → put m k (get m k) ≡ m
-  put-same m k = same_map o apart _ _ (λ q. get-put m k (get m k) q ∙ still-before m k q (eq_by_cmp R q k) refl)
+with_accounts : Stored → FinMap nat_cmp Account → Stored
+with_accounts s n = record s { registry = record s.registry { accounts = n } }
 
 -- ---- the counters of an account
 
@@ -87,9 +90,6 @@ module _ (r : ℕ) (x : Counters) (m : FinMap nat_cmp Account) where
       ∙ ap (λ (b : Bool). cond b (Some (with_counters x (unwrap_or (get m r) empty_account))) (get m r)) ((eq_by_cmp_equiv nat_cmp_total).refl r))
       ∙ ap (λ (o : Option Account). with_counters x (unwrap_or o empty_account)) e
 
-  with_accounts : Stored → FinMap nat_cmp Account → Stored
-  with_accounts s n = record s { registry = record s.registry { accounts = n } }
-
   counters-back : (s : Stored) (o : Option Account) → get m r ≡ o → edited (counters_back r (option_map counters_of o)) (with_accounts s (with_counted m r x)) ≡ with_accounts s m
   unfolding with_accounts
   counters-back s None e = ap (with_accounts s) (ap (put (with_counted m r x) r) (sym e) ∙ put-back nat_cmp nat_cmp_total nat_cmp-IsAntisymmetric m r (Some (with_counters x (unwrap_or (get m r) empty_account))))
@@ -99,13 +99,31 @@ module _ (r : ℕ) (x : Counters) (m : FinMap nat_cmp Account) where
       ∙ ap (put (with_counted m r x) r) (sym e)
       ∙ put-back nat_cmp nat_cmp_total nat_cmp-IsAntisymmetric m r (Some (with_counters x (unwrap_or (get m r) empty_account))))
 
-  counters-same : (s : Stored) (o : Option Account) → get m r ≡ o → edited (counters_back r (option_map counters_of o)) (with_accounts s m) ≡ with_accounts s m
-  unfolding with_accounts
-  counters-same s None e = ap (with_accounts s) (ap (put m r) (sym e) ∙ put-same nat_cmp nat_cmp_total nat_cmp-IsAntisymmetric m r)
-  counters-same s (Some a) e =
+-- ---- a line of an account
+
+module _ (r : ℕ) (line : Line) (m : FinMap nat_cmp Account) where
+  -- what stands at a registrar's place once its line was added
+  lined : Option Account → Option Account
+  lined o = Some (with_lines (add in_order line) (unwrap_or o empty_account))
+
+  lined-there : get (with_line m r line) r ≡ lined (get m r)
+  unfolding lined
+  lined-there =
+      get-insert nat_cmp_total m r (with_lines (add in_order line) (unwrap_or (get m r) empty_account)) r
+      ∙ ap (λ (b : Bool). cond b (Some (with_lines (add in_order line) (unwrap_or (get m r) empty_account))) (get m r)) ((eq_by_cmp_equiv nat_cmp_total).refl r)
+
+  unlined : (a : Account) → with_lines (taken in_order line) (with_lines (add in_order line) a) ≡ a
+  unlined a = ap (λ (ls : List Line). record a { lines = ls }) (taken-add in_order lines_in_order line a.lines)
+
+  line-back : (s : Stored) (o : Option Account) → get m r ≡ o → edited (line_back r line o) (with_accounts s (with_line m r line)) ≡ with_accounts s m
+  unfolding with_accounts lined
+  line-back s None e = ap (with_accounts s) (ap (put (with_line m r line) r) (sym e) ∙ put-back nat_cmp nat_cmp_total nat_cmp-IsAntisymmetric m r (lined (get m r)))
+  line-back s (Some a) e =
       ap (with_accounts s)
-      (ap (λ (o : Option Account). insert m r (with_counters (counters_of a) (unwrap_or o empty_account))) e
-      ∙ ap (put m r) (sym e) ∙ put-same nat_cmp nat_cmp_total nat_cmp-IsAntisymmetric m r)
+      (ap (λ (o : Option Account). put (with_line m r line) r (option_map (with_lines (taken in_order line)) o)) (lined-there ∙ ap lined e)
+      ∙ ap (λ (b : Account). put (with_line m r line) r (Some b)) (unlined a)
+      ∙ ap (put (with_line m r line) r) (sym e)
+      ∙ put-back nat_cmp nat_cmp_total nat_cmp-IsAntisymmetric m r (lined (get m r)))
 
 -- ---- one edit
 
@@ -115,21 +133,13 @@ unfolding with_accounts
 edited-back (edit.Clock t) s = refl
 edited-back (edit.Account r value) s = ap (λ m. record s { registry = record s.registry { accounts = m } }) (put-back nat_cmp nat_cmp_total nat_cmp-IsAntisymmetric s.registry.accounts r value)
 edited-back (edit.Counters r x) s = counters-back r x s.registry.accounts s (get s.registry.accounts r) refl
+edited-back (edit.Line r line) s = line-back r line s.registry.accounts s (get s.registry.accounts r) refl
+edited-back (edit.Unline r line) s =
+    ap (with_accounts s) (put-back nat_cmp nat_cmp_total nat_cmp-IsAntisymmetric s.registry.accounts r (option_map (with_lines (taken in_order line)) (get s.registry.accounts r)))
 edited-back (edit.Contact name value) s = ap (λ m. record s { registry = record s.registry { contacts = m } }) (put-back (slice_cmp nat_cmp) nat_list_cmp_total names_apart s.registry.contacts name value)
 edited-back (edit.Domain name value) s = ap (λ m. record s { registry = record s.registry { domains = m } }) (put-back (slice_cmp nat_cmp) nat_list_cmp_total names_apart s.registry.domains name value)
 edited-back (edit.Host name value) s = ap (λ m. record s { registry = record s.registry { hosts = m } }) (put-back (slice_cmp nat_cmp) nat_list_cmp_total names_apart s.registry.hosts name value)
 edited-back (edit.Terms value) s = refl
-
--- and leaves what wasn't edited
-edited-same : (e : Edit) (s : Stored) → edited (inverse e s) s ≡ s
-unfolding with_accounts
-edited-same (edit.Clock t) s = refl
-edited-same (edit.Account r value) s = ap (λ m. record s { registry = record s.registry { accounts = m } }) (put-same nat_cmp nat_cmp_total nat_cmp-IsAntisymmetric s.registry.accounts r)
-edited-same (edit.Counters r x) s = counters-same r x s.registry.accounts s (get s.registry.accounts r) refl
-edited-same (edit.Contact name value) s = ap (λ m. record s { registry = record s.registry { contacts = m } }) (put-same (slice_cmp nat_cmp) nat_list_cmp_total names_apart s.registry.contacts name)
-edited-same (edit.Domain name value) s = ap (λ m. record s { registry = record s.registry { domains = m } }) (put-same (slice_cmp nat_cmp) nat_list_cmp_total names_apart s.registry.domains name)
-edited-same (edit.Host name value) s = ap (λ m. record s { registry = record s.registry { hosts = m } }) (put-same (slice_cmp nat_cmp) nat_list_cmp_total names_apart s.registry.hosts name)
-edited-same (edit.Terms value) s = refl
 
 -- ---- all edits
 
@@ -138,14 +148,16 @@ pub undone_all-push : (us : List Edit) (u : Edit) (s : Stored) → undone_all (u
 undone_all-push [] u s = refl
 undone_all-push (v ∷ us) u s = ap (edited v) (undone_all-push us u s)
 
--- an edit that was made or not goes back to where it began
-tried : {A E : Type 0} (r : Result A E) (e : Edit) (s t : Stored) → OnOk r (t ≡ edited e s) → OnErr r (t ≡ s) → edited (inverse e s) t ≡ s
-tried (Ok a) e s t made kept = ap (edited (inverse e s)) made ∙ edited-back e s
-tried (Err f) e s t made kept = ap (edited (inverse e s)) kept ∙ edited-same e s
+-- an edit that was made goes back to where it began
+pub undone_all-made : (us vs : List Edit) (u e : Edit) (s t : Stored) → vs ≡ us ++ u ∷ [] → u ≡ inverse e s → t ≡ edited e s → undone_all vs t ≡ undone_all us s
+undone_all-made us vs u e s t pushed is made =
+    ap (λ (ws : List Edit). undone_all ws t) pushed ∙ undone_all-push us u t ∙ ap (undone_all us) ((λ i. edited (is i) (made i)) ∙ edited-back e s)
 
-pub undone_all-tried : {A E : Type 0} (r : Result A E) (us : List Edit) (e : Edit) (s t : Stored) → OnOk r (t ≡ edited e s) → OnErr r (t ≡ s)
-    → undone_all (us ++ inverse e s ∷ []) t ≡ undone_all us s
-undone_all-tried r us e s t made kept = undone_all-push us (inverse e s) t ∙ ap (undone_all us) (tried r e s t made kept)
+-- one that wasn't made leaves no trace
+pub take-push : (us vs ws : List Edit) (u : Edit) → vs ≡ us ++ u ∷ [] → ws ≡ take (length vs - 1) vs → ws ≡ us
+take-push us vs ws u pushed taken =
+    let many : length (us ++ u ∷ []) - 1 ≡ length us = omega (arith, length-append us (u ∷ [])) in
+    taken ∙ ap (λ (xs : List Edit). take (length xs - 1) xs) pushed ∙ ap (λ n. take n (us ++ u ∷ [])) many ∙ take-append_seam us (u ∷ [])
 
 -- ---- the latest edit
 
@@ -233,7 +245,9 @@ given p r gifts.TakeSerial s = refl
 given p r (gifts.Charge line) s = refl
 given p r (gifts.RefundRunning refund) s = refl
 given p r (gifts.RefundTransfer refund) s = refl
-given p r (gifts.Lapse entry) s = refl
+given p r (gifts.Lapse (Renewal x)) s = refl
+given p r (gifts.Lapse (Start x)) s = refl
+given p r (gifts.Lapse (Notice m)) s = refl
 given p r (gifts.Tell n) s = refl
 given p r (gifts.Ack id) s = refl
 

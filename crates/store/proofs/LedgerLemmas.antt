@@ -1,16 +1,20 @@
 -- Accounts, of which some have other counters.
-use Rattle.std.proofs.Common.{◌≡◌, ℕ, Bool, true, false, cond, Bor, Option, Some, None, Result, Ok, Err, OnOk, refl, sym, ap, ◌∙◌}
+use Rattle.std.proofs.Common.{◌≡◌, ℕ, Bool, true, false, cond, Bor, Option, Some, None, Result, Ok, Err, List, OnOk, OnErr, refl, sym, ap, ◌∙◌}
 use Rattle.std.specs.Prelude.{is_some, option_map, unwrap_or}
-use Rattle.std.specs.Option.{option_copied}
+use Rattle.std.specs.Option.{OnSome, option_copied}
 use Rattle.std.specs.Cmp.{nat_cmp_total, Equal-is}
 use Rattle.std.specs.FinMap.{FinMap, empty, get, get-empty, insert, remove, get-insert, get-remove, same_map, nat_cmp-IsAntisymmetric}
 use Rattle.std.specs.Ordering.{eq_by_cmp, nat_cmp}
 use Rattle.accounts.specs.declared.account.Account.{Account}
+use Rattle.accounts.specs.declared.line.Line.{Line}
+use Rattle.accounts.specs.Entries.{with_lines}
+use Rattle.accounts.specs.Lines.{in_order}
+use Rattle.basis.specs.Bag.{add, taken}
 use Rattle.accounts.specs.Account.{empty_account}
 use Rattle.basis.specs.Maps.{map_values}
 use Rattle.basis.proofs.MapLemmas.{get-map_values}
 use Rattle.store.specs.declared.ledgers.Counters.{Counters}
-use Rattle.store.specs.Ledgers.{accounts_of, counted, counters_of, lines_of, put, with_counted, with_counters}
+use Rattle.store.specs.Ledgers.{accounts_of, counted, counters_of, lines_of, put, with_counted, with_counters, with_line, with_lined, without_line}
 
 abbrev Accounts : Type 0
 Accounts = FinMap nat_cmp Account
@@ -66,9 +70,38 @@ accounts-counted m x r c a found = same-accounts _ _ (λ q.
         ∙ ap (λ (b : Account). Some b) (sym at)
     by q false e = refl
 
+relined : (f : List Line → List Line) (o : Option Counters) (a : Account) → counted o (with_lines f a) ≡ with_lines f (counted o a)
+relined f None a = refl
+relined f (Some x) a = refl
+
+-- an account gets other lines
+pub accounts-lined : (f : List Line → List Line) (m : Accounts) (x : FinMap nat_cmp Counters) (r : ℕ) (a : Account) → get m r ≡ Some a
+    → accounts_of (insert m r (with_lines f a)) x ≡ with_lined f (accounts_of m x) r
+accounts-lined f m x r a found = same-accounts _ _ (λ q.
+    get-accounts (insert m r (with_lines f a)) x q
+    ∙ ap (λ (o : Option Account). option_map (counted (get x q)) o) (get-insert nat_cmp_total m r (with_lines f a) q)
+    ∙ by q (eq_by_cmp nat_cmp q r) refl
+    ∙ ap (λ (o : Option Account). cond (eq_by_cmp nat_cmp q r) (Some (with_lines f (unwrap_or (get (accounts_of m x) r) empty_account))) o) (sym (get-accounts m x q))
+    ∙ sym (get-insert nat_cmp_total (accounts_of m x) r (with_lines f (unwrap_or (get (accounts_of m x) r) empty_account)) q))
+  where
+    at : with_lines f (unwrap_or (get (accounts_of m x) r) empty_account) ≡ with_lines f (counted (get x r) a)
+    at = ap (λ (o : Option Account). with_lines f (unwrap_or o empty_account)) (get-accounts m x r ∙ ap (option_map (counted (get x r))) found)
+
+    by : (q : ℕ) (b : Bool) → eq_by_cmp nat_cmp q r ≡ b
+        → option_map (counted (get x q)) (cond b (Some (with_lines f a)) (get m q)) ≡ cond b (Some (with_lines f (unwrap_or (get (accounts_of m x) r) empty_account))) (option_map (counted (get x q)) (get m q))
+    by q true e =
+        ap (λ (b : Account). Some b)
+        (relined f (get x q) a ∙ ap (λ (k : ℕ). with_lines f (counted (get x k) a)) (nat_cmp-IsAntisymmetric q r ((Equal-is (nat_cmp q r)).0 e)) ∙ sym at)
+    by q false e = refl
+
 -- no account, no counters
 pub accounts-none : accounts_of empty empty ≡ empty
 accounts-none = same-accounts _ _ (λ q. get-accounts empty empty q ∙ ap (option_map (counted (get empty q))) (get-empty nat_cmp q) ∙ sym (get-empty nat_cmp q))
+
+-- what holds where a value was found
+pub where-found : {A : Type 0} {P : Type 0} (r : Option A) (x : A) → r ≡ Some x → OnSome r P → P
+where-found None x e h = cc
+where-found (Some y) x e h = h
 
 -- ---- by the fields of the accounts
 
@@ -106,6 +139,56 @@ module _ (m : Accounts) (x : FinMap nat_cmp Counters) (now : Accounts) (view : a
   counted-found (Ok u) c x' h e = ap (λ (y : FinMap nat_cmp Counters). accounts_of m y) e ∙ accounts-counted m x r c (there (get m r) refl h).0 (there (get m r) refl h).1 ∙ ap (λ (a : Accounts). with_counted a r c) view
   counted-found (Err f) c x' h e = tt
 
+  pub has-not-found : get m r ≡ None → is_some (get now r) ≡ false
+  has-not-found e = ap (λ (o : Option Account). is_some o) (sym (found None (sym e)))
+
+  -- a line is added to an account that is there, if there is memory for it
+  pub lined-found : {E : Type 0} (result : Result (Unit {0}) E) (line : Line) (a b : Account) (ls : List Line) (m' : Accounts) → get m r ≡ Some a → b ≡ record a { lines = ls } → OnOk result (ls ≡ add in_order line a.lines) → m' ≡ insert m r b
+      → OnOk result (accounts_of m' x ≡ with_line now r line)
+  lined-found (Ok u) line a b ls m' e is ok n =
+      ap (λ (n : Accounts). accounts_of n x) (n ∙ ap (insert m r) (is ∙ ap (λ (ms : List Line). record a { lines = ms }) ok))
+      ∙ accounts-lined (add in_order line) m x r a e ∙ ap (λ (o : Accounts). with_line o r line) view
+  lined-found (Err g) line a b ls m' e is ok n = tt
+
+  again : (a : Account) → get m r ≡ Some a → insert m r a ≡ m
+  again a e = same-accounts _ _ (λ q. get-insert nat_cmp_total m r a q ∙ by q (eq_by_cmp nat_cmp q r) refl)
+    where
+      by : (q : ℕ) (b : Bool) → eq_by_cmp nat_cmp q r ≡ b → cond b (Some a) (get m q) ≡ get m q
+      by q true t = sym e ∙ ap (get m) (sym (nat_cmp-IsAntisymmetric q r ((Equal-is (nat_cmp q r)).0 t)))
+      by q false t = refl
+
+  pub lined-kept : {E : Type 0} (result : Result (Unit {0}) E) (a b : Account) (ls : List Line) (m' : Accounts) → get m r ≡ Some a → b ≡ record a { lines = ls } → OnErr result (ls ≡ a.lines) → m' ≡ insert m r b
+      → OnErr result (accounts_of m' x ≡ now)
+  lined-kept (Ok u) a b ls m' e is err n = tt
+  lined-kept (Err g) a b ls m' e is err n =
+      ap (λ (n : Accounts). accounts_of n x) (n ∙ ap (insert m r) (is ∙ ap (λ (ms : List Line). record a { lines = ms }) err) ∙ again a e) ∙ view
+
+  -- and taken back
+  pub unlined-found : (line : Line) (a b : Account) (ls : List Line) (m' : Accounts) → get m r ≡ Some a → b ≡ record a { lines = ls } → ls ≡ taken in_order line a.lines → m' ≡ insert m r b → accounts_of m' x ≡ without_line now r line
+  unlined-found line a b ls m' e is gone n =
+      ap (λ (n : Accounts). accounts_of n x) (n ∙ ap (insert m r) (is ∙ ap (λ (ms : List Line). record a { lines = ms }) gone))
+      ∙ accounts-lined (taken in_order line) m x r a e
+      ∙ ap (λ (o : Accounts). with_lined (taken in_order line) o r) view
+      ∙ by (get now r) (found (Some a) (sym e))
+    where
+      by : (o : Option Account) → Some (counted (get x r) a) ≡ o → insert now r (with_lines (taken in_order line) (unwrap_or o empty_account)) ≡ put now r (option_map (with_lines (taken in_order line)) o)
+      by None t = cc
+      by (Some c) t = refl
+
+  pub unlined-none : (line : Line) → get m r ≡ None → accounts_of m x ≡ without_line now r line
+  unlined-none line e = view ∙ by (get now r) (found None (sym e))
+    where
+      gone : remove now r ≡ now
+      gone = same-accounts _ _ (λ q. get-remove nat_cmp_total now r q ∙ at q (eq_by_cmp nat_cmp q r) refl)
+        where
+          at : (q : ℕ) (b : Bool) → eq_by_cmp nat_cmp q r ≡ b → cond b None (get now q) ≡ get now q
+          at q true t = found None (sym e) ∙ ap (get now) (sym (nat_cmp-IsAntisymmetric q r ((Equal-is (nat_cmp q r)).0 t)))
+          at q false t = refl
+
+      by : (o : Option Account) → None ≡ o → now ≡ put now r (option_map (with_lines (taken in_order line)) o)
+      by None t = sym gone
+      by (Some c) t = cc
+
 -- the counters that an account has now are its own
 pub given-counters : (c : Option Counters) (a : Account) → with_counters (counters_of (counted c a)) a ≡ counted c a
 given-counters None a = refl
@@ -119,6 +202,13 @@ pub opened-counted : {E : Type 0} (result : Result (Unit {0}) E) (now new : Acco
     → OnOk result (new ≡ insert now r b) → OnOk result (new ≡ with_counted now r c)
 opened-counted (Ok u) now new r c b h e f = f ∙ ap (λ (a : Account). insert now r a) (e ∙ ap (with_counters c) (absent (get now r) h))
 opened-counted (Err g) now new r c b h e f = tt
+
+-- an account is opened with its first line
+pub opened-lined : {E : Type 0} (result : Result (Unit {0}) E) (now held new : Accounts) (r : ℕ) (line : Line) (b : Account) → held ≡ now → is_some (get now r) ≡ false → b ≡ with_lines (add in_order line) empty_account
+    → OnOk result (new ≡ insert held r b) → OnOk result (new ≡ with_line now r line)
+opened-lined (Ok u) now held new r line b same h e f =
+    f ∙ ap (λ (m : Accounts). insert m r b) same ∙ ap (λ (a : Account). insert now r a) (e ∙ ap (λ (a : Account). with_lines (add in_order line) a) (absent (get now r) h))
+opened-lined (Err g) now held new r line b same h e f = tt
 
 -- the counters of an account that is there, or isn't
 pub counters-some : (o : Option Account) → is_some o ≡ true → Some (counters_of (unwrap_or o empty_account)) ≡ option_map counters_of o

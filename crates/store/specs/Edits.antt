@@ -2,6 +2,10 @@
 use Rattle.std.specs.Prelude.{ℕ, List, [], ◌∷◌, map, max, filter, fold, Option, Some, None, option_map}
 use Rattle.std.specs.FinMap.{entries, get}
 use Rattle.accounts.specs.declared.account.Account.{Account}
+use Rattle.accounts.specs.declared.entries.LapseEntry.{LapseEntry}
+use Rattle.accounts.specs.declared.entries.LapseEntry.TheVariants.{Renewal, Start, Notice}
+use Rattle.accounts.specs.declared.line.Line.{Line}
+use Rattle.accounts.specs.Entries.{renewal_line}
 use Rattle.lifecycle.specs.Changes.{changed as account_changed}
 use Rattle.lifecycle.specs.declared.change.AccountChange.{AccountChange}
 use Rattle.lifecycle.specs.declared.change.AccountChange.TheVariants.{Charge, RefundRunning, RefundTransfer, Lapse, Tell, Ack, CountCommand, TakeSerial}
@@ -14,13 +18,15 @@ use Rattle.store.specs.declared.edit.Edit.{Edit}
 use Rattle.store.specs.declared.edit.Edit.TheVariants as edit
 use Rattle.store.specs.Book.{Stored}
 use Rattle.store.specs.declared.ledgers.Counters.{Counters}
-use Rattle.store.specs.Ledgers.{counters_of, next_command, next_serial, put, with_counted}
+use Rattle.store.specs.Ledgers.{counters_of, next_command, next_serial, put, with_counted, with_line, without_line}
 use Rattle.model.specs.Registry.{Registry, account_of}
 
 abbrev pub edited : Edit → Stored → Stored
 edited (edit.Clock t) s = record s { registry = record s.registry { clock = t } }
 edited (edit.Account r value) s = record s { registry = record s.registry { accounts = put s.registry.accounts r value } }
 edited (edit.Counters r x) s = record s { registry = record s.registry { accounts = with_counted s.registry.accounts r x } }
+edited (edit.Line r line) s = record s { registry = record s.registry { accounts = with_line s.registry.accounts r line } }
+edited (edit.Unline r line) s = record s { registry = record s.registry { accounts = without_line s.registry.accounts r line } }
 edited (edit.Contact name value) s = record s { registry = record s.registry { contacts = put s.registry.contacts name value } }
 edited (edit.Domain name value) s = record s { registry = record s.registry { domains = put s.registry.domains name value } }
 edited (edit.Host name value) s = record s { registry = record s.registry { hosts = put s.registry.hosts name value } }
@@ -35,9 +41,16 @@ abbrev pub counters_back : ℕ → Option Counters → Edit
 counters_back r None = edit.Account r None
 counters_back r (Some x) = edit.Counters r x
 
+-- what takes a line back, or the account that was opened for it
+abbrev pub line_back : ℕ → Line → Option Account → Edit
+line_back r line None = edit.Account r None
+line_back r line (Some a) = edit.Unline r line
+
 -- what takes an edit back: what stands at its key
 abbrev pub inverse : Edit → Stored → Edit
 inverse (edit.Counters r x) s = counters_back r (option_map counters_of (get s.registry.accounts r))
+inverse (edit.Line r line) s = line_back r line (get s.registry.accounts r)
+inverse (edit.Unline r line) s = edit.Account r (get s.registry.accounts r)
 inverse (edit.Clock t) s = edit.Clock s.registry.clock
 inverse (edit.Account r value) s = edit.Account r (get s.registry.accounts r)
 inverse (edit.Contact name value) s = edit.Contact name (get s.registry.contacts name)
@@ -61,13 +74,31 @@ counted_by (Lapse what) a = None
 counted_by (Tell n) a = None
 counted_by (Ack id) a = None
 
-abbrev pub gift_by : PolicyRules → ℕ → AccountChange → Account → Option Counters → Edit
-gift_by p r what a (Some x) = edit.Counters r x
-gift_by p r what a None = edit.Account r (Some (account_changed p what a))
+-- the line that time enters, if it enters one
+abbrev pub entered_line : LapseEntry → Option Line
+entered_line (Renewal x) = Some (renewal_line x)
+entered_line (Start x) = None
+entered_line (Notice m) = None
 
--- for a registrar's account, one edit
+-- the line that a change adds, if it adds one and does nothing else
+abbrev pub line_of : AccountChange → Option Line
+line_of (Charge line) = Some line
+line_of (Lapse what) = entered_line what
+line_of (RefundRunning r) = None
+line_of (RefundTransfer r) = None
+line_of (Tell n) = None
+line_of (Ack id) = None
+line_of CountCommand = None
+line_of TakeSerial = None
+
+-- for a registrar's account, one edit: of its counters, of a line, or of the whole
+abbrev pub gift_by : PolicyRules → ℕ → AccountChange → Account → Option Counters → Option Line → Edit
+gift_by p r what a (Some x) line = edit.Counters r x
+gift_by p r what a None (Some line) = edit.Line r line
+gift_by p r what a None None = edit.Account r (Some (account_changed p what a))
+
 abbrev pub gift_edit : PolicyRules → ℕ → AccountChange → Account → Edit
-gift_edit p r what a = gift_by p r what a (counted_by what a)
+gift_edit p r what a = gift_by p r what a (counted_by what a) (line_of what)
 
 -- for a host's new name, an edit for each domain that names the host
 abbrev pub renames : List ℕ → List ℕ → Registry → List Edit

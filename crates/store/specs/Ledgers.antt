@@ -1,11 +1,14 @@
 -- The accounts of a book in memory.
-use Rattle.std.specs.Prelude.{ℕ, List, Option, Some, None, unwrap_or}
+use Rattle.std.specs.Prelude.{ℕ, List, Option, Some, None, option_map, unwrap_or}
 use Rattle.std.specs.declared.cmp.Ordering.{Ordering}
 use Rattle.std.specs.FinMap.{FinMap, get, insert, remove}
 use Rattle.std.specs.Ordering.{nat_cmp}
 use Rattle.accounts.specs.declared.account.Account.{Account}
 use Rattle.accounts.specs.declared.line.Line.{Line}
 use Rattle.accounts.specs.Account.{empty_account, saturating_next}
+use Rattle.accounts.specs.Entries.{with_lines}
+use Rattle.accounts.specs.Lines.{in_order}
+use Rattle.basis.specs.Bag.{add, taken}
 use Rattle.basis.specs.Maps.{map_values}
 use Rattle.store.specs.declared.ledgers.Counters.{Counters}
 
@@ -42,3 +45,14 @@ next_serial x = record x { serial = saturating_next x.serial }
 -- the accounts, where a registrar's has these counters
 abbrev pub with_counted : FinMap nat_cmp Account → ℕ → Counters → FinMap nat_cmp Account
 with_counted accounts r x = insert accounts r (with_counters x (unwrap_or (get accounts r) empty_account))
+
+-- the accounts, where a registrar's lines are changed; what was never opened is opened
+abbrev pub with_lined : (List Line → List Line) → FinMap nat_cmp Account → ℕ → FinMap nat_cmp Account
+with_lined f accounts r = insert accounts r (with_lines f (unwrap_or (get accounts r) empty_account))
+
+-- with a line more, and with that line taken back from an account that is there
+abbrev pub with_line : FinMap nat_cmp Account → ℕ → Line → FinMap nat_cmp Account
+with_line accounts r line = with_lined (add in_order line) accounts r
+
+abbrev pub without_line : FinMap nat_cmp Account → ℕ → Line → FinMap nat_cmp Account
+without_line accounts r line = put accounts r (option_map (with_lines (taken in_order line)) (get accounts r))

@@ -11,13 +11,39 @@ use crate::content::Content;
 use crate::edit::{Edit, copy_contact, copy_domain, copy_host, copy_terms, put_named};
 use crate::ledgers::Counters;
 use crate::renamed::with_host_renamed;
-use accounts::Account;
+use accounts::{Account, LapseEntry, Line};
 use basis::registrar::RegistrarNo;
 use basis::text::Text;
 use lifecycle::{AccountChange, change_account};
 use policy::Policy;
 use rules::Change;
 use std::alloc::AllocError;
+
+/// The line that time enters, if it enters one.
+fn entered_line(what: &LapseEntry) -> Option<Line>
+    ensures { result ≡ spec.entered_line what.now }
+{
+    match what {
+        LapseEntry::Renewal(renewal) => Some(renewal.line()),
+        LapseEntry::Start(_) | LapseEntry::Notice(_) => None,
+    }
+}
+
+/// The line that a change adds, if it adds one and does nothing else.
+fn line_of(what: &AccountChange) -> Option<Line>
+    ensures { result ≡ spec.line_of what.now }
+{
+    match what {
+        AccountChange::Charge(line) => Some(*line),
+        AccountChange::Lapse(what) => entered_line(what),
+        AccountChange::RefundRunning(_)
+        | AccountChange::RefundTransfer(_)
+        | AccountChange::Tell(_)
+        | AccountChange::Ack(_)
+        | AccountChange::CountCommand
+        | AccountChange::TakeSerial => None,
+    }
+}
 
 impl Content {
     /// A copy of a registrar's account, which is empty where it was never opened.
@@ -46,6 +72,17 @@ impl Content {
         }
     }
 
+    /// What takes a line back, or the account that is opened for it.
+    fn line_back(&self, registrar: RegistrarNo, line: Line) -> Edit
+        ensures { result ≡ spec.line_back registrar line (finmap.get self.now.accounts registrar) }
+    {
+        if self.accounts.has(registrar) {
+            Edit::Unline(registrar, line)
+        } else {
+            Edit::Account(registrar, None)
+        }
+    }
+
     /// A registrar's account after a change.
     fn account_after(
         &self,
@@ -60,7 +97,7 @@ impl Content {
         Ok(account)
     }
 
-    /// The edit that changes a registrar's account. What counts alone copies no line.
+    /// The edit that changes a registrar's account. What counts alone, or adds a line, copies none.
     fn gift(
         &self,
         registrar: RegistrarNo,
@@ -71,6 +108,9 @@ impl Content {
     {
         if let Some(counters) = self.counters_after(registrar, &what) {
             return Ok(Edit::Counters(registrar, counters));
+        }
+        if let Some(line) = line_of(&what) {
+            return Ok(Edit::Line(registrar, line));
         }
         let account = self.account_after(registrar, what, policy)?;
         Ok(Edit::Account(registrar, Some(account)))
@@ -150,6 +190,11 @@ impl Content {
                 Ok(Edit::Account(*registrar, old))
             }
             Edit::Counters(registrar, _) => Ok(self.counters_back(*registrar)),
+            Edit::Line(registrar, line) => Ok(self.line_back(*registrar, *line)),
+            Edit::Unline(registrar, _) => {
+                let old = self.accounts.copy(*registrar)?;
+                Ok(Edit::Account(*registrar, old))
+            }
             Edit::Contact(name, _) => {
                 let old = copy_contact(self.contacts.get(name))?;
                 Ok(Edit::Contact(name.clone()?, old))
@@ -179,6 +224,11 @@ impl Content {
             Edit::Account(registrar, value) => self.accounts.put(registrar, value),
             Edit::Counters(registrar, counters) => {
                 self.accounts.count(self.alloc, registrar, counters)
+            }
+            Edit::Line(registrar, line) => self.accounts.add_line(self.alloc, registrar, line),
+            Edit::Unline(registrar, line) => {
+                self.accounts.take_line(registrar, &line);
+                Ok(())
             }
             Edit::Contact(name, value) => put_named(&mut self.contacts, name, value),
             Edit::Domain(name, value) => put_named(&mut self.domains, name, value),

@@ -4,7 +4,7 @@ ghost use Rattle.std.specs.Option.{option_copied};
 ghost use Rattle.store.specs.Ledgers.{put};
 
 use crate::ledgers::Counters as AccountCounters;
-use accounts::Account as AccountRecord;
+use accounts::{Account as AccountRecord, Line as AccountLine};
 use basis::maps::NameMap;
 use basis::registrar::RegistrarNo;
 use basis::text::Text;
@@ -20,6 +20,10 @@ pub(crate) enum Edit {
     Account(RegistrarNo, Option<AccountRecord>),
     /// What the account counts, and nothing else of it.
     Counters(RegistrarNo, AccountCounters),
+    /// A line more.
+    Line(RegistrarNo, AccountLine),
+    /// A line less, which was added.
+    Unline(RegistrarNo, AccountLine),
     Contact(Text, Option<ContactRecord>),
     Domain(Text, Option<DomainRecord>),
     Host(Text, Option<HostRecord>),
@@ -37,6 +41,8 @@ impl Edit {
                 Ok(Edit::Account(*registrar, copy_account(value.as_ref())?))
             }
             Edit::Counters(registrar, counters) => Ok(Edit::Counters(*registrar, *counters)),
+            Edit::Line(registrar, line) => Ok(Edit::Line(*registrar, *line)),
+            Edit::Unline(registrar, line) => Ok(Edit::Unline(*registrar, *line)),
             Edit::Contact(name, value) => {
                 let name = name.clone()?;
                 Ok(Edit::Contact(name, copy_contact(value.as_ref())?))

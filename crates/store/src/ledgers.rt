@@ -8,7 +8,7 @@ ghost use Rattle.store.specs.Ledgers as spec;
 ghost use Rattle.store.specs.Ledgers.{put};
 
 use crate::edit::account_clone;
-use accounts::{Account, saturating_next};
+use accounts::{Account, Line, saturating_next};
 use basis::maps::RegistrarMap;
 use basis::registrar::RegistrarNo;
 use std::alloc::{AllocError, Global};
@@ -156,7 +156,7 @@ impl Ledgers {
     }
 
     /// Whether a registrar has an account.
-    fn has(&self, registrar: RegistrarNo) -> bool
+    pub fn has(&self, registrar: RegistrarNo) -> bool
         ensures { result ≡ is_some (map.get self.now registrar) }
     {
         self.accounts.get(registrar).is_some()
@@ -192,6 +192,34 @@ impl Ledgers {
             }
             Some(account) => self.insert(registrar, account),
         }
+    }
+
+    /// Adds a line to a registrar's account. What was never opened is opened.
+    pub fn add_line(
+        &mut self,
+        alloc: Global,
+        registrar: RegistrarNo,
+        line: Line,
+    ) -> Result<(), AllocError>
+        ensures ok { OnOk result (self.new ≡ spec.with_line self.old registrar line) }
+        ensures err { OnErr result (self.new ≡ self.old) }
+    {
+        if let Some(account) = self.accounts.get_mut(registrar) {
+            return account.lines.add(line);
+        }
+        let mut account = Account::empty(alloc);
+        account.lines.add(line)?;
+        self.insert(registrar, account)
+    }
+
+    /// Takes a line back that was added to a registrar's account.
+    pub fn take_line(&mut self, registrar: RegistrarNo, line: &Line)
+        ensures { self.new ≡ spec.without_line self.old registrar line.now }
+    {
+        let Some(account) = self.accounts.get_mut(registrar) else {
+            return;
+        };
+        account.lines.take_back(line);
     }
 
     /// Gives a registrar's account other counters. What was never opened is opened.

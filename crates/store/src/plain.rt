@@ -89,7 +89,13 @@ impl PlainBook {
     {
         let inverse = self.content.inverse(&edit)?;
         self.undo.push(inverse)?;
-        self.content.set(edit)
+        match self.content.set(edit) {
+            Ok(()) => Ok(()),
+            Err(error) => {
+                self.undo.drop_last();
+                Err(error)
+            }
+        }
     }
 
     /// Makes edits that can be undone, one after another.
