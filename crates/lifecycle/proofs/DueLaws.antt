@@ -13,7 +13,7 @@ use Rattle.objects.specs.declared.domain.Domain.{Domain}
 use Rattle.objects.specs.declared.transfer.Transfer.{Transfer}
 use Rattle.lifecycle.specs.declared.lapsed.Lapsed.{Lapsed}
 use Rattle.lifecycle.specs.Lapse.{IsLapseOf, completes_at, completed, due_at, due_by, due_of, earlier, earlier_end, lapse, lapse_by, leaves, lived, moved, purged, raised, renewals}
-use Rattle.lifecycle.specs.Periods.{in_time}
+use Rattle.lifecycle.specs.Periods.{in_time, passed}
 use Rattle.lifecycle.specs.Phases.{purge_at}
 use Rattle.lifecycle.specs.Turns.{turns}
 use Rattle.lifecycle.proofs.LapseLaws.{lapse-law}
@@ -133,3 +133,19 @@ due-steps p d end n r alive completes is_end value low h =
     let low_end : 946_684_800 ≤ expiry d = omega (arith, low, plus_years-later d.created d.years) in
     let due : due_at p d ≡ min (expiry d) n = ap (λ o. due_of p o d) alive ∙ ap (earlier (expiry d)) completes in
     ap Some (value ∙ ap (λ o. earlier_end o n) is_end) ∙ due-pick (expiry d) n (is_moment (expiry d)) refl low_end h ∙ ap in_time (sym due)
+
+in-time-at : (e : ℕ) (a b : Bool) → nat_le 946_684_800 e ≡ a → nat_le e 7_258_118_399 ≡ b → cond (a && b) (Some e) None ≡ None → 946_684_800 ≤ e → 7_258_118_399 < e
+in-time-at e true true p q h low = cc
+in-time-at e true false p q h low = grind (arith, nat_tests, q)
+in-time-at e false b p q h low = absurd (let least : 946_684_800 ≤ e = low in grind (arith, nat_tests, p, least))
+
+not-passed : (t e : ℕ) (b : Bool) → nat_lt t e ≡ b → t < e → None ≡ cond b None (Some e)
+not-passed t e true p lt = refl
+not-passed t e false p lt = absurd (grind (arith, nat_tests, p, lt))
+
+-- an expiry past the last moment hasn't come
+pub not-expired : (t : ℕ) (d : Domain) → in_time (expiry d) ≡ None → 946_684_800 ≤ d.created → t ≤ 7_258_118_399 → None ≡ passed t (expiry d)
+not-expired t d past low last =
+    let least : 946_684_800 ≤ expiry d = omega (arith, low, plus_years-later d.created d.years) in
+    let most : 7_258_118_399 < expiry d = in-time-at (expiry d) (nat_le 946_684_800 (expiry d)) (nat_le (expiry d) 7_258_118_399) refl refl past least in
+    not-passed t (expiry d) (nat_lt t (expiry d)) refl (omega (arith, most, last))

@@ -20,7 +20,7 @@ pub use change::{AccountChange, Notification, RunningRefund, change_account};
 pub use contact::lapse_contact;
 pub use deletion::phase;
 pub use domain::lapse;
-pub use due::{contact_due_at, due_at};
+pub use due::{contact_due_at, contact_due_by, due_at, due_by};
 pub use grace::{graces, runs, standing};
 pub use lapsed::Lapsed;
 pub use period::{end_of, is_within};

@@ -1,5 +1,6 @@
 pub mod Book
 pub mod Due
+pub mod DueOrder
 pub mod Ledgers
 pub mod Edits
 pub mod Lookups

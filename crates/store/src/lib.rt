@@ -7,6 +7,7 @@ mod content;
 mod due;
 mod edit;
 mod fault;
+mod lapsing;
 mod ledgers;
 mod plain;
 mod renamed;

@@ -223,9 +223,12 @@ impl Book for PlainBook {
         }
     }
 
-    fn due(&mut self, _moment: Moment) -> Result<Seq<Due>, BookFault> {
+    fn due(&mut self, moment: Moment, policy: &Policy) -> Result<Seq<Due>, BookFault> {
         self.finish_rollback()?;
-        Ok(Seq::new(self.content.alloc))
+        match self.content.due_by(moment, policy) {
+            Ok(due) => Ok(due),
+            Err(error) => self.fail(error),
+        }
     }
 
     fn begin(&mut self) -> Result<(), BookFault> {
