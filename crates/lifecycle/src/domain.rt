@@ -14,20 +14,17 @@ use std::alloc::{AllocError, Global};
 
 /// The year that a transfer completed at the moment brings, unless the expiry would pass ten years.
 fn gained(domain: &Domain, moment: Moment) -> u32
-    requires { moment ≤ 4_102_444_799 }
     ensures value { result ≡ spec.gained domain.now moment }
     ensures small { domain.now.years + result < 4_294_967_296 }
 {
     let _ = moment.secs();
-    let Ok(limit) = moment.plus_years(10) else {
-        return 0;
-    };
     let Some(years) = domain.years.checked_add(1) else {
         return 0;
     };
-    match years_by(domain.created, years, limit) {
-        Some(_) => 1,
-        None => 0,
+    if domain.created.is_later_by(u64::from(years), &moment, 10) {
+        0
+    } else {
+        1
     }
 }
 
@@ -77,7 +74,6 @@ fn complete(
     domain: &mut Domain,
     postings: &mut Seq<Posting>,
 ) -> Result<(), AllocError>
-    requires { transfer.ac_date ≤ 4_102_444_799 }
     ensures domain { OnOk result (domain.new ≡ spec.moved transfer domain.old) }
     ensures postings { OnOk result (postings.new ≡ postings.old ++ (spec.completed transfer domain.old).postings) }
 {
@@ -120,7 +116,6 @@ fn advance(
     moment: Moment,
     postings: &mut Seq<Posting>,
 ) -> Result<(), AllocError>
-    requires { moment ≤ 4_102_444_799 }
     ensures domain { OnOk result (Some domain.new ≡ (spec.living policy.now moment domain.old).object) }
     ensures postings { OnOk result (postings.new ≡ postings.old ++ (spec.living policy.now moment domain.old).postings) }
 {
@@ -140,7 +135,6 @@ pub fn lapse(
     moment: Moment,
     policy: &Policy,
 ) -> Result<Lapsed<Domain>, AllocError>
-    requires { moment ≤ 4_102_444_799 }
     ensures { IfOk result (λ lapsed. spec.IsLapseOf policy.now moment domain.now lapsed) }
 {
     lapse_any(alloc, domain, moment, policy)
@@ -153,7 +147,6 @@ fn lapse_any(
     moment: Moment,
     policy: &Policy,
 ) -> Result<Lapsed<Domain>, AllocError>
-    requires { moment ≤ 4_102_444_799 }
     ensures { IfOk result (λ lapsed. lapsed ≡ spec.lapse policy.now moment domain.now) }
 {
     if let Some(deletion) = domain.deletion {
