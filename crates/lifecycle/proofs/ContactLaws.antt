@@ -18,7 +18,7 @@ after-by : (t : ℕ) (c b : Contact) (o : Option Transfer) → due_by t c.transf
 after-by t c b None e found = ap (λ (a : Contact). due_by t a.transfer) (sym (contact-only c b found)) ∙ e
 after-by t c b (Some x) e found = ap (λ (a : Contact). due_by t a.transfer) (sym (contact-only (contact_moved x c) b found))
 
-is_contact_lapse : (t : ℕ) (c : Contact) (l : Lapsed Contact) → l ≡ lapse_contact t c → IsContactLapseOf t c l
+pub is_contact_lapse : (t : ℕ) (c : Contact) (l : Lapsed Contact) → l ≡ lapse_contact t c → IsContactLapseOf t c l
 is_contact_lapse t c l e = record {
   value = e;
   on = λ u le. ap (λ (m : Lapsed Contact). m >>= lapse_contact u) e ∙ on-by t u c (due_by t c.transfer) refl le;

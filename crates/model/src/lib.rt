@@ -1,7 +1,10 @@
 //! The registry as plain maps, what of it a registrar sees, and when a value of the maps is a
-//! registry. All of it stands in `specs/`: `Registry`, `View`, `WellFormed`.
+//! registry. All of it stands in `specs/`: `Registry`, `View`, `WellFormed`. What time alone makes of
+//! a registry stands in `Lapse`, and its laws in `LapseLaws`.
 #![tactic(auto)]
 
+mod laws;
 mod object;
 
+pub use laws::lapse_is_lawful;
 pub use object::Object;
