@@ -81,7 +81,7 @@ full-is {O} {F} r o face (Some t) false x e = by (names r t) e
     by true e = absurd cc
     by false e = absurd cc
 
-contact-full : (r : ℕ) (presented : Option (List ℕ)) (found : Option Contact) (c : Contact) → option_map (contact_as r presented) found ≡ Some (Full c) → found ≡ Some c
+pub contact-full : (r : ℕ) (presented : Option (List ℕ)) (found : Option Contact) (c : Contact) → option_map (contact_as r presented) found ≡ Some (Full c) → found ≡ Some c
 contact-full r presented None c e = absurd cc
 contact-full r presented (Some o) c e =
     let same : contact_as r presented o ≡ Full c = cc in

@@ -13,3 +13,6 @@ pub mod WellFormedLemmas
 pub mod MeetingLemmas
 pub mod IsolationLemmas
 pub mod OrderLemmas
+pub mod PostingLemmas
+pub mod LapsedLemmas
+pub mod SettledLemmas

@@ -1,5 +1,5 @@
 -- What a command is answered and what it changes, by the facts that bear on it.
-use Rattle.std.specs.Prelude.{ℕ, Bool, ◌+◌, ◌-◌, min, List, [], ◌∷◌, map, Option, Some, None, if◌then◌else◌}
+use Rattle.std.specs.Prelude.{ℕ, Bool, ◌+◌, ◌-◌, max, min, List, [], ◌∷◌, map, Option, Some, None, if◌then◌else◌}
 use Rattle.accounts.specs.Account.{saturating_next}
 use Rattle.accounts.specs.declared.line.Line.{Line}
 use Rattle.accounts.specs.declared.line.LineKind.{LineKind}
@@ -74,13 +74,14 @@ new_contact r t f new = record {
 abbrev pub new_links : NewDomain → Links
 new_links new = record { registrant = new.registrant; admin = in_order new.admin; tech = in_order new.tech; hosts = in_order (map name_of new.hosts) }
 
+-- for a year at least, so that it isn't due at once
 abbrev pub new_domain : ℕ → ℕ → Facts → NewDomain → Domain
 new_domain r t f new = record {
   name = name_of new.name;
   roid = new_roid kinds.Domain r f;
   sponsor = r;
   created = t;
-  years = new.years;
+  years = max 1 new.years;
   transferred = None;
   updated = None;
   statuses = [];
@@ -155,9 +156,9 @@ updated_domain t u d = record d {
   links = updated_links u d.links;
 }
 
--- so many years more; their number stays at its greatest
+-- so many years more; their number stays at its greatest, and never falls
 abbrev pub more_years : ℕ → ℕ → ℕ
-more_years years more = min (years + more) 0xFFFF_FFFF
+more_years years more = max years (min (years + more) 0xFFFF_FFFF)
 
 -- registered for longer (RFC 5731, 3.2.3)
 abbrev pub renewed_domain : ℕ → ℕ → Domain → Domain
