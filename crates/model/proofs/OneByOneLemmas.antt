@@ -20,10 +20,10 @@ use Rattle.lifecycle.specs.Lapse.{lapse, lapse_contact}
 use Rattle.objects.specs.declared.contact.Contact.{Contact}
 use Rattle.objects.specs.declared.domain.Domain.{Domain}
 use Rattle.policy.specs.Rules.{PolicyRules}
-use Rattle.model.specs.Lapse.{among, is_named, lapse_if, lapse_one, lapse_some, only, put_or_drop, with_contact_lapsed, with_domain_lapsed}
-use Rattle.model.specs.LapseLaws.{EachLapsesAsSome}
+use Rattle.model.specs.Lapse.{among, at, is_named, lapse_if, lapse_one, lapse_registry, lapse_some, only, put_or_drop, with_contact_lapsed, with_domain_lapsed}
+use Rattle.model.specs.LapseLaws.{EachDueLapsesAsAll, EachLapsesAsSome, LapsesOnFromEach}
 use Rattle.model.specs.Registry.{Registry}
-use Rattle.model.proofs.LapseLaws.{some-lapse-together}
+use Rattle.model.proofs.LapseLaws.{all-due-lapse-as-all, lapses-on-from-some, some-lapse-together}
 use Rattle.model.proofs.SweepLemmas.{Named, given-still, kept-still, registry, swept-still}
 
 -- ---- one map
@@ -81,14 +81,14 @@ module _ (p : PolicyRules) (t : ℕ) (name : List ℕ) (s : Registry) where
       s.hosts
       (sym (kept-still s.domains) i)
       (sym (ap (λ (es : List Posting). fold posted s.accounts es) (ap (λ (fs : List Posting). given (λ n c. (at_name (lapse_contact t) s.contacts name n c).postings) s.contacts ++ fs) (given-still s.domains) ∙ append-nil (given (λ n c. (at_name (lapse_contact t) s.contacts name n c).postings) s.contacts))
-          ∙ gives-one (lapse_contact t) s.contacts name s.accounts) i)
+      ∙ gives-one (lapse_contact t) s.contacts name s.accounts) i)
       s.clock)
   one-lapses subjects.Domain = domain-found (get s.domains name) refl ∙ (λ i. registry
       (sym (kept-still s.contacts) i)
       s.hosts
       (left-one (lapse p t) s.domains name i)
       (sym (ap (λ (fs : List Posting). fold posted s.accounts (fs ++ given (λ n d. (at_name (lapse p t) s.domains name n d).postings) s.domains)) (given-still s.contacts)
-          ∙ gives-one (lapse p t) s.domains name s.accounts) i)
+      ∙ gives-one (lapse p t) s.domains name s.accounts) i)
       s.clock)
 
 -- ---- one after another
@@ -99,3 +99,10 @@ each-lapses-as-some p t (object ∷ objects) s =
     each-lapses-as-some p t objects (lapse_one p t object.0 object.1 s)
     ∙ ap (lapse_some p (among objects) t) (one-lapses p t object.1 s object.0)
     ∙ some-lapse-together p (only object.0 object.1) (among objects) t s
+
+pub each-due-lapses-as-all : EachDueLapsesAsAll
+each-due-lapses-as-all p t objects s due = ap (at t) (each-lapses-as-some p t objects s) ∙ all-due-lapse-as-all p t (among objects) s due
+
+pub lapses-on-from-each : LapsesOnFromEach
+lapses-on-from-each p objects a b clock le s =
+    ap (λ (x : Registry). lapse_registry p b (at clock x)) (each-lapses-as-some p a objects s) ∙ lapses-on-from-some p (among objects) a b clock le s

@@ -81,9 +81,9 @@ swept-again f g h k l m contact domain s = λ i. registry
     s.hosts
     (left-again k l m domain s.domains i)
     (all-again s.accounts (given (gives f) s.contacts) (given (gives k) s.domains)
-        (given (gives g) (kept (left f) s.contacts)) (given (gives l) (kept (left k) s.domains))
-        (given (gives h) s.contacts) (given (gives m) s.domains)
-        (gives-again f g h contact s.contacts) (gives-again k l m domain s.domains) i)
+    (given (gives g) (kept (left f) s.contacts)) (given (gives l) (kept (left k) s.domains))
+    (given (gives h) s.contacts) (given (gives m) s.domains)
+    (gives-again f g h contact s.contacts) (gives-again k l m domain s.domains) i)
     s.clock
 
 -- ---- sweeps that agree on what is there are one

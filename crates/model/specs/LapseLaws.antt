@@ -53,6 +53,16 @@ abbrev pub AllDueLapseAsAll : Type 0
 AllDueLapseAsAll = (p : PolicyRules) (t : ℕ) (chosen : Choice) (s : Registry) → HasAllDue p t chosen s
     → at t (lapse_some p chosen t s) ≡ lapse_registry p t s
 
+-- and where they have done so one after another
+abbrev pub EachDueLapsesAsAll : Type 0
+EachDueLapsesAsAll = (p : PolicyRules) (t : ℕ) (objects : List (Subject × List ℕ)) (s : Registry) → HasAllDue p t (among objects) s
+    → at t (lapse_each p t objects s) ≡ lapse_registry p t s
+
+-- to let any objects lapse one after another first, wherever the clock is put, changes no later lapse
+abbrev pub LapsesOnFromEach : Type 0
+LapsesOnFromEach = (p : PolicyRules) (objects : List (Subject × List ℕ)) (a b clock : ℕ) → a ≤ b → (s : Registry)
+    → lapse_registry p b (at clock (lapse_each p a objects s)) ≡ lapse_registry p b s
+
 -- ---- where nothing is due
 
 -- nothing is due by the registry's own clock

@@ -1,16 +1,25 @@
 //! What the definition of the lapse of a registry comes to.
 ghost use Rattle.model.specs.LapseLaws as spec;
 
-/// What time alone makes of a registry is one thing: in whatever steps it is done, whichever objects
-/// lapse first, and one after another or all at once.
-pub fn lapse_is_lawful()
+/// Time may pass in any steps, and some objects may lapse before the others do.
+pub fn time_passes_in_any_steps()
     ensures on { spec.LapsesOn }
     ensures on_from_some { spec.LapsesOnFromSome }
+    ensures on_from_each { spec.LapsesOnFromEach }
+    ensures one_future { spec.HaveOneFuture }
+{}
+
+/// Objects lapse one after another, in any order, as they do together.
+pub fn objects_lapse_in_any_order()
     ensures together { spec.SomeLapseTogether }
     ensures any_order { spec.SomeLapseInAnyOrder }
-    ensures one_future { spec.HaveOneFuture }
     ensures each { spec.EachLapsesAsSome }
     ensures all_due { spec.AllDueLapseAsAll }
-    ensures settled { spec.SettledIsNow }
+    ensures each_due { spec.EachDueLapsesAsAll }
+{}
+
+/// A lapse leaves nothing due, and changes nothing where nothing is.
+pub fn lapse_leaves_nothing_due()
     ensures settles { spec.LapsedIsSettled }
+    ensures stays { spec.SettledIsNow }
 {}

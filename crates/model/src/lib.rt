@@ -6,5 +6,5 @@
 mod laws;
 mod object;
 
-pub use laws::lapse_is_lawful;
+pub use laws::{lapse_leaves_nothing_due, objects_lapse_in_any_order, time_passes_in_any_steps};
 pub use object::Object;
