@@ -16,7 +16,7 @@ use Rattle.lifecycle.proofs.LapseLaws.{lapse-law}
 use Rattle.objects.specs.declared.contact.Contact.{Contact}
 use Rattle.objects.specs.declared.domain.Domain.{Domain}
 use Rattle.policy.specs.Rules.{PolicyRules}
-use Rattle.model.specs.Lapse.{Choice, at, either, lapse_if, lapse_registry, lapse_some, nothing}
+use Rattle.model.specs.Lapse.{Choice, accounts_at, at, contacts_at, domains_at, either, lapse_if, lapse_registry, lapse_some, nothing}
 use Rattle.model.specs.LapseLaws.{AllDueLapseAsAll, HaveOneFuture, LapsedIsSettled, LapsesOn, LapsesOnFromSome, SettledIsNow, SomeLapseInAnyOrder, SomeLapseTogether}
 use Rattle.model.specs.Registry.{Registry}
 use Rattle.model.proofs.SweepLemmas.{Named, left, swept-again, swept-alike, swept-still}
@@ -52,6 +52,7 @@ module _ {X : Type 0} (l : X → Lapsed X) (law : (x : X) → l x ≡ (l x >>= l
 -- ---- one lapse after another
 
 pub lapses-on-from-some : LapsesOnFromSome
+unfolding contacts_at domains_at accounts_at
 lapses-on-from-some p chosen a b clock le s = ap (at b) (swept-again
     (λ name c. lapse_if (chosen.contacts name) (lapse_contact a c) c) (λ name. lapse_contact b) (λ name. lapse_contact b)
     (λ name d. lapse_if (chosen.domains name) (lapse p a d) d) (λ name. lapse p b) (λ name. lapse p b)
@@ -59,6 +60,7 @@ lapses-on-from-some p chosen a b clock le s = ap (at b) (swept-again
     (λ name d. if-on (lapse p a) (lapse p b) (domain-law p a b le) (chosen.domains name) d) s)
 
 pub lapses-on : LapsesOn
+unfolding contacts_at domains_at accounts_at
 lapses-on p a b le s = ap (at b) (swept-again
     (λ name. lapse_contact a) (λ name. lapse_contact b) (λ name. lapse_contact b)
     (λ name. lapse p a) (λ name. lapse p b) (λ name. lapse p b)
@@ -95,6 +97,7 @@ if-stays true l x stays = refl
 if-stays false l x stays = sym (stays refl)
 
 pub all-due-lapse-as-all : AllDueLapseAsAll
+unfolding contacts_at domains_at accounts_at
 all-due-lapse-as-all p t chosen s due = ap (at t) (swept-alike
     (λ name c. lapse_if (chosen.contacts name) (lapse_contact t c) c) (λ name. lapse_contact t)
     (λ name d. lapse_if (chosen.domains name) (lapse p t d) d) (λ name. lapse p t) s
@@ -115,6 +118,7 @@ left-of f m name y found = by (get m name) refl (sym (get-kept (slice_cmp nat_cm
     by (Some x) e found = (x, e, found)
 
 pub lapsed-is-settled : LapsedIsSettled
+unfolding contacts_at domains_at accounts_at
 lapsed-is-settled p t s = record {
   contacts = λ name c found. let was = left-of (λ name. lapse_contact t) s.contacts name c found in (is_contact_lapse t was.0 (lapse_contact t was.0) refl).due_after c was.2;
   domains = λ name d found. let was = left-of (λ name. lapse p t) s.domains name d found in lapse-due p t was.0 d was.2;

@@ -3,6 +3,7 @@ use Rattle.std.specs.Prelude.{ℕ, Bool, false, ◌||◌, List, [], ◌∷◌, �
 use Rattle.std.specs.Cmp.Lexicographic.{slice_cmp}
 use Rattle.std.specs.FinMap.{FinMap, get, insert, remove}
 use Rattle.std.specs.Ordering.{eq_by_cmp, nat_cmp}
+use Rattle.accounts.specs.declared.account.Account.{Account}
 use Rattle.accounts.specs.declared.entries.Posting.{Posting}
 use Rattle.accounts.specs.declared.message.Subject.{Subject}
 use Rattle.accounts.specs.declared.message.Subject.TheVariants as subjects
@@ -17,9 +18,37 @@ use Rattle.model.specs.Registry.{Registry}
 
 -- ---- the lapse of a registry
 
+-- the contacts, each as its own lapse leaves it
+unfoldable pub contacts_at : ℕ → FinMap (slice_cmp nat_cmp) Contact → FinMap (slice_cmp nat_cmp) Contact
+contacts_at t contacts = kept (λ name c. (lapse_contact t c).object) contacts
+
+-- the domains, each as its own lapse leaves it, or gone
+unfoldable pub domains_at : PolicyRules → ℕ → FinMap (slice_cmp nat_cmp) Domain → FinMap (slice_cmp nat_cmp) Domain
+domains_at p t domains = kept (λ name d. (lapse p t d).object) domains
+
 -- what contacts and domains post into accounts, where this becomes of each
 abbrev pub postings : (List ℕ → Contact → Lapsed Contact) → (List ℕ → Domain → Lapsed Domain) → Registry → List Posting
 postings contact domain s = given (λ name c. (contact name c).postings) s.contacts ++ given (λ name d. (domain name d).postings) s.domains
+
+-- the accounts, with all that these lapses post into them
+unfoldable pub accounts_at : PolicyRules → ℕ → Registry → FinMap nat_cmp Account
+accounts_at p t s = fold posted s.accounts (postings (λ name. lapse_contact t) (λ name. lapse p t) s)
+
+-- what time alone makes of a registry up to a moment; hosts have no lapse
+abbrev pub lapse_registry : PolicyRules → ℕ → Registry → Registry
+lapse_registry p t s = record {
+  contacts = contacts_at t s.contacts;
+  hosts = s.hosts;
+  domains = domains_at p t s.domains;
+  accounts = accounts_at p t s;
+  clock = t;
+}
+
+-- the registry with all that is due by its own clock
+abbrev pub now_registry : PolicyRules → Registry → Registry
+now_registry p s = lapse_registry p s.clock s
+
+-- ---- the lapse of some objects
 
 -- each contact and each domain is replaced by what becomes of it, or is gone, and what they post is
 -- entered into the accounts
@@ -32,16 +61,6 @@ swept contact domain s = record s {
 
 abbrev pub at : ℕ → Registry → Registry
 at moment s = record s { clock = moment }
-
--- the registry at a moment, with each object as its own lapse leaves it
-abbrev pub lapse_registry : PolicyRules → ℕ → Registry → Registry
-lapse_registry p t s = at t (swept (λ name. lapse_contact t) (λ name. lapse p t) s)
-
--- the registry with all that is due by its own clock
-abbrev pub now_registry : PolicyRules → Registry → Registry
-now_registry p s = lapse_registry p s.clock s
-
--- ---- the lapse of some objects
 
 -- the contacts and the domains whose names pass the tests
 pub record Choice : Type 0 where

@@ -20,7 +20,7 @@ use Rattle.objects.specs.declared.domain.Domain.{Domain}
 use Rattle.objects.specs.declared.roid.Roid.{Roid}
 use Rattle.objects.specs.declared.transfer.Transfer.{Transfer}
 use Rattle.policy.specs.Rules.{PolicyRules}
-use Rattle.model.specs.Lapse.{lapse_registry, postings}
+use Rattle.model.specs.Lapse.{accounts_at, contacts_at, domains_at, lapse_registry, postings}
 use Rattle.model.specs.Registry.{Registry}
 use Rattle.model.specs.WellFormed.{IsContactOf, IsDeletion, IsDomainOf, IsRegistry, IsTransfer}
 use Rattle.model.proofs.LapseLaws.{left-of}
@@ -196,6 +196,7 @@ module _ (p : PolicyRules) (t : ℕ) (s : Registry) (past : t ≤ s.clock) (is :
 -- ---- a registry that lapses
 
 pub kept-lapse : (p : PolicyRules) (t : ℕ) (s : Registry) → s.clock ≤ t → IsRegistry p s → IsRegistry p (lapse_registry p t s)
+unfolding contacts_at domains_at accounts_at
 kept-lapse p t s le is =
     let posted_to : Registry = record s { accounts = fold posted s.accounts (postings (λ name. lapse_contact t) (λ name. lapse p t) s) } in
     let with_postings : IsRegistry p posted_to = kept-posted p (postings (λ name. lapse_contact t) (λ name. lapse p t) s) (postings-to p s t is) s is in
