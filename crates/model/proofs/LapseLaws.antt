@@ -16,7 +16,7 @@ use Rattle.lifecycle.proofs.LapseLaws.{lapse-law}
 use Rattle.objects.specs.declared.contact.Contact.{Contact}
 use Rattle.objects.specs.declared.domain.Domain.{Domain}
 use Rattle.policy.specs.Rules.{PolicyRules}
-use Rattle.model.specs.Lapse.{Choice, accounts_at, at, contacts_at, domains_at, either, lapse_if, lapse_registry, lapse_some, nothing}
+use Rattle.model.specs.Lapse.{Choice, accounts_at, at, contacts_at, domains_at, either, lapse as lapse_registry, lapse_if, lapse_some, nothing}
 use Rattle.model.specs.LapseLaws.{AllDueLapseAsAll, HaveOneFuture, LapsedIsSettled, LapsesOn, LapsesOnFromSome, SettledIsNow, SomeLapseInAnyOrder, SomeLapseTogether}
 use Rattle.model.specs.Registry.{Registry}
 use Rattle.model.proofs.SweepLemmas.{Named, left, swept-again, swept-alike, swept-still}

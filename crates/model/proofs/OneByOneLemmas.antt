@@ -20,7 +20,7 @@ use Rattle.lifecycle.specs.Lapse.{lapse, lapse_contact}
 use Rattle.objects.specs.declared.contact.Contact.{Contact}
 use Rattle.objects.specs.declared.domain.Domain.{Domain}
 use Rattle.policy.specs.Rules.{PolicyRules}
-use Rattle.model.specs.Lapse.{among, at, is_named, lapse_if, lapse_one, lapse_registry, lapse_some, only, put_or_drop, with_contact_lapsed, with_domain_lapsed}
+use Rattle.model.specs.Lapse.{among, at, is_named, lapse as lapse_registry, lapse_if, lapse_one, lapse_some, only, put_or_drop, with_contact_lapsed, with_domain_lapsed}
 use Rattle.model.specs.LapseLaws.{EachDueLapsesAsAll, EachLapsesAsSome, LapsesOnFromEach}
 use Rattle.model.specs.Registry.{Registry}
 use Rattle.model.proofs.LapseLaws.{all-due-lapse-as-all, lapses-on-from-some, some-lapse-together}

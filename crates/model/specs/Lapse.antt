@@ -1,5 +1,5 @@
 -- What time alone makes of a registry.
-use Rattle.std.specs.Prelude.{ℕ, Bool, false, ◌||◌, List, [], ◌∷◌, ◌++◌, Option, Some, None, fold, if◌then◌else◌}
+use Rattle.std.specs.Prelude.{ℕ, max, Bool, false, ◌||◌, List, [], ◌∷◌, ◌++◌, Option, Some, None, fold, if◌then◌else◌}
 use Rattle.std.specs.Cmp.Lexicographic.{slice_cmp}
 use Rattle.std.specs.FinMap.{FinMap, get, insert, remove}
 use Rattle.std.specs.Ordering.{eq_by_cmp, nat_cmp}
@@ -10,7 +10,7 @@ use Rattle.accounts.specs.declared.message.Subject.TheVariants as subjects
 use Rattle.accounts.specs.Entries.{posted}
 use Rattle.basis.specs.Sweeps.{given, kept}
 use Rattle.lifecycle.specs.declared.lapsed.Lapsed.{Lapsed}
-use Rattle.lifecycle.specs.Lapse.{lapse, lapse_contact}
+use Rattle.lifecycle.specs.Lapse.{lapse as lapse_domain, lapse_contact}
 use Rattle.objects.specs.declared.contact.Contact.{Contact}
 use Rattle.objects.specs.declared.domain.Domain.{Domain}
 use Rattle.policy.specs.Rules.{PolicyRules}
@@ -24,7 +24,7 @@ contacts_at t contacts = kept (λ name c. (lapse_contact t c).object) contacts
 
 -- the domains, each as its own lapse leaves it, or gone
 unfoldable pub domains_at : PolicyRules → ℕ → FinMap (slice_cmp nat_cmp) Domain → FinMap (slice_cmp nat_cmp) Domain
-domains_at p t domains = kept (λ name d. (lapse p t d).object) domains
+domains_at p t domains = kept (λ name d. (lapse_domain p t d).object) domains
 
 -- what contacts and domains post into accounts, where this becomes of each
 abbrev pub postings : (List ℕ → Contact → Lapsed Contact) → (List ℕ → Domain → Lapsed Domain) → Registry → List Posting
@@ -32,11 +32,11 @@ postings contact domain s = given (λ name c. (contact name c).postings) s.conta
 
 -- the accounts, with all that these lapses post into them
 unfoldable pub accounts_at : PolicyRules → ℕ → Registry → FinMap nat_cmp Account
-accounts_at p t s = fold posted s.accounts (postings (λ name. lapse_contact t) (λ name. lapse p t) s)
+accounts_at p t s = fold posted s.accounts (postings (λ name. lapse_contact t) (λ name. lapse_domain p t) s)
 
 -- what time alone makes of a registry up to a moment; hosts have no lapse
-abbrev pub lapse_registry : PolicyRules → ℕ → Registry → Registry
-lapse_registry p t s = record {
+abbrev pub lapse : PolicyRules → ℕ → Registry → Registry
+lapse p t s = record {
   contacts = contacts_at t s.contacts;
   hosts = s.hosts;
   domains = domains_at p t s.domains;
@@ -44,9 +44,13 @@ lapse_registry p t s = record {
   clock = t;
 }
 
--- the registry with all that is due by its own clock
-abbrev pub now_registry : PolicyRules → Registry → Registry
-now_registry p s = lapse_registry p s.clock s
+-- the registry as a call at a moment finds it: a moment before the clock counts as the clock
+abbrev pub lapsed : PolicyRules → ℕ → Registry → Registry
+lapsed p moment s = lapse p (max moment s.clock) s
+
+-- The registry with all that is due by its own clock. Two values with one `now` are the same registry.
+abbrev pub now : PolicyRules → Registry → Registry
+now p s = lapse p s.clock s
 
 -- ---- the lapse of some objects
 
@@ -78,7 +82,7 @@ lapse_if chosen l x = record {
 abbrev pub lapse_some : PolicyRules → Choice → ℕ → Registry → Registry
 lapse_some p chosen t s = swept
     (λ name c. lapse_if (chosen.contacts name) (lapse_contact t c) c)
-    (λ name d. lapse_if (chosen.domains name) (lapse p t d) d) s
+    (λ name d. lapse_if (chosen.domains name) (lapse_domain p t d) d) s
 
 abbrev pub either : Choice → Choice → Choice
 either x y = record {
@@ -118,8 +122,8 @@ with_contact_lapsed t name (Some c) s = record s {
 abbrev pub with_domain_lapsed : PolicyRules → ℕ → List ℕ → Option Domain → Registry → Registry
 with_domain_lapsed p t name None s = s
 with_domain_lapsed p t name (Some d) s = record s {
-  domains = put_or_drop s.domains name (lapse p t d).object;
-  accounts = fold posted s.accounts (lapse p t d).postings;
+  domains = put_or_drop s.domains name (lapse_domain p t d).object;
+  accounts = fold posted s.accounts (lapse_domain p t d).postings;
 }
 
 -- the object of a name is replaced by its own lapse, or removed, and its postings are entered; where

@@ -8,18 +8,18 @@ use Rattle.objects.specs.declared.contact.Contact.{Contact}
 use Rattle.objects.specs.declared.domain.Domain.{Domain}
 use Rattle.policy.specs.Rules.{PolicyRules}
 use Rattle.model.specs.Registry.{Registry}
-use Rattle.model.specs.Lapse.{Choice, among, at, either, lapse_each, lapse_registry, lapse_some, now_registry}
+use Rattle.model.specs.Lapse.{Choice, among, at, either, lapse_each, lapse, lapse_some, now}
 
 -- ---- one lapse after another
 
 -- to lapse to a moment and then to a later one is to lapse to the later one
 abbrev pub LapsesOn : Type 0
-LapsesOn = (p : PolicyRules) (a b : ℕ) → a ≤ b → (s : Registry) → lapse_registry p b (lapse_registry p a s) ≡ lapse_registry p b s
+LapsesOn = (p : PolicyRules) (a b : ℕ) → a ≤ b → (s : Registry) → lapse p b (lapse p a s) ≡ lapse p b s
 
 -- the same where only some objects had lapsed to the earlier moment, wherever the clock was put
 abbrev pub LapsesOnFromSome : Type 0
 LapsesOnFromSome = (p : PolicyRules) (chosen : Choice) (a b clock : ℕ) → a ≤ b → (s : Registry)
-    → lapse_registry p b (at clock (lapse_some p chosen a s)) ≡ lapse_registry p b s
+    → lapse p b (at clock (lapse_some p chosen a s)) ≡ lapse p b s
 
 -- some objects, and then some, lapse as they do together
 abbrev pub SomeLapseTogether : Type 0
@@ -33,8 +33,8 @@ SomeLapseInAnyOrder = (p : PolicyRules) (x y : Choice) (t : ℕ) (s : Registry)
 
 -- two registries that are the same by their own clock have one future
 abbrev pub HaveOneFuture : Type 0
-HaveOneFuture = (p : PolicyRules) (x y : Registry) (t : ℕ) → now_registry p x ≡ now_registry p y → x.clock ≤ t
-    → lapse_registry p t x ≡ lapse_registry p t y
+HaveOneFuture = (p : PolicyRules) (x y : Registry) (t : ℕ) → now p x ≡ now p y → x.clock ≤ t
+    → lapse p t x ≡ lapse p t y
 
 -- ---- one object after another
 
@@ -51,17 +51,17 @@ pub record HasAllDue (p : PolicyRules) (t : ℕ) (chosen : Choice) (s : Registry
 -- where all that are due have lapsed, the registry has
 abbrev pub AllDueLapseAsAll : Type 0
 AllDueLapseAsAll = (p : PolicyRules) (t : ℕ) (chosen : Choice) (s : Registry) → HasAllDue p t chosen s
-    → at t (lapse_some p chosen t s) ≡ lapse_registry p t s
+    → at t (lapse_some p chosen t s) ≡ lapse p t s
 
 -- and where they have done so one after another
 abbrev pub EachDueLapsesAsAll : Type 0
 EachDueLapsesAsAll = (p : PolicyRules) (t : ℕ) (objects : List (Subject × List ℕ)) (s : Registry) → HasAllDue p t (among objects) s
-    → at t (lapse_each p t objects s) ≡ lapse_registry p t s
+    → at t (lapse_each p t objects s) ≡ lapse p t s
 
 -- to let any objects lapse one after another first, wherever the clock is put, changes no later lapse
 abbrev pub LapsesOnFromEach : Type 0
 LapsesOnFromEach = (p : PolicyRules) (objects : List (Subject × List ℕ)) (a b clock : ℕ) → a ≤ b → (s : Registry)
-    → lapse_registry p b (at clock (lapse_each p a objects s)) ≡ lapse_registry p b s
+    → lapse p b (at clock (lapse_each p a objects s)) ≡ lapse p b s
 
 -- ---- where nothing is due
 
@@ -72,8 +72,8 @@ pub record IsSettled (p : PolicyRules) (s : Registry) : Type 0 where
 
 -- such a registry is what it is now
 abbrev pub SettledIsNow : Type 0
-SettledIsNow = (p : PolicyRules) (s : Registry) → IsSettled p s → now_registry p s ≡ s
+SettledIsNow = (p : PolicyRules) (s : Registry) → IsSettled p s → now p s ≡ s
 
 -- and a lapse leaves such a one
 abbrev pub LapsedIsSettled : Type 0
-LapsedIsSettled = (p : PolicyRules) (t : ℕ) (s : Registry) → IsSettled p (lapse_registry p t s)
+LapsedIsSettled = (p : PolicyRules) (t : ℕ) (s : Registry) → IsSettled p (lapse p t s)

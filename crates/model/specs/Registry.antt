@@ -1,5 +1,5 @@
 -- The registry as plain maps.
-use Rattle.std.specs.Prelude.{ℕ, max, unwrap_or}
+use Rattle.std.specs.Prelude.{ℕ, unwrap_or}
 use Rattle.std.specs.Ordering.{nat_cmp}
 use Rattle.std.specs.Cmp.Lexicographic.{slice_cmp}
 use Rattle.std.specs.FinMap.{FinMap, empty, get}
@@ -8,7 +8,6 @@ use Rattle.objects.specs.declared.host.Host.{Host}
 use Rattle.objects.specs.declared.domain.Domain.{Domain}
 use Rattle.accounts.specs.declared.account.Account.{Account}
 use Rattle.accounts.specs.Account.{empty_account}
-use Rattle.policy.specs.Rules.{PolicyRules}
 
 -- Contacts, hosts and domains by canonical name, accounts by the place of their registrar, and the
 -- latest moment that was seen.
@@ -22,20 +21,6 @@ pub record Registry : Type 0 where
 -- a registrar's account
 abbrev pub account_of : ℕ → Registry → Account
 account_of r s = unwrap_or (get s.accounts r) empty_account
-
--- What time does to a registry up to a moment, under a policy's terms. Nothing lapses yet: a moment
--- moves the clock.
-abbrev pub lapse : PolicyRules → ℕ → Registry → Registry
-lapse p t s = record s { clock = t }
-
--- the registry as a call at a moment finds it: a moment before the clock counts as the clock
-abbrev pub lapsed : PolicyRules → ℕ → Registry → Registry
-lapsed p moment s = lapse p (max moment s.clock) s
-
--- The registry with all that is due by its own clock: itself, since nothing lapses yet. Two values
--- with one `now` are the same registry.
-abbrev pub now : PolicyRules → Registry → Registry
-now p s = lapse p s.clock s
 
 -- a registry that was never opened: nothing in it, at the first moment
 abbrev pub blank : Registry

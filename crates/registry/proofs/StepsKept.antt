@@ -1,24 +1,25 @@
 -- A step of the rules leaves a well formed registry.
-use Rattle.std.proofs.Common.{◌≡◌, ℕ, Result, Ok, Err, IfOk, OnOk, sym, subst}
+use Rattle.std.proofs.Common.{◌≡◌, ℕ, Result, Ok, Err, IfOk, OnOk, sym, subst, arith}
 use Rattle.policy.specs.Rules.{PolicyRules, IsRegistrar}
 use Rattle.registry.specs.Execution.{IsOrderStep, IsStep}
 use Rattle.registry.specs.WellFormed.{KeepsWellFormed, StaysWellFormed}
 use Rattle.rules.specs.Orders.{order_effect}
 use Rattle.rules.specs.Steps.{effect}
-use Rattle.rules.proofs.KeepingLemmas.{kept-lapsed, kept-now}
+use Rattle.rules.proofs.LapsedLemmas.{kept-lapsed, kept-now, serial-lapsed}
 use Rattle.rules.proofs.OrderLemmas.{kept-order}
 use Rattle.rules.proofs.WellFormedLemmas.{kept-effect}
 use Rattle.protocol.specs.declared.code.Code.{Code}
 use Rattle.protocol.specs.declared.command.Command.{Command}
 use Rattle.protocol.specs.declared.order.Order.{Order}
 use Rattle.protocol.specs.declared.reply.Reply.{Reply}
-use Rattle.model.specs.Registry.{Registry, lapsed, now}
+use Rattle.model.specs.Lapse.{lapsed, now}
+use Rattle.model.specs.Registry.{Registry}
 use Rattle.model.specs.WellFormed.{IsRegistry}
 
 stays : (p : PolicyRules) (r : ℕ) (c : Command) (moment : ℕ) (before after : Registry) → IsRegistrar p r → now p after ≡ now p (effect p r c (lapsed p moment before)) → StaysWellFormed p before after
 stays p r c moment before after place left is small =
     let passed : Registry = lapsed p moment before in
-    subst (IsRegistry p) (sym left) (kept-now p (effect p r c passed) (kept-effect p r c passed place (kept-lapsed p moment before is) (small r).serial))
+    subst (IsRegistry p) (sym left) (kept-now p (effect p r c passed) (kept-effect p r c passed place (kept-lapsed p moment before is) (omega (arith, (small r).serial, serial-lapsed p moment r before))))
 
 pub kept_step : {E : Type 0} (result : Result Reply E) (clean : Type 0) (p : PolicyRules) (r : ℕ) (c : Command) (moment : ℕ) (before after : Registry) → IsRegistrar p r
     → IfOk result (λ reply. clean → IsStep p r c moment before after reply) → OnOk result (clean → StaysWellFormed p before after)

@@ -15,7 +15,8 @@ use Rattle.protocol.specs.declared.command.Command.{Command}
 use Rattle.facts.specs.declared.facts.Facts.{Facts}
 use Rattle.protocol.specs.declared.order.Order.{Order}
 use Rattle.protocol.specs.declared.reply.Reply.{Reply}
-use Rattle.model.specs.Registry.{Registry, lapsed, now}
+use Rattle.model.specs.Lapse.{lapsed, now}
+use Rattle.model.specs.Registry.{Registry}
 
 -- the last moment at which a call is taken: 2099-12-31T23:59:59Z
 abbrev pub last_call : ℕ

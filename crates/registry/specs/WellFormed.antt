@@ -1,6 +1,7 @@
 -- What the calls of the registry leave is well formed again.
 use Rattle.std.specs.Prelude.{◌≡◌, true, ◌⊎◌, Some}
-use Rattle.model.specs.Registry.{Registry, now}
+use Rattle.model.specs.Lapse.{now}
+use Rattle.model.specs.Registry.{Registry}
 use Rattle.model.specs.WellFormed.{AreSmall, IsRegistry}
 use Rattle.policy.specs.Rules.{PolicyRules}
 use Rattle.policy.specs.Terms.{terms_of}

@@ -1,20 +1,23 @@
 -- Who can't tell two registries apart is answered alike, and can't tell them apart afterwards. No
 -- command is named here: facts are a function of the view, and each change commutes with it.
-use Rattle.std.proofs.Common.{◌≡◌, ℕ, sym, ap, subst, ◌∙◌}
-use Rattle.policy.specs.Rules.{PolicyRules}
+use Rattle.std.proofs.Common.{◌≡◌, ℕ, max, sym, ap, subst, ◌∙◌}
+use Rattle.policy.specs.Rules.{PolicyRules, IsSound}
 use Rattle.rules.specs.Changes.{changed_all}
 use Rattle.rules.specs.Decisions.{decided}
 use Rattle.rules.specs.Isolation.{IsIsolated}
 use Rattle.rules.specs.Steps.{answer, decision, effect, reply_of}
-use Rattle.rules.proofs.KeepingLemmas.{kept-lapsed}
+use Rattle.rules.proofs.LapsedLemmas.{kept-lapsed}
 use Rattle.rules.proofs.MeetingLemmas.{meets-decided}
+use Rattle.rules.proofs.SettledLemmas.{settled-effect}
 use Rattle.rules.proofs.ViewLemmas.{AllMeet, same_facts, same_view, same_changed_all}
 use Rattle.protocol.specs.declared.command.Command.{Command}
 use Rattle.protocol.specs.declared.reply.Reply.{Reply}
 use Rattle.facts.specs.Facts.{facts}
-use Rattle.model.specs.Registry.{Registry, account_of, lapsed, now}
+use Rattle.model.specs.Lapse.{lapsed, now}
+use Rattle.model.specs.Registry.{Registry, account_of}
 use Rattle.model.specs.View.{view, view_for}
 use Rattle.model.specs.WellFormed.{IsRegistry}
+use Rattle.model.proofs.LapseLaws.{lapsed-is-settled, settled-is-now}
 
 same_decision : (p : PolicyRules) (r : ℕ) (c : Command) (s t : Registry) → view_for p r c s ≡ view_for p r c t → decision p r c s ≡ decision p r c t
 same_decision p r c s t alike =
@@ -31,10 +34,15 @@ same_effect p r c s t here there alike =
     ap (λ d. view p r (changed_all p d.changes s)) one
     ∙ same_changed_all p r (decision p r c t).changes s t (subst (λ d. AllMeet p r d.changes s) one (meets-decided p r c s here)) (meets-decided p r c t there) (same_view p r c s t alike)
 
-pub isolated : (p : PolicyRules) (r : ℕ) (c : Command) (moment : ℕ) (before after : Registry) (reply : Reply)
+-- a command leaves nothing due, so what it leaves is what that is now
+pub effect-is-now : (p : PolicyRules) → IsSound p → (r : ℕ) (c : Command) (moment : ℕ) (s : Registry) → now p (effect p r c (lapsed p moment s)) ≡ effect p r c (lapsed p moment s)
+effect-is-now p sound r c moment s = settled-is-now p (effect p r c (lapsed p moment s)) (settled-effect p sound r c (lapsed p moment s) (lapsed-is-settled p (max moment s.clock) s))
+
+pub isolated : (p : PolicyRules) → IsSound p → (r : ℕ) (c : Command) (moment : ℕ) (before after : Registry) (reply : Reply)
     → reply ≡ answer p r c (lapsed p moment before) → now p after ≡ now p (effect p r c (lapsed p moment before)) → IsIsolated p r c moment before after reply
-isolated p r c moment before after reply told left = record {
+isolated p sound r c moment before after reply told left = record {
   same_reply = λ other alike. told ∙ sym (same_answer p r c _ _ alike);
-  same_view = λ formed other also alike. ap (view p r) left
-      ∙ sym (same_effect p r c (lapsed p moment other) (lapsed p moment before) (kept-lapsed p moment (now p other) also) (kept-lapsed p moment (now p before) formed) alike);
+  same_view = λ formed other also alike. ap (view p r) (left ∙ effect-is-now p sound r c moment before)
+      ∙ sym (same_effect p r c (lapsed p moment other) (lapsed p moment before) (kept-lapsed p moment other also) (kept-lapsed p moment before formed) alike)
+      ∙ sym (ap (view p r) (effect-is-now p sound r c moment other));
 }

@@ -23,7 +23,7 @@ use Rattle.rules.proofs.GrowthLemmas.{Grows, contact-grown, domain-grown, host-g
 use Rattle.rules.proofs.NameListLemmas.{has_name-filter}
 use Rattle.rules.proofs.NamedLemmas.{drop-cases, drop-keeps, drop-there, is-there, put-cases, put-is, put-keeps, put-there, remade-cases, remade-keeps}
 use Rattle.rules.proofs.ViewLemmas.{account_of-with_account}
-use Rattle.model.specs.Registry.{Registry, account_of, lapsed, now}
+use Rattle.model.specs.Registry.{Registry, account_of}
 use Rattle.model.specs.WellFormed.{IsContactOf, IsDomainOf, IsHostOf, IsRegistry}
 
 -- ---- the clock and the accounts
@@ -42,14 +42,6 @@ kept-grown p q s accounts clock grows places is =
       host_roids = is.host_roids;
       domain_roids = is.domain_roids;
     }
-
--- time passes
-pub kept-lapsed : (p : PolicyRules) (moment : ℕ) (s : Registry) → IsRegistry p s → IsRegistry p (lapsed p moment s)
-kept-lapsed p moment s is = kept-grown p p s s.accounts (lapsed p moment s).clock (record { zone = refl; place = λ r place. place; clock = omega arith; serial = λ r. omega arith }) is.accounts is
-
--- what is due by its own clock is done: nothing is yet
-pub kept-now : (p : PolicyRules) (s : Registry) → IsRegistry p s → IsRegistry p (now p s)
-kept-now p s is = is
 
 serial-risen : (f : Account → Account) → ((a : Account) → a.serial ≤ (f a).serial) → (r other : ℕ) (s : Registry) → (account_of r s).serial ≤ (account_of r (with_account other f s)).serial
 serial-risen f rises r other s = subst (λ (a : Account). (account_of r s).serial ≤ a.serial) (sym (account_of-with_account r other f s)) (by (eq_by_cmp nat_cmp r other))

@@ -1,5 +1,5 @@
 -- What time alone makes of a well-formed registry is well formed.
-use Rattle.std.proofs.Common.{◌≡◌, inl, ℕ, ◌≤◌, ◌+◌, Bool, true, false, cond, nat_lt, List, [], Option, Some, None, IsSome, is_some, refl, sym, ap, subst, ◌∙◌, arith}
+use Rattle.std.proofs.Common.{◌≡◌, inl, ℕ, ◌≤◌, ◌+◌, max, Bool, true, false, cond, nat_lt, List, [], Option, Some, None, IsSome, is_some, refl, sym, ap, subst, ◌∙◌, arith}
 use Rattle.std.specs.Prelude.{fold}
 use Rattle.std.specs.Cmp.Lexicographic.{slice_cmp, nat_list_cmp_total}
 use Rattle.std.specs.FinMap.{FinMap, get}
@@ -20,15 +20,15 @@ use Rattle.objects.specs.declared.domain.Domain.{Domain}
 use Rattle.objects.specs.declared.roid.Roid.{Roid}
 use Rattle.objects.specs.declared.transfer.Transfer.{Transfer}
 use Rattle.policy.specs.Rules.{PolicyRules}
-use Rattle.model.specs.Lapse.{accounts_at, contacts_at, domains_at, lapse_registry, postings}
-use Rattle.model.specs.Registry.{Registry}
+use Rattle.model.specs.Lapse.{accounts_at, contacts_at, domains_at, lapse as lapse_registry, lapsed, now, postings}
+use Rattle.model.specs.Registry.{Registry, account_of}
 use Rattle.model.specs.WellFormed.{IsContactOf, IsDeletion, IsDomainOf, IsRegistry, IsTransfer}
-use Rattle.model.proofs.LapseLaws.{left-of}
+use Rattle.model.proofs.LapseLaws.{lapses-on, left-of}
 use Rattle.model.proofs.SweepLemmas.{left}
 use Rattle.rules.proofs.GrowthLemmas.{Grows, contact-grown, domain-grown, host-grown-below}
 use Rattle.rules.proofs.KeepingLemmas.{AreApart, contact_roid, domain_roid, kept-grown}
 use Rattle.rules.proofs.NamedLemmas.{is-there, there-is}
-use Rattle.rules.proofs.PostingLemmas.{due-is, due-transfer, kept-posted, postings-to}
+use Rattle.rules.proofs.PostingLemmas.{due-is, due-transfer, kept-posted, postings-to, serial-posted}
 
 -- ---- what is left of a domain
 
@@ -202,3 +202,18 @@ kept-lapse p t s le is =
     let with_postings : IsRegistry p posted_to = kept-posted p (postings (λ name. lapse_contact t) (λ name. lapse p t) s) (postings-to p s t is) s is in
     let later : Registry = record posted_to { clock = t } in
     kept-objects p t later (omega arith) (kept-grown p p posted_to posted_to.accounts t (record { zone = refl; place = λ r place. place; clock = omega (arith, le); serial = λ r. omega arith }) with_postings.accounts with_postings)
+
+-- serials are taken by commands alone
+pub serial-lapsed : (p : PolicyRules) (moment r : ℕ) (s : Registry) → (account_of r (lapsed p moment s)).serial ≡ (account_of r s).serial
+unfolding accounts_at
+serial-lapsed p moment r s = let t : ℕ = max moment s.clock in serial-posted r (postings (λ name. lapse_contact t) (λ name. lapse p t) s) s
+
+-- what is due by its own clock is done
+pub kept-now : (p : PolicyRules) (s : Registry) → IsRegistry p s → IsRegistry p (now p s)
+kept-now p s is = kept-lapse p s.clock s (omega arith) is
+
+-- time passes; it is enough that what is kept is well formed by its own clock
+pub kept-lapsed : (p : PolicyRules) (moment : ℕ) (s : Registry) → IsRegistry p (now p s) → IsRegistry p (lapsed p moment s)
+kept-lapsed p moment s is =
+    let t : ℕ = max moment s.clock in
+    subst (IsRegistry p) (lapses-on p s.clock t (omega arith) s) (kept-lapse p t (now p s) (omega arith) is)

@@ -1,9 +1,9 @@
 -- What time posts into accounts goes to registrars, and keeps a registry well formed.
-use Rattle.std.proofs.Common.{◌≡◌, ℕ, ◌≤◌, Bool, true, false, cond, nat_lt, zero, suc, List, [], ◌∷◌, ◌++◌, Option, Some, None, refl, ap, subst, arith}
+use Rattle.std.proofs.Common.{◌≡◌, ℕ, ◌≤◌, Bool, true, false, cond, nat_lt, zero, suc, List, [], ◌∷◌, ◌++◌, Option, Some, None, refl, ap, subst, ◌∙◌, arith}
 use Rattle.std.specs.Prelude.{fold, ◌&&◌, nat_le}
 use Rattle.std.specs.Cmp.Lexicographic.{slice_cmp, nat_list_cmp_total}
 use Rattle.std.specs.FinMap.{FinMap, entries, get}
-use Rattle.std.specs.Ordering.{nat_cmp}
+use Rattle.std.specs.Ordering.{eq_by_cmp, nat_cmp}
 use Rattle.std.proofs.lemmas.Bool.Decides.{nat_tests}
 use Rattle.accounts.specs.declared.account.Account.{Account}
 use Rattle.accounts.specs.declared.entries.LapseEntry.{LapseEntry}
@@ -23,10 +23,11 @@ use Rattle.objects.specs.declared.transfer.Transfer.{Transfer}
 use Rattle.objects.specs.Transfers.{is_pending_state}
 use Rattle.policy.specs.Rules.{PolicyRules, IsRegistrar}
 use Rattle.model.specs.Lapse.{postings}
-use Rattle.model.specs.Registry.{Registry}
+use Rattle.model.specs.Registry.{Registry, account_of}
 use Rattle.model.specs.WellFormed.{IsLastTransfer, IsRegistry, IsTransfer}
 use Rattle.rules.specs.Changes.{with_account}
 use Rattle.rules.proofs.KeepingLemmas.{kept-account}
+use Rattle.rules.proofs.ViewLemmas.{account_of-with_account}
 
 -- ---- to registrars
 
@@ -99,10 +100,24 @@ module _ (p : PolicyRules) (s : Registry) (t : ℕ) where
 
 -- ---- the accounts that they leave
 
+same-serial : (what : LapseEntry) (a : Account) → (entered what a).serial ≡ a.serial
+same-serial (Renewal r) a = refl
+same-serial (Start x) a = refl
+same-serial (Notice m) a = refl
+
 serial-stays : (what : LapseEntry) (a : Account) → a.serial ≤ (entered what a).serial
-serial-stays (Renewal r) a = omega arith
-serial-stays (Start x) a = omega arith
-serial-stays (Notice m) a = omega arith
+serial-stays what a = omega (arith, same-serial what a)
+
+serial-entered : (r other : ℕ) (what : LapseEntry) (s : Registry) → (account_of r (with_account other (entered what) s)).serial ≡ (account_of r s).serial
+serial-entered r other what s = ap (λ (a : Account). a.serial) (account_of-with_account r other (entered what) s) ∙ by (eq_by_cmp nat_cmp r other)
+  where
+    by : (b : Bool) → (cond b (entered what (account_of r s)) (account_of r s)).serial ≡ (account_of r s).serial
+    by true = same-serial what (account_of r s)
+    by false = refl
+
+pub serial-posted : (r : ℕ) (es : List Posting) (s : Registry) → (account_of r (record s { accounts = fold posted s.accounts es })).serial ≡ (account_of r s).serial
+serial-posted r [] s = refl
+serial-posted r (e ∷ es) s = serial-posted r es (with_account e.registrar (entered e.what) s) ∙ serial-entered r e.registrar e.what s
 
 pub kept-posted : (p : PolicyRules) (es : List Posting) → AreToRegistrars p es → (s : Registry) → IsRegistry p s → IsRegistry p (record s { accounts = fold posted s.accounts es })
 kept-posted p [] to s is = is

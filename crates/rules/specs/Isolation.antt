@@ -4,7 +4,8 @@ use Rattle.policy.specs.Rules.{PolicyRules}
 use Rattle.rules.specs.Steps.{answer, effect}
 use Rattle.protocol.specs.declared.command.Command.{Command}
 use Rattle.protocol.specs.declared.reply.Reply.{Reply}
-use Rattle.model.specs.Registry.{Registry, lapsed, now}
+use Rattle.model.specs.Lapse.{lapsed, now}
+use Rattle.model.specs.Registry.{Registry}
 use Rattle.model.specs.View.{view, view_for}
 use Rattle.model.specs.WellFormed.{IsRegistry}
 
