@@ -1,3 +1,4 @@
 pub mod SweepLemmas
 pub mod LapseLaws
 pub mod OneByOneLemmas
+pub mod TermsLemmas

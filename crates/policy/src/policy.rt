@@ -90,6 +90,13 @@ impl Policy {
         rules_at(alloc, &document)
     }
 
+    /// Every policy's values are within their ranges, and no two of its registrars have one id.
+    pub fn is_sound(&self)
+        ensures { IsSound self.now }
+    {
+        let _ = &self.days;
+    }
+
     /// The zone, and the labels that no domain in it may have.
     pub fn zone(&self) -> &Zone
         ensures { result.now ≡ self.now.zone }

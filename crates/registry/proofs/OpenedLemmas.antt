@@ -1,11 +1,19 @@
 -- What is opened is a registry of the policy.
 use Rattle.std.proofs.Common.{◌≡◌, ◌↔◌, ◌⊎◌, inl, inr, ⊎_elim, ℕ, zero, suc, ◌+◌, ◌≤◌, Bool, true, false, cond, List, [], ◌∷◌, ◌++◌, length, Some, None, IsSome, is_some, refl, sym, ap, subst, ◌∙◌, arith, length-append}
 use lib.ListN.{length-map}
+use Rattle.std.specs.Prelude.{fold}
 use Rattle.std.specs.declared.cmp.Ordering.{Ordering}
+use Rattle.std.specs.Cmp.{nat_cmp_total}
 use Rattle.std.specs.Cmp.Lexicographic.{slice_cmp}
-use Rattle.std.specs.FinMap.{FinMap, empty, get, get-empty}
+use Rattle.std.specs.FinMap.{FinMap, empty, get, get-empty, nat_cmp-IsAntisymmetric}
 use Rattle.std.specs.Ordering.{eq_by_cmp, nat_cmp}
 use Rattle.accounts.specs.declared.account.Account.{Account}
+use Rattle.accounts.specs.declared.entries.Posting.{Posting}
+use Rattle.accounts.specs.Account.{empty_account}
+use Rattle.accounts.specs.Entries.{entered, posted}
+use Rattle.basis.specs.Sweeps.{change_at}
+use Rattle.basis.proofs.ChangeLaws.{change_at-commutes}
+use Rattle.lifecycle.specs.Lapse.{lapse, lapse_contact}
 use Rattle.policy.specs.declared.registrar.Registrar.{Registrar}
 use Rattle.policy.specs.Rules.{PolicyRules, IsRegistrar}
 use Rattle.policy.specs.Terms.{Continues, ids_of, terms_of}
@@ -17,9 +25,12 @@ use Rattle.rules.specs.declared.change.Change.TheVariants.{OpenAccount}
 use Rattle.rules.specs.Changes.{changed, changed_all, itself, with_account}
 use Rattle.rules.proofs.GrowthLemmas.{Grows}
 use Rattle.rules.proofs.KeepingLemmas.{kept-grown, placed}
+use Rattle.rules.proofs.LapsedLemmas.{kept-now}
 use Rattle.rules.proofs.ViewLemmas.{account_of-with_account}
 use Rattle.store.specs.Book.{BookState, Stored}
+use Rattle.model.specs.Lapse.{accounts_at, now, postings}
 use Rattle.model.specs.Registry.{Registry, account_of, blank}
+use Rattle.model.proofs.TermsLemmas.{same-lapse}
 use Rattle.model.specs.WellFormed.{IsRegistry}
 
 -- ---- the accounts, once those of the first n registrars are open
@@ -47,7 +58,35 @@ same-account (suc n) r s = account_of-with_account r (suc n) itself (record s { 
     by true = refl
     by false = refl
 
--- whose accounts there are
+-- ---- time makes the same of a registry, whether its accounts are opened before or after
+
+opened-posted : (es : List Posting) (accounts : FinMap nat_cmp Account) (r : ℕ) → fold posted (change_at empty_account r itself accounts) es ≡ change_at empty_account r itself (fold posted accounts es)
+opened-posted [] accounts r = refl
+opened-posted (e ∷ es) accounts r =
+    ap (λ (m : FinMap nat_cmp Account). fold posted m es) (change_at-commutes nat_cmp nat_cmp_total nat_cmp-IsAntisymmetric empty_account accounts e.registrar r (entered e.what) itself (λ same a. refl))
+    ∙ opened-posted es (posted accounts e) r
+
+accounts-after-posted : (n : ℕ) (es : List Posting) (s : Registry) → fold posted (accounts-after n s) es ≡ accounts-after n (record s { accounts = fold posted s.accounts es })
+unfolding accounts-after
+accounts-after-posted zero es s = refl
+accounts-after-posted (suc n) es s = opened-posted es (accounts-after n s) (suc n) ∙ ap (λ (m : FinMap nat_cmp Account). change_at empty_account (suc n) itself m) (accounts-after-posted n es s)
+
+-- accounts alone matter
+accounts-after-of : (n : ℕ) (s t : Registry) → s.accounts ≡ t.accounts → accounts-after n s ≡ accounts-after n t
+unfolding accounts-after
+accounts-after-of zero s t same = same
+accounts-after-of (suc n) s t same = ap (λ (m : FinMap nat_cmp Account). change_at empty_account (suc n) itself m) (accounts-after-of n s t same)
+
+now-opened : (p : PolicyRules) (n : ℕ) (s : Registry) → now p (changed_all p (openings n) s) ≡ changed_all p (openings n) (now p s)
+unfolding accounts_at
+now-opened p n s =
+    let es : List Posting = postings (λ name. lapse_contact s.clock) (λ name. lapse p s.clock) s in
+    ap (now p) (changed-openings p n s)
+    ∙ (λ i. record (now p s) { accounts = (accounts-after-posted n es s ∙ accounts-after-of n (record s { accounts = fold posted s.accounts es }) (now p s) refl) i })
+    ∙ sym (changed-openings p n (now p s))
+
+-- ---- whose accounts there are
+
 places-after : (n r : ℕ) (s : Registry) → IsSome (get (accounts-after n s) r) ↔ (IsSome (get s.accounts r) ⊎ ((1 ≤ r) × (r ≤ n)))
 unfolding accounts-after
 places-after zero r s = (λ there. inl there, ⊎_elim (λ there. there) (λ place. absurd (omega (arith, place.0, place.1))))
@@ -107,14 +146,22 @@ fewer p q added ids =
     let of_q : length (ids_of q.registrars) ≡ length q.registrars = length-map q.registrars (λ (registrar : Registrar). registrar.id) in
     omega arith
 
-held-opened : (p : PolicyRules) (held : Stored) → goes_on (terms_of p) held ≡ true → HoldsRegistry held → IsRegistry p (opened p held).registry
+-- a registry that is well formed now under one policy, once it is opened under another
+now-kept-opened : (p q : PolicyRules) (s : Registry) → q.zone ≡ p.zone → p.days ≡ q.days → p.prices ≡ q.prices → length q.registrars ≤ length p.registrars → IsRegistry q (now q s)
+    → IsRegistry p (now p (changed_all p (openings (length p.registrars)) s))
+now-kept-opened p q s zone days prices more is =
+    let n : ℕ = length p.registrars in
+    subst (IsRegistry p) (ap (changed_all p (openings n)) (sym (same-lapse p q days prices s.clock s)) ∙ sym (now-opened p n s)) (kept-opened p q (now q s) zone more is)
+
+held-opened : (p : PolicyRules) (held : Stored) → goes_on (terms_of p) held ≡ true → HoldsRegistry held → IsRegistry p (now p (opened p held).registry)
 held-opened p held fits (inl e) =
-    subst (λ (held : Stored). IsRegistry p (opened p held).registry) (sym e) (kept-opened p (without_registrars p) blank refl (omega arith) (blank-is p))
+    subst (λ (held : Stored). IsRegistry p (now p (opened p held).registry)) (sym e)
+    (now-kept-opened p (without_registrars p) blank refl refl refl (omega arith) (kept-now (without_registrars p) blank (blank-is p)))
 held-opened p held fits (inr before) =
     let q : PolicyRules = before.0 in
     let same : Continues (terms_of p) (terms_of q) = (continues-Decides (terms_of p) (terms_of q)).0 (sym (ap (continues_earlier (terms_of p)) before.1) ∙ fits) in
     let zone : q.zone ≡ p.zone = λ i. record { label = sym same.zone i; reserved = sym same.reserved i } in
-    kept-opened p q held.registry zone (fewer p q same.ids.0 same.ids.1) before.2
+    now-kept-opened p q held.registry zone same.days same.prices (fewer p q same.ids.0 same.ids.1) before.2
 
 pub opens-kept : (p : PolicyRules) (old new : BookState) → Opens p old new → new.is_clean ≡ true → OpensWellFormed p old.content new.content
-opens-kept p old new opens clean holds = subst (λ (held : Stored). IsRegistry p held.registry) (sym (opens.content clean)) (held-opened p old.content (opens.fits clean) holds)
+opens-kept p old new opens clean holds = subst (λ (held : Stored). IsRegistry p (now p held.registry)) (sym (opens.content clean)) (held-opened p old.content (opens.fits clean) holds)

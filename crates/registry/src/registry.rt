@@ -1,9 +1,10 @@
 //! The registry.
 ghost use Rattle.std.specs.Prelude.{◌≡◌, ◌≢◌, ◌<◌, nat_lt, true, false, ◌↔◌, IfOk, IfErr, OnOk, Ok, Err, Some};
+ghost use Rattle.std.proofs.Props.{props};
 ghost use Rattle.std.specs.Coded.{codes};
 ghost use Rattle.accounts.specs.Account.{saturating_next};
 ghost use Rattle.basis.specs.Sets.{names_code};
-ghost use Rattle.policy.specs.Rules.{IsRegistrar};
+ghost use Rattle.policy.specs.Rules.{IsRegistrar, IsSound};
 ghost use Rattle.policy.specs.Terms.{terms_of};
 ghost use Rattle.registry.specs.Execution.{Fails, GoesBack, IsPrepared, Isolates, Keeps, OrderSteps, SameTerms, Steps, last_call};
 ghost use Rattle.registry.specs.Opening.{Opens, Refuses};
@@ -46,6 +47,7 @@ pub struct Registry<B: Book> {
     book: B,
     policy: Policy,
     alloc: Global,
+    ghost sound: { IsSound policy } by { Prim.hlevel props },
     ghost idle: { (B.state book).is_open ≡ false },
     ghost kept: { (B.state book).is_clean ≡ true → (B.state book).content.terms ≡ Some (terms_of policy) } by { Prim.hlevel (codes, names_code) },
 }
@@ -67,6 +69,7 @@ impl<B: Book + Drop> Registry<B> {
         ensures refused { IfErr result (λ refusal. Refuses refusal.0 policy (B.state book) (B.state refusal.1)) }
     {
         let mut book = book;
+        policy.is_sound();
         match open_in(&mut book, alloc, &policy) {
             Ok(()) => Ok(Registry {
                 book,
