@@ -3,3 +3,5 @@ pub mod OpeningLemmas
 pub mod StepsKept
 pub mod OpenedLemmas
 pub mod Reopenings
+pub mod LapsingLemmas
+pub mod LapseSteps

@@ -6,6 +6,7 @@ ghost use Rattle.facts.specs.Facts.{facts};
 ghost use Rattle.model.specs.Objects.{object_at};
 
 use crate::fault::Fault;
+use crate::lapse::lapse_all;
 use basis::list::Seq;
 use basis::registrar::RegistrarNo;
 use basis::text::Text;
@@ -138,7 +139,8 @@ pub(crate) fn keep<B: Book>(
     commit(book)
 }
 
-/// Lets time pass up to a moment in an open transaction, and gives the clock.
+/// Lets time pass up to a moment in an open transaction, with what is due by then, and gives the
+/// clock.
 pub(crate) fn advance_clock<B: Book>(
     book: &mut B,
     alloc: Global,
@@ -147,6 +149,24 @@ pub(crate) fn advance_clock<B: Book>(
 ) -> Result<Moment, Fault>
     requires { (B.state book.old).is_open ≡ true }
     ensures moved { OnOk result (Moves (B.state book.old) (B.state book.new) (at_moment policy.now moment (B.state book.old).content)) }
+    ensures clock { IfOk result (λ clock. (B.state book.new).is_clean ≡ true → clock ≡ max moment (B.state book.old).content.registry.clock) }
+    ensures fault { IfErr result (λ fault. GoesBack fault (B.state book.old) (B.state book.new)) }
+    ensures follows { Follows (B.state book.old) (B.state book.new) }
+{
+    let now = move_clock(book, alloc, moment, policy)?;
+    lapse_all(book, alloc, now, policy)?;
+    Ok(now)
+}
+
+/// Moves the clock in an open transaction, and gives it.
+fn move_clock<B: Book>(
+    book: &mut B,
+    alloc: Global,
+    moment: Moment,
+    policy: &Policy,
+) -> Result<Moment, Fault>
+    requires { (B.state book.old).is_open ≡ true }
+    ensures moved { OnOk result (Moves (B.state book.old) (B.state book.new) (with_changes policy.now (Change.MoveClock moment ∷ []) (B.state book.old).content)) }
     ensures clock { IfOk result (λ clock. (B.state book.new).is_clean ≡ true → clock ≡ max moment (B.state book.old).content.registry.clock) }
     ensures fault { IfErr result (λ fault. GoesBack fault (B.state book.old) (B.state book.new)) }
     ensures follows { Follows (B.state book.old) (B.state book.new) }

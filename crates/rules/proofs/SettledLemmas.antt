@@ -45,7 +45,7 @@ use Rattle.model.specs.View.{domain_sight}
 use Rattle.verdict.specs.Deletion.{goes_at_once}
 use Rattle.verdict.specs.Orders.{order_code}
 use Rattle.rules.specs.declared.change.Change.{Change}
-use Rattle.rules.specs.declared.change.Change.TheVariants.{MoveClock, OpenAccount, PutContact, DropContact, PutDomain, DropDomain, PutHost, DropHost, RenameHost, Give}
+use Rattle.rules.specs.declared.change.Change.TheVariants.{MoveClock, OpenAccount, PutContact, DropContact, PutDomain, DropDomain, PutHost, DropHost, RenameHost, LapseContact, LapseDomain, Give}
 use Rattle.rules.specs.Changes.{changed, changed_all, with_host_renamed}
 use Rattle.rules.specs.Decisions.{changes_after, changes_of, contact_changes, deletion_at, deletion_changes, domain_changes, ending, host_changes, renaming, renewal_changes, updated_domain, updated_host}
 use Rattle.rules.specs.Orders.{cents_of, deposited, deposited_to, order_changes, order_effect, ordered}
@@ -92,6 +92,8 @@ PutsNothingDue p t (DropDomain name) = Unit {0}
 PutsNothingDue p t (PutHost h) = Unit {0}
 PutsNothingDue p t (DropHost name) = Unit {0}
 PutsNothingDue p t (RenameHost old new) = Unit {0}
+PutsNothingDue p t (LapseContact name left) = ⊥
+PutsNothingDue p t (LapseDomain name left) = ⊥
 PutsNothingDue p t (Give r what) = Unit {0}
 
 abbrev pub PutNothingDue : PolicyRules → ℕ → List Change → Type 0
@@ -108,6 +110,8 @@ same-clock p t (DropDomain name) s none = refl
 same-clock p t (PutHost h) s none = refl
 same-clock p t (DropHost name) s none = refl
 same-clock p t (RenameHost old new) s none = refl
+same-clock p t (LapseContact name left) s none = absurd none
+same-clock p t (LapseDomain name left) s none = absurd none
 same-clock p t (Give r what) s none = refl
 
 settled-changed : (p : PolicyRules) (change : Change) (s : Registry) → PutsNothingDue p s.clock change → IsSettled p s → IsSettled p (changed p change s)
@@ -137,6 +141,8 @@ settled-changed p (RenameHost old new) s none is = record {
       let was = remade-cases (with_host_renamed old new) s.domains name x at in
       subst (λ (y : Domain). s.clock < due_at p y) was.2 (due-no-earlier p s.clock was.0 (with_host_renamed old new was.0) refl refl refl (omega arith) (is.domains name was.0 was.1));
 }
+settled-changed p (LapseContact name left) s none is = absurd none
+settled-changed p (LapseDomain name left) s none is = absurd none
 settled-changed p (Give r what) s none is = record { contacts = is.contacts; domains = is.domains }
 
 pub settled-changed_all : (p : PolicyRules) (changes : List Change) (s : Registry) → PutNothingDue p s.clock changes → IsSettled p s → IsSettled p (changed_all p changes s)

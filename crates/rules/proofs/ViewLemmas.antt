@@ -27,7 +27,7 @@ use Rattle.objects.specs.Links.{links_seen, names_contact, names_host}
 use Rattle.objects.specs.Sight.{contact_as, domain_as, is_party}
 use Rattle.policy.specs.Rules.{PolicyRules}
 use Rattle.rules.specs.declared.change.Change.{Change}
-use Rattle.rules.specs.declared.change.Change.TheVariants.{MoveClock, OpenAccount, PutContact, DropContact, PutDomain, DropDomain, PutHost, DropHost, RenameHost, Give}
+use Rattle.rules.specs.declared.change.Change.TheVariants.{MoveClock, OpenAccount, PutContact, DropContact, PutDomain, DropDomain, PutHost, DropHost, RenameHost, LapseContact, LapseDomain, Give}
 use Rattle.rules.specs.Changes.{changed, changed_all, with_account, itself, with_host_renamed}
 use Rattle.rules.proofs.SightLemmas.{domain_again, forget, forget-domain, forget-contact, graces_seen, holds_seen, holds-seen, links-seen, Regrace, regraced, regraced-seen, relinked_seen, seen-relinked, sponsor_seen, superordinate_seen, superordinate-seen}
 use Rattle.protocol.specs.declared.command.Command.{Command}
@@ -181,6 +181,8 @@ seen_change p r (DropDomain name) v = record v { domains = remove v.domains name
 seen_change p r (PutHost h) v = record v { hosts = insert v.hosts h.name h }
 seen_change p r (DropHost name) v = record v { hosts = remove v.hosts name }
 seen_change p r (RenameHost old new) v = record v { domains = map_values (λ name. relinked_seen old new) v.domains }
+seen_change p r (LapseContact name left) v = v
+seen_change p r (LapseDomain name left) v = v
 seen_change p r (Give other what) v = with_seen_account p r (own r other (account_changed p what) v.account) v
 
 found-or : (b : Bool) (x d : Account) (o : Option Account) → unwrap_or (cond b (Some x) o) d ≡ cond b x (unwrap_or o d)
@@ -268,7 +270,7 @@ relinked-view p r s old new m =
 -- ---- each change, by what is seen
 
 -- What is asked of a change in a registry: a domain that is put has the graces that can be told from
--- what is seen, the lines of an account stay that isn't seen, and the clock stays, since graces and
+-- what is seen, the lines of an account stay that isn't seen, and no time passes, since graces and
 -- phases end by dates that aren't seen.
 abbrev pub Meets : PolicyRules → ℕ → Change → Registry → Type 0
 Meets p r (MoveClock t) s = ⊥
@@ -280,6 +282,8 @@ Meets p r (DropDomain name) s = Unit {0}
 Meets p r (PutHost h) s = Unit {0}
 Meets p r (DropHost name) s = Unit {0}
 Meets p r (RenameHost old new) s = Unit {0}
+Meets p r (LapseContact name left) s = ⊥
+Meets p r (LapseDomain name left) s = ⊥
 Meets p r (Give other what) s = (other ≡ r) ⊎ ((account_changed p what (account_of other s)).lines ≡ (account_of other s).lines)
 
 -- to make a change and to look is to look and to see the change
@@ -297,6 +301,8 @@ view-changed p r (PutDomain d) s meets =
     ap (λ (m : FinMap (slice_cmp nat_cmp) (Seen FullDomain DomainFace)). record (view p r s) { domains = m })
     (map_values-insert (slice_cmp nat_cmp) nat_list_cmp_total names_apart (λ name. domain_sight p r s None) s.domains d.name d
     ∙ ap (λ (g : Graces). insert (view p r s).domains d.name (domain_as r None (record { graces = g; phase = phase p s.clock d }) d)) meets)
+view-changed p r (LapseContact name left) s meets = absurd meets
+view-changed p r (LapseDomain name left) s meets = absurd meets
 view-changed p r (Give other what) s meets = view-given p r other (account_changed p what) s meets
 
 -- each of the changes meets it when its turn comes

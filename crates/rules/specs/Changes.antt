@@ -13,7 +13,8 @@ use Rattle.objects.specs.declared.domain.Domain.{Domain}
 use Rattle.objects.specs.declared.domain.Links.{Links}
 use Rattle.objects.specs.Links.{has_name}
 use Rattle.rules.specs.declared.change.Change.{Change}
-use Rattle.rules.specs.declared.change.Change.TheVariants.{MoveClock, OpenAccount, PutContact, DropContact, PutDomain, DropDomain, PutHost, DropHost, RenameHost, Give}
+use Rattle.rules.specs.declared.change.Change.TheVariants.{MoveClock, OpenAccount, PutContact, DropContact, PutDomain, DropDomain, PutHost, DropHost, RenameHost, LapseContact, LapseDomain, Give}
+use Rattle.model.specs.Lapse.{put_or_drop}
 use Rattle.model.specs.Registry.{Registry, account_of}
 
 -- one registrar's account is changed
@@ -45,6 +46,8 @@ changed p (DropDomain name) s = record s { domains = remove s.domains name }
 changed p (PutHost h) s = record s { hosts = insert s.hosts h.name h }
 changed p (DropHost name) s = record s { hosts = remove s.hosts name }
 changed p (RenameHost old new) s = record s { domains = map_values (λ name. with_host_renamed old new) s.domains }
+changed p (LapseContact name left) s = record s { contacts = put_or_drop s.contacts name left }
+changed p (LapseDomain name left) s = record s { domains = put_or_drop s.domains name left }
 changed p (Give r what) s = with_account r (account_changed p what) s
 
 -- changes, one after another

@@ -24,6 +24,10 @@ pub enum Change {
     DropHost(Text),
     /// Every domain that names the host of the one name names that of the other in its place.
     RenameHost { from: Text, to: Text },
+    /// What time left under a contact's name: the contact, or none.
+    LapseContact(Text, Option<ContactRecord>),
+    /// What time left under a domain's name: the domain, or none.
+    LapseDomain(Text, Option<DomainRecord>),
     /// The moment was seen.
     MoveClock(Moment),
     /// The registrar has an account.

@@ -5,9 +5,11 @@ mod change;
 mod charge;
 mod created;
 mod decision;
+mod lapse;
 mod order;
 mod updated;
 
 pub use change::Change;
 pub use decision::{Decision, decide};
+pub use lapse::lapse_changes;
 pub use order::{MOST_DEPOSITED, OrderDecision, decide_deposit, decide_order};

@@ -22,7 +22,7 @@ use Rattle.objects.specs.Links.{names_host}
 use Rattle.policy.specs.Rules.{PolicyRules}
 use Rattle.rules.specs.Changes.{with_host_renamed}
 use Rattle.rules.specs.declared.change.Change.{Change}
-use Rattle.rules.specs.declared.change.Change.TheVariants.{MoveClock, OpenAccount, PutContact, DropContact, PutDomain, DropDomain, PutHost, DropHost, RenameHost, Give}
+use Rattle.rules.specs.declared.change.Change.TheVariants.{MoveClock, OpenAccount, PutContact, DropContact, PutDomain, DropDomain, PutHost, DropHost, RenameHost, LapseContact, LapseDomain, Give}
 use Rattle.store.specs.declared.edit.Edit.{Edit}
 use Rattle.store.specs.declared.edit.Edit.TheVariants as edit
 use Rattle.store.specs.Book.{Stored, with_changes}
@@ -264,6 +264,10 @@ made p (DropHost name) s = refl
 made p (RenameHost old new) s =
     edited-where (λ (d : Domain). names_host old d.links) (with_host_renamed old new) (entries s.registry.domains) s
     ∙ ap (with_domains s) (mapped (λ (d : Domain). names_host old d.links) (with_host_renamed old new) (not-linked old new) s.registry.domains)
+made p (LapseContact name None) s = refl
+made p (LapseContact name (Some c)) s = refl
+made p (LapseDomain name None) s = refl
+made p (LapseDomain name (Some d)) s = refl
 made p (Give r what) s = given p r what s
 
 pub made-by : {A E : Type 0} (p : PolicyRules) (r : Result A E) (edits : List Edit) (c : Change) (s t : Stored) → edits ≡ edits_of p c s.registry → OnOk r (t ≡ edited_all edits s) → OnOk r (t ≡ with_changes p (c ∷ []) s)

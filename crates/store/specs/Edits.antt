@@ -12,7 +12,7 @@ use Rattle.lifecycle.specs.declared.change.AccountChange.TheVariants.{Charge, Re
 use Rattle.objects.specs.Links.{names_host}
 use Rattle.policy.specs.Rules.{PolicyRules}
 use Rattle.rules.specs.declared.change.Change.{Change}
-use Rattle.rules.specs.declared.change.Change.TheVariants.{MoveClock, OpenAccount, PutContact, DropContact, PutDomain, DropDomain, PutHost, DropHost, RenameHost, Give}
+use Rattle.rules.specs.declared.change.Change.TheVariants.{MoveClock, OpenAccount, PutContact, DropContact, PutDomain, DropDomain, PutHost, DropHost, RenameHost, LapseContact, LapseDomain, Give}
 use Rattle.rules.specs.Changes.{with_host_renamed}
 use Rattle.store.specs.declared.edit.Edit.{Edit}
 use Rattle.store.specs.declared.edit.Edit.TheVariants as edit
@@ -115,4 +115,6 @@ edits_of p (DropDomain name) s = edit.Domain name None ∷ []
 edits_of p (PutHost h) s = edit.Host h.name (Some h) ∷ []
 edits_of p (DropHost name) s = edit.Host name None ∷ []
 edits_of p (RenameHost old new) s = renames old new s
+edits_of p (LapseContact name left) s = edit.Contact name left ∷ []
+edits_of p (LapseDomain name left) s = edit.Domain name left ∷ []
 edits_of p (Give r what) s = gift_edit p r what (account_of r s) ∷ []

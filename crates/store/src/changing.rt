@@ -146,6 +146,8 @@ impl Content {
             }
             Change::DropHost(name) => self.one(Edit::Host(name, None)),
             Change::RenameHost { from, to } => self.renames(&from, &to),
+            Change::LapseContact(name, left) => self.one(Edit::Contact(name, left)),
+            Change::LapseDomain(name, left) => self.one(Edit::Domain(name, left)),
         }
     }
 

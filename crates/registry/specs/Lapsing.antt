@@ -1,0 +1,23 @@
+-- How what is due lapses in a book: one object after another, each as it stands by then.
+use Rattle.std.specs.Prelude.{ℕ, List, fold}
+use Rattle.model.specs.Objects.{object_at}
+use Rattle.model.specs.Registry.{Registry}
+use Rattle.policy.specs.Rules.{PolicyRules}
+use Rattle.rules.specs.Changes.{changed_all}
+use Rattle.rules.specs.Lapsing.{lapse_changes}
+use Rattle.store.specs.declared.due.Due.{Due}
+use Rattle.store.specs.Book.{Stored}
+use Rattle.store.specs.Due.{due_by}
+
+abbrev pub due_lapsed : PolicyRules → ℕ → Registry → Due → Registry
+due_lapsed p t s d = changed_all p (lapse_changes p t d.name (object_at s d.kind d.name)) s
+
+abbrev pub dues_lapsed : PolicyRules → ℕ → List Due → Registry → Registry
+dues_lapsed p t ds s = fold (due_lapsed p t) s ds
+
+abbrev pub with_dues_lapsed : PolicyRules → ℕ → List Due → Stored → Stored
+with_dues_lapsed p t ds held = record held { registry = dues_lapsed p t ds held.registry }
+
+-- all that is due by a moment
+abbrev pub with_lapsed : PolicyRules → ℕ → Stored → Stored
+with_lapsed p t held = with_dues_lapsed p t (due_by p t held.registry) held

@@ -1,0 +1,99 @@
+//! How what is due lapses in an open transaction.
+ghost use Rattle.std.specs.Prelude.{◌≡◌, true, IfOk, IfErr, OnOk};
+ghost use Rattle.registry.specs.Execution.{GoesBack};
+ghost use Rattle.registry.specs.Lapsing as spec;
+ghost use Rattle.store.specs.Book.{Follows, IsSame, Moves, with_changes};
+ghost use Rattle.store.specs.Due.{due_by};
+ghost use Rattle.model.specs.Objects.{object_at};
+ghost use Rattle.rules.specs.Lapsing.{lapse_changes};
+
+use crate::fault::Fault;
+use crate::transaction::{apply, object_at, or_rollback};
+use basis::list::Seq;
+use calendar::Moment;
+use policy::Policy;
+use rules::{Change, lapse_changes};
+use std::alloc::Global;
+use store::{Book, Due};
+
+/// What is due by a moment, in an open transaction.
+fn due<B: Book>(book: &mut B, moment: Moment, policy: &Policy) -> Result<Seq<Due>, Fault>
+    requires { (B.state book.old).is_open ≡ true }
+    ensures found { IfOk result (λ due. (B.state book.new).is_clean ≡ true → due ≡ due_by policy.now moment (B.state book.old).content.registry) }
+    ensures same { OnOk result (IsSame (B.state book.old) (B.state book.new)) }
+    ensures fault { IfErr result (λ fault. GoesBack fault (B.state book.old) (B.state book.new)) }
+    ensures follows { Follows (B.state book.old) (B.state book.new) }
+{
+    Ok(book.due(moment, policy)?)
+}
+
+/// Lets all that is due by a moment lapse up to it, one object after another.
+pub(crate) fn lapse_all<B: Book>(
+    book: &mut B,
+    alloc: Global,
+    moment: Moment,
+    policy: &Policy,
+) -> Result<(), Fault>
+    requires { (B.state book.old).is_open ≡ true }
+    ensures ok { OnOk result (Moves (B.state book.old) (B.state book.new) (spec.with_lapsed policy.now moment (B.state book.old).content)) }
+    ensures fault { IfErr result (λ fault. GoesBack fault (B.state book.old) (B.state book.new)) }
+    ensures follows { Follows (B.state book.old) (B.state book.new) }
+{
+    let due = due(book, moment, policy)?;
+    lapse_each(book, alloc, due, moment, policy)
+}
+
+fn lapse_each<B: Book>(
+    book: &mut B,
+    alloc: Global,
+    due: Seq<Due>,
+    moment: Moment,
+    policy: &Policy,
+) -> Result<(), Fault>
+    requires { (B.state book.old).is_open ≡ true }
+    ensures ok { OnOk result (Moves (B.state book.old) (B.state book.new) (spec.with_dues_lapsed policy.now moment due (B.state book.old).content)) }
+    ensures fault { IfErr result (λ fault. GoesBack fault (B.state book.old) (B.state book.new)) }
+    ensures follows { Follows (B.state book.old) (B.state book.new) }
+{
+    for it in due.into_vec() {
+        lapse_one(book, alloc, &it, moment, policy)?;
+    }
+    Ok(())
+}
+
+/// Lets the object lapse that stands under a name.
+fn lapse_one<B: Book>(
+    book: &mut B,
+    alloc: Global,
+    due: &Due,
+    moment: Moment,
+    policy: &Policy,
+) -> Result<(), Fault>
+    requires { (B.state book.old).is_open ≡ true }
+    ensures ok { OnOk result (Moves (B.state book.old) (B.state book.new) (with_changes policy.now (lapse_changes policy.now moment due.now.name (object_at (B.state book.old).content.registry due.now.kind due.now.name)) (B.state book.old).content)) }
+    ensures fault { IfErr result (λ fault. GoesBack fault (B.state book.old) (B.state book.new)) }
+    ensures follows { Follows (B.state book.old) (B.state book.new) }
+{
+    let changes = changes_of(book, alloc, due, moment, policy)?;
+    apply(book, changes, policy)
+}
+
+/// What the lapse of the object changes that stands under a name.
+fn changes_of<B: Book>(
+    book: &mut B,
+    alloc: Global,
+    due: &Due,
+    moment: Moment,
+    policy: &Policy,
+) -> Result<Seq<Change>, Fault>
+    requires { (B.state book.old).is_open ≡ true }
+    ensures found { IfOk result (λ changes. (B.state book.new).is_clean ≡ true → changes ≡ lapse_changes policy.now moment due.now.name (object_at (B.state book.old).content.registry due.now.kind due.now.name)) }
+    ensures same { OnOk result (IsSame (B.state book.old) (B.state book.new)) }
+    ensures fault { IfErr result (λ fault. GoesBack fault (B.state book.old) (B.state book.new)) }
+    ensures follows { Follows (B.state book.old) (B.state book.new) }
+{
+    let object = object_at(book, due.kind, &due.name)?;
+    let changes = lapse_changes(alloc, &due.name, &object, moment, policy);
+    drop(object);
+    or_rollback(book, changes)
+}
