@@ -1,5 +1,6 @@
 -- A transaction in which what is due lapses.
 use Rattle.std.proofs.Common.{◌≡◌, ◌<◌, ℕ, true, cond, max, ◌⊎◌, List, [], ◌∷◌, refl, sym, subst, ap, ◌∙◌, arith}
+use Rattle.model.specs.Lapse.{accounts_at}
 use Rattle.model.specs.Registry.{Registry}
 use Rattle.policy.specs.Rules.{PolicyRules}
 use Rattle.rules.specs.declared.change.Change.TheVariants.{MoveClock}
@@ -61,6 +62,7 @@ gave-up p t left all faults.Moment old mid new was_open is then back = back
 -- time has passed, with all that fell due
 pub passed : (p : PolicyRules) (moment now : ℕ) (old mid new : BookState) → Moves old mid (with_changes p (MoveClock moment ∷ []) old.content) → (mid.is_clean ≡ true → now ≡ max moment old.content.registry.clock)
     → Follows mid new → Moves mid new (with_lapsed p now mid.content) → Moves old new (at_moment p moment old.content)
+unfolding accounts_at
 passed p moment now old mid new first told then second = record {
   counted = second.counted ∙ first.counted;
   opened = second.opened;
