@@ -15,7 +15,7 @@ use Rattle.protocol.specs.declared.command.DomainLists.{DomainLists}
 use Rattle.protocol.specs.declared.command.HostLists.{HostLists}
 use Rattle.protocol.specs.declared.command.HostUpdate.{HostUpdate}
 use Rattle.protocol.specs.declared.command.Request.{Request}
-use Rattle.protocol.specs.declared.command.Request.TheVariants.{Balance, CheckContact, CheckDomain, CheckHost, InfoContact, InfoDomain, InfoHost, CreateContact, CreateDomain, CreateHost, DeleteContact, DeleteDomain, DeleteHost, UpdateContact, UpdateDomain, UpdateHost, RenewDomain}
+use Rattle.protocol.specs.declared.command.Request.TheVariants.{Balance, CheckContact, CheckDomain, CheckHost, InfoContact, InfoDomain, InfoHost, CreateContact, CreateDomain, CreateHost, DeleteContact, DeleteDomain, DeleteHost, UpdateContact, UpdateDomain, UpdateHost, RenewDomain, RequestRestore, ReportRestore}
 
 -- a test of what is there, if it is
 abbrev pub holds_of : {A : Type 0} → (A → Bool) → Option A → Bool
@@ -57,8 +57,9 @@ of_host lists = record no_lists { addresses = lists.addresses; statuses = lists.
 -- registrant that a domain is to have, what its object is to have and to have no longer, the secret
 -- that is presented for it, whether the command has to know what domains name and which hosts lie
 -- below one, whether it gives its registrar one domain more to hold, whether it has to know what its
--- registrar's account has, and what of it is given back where its domain is deleted, for how many
--- years it charges, and when it takes its domain to expire.
+-- registrar's account has, and what of it is given back where its domain is deleted, which years it
+-- names, when it takes its domain to expire, and when it reports that its domain was deleted, and that
+-- the restoration was asked for.
 pub record Asks : Type 0 where
   pub action : Action
   pub contacts : List (List ℕ)
@@ -75,6 +76,8 @@ pub record Asks : Type 0 where
   pub reads_refund : Bool
   pub years : ℕ
   pub expires : Option (List ℕ)
+  pub del_time : Option ℕ
+  pub res_time : Option ℕ
 
 abbrev only : Action → Asks
 only action = record {
@@ -93,6 +96,8 @@ only action = record {
   reads_refund = false;
   years = 0;
   expires = None;
+  del_time = None;
+  res_time = None;
 }
 
 -- Info shows, and a delete is refused by, what hangs on the object (RFC 5731 to 5733, 3.1.2, 3.2.2).
@@ -137,6 +142,13 @@ asks_of (UpdateHost update) = record (only actions.Update) {
   removes = of_host update.rem;
 }
 asks_of (RenewDomain name expires years) = record (only actions.Renew) { domains = name ∷ []; reads_balance = true; years = years; expires = Some expires }
+asks_of (RequestRestore name) = record (only actions.RequestRestore) { domains = name ∷ [] }
+asks_of (ReportRestore name del_time res_time) = record (only actions.ReportRestore) {
+  domains = name ∷ [];
+  reads_balance = true;
+  del_time = Some del_time;
+  res_time = Some res_time;
+}
 
 abbrev pub contacts_asked : Request → List (List ℕ)
 contacts_asked request = (asks_of request).contacts
