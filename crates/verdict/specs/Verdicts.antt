@@ -2,7 +2,7 @@
 use Rattle.std.specs.Prelude.{ℕ, Option, Some, None}
 use Rattle.policy.specs.Rules.{PolicyRules}
 use Rattle.protocol.specs.declared.code.Code.{Code}
-use Rattle.protocol.specs.declared.code.Code.TheVariants.{Completed}
+use Rattle.protocol.specs.declared.code.Code.TheVariants.{Completed, CompletedActionPending}
 use Rattle.protocol.specs.declared.command.Command.{Command}
 use Rattle.protocol.specs.Codes.{code_of_form}
 use Rattle.protocol.specs.declared.command.Command.TheVariants.{Bad, Asked}
@@ -19,7 +19,8 @@ use Rattle.verdict.specs.ResponseData.{response_data}
 abbrev pub refused : Code → Verdict
 refused code = record { code = code; content = None }
 
--- the code of a request that isn't refused
+-- the code of a request that isn't refused: the restoration that is asked for awaits its report
+-- (RFC 3915, 4.2.5)
 abbrev pub code_granted : Request → Facts → Code
 code_granted requests.Balance f = Completed
 code_granted (requests.CheckContact names) f = Completed
@@ -38,6 +39,8 @@ code_granted (requests.UpdateContact update) f = Completed
 code_granted (requests.UpdateDomain update) f = Completed
 code_granted (requests.UpdateHost update) f = Completed
 code_granted (requests.RenewDomain name expires years) f = Completed
+code_granted (requests.RequestRestore name) f = CompletedActionPending
+code_granted (requests.ReportRestore name del_time res_time) f = Completed
 
 -- what a request is answered that isn't refused
 abbrev pub granted : PolicyRules → ℕ → ℕ → Request → Facts → Verdict
