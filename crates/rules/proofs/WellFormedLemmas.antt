@@ -8,13 +8,14 @@ use Rattle.rules.specs.Decisions.{changes_after, changes_of}
 use Rattle.rules.specs.Steps.{effect}
 use Rattle.rules.proofs.CommandLemmas.{kept-contact-deletion, kept-contact-update, kept-counted, kept-domain-update, kept-host-deletion, kept-host-update, kept-renewal, kept-new-contact, kept-new-domain, kept-new-host}
 use Rattle.rules.proofs.DeletionLemmas.{kept-domain-deletion}
+use Rattle.rules.proofs.RestoreLemmas.{kept-restore-report, kept-restore-request}
 use Rattle.verdict.proofs.RowLemmas.{refusing, unrefused}
 use Rattle.protocol.specs.declared.code.Code.{Code}
 use Rattle.protocol.specs.declared.code.Code.TheVariants.{Completed, CompletedActionPending}
 use Rattle.protocol.specs.declared.command.Command.{Command}
 use Rattle.protocol.specs.declared.command.Command.TheVariants.{Asked, Bad}
 use Rattle.protocol.specs.declared.command.Request.{Request}
-use Rattle.protocol.specs.declared.command.Request.TheVariants.{Balance, CheckContact, CheckDomain, CheckHost, InfoContact, InfoDomain, InfoHost, CreateContact, CreateDomain, CreateHost, DeleteContact, DeleteDomain, DeleteHost, UpdateContact, UpdateDomain, UpdateHost, RenewDomain}
+use Rattle.protocol.specs.declared.command.Request.TheVariants.{Balance, CheckContact, CheckDomain, CheckHost, InfoContact, InfoDomain, InfoHost, CreateContact, CreateDomain, CreateHost, DeleteContact, DeleteDomain, DeleteHost, UpdateContact, UpdateDomain, UpdateHost, RenewDomain, RequestRestore, ReportRestore}
 use Rattle.verdict.specs.declared.rules.Condition.TheVariants.{ReferenceIsMissing}
 use Rattle.protocol.specs.Codes.{is_accepted}
 use Rattle.facts.specs.declared.facts.Facts.{Facts}
@@ -46,6 +47,8 @@ module _ (p : PolicyRules) (r : ℕ) (cl_trid : Option (List ℕ)) (s : Registry
   kept-accepted (UpdateContact u) taken = kept-contact-update p r cl_trid s place is u
   kept-accepted (UpdateDomain u) taken = kept-domain-update p r cl_trid s place is u taken
   kept-accepted (RenewDomain name expires years) taken = kept-renewal p r cl_trid s place is name expires years
+  kept-accepted (RequestRestore name) taken = kept-restore-request p r cl_trid s place is name
+  kept-accepted (ReportRestore name del_time res_time) taken = kept-restore-report p r cl_trid s place is name del_time res_time
   kept-accepted (UpdateHost u) taken = kept-host-update p r cl_trid s place is u taken
 
   -- a request that isn't refused is answered that it is carried out

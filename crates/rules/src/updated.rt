@@ -1,5 +1,5 @@
 //! Updated objects: what an update doesn't give stays.
-ghost use Rattle.std.specs.Prelude.{◌≡◌, ◌-◌, IfOk};
+ghost use Rattle.std.specs.Prelude.{◌≡◌, ◌-◌, IfOk, Some, option_map};
 ghost use Rattle.std.specs.Option.{option_copied};
 ghost use Rattle.facts.specs.Facts.{or_else};
 ghost use Rattle.rules.specs.Decisions as spec;
@@ -176,6 +176,44 @@ pub(crate) fn deleted_domain(
         restore_requested: None,
     });
     Ok(deleted)
+}
+
+/// The deletion, with a restoration asked for at the moment.
+fn with_request(deletion: Option<Deletion>, moment: Moment) -> Option<Deletion>
+    ensures { result ≡ option_map (λ (x : Deletion). record x { restore_requested = Some moment }) deletion }
+{
+    match deletion {
+        None => None,
+        Some(deletion) => Some(Deletion {
+            deleted: deletion.deleted,
+            restore_requested: Some(moment),
+        }),
+    }
+}
+
+/// The domain, whose restoration is asked for at the moment.
+pub(crate) fn restoring_domain(domain: &Domain, moment: Moment) -> Result<Domain, AllocError>
+    ensures { IfOk result (λ restoring. restoring ≡ spec.restoring_domain moment domain.now) }
+{
+    let mut restoring = copy(domain)?;
+    restoring.updated = Some(moment);
+    restoring.deletion = with_request(domain.deletion, moment);
+    Ok(restoring)
+}
+
+/// The domain, not deleted any more, and registered for longer.
+pub(crate) fn restored_domain(
+    domain: &Domain,
+    years: u32,
+    moment: Moment,
+) -> Result<Domain, AllocError>
+    ensures { IfOk result (λ restored. restored ≡ spec.restored_domain moment years domain.now) }
+{
+    let mut restored = copy(domain)?;
+    restored.years = more_years(domain.years, years);
+    restored.updated = Some(moment);
+    restored.deletion = None;
+    Ok(restored)
 }
 
 fn copy(domain: &Domain) -> Result<Domain, AllocError>
