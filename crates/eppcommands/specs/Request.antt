@@ -9,7 +9,7 @@ use Rattle.eppforms.specs.declared.table.CommandKind.{CommandKind}
 use Rattle.eppforms.specs.declared.table.CommandKind.TheVariants as kinds
 use Rattle.eppforms.specs.Form.{◌>>=◌, checked_command}
 use Rattle.eppcommands.specs.Contact.{check_contact, info_contact, create_contact, delete_contact, update_contact}
-use Rattle.eppcommands.specs.Domain.{check_domain, info_domain, create_domain, delete_domain, update_domain, renew_domain}
+use Rattle.eppcommands.specs.Domain.{check_domain, info_domain, create_domain, delete_domain, update_domain, renew_domain, request_restore, report_restore}
 use Rattle.eppcommands.specs.Host.{check_host, info_host, create_host, delete_host, update_host}
 
 abbrev pub request_of : CommandKind → ZoneRules → Data → Result Request FormFault
@@ -30,6 +30,8 @@ request_of kinds.UpdateContact zone d = update_contact d
 request_of kinds.UpdateDomain zone d = update_domain zone d
 request_of kinds.UpdateHost zone d = update_host zone d
 request_of kinds.RenewDomain zone d = renew_domain zone d
+request_of kinds.RequestRestore zone d = request_restore zone d
+request_of kinds.ReportRestore zone d = report_restore zone d
 
 -- the request of a payload's JSON, or the first fault of its form
 unfoldable pub request_in : ZoneRules → Data → Result Request FormFault

@@ -5,7 +5,8 @@ ghost use Rattle.eppcommands.specs.Request as spec;
 
 use crate::contact::{check_contact, create_contact, delete_contact, info_contact, update_contact};
 use crate::domain::{
-    check_domain, create_domain, delete_domain, info_domain, renew_domain, update_domain,
+    check_domain, create_domain, delete_domain, info_domain, renew_domain, report_restore,
+    request_restore, update_domain,
 };
 use crate::host::{check_host, create_host, delete_host, info_host, update_host};
 use crate::reading::Fault;
@@ -38,5 +39,7 @@ pub fn request_in(alloc: Global, value: &Value, zone: &Zone) -> Result<Request, 
         CommandKind::UpdateDomain => update_domain(alloc, value, zone),
         CommandKind::UpdateHost => update_host(alloc, value, zone),
         CommandKind::RenewDomain => renew_domain(alloc, value, zone),
+        CommandKind::RequestRestore => request_restore(alloc, value, zone),
+        CommandKind::ReportRestore => report_restore(alloc, value, zone),
     }
 }
