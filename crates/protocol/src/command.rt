@@ -39,6 +39,8 @@ pub enum Action {
     Renew,
     RequestRestore,
     ReportRestore,
+    PollRequest,
+    PollAck,
 }
 
 /// What a well formed command asks for.
@@ -115,6 +117,12 @@ pub enum Request {
         del_time: Moment,
         /// When its restoration was asked for.
         res_time: Moment,
+    },
+    /// The oldest message (RFC 5730, 2.9.2.3, `req`).
+    PollRequest,
+    /// A message was read (RFC 5730, 2.9.2.3, `ack`).
+    PollAck {
+        id: Text,
     },
 }
 
@@ -221,6 +229,8 @@ impl Request {
             Request::RenewDomain { .. } => Action::Renew,
             Request::RequestRestore { .. } => Action::RequestRestore,
             Request::ReportRestore { .. } => Action::ReportRestore,
+            Request::PollRequest => Action::PollRequest,
+            Request::PollAck { .. } => Action::PollAck,
         }
     }
 
@@ -331,6 +341,16 @@ impl Request {
         }
     }
 
+    /// The message that was read.
+    pub fn message(&self) -> Option<&Text>
+        ensures { option_copied result ≡ (spec.asks_of self.now).message }
+    {
+        match self {
+            Request::PollAck { id } => Some(id),
+            _ => None,
+        }
+    }
+
     /// The secret that it presents.
     pub fn secret(&self) -> Option<&Text>
         ensures { option_copied result ≡ (spec.asks_of self.now).secret }
@@ -375,6 +395,13 @@ impl Request {
                 | Request::RenewDomain { .. }
                 | Request::ReportRestore { .. }
         )
+    }
+
+    /// Whether it has to know the oldest message to the registrar, and how many wait.
+    fn reads_oldest_message(&self) -> bool
+        ensures { result ≡ spec.reads_oldest_message self.now }
+    {
+        matches!(self, Request::PollRequest | Request::PollAck { .. })
     }
 
     /// Whether it has to know what is given back where its domain is deleted.
@@ -495,6 +522,16 @@ impl Command {
         match self {
             Command::Bad { .. } => false,
             Command::Asked { request, .. } => request.reads_balance(),
+        }
+    }
+
+    /// Whether it has to know the oldest message to the registrar, and how many wait.
+    pub fn reads_oldest_message(&self) -> bool
+        ensures { result ≡ spec.asked false spec.reads_oldest_message self.now }
+    {
+        match self {
+            Command::Bad { .. } => false,
+            Command::Asked { request, .. } => request.reads_oldest_message(),
         }
     }
 
