@@ -22,12 +22,12 @@ use Rattle.protocol.specs.declared.command.Action.TheVariants as actions
 use Rattle.protocol.specs.declared.command.Command.{Command}
 use Rattle.protocol.specs.declared.command.Command.TheVariants.{Bad, Asked}
 use Rattle.protocol.specs.declared.command.Request.{Request}
-use Rattle.protocol.specs.declared.command.Request.TheVariants.{InfoContact, InfoDomain, InfoHost, CreateContact, CreateDomain, CreateHost, DeleteContact, DeleteDomain, DeleteHost, UpdateContact, UpdateDomain, UpdateHost, RenewDomain, RequestRestore, ReportRestore}
+use Rattle.protocol.specs.declared.command.Request.TheVariants.{InfoContact, InfoDomain, InfoHost, CreateContact, CreateDomain, CreateHost, DeleteContact, DeleteDomain, DeleteHost, UpdateContact, UpdateDomain, UpdateHost, RenewDomain, RequestRestore, ReportRestore, PollAck}
 use Rattle.protocol.specs.Requests.{asks_of}
-use Rattle.verdict.specs.declared.rules.Condition.TheVariants.{IsThere, IsMissing, IsAnothers, SecretIsWrong, Shows, StillShows, IsLinked, HasSubordinates, IsNotIn, ReportDiffers, LacksMoney}
+use Rattle.verdict.specs.declared.rules.Condition.TheVariants.{IsThere, IsMissing, IsAnothers, SecretIsWrong, Shows, StillShows, IsLinked, HasSubordinates, IsNotIn, ReportDiffers, IsNotOldest, LacksMoney}
 use Rattle.verdict.specs.declared.verdict.Verdict.{Verdict}
 use Rattle.verdict.specs.Charges.{charge_of, years_charged, years_needed}
-use Rattle.verdict.specs.Conditions.{domain_in_full, full_domain, has_subordinates, is_in, is_linked, is_of_another, is_there, report_differs, secret_is_wrong, shows_status, still_shows}
+use Rattle.verdict.specs.Conditions.{domain_in_full, full_domain, has_subordinates, is_in, is_linked, is_of_another, is_oldest, is_there, report_differs, secret_is_wrong, shows_status, still_shows}
 use Rattle.verdict.specs.Laws.{ActsOnObject, Alters, AnswersLawfully, IsLawful, KeepsLaws}
 use Rattle.verdict.specs.ResponseData.{response_data}
 use Rattle.verdict.specs.Rules.{refusal_of}
@@ -149,6 +149,10 @@ module _ (p : PolicyRules) (r t : ℕ) (f : Facts) where
   reported-law (ReportRestore name del_time res_time) taken is = unrefused p r t (ReportRestore name del_time res_time) f taken ReportDiffers (search (inl, inr) depth 20)
   reported-law _ taken is = absurd (cc)
 
+  oldest-law : (q : Request) → refusal_of p r t q f ≡ None → (asks_of q).action ≡ actions.PollAck → is_oldest q f ≡ true
+  oldest-law (PollAck id) taken is = there-is _ (unrefused p r t (PollAck id) f taken IsNotOldest (search (inl, inr) depth 20))
+  oldest-law _ taken is = absurd (cc)
+
   -- the years that a domain needs are its turns
   needed-law : (seen : Option (Seen FullDomain DomainFace)) (d : Domain) → option_and_then domain_in_full seen ≡ Some d → AreTurns d t (years_needed t seen)
   needed-law (Some (Full known)) d e = let same : known.domain ≡ d = cc in subst (λ (x : Domain). AreTurns x t (turns known.domain t)) same (turns-are known.domain t)
@@ -186,6 +190,7 @@ module _ (p : PolicyRules) (r t : ℕ) (f : Facts) where
     reported = reported-law q taken;
     outlasts = λ is d e. (turns-law q is d e).after;
     no_more = λ is d e years lt. (turns-law q is d e).before years lt;
+    oldest = oldest-law q taken;
     paid = paid-law q taken;
   }
 

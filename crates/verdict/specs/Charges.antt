@@ -11,7 +11,7 @@ use Rattle.objects.specs.declared.sight.Seen.{Seen}
 use Rattle.objects.specs.declared.sight.Seen.TheVariants.{Full, TransferParty, Public}
 use Rattle.policy.specs.Rules.{PolicyRules}
 use Rattle.protocol.specs.declared.command.Action.{Action}
-use Rattle.protocol.specs.declared.command.Action.TheVariants.{Balance, Check, Info, Create, Delete, Update, Renew, RequestRestore, ReportRestore}
+use Rattle.protocol.specs.declared.command.Action.TheVariants.{Balance, Check, Info, Create, Delete, Update, Renew, RequestRestore, ReportRestore, PollRequest, PollAck}
 use Rattle.protocol.specs.declared.command.Request.{Request}
 use Rattle.protocol.specs.Requests.{asks_of, domains_asked}
 
@@ -26,6 +26,8 @@ price_of p Update = 0
 price_of p Renew = p.prices.renew
 price_of p RequestRestore = 0
 price_of p ReportRestore = p.prices.renew
+price_of p PollRequest = 0
+price_of p PollAck = 0
 
 -- the least number of years more with which a domain that is seen in full expires after a moment
 abbrev pub years_needed : ℕ → Option (Seen FullDomain DomainFace) → ℕ
@@ -46,6 +48,8 @@ years_for Update named needed = named
 years_for Renew named needed = named
 years_for RequestRestore named needed = named
 years_for ReportRestore named needed = needed
+years_for PollRequest named needed = named
+years_for PollAck named needed = named
 
 abbrev pub years_charged : ℕ → Request → Facts → ℕ
 years_charged t q f =

@@ -32,12 +32,12 @@ use Rattle.objects.specs.Statuses.{has_status}
 use Rattle.objects.specs.StatusTexts.{status_text}
 use Rattle.policy.specs.Rules.{PolicyRules}
 use Rattle.protocol.specs.declared.command.Action.{Action}
-use Rattle.protocol.specs.declared.command.Action.TheVariants.{Balance, Check, Info, Create, Delete, Update, Renew, RequestRestore, ReportRestore}
+use Rattle.protocol.specs.declared.command.Action.TheVariants.{Balance, Check, Info, Create, Delete, Update, Renew, RequestRestore, ReportRestore, PollRequest, PollAck}
 use Rattle.protocol.specs.declared.command.Request.{Request}
 use Rattle.protocol.specs.declared.lists.TheConstants.{MOST_ADDRESSES, MOST_CONTACTS, MOST_HOSTS}
 use Rattle.protocol.specs.Requests.{GivenLists, asks_of, contacts_asked, domains_asked, holds_of, hosts_asked}
 use Rattle.verdict.specs.declared.rules.Condition.{Condition}
-use Rattle.verdict.specs.declared.rules.Condition.TheVariants.{NameIsRefused, ListRepeats, IsThere, IsMissing, ReferenceIsMissing, NewNameIsTaken, SuperordinateIsMissing, IsAnothers, SuperordinateIsAnothers, SecretIsWrong, Shows, StillShows, SuperordinateIsDeleted, IsLinked, HasSubordinates, AddsWhatIsThere, RemovesWhatIsNot, LeavesTooMany, LeavesAddressesOutside, HoldsTheMost, PassesTenYears, ExpiresOtherwise, IsNotIn, ReportDiffers, LacksMoney}
+use Rattle.verdict.specs.declared.rules.Condition.TheVariants.{NameIsRefused, ListRepeats, IsThere, IsMissing, ReferenceIsMissing, NewNameIsTaken, SuperordinateIsMissing, IsAnothers, SuperordinateIsAnothers, SecretIsWrong, Shows, StillShows, SuperordinateIsDeleted, IsLinked, HasSubordinates, AddsWhatIsThere, RemovesWhatIsNot, LeavesTooMany, LeavesAddressesOutside, HoldsTheMost, PassesTenYears, ExpiresOtherwise, IsNotIn, ReportDiffers, IsNotOldest, LacksMoney}
 use Rattle.verdict.specs.Charges.{charge_of}
 
 -- ---- the object that a request is about: of the three at most one is there
@@ -155,6 +155,8 @@ known_by Delete given new = None
 known_by Renew given new = None
 known_by RequestRestore given new = None
 known_by ReportRestore given new = None
+known_by PollRequest given new = None
+known_by PollAck given new = None
 
 abbrev pub host_to_be : Request → Facts → Option HostFacts
 host_to_be q f = known_by (asks_of q).action (host_known q f) f.at_new_name
@@ -339,6 +341,12 @@ is_another_report del_time res_time d =
 abbrev pub report_differs : Request → Facts → Bool
 report_differs q f = holds_of (is_another_report (asks_of q).del_time (asks_of q).res_time) (full_domain q f)
 
+-- ---- messages (RFC 5730, 2.9.2.3)
+
+-- the oldest message has the identifier that is acknowledged, if one is
+abbrev pub is_oldest : Request → Facts → Bool
+is_oldest q f = holds_of (λ id. holds_of (λ oldest. bytes_eq oldest.id id) f.queue.oldest) (asks_of q).message
+
 -- ---- money (RFC 5730, 3, code 2104)
 
 -- the account has less than what is charged; who is charged nothing may be in debt
@@ -373,4 +381,5 @@ holds p r t q f PassesTenYears = passes_ten_years t q f
 holds p r t q f ExpiresOtherwise = expires_otherwise q f
 holds p r t q f (IsNotIn phase) = not (is_in phase q f)
 holds p r t q f ReportDiffers = report_differs q f
+holds p r t q f IsNotOldest = not (is_oldest q f)
 holds p r t q f LacksMoney = lacks_money p t q f

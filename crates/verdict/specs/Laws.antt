@@ -7,7 +7,7 @@ use Rattle.objects.specs.declared.grace.Phase.TheVariants.{Redemption, Restoring
 use Rattle.objects.specs.declared.status.Status.TheVariants.{ClientDeleteProhibited, ClientRenewProhibited, ClientUpdateProhibited, PendingDelete, PendingTransfer, ServerDeleteProhibited, ServerRenewProhibited, ServerUpdateProhibited}
 use Rattle.policy.specs.Rules.{PolicyRules}
 use Rattle.protocol.specs.declared.command.Action.{Action}
-use Rattle.protocol.specs.declared.command.Action.TheVariants.{Balance, Check, Info, Create, Delete, Update, Renew, RequestRestore, ReportRestore}
+use Rattle.protocol.specs.declared.command.Action.TheVariants.{Balance, Check, Info, Create, Delete, Update, Renew, RequestRestore, ReportRestore, PollRequest, PollAck}
 use Rattle.protocol.specs.declared.command.Command.{Command}
 use Rattle.protocol.specs.declared.command.Command.TheVariants.{Bad, Asked}
 use Rattle.protocol.specs.declared.command.Request.{Request}
@@ -16,7 +16,7 @@ use Rattle.protocol.specs.Codes.{is_accepted}
 use Rattle.protocol.specs.Requests.{asks_of}
 use Rattle.verdict.specs.declared.verdict.Verdict.{Verdict}
 use Rattle.verdict.specs.Charges.{charge_of, years_charged}
-use Rattle.verdict.specs.Conditions.{full_domain, has_subordinates, is_in, is_linked, is_of_another, is_there, renewed_expiry, report_differs, secret_is_wrong, shows_status, still_shows}
+use Rattle.verdict.specs.Conditions.{full_domain, has_subordinates, is_in, is_linked, is_of_another, is_oldest, is_there, renewed_expiry, report_differs, secret_is_wrong, shows_status, still_shows}
 
 -- it changes, renews, deletes or restores an object
 abbrev pub Alters : Action → Type 0
@@ -29,6 +29,8 @@ Alters Update = Unit {0}
 Alters Renew = Unit {0}
 Alters RequestRestore = Unit {0}
 Alters ReportRestore = Unit {0}
+Alters PollRequest = ⊥
+Alters PollAck = ⊥
 
 -- it acts on an object that has to be there
 abbrev pub ActsOnObject : Action → Type 0
@@ -41,14 +43,16 @@ ActsOnObject Update = Unit {0}
 ActsOnObject Renew = Unit {0}
 ActsOnObject RequestRestore = Unit {0}
 ActsOnObject ReportRestore = Unit {0}
+ActsOnObject PollRequest = ⊥
+ActsOnObject PollAck = ⊥
 
 -- What a request that is carried out can't have met: an object of another's that it changes, renews,
 -- deletes or restores (RFC 5731 to 5733, 3.2), no object at all, an object of the name that it
 -- creates, one that is deleted while a domain names it, or while hosts lie below it (RFC 5731, 3.2.2),
 -- a domain that is deleted twice, an object whose status prohibits it (RFC 5731, 2.3), a domain whose
 -- restoration is asked for outside its redemption period, or reported on while none is pending, or by
--- a report on another (RFC 3915, 3.1 and 4.2.5), an account that has less than is charged (RFC 5730, 3,
--- code 2104). The years for which a report charges put the expiry after the moment, and fewer don't.
+-- a report on another (RFC 3915, 3.1 and 4.2.5), a message that is acknowledged and isn't the oldest
+-- (RFC 5730, 2.9.2.3), an account that has less than is charged (RFC 5730, 3, code 2104). The years for which a report charges put the expiry after the moment, and fewer don't.
 pub record IsLawful (p : PolicyRules) (r t : ℕ) (q : Request) (f : Facts) : Type 0 where
   pub sponsor : Alters (asks_of q).action → is_of_another p.zone r q f ≡ false
   pub there : ActsOnObject (asks_of q).action → is_there q f ≡ true
@@ -68,6 +72,7 @@ pub record IsLawful (p : PolicyRules) (r t : ℕ) (q : Request) (f : Facts) : Ty
   pub reported : (asks_of q).action ≡ ReportRestore → report_differs q f ≡ false
   pub outlasts : (asks_of q).action ≡ ReportRestore → (d : Domain) → full_domain q f ≡ Some d → t < renewed_expiry (years_charged t q f) d
   pub no_more : (asks_of q).action ≡ ReportRestore → (d : Domain) → full_domain q f ≡ Some d → (years : ℕ) → years < years_charged t q f → renewed_expiry years d ≤ t
+  pub oldest : (asks_of q).action ≡ PollAck → is_oldest q f ≡ true
   pub paid : 0 < charge_of p t q f → pos (charge_of p t q f) ≤ℤ f.account.balance
 
 -- a verdict on a request: what is carried out is lawful, and a wrong secret is never answered with

@@ -43,6 +43,7 @@ use Rattle.facts.specs.Facts.{contact_at, contact_seen, domain_at, domain_seen, 
 use Rattle.verdict.specs.Charges.{charge_of, years_charged}
 use Rattle.verdict.specs.Conditions.{domain_in_full, renewed_expiry}
 use Rattle.verdict.specs.Deletion.{deleted}
+use Rattle.verdict.specs.Poll.{left, polled}
 
 -- the id of the registrar at a place
 abbrev pub id_of : PolicyRules → ℕ → List ℕ
@@ -180,3 +181,5 @@ response_data p r t (requests.RequestRestore name) f = None
 response_data p r t (requests.ReportRestore name del_time res_time) f =
     let report : Request = requests.ReportRestore name del_time res_time in
     option_map told.Renewed (renewed_at (charge_of p t report f) name (years_charged t report f) f)
+response_data p r t requests.PollRequest f = option_map told.Polled (option_map (polled f.queue.waiting) f.queue.oldest)
+response_data p r t (requests.PollAck id) f = Some (told.Acked (left f.queue))

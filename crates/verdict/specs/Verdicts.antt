@@ -13,6 +13,7 @@ use Rattle.verdict.specs.declared.verdict.Verdict.{Verdict}
 use Rattle.facts.specs.Facts.{domain_seen}
 use Rattle.names.specs.GivenName.{name_of}
 use Rattle.verdict.specs.Deletion.{code_of_deletion}
+use Rattle.verdict.specs.Poll.{code_of_poll}
 use Rattle.verdict.specs.Rules.{refusal_of}
 use Rattle.verdict.specs.ResponseData.{response_data}
 
@@ -41,6 +42,8 @@ code_granted (requests.UpdateHost update) f = Completed
 code_granted (requests.RenewDomain name expires years) f = Completed
 code_granted (requests.RequestRestore name) f = CompletedActionPending
 code_granted (requests.ReportRestore name del_time res_time) f = Completed
+code_granted requests.PollRequest f = code_of_poll f.queue.oldest
+code_granted (requests.PollAck id) f = Completed
 
 -- what a request is answered that isn't refused
 abbrev pub granted : PolicyRules → ℕ → ℕ → Request → Facts → Verdict

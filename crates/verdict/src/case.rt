@@ -135,7 +135,9 @@ impl<'a> Case<'a> {
             | Action::Delete
             | Action::Renew
             | Action::RequestRestore
-            | Action::ReportRestore => None,
+            | Action::ReportRestore
+            | Action::PollRequest
+            | Action::PollAck => None,
         }
     }
 }
@@ -302,6 +304,15 @@ impl Case<'_> {
         )
     }
 
+    fn is_oldest(&self) -> bool
+        ensures { result ≡ spec.is_oldest self.now.request.now self.now.facts.now }
+    {
+        match (self.request.message(), &self.facts.queue.oldest) {
+            (Some(id), Some(oldest)) => oldest.id == *id,
+            _ => false,
+        }
+    }
+
     fn lacks_money(&self) -> bool
         ensures { result ≡ spec.lacks_money self.now.policy.now self.now.moment self.now.request.now self.now.facts.now }
     {
@@ -343,6 +354,7 @@ impl Case<'_> {
             Condition::ExpiresOtherwise => self.expires_otherwise(),
             Condition::IsNotIn(phase) => !is_in(phase, self.domain()),
             Condition::ReportDiffers => self.report_differs(),
+            Condition::IsNotOldest => !self.is_oldest(),
             Condition::LacksMoney => self.lacks_money(),
         }
     }

@@ -50,6 +50,8 @@ fn price_of(policy: &Policy, action: Action) -> u32
         | Action::Info
         | Action::Delete
         | Action::Update
-        | Action::RequestRestore => 0,
+        | Action::RequestRestore
+        | Action::PollRequest
+        | Action::PollAck => 0,
     }
 }

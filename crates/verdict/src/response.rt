@@ -7,6 +7,7 @@ ghost use Rattle.verdict.specs.ResponseData as spec;
 use crate::case::full_domain;
 use crate::charge::{charge_of, years_charged};
 use crate::deletion::deleted_data;
+use crate::poll::{left, polled_data};
 use crate::renewal::renewed_expiry;
 use basis::list::Seq;
 use basis::registrar::RegistrarNo;
@@ -78,6 +79,8 @@ pub(crate) fn response_data(
             let years = years_charged(request, facts, moment);
             renewed_data(charge, name, years, facts.domain_seen(name.text()))
         }
+        Request::PollRequest => polled_data(&facts.queue),
+        Request::PollAck { .. } => Ok(Some(Data::Acked(left(&facts.queue)))),
         _ => Ok(None),
     }
 }

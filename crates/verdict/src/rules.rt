@@ -10,9 +10,9 @@ use crate::refusal::Cause::{
 };
 use Condition::{
     AddsWhatIsThere, ExpiresOtherwise, HasSubordinates, HoldsTheMost, IsAnothers, IsLinked,
-    IsMissing, IsNotIn, IsThere, LacksMoney, LeavesAddressesOutside, LeavesTooMany, ListRepeats,
-    NameIsRefused, NewNameIsTaken, PassesTenYears, ReferenceIsMissing, RemovesWhatIsNot,
-    ReportDiffers, SecretIsWrong, Shows, StillShows, SuperordinateIsAnothers,
+    IsMissing, IsNotIn, IsNotOldest, IsThere, LacksMoney, LeavesAddressesOutside, LeavesTooMany,
+    ListRepeats, NameIsRefused, NewNameIsTaken, PassesTenYears, ReferenceIsMissing,
+    RemovesWhatIsNot, ReportDiffers, SecretIsWrong, Shows, StillShows, SuperordinateIsAnothers,
     SuperordinateIsDeleted, SuperordinateIsMissing,
 };
 use objects::Phase::{self, Redemption, Restoring};
@@ -74,6 +74,8 @@ pub enum Condition {
     /// The report is on another deletion than the domain's, or on another request to restore it than
     /// the last.
     ReportDiffers,
+    /// The oldest message to the registrar isn't the one that was read.
+    IsNotOldest,
     /// The command is charged more than the registrar's account has.
     LacksMoney,
 }
@@ -238,6 +240,11 @@ pub const RESTORE_REPORT: &[Row] = &[
     (NoMoney, LacksMoney), // RFC 5730, 3, code 2104
 ];
 
+/// RFC 5730, 2.9.2.3.
+pub const MESSAGE_ACKNOWLEDGEMENT: &[Row] = &[
+    (Missing, IsNotOldest), // RFC 5730, 3, code 2303
+];
+
 /// The table of the command.
 pub fn rows(request: &Request) -> &'static [Row]
     ensures table { result.now ≡ spec.rows_of request.now }
@@ -247,7 +254,8 @@ pub fn rows(request: &Request) -> &'static [Row]
         Request::Balance
         | Request::CheckContact { .. }
         | Request::CheckDomain { .. }
-        | Request::CheckHost { .. } => &[],
+        | Request::CheckHost { .. }
+        | Request::PollRequest => &[],
         Request::InfoContact { .. } => CONTACT_INFO,
         Request::InfoDomain { .. } => DOMAIN_INFO,
         Request::InfoHost { .. } => HOST_INFO,
@@ -263,5 +271,6 @@ pub fn rows(request: &Request) -> &'static [Row]
         Request::RenewDomain { .. } => DOMAIN_RENEWAL,
         Request::RequestRestore { .. } => RESTORE_REQUEST,
         Request::ReportRestore { .. } => RESTORE_REPORT,
+        Request::PollAck { .. } => MESSAGE_ACKNOWLEDGEMENT,
     }
 }
