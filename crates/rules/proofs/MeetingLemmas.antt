@@ -207,6 +207,8 @@ module _ (p : PolicyRules) (r : ℕ) (cl_trid : Option (List ℕ)) (s : Registry
   meets (requests.RenewDomain name expires years) = meet-renewal name expires years
   meets (requests.RequestRestore name) = meet-restore name
   meets (requests.ReportRestore name del_time res_time) = meet-report name del_time res_time
+  meets requests.PollRequest = tt
+  meets (requests.PollAck id) = (inl refl, tt)
   meets (requests.CheckContact names) = tt
   meets (requests.CheckDomain names) = tt
   meets (requests.CheckHost names) = tt

@@ -4,7 +4,7 @@ use Rattle.accounts.specs.Account.{saturating_next}
 use Rattle.accounts.specs.declared.line.Line.{Line}
 use Rattle.accounts.specs.declared.line.LineKind.{LineKind}
 use Rattle.accounts.specs.declared.line.LineKind.TheVariants as lines
-use Rattle.lifecycle.specs.declared.change.AccountChange.TheVariants.{Charge, CountCommand, RefundRunning, TakeSerial}
+use Rattle.lifecycle.specs.declared.change.AccountChange.TheVariants.{Ack, Charge, CountCommand, RefundRunning, TakeSerial}
 use Rattle.lifecycle.specs.Graces.{period_of}
 use Rattle.lifecycle.specs.Refunds.{refund_at}
 use Rattle.names.specs.declared.given.GivenName.{GivenName}
@@ -272,6 +272,8 @@ changes_of p r t (requests.UpdateHost u) f = host_changes p.zone r t u (host_see
 changes_of p r t (requests.RenewDomain name expires years) f = renewal_changes p r t (requests.RenewDomain name expires years) f (domain_seen f (name_of name))
 changes_of p r t (requests.RequestRestore name) f = restore_changes t (domain_seen f (name_of name))
 changes_of p r t (requests.ReportRestore name del_time res_time) f = report_changes p r t (requests.ReportRestore name del_time res_time) f (domain_seen f (name_of name))
+changes_of p r t requests.PollRequest f = []
+changes_of p r t (requests.PollAck id) f = Give r (Ack id) ∷ []
 changes_of p r t (requests.CheckContact names) f = []
 changes_of p r t (requests.CheckDomain names) f = []
 changes_of p r t (requests.CheckHost names) f = []

@@ -192,6 +192,10 @@ fn accept(
             moment,
             policy,
         ),
+        Request::PollAck { id } => {
+            let change = Change::Give(caller, AccountChange::Ack(id.clone()?));
+            Ok(vec![in alloc; change]?)
+        }
         _ => Ok(Vec::new(alloc)),
     }
 }
