@@ -9,8 +9,8 @@ use crate::domain::{
     request_restore, update_domain,
 };
 use crate::host::{check_host, create_host, delete_host, info_host, update_host};
-use crate::reading::Fault;
-use eppforms::{CommandKind, checked_command};
+use crate::reading::{Fault, text_at};
+use eppforms::{CommandKind, Member, Section, checked_command};
 use names::Zone;
 use protocol::Request;
 use serde_json::Value;
@@ -41,5 +41,16 @@ pub fn request_in(alloc: Global, value: &Value, zone: &Zone) -> Result<Request, 
         CommandKind::RenewDomain => renew_domain(alloc, value, zone),
         CommandKind::RequestRestore => request_restore(alloc, value, zone),
         CommandKind::ReportRestore => report_restore(alloc, value, zone),
+        CommandKind::PollRequest => Ok(Request::PollRequest),
+        CommandKind::PollAck => poll_ack(alloc, value),
     }
+}
+
+/// The message that was read (RFC 5730, 2.9.2.3).
+#[tactic(auto, unfolding(crate::specs::Request::poll_ack))]
+fn poll_ack(alloc: Global, value: &Value) -> Result<Request, Fault>
+    ensures { Gives result (spec.poll_ack (view value.now)) }
+{
+    let id = text_at(alloc, Section::Top, Member::Id, value)?;
+    Ok(Request::PollAck { id })
 }

@@ -12,6 +12,7 @@ abbrev pub text_of : Member → List ℕ
 text_of members.Cmd = codes "cmd"
 text_of members.Obj = codes "obj"
 text_of members.Op = codes "op"
+text_of members.Id = codes "id"
 text_of members.ClTrid = codes "clTRID"
 text_of members.Name = codes "name"
 text_of members.Names = codes "names"

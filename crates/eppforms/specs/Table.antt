@@ -3,11 +3,12 @@ use Rattle.std.specs.Prelude.{ℕ, Bool, true, false, List, [], ◌∷◌, Optio
 use Rattle.std.specs.Borrow.{Bor}
 use Rattle.objects.specs.declared.roid.ObjectKind.{ObjectKind}
 use Rattle.objects.specs.declared.roid.ObjectKind.TheVariants.{Contact, Domain, Host}
+use Rattle.protocol.specs.Texts.{object_text}
 use Rattle.eppforms.specs.declared.table.Choice.{Choice}
 use Rattle.eppforms.specs.declared.table.Field.{Field}
 use Rattle.eppforms.specs.declared.table.TheConstants.{FORMS}
 use Rattle.eppforms.specs.declared.table.Verb.{Verb}
-use Rattle.eppforms.specs.declared.table.Verb.TheVariants.{Balance, Check, Info, Create, Delete, Update, Renew, Restore}
+use Rattle.eppforms.specs.declared.table.Verb.TheVariants.{Balance, Check, Info, Create, Delete, Update, Renew, Restore, Poll}
 use Rattle.eppforms.specs.declared.table.Op.{Op}
 use Rattle.eppforms.specs.declared.table.Op.TheVariants as ops
 
@@ -20,6 +21,7 @@ verb_text Delete = codes "delete"
 verb_text Update = codes "update"
 verb_text Renew = codes "renew"
 verb_text Restore = codes "restore"
+verb_text Poll = codes "poll"
 
 -- what has to change something
 abbrev pub is_update : Verb → Bool
@@ -29,11 +31,8 @@ is_update _ = false
 abbrev pub op_text : Op → List ℕ
 op_text ops.Request = codes "request"
 op_text ops.Report = codes "report"
-
-abbrev pub object_text : ObjectKind → List ℕ
-object_text Contact = codes "contact"
-object_text Domain = codes "domain"
-object_text Host = codes "host"
+op_text ops.Req = codes "req"
+op_text ops.Ack = codes "ack"
 
 abbrev pub object_named : List ℕ → Option ObjectKind
 object_named text = find (λ x. bytes_eq (object_text x) text) (Contact ∷ Domain ∷ Host ∷ [])

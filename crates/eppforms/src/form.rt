@@ -10,10 +10,10 @@ ghost use Rattle.eppforms.specs.Member.{is_section};
 ghost use Rattle.eppforms.specs.Table.{plain};
 
 use crate::member::{CHANGES, Member, SECTIONS, Section};
-use crate::table::{Choice, CommandForm, CommandKind, FORMS, Field, Op, object_text};
+use crate::table::{Choice, CommandForm, CommandKind, FORMS, Field, Op};
 use crate::value::{found, part, word};
 use objects::ObjectKind;
-use protocol::FormFault;
+use protocol::{FormFault, object_text};
 use serde_json::{Map, Value};
 
 /// The command that a value is, where its members are what its form asks; else the first fault.

@@ -8,6 +8,7 @@ use crate::kind::Kind::{self, Parts, Whole};
 use crate::kind::{Limits, Shape};
 use crate::member::{Member, Section};
 use objects::ObjectKind;
+use protocol::object_text;
 
 /// What `cmd` may say.
 #[derive(Clone, Copy)]
@@ -20,6 +21,7 @@ pub enum Verb {
     Update,
     Renew,
     Restore,
+    Poll,
 }
 
 impl Verb {
@@ -36,6 +38,7 @@ impl Verb {
             Verb::Update => "update",
             Verb::Renew => "renew",
             Verb::Restore => "restore",
+            Verb::Poll => "poll",
         }
     }
 
@@ -44,17 +47,6 @@ impl Verb {
         ensures { result ≡ spec.is_update self }
     {
         matches!(self, Verb::Update)
-    }
-}
-
-/// The text of `obj`.
-pub fn object_text(object: ObjectKind) -> &'static str
-    ensures { result.now ≡ spec.object_text object }
-{
-    match object {
-        ObjectKind::Contact => "contact",
-        ObjectKind::Domain => "domain",
-        ObjectKind::Host => "host",
     }
 }
 
@@ -76,6 +68,8 @@ pub fn object_named(text: &str) -> Option<ObjectKind>
 pub enum Op {
     Request,
     Report,
+    Req,
+    Ack,
 }
 
 impl Op {
@@ -86,6 +80,8 @@ impl Op {
         match self {
             Op::Request => "request",
             Op::Report => "report",
+            Op::Req => "req",
+            Op::Ack => "ack",
         }
     }
 }
@@ -112,6 +108,8 @@ pub enum CommandKind {
     RenewDomain,
     RequestRestore,
     ReportRestore,
+    PollRequest,
+    PollAck,
 }
 
 /// What chooses a form: `cmd`, `obj` where the command is on an object, and `op` where that says
@@ -303,6 +301,9 @@ const REPORT_TEXT: Kind = text!(REPORT_LENGTH, Line);
 /// One statement that the domain wasn't used, and one that the report is true (RFC 3915, 4.2.5).
 const STATEMENTS: Kind = texts!(limits!(2, 2), REPORT_LENGTH, Line);
 
+/// The identifier of a message (RFC 5730, 2.9.2.3).
+const MESSAGE_ID: Kind = text!(limits!(1, 300), Free);
+
 /// A whole number, of which its reader says which it may be.
 const NUMBER: Kind = Whole(ANY);
 
@@ -476,6 +477,14 @@ const RESTORE: &[Field] = without_object![
     may!(Top, Statements, STATEMENTS),
 ];
 
+/// RFC 5730, 2.9.2.3.
+const POLL_REQUEST: &[Field] = without_object![OP];
+
+/// RFC 5730, 2.9.2.3.
+const POLL_ACK: &[Field] = without_object![OP, must!(Top, Id, MESSAGE_ID)];
+
+const POLL: &[Field] = without_object![OP, may!(Top, Id, MESSAGE_ID)];
+
 /// The forms of the commands. The first that fits is the one.
 pub const FORMS: &[CommandForm] = &[
     (plain!(Balance, Balance), BALANCE),
@@ -498,6 +507,9 @@ pub const FORMS: &[CommandForm] = &[
     (by_op!(Restore, Request, RequestRestore), REQUEST_RESTORE),
     (by_op!(Restore, Report, ReportRestore), REPORT_RESTORE),
     (no_op!(Restore), RESTORE),
+    (by_op!(Poll, Req, PollRequest), POLL_REQUEST),
+    (by_op!(Poll, Ack, PollAck), POLL_ACK),
+    (no_op!(Poll), POLL),
 ];
 
 const ORDER: Field = must!(Top, Order, WORD);
