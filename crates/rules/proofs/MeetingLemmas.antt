@@ -42,7 +42,6 @@ use Rattle.lifecycle.specs.Graces.{graces}
 use Rattle.model.specs.Standing.{graces_of, standing_of}
 use Rattle.model.specs.View.{domain_sight, view}
 use Rattle.model.specs.WellFormed.{IsRegistry}
-use Rattle.verdict.specs.Charges.{years_charged}
 use Rattle.verdict.specs.Deletion.{goes_at_once}
 
 pub eq-self : (a : ℕ) → eq_by_cmp nat_cmp a a ≡ true
@@ -162,7 +161,7 @@ module _ (p : PolicyRules) (r : ℕ) (cl_trid : Option (List ℕ)) (s : Registry
     where
       by : (q : Request) (f : Facts) (seen : Option (Seen FullDomain DomainFace)) → seen ≡ option_map (domain_sight p r s None) (get s.domains (name_of name)) → AllMeet p r (report_changes p r s.clock q f seen) counted
       by q f None e = tt
-      by q f (Some (Full known)) e = (own-put name known.domain (restored_domain s.clock (years_charged s.clock q f) known.domain) (domain-full p r s None (get s.domains (name_of name)) known (sym e)) refl refl refl, (inl refl, tt))
+      by q f (Some (Full known)) e = (own-put name known.domain (restored_domain s.clock known.domain) (domain-full p r s None (get s.domains (name_of name)) known (sym e)) refl refl refl, (inl refl, tt))
       by q f (Some (TransferParty face transfer)) e = tt
       by q f (Some (Public face)) e = tt
 

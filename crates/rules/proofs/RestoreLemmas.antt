@@ -20,7 +20,6 @@ use Rattle.facts.specs.Facts.{domain_facts, domain_seen, facts, lookups}
 use Rattle.model.specs.Registry.{Registry}
 use Rattle.model.specs.View.{domain_sight}
 use Rattle.model.specs.WellFormed.{IsDeletion, IsRegistry}
-use Rattle.verdict.specs.Charges.{years_charged}
 use Rattle.rules.specs.declared.change.Change.TheVariants.{PutDomain}
 use Rattle.rules.specs.Changes.{changed_all, with_account}
 use Rattle.rules.specs.Decisions.{charge_line, report_changes, restore_changes, restored_domain, restoring_domain}
@@ -84,7 +83,7 @@ module _ (p : PolicyRules) (r : ℕ) (cl_trid : Option (List ℕ)) (s : Registry
       by q f (Some (Full known)) e =
           let d : Domain = known.domain in
           let at : get s.domains (name_of name) ≡ Some d = domain-full p r s None (get s.domains (name_of name)) known (sym e) in
-          let new : Domain = restored_domain s.clock (years_charged s.clock q f) d in
+          let new : Domain = restored_domain s.clock d in
           let k = kept.domains (name_of name) d at in
           kept-charged p r cl_trid s place is (charge_line lines.Restore p s.clock d.roid q f) (changed_all p (PutDomain new ∷ []) counted)
           (kept-put-domain p counted kept (name_of name) d new at refl (record {

@@ -7,6 +7,7 @@ use Rattle.accounts.specs.declared.line.LineKind.TheVariants as lines
 use Rattle.lifecycle.specs.declared.change.AccountChange.TheVariants.{Ack, Charge, CountCommand, RefundRunning, TakeSerial}
 use Rattle.lifecycle.specs.Graces.{period_of}
 use Rattle.lifecycle.specs.Refunds.{refund_at}
+use Rattle.lifecycle.specs.Turns.{turns}
 use Rattle.names.specs.declared.given.GivenName.{GivenName}
 use Rattle.names.specs.GivenName.{name_of}
 use Rattle.names.specs.Zone.{ZoneRules}
@@ -181,9 +182,10 @@ restoring_domain t d = record d {
   deletion = option_map (λ (x : Deletion). record x { restore_requested = Some t }) d.deletion;
 }
 
--- not deleted any more, and registered for longer (RFC 3915, 4.2.5)
-abbrev pub restored_domain : ℕ → ℕ → Domain → Domain
-restored_domain t years d = record d { years = more_years d.years years; updated = Some t; deletion = None }
+-- not deleted any more, and registered for the years more with which it expires after the moment
+-- (RFC 3915, 4.2.5)
+abbrev pub restored_domain : ℕ → Domain → Domain
+restored_domain t d = record d { years = d.years + turns d t; updated = Some t; deletion = None }
 
 -- the same after an update, which may rename the host
 abbrev pub external_sponsor_after : ZoneRules → ℕ → Option GivenName → Option ℕ → Option ℕ
@@ -228,7 +230,7 @@ restore_changes t (Some (Public face)) = []
 -- the years that the domain needs are charged for
 abbrev pub report_changes : PolicyRules → ℕ → ℕ → Request → Facts → Option (Seen FullDomain DomainFace) → List Change
 report_changes p r t q f None = []
-report_changes p r t q f (Some (Full known)) = PutDomain (restored_domain t (years_charged t q f) known.domain) ∷ charge lines.Restore p r t known.domain.roid q f ∷ []
+report_changes p r t q f (Some (Full known)) = PutDomain (restored_domain t known.domain) ∷ charge lines.Restore p r t known.domain.roid q f ∷ []
 report_changes p r t q f (Some (TransferParty face transfer)) = []
 report_changes p r t q f (Some (Public face)) = []
 

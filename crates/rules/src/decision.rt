@@ -23,7 +23,7 @@ use objects::{Contact, ContactFace, Domain, DomainFace, FullDomain, Host, Object
 use policy::Policy;
 use protocol::{Code, Command, ContactUpdate, DomainUpdate, HostUpdate, Request};
 use std::alloc::{AllocError, Global};
-use verdict::{Verdict, goes_at_once, judge, years_charged};
+use verdict::{Verdict, goes_at_once, judge};
 
 /// What a command is answered, and the changes that it makes, in order.
 #[derive(Drop)]
@@ -330,8 +330,7 @@ fn report_restore(
 {
     match seen {
         Some(Seen::Full(known)) => {
-            let years = years_charged(request, facts, moment);
-            let restored = restored_domain(&known.domain, years, moment)?;
+            let restored = restored_domain(&known.domain, moment)?;
             let line = charge(
                 LineKind::Restore,
                 caller,

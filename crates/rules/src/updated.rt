@@ -9,6 +9,7 @@ use basis::registrar::RegistrarNo;
 use basis::text::{Text, copied};
 use calendar::Moment;
 use facts::amended_names;
+use lifecycle::years_to_outlast;
 use names::{GivenName, Zone};
 use objects::{Contact, Deletion, Domain, Host, Links, Postal, amended_statuses};
 use protocol::{ContactUpdate, DomainUpdate, HostUpdate};
@@ -201,16 +202,14 @@ pub(crate) fn restoring_domain(domain: &Domain, moment: Moment) -> Result<Domain
     Ok(restoring)
 }
 
-/// The domain, not deleted any more, and registered for longer.
-pub(crate) fn restored_domain(
-    domain: &Domain,
-    years: u32,
-    moment: Moment,
-) -> Result<Domain, AllocError>
-    ensures { IfOk result (λ restored. restored ≡ spec.restored_domain moment years domain.now) }
+/// The domain, not deleted any more, and registered for the years more with which it expires after
+/// the moment.
+pub(crate) fn restored_domain(domain: &Domain, moment: Moment) -> Result<Domain, AllocError>
+    ensures { IfOk result (λ restored. restored ≡ spec.restored_domain moment domain.now) }
 {
+    let years = years_to_outlast(domain, moment);
     let mut restored = copy(domain)?;
-    restored.years = more_years(domain.years, years);
+    restored.years = domain.years + years;
     restored.updated = Some(moment);
     restored.deletion = None;
     Ok(restored)
