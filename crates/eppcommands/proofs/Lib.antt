@@ -1,3 +1,4 @@
 pub mod Items
 pub mod Lists
+pub mod Moments
 pub mod Payloads

@@ -5,14 +5,14 @@ use Rattle.names.specs.Zone.{ZoneRules}
 use Rattle.objects.specs.declared.roid.ObjectKind.TheVariants as kinds
 use Rattle.protocol.specs.declared.form.FormFault.{FormFault}
 use Rattle.protocol.specs.declared.command.Request.{Request}
-use Rattle.protocol.specs.declared.command.Request.TheVariants.{CheckDomain, InfoDomain, CreateDomain, DeleteDomain, UpdateDomain, RenewDomain}
+use Rattle.protocol.specs.declared.command.Request.TheVariants.{CheckDomain, InfoDomain, CreateDomain, DeleteDomain, UpdateDomain, RenewDomain, RequestRestore, ReportRestore}
 use Rattle.protocol.specs.declared.command.DomainLists.{DomainLists}
 use Rattle.eppforms.specs.declared.member.Member.TheVariants as members
 use Rattle.eppforms.specs.declared.member.Section.{Section}
 use Rattle.eppforms.specs.declared.member.Section.TheVariants.{Top, Add, Rem, Chg}
 use Rattle.eppcommands.specs.declared.reading.NameOf.TheVariants.{Domain, Host}
 use Rattle.eppforms.specs.Form.{◌>>=◌}
-use Rattle.eppcommands.specs.Reading.{name_at, names_at, text_at, maybe_text_at, texts_at, statuses_at, years_at, date_at}
+use Rattle.eppcommands.specs.Reading.{name_at, names_at, text_at, maybe_text_at, texts_at, statuses_at, years_at, date_at, moment_at}
 
 unfoldable pub check_domain : ZoneRules → Data → Result Request FormFault
 check_domain zone d = do
@@ -65,3 +65,17 @@ renew_domain zone d = do
   expires ← date_at Top members.Expires d
   years ← years_at Top members.Years d
   Ok (RenewDomain name expires years)
+
+-- ---- restoration (RFC 3915, 4.2.5)
+
+unfoldable pub request_restore : ZoneRules → Data → Result Request FormFault
+request_restore zone d = do
+  name ← name_at Domain Top members.Name zone d
+  Ok (RequestRestore name)
+
+unfoldable pub report_restore : ZoneRules → Data → Result Request FormFault
+report_restore zone d = do
+  name ← name_at Domain Top members.Name zone d
+  del_time ← moment_at Top members.DelTime d
+  res_time ← moment_at Top members.ResTime d
+  Ok (ReportRestore name del_time res_time)

@@ -24,7 +24,7 @@ use Rattle.protocol.specs.Years.{years_of}
 use Rattle.eppforms.specs.Kind.{items_list}
 use Rattle.eppforms.specs.Form.{◌>>=◌, refuse_unless}
 use Rattle.eppforms.specs.Member.{value_at}
-use Rattle.eppcommands.specs.Dates.{date_in}
+use Rattle.eppcommands.specs.Dates.{date_in, moment_in}
 
 -- what a function returned is what reading gives, unless memory ran out
 abbrev pub Gives : {A : Type 0} → Result A Fault → Result A FormFault → Type 0
@@ -141,3 +141,6 @@ years_at section m d = years_in (value_at section m d)
 
 abbrev pub date_at : Section → Member → Data → Result (List ℕ) FormFault
 date_at section m d = required date_in (value_at section m d)
+
+abbrev pub moment_at : Section → Member → Data → Result ℕ FormFault
+moment_at section m d = required moment_in (value_at section m d)

@@ -4,13 +4,22 @@ use Rattle.serde_json.specs.Data.{Data}
 use Rattle.names.specs.Zone.{ZoneRules}
 use Rattle.protocol.specs.declared.form.FormFault.{FormFault}
 use Rattle.protocol.specs.declared.command.Request.{Request}
-use Rattle.protocol.specs.declared.command.Request.TheVariants.{Balance}
+use Rattle.protocol.specs.declared.command.Request.TheVariants.{Balance, PollRequest, PollAck}
 use Rattle.eppforms.specs.declared.table.CommandKind.{CommandKind}
 use Rattle.eppforms.specs.declared.table.CommandKind.TheVariants as kinds
+use Rattle.eppforms.specs.declared.member.Member.TheVariants as members
+use Rattle.eppforms.specs.declared.member.Section.TheVariants.{Top}
 use Rattle.eppforms.specs.Form.{◌>>=◌, checked_command}
+use Rattle.eppcommands.specs.Reading.{text_at}
 use Rattle.eppcommands.specs.Contact.{check_contact, info_contact, create_contact, delete_contact, update_contact}
-use Rattle.eppcommands.specs.Domain.{check_domain, info_domain, create_domain, delete_domain, update_domain, renew_domain}
+use Rattle.eppcommands.specs.Domain.{check_domain, info_domain, create_domain, delete_domain, update_domain, renew_domain, request_restore, report_restore}
 use Rattle.eppcommands.specs.Host.{check_host, info_host, create_host, delete_host, update_host}
+
+-- the message that was read (RFC 5730, 2.9.2.3)
+unfoldable pub poll_ack : Data → Result Request FormFault
+poll_ack d = do
+  id ← text_at Top members.Id d
+  Ok (PollAck id)
 
 abbrev pub request_of : CommandKind → ZoneRules → Data → Result Request FormFault
 request_of kinds.Balance zone d = Ok Balance
@@ -30,6 +39,10 @@ request_of kinds.UpdateContact zone d = update_contact d
 request_of kinds.UpdateDomain zone d = update_domain zone d
 request_of kinds.UpdateHost zone d = update_host zone d
 request_of kinds.RenewDomain zone d = renew_domain zone d
+request_of kinds.RequestRestore zone d = request_restore zone d
+request_of kinds.ReportRestore zone d = report_restore zone d
+request_of kinds.PollRequest zone d = Ok PollRequest
+request_of kinds.PollAck zone d = poll_ack d
 
 -- the request of a payload's JSON, or the first fault of its form
 unfoldable pub request_in : ZoneRules → Data → Result Request FormFault

@@ -1,4 +1,4 @@
-//! Dates in members (RFC 3339, 5.6).
+//! Dates and moments in members (RFC 3339, 5.6).
 ghost use Rattle.std.specs.Prelude.{◌≡◌, ◌<◌, IfSome};
 ghost use Rattle.calendar.specs.Calendar as calendar_spec;
 ghost use Rattle.calendar.specs.Reading.{two_of, date_fields};
@@ -8,6 +8,7 @@ ghost use Rattle.eppcommands.specs.Dates as spec;
 
 use crate::reading::Fault;
 use basis::text::Text;
+use calendar::Moment;
 use protocol::FormFault;
 use serde_json::Value;
 use std::alloc::Global;
@@ -78,4 +79,26 @@ fn is_leap(year: u16) -> bool
     ensures { result ≡ calendar_spec.is_leap year }
 {
     year % 4 == 0 && (year % 100 != 0 || year % 400 == 0)
+}
+
+/// The moment of a text `YYYY-MM-DDTHH:MM:SSZ`.
+#[tactic(auto, unfolding(crate::specs::Dates::moment_in))]
+pub fn moment_in(value: &Value) -> Result<Moment, FormFault>
+    ensures { result ≡ spec.moment_in (view value.now) }
+{
+    let text = value.as_str().ok_or(FormFault::SyntaxError)?;
+    moment_named(text).ok_or(FormFault::ParameterSyntax)
+}
+
+fn moment_named(text: &str) -> Option<Moment>
+    ensures { result ≡ spec.moment_named text.now }
+{
+    match Moment::read(text) {
+        Some(moment) => {
+            // Shows the prover that it is within the range.
+            let _secs = moment.secs();
+            Some(moment)
+        }
+        None => None,
+    }
 }

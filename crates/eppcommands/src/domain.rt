@@ -4,8 +4,8 @@ ghost use Rattle.eppcommands.specs.Reading.{Gives};
 ghost use Rattle.eppcommands.specs.Domain as spec;
 
 use crate::reading::{
-    Fault, NameOf, date_at, maybe_text_at, name_at, names_at, statuses_at, text_at, texts_at,
-    years_at,
+    Fault, NameOf, date_at, maybe_text_at, moment_at, name_at, names_at, statuses_at, text_at,
+    texts_at, years_at,
 };
 use eppforms::Member;
 use eppforms::Section::{self, Add, Chg, Rem, Top};
@@ -113,5 +113,27 @@ pub fn renew_domain(alloc: Global, value: &Value, zone: &Zone) -> Result<Request
         name,
         expires,
         years,
+    })
+}
+
+#[tactic(auto, unfolding(crate::specs::Domain::request_restore))]
+pub fn request_restore(alloc: Global, value: &Value, zone: &Zone) -> Result<Request, Fault>
+    ensures { Gives result (spec.request_restore zone.now (view value.now)) }
+{
+    let name = name_at(alloc, NameOf::Domain, Top, Member::Name, value, zone)?;
+    Ok(Request::RequestRestore { name })
+}
+
+#[tactic(auto, unfolding(crate::specs::Domain::report_restore))]
+pub fn report_restore(alloc: Global, value: &Value, zone: &Zone) -> Result<Request, Fault>
+    ensures { Gives result (spec.report_restore zone.now (view value.now)) }
+{
+    let name = name_at(alloc, NameOf::Domain, Top, Member::Name, value, zone)?;
+    let del_time = moment_at(Top, Member::DelTime, value)?;
+    let res_time = moment_at(Top, Member::ResTime, value)?;
+    Ok(Request::ReportRestore {
+        name,
+        del_time,
+        res_time,
     })
 }

@@ -3,7 +3,7 @@
 //! - `command`: a payload as a command.
 //! - `request`, with `contact`, `domain` and `host`: what a well formed command asks for.
 //! - `reading`: what a member of a well formed command says.
-//! - `dates`: dates in members.
+//! - `dates`: dates and moments in members.
 //! - `order`: a payload as an order of the operator.
 #![tactic(auto)]
 

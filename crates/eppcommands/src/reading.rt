@@ -6,9 +6,10 @@ ghost use Rattle.serde_json.specs.View.{view};
 ghost use Rattle.eppcommands.specs.declared.reading.Fault.TheVariants.{Refused, Memory};
 ghost use Rattle.eppcommands.specs.Reading as spec;
 
-use crate::dates::date_in;
+use crate::dates::{date_in, moment_in};
 use basis::list::Seq;
 use basis::text::Text;
+use calendar::Moment;
 use eppforms::{Member, Section, value_at};
 use names::{Address, DomainName, GivenName, HostName, NameFault, Zone};
 use objects::{ObjectKind, Status};
@@ -294,4 +295,11 @@ pub fn date_at(alloc: Global, section: Section, at: Member, value: &Value) -> Re
 {
     let found = value_at(value, section, at).ok_or(FormFault::ParameterMissing)?;
     date_in(alloc, found)
+}
+
+pub fn moment_at(section: Section, at: Member, value: &Value) -> Result<Moment, FormFault>
+    ensures { result ≡ spec.moment_at section at (view value.now) }
+{
+    let found = value_at(value, section, at).ok_or(FormFault::ParameterMissing)?;
+    moment_in(found)
 }

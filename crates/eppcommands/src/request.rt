@@ -5,11 +5,12 @@ ghost use Rattle.eppcommands.specs.Request as spec;
 
 use crate::contact::{check_contact, create_contact, delete_contact, info_contact, update_contact};
 use crate::domain::{
-    check_domain, create_domain, delete_domain, info_domain, renew_domain, update_domain,
+    check_domain, create_domain, delete_domain, info_domain, renew_domain, report_restore,
+    request_restore, update_domain,
 };
 use crate::host::{check_host, create_host, delete_host, info_host, update_host};
-use crate::reading::Fault;
-use eppforms::{CommandKind, checked_command};
+use crate::reading::{Fault, text_at};
+use eppforms::{CommandKind, Member, Section, checked_command};
 use names::Zone;
 use protocol::Request;
 use serde_json::Value;
@@ -38,5 +39,18 @@ pub fn request_in(alloc: Global, value: &Value, zone: &Zone) -> Result<Request, 
         CommandKind::UpdateDomain => update_domain(alloc, value, zone),
         CommandKind::UpdateHost => update_host(alloc, value, zone),
         CommandKind::RenewDomain => renew_domain(alloc, value, zone),
+        CommandKind::RequestRestore => request_restore(alloc, value, zone),
+        CommandKind::ReportRestore => report_restore(alloc, value, zone),
+        CommandKind::PollRequest => Ok(Request::PollRequest),
+        CommandKind::PollAck => poll_ack(alloc, value),
     }
+}
+
+/// The message that was read (RFC 5730, 2.9.2.3).
+#[tactic(auto, unfolding(crate::specs::Request::poll_ack))]
+fn poll_ack(alloc: Global, value: &Value) -> Result<Request, Fault>
+    ensures { Gives result (spec.poll_ack (view value.now)) }
+{
+    let id = text_at(alloc, Section::Top, Member::Id, value)?;
+    Ok(Request::PollAck { id })
 }

@@ -15,7 +15,9 @@ use Rattle.eppforms.specs.declared.table.CommandKind.{CommandKind}
 use Rattle.eppforms.specs.declared.table.Field.{Field}
 use Rattle.eppforms.specs.Kind.{some_and, of_items, has_type, in_range, has_shape}
 use Rattle.eppforms.specs.Member.{text_of, is_section, word_at, part_at, value_of}
-use Rattle.eppforms.specs.Table.{CommandForm, command_forms, verb_text, object_text, is_update}
+use Rattle.eppforms.specs.declared.table.Op.{Op}
+use Rattle.protocol.specs.Texts.{object_text}
+use Rattle.eppforms.specs.Table.{CommandForm, command_forms, verb_text, op_text, is_update}
 
 -- one step after another, up to the first fault
 infixl 10 ◌>>=◌
@@ -41,16 +43,26 @@ abbrev pub is_on : Option ObjectKind → Option (List ℕ) → Bool
 is_on None obj = true
 is_on (Some object) obj = some_and (bytes_eq (object_text object)) obj
 
-abbrev pub chosen : {M : Type 0} → List (Choice × M) → List ℕ → Option (List ℕ) → Option (Choice × M)
-chosen forms cmd obj = find (λ form. bytes_eq (verb_text form.0.cmd) cmd && is_on form.0.object obj) forms
+-- `op` says the operation, where the form has one
+abbrev pub is_for : Option Op → Option (List ℕ) → Bool
+is_for None op = true
+is_for (Some the_op) op = some_and (bytes_eq (op_text the_op)) op
 
--- the form that `cmd` and `obj` choose, whatever its members are
+-- `cmd`, `obj` and `op` say the form
+abbrev pub is_chosen : Choice → List ℕ → Option (List ℕ) → Option (List ℕ) → Bool
+is_chosen choice cmd obj op = bytes_eq (verb_text choice.cmd) cmd && (is_on choice.object obj && is_for choice.op op)
+
+-- the first of which that is so
+abbrev pub chosen : {M : Type 0} → List (Choice × M) → List ℕ → Option (List ℕ) → Option (List ℕ) → Option (Choice × M)
+chosen forms cmd obj op = find (λ form. is_chosen form.0 cmd obj op) forms
+
+-- the form that `cmd`, `obj` and `op` choose, whatever its members are
 unfoldable pub form_in : {M : Type 0} → List (Choice × M) → Data → Result (Choice × M) FormFault
 form_in forms d = do
   cmd ← ok_or (word_at members.Cmd d) SyntaxError
   _ ← refuse_unless (is_known forms cmd) UnknownCommand
   _ ← refuse_unless (not (takes_object forms cmd) || is_some (word_at members.Obj d)) SyntaxError
-  ok_or (chosen forms cmd (word_at members.Obj d)) UnknownCommand
+  ok_or (chosen forms cmd (word_at members.Obj d) (word_at members.Op d)) UnknownCommand
 
 -- ---- its members
 
@@ -113,12 +125,12 @@ members_checked form d = do
   _ ← refuse_unless (each in_range form.1 d) ParameterRange
   refuse_unless (each has_shape form.1 d) ParameterSyntax
 
--- the command that a value is by a table, or the first fault of its form
+-- the command that a value is by a table, or the first fault of its form: that `op` isn't known comes last
 unfoldable pub checked_by : List CommandForm → Data → Result CommandKind FormFault
 checked_by forms d = do
   form ← form_in forms d
   _ ← members_checked form d
-  Ok form.0.command
+  ok_or form.0.command ParameterSyntax
 
 -- the same by the table of the commands
 abbrev pub checked_command : Data → Result CommandKind FormFault

@@ -1,13 +1,16 @@
--- What `cmd` and `obj` say (RFC 5730, 2.9). Which members a command has is the table itself, `FORMS`.
+-- What `cmd`, `obj` and `op` say (RFC 5730, 2.9). Which members a command has is the table itself, `FORMS`.
 use Rattle.std.specs.Prelude.{ℕ, Bool, true, false, List, [], ◌∷◌, Option, map, codes, find, bytes_eq}
 use Rattle.std.specs.Borrow.{Bor}
 use Rattle.objects.specs.declared.roid.ObjectKind.{ObjectKind}
 use Rattle.objects.specs.declared.roid.ObjectKind.TheVariants.{Contact, Domain, Host}
+use Rattle.protocol.specs.Texts.{object_text}
 use Rattle.eppforms.specs.declared.table.Choice.{Choice}
 use Rattle.eppforms.specs.declared.table.Field.{Field}
 use Rattle.eppforms.specs.declared.table.TheConstants.{FORMS}
 use Rattle.eppforms.specs.declared.table.Verb.{Verb}
-use Rattle.eppforms.specs.declared.table.Verb.TheVariants.{Balance, Check, Info, Create, Delete, Update, Renew}
+use Rattle.eppforms.specs.declared.table.Verb.TheVariants.{Balance, Check, Info, Create, Delete, Update, Renew, Restore, Poll}
+use Rattle.eppforms.specs.declared.table.Op.{Op}
+use Rattle.eppforms.specs.declared.table.Op.TheVariants as ops
 
 abbrev pub verb_text : Verb → List ℕ
 verb_text Balance = codes "balance"
@@ -17,16 +20,19 @@ verb_text Create = codes "create"
 verb_text Delete = codes "delete"
 verb_text Update = codes "update"
 verb_text Renew = codes "renew"
+verb_text Restore = codes "restore"
+verb_text Poll = codes "poll"
 
 -- what has to change something
 abbrev pub is_update : Verb → Bool
 is_update Update = true
 is_update _ = false
 
-abbrev pub object_text : ObjectKind → List ℕ
-object_text Contact = codes "contact"
-object_text Domain = codes "domain"
-object_text Host = codes "host"
+abbrev pub op_text : Op → List ℕ
+op_text ops.Request = codes "request"
+op_text ops.Report = codes "report"
+op_text ops.Req = codes "req"
+op_text ops.Ack = codes "ack"
 
 abbrev pub object_named : List ℕ → Option ObjectKind
 object_named text = find (λ x. bytes_eq (object_text x) text) (Contact ∷ Domain ∷ Host ∷ [])

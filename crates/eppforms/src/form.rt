@@ -10,10 +10,10 @@ ghost use Rattle.eppforms.specs.Member.{is_section};
 ghost use Rattle.eppforms.specs.Table.{plain};
 
 use crate::member::{CHANGES, Member, SECTIONS, Section};
-use crate::table::{CommandForm, CommandKind, FORMS, Field, object_text};
+use crate::table::{Choice, CommandForm, CommandKind, FORMS, Field, Op};
 use crate::value::{found, part, word};
 use objects::ObjectKind;
-use protocol::FormFault;
+use protocol::{FormFault, object_text};
 use serde_json::{Map, Value};
 
 /// The command that a value is, where its members are what its form asks; else the first fault.
@@ -30,10 +30,10 @@ pub fn checked_by(forms: &[CommandForm], value: &Value) -> Result<CommandKind, F
 {
     let form = form_in(forms, value)?;
     check(form, value)?;
-    Ok(form.0.command)
+    form.0.command.ok_or(FormFault::ParameterSyntax)
 }
 
-/// The form that `cmd` and `obj` choose.
+/// The form that `cmd`, `obj` and `op` choose.
 fn form_in(forms: &[CommandForm], value: &Value) -> Result<CommandForm, FormFault>
     ensures { result_map_both plain (λ code. code) result ≡ spec.form_in (map plain forms.now) (view value.now) }
 {
@@ -52,7 +52,7 @@ fn form_found(forms: &[CommandForm], value: &Value) -> Result<CommandForm, FormF
     if takes_object(forms, cmd) && obj.is_none() {
         return Err(FormFault::SyntaxError);
     }
-    chosen(forms, cmd, obj).ok_or(FormFault::UnknownCommand)
+    chosen(forms, cmd, obj, word(value, Member::Op)).ok_or(FormFault::UnknownCommand)
 }
 
 fn is_known(forms: &[CommandForm], cmd: &str) -> bool
@@ -70,10 +70,25 @@ fn takes_object(forms: &[CommandForm], cmd: &str) -> bool
         .any(|form| form.0.cmd.text() == cmd && form.0.object.is_some())
 }
 
-fn chosen(forms: &[CommandForm], cmd: &str, obj: Option<&str>) -> Option<CommandForm>
-    ensures { result ≡ spec.chosen forms.now cmd.now (option_map (λ s. s.now) obj.entry) }
+fn chosen(
+    forms: &[CommandForm],
+    cmd: &str,
+    obj: Option<&str>,
+    op: Option<&str>,
+) -> Option<CommandForm>
+    ensures { result ≡ spec.chosen forms.now cmd.now (option_map (λ s. s.now) obj.entry) (option_map (λ s. s.now) op.entry) }
 {
-    forms.iter().copied().find(|form| form.0.cmd.text() == cmd && is_on(form.0.object, obj))
+    forms
+        .iter()
+        .copied()
+        .find(|form| is_chosen(form.0, cmd, obj, op))
+}
+
+/// Whether `cmd`, `obj` and `op` say the form.
+fn is_chosen(choice: Choice, cmd: &str, obj: Option<&str>, op: Option<&str>) -> bool
+    ensures { result ≡ spec.is_chosen choice cmd.now (option_map (λ s. s.now) obj.entry) (option_map (λ s. s.now) op.entry) }
+{
+    choice.cmd.text() == cmd && is_on(choice.object, obj) && is_for(choice.op, op)
 }
 
 /// Whether `obj` says the kind of object, where there has to be one.
@@ -83,6 +98,17 @@ fn is_on(object: Option<ObjectKind>, obj: Option<&str>) -> bool
     match (object, obj) {
         (None, _) => true,
         (Some(object), Some(obj)) => object_text(object) == obj,
+        (Some(_), None) => false,
+    }
+}
+
+/// Whether `op` says the operation, where the form has one.
+fn is_for(operation: Option<Op>, op: Option<&str>) -> bool
+    ensures { result ≡ spec.is_for operation (option_map (λ s. s.now) op.entry) }
+{
+    match (operation, op) {
+        (None, _) => true,
+        (Some(operation), Some(op)) => operation.text() == op,
         (Some(_), None) => false,
     }
 }

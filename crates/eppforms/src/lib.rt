@@ -18,7 +18,7 @@ pub use form::{checked_command, has_all, has_only};
 pub use kind::{Kind, Limits, Shape};
 pub use member::{Member, Section};
 pub use table::{
-    CL_TRID, Choice, CommandForm, CommandKind, DEPOSIT_ORDER_FORM, FORMS, Field, STATUS_ORDER_FORM,
-    Verb, object_named,
+    CL_TRID, Choice, CommandForm, CommandKind, DEPOSIT_ORDER_FORM, FORMS, Field, Op,
+    STATUS_ORDER_FORM, Verb, object_named,
 };
 pub use value::{member_of, part, value_at, word};

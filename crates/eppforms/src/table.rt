@@ -8,6 +8,7 @@ use crate::kind::Kind::{self, Parts, Whole};
 use crate::kind::{Limits, Shape};
 use crate::member::{Member, Section};
 use objects::ObjectKind;
+use protocol::object_text;
 
 /// What `cmd` may say.
 #[derive(Clone, Copy)]
@@ -19,6 +20,8 @@ pub enum Verb {
     Delete,
     Update,
     Renew,
+    Restore,
+    Poll,
 }
 
 impl Verb {
@@ -34,6 +37,8 @@ impl Verb {
             Verb::Delete => "delete",
             Verb::Update => "update",
             Verb::Renew => "renew",
+            Verb::Restore => "restore",
+            Verb::Poll => "poll",
         }
     }
 
@@ -42,17 +47,6 @@ impl Verb {
         ensures { result ≡ spec.is_update self }
     {
         matches!(self, Verb::Update)
-    }
-}
-
-/// The text of `obj`.
-pub fn object_text(object: ObjectKind) -> &'static str
-    ensures { result.now ≡ spec.object_text object }
-{
-    match object {
-        ObjectKind::Contact => "contact",
-        ObjectKind::Domain => "domain",
-        ObjectKind::Host => "host",
     }
 }
 
@@ -67,6 +61,29 @@ pub fn object_named(text: &str) -> Option<ObjectKind>
         .iter()
         .copied()
         .find(|object| object_text(*object) == text)
+}
+
+/// What `op` may say.
+#[derive(Clone, Copy)]
+pub enum Op {
+    Request,
+    Report,
+    Req,
+    Ack,
+}
+
+impl Op {
+    /// The text of `op`.
+    pub fn text(self) -> &'static str
+        ensures { result.now ≡ spec.op_text self }
+    {
+        match self {
+            Op::Request => "request",
+            Op::Report => "report",
+            Op::Req => "req",
+            Op::Ack => "ack",
+        }
+    }
 }
 
 /// The commands.
@@ -89,14 +106,22 @@ pub enum CommandKind {
     UpdateDomain,
     UpdateHost,
     RenewDomain,
+    RequestRestore,
+    ReportRestore,
+    PollRequest,
+    PollAck,
 }
 
-/// What chooses a form: `cmd`, and `obj` where the command is on an object.
+/// What chooses a form: `cmd`, `obj` where the command is on an object, and `op` where that says
+/// which of several commands it is.
 #[derive(Clone, Copy)]
 pub struct Choice {
     pub cmd: Verb,
     pub object: Option<ObjectKind>,
-    pub command: CommandKind,
+    pub op: Option<Op>,
+    /// Which command it is. It is none where `op` is missing or unknown: such a form has the members
+    /// of every `op`, and requires none of them.
+    pub command: Option<CommandKind>,
 }
 
 /// A member of a form.
@@ -117,7 +142,8 @@ macro_rules! on {
         Choice {
             cmd: Verb::$cmd,
             object: Some(ObjectKind::$object),
-            command: CommandKind::$command,
+            op: None,
+            command: Some(CommandKind::$command),
         }
     };
 }
@@ -128,7 +154,32 @@ macro_rules! plain {
         Choice {
             cmd: Verb::$cmd,
             object: None,
-            command: CommandKind::$command,
+            op: None,
+            command: Some(CommandKind::$command),
+        }
+    };
+}
+
+/// A command by its `cmd` and its `op`.
+macro_rules! by_op {
+    ($cmd:ident, $op:ident, $command:ident) => {
+        Choice {
+            cmd: Verb::$cmd,
+            object: None,
+            op: Some(Op::$op),
+            command: Some(CommandKind::$command),
+        }
+    };
+}
+
+/// What has a `cmd` with an `op`, and no `op` that is known. It stands behind those that are.
+macro_rules! no_op {
+    ($cmd:ident) => {
+        Choice {
+            cmd: Verb::$cmd,
+            object: None,
+            op: None,
+            command: None,
         }
     };
 }
@@ -242,6 +293,17 @@ const POSTAL_CODE: Kind = text!(limits!(1, 16), Line);
 
 const COUNTRY: Kind = text!(LINE_LENGTH, Country);
 
+/// A text of a report on a restoration (RFC 3915, 4.2.5).
+const REPORT_LENGTH: Limits = limits!(1, 1000);
+
+const REPORT_TEXT: Kind = text!(REPORT_LENGTH, Line);
+
+/// One statement that the domain wasn't used, and one that the report is true (RFC 3915, 4.2.5).
+const STATEMENTS: Kind = texts!(limits!(2, 2), REPORT_LENGTH, Line);
+
+/// The identifier of a message (RFC 5730, 2.9.2.3).
+const MESSAGE_ID: Kind = text!(limits!(1, 300), Free);
+
 /// A whole number, of which its reader says which it may be.
 const NUMBER: Kind = Whole(ANY);
 
@@ -250,6 +312,8 @@ const NUMBER: Kind = Whole(ANY);
 const CMD: Field = must!(Top, Cmd, WORD);
 
 const OBJ: Field = must!(Top, Obj, WORD);
+
+const OP: Field = must!(Top, Op, WORD);
 
 /// The client's identifier of a command (RFC 5730, 2.5).
 pub const CL_TRID: Field = may!(Top, ClTrid, text!(limits!(3, 64), Printable));
@@ -261,8 +325,15 @@ macro_rules! members {
     };
 }
 
+/// The members of a command without `obj`: those of each, and its own.
+macro_rules! without_object {
+    ($($field:expr),* $(,)?) => {
+        &[CMD, CL_TRID, $($field),*]
+    };
+}
+
 /// What the caller's account has. It is on no object.
-const BALANCE: &[Field] = &[CMD, CL_TRID];
+const BALANCE: &[Field] = without_object![];
 
 /// RFC 5733, 3.1.1.
 const CHECK_CONTACT: &[Field] = members![must!(Top, Names, CHECKED_HANDLES)];
@@ -380,7 +451,41 @@ const RENEW_DOMAIN: &[Field] = members![
     may!(Top, Years, YEARS),
 ];
 
-/// The forms of the commands.
+/// RFC 3915, 4.2.5.
+const REQUEST_RESTORE: &[Field] = without_object![must!(Top, Name, NAME), OP];
+
+/// RFC 3915, 4.2.5. A moment has a rule of its own, as names have.
+const REPORT_RESTORE: &[Field] = without_object![
+    must!(Top, Name, NAME),
+    OP,
+    must!(Top, Pre, REPORT_TEXT),
+    must!(Top, Post, REPORT_TEXT),
+    must!(Top, DelTime, WORD),
+    must!(Top, ResTime, WORD),
+    must!(Top, Reason, REPORT_TEXT),
+    must!(Top, Statements, STATEMENTS),
+];
+
+const RESTORE: &[Field] = without_object![
+    must!(Top, Name, NAME),
+    OP,
+    may!(Top, Pre, REPORT_TEXT),
+    may!(Top, Post, REPORT_TEXT),
+    may!(Top, DelTime, WORD),
+    may!(Top, ResTime, WORD),
+    may!(Top, Reason, REPORT_TEXT),
+    may!(Top, Statements, STATEMENTS),
+];
+
+/// RFC 5730, 2.9.2.3.
+const POLL_REQUEST: &[Field] = without_object![OP];
+
+/// RFC 5730, 2.9.2.3.
+const POLL_ACK: &[Field] = without_object![OP, must!(Top, Id, MESSAGE_ID)];
+
+const POLL: &[Field] = without_object![OP, may!(Top, Id, MESSAGE_ID)];
+
+/// The forms of the commands. The first that fits is the one.
 pub const FORMS: &[CommandForm] = &[
     (plain!(Balance, Balance), BALANCE),
     (on!(Check, Contact, CheckContact), CHECK_CONTACT),
@@ -399,6 +504,12 @@ pub const FORMS: &[CommandForm] = &[
     (on!(Update, Domain, UpdateDomain), UPDATE_DOMAIN),
     (on!(Update, Host, UpdateHost), UPDATE_HOST),
     (on!(Renew, Domain, RenewDomain), RENEW_DOMAIN),
+    (by_op!(Restore, Request, RequestRestore), REQUEST_RESTORE),
+    (by_op!(Restore, Report, ReportRestore), REPORT_RESTORE),
+    (no_op!(Restore), RESTORE),
+    (by_op!(Poll, Req, PollRequest), POLL_REQUEST),
+    (by_op!(Poll, Ack, PollAck), POLL_ACK),
+    (no_op!(Poll), POLL),
 ];
 
 const ORDER: Field = must!(Top, Order, WORD);

@@ -15,13 +15,15 @@ use Rattle.protocol.specs.Codes.{number_of, message_of}
 use Rattle.protocol.specs.declared.reply.Reply.{Reply}
 use Rattle.protocol.specs.declared.reply.SvTrid.{SvTrid}
 use Rattle.protocol.specs.declared.reply.Data as the_data
-use Rattle.protocol.specs.declared.reply.Data.TheVariants.{Checked, Created, Balance, Renewed, Deleted, Contact, Domain, Host}
+use Rattle.protocol.specs.declared.reply.Data.TheVariants.{Checked, Created, Balance, Renewed, Deleted, Polled, Acked, Contact, Domain, Host}
 use Rattle.protocol.specs.declared.reply.CheckResult.{CheckResult}
 use Rattle.protocol.specs.declared.reply.Reason.{Reason}
 use Rattle.protocol.specs.declared.reply.Reason.TheVariants.{Policy, InUse}
 use Rattle.protocol.specs.declared.reply.Created as the_created
 use Rattle.protocol.specs.declared.reply.Renewed as the_renewed
 use Rattle.protocol.specs.declared.reply.Deleted as the_deleted
+use Rattle.protocol.specs.declared.reply.Polled as the_polled
+use Rattle.protocol.specs.Texts.{notice_text, object_text}
 use Rattle.protocol.specs.declared.reply.ContactInfo.{ContactInfo}
 use Rattle.protocol.specs.declared.reply.DomainInfo.{DomainInfo}
 use Rattle.protocol.specs.declared.reply.HostInfo.{HostInfo}
@@ -109,6 +111,26 @@ transfer_members t =
 
 abbrev pub transfer_value : TransferInfo → Data
 transfer_value t = object (members_with (transfer_members t))
+
+-- ---- poll (RFC 5730, 2.9.2.3)
+
+abbrev pub polled_members : the_polled.Polled → List (List ℕ × Option Data)
+polled_members p =
+    (codes "count", Some (number (unsigned p.count)))
+    ∷ (codes "id", Some (string p.id))
+    ∷ (codes "msg", Some (string (notice_text p.notice)))
+    ∷ (codes "name", Some (string p.name))
+    ∷ (codes "obj", Some (string (object_text p.kind)))
+    ∷ (codes "qDate", Some (moment_value p.queued)) ∷ []
+
+abbrev pub polled_value : the_polled.Polled → Data
+polled_value p = object (members_with (polled_members p))
+
+abbrev pub acked_members : ℕ → List (List ℕ × Option Data)
+acked_members count = (codes "count", Some (number (unsigned count))) ∷ []
+
+abbrev pub acked_value : ℕ → Data
+acked_value count = object (members_with (acked_members count))
 
 -- ---- info of a contact (RFC 5733, 3.1.2)
 
@@ -211,6 +233,8 @@ data_value (Created c) = created_value c
 data_value (Balance cents) = balance_value cents
 data_value (Renewed r) = renewed_value r
 data_value (Deleted d) = deleted_value d
+data_value (Polled p) = polled_value p
+data_value (Acked count) = acked_value count
 data_value (Contact c) = contact_value c
 data_value (Domain d) = domain_value d
 data_value (Host h) = host_value h

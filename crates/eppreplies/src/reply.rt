@@ -11,8 +11,8 @@ use crate::item::{Item, object, states};
 use calendar::Moment;
 use objects::{Deletion, Postal, Roid, TransferState};
 use protocol::{
-    CheckResult, ContactInfo, Created, Data, Deleted, DomainInfo, HostInfo, Reason, Renewed, Reply,
-    SvTrid, TransferInfo,
+    CheckResult, ContactInfo, Created, Data, Deleted, DomainInfo, HostInfo, Polled, Reason,
+    Renewed, Reply, SvTrid, TransferInfo, object_text,
 };
 use serde_json::Value;
 use std::alloc::{AllocError, Global};
@@ -62,6 +62,8 @@ fn data_value(alloc: Global, content: &Data) -> Result<Value, AllocError>
         Data::Balance(cents) => balance_value(alloc, *cents),
         Data::Renewed(renewed) => renewed_value(alloc, renewed),
         Data::Deleted(deleted) => deleted_value(alloc, deleted),
+        Data::Polled(polled) => polled_value(alloc, polled),
+        Data::Acked(count) => acked_value(alloc, *count),
         Data::Contact(info) => contact_value(alloc, info),
         Data::Domain(info) => domain_value(alloc, info),
         Data::Host(info) => host_value(alloc, info),
@@ -352,6 +354,29 @@ fn transfer_value(alloc: Global, info: &TransferInfo) -> Result<Value, AllocErro
         ("status", Item::Word(state_text(transfer.state))),
     ]?;
     object(alloc, members)
+}
+
+fn polled_value(alloc: Global, polled: &Polled) -> Result<Value, AllocError>
+    ensures { IfOk result (λ v. view v ≡ spec.polled_value polled.now) }
+{
+    let members = vec![in alloc;
+        ("count", Item::Given(Value::from(polled.count))),
+        ("id", Item::Text(&polled.id)),
+        ("msg", Item::Word(polled.notice.text())),
+        ("name", Item::Text(&polled.name)),
+        ("obj", Item::Word(object_text(polled.kind))),
+        ("qDate", Item::Time(polled.queued)),
+    ]?;
+    object(alloc, members)
+}
+
+fn acked_value(alloc: Global, count: u64) -> Result<Value, AllocError>
+    ensures { IfOk result (λ v. view v ≡ spec.acked_value count) }
+{
+    object(
+        alloc,
+        vec![in alloc; ("count", Item::Given(Value::from(count)))]?,
+    )
 }
 
 fn state_text(state: TransferState) -> &'static str

@@ -1,10 +1,12 @@
 -- The facts of a registry that bear on a command of a registrar.
 use Rattle.std.specs.Prelude.{ℕ, Bool, false, ◌&&◌, nat_le, ℤ, pos, List, [], map, filter, length, Option, Some, None, option_map, option_and_then, is_some, find, if◌then◌else◌}
 use Rattle.std.specs.FinMap.{get, keys, values}
-use Rattle.std.specs.List.{list_any}
+use Rattle.std.specs.List.{list_any, slice_get}
 use Rattle.std.specs.Str.{bytes_eq}
 use Rattle.accounts.specs.declared.account.Account.{Account}
+use Rattle.accounts.specs.declared.message.Message.{Message}
 use Rattle.accounts.specs.Lines.{balance}
+use Rattle.accounts.specs.Messages.{message_id}
 use Rattle.lifecycle.specs.declared.refund.GivenBack.{GivenBack}
 use Rattle.lifecycle.specs.Refunds.{given_back, nothing, refund_at}
 use Rattle.names.specs.GivenName.{name_of}
@@ -26,12 +28,14 @@ use Rattle.facts.specs.declared.facts.AccountFacts.{AccountFacts}
 use Rattle.facts.specs.declared.facts.ContactFacts.{ContactFacts}
 use Rattle.facts.specs.declared.facts.DomainFacts.{DomainFacts}
 use Rattle.facts.specs.declared.facts.HostFacts.{HostFacts}
+use Rattle.facts.specs.declared.facts.OldestMessage.{OldestMessage}
+use Rattle.facts.specs.declared.facts.QueueFacts.{QueueFacts}
 use Rattle.facts.specs.declared.facts.Superordinate.{Superordinate}
 use Rattle.facts.specs.declared.facts.Facts.{Facts}
 use Rattle.facts.specs.declared.facts.TheConstants.{HOLDING_LIMIT}
 use Rattle.model.specs.Registry.{Registry, account_of}
 use Rattle.model.specs.View.{domain_sight}
-use Rattle.protocol.specs.Requests.{adds_a_held_domain, asked, contacts_asked, domains_asked, hosts_asked, new_host_asked, presented, presented_contact, reads_associations, reads_balance, reads_refund, references_fail}
+use Rattle.protocol.specs.Requests.{adds_a_held_domain, asked, contacts_asked, domains_asked, hosts_asked, new_host_asked, presented, presented_contact, reads_associations, reads_balance, reads_oldest_message, reads_refund, references_fail}
 
 -- ---- what is found in a registry
 
@@ -95,6 +99,20 @@ balance_asked c a = if asked false reads_balance c then balance a.lines else pos
 abbrev pub account_facts : Command → Account → AccountFacts
 account_facts c a = record { commands = a.commands; serial = a.serial; balance = balance_asked c a }
 
+-- the message that a poll shows (RFC 5730, 2.9.2.3)
+abbrev pub oldest_message : Message → OldestMessage
+oldest_message m = record { id = message_id m; message = m }
+
+abbrev pub queue_known : List Message → QueueFacts
+queue_known queue = record { oldest = option_map oldest_message (slice_get queue 0); waiting = length queue }
+
+abbrev pub no_queue : QueueFacts
+no_queue = record { oldest = None; waiting = 0 }
+
+-- what waits for the account, where the command has to know it
+abbrev pub queue_asked : Command → Account → QueueFacts
+queue_asked c a = if asked false reads_oldest_message c then queue_known a.queue else no_queue
+
 abbrev pub contact_facts : Lookups → Command → List ℕ → ContactFacts
 contact_facts found c name = record {
   name = name;
@@ -133,6 +151,7 @@ host_facts found c name = record {
 abbrev pub facts_by : Lookups → Command → Facts
 facts_by found c = record {
   account = account_facts c found.account;
+  queue = queue_asked c found.account;
   contacts = map (contact_facts found c) (asked [] contacts_asked c);
   domains = map (λ name. domain_facts found c (name_of name)) (asked [] domains_asked c);
   hosts = map (λ name. host_facts found c (name_of name)) (asked [] hosts_asked c);

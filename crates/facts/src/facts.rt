@@ -1,17 +1,18 @@
 //! What a command is judged by.
-ghost use Rattle.std.specs.Prelude.{◌≡◌, is_some};
+ghost use Rattle.std.specs.Prelude.{◌≡◌, IfOk, is_some};
 ghost use Rattle.std.specs.Option.{option_copied};
 ghost use Rattle.accounts.specs.Account.{saturating_next};
 ghost use Rattle.facts.specs.Facts as spec;
 
 use crate::lists::{Named, find_named};
-use accounts::saturating_next;
+use accounts::{Message, Queue, saturating_next};
 use basis::list::Seq;
 use basis::registrar::RegistrarNo;
 use basis::text::Text;
 use lifecycle::GivenBack;
 use names::Zone;
 use objects::{Contact, ContactFace, DomainFace, FullDomain, Host, Seen};
+use std::alloc::{AllocError, Global};
 
 /// A registrar that holds so many domains gets no other (RFC 5730, 3, code 2308).
 pub const HOLDING_LIMIT: usize = 1_000_000;
@@ -39,6 +40,60 @@ impl AccountFacts {
     {
         saturating_next(self.commands)
     }
+}
+
+/// The message that a poll shows, with its identifier.
+#[derive(Drop)]
+pub struct OldestMessage {
+    pub id: Text,
+    pub message: Message,
+}
+
+/// What waits for the caller, where the command asks.
+#[derive(Drop)]
+pub struct QueueFacts {
+    pub oldest: Option<OldestMessage>,
+    /// How many messages wait.
+    pub waiting: u64,
+}
+
+impl QueueFacts {
+    /// Where the command doesn't ask.
+    pub fn none() -> QueueFacts
+        ensures { result ≡ spec.no_queue }
+    {
+        QueueFacts {
+            oldest: None,
+            waiting: 0,
+        }
+    }
+
+    /// What waits in a queue.
+    pub fn of(alloc: Global, queue: &Queue) -> Result<QueueFacts, AllocError>
+        ensures { IfOk result (λ known. known ≡ spec.queue_known queue.now) }
+    {
+        let waiting = queue.waiting() as u64;
+        match queue.oldest() {
+            None => Ok(QueueFacts {
+                oldest: None,
+                waiting,
+            }),
+            Some(message) => Ok(QueueFacts {
+                oldest: Some(oldest_message(alloc, message)?),
+                waiting,
+            }),
+        }
+    }
+}
+
+fn oldest_message(alloc: Global, message: &Message) -> Result<OldestMessage, AllocError>
+    ensures { IfOk result (λ oldest. oldest ≡ spec.oldest_message message.now) }
+{
+    let id = message.id(alloc)?;
+    Ok(OldestMessage {
+        id,
+        message: message.clone()?,
+    })
 }
 
 /// What the caller sees at a contact's name, and whether a domain names it, where the command asks.
@@ -80,6 +135,7 @@ pub struct HostFacts {
 #[derive(Drop)]
 pub struct Facts {
     pub account: AccountFacts,
+    pub queue: QueueFacts,
     pub contacts: Seq<ContactFacts>,
     pub domains: Seq<DomainFacts>,
     pub hosts: Seq<HostFacts>,

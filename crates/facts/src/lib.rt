@@ -6,7 +6,8 @@ mod facts;
 mod lists;
 
 pub use facts::{
-    AccountFacts, ContactFacts, DomainFacts, Facts, HOLDING_LIMIT, HostFacts, Superordinate,
+    AccountFacts, ContactFacts, DomainFacts, Facts, HOLDING_LIMIT, HostFacts, OldestMessage,
+    QueueFacts, Superordinate,
 };
 pub use lists::{
     Named, adds_what_is_there, amended_names, count_kept, has_status_twice, has_twice, is_over,

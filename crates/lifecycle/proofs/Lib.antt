@@ -6,3 +6,4 @@ pub mod DueLaws
 pub mod ContactLaws
 pub mod GraceLaws
 pub mod RefundLaws
+pub mod RestorationLemmas

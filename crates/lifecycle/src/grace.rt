@@ -14,7 +14,7 @@ use objects::{Domain, Graces, Roid, Standing};
 use policy::{Period, Policy};
 
 /// The grace that a charge begins.
-fn period_of(kind: LineKind) -> Option<Period>
+pub fn period_of(kind: LineKind) -> Option<Period>
     ensures { result ≡ spec.period_of kind }
 {
     match kind {

@@ -15,13 +15,15 @@ mod lapsed;
 mod period;
 mod refund;
 mod renewal;
+mod restoration;
 
 pub use change::{AccountChange, Notification, RunningRefund, change_account};
 pub use contact::lapse_contact;
 pub use deletion::phase;
 pub use domain::lapse;
 pub use due::{contact_due_at, contact_due_by, due_at, due_by};
-pub use grace::{graces, runs, standing};
+pub use grace::{graces, period_of, runs, standing};
 pub use lapsed::Lapsed;
 pub use period::{end_of, is_within};
 pub use refund::{GivenBack, given_back};
+pub use restoration::years_to_outlast;

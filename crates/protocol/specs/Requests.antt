@@ -15,7 +15,7 @@ use Rattle.protocol.specs.declared.command.DomainLists.{DomainLists}
 use Rattle.protocol.specs.declared.command.HostLists.{HostLists}
 use Rattle.protocol.specs.declared.command.HostUpdate.{HostUpdate}
 use Rattle.protocol.specs.declared.command.Request.{Request}
-use Rattle.protocol.specs.declared.command.Request.TheVariants.{Balance, CheckContact, CheckDomain, CheckHost, InfoContact, InfoDomain, InfoHost, CreateContact, CreateDomain, CreateHost, DeleteContact, DeleteDomain, DeleteHost, UpdateContact, UpdateDomain, UpdateHost, RenewDomain}
+use Rattle.protocol.specs.declared.command.Request.TheVariants.{Balance, CheckContact, CheckDomain, CheckHost, InfoContact, InfoDomain, InfoHost, CreateContact, CreateDomain, CreateHost, DeleteContact, DeleteDomain, DeleteHost, UpdateContact, UpdateDomain, UpdateHost, RenewDomain, RequestRestore, ReportRestore, PollRequest, PollAck}
 
 -- a test of what is there, if it is
 abbrev pub holds_of : {A : Type 0} → (A → Bool) → Option A → Bool
@@ -57,8 +57,10 @@ of_host lists = record no_lists { addresses = lists.addresses; statuses = lists.
 -- registrant that a domain is to have, what its object is to have and to have no longer, the secret
 -- that is presented for it, whether the command has to know what domains name and which hosts lie
 -- below one, whether it gives its registrar one domain more to hold, whether it has to know what its
--- registrar's account has, and what of it is given back where its domain is deleted, for how many
--- years it charges, and when it takes its domain to expire.
+-- registrar's account has, what of it is given back where its domain is deleted, and which message to
+-- its registrar is the oldest and how many wait, which years it names, when it takes its domain to
+-- expire, when it reports that its domain was deleted, and that the restoration was asked for, and which
+-- message it says was read.
 pub record Asks : Type 0 where
   pub action : Action
   pub contacts : List (List ℕ)
@@ -73,8 +75,12 @@ pub record Asks : Type 0 where
   pub adds_a_held_domain : Bool
   pub reads_balance : Bool
   pub reads_refund : Bool
+  pub reads_oldest_message : Bool
   pub years : ℕ
   pub expires : Option (List ℕ)
+  pub del_time : Option ℕ
+  pub res_time : Option ℕ
+  pub message : Option (List ℕ)
 
 abbrev only : Action → Asks
 only action = record {
@@ -91,8 +97,12 @@ only action = record {
   adds_a_held_domain = false;
   reads_balance = false;
   reads_refund = false;
+  reads_oldest_message = false;
   years = 0;
   expires = None;
+  del_time = None;
+  res_time = None;
+  message = None;
 }
 
 -- Info shows, and a delete is refused by, what hangs on the object (RFC 5731 to 5733, 3.1.2, 3.2.2).
@@ -137,6 +147,15 @@ asks_of (UpdateHost update) = record (only actions.Update) {
   removes = of_host update.rem;
 }
 asks_of (RenewDomain name expires years) = record (only actions.Renew) { domains = name ∷ []; reads_balance = true; years = years; expires = Some expires }
+asks_of (RequestRestore name) = record (only actions.RequestRestore) { domains = name ∷ [] }
+asks_of (ReportRestore name del_time res_time) = record (only actions.ReportRestore) {
+  domains = name ∷ [];
+  reads_balance = true;
+  del_time = Some del_time;
+  res_time = Some res_time;
+}
+asks_of PollRequest = record (only actions.PollRequest) { reads_oldest_message = true }
+asks_of (PollAck id) = record (only actions.PollAck) { reads_oldest_message = true; message = Some id }
 
 abbrev pub contacts_asked : Request → List (List ℕ)
 contacts_asked request = (asks_of request).contacts
@@ -162,6 +181,9 @@ reads_balance request = (asks_of request).reads_balance
 
 abbrev pub reads_refund : Request → Bool
 reads_refund request = (asks_of request).reads_refund
+
+abbrev pub reads_oldest_message : Request → Bool
+reads_oldest_message request = (asks_of request).reads_oldest_message
 
 -- a contact or host that a domain is to name from now on fails its test
 abbrev pub any_reference_fails : (List ℕ → Bool) → (List ℕ → Bool) → Asks → Bool

@@ -7,6 +7,7 @@ use crate::form::FormFault;
 use crate::years::Years;
 use basis::list::Seq;
 use basis::text::Text;
+use calendar::Moment;
 use names::GivenName;
 use objects::{Postal, Status};
 use std::slice;
@@ -36,6 +37,10 @@ pub enum Action {
     Delete,
     Update,
     Renew,
+    RequestRestore,
+    ReportRestore,
+    PollRequest,
+    PollAck,
 }
 
 /// What a well formed command asks for.
@@ -99,6 +104,25 @@ pub enum Request {
         /// The date on which it expires now, `YYYY-MM-DD`.
         expires: Text,
         years: Years,
+    },
+    /// A deleted domain is to come back (RFC 3915, 4.2.5, `request`).
+    RequestRestore {
+        name: GivenName,
+    },
+    /// The report on a domain that is to come back (RFC 3915, 4.2.5, `report`). What else it says was
+    /// looked at and isn't kept.
+    ReportRestore {
+        name: GivenName,
+        /// When the domain was deleted.
+        del_time: Moment,
+        /// When its restoration was asked for.
+        res_time: Moment,
+    },
+    /// The oldest message (RFC 5730, 2.9.2.3, `req`).
+    PollRequest,
+    /// A message was read (RFC 5730, 2.9.2.3, `ack`).
+    PollAck {
+        id: Text,
     },
 }
 
@@ -203,6 +227,10 @@ impl Request {
                 Action::Update
             }
             Request::RenewDomain { .. } => Action::Renew,
+            Request::RequestRestore { .. } => Action::RequestRestore,
+            Request::ReportRestore { .. } => Action::ReportRestore,
+            Request::PollRequest => Action::PollRequest,
+            Request::PollAck { .. } => Action::PollAck,
         }
     }
 
@@ -231,6 +259,8 @@ impl Request {
             Request::DeleteDomain { name } => slice::from_ref(name),
             Request::UpdateDomain(update) => slice::from_ref(&update.name),
             Request::RenewDomain { name, .. } => slice::from_ref(name),
+            Request::RequestRestore { name } => slice::from_ref(name),
+            Request::ReportRestore { name, .. } => slice::from_ref(name),
             _ => &[],
         }
     }
@@ -270,7 +300,7 @@ impl Request {
         }
     }
 
-    /// For how many years it charges, none for most.
+    /// The years that it names, none for most.
     pub fn years(&self) -> u32
         ensures { result ≡ (spec.asks_of self.now).years }
     {
@@ -287,6 +317,36 @@ impl Request {
     {
         match self {
             Request::RenewDomain { expires, .. } => Some(expires),
+            _ => None,
+        }
+    }
+
+    /// When its domain was deleted, as it reports.
+    pub fn del_time(&self) -> Option<Moment>
+        ensures { result ≡ (spec.asks_of self.now).del_time }
+    {
+        match self {
+            Request::ReportRestore { del_time, .. } => Some(*del_time),
+            _ => None,
+        }
+    }
+
+    /// When the restoration of its domain was asked for, as it reports.
+    pub fn res_time(&self) -> Option<Moment>
+        ensures { result ≡ (spec.asks_of self.now).res_time }
+    {
+        match self {
+            Request::ReportRestore { res_time, .. } => Some(*res_time),
+            _ => None,
+        }
+    }
+
+    /// The message that was read.
+    pub fn message(&self) -> Option<&Text>
+        ensures { option_copied result ≡ (spec.asks_of self.now).message }
+    {
+        match self {
+            Request::PollAck { id } => Some(id),
             _ => None,
         }
     }
@@ -330,8 +390,18 @@ impl Request {
     {
         matches!(
             self,
-            Request::Balance | Request::CreateDomain(_) | Request::RenewDomain { .. }
+            Request::Balance
+                | Request::CreateDomain(_)
+                | Request::RenewDomain { .. }
+                | Request::ReportRestore { .. }
         )
+    }
+
+    /// Whether it has to know the oldest message to the registrar, and how many wait.
+    fn reads_oldest_message(&self) -> bool
+        ensures { result ≡ spec.reads_oldest_message self.now }
+    {
+        matches!(self, Request::PollRequest | Request::PollAck { .. })
     }
 
     /// Whether it has to know what is given back where its domain is deleted.
@@ -452,6 +522,16 @@ impl Command {
         match self {
             Command::Bad { .. } => false,
             Command::Asked { request, .. } => request.reads_balance(),
+        }
+    }
+
+    /// Whether it has to know the oldest message to the registrar, and how many wait.
+    pub fn reads_oldest_message(&self) -> bool
+        ensures { result ≡ spec.asked false spec.reads_oldest_message self.now }
+    {
+        match self {
+            Command::Bad { .. } => false,
+            Command::Asked { request, .. } => request.reads_oldest_message(),
         }
     }
 

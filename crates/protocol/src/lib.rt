@@ -6,6 +6,7 @@ mod code;
 mod command;
 mod form;
 mod lists;
+mod notice;
 mod order;
 mod reply;
 mod years;
@@ -17,9 +18,10 @@ pub use command::{
 };
 pub use form::FormFault;
 pub use lists::{Lists, MOST_ADDRESSES, MOST_CONTACTS, MOST_HOSTS};
+pub use notice::{Notice, object_text};
 pub use order::{Order, StatusOrder};
 pub use reply::{
     CheckResult, ContactHidden, ContactInfo, Created, Data, Deleted, DomainHidden, DomainInfo,
-    HostInfo, Reason, Renewed, Reply, SvTrid, TransferInfo,
+    HostInfo, Polled, Reason, Renewed, Reply, SvTrid, TransferInfo,
 };
 pub use years::Years;

@@ -1,10 +1,11 @@
 //! What a reply says, as plain records.
 
 use crate::code::Code;
+use crate::notice::Notice;
 use basis::list::Seq;
 use basis::text::Text;
 use calendar::Moment;
-use objects::{ContactFace, Deletion, DomainFace, HostFace, Postal, Transfer};
+use objects::{ContactFace, Deletion, DomainFace, HostFace, ObjectKind, Postal, Transfer};
 
 /// A reply to a command.
 #[derive(Drop)]
@@ -34,6 +35,10 @@ pub enum Data {
     Renewed(Renewed),
     /// A domain.
     Deleted(Deleted),
+    /// The oldest message.
+    Polled(Polled),
+    /// How many messages are left.
+    Acked(u64),
     Contact(ContactInfo),
     Domain(DomainInfo),
     Host(HostInfo),
@@ -80,6 +85,20 @@ pub struct Deleted {
     pub name: Text,
     /// What was given back, in whole cents.
     pub refund: u128,
+}
+
+/// A message to a registrar, the oldest that waits.
+#[derive(Drop)]
+pub struct Polled {
+    pub id: Text,
+    pub notice: Notice,
+    /// The object that it is about.
+    pub kind: ObjectKind,
+    pub name: Text,
+    /// When it was put down.
+    pub queued: Moment,
+    /// How many messages wait, this one too.
+    pub count: u64,
 }
 
 /// What info tells of a contact.

@@ -188,10 +188,10 @@ module _ (p : PolicyRules) (r : ℕ) (cl_trid : Option (List ℕ)) (s : Registry
         (λ n x at same. absurd (ungiven kinds.Contact request kinds.Contact x.roid (is.contacts n x at).roid same))
 
     pub kept-new-domain : (new : NewDomain) → let f : Facts = facts p r (Asked cl_trid (requests.CreateDomain new)) s in f.reference_missing ≡ false
-        → IsRegistry p (changed_all p (PutDomain (new_domain r s.clock f new) ∷ Give r TakeSerial ∷ charge lines.Create p r s.clock (new_roid kinds.Domain r f) (requests.CreateDomain new) ∷ []) after_count)
+        → IsRegistry p (changed_all p (PutDomain (new_domain r s.clock f new) ∷ Give r TakeSerial ∷ charge lines.Create p r s.clock (new_roid kinds.Domain r f) (requests.CreateDomain new) f ∷ []) after_count)
     kept-new-domain new linked =
         let request : Request = requests.CreateDomain new in
-        kept-charged (charge_line lines.Create p s.clock (given kinds.Domain request) request)
+        kept-charged (charge_line lines.Create p s.clock (given kinds.Domain request) request (facts p r (Asked cl_trid request) s))
         (changed_all p (PutDomain (new_domain r s.clock (facts p r (Asked cl_trid request) s) new) ∷ Give r TakeSerial ∷ []) after_count)
         (put-domain p numbered_too kept-numbered (name_of new.name) (new_domain r s.clock (facts p r (Asked cl_trid request) s) new)
         (record {
@@ -291,17 +291,17 @@ module _ (p : PolicyRules) (r : ℕ) (cl_trid : Option (List ℕ)) (s : Registry
   asked_renewal name expires years = Asked cl_trid (requests.RenewDomain name expires years)
 
   pub kept-renewal : (name : GivenName) (expires : List ℕ) (years : ℕ)
-      → IsRegistry p (changed_all p (renewal_changes p r s.clock (requests.RenewDomain name expires years) (domain_seen (facts p r (Asked cl_trid (requests.RenewDomain name expires years)) s) (name_of name))) after_count)
+      → IsRegistry p (changed_all p (renewal_changes p r s.clock (requests.RenewDomain name expires years) (facts p r (Asked cl_trid (requests.RenewDomain name expires years)) s) (domain_seen (facts p r (Asked cl_trid (requests.RenewDomain name expires years)) s) (name_of name))) after_count)
   kept-renewal name expires years = by (domain_seen (facts p r (asked_renewal name expires years) s) (name_of name)) (ap (option_and_then (λ known. known.seen)) (at-itself (name_of name) (domain_facts (lookups p r (asked_renewal name expires years) s) (asked_renewal name expires years) (name_of name))))
     where
-      by : (seen : Option (Seen FullDomain DomainFace)) → seen ≡ option_map (domain_sight p r s None) (get s.domains (name_of name)) → IsRegistry p (changed_all p (renewal_changes p r s.clock (requests.RenewDomain name expires years) seen) after_count)
+      by : (seen : Option (Seen FullDomain DomainFace)) → seen ≡ option_map (domain_sight p r s None) (get s.domains (name_of name)) → IsRegistry p (changed_all p (renewal_changes p r s.clock (requests.RenewDomain name expires years) (facts p r (asked_renewal name expires years) s) seen) after_count)
       by None e = kept-counted
       by (Some (Full known)) e =
           let d : Domain = known.domain in
           let at : get s.domains (name_of name) ≡ Some d = domain-full p r s None (get s.domains (name_of name)) known (sym e) in
           let new : Domain = renewed_domain s.clock years d in
           let k = kept-counted.domains (name_of name) d at in
-          kept-charged (charge_line lines.Renew p s.clock d.roid (requests.RenewDomain name expires years)) (changed_all p (PutDomain new ∷ []) after_count)
+          kept-charged (charge_line lines.Renew p s.clock d.roid (requests.RenewDomain name expires years) (facts p r (asked_renewal name expires years) s)) (changed_all p (PutDomain new ∷ []) after_count)
           (kept-put-domain p after_count kept-counted (name_of name) d new at refl
           (domain-updated p after_count (name_of name) d new.years (Some s.clock) d.statuses d.secret d.links (omega arith) k.contacts k.hosts k))
       by (Some (TransferParty face transfer)) e = kept-counted

@@ -9,6 +9,7 @@ pub mod StandInLemmas
 pub mod CommandLemmas
 pub mod BelowLemmas
 pub mod DeletionLemmas
+pub mod RestoreLemmas
 pub mod WellFormedLemmas
 pub mod MeetingLemmas
 pub mod IsolationLemmas

@@ -19,8 +19,9 @@ use Rattle.objects.specs.declared.sight.Seen.TheVariants.{Full, TransferParty, P
 use Rattle.objects.specs.Graces.{no_graces}
 use Rattle.policy.specs.Rules.{PolicyRules}
 use Rattle.rules.specs.declared.change.Change.{Change}
+use Rattle.rules.specs.declared.change.Change.TheVariants.{PutDomain}
 use Rattle.rules.specs.Changes.{with_account}
-use Rattle.rules.specs.Decisions.{changes_after, changes_of, contact_changes, deleted_domain, deletion_at, deletion_changes, domain_changes, ending, host_changes, new_domain, renaming, renewal_changes, renewed_domain, updated_domain, updated_host}
+use Rattle.rules.specs.Decisions.{changes_after, changes_of, contact_changes, deleted_domain, deletion_at, deletion_changes, domain_changes, ending, host_changes, new_domain, renaming, renewal_changes, renewed_domain, report_changes, restore_changes, restored_domain, restoring_domain, updated_domain, updated_host}
 use Rattle.rules.specs.Steps.{decision}
 use Rattle.rules.proofs.CommandLemmas.{at-itself, domain-full}
 use Rattle.rules.proofs.SightLemmas.{graces-seen, sponsor-seen}
@@ -34,6 +35,7 @@ use Rattle.protocol.specs.declared.command.Request.{Request}
 use Rattle.protocol.specs.declared.command.Request.TheVariants as requests
 use Rattle.protocol.specs.Codes.{is_accepted}
 use Rattle.facts.specs.declared.facts.DomainFacts.{DomainFacts}
+use Rattle.facts.specs.declared.facts.Facts.{Facts}
 use Rattle.facts.specs.Facts.{contact_seen, domain_at, domain_facts, domain_seen, facts, host_seen, lookups}
 use Rattle.model.specs.Registry.{Registry, account_of}
 use Rattle.lifecycle.specs.Graces.{graces}
@@ -116,10 +118,10 @@ module _ (p : PolicyRules) (r : ℕ) (cl_trid : Option (List ℕ)) (s : Registry
   abbrev asked_renewal : GivenName → List ℕ → ℕ → Command
   asked_renewal name expires years = Asked cl_trid (requests.RenewDomain name expires years)
 
-  meet-renewal : (name : GivenName) (expires : List ℕ) (years : ℕ) → AllMeet p r (renewal_changes p r s.clock (requests.RenewDomain name expires years) (domain_seen (facts p r (asked_renewal name expires years) s) (name_of name))) counted
+  meet-renewal : (name : GivenName) (expires : List ℕ) (years : ℕ) → AllMeet p r (renewal_changes p r s.clock (requests.RenewDomain name expires years) (facts p r (asked_renewal name expires years) s) (domain_seen (facts p r (asked_renewal name expires years) s) (name_of name))) counted
   meet-renewal name expires years = by (domain_seen (facts p r (asked_renewal name expires years) s) (name_of name)) (ap (option_and_then (λ known. known.seen)) (at-itself (name_of name) (domain_facts (lookups p r (asked_renewal name expires years) s) (asked_renewal name expires years) (name_of name))))
     where
-      by : (seen : Option (Seen FullDomain DomainFace)) → seen ≡ option_map (domain_sight p r s None) (get s.domains (name_of name)) → AllMeet p r (renewal_changes p r s.clock (requests.RenewDomain name expires years) seen) counted
+      by : (seen : Option (Seen FullDomain DomainFace)) → seen ≡ option_map (domain_sight p r s None) (get s.domains (name_of name)) → AllMeet p r (renewal_changes p r s.clock (requests.RenewDomain name expires years) (facts p r (asked_renewal name expires years) s) seen) counted
       by None e = tt
       by (Some (Full known)) e =
           let d : Domain = known.domain in
@@ -129,6 +131,39 @@ module _ (p : PolicyRules) (r : ℕ) (cl_trid : Option (List ℕ)) (s : Registry
           (put-again p r counted d (renewed_domain s.clock years d) there refl refl, (inl refl, tt))
       by (Some (TransferParty face transfer)) e = tt
       by (Some (Public face)) e = tt
+
+  -- a domain stands where it stood, which is the sponsor's, and was transferred when it was
+  own-put : (name : GivenName) (d after : Domain) → get s.domains (name_of name) ≡ Some d → after.name ≡ d.name → after.sponsor ≡ d.sponsor → graces_of p counted after ≡ graces_of p counted d
+      → Meets p r (PutDomain after) counted
+  own-put name d after found called sponsor alike =
+      let named : after.name ≡ name_of name = called ∙ (is.domains (name_of name) d found).named in
+      put-again p r counted d after (ap (λ (n : List ℕ). get s.domains n) named ∙ found) sponsor alike
+
+  meet-restore : (name : GivenName) → AllMeet p r (restore_changes s.clock (domain_seen (facts p r (Asked cl_trid (requests.RequestRestore name)) s) (name_of name))) counted
+  meet-restore name = by (domain_seen (facts p r (Asked cl_trid (requests.RequestRestore name)) s) (name_of name)) (ap (option_and_then (λ known. known.seen)) (at-itself (name_of name) (domain_facts (lookups p r (Asked cl_trid (requests.RequestRestore name)) s) (Asked cl_trid (requests.RequestRestore name)) (name_of name))))
+    where
+      by : (seen : Option (Seen FullDomain DomainFace)) → seen ≡ option_map (domain_sight p r s None) (get s.domains (name_of name)) → AllMeet p r (restore_changes s.clock seen) counted
+      by None e = tt
+      by (Some (Full known)) e = (own-put name known.domain (restoring_domain s.clock known.domain) (domain-full p r s None (get s.domains (name_of name)) known (sym e)) refl refl refl, tt)
+      by (Some (TransferParty face transfer)) e = tt
+      by (Some (Public face)) e = tt
+
+  abbrev asked_report : GivenName → ℕ → ℕ → Request
+  asked_report name del_time res_time = requests.ReportRestore name del_time res_time
+
+  abbrev facts_with : Request → Facts
+  facts_with q = facts p r (Asked cl_trid q) s
+
+  meet-report : (name : GivenName) (del_time res_time : ℕ)
+      → AllMeet p r (report_changes p r s.clock (asked_report name del_time res_time) (facts_with (asked_report name del_time res_time)) (domain_seen (facts_with (asked_report name del_time res_time)) (name_of name))) counted
+  meet-report name del_time res_time = by (asked_report name del_time res_time) (facts_with (asked_report name del_time res_time)) (domain_seen (facts_with (asked_report name del_time res_time)) (name_of name))
+      (ap (option_and_then (λ known. known.seen)) (at-itself (name_of name) (domain_facts (lookups p r (Asked cl_trid (asked_report name del_time res_time)) s) (Asked cl_trid (asked_report name del_time res_time)) (name_of name))))
+    where
+      by : (q : Request) (f : Facts) (seen : Option (Seen FullDomain DomainFace)) → seen ≡ option_map (domain_sight p r s None) (get s.domains (name_of name)) → AllMeet p r (report_changes p r s.clock q f seen) counted
+      by q f None e = tt
+      by q f (Some (Full known)) e = (own-put name known.domain (restored_domain s.clock known.domain) (domain-full p r s None (get s.domains (name_of name)) known (sym e)) refl refl refl, (inl refl, tt))
+      by q f (Some (TransferParty face transfer)) e = tt
+      by q f (Some (Public face)) e = tt
 
   abbrev asked_deletion : GivenName → Command
   asked_deletion name = Asked cl_trid (requests.DeleteDomain name)
@@ -169,6 +204,10 @@ module _ (p : PolicyRules) (r : ℕ) (cl_trid : Option (List ℕ)) (s : Registry
   meets (requests.UpdateDomain u) = meet-domain u
   meets (requests.UpdateHost u) = meet-host p r s.clock u (host_seen (facts p r (Asked cl_trid (requests.UpdateHost u)) s) (name_of u.name)) counted
   meets (requests.RenewDomain name expires years) = meet-renewal name expires years
+  meets (requests.RequestRestore name) = meet-restore name
+  meets (requests.ReportRestore name del_time res_time) = meet-report name del_time res_time
+  meets requests.PollRequest = tt
+  meets (requests.PollAck id) = (inl refl, tt)
   meets (requests.CheckContact names) = tt
   meets (requests.CheckDomain names) = tt
   meets (requests.CheckHost names) = tt

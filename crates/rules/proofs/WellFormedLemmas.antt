@@ -1,6 +1,10 @@
 -- Each step of the rules keeps a registry well formed.
-use Rattle.std.proofs.Common.{◌≡◌, ℕ, ◌<◌, Bool, true, false, cond, List, [], Option, Some, None, inl, inr, refl, sym, subst}
+use Rattle.std.proofs.Common.{◌≡◌, ℕ, ◌<◌, Bool, true, false, cond, List, [], Option, Some, None, inl, inr, refl, sym, subst, arith}
 use Rattle.accounts.specs.Account.{with_command}
+use Rattle.lifecycle.specs.Changes.{with_acked}
+use Rattle.facts.specs.declared.facts.OldestMessage.{OldestMessage}
+use Rattle.rules.proofs.KeepingLemmas.{kept-account}
+use Rattle.verdict.specs.Poll.{code_of_poll}
 use Rattle.policy.specs.Rules.{PolicyRules, IsRegistrar}
 use Rattle.rules.specs.declared.change.Change.{Change}
 use Rattle.rules.specs.Changes.{changed_all, with_account}
@@ -8,13 +12,14 @@ use Rattle.rules.specs.Decisions.{changes_after, changes_of}
 use Rattle.rules.specs.Steps.{effect}
 use Rattle.rules.proofs.CommandLemmas.{kept-contact-deletion, kept-contact-update, kept-counted, kept-domain-update, kept-host-deletion, kept-host-update, kept-renewal, kept-new-contact, kept-new-domain, kept-new-host}
 use Rattle.rules.proofs.DeletionLemmas.{kept-domain-deletion}
+use Rattle.rules.proofs.RestoreLemmas.{kept-restore-report, kept-restore-request}
 use Rattle.verdict.proofs.RowLemmas.{refusing, unrefused}
 use Rattle.protocol.specs.declared.code.Code.{Code}
 use Rattle.protocol.specs.declared.code.Code.TheVariants.{Completed, CompletedActionPending}
 use Rattle.protocol.specs.declared.command.Command.{Command}
 use Rattle.protocol.specs.declared.command.Command.TheVariants.{Asked, Bad}
 use Rattle.protocol.specs.declared.command.Request.{Request}
-use Rattle.protocol.specs.declared.command.Request.TheVariants.{Balance, CheckContact, CheckDomain, CheckHost, InfoContact, InfoDomain, InfoHost, CreateContact, CreateDomain, CreateHost, DeleteContact, DeleteDomain, DeleteHost, UpdateContact, UpdateDomain, UpdateHost, RenewDomain}
+use Rattle.protocol.specs.declared.command.Request.TheVariants.{Balance, CheckContact, CheckDomain, CheckHost, InfoContact, InfoDomain, InfoHost, CreateContact, CreateDomain, CreateHost, DeleteContact, DeleteDomain, DeleteHost, UpdateContact, UpdateDomain, UpdateHost, RenewDomain, RequestRestore, ReportRestore, PollRequest, PollAck}
 use Rattle.verdict.specs.declared.rules.Condition.TheVariants.{ReferenceIsMissing}
 use Rattle.protocol.specs.Codes.{is_accepted}
 use Rattle.facts.specs.declared.facts.Facts.{Facts}
@@ -46,11 +51,16 @@ module _ (p : PolicyRules) (r : ℕ) (cl_trid : Option (List ℕ)) (s : Registry
   kept-accepted (UpdateContact u) taken = kept-contact-update p r cl_trid s place is u
   kept-accepted (UpdateDomain u) taken = kept-domain-update p r cl_trid s place is u taken
   kept-accepted (RenewDomain name expires years) taken = kept-renewal p r cl_trid s place is name expires years
+  kept-accepted (RequestRestore name) taken = kept-restore-request p r cl_trid s place is name
+  kept-accepted (ReportRestore name del_time res_time) taken = kept-restore-report p r cl_trid s place is name del_time res_time
+  kept-accepted PollRequest taken = kept-counted p r cl_trid s place is
+  kept-accepted (PollAck id) taken = kept-account p r (with_acked id) (λ a. omega arith) (with_account r with_command s) place (kept-counted p r cl_trid s place is)
   kept-accepted (UpdateHost u) taken = kept-host-update p r cl_trid s place is u taken
 
   -- a request that isn't refused is answered that it is carried out
   carried-out : (request : Request) (f : Facts) → is_accepted (code_granted request f) ≡ true
   carried-out (DeleteDomain name) f = elim (goes_at_once (domain_seen f (name_of name))) as (λ (b : Bool). is_accepted (cond b Completed CompletedActionPending) ≡ true) [ true ↦ refl | false ↦ refl ]
+  carried-out PollRequest f = elim f.queue.oldest as (λ (o : Option OldestMessage). is_accepted (code_of_poll o) ≡ true) [ None ↦ refl | Some oldest ↦ refl ]
   carried-out _ f = refl
 
   -- a refused command changes nothing but the caller's counter

@@ -1,16 +1,19 @@
 -- What a command is answered and what it changes, by the facts that bear on it.
-use Rattle.std.specs.Prelude.{ℕ, Bool, ◌+◌, ◌-◌, max, min, List, [], ◌∷◌, map, Option, Some, None, if◌then◌else◌}
+use Rattle.std.specs.Prelude.{ℕ, Bool, ◌+◌, ◌-◌, max, min, List, [], ◌∷◌, map, Option, Some, None, option_map, if◌then◌else◌}
 use Rattle.accounts.specs.Account.{saturating_next}
 use Rattle.accounts.specs.declared.line.Line.{Line}
 use Rattle.accounts.specs.declared.line.LineKind.{LineKind}
 use Rattle.accounts.specs.declared.line.LineKind.TheVariants as lines
-use Rattle.lifecycle.specs.declared.change.AccountChange.TheVariants.{Charge, CountCommand, RefundRunning, TakeSerial}
+use Rattle.lifecycle.specs.declared.change.AccountChange.TheVariants.{Ack, Charge, CountCommand, RefundRunning, TakeSerial}
+use Rattle.lifecycle.specs.Graces.{period_of}
 use Rattle.lifecycle.specs.Refunds.{refund_at}
+use Rattle.lifecycle.specs.Turns.{turns}
 use Rattle.names.specs.declared.given.GivenName.{GivenName}
 use Rattle.names.specs.GivenName.{name_of}
 use Rattle.names.specs.Zone.{ZoneRules}
 use Rattle.objects.specs.declared.contact.Contact.{Contact}
 use Rattle.objects.specs.declared.contact.ContactFace.{ContactFace}
+use Rattle.objects.specs.declared.domain.Deletion.{Deletion}
 use Rattle.objects.specs.declared.domain.Domain.{Domain}
 use Rattle.objects.specs.declared.domain.DomainFace.{DomainFace}
 use Rattle.objects.specs.declared.domain.FullDomain.{FullDomain}
@@ -46,7 +49,7 @@ use Rattle.protocol.specs.Requests.{asks_of, final_name}
 use Rattle.facts.specs.Facts.{is_inside, or_else}
 use Rattle.facts.specs.Facts.{contact_seen, domain_at, domain_seen, host_seen}
 use Rattle.facts.specs.Lists.{amended, itself}
-use Rattle.verdict.specs.Charges.{charge_of}
+use Rattle.verdict.specs.Charges.{charge_of, years_charged}
 use Rattle.verdict.specs.Deletion.{goes_at_once}
 use Rattle.verdict.specs.Verdicts.{judged}
 
@@ -107,22 +110,23 @@ new_host zone r t f new = record {
   addresses = in_order new.addresses;
 }
 
--- ---- charges: each adds its line, also one of nothing, and its grace begins at once (RFC 3915, 3.1)
+-- ---- charges: each adds its line, also one of nothing, and its grace, if it has one, begins at once
+-- (RFC 3915, 3.1)
 
 -- what a request charges for the domain with this identifier
-abbrev pub charge_line : LineKind → PolicyRules → ℕ → Roid → Request → Line
-charge_line kind p t roid q = record {
+abbrev pub charge_line : LineKind → PolicyRules → ℕ → Roid → Request → Facts → Line
+charge_line kind p t roid q f = record {
   kind = kind;
   roid = Some roid;
   recorded = t;
-  years = (asks_of q).years;
-  cents = charge_of p q;
-  started = Some t;
+  years = years_charged t q f;
+  cents = charge_of p t q f;
+  started = option_map (λ period. t) (period_of kind);
   refunded = None;
 }
 
-abbrev pub charge : LineKind → PolicyRules → ℕ → ℕ → Roid → Request → Change
-charge kind p r t roid q = Give r (Charge (charge_line kind p t roid q))
+abbrev pub charge : LineKind → PolicyRules → ℕ → ℕ → Roid → Request → Facts → Change
+charge kind p r t roid q f = Give r (Charge (charge_line kind p t roid q f))
 
 -- ---- updated objects: what isn't given stays
 
@@ -172,6 +176,18 @@ deleted_domain t given d = record d {
   deletion = Some (record { deleted = t; restore_requested = None });
 }
 
+-- its restoration is asked for, in place of an earlier request (RFC 3915, 4.2.5)
+abbrev pub restoring_domain : ℕ → Domain → Domain
+restoring_domain t d = record d {
+  updated = Some t;
+  deletion = option_map (λ (x : Deletion). record x { restore_requested = Some t }) d.deletion;
+}
+
+-- not deleted any more, and registered for the years more with which it expires after the moment
+-- (RFC 3915, 4.2.5)
+abbrev pub restored_domain : ℕ → Domain → Domain
+restored_domain t d = record d { years = d.years + turns d t; updated = Some t; deletion = None }
+
 -- the same after an update, which may rename the host
 abbrev pub external_sponsor_after : ZoneRules → ℕ → Option GivenName → Option ℕ → Option ℕ
 external_sponsor_after zone r None by = by
@@ -200,11 +216,24 @@ domain_changes t u (Some (Full known)) = PutDomain (updated_domain t u known.dom
 domain_changes t u (Some (TransferParty face transfer)) = []
 domain_changes t u (Some (Public face)) = []
 
-abbrev pub renewal_changes : PolicyRules → ℕ → ℕ → Request → Option (Seen FullDomain DomainFace) → List Change
-renewal_changes p r t q None = []
-renewal_changes p r t q (Some (Full known)) = PutDomain (renewed_domain t (asks_of q).years known.domain) ∷ charge lines.Renew p r t known.domain.roid q ∷ []
-renewal_changes p r t q (Some (TransferParty face transfer)) = []
-renewal_changes p r t q (Some (Public face)) = []
+abbrev pub renewal_changes : PolicyRules → ℕ → ℕ → Request → Facts → Option (Seen FullDomain DomainFace) → List Change
+renewal_changes p r t q f None = []
+renewal_changes p r t q f (Some (Full known)) = PutDomain (renewed_domain t (asks_of q).years known.domain) ∷ charge lines.Renew p r t known.domain.roid q f ∷ []
+renewal_changes p r t q f (Some (TransferParty face transfer)) = []
+renewal_changes p r t q f (Some (Public face)) = []
+
+abbrev pub restore_changes : ℕ → Option (Seen FullDomain DomainFace) → List Change
+restore_changes t None = []
+restore_changes t (Some (Full known)) = PutDomain (restoring_domain t known.domain) ∷ []
+restore_changes t (Some (TransferParty face transfer)) = []
+restore_changes t (Some (Public face)) = []
+
+-- the years that the domain needs are charged for
+abbrev pub report_changes : PolicyRules → ℕ → ℕ → Request → Facts → Option (Seen FullDomain DomainFace) → List Change
+report_changes p r t q f None = []
+report_changes p r t q f (Some (Full known)) = PutDomain (restored_domain t known.domain) ∷ charge lines.Restore p r t known.domain.roid q f ∷ []
+report_changes p r t q f (Some (TransferParty face transfer)) = []
+report_changes p r t q f (Some (Public face)) = []
 
 -- a domain that can be restored first stays
 abbrev pub ending : Bool → ℕ → DomainFacts → Domain → Change
@@ -235,7 +264,7 @@ unfoldable pub changes_of : PolicyRules → ℕ → ℕ → Request → Facts �
 changes_of p r t requests.Balance f = []
 changes_of p r t (requests.CreateContact new) f = PutContact (new_contact r t f new) ∷ Give r TakeSerial ∷ []
 changes_of p r t (requests.CreateDomain new) f =
-    PutDomain (new_domain r t f new) ∷ Give r TakeSerial ∷ charge lines.Create p r t (new_roid kinds.Domain r f) (requests.CreateDomain new) ∷ []
+    PutDomain (new_domain r t f new) ∷ Give r TakeSerial ∷ charge lines.Create p r t (new_roid kinds.Domain r f) (requests.CreateDomain new) f ∷ []
 changes_of p r t (requests.CreateHost new) f = PutHost (new_host p.zone r t f new) ∷ Give r TakeSerial ∷ []
 changes_of p r t (requests.DeleteContact name) f = DropContact name ∷ []
 changes_of p r t (requests.DeleteDomain name) f = deletion_at r t (domain_at f (name_of name))
@@ -243,7 +272,11 @@ changes_of p r t (requests.DeleteHost name) f = DropHost (name_of name) ∷ []
 changes_of p r t (requests.UpdateContact u) f = contact_changes t u (contact_seen f u.name)
 changes_of p r t (requests.UpdateDomain u) f = domain_changes t u (domain_seen f (name_of u.name))
 changes_of p r t (requests.UpdateHost u) f = host_changes p.zone r t u (host_seen f (name_of u.name))
-changes_of p r t (requests.RenewDomain name expires years) f = renewal_changes p r t (requests.RenewDomain name expires years) (domain_seen f (name_of name))
+changes_of p r t (requests.RenewDomain name expires years) f = renewal_changes p r t (requests.RenewDomain name expires years) f (domain_seen f (name_of name))
+changes_of p r t (requests.RequestRestore name) f = restore_changes t (domain_seen f (name_of name))
+changes_of p r t (requests.ReportRestore name del_time res_time) f = report_changes p r t (requests.ReportRestore name del_time res_time) f (domain_seen f (name_of name))
+changes_of p r t requests.PollRequest f = []
+changes_of p r t (requests.PollAck id) f = Give r (Ack id) ∷ []
 changes_of p r t (requests.CheckContact names) f = []
 changes_of p r t (requests.CheckDomain names) f = []
 changes_of p r t (requests.CheckHost names) f = []

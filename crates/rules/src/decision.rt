@@ -8,7 +8,8 @@ use crate::change::Change;
 use crate::charge::charge;
 use crate::created::{new_contact, new_domain, new_host, new_roid};
 use crate::updated::{
-    deleted_domain, renewed_domain, updated_contact, updated_domain, updated_host,
+    deleted_domain, renewed_domain, restored_domain, restoring_domain, updated_contact,
+    updated_domain, updated_host,
 };
 use accounts::LineKind;
 use basis::list::Seq;
@@ -172,12 +173,29 @@ fn accept(
         ),
         Request::RenewDomain { name, .. } => renew_domain(
             alloc,
+            facts,
             caller,
             request,
             facts.domain_seen(name.text()),
             moment,
             policy,
         ),
+        Request::RequestRestore { name } => {
+            request_restore(alloc, facts.domain_seen(name.text()), moment)
+        }
+        Request::ReportRestore { name, .. } => report_restore(
+            alloc,
+            facts,
+            caller,
+            request,
+            facts.domain_seen(name.text()),
+            moment,
+            policy,
+        ),
+        Request::PollAck { id } => {
+            let change = Change::Give(caller, AccountChange::Ack(id.clone()?));
+            Ok(vec![in alloc; change]?)
+        }
         _ => Ok(Vec::new(alloc)),
     }
 }
@@ -199,13 +217,21 @@ fn create_domain(
     moment: Moment,
     policy: &Policy,
 ) -> Result<Vec<Change>, AllocError>
-    ensures { IfOk result (λ changes. changes.items ≡ Change.PutDomain domain ∷ Change.Give caller AccountChange.TakeSerial ∷ spec.charge LineKind.Create policy.now caller moment (spec.new_roid ObjectKind.Domain caller facts.now) request.now ∷ []) }
+    ensures { IfOk result (λ changes. changes.items ≡ Change.PutDomain domain ∷ Change.Give caller AccountChange.TakeSerial ∷ spec.charge LineKind.Create policy.now caller moment (spec.new_roid ObjectKind.Domain caller facts.now) request.now facts.now ∷ []) }
 {
     let roid = new_roid(ObjectKind::Domain, facts, caller);
     Ok(vec![in alloc;
         Change::PutDomain(domain),
         Change::Give(caller, AccountChange::TakeSerial),
-        charge(LineKind::Create, caller, roid, request, moment, policy),
+        charge(
+            LineKind::Create,
+            caller,
+            roid,
+            request,
+            facts,
+            moment,
+            policy
+        ),
     ]?)
 }
 
@@ -246,13 +272,14 @@ fn ending(known: &DomainFacts, domain: &Domain, moment: Moment) -> Result<Change
 /// A domain is registered for longer, and that is charged for.
 fn renew_domain(
     alloc: Global,
+    facts: &Facts,
     caller: RegistrarNo,
     request: &Request,
     seen: Option<&Seen<FullDomain, DomainFace>>,
     moment: Moment,
     policy: &Policy,
 ) -> Result<Vec<Change>, AllocError>
-    ensures { IfOk result (λ changes. changes.items ≡ spec.renewal_changes policy.now caller moment request.now (option_copied seen.entry)) }
+    ensures { IfOk result (λ changes. changes.items ≡ spec.renewal_changes policy.now caller moment request.now facts.now (option_copied seen.entry)) }
 {
     match seen {
         Some(Seen::Full(known)) => {
@@ -262,10 +289,58 @@ fn renew_domain(
                 caller,
                 known.domain.roid,
                 request,
+                facts,
                 moment,
                 policy,
             );
             Ok(vec![in alloc; Change::PutDomain(renewed), line]?)
+        }
+        _ => Ok(Vec::new(alloc)),
+    }
+}
+
+/// The restoration of a deleted domain is asked for.
+fn request_restore(
+    alloc: Global,
+    seen: Option<&Seen<FullDomain, DomainFace>>,
+    moment: Moment,
+) -> Result<Vec<Change>, AllocError>
+    ensures { IfOk result (λ changes. changes.items ≡ spec.restore_changes moment (option_copied seen.entry)) }
+{
+    match seen {
+        Some(Seen::Full(known)) => {
+            let restoring = restoring_domain(&known.domain, moment)?;
+            Ok(vec![in alloc; Change::PutDomain(restoring)]?)
+        }
+        _ => Ok(Vec::new(alloc)),
+    }
+}
+
+/// A deleted domain is restored, and charged for the years that it needs.
+fn report_restore(
+    alloc: Global,
+    facts: &Facts,
+    caller: RegistrarNo,
+    request: &Request,
+    seen: Option<&Seen<FullDomain, DomainFace>>,
+    moment: Moment,
+    policy: &Policy,
+) -> Result<Vec<Change>, AllocError>
+    ensures { IfOk result (λ changes. changes.items ≡ spec.report_changes policy.now caller moment request.now facts.now (option_copied seen.entry)) }
+{
+    match seen {
+        Some(Seen::Full(known)) => {
+            let restored = restored_domain(&known.domain, moment)?;
+            let line = charge(
+                LineKind::Restore,
+                caller,
+                known.domain.roid,
+                request,
+                facts,
+                moment,
+                policy,
+            );
+            Ok(vec![in alloc; Change::PutDomain(restored), line]?)
         }
         _ => Ok(Vec::new(alloc)),
     }

@@ -1,5 +1,5 @@
 //! Updated objects: what an update doesn't give stays.
-ghost use Rattle.std.specs.Prelude.{◌≡◌, ◌-◌, IfOk};
+ghost use Rattle.std.specs.Prelude.{◌≡◌, ◌-◌, IfOk, Some, option_map};
 ghost use Rattle.std.specs.Option.{option_copied};
 ghost use Rattle.facts.specs.Facts.{or_else};
 ghost use Rattle.rules.specs.Decisions as spec;
@@ -9,6 +9,7 @@ use basis::registrar::RegistrarNo;
 use basis::text::{Text, copied};
 use calendar::Moment;
 use facts::amended_names;
+use lifecycle::years_to_outlast;
 use names::{GivenName, Zone};
 use objects::{Contact, Deletion, Domain, Host, Links, Postal, amended_statuses};
 use protocol::{ContactUpdate, DomainUpdate, HostUpdate};
@@ -176,6 +177,42 @@ pub(crate) fn deleted_domain(
         restore_requested: None,
     });
     Ok(deleted)
+}
+
+/// The deletion, with a restoration asked for at the moment.
+fn with_request(deletion: Option<Deletion>, moment: Moment) -> Option<Deletion>
+    ensures { result ≡ option_map (λ (x : Deletion). record x { restore_requested = Some moment }) deletion }
+{
+    match deletion {
+        None => None,
+        Some(deletion) => Some(Deletion {
+            deleted: deletion.deleted,
+            restore_requested: Some(moment),
+        }),
+    }
+}
+
+/// The domain, whose restoration is asked for at the moment.
+pub(crate) fn restoring_domain(domain: &Domain, moment: Moment) -> Result<Domain, AllocError>
+    ensures { IfOk result (λ restoring. restoring ≡ spec.restoring_domain moment domain.now) }
+{
+    let mut restoring = copy(domain)?;
+    restoring.updated = Some(moment);
+    restoring.deletion = with_request(domain.deletion, moment);
+    Ok(restoring)
+}
+
+/// The domain, not deleted any more, and registered for the years more with which it expires after
+/// the moment.
+pub(crate) fn restored_domain(domain: &Domain, moment: Moment) -> Result<Domain, AllocError>
+    ensures { IfOk result (λ restored. restored ≡ spec.restored_domain moment domain.now) }
+{
+    let years = years_to_outlast(domain, moment);
+    let mut restored = copy(domain)?;
+    restored.years = domain.years + years;
+    restored.updated = Some(moment);
+    restored.deletion = None;
+    Ok(restored)
 }
 
 fn copy(domain: &Domain) -> Result<Domain, AllocError>

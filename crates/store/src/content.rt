@@ -25,7 +25,8 @@ use basis::registrar::RegistrarNo;
 use basis::text::Text;
 use calendar::Moment;
 use facts::{
-    AccountFacts, ContactFacts, DomainFacts, Facts, HOLDING_LIMIT, HostFacts, Superordinate,
+    AccountFacts, ContactFacts, DomainFacts, Facts, HOLDING_LIMIT, HostFacts, QueueFacts,
+    Superordinate,
 };
 use lifecycle::{GivenBack, RunningRefund, given_back, standing};
 use model::Object;
@@ -90,6 +91,7 @@ impl Content {
     {
         Ok(Facts {
             account: self.account_facts(caller, command),
+            queue: self.queue_facts(caller, command)?,
             contacts: Seq::from_vec(self.contacts_for(caller, command, policy)?),
             domains: Seq::from_vec(self.domains_for(caller, command, policy)?),
             hosts: Seq::from_vec(self.hosts_for(command)?),
@@ -97,6 +99,19 @@ impl Content {
             reference_missing: self.reference_missing(command),
             holding_limit_reached: command.adds_a_held_domain() && self.holds_the_most(caller),
         })
+    }
+
+    /// What waits for the caller, where the command asks.
+    fn queue_facts(&self, caller: RegistrarNo, command: &Command) -> Result<QueueFacts, AllocError>
+        ensures { IfOk result (λ it. it ≡ facts.queue_asked command.now (account_of caller (registry_in self.now))) }
+    {
+        if !command.reads_oldest_message() {
+            return Ok(QueueFacts::none());
+        }
+        match self.accounts.copy(caller)? {
+            None => Ok(QueueFacts::none()),
+            Some(account) => QueueFacts::of(self.alloc, &account.queue),
+        }
     }
 
     fn contacts_for(

@@ -1,22 +1,33 @@
 -- The laws that the tables keep, row by row.
-use Rattle.std.proofs.Common.{◌≡◌, ℕ, ◌<◌, Bool, true, false, not, ◌&&◌, nat_lt, ℤ, pos, int_lt, ◌≤ℤ◌, inl, inr, List, Option, Some, None, Result, Ok, Err, IfOk, refl, sym, ap, subst, ◌∙◌, arith}
+use Rattle.std.proofs.Common.{◌≡◌, ℕ, ◌<◌, Bool, true, false, not, ◌&&◌, nat_lt, ℤ, pos, int_lt, ◌≤ℤ◌, inl, inr, List, Option, Some, None, option_and_then, Result, Ok, Err, IfOk, refl, sym, ap, subst, ◌∙◌, arith}
 use Rattle.std.proofs.lemmas.Bool.{and_cases, lt-ltb}
 use Rattle.std.proofs.lemmas.Int.{ints}
 use Rattle.policy.specs.Rules.{PolicyRules}
 use Rattle.facts.specs.declared.facts.Facts.{Facts}
+use Rattle.facts.specs.Facts.{domain_seen}
+use Rattle.lifecycle.specs.Turns.{turns}
+use Rattle.lifecycle.proofs.TurnLaws.{AreTurns, turns-are}
 use Rattle.names.specs.declared.given.GivenName.{GivenName}
+use Rattle.names.specs.GivenName.{name_of}
+use Rattle.objects.specs.declared.domain.Domain.{Domain}
+use Rattle.objects.specs.declared.domain.DomainFace.{DomainFace}
+use Rattle.objects.specs.declared.domain.FullDomain.{FullDomain}
+use Rattle.objects.specs.declared.grace.Phase.TheVariants.{Redemption, Restoring}
+use Rattle.objects.specs.declared.sight.Seen.{Seen}
+use Rattle.objects.specs.declared.sight.Seen.TheVariants.{Full, TransferParty, Public}
 use Rattle.objects.specs.declared.status.Status.TheVariants.{ClientDeleteProhibited, ClientRenewProhibited, ClientUpdateProhibited, PendingDelete, PendingTransfer, ServerDeleteProhibited, ServerRenewProhibited, ServerUpdateProhibited}
 use Rattle.protocol.specs.declared.code.Code.{Code}
 use Rattle.protocol.specs.declared.command.Action.TheVariants.{Create, Delete, Update, Renew}
+use Rattle.protocol.specs.declared.command.Action.TheVariants as actions
 use Rattle.protocol.specs.declared.command.Command.{Command}
 use Rattle.protocol.specs.declared.command.Command.TheVariants.{Bad, Asked}
 use Rattle.protocol.specs.declared.command.Request.{Request}
-use Rattle.protocol.specs.declared.command.Request.TheVariants.{InfoContact, InfoDomain, InfoHost, CreateContact, CreateDomain, CreateHost, DeleteContact, DeleteDomain, DeleteHost, UpdateContact, UpdateDomain, UpdateHost, RenewDomain}
+use Rattle.protocol.specs.declared.command.Request.TheVariants.{InfoContact, InfoDomain, InfoHost, CreateContact, CreateDomain, CreateHost, DeleteContact, DeleteDomain, DeleteHost, UpdateContact, UpdateDomain, UpdateHost, RenewDomain, RequestRestore, ReportRestore, PollAck}
 use Rattle.protocol.specs.Requests.{asks_of}
-use Rattle.verdict.specs.declared.rules.Condition.TheVariants.{IsThere, IsMissing, IsAnothers, SecretIsWrong, Shows, StillShows, IsLinked, HasSubordinates, LacksMoney}
+use Rattle.verdict.specs.declared.rules.Condition.TheVariants.{IsThere, IsMissing, IsAnothers, SecretIsWrong, Shows, StillShows, IsLinked, HasSubordinates, IsNotIn, ReportDiffers, IsNotOldest, LacksMoney}
 use Rattle.verdict.specs.declared.verdict.Verdict.{Verdict}
-use Rattle.verdict.specs.Charges.{charge_of}
-use Rattle.verdict.specs.Conditions.{has_subordinates, is_linked, is_of_another, is_there, secret_is_wrong, shows_status, still_shows}
+use Rattle.verdict.specs.Charges.{charge_of, years_charged, years_needed}
+use Rattle.verdict.specs.Conditions.{domain_in_full, full_domain, has_subordinates, is_in, is_linked, is_of_another, is_oldest, is_there, report_differs, secret_is_wrong, shows_status, still_shows}
 use Rattle.verdict.specs.Laws.{ActsOnObject, Alters, AnswersLawfully, IsLawful, KeepsLaws}
 use Rattle.verdict.specs.ResponseData.{response_data}
 use Rattle.verdict.specs.Rules.{refusal_of}
@@ -47,6 +58,8 @@ module _ (p : PolicyRules) (r t : ℕ) (f : Facts) where
   sponsor-law (UpdateDomain update) taken is = unrefused p r t (UpdateDomain update) f taken IsAnothers (search (inl, inr) depth 20)
   sponsor-law (UpdateHost update) taken is = unrefused p r t (UpdateHost update) f taken IsAnothers (search (inl, inr) depth 20)
   sponsor-law (RenewDomain name expires years) taken is = unrefused p r t (RenewDomain name expires years) f taken IsAnothers (search (inl, inr) depth 20)
+  sponsor-law (RequestRestore name) taken is = unrefused p r t (RequestRestore name) f taken IsAnothers (search (inl, inr) depth 20)
+  sponsor-law (ReportRestore name del_time res_time) taken is = unrefused p r t (ReportRestore name del_time res_time) f taken IsAnothers (search (inl, inr) depth 20)
   sponsor-law _ taken is = absurd (is)
 
   there-law : (q : Request) → refusal_of p r t q f ≡ None → ActsOnObject (asks_of q).action → is_there q f ≡ true
@@ -60,6 +73,8 @@ module _ (p : PolicyRules) (r t : ℕ) (f : Facts) where
   there-law (UpdateDomain update) taken is = there-is _ (unrefused p r t (UpdateDomain update) f taken IsMissing (search (inl, inr) depth 20))
   there-law (UpdateHost update) taken is = there-is _ (unrefused p r t (UpdateHost update) f taken IsMissing (search (inl, inr) depth 20))
   there-law (RenewDomain name expires years) taken is = there-is _ (unrefused p r t (RenewDomain name expires years) f taken IsMissing (search (inl, inr) depth 20))
+  there-law (RequestRestore name) taken is = there-is _ (unrefused p r t (RequestRestore name) f taken IsMissing (search (inl, inr) depth 20))
+  there-law (ReportRestore name del_time res_time) taken is = there-is _ (unrefused p r t (ReportRestore name del_time res_time) f taken IsMissing (search (inl, inr) depth 20))
   there-law _ taken is = absurd (is)
 
   new-law : (q : Request) → refusal_of p r t q f ≡ None → (asks_of q).action ≡ Create → is_there q f ≡ false
@@ -122,12 +137,40 @@ module _ (p : PolicyRules) (r t : ℕ) (f : Facts) where
   server-renew-law (RenewDomain name expires years) taken is = unrefused p r t (RenewDomain name expires years) f taken (Shows ServerRenewProhibited) (search (inl, inr) depth 20)
   server-renew-law _ taken is = absurd (cc)
 
-  paid-law : (q : Request) → refusal_of p r t q f ≡ None → 0 < charge_of p q → pos (charge_of p q) ≤ℤ f.account.balance
+  redeemable-law : (q : Request) → refusal_of p r t q f ≡ None → (asks_of q).action ≡ actions.RequestRestore → is_in Redemption q f ≡ true
+  redeemable-law (RequestRestore name) taken is = there-is _ (unrefused p r t (RequestRestore name) f taken (IsNotIn Redemption) (search (inl, inr) depth 20))
+  redeemable-law _ taken is = absurd (cc)
+
+  restoring-law : (q : Request) → refusal_of p r t q f ≡ None → (asks_of q).action ≡ actions.ReportRestore → is_in Restoring q f ≡ true
+  restoring-law (ReportRestore name del_time res_time) taken is = there-is _ (unrefused p r t (ReportRestore name del_time res_time) f taken (IsNotIn Restoring) (search (inl, inr) depth 20))
+  restoring-law _ taken is = absurd (cc)
+
+  reported-law : (q : Request) → refusal_of p r t q f ≡ None → (asks_of q).action ≡ actions.ReportRestore → report_differs q f ≡ false
+  reported-law (ReportRestore name del_time res_time) taken is = unrefused p r t (ReportRestore name del_time res_time) f taken ReportDiffers (search (inl, inr) depth 20)
+  reported-law _ taken is = absurd (cc)
+
+  oldest-law : (q : Request) → refusal_of p r t q f ≡ None → (asks_of q).action ≡ actions.PollAck → is_oldest q f ≡ true
+  oldest-law (PollAck id) taken is = there-is _ (unrefused p r t (PollAck id) f taken IsNotOldest (search (inl, inr) depth 20))
+  oldest-law _ taken is = absurd (cc)
+
+  -- the years that a domain needs are its turns
+  needed-law : (seen : Option (Seen FullDomain DomainFace)) (d : Domain) → option_and_then domain_in_full seen ≡ Some d → AreTurns d t (years_needed t seen)
+  needed-law (Some (Full known)) d e = let same : known.domain ≡ d = cc in subst (λ (x : Domain). AreTurns x t (turns known.domain t)) same (turns-are known.domain t)
+  needed-law (Some (TransferParty face transfer)) d e = absurd cc
+  needed-law (Some (Public face)) d e = absurd cc
+  needed-law None d e = absurd cc
+
+  turns-law : (q : Request) → (asks_of q).action ≡ actions.ReportRestore → (d : Domain) → full_domain q f ≡ Some d → AreTurns d t (years_charged t q f)
+  turns-law (ReportRestore name del_time res_time) is d e = needed-law (domain_seen f (name_of name)) d e
+  turns-law _ is d e = absurd (cc)
+
+  paid-law : (q : Request) → refusal_of p r t q f ≡ None → 0 < charge_of p t q f → pos (charge_of p t q f) ≤ℤ f.account.balance
   paid-law (CreateDomain new) taken some = affordable _ _ some (unrefused p r t (CreateDomain new) f taken LacksMoney (search (inl, inr) depth 20))
   paid-law (RenewDomain name expires years) taken some = affordable _ _ some (unrefused p r t (RenewDomain name expires years) f taken LacksMoney (search (inl, inr) depth 20))
+  paid-law (ReportRestore name del_time res_time) taken some = affordable _ _ some (unrefused p r t (ReportRestore name del_time res_time) f taken LacksMoney (search (inl, inr) depth 20))
   paid-law _ taken some = absurd (omega arith)
 
-  lawful : (q : Request) → refusal_of p r t q f ≡ None → IsLawful p r q f
+  lawful : (q : Request) → refusal_of p r t q f ≡ None → IsLawful p r t q f
   lawful q taken = record {
     sponsor = sponsor-law q taken;
     there = there-law q taken;
@@ -142,6 +185,12 @@ module _ (p : PolicyRules) (r t : ℕ) (f : Facts) where
     server_update = server-update-law q taken;
     client_renew = client-renew-law q taken;
     server_renew = server-renew-law q taken;
+    redeemable = redeemable-law q taken;
+    restoring = restoring-law q taken;
+    reported = reported-law q taken;
+    outlasts = λ is d e. (turns-law q is d e).after;
+    no_more = λ is d e years lt. (turns-law q is d e).before years lt;
+    oldest = oldest-law q taken;
     paid = paid-law q taken;
   }
 
@@ -151,14 +200,14 @@ module _ (p : PolicyRules) (r t : ℕ) (f : Facts) where
   secret-law (InfoDomain name secret) taken wrong = absurd (apart (sym wrong ∙ unrefused p r t (InfoDomain name secret) f taken SecretIsWrong (search (inl, inr) depth 20)))
   secret-law _ taken wrong = absurd cc
 
-  by-refusal : (q : Request) (refusal : Option Code) → refusal_of p r t q f ≡ refusal → KeepsLaws p r q f (unless_refused refusal (granted p r t q f))
+  by-refusal : (q : Request) (refusal : Option Code) → refusal_of p r t q f ≡ refusal → KeepsLaws p r t q f (unless_refused refusal (granted p r t q f))
   by-refusal q None taken = record { carried_out = λ accepted. lawful q taken; secret = secret-law q taken }
   by-refusal q (Some code) is = record { carried_out = λ accepted. absurd (apart (sym accepted ∙ refusing p r t q f code is)); secret = λ wrong. refl }
 
-pub answers-lawfully : (p : PolicyRules) (r t : ℕ) (c : Command) (f : Facts) (v : Verdict) → v ≡ judged p r t c f → AnswersLawfully p r c f v
+pub answers-lawfully : (p : PolicyRules) (r t : ℕ) (c : Command) (f : Facts) (v : Verdict) → v ≡ judged p r t c f → AnswersLawfully p r t c f v
 unfolding AnswersLawfully judged
 answers-lawfully p r t (Bad cl_trid code) f v is = ap (λ (w : Verdict). w.content) is
-answers-lawfully p r t (Asked cl_trid request) f v is = subst (λ (w : Verdict). KeepsLaws p r request f w) (sym is) (by-refusal p r t f request (refusal_of p r t request f) refl)
+answers-lawfully p r t (Asked cl_trid request) f v is = subst (λ (w : Verdict). KeepsLaws p r t request f w) (sym is) (by-refusal p r t f request (refusal_of p r t request f) refl)
 
 -- what is granted to a request that isn't refused is its verdict
 pub granted-is-judged : {E : Type 0} (p : PolicyRules) (r t : ℕ) (c : Command) (cl_trid : Option (List ℕ)) (q : Request) (f : Facts) (result : Result Verdict E)

@@ -18,24 +18,26 @@ use Rattle.objects.specs.declared.contact.ContactFace.{ContactFace}
 use Rattle.objects.specs.declared.domain.Domain.{Domain}
 use Rattle.objects.specs.declared.domain.DomainFace.{DomainFace}
 use Rattle.objects.specs.declared.domain.FullDomain.{FullDomain}
+use Rattle.objects.specs.declared.grace.Phase.{Phase}
 use Rattle.objects.specs.declared.host.Host.{Host}
 use Rattle.objects.specs.declared.sight.Seen.{Seen}
 use Rattle.objects.specs.declared.sight.Seen.TheVariants.{Full, TransferParty, Public}
 use Rattle.objects.specs.declared.status.Status.{Status}
 use Rattle.objects.specs.Contacts.{contact_shows}
 use Rattle.objects.specs.Domains.{is_empty, shown_expiry, shows}
+use Rattle.objects.specs.Graces.{is_phase}
 use Rattle.objects.specs.Hosts.{host_shows}
 use Rattle.objects.specs.Sight.{authorizes}
 use Rattle.objects.specs.Statuses.{has_status}
 use Rattle.objects.specs.StatusTexts.{status_text}
 use Rattle.policy.specs.Rules.{PolicyRules}
 use Rattle.protocol.specs.declared.command.Action.{Action}
-use Rattle.protocol.specs.declared.command.Action.TheVariants.{Balance, Check, Info, Create, Delete, Update, Renew}
+use Rattle.protocol.specs.declared.command.Action.TheVariants.{Balance, Check, Info, Create, Delete, Update, Renew, RequestRestore, ReportRestore, PollRequest, PollAck}
 use Rattle.protocol.specs.declared.command.Request.{Request}
 use Rattle.protocol.specs.declared.lists.TheConstants.{MOST_ADDRESSES, MOST_CONTACTS, MOST_HOSTS}
 use Rattle.protocol.specs.Requests.{GivenLists, asks_of, contacts_asked, domains_asked, holds_of, hosts_asked}
 use Rattle.verdict.specs.declared.rules.Condition.{Condition}
-use Rattle.verdict.specs.declared.rules.Condition.TheVariants.{NameIsRefused, ListRepeats, IsThere, IsMissing, ReferenceIsMissing, NewNameIsTaken, SuperordinateIsMissing, IsAnothers, SuperordinateIsAnothers, SecretIsWrong, Shows, StillShows, SuperordinateIsDeleted, IsLinked, HasSubordinates, AddsWhatIsThere, RemovesWhatIsNot, LeavesTooMany, LeavesAddressesOutside, HoldsTheMost, PassesTenYears, ExpiresOtherwise, LacksMoney}
+use Rattle.verdict.specs.declared.rules.Condition.TheVariants.{NameIsRefused, ListRepeats, IsThere, IsMissing, ReferenceIsMissing, NewNameIsTaken, SuperordinateIsMissing, IsAnothers, SuperordinateIsAnothers, SecretIsWrong, Shows, StillShows, SuperordinateIsDeleted, IsLinked, HasSubordinates, AddsWhatIsThere, RemovesWhatIsNot, LeavesTooMany, LeavesAddressesOutside, HoldsTheMost, PassesTenYears, ExpiresOtherwise, IsNotIn, ReportDiffers, IsNotOldest, LacksMoney}
 use Rattle.verdict.specs.Charges.{charge_of}
 
 -- ---- the object that a request is about: of the three at most one is there
@@ -151,6 +153,10 @@ known_by Check given new = None
 known_by Info given new = None
 known_by Delete given new = None
 known_by Renew given new = None
+known_by RequestRestore given new = None
+known_by ReportRestore given new = None
+known_by PollRequest given new = None
+known_by PollAck given new = None
 
 abbrev pub host_to_be : Request → Facts → Option HostFacts
 host_to_be q f = known_by (asks_of q).action (host_known q f) f.at_new_name
@@ -306,11 +312,46 @@ is_another_date d date = not (bytes_eq date (date_text (date_of (shown_expiry d 
 abbrev pub expires_otherwise : Request → Facts → Bool
 expires_otherwise q f = holds_of (λ d. holds_of (is_another_date d) (asks_of q).expires) (full_domain q f)
 
+-- ---- restoration (RFC 3915, 3.1 and 4.2.5)
+
+abbrev pub phase_seen : Seen FullDomain DomainFace → Phase
+phase_seen (Full known) = known.standing.phase
+phase_seen (TransferParty face t) = face.standing.phase
+phase_seen (Public face) = face.standing.phase
+
+-- the deletion of the domain has come to the phase
+abbrev pub is_in : Phase → Request → Facts → Bool
+is_in phase q f = holds_of (λ seen. is_phase (phase_seen seen) phase) (the_domain q f)
+
+-- a moment is reported, and isn't the one that is kept
+abbrev pub is_another_moment : Option ℕ → Option ℕ → Bool
+is_another_moment kept reported = holds_of (λ m. not (holds_of (λ k. k == m) kept)) reported
+
+abbrev pub deleted_at : Domain → Option ℕ
+deleted_at d = option_map (λ x. x.deleted) d.deletion
+
+abbrev pub restore_requested_at : Domain → Option ℕ
+restore_requested_at d = option_and_then (λ x. x.restore_requested) d.deletion
+
+abbrev pub is_another_report : Option ℕ → Option ℕ → Domain → Bool
+is_another_report del_time res_time d =
+    is_another_moment (deleted_at d) del_time || is_another_moment (restore_requested_at d) res_time
+
+-- the report isn't on this deletion, or not on the last request to restore from it
+abbrev pub report_differs : Request → Facts → Bool
+report_differs q f = holds_of (is_another_report (asks_of q).del_time (asks_of q).res_time) (full_domain q f)
+
+-- ---- messages (RFC 5730, 2.9.2.3)
+
+-- the oldest message has the identifier that is acknowledged, if one is
+abbrev pub is_oldest : Request → Facts → Bool
+is_oldest q f = holds_of (λ id. holds_of (λ oldest. bytes_eq oldest.id id) f.queue.oldest) (asks_of q).message
+
 -- ---- money (RFC 5730, 3, code 2104)
 
 -- the account has less than what is charged; who is charged nothing may be in debt
-abbrev pub lacks_money : PolicyRules → Request → Facts → Bool
-lacks_money p q f = nat_lt 0 (charge_of p q) && int_lt f.account.balance (pos (charge_of p q))
+abbrev pub lacks_money : PolicyRules → ℕ → Request → Facts → Bool
+lacks_money p t q f = nat_lt 0 (charge_of p t q f) && int_lt f.account.balance (pos (charge_of p t q f))
 
 -- ---- each condition
 
@@ -338,4 +379,7 @@ holds p r t q f LeavesAddressesOutside = leaves_addresses_outside p.zone q f
 holds p r t q f HoldsTheMost = f.holding_limit_reached
 holds p r t q f PassesTenYears = passes_ten_years t q f
 holds p r t q f ExpiresOtherwise = expires_otherwise q f
-holds p r t q f LacksMoney = lacks_money p q f
+holds p r t q f (IsNotIn phase) = not (is_in phase q f)
+holds p r t q f ReportDiffers = report_differs q f
+holds p r t q f IsNotOldest = not (is_oldest q f)
+holds p r t q f LacksMoney = lacks_money p t q f

@@ -2,6 +2,7 @@ pub mod Refusals
 pub mod Charges
 pub mod Conditions
 pub mod Deletion
+pub mod Poll
 pub mod Rules
 pub mod ResponseData
 pub mod Verdicts

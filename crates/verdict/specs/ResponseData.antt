@@ -40,9 +40,10 @@ use Rattle.protocol.specs.declared.reply.Renewed.{Renewed}
 use Rattle.protocol.specs.declared.reply.TransferInfo.{TransferInfo}
 use Rattle.facts.specs.Facts.{host_sponsor}
 use Rattle.facts.specs.Facts.{contact_at, contact_seen, domain_at, domain_seen, host_at, host_seen}
-use Rattle.verdict.specs.Charges.{charge_of}
+use Rattle.verdict.specs.Charges.{charge_of, years_charged}
 use Rattle.verdict.specs.Conditions.{domain_in_full, renewed_expiry}
 use Rattle.verdict.specs.Deletion.{deleted}
+use Rattle.verdict.specs.Poll.{left, polled}
 
 -- the id of the registrar at a place
 abbrev pub id_of : PolicyRules → ℕ → List ℕ
@@ -82,7 +83,7 @@ created_domain charge t new = record {
   charge = Some charge;
 }
 
--- ---- renew
+-- ---- renew, and the report on a restoration
 
 abbrev pub renewed : ℕ → GivenName → ℕ → Domain → Renewed
 renewed charge name years d = record { name = name_of name; expires = capped (renewed_expiry years d); charge = charge }
@@ -167,7 +168,7 @@ response_data p r t (requests.InfoContact name secret) f = option_map told.Conta
 response_data p r t (requests.InfoDomain name secret) f = option_map told.Domain (option_and_then (domain_info_at p r secret) (domain_at f (name_of name)))
 response_data p r t (requests.InfoHost name) f = option_map told.Host (option_and_then (host_info_at p) (host_at f (name_of name)))
 response_data p r t (requests.CreateContact new) f = Some (told.Created (created_plain t new.name))
-response_data p r t (requests.CreateDomain new) f = Some (told.Created (created_domain (charge_of p (requests.CreateDomain new)) t new))
+response_data p r t (requests.CreateDomain new) f = Some (told.Created (created_domain (charge_of p t (requests.CreateDomain new) f) t new))
 response_data p r t (requests.CreateHost new) f = Some (told.Created (created_plain t (name_of new.name)))
 response_data p r t (requests.DeleteContact name) f = None
 response_data p r t (requests.DeleteDomain name) f = option_map told.Deleted (option_map deleted (domain_at f (name_of name)))
@@ -175,4 +176,10 @@ response_data p r t (requests.DeleteHost name) f = None
 response_data p r t (requests.UpdateContact update) f = None
 response_data p r t (requests.UpdateDomain update) f = None
 response_data p r t (requests.UpdateHost update) f = None
-response_data p r t (requests.RenewDomain name expires years) f = option_map told.Renewed (renewed_at (charge_of p (requests.RenewDomain name expires years)) name years f)
+response_data p r t (requests.RenewDomain name expires years) f = option_map told.Renewed (renewed_at (charge_of p t (requests.RenewDomain name expires years) f) name years f)
+response_data p r t (requests.RequestRestore name) f = None
+response_data p r t (requests.ReportRestore name del_time res_time) f =
+    let report : Request = requests.ReportRestore name del_time res_time in
+    option_map told.Renewed (renewed_at (charge_of p t report f) name (years_charged t report f) f)
+response_data p r t requests.PollRequest f = option_map told.Polled (option_map (polled f.queue.waiting) f.queue.oldest)
+response_data p r t (requests.PollAck id) f = Some (told.Acked (left f.queue))

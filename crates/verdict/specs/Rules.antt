@@ -3,11 +3,11 @@ use Rattle.std.specs.Prelude.{ℕ, List, [], Option}
 use Rattle.policy.specs.Rules.{PolicyRules}
 use Rattle.protocol.specs.declared.code.Code.{Code}
 use Rattle.protocol.specs.declared.command.Request.{Request}
-use Rattle.protocol.specs.declared.command.Request.TheVariants.{Balance, CheckContact, CheckDomain, CheckHost, InfoContact, InfoDomain, InfoHost, CreateContact, CreateDomain, CreateHost, DeleteContact, DeleteDomain, DeleteHost, UpdateContact, UpdateDomain, UpdateHost, RenewDomain}
+use Rattle.protocol.specs.declared.command.Request.TheVariants.{Balance, CheckContact, CheckDomain, CheckHost, InfoContact, InfoDomain, InfoHost, CreateContact, CreateDomain, CreateHost, DeleteContact, DeleteDomain, DeleteHost, UpdateContact, UpdateDomain, UpdateHost, RenewDomain, RequestRestore, ReportRestore, PollRequest, PollAck}
 use Rattle.facts.specs.declared.facts.Facts.{Facts}
 use Rattle.verdict.specs.declared.refusal.Cause.{Cause}
 use Rattle.verdict.specs.declared.rules.Condition.{Condition}
-use Rattle.verdict.specs.declared.rules.TheConstants.{CONTACT_INFO, DOMAIN_INFO, HOST_INFO, CONTACT_CREATION, DOMAIN_CREATION, HOST_CREATION, CONTACT_DELETION, DOMAIN_DELETION, HOST_DELETION, CONTACT_UPDATE, DOMAIN_UPDATE, HOST_UPDATE, DOMAIN_RENEWAL}
+use Rattle.verdict.specs.declared.rules.TheConstants.{CONTACT_INFO, DOMAIN_INFO, HOST_INFO, CONTACT_CREATION, DOMAIN_CREATION, HOST_CREATION, CONTACT_DELETION, DOMAIN_DELETION, HOST_DELETION, CONTACT_UPDATE, DOMAIN_UPDATE, HOST_UPDATE, DOMAIN_RENEWAL, RESTORE_REQUEST, RESTORE_REPORT, MESSAGE_ACKNOWLEDGEMENT}
 use Rattle.verdict.specs.Conditions.{holds}
 use Rattle.verdict.specs.Refusals.{first_refusal}
 
@@ -29,6 +29,10 @@ rows_of (UpdateContact update) = CONTACT_UPDATE.now
 rows_of (UpdateDomain update) = DOMAIN_UPDATE.now
 rows_of (UpdateHost update) = HOST_UPDATE.now
 rows_of (RenewDomain name expires years) = DOMAIN_RENEWAL.now
+rows_of (RequestRestore name) = RESTORE_REQUEST.now
+rows_of (ReportRestore name del_time res_time) = RESTORE_REPORT.now
+rows_of PollRequest = []
+rows_of (PollAck id) = MESSAGE_ACKNOWLEDGEMENT.now
 
 -- the code with which a command is refused
 abbrev pub refusal_of : PolicyRules → ℕ → ℕ → Request → Facts → Option Code

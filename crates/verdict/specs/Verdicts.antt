@@ -2,7 +2,7 @@
 use Rattle.std.specs.Prelude.{ℕ, Option, Some, None}
 use Rattle.policy.specs.Rules.{PolicyRules}
 use Rattle.protocol.specs.declared.code.Code.{Code}
-use Rattle.protocol.specs.declared.code.Code.TheVariants.{Completed}
+use Rattle.protocol.specs.declared.code.Code.TheVariants.{Completed, CompletedActionPending}
 use Rattle.protocol.specs.declared.command.Command.{Command}
 use Rattle.protocol.specs.Codes.{code_of_form}
 use Rattle.protocol.specs.declared.command.Command.TheVariants.{Bad, Asked}
@@ -13,13 +13,15 @@ use Rattle.verdict.specs.declared.verdict.Verdict.{Verdict}
 use Rattle.facts.specs.Facts.{domain_seen}
 use Rattle.names.specs.GivenName.{name_of}
 use Rattle.verdict.specs.Deletion.{code_of_deletion}
+use Rattle.verdict.specs.Poll.{code_of_poll}
 use Rattle.verdict.specs.Rules.{refusal_of}
 use Rattle.verdict.specs.ResponseData.{response_data}
 
 abbrev pub refused : Code → Verdict
 refused code = record { code = code; content = None }
 
--- the code of a request that isn't refused
+-- the code of a request that isn't refused: the restoration that is asked for awaits its report
+-- (RFC 3915, 4.2.5)
 abbrev pub code_granted : Request → Facts → Code
 code_granted requests.Balance f = Completed
 code_granted (requests.CheckContact names) f = Completed
@@ -38,6 +40,10 @@ code_granted (requests.UpdateContact update) f = Completed
 code_granted (requests.UpdateDomain update) f = Completed
 code_granted (requests.UpdateHost update) f = Completed
 code_granted (requests.RenewDomain name expires years) f = Completed
+code_granted (requests.RequestRestore name) f = CompletedActionPending
+code_granted (requests.ReportRestore name del_time res_time) f = Completed
+code_granted requests.PollRequest f = code_of_poll f.queue.oldest
+code_granted (requests.PollAck id) f = Completed
 
 -- what a request is answered that isn't refused
 abbrev pub granted : PolicyRules → ℕ → ℕ → Request → Facts → Verdict

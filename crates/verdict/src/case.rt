@@ -18,6 +18,7 @@ use crate::conditions::{
     superordinate_is_anothers, superordinate_is_deleted,
 };
 use crate::renewal::{expires_otherwise, passes_ten_years};
+use crate::restoration::{is_in, report_differs};
 use crate::rules::{Condition, Row, rows};
 use basis::registrar::RegistrarNo;
 use calendar::Moment;
@@ -128,7 +129,15 @@ impl<'a> Case<'a> {
         match self.request.action() {
             Action::Create => self.host_known(),
             Action::Update => self.facts.at_new_name.as_ref(),
-            Action::Balance | Action::Check | Action::Info | Action::Delete | Action::Renew => None,
+            Action::Balance
+            | Action::Check
+            | Action::Info
+            | Action::Delete
+            | Action::Renew
+            | Action::RequestRestore
+            | Action::ReportRestore
+            | Action::PollRequest
+            | Action::PollAck => None,
         }
     }
 }
@@ -285,10 +294,29 @@ impl Case<'_> {
         expires_otherwise(self.request.expires(), full_domain(self.domain()))
     }
 
-    fn lacks_money(&self) -> bool
-        ensures { result ≡ spec.lacks_money self.now.policy.now self.now.request.now self.now.facts.now }
+    fn report_differs(&self) -> bool
+        ensures { result ≡ spec.report_differs self.now.request.now self.now.facts.now }
     {
-        let charge = charge_of(self.policy, self.request);
+        report_differs(
+            self.request.del_time(),
+            self.request.res_time(),
+            full_domain(self.domain()),
+        )
+    }
+
+    fn is_oldest(&self) -> bool
+        ensures { result ≡ spec.is_oldest self.now.request.now self.now.facts.now }
+    {
+        match (self.request.message(), &self.facts.queue.oldest) {
+            (Some(id), Some(oldest)) => oldest.id == *id,
+            _ => false,
+        }
+    }
+
+    fn lacks_money(&self) -> bool
+        ensures { result ≡ spec.lacks_money self.now.policy.now self.now.moment self.now.request.now self.now.facts.now }
+    {
+        let charge = charge_of(self.policy, self.request, self.facts, self.moment);
         charge > 0 && self.facts.account.balance < i128::from(charge)
     }
 
@@ -324,6 +352,9 @@ impl Case<'_> {
             Condition::HoldsTheMost => self.facts.holding_limit_reached,
             Condition::PassesTenYears => self.passes_ten_years(),
             Condition::ExpiresOtherwise => self.expires_otherwise(),
+            Condition::IsNotIn(phase) => !is_in(phase, self.domain()),
+            Condition::ReportDiffers => self.report_differs(),
+            Condition::IsNotOldest => !self.is_oldest(),
             Condition::LacksMoney => self.lacks_money(),
         }
     }

@@ -4,6 +4,7 @@ ghost use Rattle.std.specs.Option.{option_copied};
 ghost use Rattle.verdict.specs.Deletion as spec;
 ghost use Rattle.verdict.specs.Verdicts.{code_granted};
 
+use crate::poll::code_of_poll;
 use facts::{DomainFacts, Facts};
 use objects::{DomainFace, FullDomain, Seen};
 use protocol::{Code, Data, Deleted, Request};
@@ -36,6 +37,8 @@ pub(crate) fn code_granted(request: &Request, facts: &Facts) -> Code
 {
     match request {
         Request::DeleteDomain { name } => code_of_deletion(facts.domain_seen(name.text())),
+        Request::RequestRestore { .. } => Code::CompletedActionPending,
+        Request::PollRequest => code_of_poll(&facts.queue.oldest),
         _ => Code::Completed,
     }
 }

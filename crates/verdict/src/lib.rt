@@ -8,13 +8,15 @@ mod charge;
 mod conditions;
 mod deletion;
 mod order;
+mod poll;
 mod refusal;
 mod renewal;
 mod response;
+mod restoration;
 mod rules;
 mod verdict;
 
-pub use charge::charge_of;
+pub use charge::{charge_of, years_charged};
 pub use deletion::goes_at_once;
 pub use order::{OrderCondition, STATUS_ORDER, judge_order};
 pub use refusal::Cause;
@@ -22,6 +24,6 @@ pub use response::id_of;
 pub use rules::{
     CONTACT_CREATION, CONTACT_DELETION, CONTACT_INFO, CONTACT_UPDATE, Condition, DOMAIN_CREATION,
     DOMAIN_DELETION, DOMAIN_INFO, DOMAIN_RENEWAL, DOMAIN_UPDATE, HOST_CREATION, HOST_DELETION,
-    HOST_INFO, HOST_UPDATE, Row,
+    HOST_INFO, HOST_UPDATE, MESSAGE_ACKNOWLEDGEMENT, RESTORE_REPORT, RESTORE_REQUEST, Row,
 };
 pub use verdict::{Verdict, judge};

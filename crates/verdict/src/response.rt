@@ -5,8 +5,9 @@ ghost use Rattle.verdict.specs.Conditions.{domain_in_full};
 ghost use Rattle.verdict.specs.ResponseData as spec;
 
 use crate::case::full_domain;
-use crate::charge::charge_of;
+use crate::charge::{charge_of, years_charged};
 use crate::deletion::deleted_data;
+use crate::poll::{left, polled_data};
 use crate::renewal::renewed_expiry;
 use basis::list::Seq;
 use basis::registrar::RegistrarNo;
@@ -20,7 +21,7 @@ use objects::{
 use policy::Policy;
 use protocol::{
     CheckResult, ContactHidden, ContactInfo, Created, Data, DomainHidden, DomainInfo, HostInfo,
-    NewDomain, Reason, Renewed, Request, TransferInfo, Years,
+    NewDomain, Reason, Renewed, Request, TransferInfo,
 };
 use std::alloc::{AllocError, Global};
 
@@ -62,7 +63,7 @@ pub(crate) fn response_data(
         Request::InfoHost { name } => host_data(alloc, policy, facts.host(name.text())),
         Request::CreateContact(new) => Ok(Some(Data::Created(created_plain(&new.name, moment)?))),
         Request::CreateDomain(new) => {
-            let charge = charge_of(policy, request);
+            let charge = charge_of(policy, request, facts, moment);
             Ok(Some(Data::Created(created_domain(charge, new, moment)?)))
         }
         Request::CreateHost(new) => {
@@ -70,9 +71,16 @@ pub(crate) fn response_data(
         }
         Request::DeleteDomain { name } => deleted_data(facts.domain(name.text())),
         Request::RenewDomain { name, years, .. } => {
-            let charge = charge_of(policy, request);
-            renewed_data(charge, name, *years, facts.domain_seen(name.text()))
+            let charge = charge_of(policy, request, facts, moment);
+            renewed_data(charge, name, years.number(), facts.domain_seen(name.text()))
         }
+        Request::ReportRestore { name, .. } => {
+            let charge = charge_of(policy, request, facts, moment);
+            let years = years_charged(request, facts, moment);
+            renewed_data(charge, name, years, facts.domain_seen(name.text()))
+        }
+        Request::PollRequest => polled_data(&facts.queue),
+        Request::PollAck { .. } => Ok(Some(Data::Acked(left(&facts.queue)))),
         _ => Ok(None),
     }
 }
@@ -171,12 +179,12 @@ fn created_domain(charge: u64, new: &NewDomain, moment: Moment) -> Result<Create
     })
 }
 
-// ---- renew
+// ---- renew, and the report on a restoration
 
 fn renewed_data(
     charge: u64,
     name: &GivenName,
-    years: Years,
+    years: u32,
     seen: Option<&Seen<FullDomain, DomainFace>>,
 ) -> Result<Option<Data>, AllocError>
     ensures { IfOk result (λ content. content ≡ option_map Data.Renewed (option_map (spec.renewed charge name.now years) (option_and_then domain_in_full (option_copied seen.entry)))) }
@@ -190,14 +198,14 @@ fn renewed_data(
 fn renewed(
     charge: u64,
     name: &GivenName,
-    years: Years,
+    years: u32,
     domain: &Domain,
 ) -> Result<Renewed, AllocError>
     ensures { IfOk result (λ renewed. renewed ≡ spec.renewed charge name.now years domain.now) }
 {
     Ok(Renewed {
         name: name.text().clone()?,
-        expires: renewed_expiry(domain, years.number()),
+        expires: renewed_expiry(domain, years),
         charge,
     })
 }

@@ -10,11 +10,12 @@ use crate::refusal::Cause::{
 };
 use Condition::{
     AddsWhatIsThere, ExpiresOtherwise, HasSubordinates, HoldsTheMost, IsAnothers, IsLinked,
-    IsMissing, IsThere, LacksMoney, LeavesAddressesOutside, LeavesTooMany, ListRepeats,
-    NameIsRefused, NewNameIsTaken, PassesTenYears, ReferenceIsMissing, RemovesWhatIsNot,
-    SecretIsWrong, Shows, StillShows, SuperordinateIsAnothers, SuperordinateIsDeleted,
-    SuperordinateIsMissing,
+    IsMissing, IsNotIn, IsNotOldest, IsThere, LacksMoney, LeavesAddressesOutside, LeavesTooMany,
+    ListRepeats, NameIsRefused, NewNameIsTaken, PassesTenYears, ReferenceIsMissing,
+    RemovesWhatIsNot, ReportDiffers, SecretIsWrong, Shows, StillShows, SuperordinateIsAnothers,
+    SuperordinateIsDeleted, SuperordinateIsMissing,
 };
+use objects::Phase::{self, Redemption, Restoring};
 use objects::Status::{
     self, ClientDeleteProhibited, ClientRenewProhibited, ClientUpdateProhibited, PendingDelete,
     PendingTransfer, ServerDeleteProhibited, ServerRenewProhibited, ServerUpdateProhibited,
@@ -68,6 +69,13 @@ pub enum Condition {
     PassesTenYears,
     /// The domain is shown to expire on another date than the renewal names.
     ExpiresOtherwise,
+    /// The deletion of the domain hasn't come to the phase, or has left it.
+    IsNotIn(Phase),
+    /// The report is on another deletion than the domain's, or on another request to restore it than
+    /// the last.
+    ReportDiffers,
+    /// The oldest message to the registrar isn't the one that was read.
+    IsNotOldest,
     /// The command is charged more than the registrar's account has.
     LacksMoney,
 }
@@ -214,6 +222,29 @@ pub const DOMAIN_RENEWAL: &[Row] = &[
     (NoMoney, LacksMoney), // RFC 5730, 3, code 2104
 ];
 
+/// RFC 3915, 4.2.5.
+pub const RESTORE_REQUEST: &[Row] = &[
+    (BadNames, NameIsRefused), // RFC 5730, 3, code 2306
+    (Missing, IsMissing), // RFC 5730, 3, code 2303
+    (NotSponsor, IsAnothers), // RFC 5731, 3.2.5
+    (StatusProhibits, IsNotIn(Redemption)), // RFC 3915, 3.1
+];
+
+/// RFC 3915, 4.2.5.
+pub const RESTORE_REPORT: &[Row] = &[
+    (BadNames, NameIsRefused), // RFC 5730, 3, code 2306
+    (Missing, IsMissing), // RFC 5730, 3, code 2303
+    (NotSponsor, IsAnothers), // RFC 5731, 3.2.5
+    (StatusProhibits, IsNotIn(Restoring)), // RFC 3915, 3.1
+    (DoesNotFit, ReportDiffers), // RFC 3915, 4.2.5
+    (NoMoney, LacksMoney), // RFC 5730, 3, code 2104
+];
+
+/// RFC 5730, 2.9.2.3.
+pub const MESSAGE_ACKNOWLEDGEMENT: &[Row] = &[
+    (Missing, IsNotOldest), // RFC 5730, 3, code 2303
+];
+
 /// The table of the command.
 pub fn rows(request: &Request) -> &'static [Row]
     ensures table { result.now ≡ spec.rows_of request.now }
@@ -223,7 +254,8 @@ pub fn rows(request: &Request) -> &'static [Row]
         Request::Balance
         | Request::CheckContact { .. }
         | Request::CheckDomain { .. }
-        | Request::CheckHost { .. } => &[],
+        | Request::CheckHost { .. }
+        | Request::PollRequest => &[],
         Request::InfoContact { .. } => CONTACT_INFO,
         Request::InfoDomain { .. } => DOMAIN_INFO,
         Request::InfoHost { .. } => HOST_INFO,
@@ -237,5 +269,8 @@ pub fn rows(request: &Request) -> &'static [Row]
         Request::UpdateDomain(_) => DOMAIN_UPDATE,
         Request::UpdateHost(_) => HOST_UPDATE,
         Request::RenewDomain { .. } => DOMAIN_RENEWAL,
+        Request::RequestRestore { .. } => RESTORE_REQUEST,
+        Request::ReportRestore { .. } => RESTORE_REPORT,
+        Request::PollAck { .. } => MESSAGE_ACKNOWLEDGEMENT,
     }
 }

@@ -32,7 +32,7 @@ pub fn judge(
     policy: &Policy,
 ) -> Result<Verdict, AllocError>
     ensures verdict { IfOk result (λ verdict. verdict ≡ judged policy.now caller moment command.now facts.now) }
-    ensures laws { IfOk result (λ verdict. AnswersLawfully policy.now caller command.now facts.now verdict) }
+    ensures laws { IfOk result (λ verdict. AnswersLawfully policy.now caller moment command.now facts.now verdict) }
 {
     match verdict_on(alloc, facts, caller, command, moment, policy) {
         Ok(verdict) => Ok(verdict),
