@@ -4,6 +4,7 @@
 #![tactic(auto)]
 
 mod fault;
+mod greeting;
 mod opening;
 mod order;
 mod registry;
