@@ -4,7 +4,7 @@ use Rattle.serde_json.specs.Data.{Data}
 use Rattle.names.specs.Zone.{ZoneRules}
 use Rattle.protocol.specs.declared.form.FormFault.{FormFault}
 use Rattle.protocol.specs.declared.command.Request.{Request}
-use Rattle.protocol.specs.declared.command.Request.TheVariants.{Balance}
+use Rattle.protocol.specs.declared.command.Request.TheVariants.{Logout, Balance}
 use Rattle.eppforms.specs.declared.table.CommandKind.{CommandKind}
 use Rattle.eppforms.specs.declared.table.CommandKind.TheVariants as kinds
 use Rattle.eppforms.specs.Form.{◌>>=◌, checked_command}
@@ -13,6 +13,7 @@ use Rattle.eppcommands.specs.Domain.{check_domain, info_domain, create_domain, d
 use Rattle.eppcommands.specs.Host.{check_host, info_host, create_host, delete_host, update_host}
 
 abbrev pub request_of : CommandKind → ZoneRules → Data → Result Request FormFault
+request_of kinds.Logout zone d = Ok Logout
 request_of kinds.Balance zone d = Ok Balance
 request_of kinds.CheckContact zone d = check_contact d
 request_of kinds.CheckDomain zone d = check_domain zone d

@@ -21,6 +21,7 @@ pub fn request_in(alloc: Global, value: &Value, zone: &Zone) -> Result<Request, 
     ensures { Gives result (spec.request_in zone.now (view value.now)) }
 {
     match checked_command(value)? {
+        CommandKind::Logout => Ok(Request::Logout),
         CommandKind::Balance => Ok(Request::Balance),
         CommandKind::CheckContact => check_contact(alloc, value),
         CommandKind::CheckDomain => check_domain(alloc, value, zone),

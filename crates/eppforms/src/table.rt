@@ -12,6 +12,7 @@ use objects::ObjectKind;
 /// What `cmd` may say.
 #[derive(Clone, Copy)]
 pub enum Verb {
+    Logout,
     Balance,
     Check,
     Info,
@@ -27,6 +28,7 @@ impl Verb {
         ensures { result.now ≡ spec.verb_text self }
     {
         match self {
+            Verb::Logout => "logout",
             Verb::Balance => "balance",
             Verb::Check => "check",
             Verb::Info => "info",
@@ -72,6 +74,7 @@ pub fn object_named(text: &str) -> Option<ObjectKind>
 /// The commands.
 #[derive(Clone, Copy)]
 pub enum CommandKind {
+    Logout,
     Balance,
     CheckContact,
     CheckDomain,
@@ -261,6 +264,9 @@ macro_rules! members {
     };
 }
 
+/// RFC 5730, 2.9.1.2.
+const LOGOUT: &[Field] = &[CMD, CL_TRID];
+
 /// What the caller's account has. It is on no object.
 const BALANCE: &[Field] = &[CMD, CL_TRID];
 
@@ -382,6 +388,7 @@ const RENEW_DOMAIN: &[Field] = members![
 
 /// The forms of the commands.
 pub const FORMS: &[CommandForm] = &[
+    (plain!(Logout, Logout), LOGOUT),
     (plain!(Balance, Balance), BALANCE),
     (on!(Check, Contact, CheckContact), CHECK_CONTACT),
     (on!(Check, Domain, CheckDomain), CHECK_DOMAIN),

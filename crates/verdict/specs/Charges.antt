@@ -2,12 +2,13 @@
 use Rattle.std.specs.Prelude.{ℕ, ◌*◌}
 use Rattle.policy.specs.Rules.{PolicyRules}
 use Rattle.protocol.specs.declared.command.Action.{Action}
-use Rattle.protocol.specs.declared.command.Action.TheVariants.{Balance, Check, Info, Create, Delete, Update, Renew}
+use Rattle.protocol.specs.declared.command.Action.TheVariants.{Logout, Balance, Check, Info, Create, Delete, Update, Renew}
 use Rattle.protocol.specs.declared.command.Request.{Request}
 use Rattle.protocol.specs.Requests.{asks_of}
 
 -- the price of a year in cents
 abbrev pub price_of : PolicyRules → Action → ℕ
+price_of p Logout = 0
 price_of p Balance = 0
 price_of p Check = 0
 price_of p Info = 0

@@ -5,7 +5,7 @@ use Rattle.names.specs.declared.given.GivenName.{GivenName}
 use Rattle.objects.specs.declared.status.Status.TheVariants.{ClientDeleteProhibited, ClientRenewProhibited, ClientUpdateProhibited, PendingDelete, PendingTransfer, ServerDeleteProhibited, ServerRenewProhibited, ServerUpdateProhibited}
 use Rattle.policy.specs.Rules.{PolicyRules}
 use Rattle.protocol.specs.declared.command.Action.{Action}
-use Rattle.protocol.specs.declared.command.Action.TheVariants.{Balance, Check, Info, Create, Delete, Update, Renew}
+use Rattle.protocol.specs.declared.command.Action.TheVariants.{Logout, Balance, Check, Info, Create, Delete, Update, Renew}
 use Rattle.protocol.specs.declared.command.Command.{Command}
 use Rattle.protocol.specs.declared.command.Command.TheVariants.{Bad, Asked}
 use Rattle.protocol.specs.declared.command.Request.{Request}
@@ -18,6 +18,7 @@ use Rattle.verdict.specs.Conditions.{has_subordinates, is_linked, is_of_another,
 
 -- it changes, renews or deletes an object
 abbrev pub Alters : Action → Type 0
+Alters Logout = ⊥
 Alters Balance = ⊥
 Alters Check = ⊥
 Alters Info = ⊥
@@ -28,6 +29,7 @@ Alters Renew = Unit {0}
 
 -- it acts on an object that has to be there
 abbrev pub ActsOnObject : Action → Type 0
+ActsOnObject Logout = ⊥
 ActsOnObject Balance = ⊥
 ActsOnObject Check = ⊥
 ActsOnObject Info = Unit {0}

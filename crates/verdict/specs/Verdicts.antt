@@ -2,7 +2,7 @@
 use Rattle.std.specs.Prelude.{ℕ, Option, Some, None}
 use Rattle.policy.specs.Rules.{PolicyRules}
 use Rattle.protocol.specs.declared.code.Code.{Code}
-use Rattle.protocol.specs.declared.code.Code.TheVariants.{Completed}
+use Rattle.protocol.specs.declared.code.Code.TheVariants.{Completed, CompletedEndingSession}
 use Rattle.protocol.specs.declared.command.Command.{Command}
 use Rattle.protocol.specs.Codes.{code_of_form}
 use Rattle.protocol.specs.declared.command.Command.TheVariants.{Bad, Asked}
@@ -21,6 +21,7 @@ refused code = record { code = code; content = None }
 
 -- the code of a request that isn't refused
 abbrev pub code_granted : Request → Facts → Code
+code_granted requests.Logout f = CompletedEndingSession
 code_granted requests.Balance f = Completed
 code_granted (requests.CheckContact names) f = Completed
 code_granted (requests.CheckDomain names) f = Completed

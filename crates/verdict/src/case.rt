@@ -128,6 +128,7 @@ impl<'a> Case<'a> {
         match self.request.action() {
             Action::Create => self.host_known(),
             Action::Update => self.facts.at_new_name.as_ref(),
+            Action::Logout => None,
             Action::Balance | Action::Check | Action::Info | Action::Delete | Action::Renew => None,
         }
     }

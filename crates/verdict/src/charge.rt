@@ -19,6 +19,7 @@ fn price_of(policy: &Policy, action: Action) -> u32
     match action {
         Action::Create => policy.create_price(),
         Action::Renew => policy.renew_price(),
+        Action::Logout => 0,
         Action::Balance | Action::Check | Action::Info | Action::Delete | Action::Update => 0,
     }
 }

@@ -36,6 +36,7 @@ pub(crate) fn code_granted(request: &Request, facts: &Facts) -> Code
 {
     match request {
         Request::DeleteDomain { name } => code_of_deletion(facts.domain_seen(name.text())),
+        Request::Logout => Code::CompletedEndingSession,
         _ => Code::Completed,
     }
 }
