@@ -1,8 +1,9 @@
 -- What a well formed command asks for.
-use Rattle.std.specs.Prelude.{Result, Ok}
+use Rattle.std.specs.Prelude.{Result, Ok, Err}
 use Rattle.serde_json.specs.Data.{Data}
 use Rattle.names.specs.Zone.{ZoneRules}
 use Rattle.protocol.specs.declared.form.FormFault.{FormFault}
+use Rattle.protocol.specs.declared.form.FormFault.TheVariants.{UseError}
 use Rattle.protocol.specs.declared.command.Request.{Request}
 use Rattle.protocol.specs.declared.command.Request.TheVariants.{Logout, Balance}
 use Rattle.eppforms.specs.declared.table.CommandKind.{CommandKind}
@@ -12,7 +13,10 @@ use Rattle.eppcommands.specs.Contact.{check_contact, info_contact, create_contac
 use Rattle.eppcommands.specs.Domain.{check_domain, info_domain, create_domain, delete_domain, update_domain, renew_domain}
 use Rattle.eppcommands.specs.Host.{check_host, info_host, create_host, delete_host, update_host}
 
+-- hello and login are nothing that a registry is asked
 abbrev pub request_of : CommandKind → ZoneRules → Data → Result Request FormFault
+request_of kinds.Hello zone d = Err UseError
+request_of kinds.Login zone d = Err UseError
 request_of kinds.Logout zone d = Ok Logout
 request_of kinds.Balance zone d = Ok Balance
 request_of kinds.CheckContact zone d = check_contact d

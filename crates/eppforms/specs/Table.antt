@@ -7,9 +7,11 @@ use Rattle.eppforms.specs.declared.table.Choice.{Choice}
 use Rattle.eppforms.specs.declared.table.Field.{Field}
 use Rattle.eppforms.specs.declared.table.TheConstants.{FORMS}
 use Rattle.eppforms.specs.declared.table.Verb.{Verb}
-use Rattle.eppforms.specs.declared.table.Verb.TheVariants.{Logout, Balance, Check, Info, Create, Delete, Update, Renew}
+use Rattle.eppforms.specs.declared.table.Verb.TheVariants.{Hello, Login, Logout, Balance, Check, Info, Create, Delete, Update, Renew}
 
 abbrev pub verb_text : Verb → List ℕ
+verb_text Hello = codes "hello"
+verb_text Login = codes "login"
 verb_text Logout = codes "logout"
 verb_text Balance = codes "balance"
 verb_text Check = codes "check"

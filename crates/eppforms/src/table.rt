@@ -12,6 +12,8 @@ use objects::ObjectKind;
 /// What `cmd` may say.
 #[derive(Clone, Copy)]
 pub enum Verb {
+    Hello,
+    Login,
     Logout,
     Balance,
     Check,
@@ -28,6 +30,8 @@ impl Verb {
         ensures { result.now ≡ spec.verb_text self }
     {
         match self {
+            Verb::Hello => "hello",
+            Verb::Login => "login",
             Verb::Logout => "logout",
             Verb::Balance => "balance",
             Verb::Check => "check",
@@ -74,6 +78,8 @@ pub fn object_named(text: &str) -> Option<ObjectKind>
 /// The commands.
 #[derive(Clone, Copy)]
 pub enum CommandKind {
+    Hello,
+    Login,
     Logout,
     Balance,
     CheckContact,
@@ -264,6 +270,18 @@ macro_rules! members {
     };
 }
 
+/// RFC 5730, 2.4.
+const HELLO: &[Field] = &[CMD, CL_TRID];
+
+/// RFC 5730, 2.9.1.1. Whose id and password they are is asked of the policy.
+const LOGIN: &[Field] = &[
+    CMD,
+    CL_TRID,
+    must!(Top, Id, text!(HANDLE_LENGTH, Free)),
+    must!(Top, Pw, text!(limits!(6, 16), Free)),
+    must!(Top, Version, WORD),
+];
+
 /// RFC 5730, 2.9.1.2.
 const LOGOUT: &[Field] = &[CMD, CL_TRID];
 
@@ -388,6 +406,8 @@ const RENEW_DOMAIN: &[Field] = members![
 
 /// The forms of the commands.
 pub const FORMS: &[CommandForm] = &[
+    (plain!(Hello, Hello), HELLO),
+    (plain!(Login, Login), LOGIN),
     (plain!(Logout, Logout), LOGOUT),
     (plain!(Balance, Balance), BALANCE),
     (on!(Check, Contact, CheckContact), CHECK_CONTACT),

@@ -8,6 +8,7 @@ mod form;
 mod lists;
 mod order;
 mod reply;
+mod session;
 mod years;
 
 pub use code::Code;
@@ -22,4 +23,5 @@ pub use reply::{
     CheckResult, ContactHidden, ContactInfo, Created, Data, Deleted, DomainHidden, DomainInfo,
     HostInfo, Reason, Renewed, Reply, SvTrid, TransferInfo,
 };
+pub use session::{BeforeLogin, Credentials, InSession};
 pub use years::Years;
