@@ -30,6 +30,10 @@ abbrev pub command_of_json : ZoneRules → Option Data → Command
 command_of_json zone None = Bad None SyntaxError
 command_of_json zone (Some d) = command_of_data zone d
 
+-- the JSON value that a payload is, if it is one
+abbrev pub value_in : List ℕ → Option Data
+value_in payload = if is_utf8 payload then read payload else None
+
 -- which command a payload is
 abbrev pub command_in : ZoneRules → List ℕ → Command
-command_in zone payload = command_of_json zone (if is_utf8 payload then read payload else None)
+command_in zone payload = command_of_json zone (value_in payload)

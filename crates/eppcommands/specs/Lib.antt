@@ -5,4 +5,5 @@ pub mod Domain
 pub mod Host
 pub mod Request
 pub mod Command
+pub mod Session
 pub mod Order

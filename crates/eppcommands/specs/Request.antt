@@ -1,10 +1,11 @@
 -- What a well formed command asks for.
-use Rattle.std.specs.Prelude.{Result, Ok}
+use Rattle.std.specs.Prelude.{Result, Ok, Err}
 use Rattle.serde_json.specs.Data.{Data}
 use Rattle.names.specs.Zone.{ZoneRules}
 use Rattle.protocol.specs.declared.form.FormFault.{FormFault}
+use Rattle.protocol.specs.declared.form.FormFault.TheVariants.{UseError}
 use Rattle.protocol.specs.declared.command.Request.{Request}
-use Rattle.protocol.specs.declared.command.Request.TheVariants.{Balance, PollRequest, PollAck}
+use Rattle.protocol.specs.declared.command.Request.TheVariants.{Balance, PollRequest, PollAck, Logout}
 use Rattle.eppforms.specs.declared.table.CommandKind.{CommandKind}
 use Rattle.eppforms.specs.declared.table.CommandKind.TheVariants as kinds
 use Rattle.eppforms.specs.declared.member.Member.TheVariants as members
@@ -21,7 +22,11 @@ poll_ack d = do
   id ← text_at Top members.Id d
   Ok (PollAck id)
 
+-- hello and login are nothing that a registry is asked
 abbrev pub request_of : CommandKind → ZoneRules → Data → Result Request FormFault
+request_of kinds.Hello zone d = Err UseError
+request_of kinds.Login zone d = Err UseError
+request_of kinds.Logout zone d = Ok Logout
 request_of kinds.Balance zone d = Ok Balance
 request_of kinds.CheckContact zone d = check_contact d
 request_of kinds.CheckDomain zone d = check_domain zone d

@@ -16,17 +16,31 @@ use std::alloc::{AllocError, Global};
 pub fn command_of(alloc: Global, payload: &[u8], zone: &Zone) -> Result<Command, AllocError>
     ensures { IfOk result (λ command. command ≡ spec.command_in zone.now payload.now) }
 {
-    match Value::from_slice(alloc, payload) {
-        Ok(value) => command_of_value(alloc, &value, zone),
-        Err(error) if error.is_memory() => Err(AllocError),
-        Err(_) => Ok(Command::Bad {
+    match value_in(alloc, payload)? {
+        Some(value) => command_of_value(alloc, &value, zone),
+        None => Ok(Command::Bad {
             cl_trid: None,
             fault: FormFault::SyntaxError,
         }),
     }
 }
 
-fn command_of_value(alloc: Global, value: &Value, zone: &Zone) -> Result<Command, AllocError>
+/// The JSON value that a payload is, if it is one.
+pub(crate) fn value_in(alloc: Global, payload: &[u8]) -> Result<Option<Value>, AllocError>
+    ensures { IfOk result (λ value. option_map view value ≡ spec.value_in payload.now) }
+{
+    match Value::from_slice(alloc, payload) {
+        Ok(value) => Ok(Some(value)),
+        Err(error) if error.is_memory() => Err(AllocError),
+        Err(_) => Ok(None),
+    }
+}
+
+pub(crate) fn command_of_value(
+    alloc: Global,
+    value: &Value,
+    zone: &Zone,
+) -> Result<Command, AllocError>
     ensures { IfOk result (λ command. command ≡ spec.command_of_data zone.now (view value.now)) }
 {
     let cl_trid = cl_trid_of(alloc, value)?;
@@ -38,7 +52,7 @@ fn command_of_value(alloc: Global, value: &Value, zone: &Zone) -> Result<Command
 }
 
 /// The command's own identifier, where it is well formed.
-fn cl_trid_of(alloc: Global, value: &Value) -> Result<Option<Text>, AllocError>
+pub(crate) fn cl_trid_of(alloc: Global, value: &Value) -> Result<Option<Text>, AllocError>
     ensures { IfOk result (λ cl_trid. cl_trid ≡ spec.cl_trid_in (view value.now)) }
 {
     match member_of(value, Member::ClTrid) {

@@ -12,7 +12,7 @@ use crate::host::{check_host, create_host, delete_host, info_host, update_host};
 use crate::reading::{Fault, text_at};
 use eppforms::{CommandKind, Member, Section, checked_command};
 use names::Zone;
-use protocol::Request;
+use protocol::{FormFault, Request};
 use serde_json::Value;
 use std::alloc::Global;
 
@@ -22,6 +22,8 @@ pub fn request_in(alloc: Global, value: &Value, zone: &Zone) -> Result<Request, 
     ensures { Gives result (spec.request_in zone.now (view value.now)) }
 {
     match checked_command(value)? {
+        CommandKind::Hello | CommandKind::Login => Err(Fault::Refused(FormFault::UseError)),
+        CommandKind::Logout => Ok(Request::Logout),
         CommandKind::Balance => Ok(Request::Balance),
         CommandKind::CheckContact => check_contact(alloc, value),
         CommandKind::CheckDomain => check_domain(alloc, value, zone),

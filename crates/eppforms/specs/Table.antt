@@ -8,11 +8,14 @@ use Rattle.eppforms.specs.declared.table.Choice.{Choice}
 use Rattle.eppforms.specs.declared.table.Field.{Field}
 use Rattle.eppforms.specs.declared.table.TheConstants.{FORMS}
 use Rattle.eppforms.specs.declared.table.Verb.{Verb}
-use Rattle.eppforms.specs.declared.table.Verb.TheVariants.{Balance, Check, Info, Create, Delete, Update, Renew, Restore, Poll}
+use Rattle.eppforms.specs.declared.table.Verb.TheVariants.{Balance, Check, Info, Create, Delete, Update, Renew, Restore, Poll, Hello, Login, Logout}
 use Rattle.eppforms.specs.declared.table.Op.{Op}
 use Rattle.eppforms.specs.declared.table.Op.TheVariants as ops
 
 abbrev pub verb_text : Verb → List ℕ
+verb_text Hello = codes "hello"
+verb_text Login = codes "login"
+verb_text Logout = codes "logout"
 verb_text Balance = codes "balance"
 verb_text Check = codes "check"
 verb_text Info = codes "info"

@@ -13,6 +13,9 @@ use protocol::object_text;
 /// What `cmd` may say.
 #[derive(Clone, Copy)]
 pub enum Verb {
+    Hello,
+    Login,
+    Logout,
     Balance,
     Check,
     Info,
@@ -30,6 +33,9 @@ impl Verb {
         ensures { result.now ≡ spec.verb_text self }
     {
         match self {
+            Verb::Hello => "hello",
+            Verb::Login => "login",
+            Verb::Logout => "logout",
             Verb::Balance => "balance",
             Verb::Check => "check",
             Verb::Info => "info",
@@ -89,6 +95,9 @@ impl Op {
 /// The commands.
 #[derive(Clone, Copy)]
 pub enum CommandKind {
+    Hello,
+    Login,
+    Logout,
     Balance,
     CheckContact,
     CheckDomain,
@@ -332,6 +341,19 @@ macro_rules! without_object {
     };
 }
 
+/// RFC 5730, 2.4.
+const HELLO: &[Field] = without_object![];
+
+/// RFC 5730, 2.9.1.1. Whose id and password they are is asked of the policy.
+const LOGIN: &[Field] = without_object![
+    must!(Top, Id, text!(HANDLE_LENGTH, Free)),
+    must!(Top, Pw, text!(limits!(6, 16), Free)),
+    must!(Top, Version, WORD),
+];
+
+/// RFC 5730, 2.9.1.2.
+const LOGOUT: &[Field] = without_object![];
+
 /// What the caller's account has. It is on no object.
 const BALANCE: &[Field] = without_object![];
 
@@ -487,6 +509,9 @@ const POLL: &[Field] = without_object![OP, may!(Top, Id, MESSAGE_ID)];
 
 /// The forms of the commands. The first that fits is the one.
 pub const FORMS: &[CommandForm] = &[
+    (plain!(Hello, Hello), HELLO),
+    (plain!(Login, Login), LOGIN),
+    (plain!(Logout, Logout), LOGOUT),
     (plain!(Balance, Balance), BALANCE),
     (on!(Check, Contact, CheckContact), CHECK_CONTACT),
     (on!(Check, Domain, CheckDomain), CHECK_DOMAIN),

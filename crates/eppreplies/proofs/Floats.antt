@@ -18,6 +18,7 @@ use Rattle.objects.specs.Graces.{states_of}
 use Rattle.objects.specs.StatusTexts.{status_text, rgp_text}
 use Rattle.eppreplies.specs.Members.{members_with, texts_value, moment_value}
 use Rattle.eppreplies.specs.Answer.{settled_value, answer_members, answer_value}
+use Rattle.eppreplies.specs.Session.{nobodys_members, nobodys_value}
 use Rattle.eppreplies.specs.Greeting.{greeting_value}
 use Rattle.eppreplies.specs.Reply.{reason_text, checked_members, checked_value, checks_value, created_members, balance_members, renewed_members, deleted_members, polled_members, acked_members, transfer_members, transfer_value, postal_members, postal_value, contact_transfer_of, contact_members, host_members, domain_members, data_value, reply_members, reply_value, deleted_of, restore_requested_of, secret_of, transfer_of}
 
@@ -173,3 +174,6 @@ answer_plain code done = members_plain (answer_members code done) (refl, (maybe_
 
 pub greeting_plain : (date : ℕ) → IsPlain (greeting_value date)
 greeting_plain date = refl
+
+pub nobodys_plain : (cl_trid : Option (List ℕ)) (code : Code) → IsPlain (nobodys_value cl_trid code)
+nobodys_plain cl_trid code = members_plain (nobodys_members cl_trid code) (maybe_text cl_trid, (refl, (refl, (refl, tt))))

@@ -3,3 +3,4 @@ pub mod Item
 pub mod Reply
 pub mod Answer
 pub mod Greeting
+pub mod Session

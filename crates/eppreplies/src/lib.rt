@@ -4,6 +4,7 @@
 //! - `reply`: a reply as a payload.
 //! - `answer`: the answer to an order.
 //! - `greeting`: what answers hello.
+//! - `session`: the replies of nobody's command.
 //! - `item`: what a member says, and an object of members.
 #![tactic(auto)]
 
@@ -11,7 +12,9 @@ mod answer;
 mod greeting;
 mod item;
 mod reply;
+mod session;
 
 pub use answer::order_bytes;
 pub use greeting::greeting_bytes;
 pub use reply::reply_bytes;
+pub use session::nobodys_bytes;

@@ -73,6 +73,7 @@ is_accepted code = nat_lt (number_of code) 2000
 abbrev pub code_of_form : FormFault → Code
 code_of_form faults.UnknownCommand = UnknownCommand
 code_of_form faults.SyntaxError = SyntaxError
+code_of_form faults.UseError = UseError
 code_of_form faults.ParameterMissing = ParameterMissing
 code_of_form faults.ParameterRange = ParameterRange
 code_of_form faults.ParameterSyntax = ParameterSyntax

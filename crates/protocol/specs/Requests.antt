@@ -15,7 +15,7 @@ use Rattle.protocol.specs.declared.command.DomainLists.{DomainLists}
 use Rattle.protocol.specs.declared.command.HostLists.{HostLists}
 use Rattle.protocol.specs.declared.command.HostUpdate.{HostUpdate}
 use Rattle.protocol.specs.declared.command.Request.{Request}
-use Rattle.protocol.specs.declared.command.Request.TheVariants.{Balance, CheckContact, CheckDomain, CheckHost, InfoContact, InfoDomain, InfoHost, CreateContact, CreateDomain, CreateHost, DeleteContact, DeleteDomain, DeleteHost, UpdateContact, UpdateDomain, UpdateHost, RenewDomain, RequestRestore, ReportRestore, PollRequest, PollAck}
+use Rattle.protocol.specs.declared.command.Request.TheVariants.{Balance, CheckContact, CheckDomain, CheckHost, InfoContact, InfoDomain, InfoHost, CreateContact, CreateDomain, CreateHost, DeleteContact, DeleteDomain, DeleteHost, UpdateContact, UpdateDomain, UpdateHost, RenewDomain, RequestRestore, ReportRestore, PollRequest, PollAck, Logout}
 
 -- a test of what is there, if it is
 abbrev pub holds_of : {A : Type 0} → (A → Bool) → Option A → Bool
@@ -109,6 +109,7 @@ only action = record {
 -- What is charged needs a balance (RFC 5730, 3: 2104). What a deletion gives back hangs on the
 -- graces that run (RFC 3915, 3.1).
 abbrev pub asks_of : Request → Asks
+asks_of Logout = only actions.Logout
 asks_of Balance = record (only actions.Balance) { reads_balance = true }
 asks_of (CheckContact names) = record (only actions.Check) { contacts = names }
 asks_of (CheckDomain names) = record (only actions.Check) { domains = names }

@@ -30,6 +30,7 @@ pub enum Command {
 /// What a command does with its object (RFC 5730, 2.9).
 #[derive(Clone, Copy, Drop)]
 pub enum Action {
+    Logout,
     Balance,
     Check,
     Info,
@@ -46,6 +47,8 @@ pub enum Action {
 /// What a well formed command asks for.
 #[derive(Drop)]
 pub enum Request {
+    /// The session is to end (RFC 5730, 2.9.1.2).
+    Logout,
     /// What the registrar's account has.
     Balance,
     /// Which of the names could be created (RFC 5733, 3.1.1).
@@ -211,6 +214,7 @@ impl Request {
         ensures { result ≡ (spec.asks_of self.now).action }
     {
         match self {
+            Request::Logout => Action::Logout,
             Request::Balance => Action::Balance,
             Request::CheckContact { .. }
             | Request::CheckDomain { .. }

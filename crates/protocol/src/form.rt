@@ -11,6 +11,8 @@ pub enum FormFault {
     UnknownCommand,
     /// 2001: no JSON object, or a member that the command doesn't have.
     SyntaxError,
+    /// 2002: it has no place there, as a login in a session.
+    UseError,
     /// 2003: a member is missing, or an update changes nothing.
     ParameterMissing,
     /// 2004: a length, a count or a number is out of range.
@@ -27,6 +29,7 @@ impl FormFault {
         match self {
             FormFault::UnknownCommand => Code::UnknownCommand,
             FormFault::SyntaxError => Code::SyntaxError,
+            FormFault::UseError => Code::UseError,
             FormFault::ParameterMissing => Code::ParameterMissing,
             FormFault::ParameterRange => Code::ParameterRange,
             FormFault::ParameterSyntax => Code::ParameterSyntax,

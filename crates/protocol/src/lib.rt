@@ -9,6 +9,7 @@ mod lists;
 mod notice;
 mod order;
 mod reply;
+mod session;
 mod years;
 
 pub use code::Code;
@@ -24,4 +25,5 @@ pub use reply::{
     CheckResult, ContactHidden, ContactInfo, Created, Data, Deleted, DomainHidden, DomainInfo,
     HostInfo, Polled, Reason, Renewed, Reply, SvTrid, TransferInfo,
 };
+pub use session::{BeforeLogin, Credentials, InSession};
 pub use years::Years;

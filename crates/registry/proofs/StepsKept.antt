@@ -1,7 +1,7 @@
 -- A step of the rules leaves a well formed registry.
 use Rattle.std.proofs.Common.{◌≡◌, ℕ, Result, Ok, Err, IfOk, OnOk, sym, subst, arith}
 use Rattle.policy.specs.Rules.{PolicyRules, IsRegistrar}
-use Rattle.registry.specs.Execution.{IsOrderStep, IsStep}
+use Rattle.registry.specs.Execution.{IsGreetingStep, IsOrderStep, IsStep}
 use Rattle.registry.specs.WellFormed.{KeepsWellFormed, StaysWellFormed}
 use Rattle.rules.specs.Orders.{order_effect}
 use Rattle.rules.specs.Steps.{effect}
@@ -35,3 +35,8 @@ pub kept_order_step : {E : Type 0} (result : Result Code E) (clean : Type 0) (p 
     → IfOk result (λ code. clean → IsOrderStep p order moment before after code) → OnOk result (clean → KeepsWellFormed p before after)
 kept_order_step (Ok code) clean p order moment before after step = λ taken. kept-after-order p order moment before after (step taken).left
 kept_order_step (Err e) clean p order moment before after step = tt
+
+pub kept_greeting : {E : Type 0} (result : Result ℕ E) (clean : Type 0) (p : PolicyRules) (moment : ℕ) (before after : Registry)
+    → IfOk result (λ date. clean → IsGreetingStep p moment before after date) → OnOk result (clean → KeepsWellFormed p before after)
+kept_greeting (Ok date) clean p moment before after step = λ taken is. subst (IsRegistry p) (sym (step taken).left) (kept-now p (lapsed p moment before) (kept-lapsed p moment before is))
+kept_greeting (Err e) clean p moment before after step = tt

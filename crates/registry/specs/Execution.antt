@@ -1,5 +1,5 @@
 -- What the calls of the registry leave.
-use Rattle.std.specs.Prelude.{◌≡◌, ℕ, Bool, true, false, Result, Ok, Err}
+use Rattle.std.specs.Prelude.{◌≡◌, ℕ, max, Bool, true, false, Result, Ok, Err}
 use Rattle.policy.specs.Rules.{PolicyRules}
 use Rattle.registry.specs.declared.fault.Fault.{Fault}
 use Rattle.registry.specs.declared.fault.Fault.TheVariants as faults
@@ -33,12 +33,20 @@ pub record IsOrderStep (p : PolicyRules) (order : Order) (moment : ℕ) (before 
   pub answered : code ≡ order_answer p order (lapsed p moment before)
   pub left : now p after ≡ now p (order_effect p order (lapsed p moment before))
 
+-- Hello is answered with the registry's clock at that moment, and nothing else is done.
+pub record IsGreetingStep (p : PolicyRules) (moment : ℕ) (before after : Registry) (date : ℕ) : Type 0 where
+  pub dated : date ≡ max moment before.clock
+  pub left : now p after ≡ now p (lapsed p moment before)
+
 -- a book's registry takes the step, if nothing wrong was taken from what keeps it
 abbrev pub Steps : PolicyRules → ℕ → Command → ℕ → Reply → BookState → BookState → Type 0
 Steps p r c moment reply old new = new.is_clean ≡ true → IsStep p r c moment old.content.registry new.content.registry reply
 
 abbrev pub OrderSteps : PolicyRules → Order → ℕ → Code → BookState → BookState → Type 0
 OrderSteps p order moment code old new = new.is_clean ≡ true → IsOrderStep p order moment old.content.registry new.content.registry code
+
+abbrev pub Greets : PolicyRules → ℕ → ℕ → BookState → BookState → Type 0
+Greets p moment date old new = new.is_clean ≡ true → IsGreetingStep p moment old.content.registry new.content.registry date
 
 -- the step is isolated, if nothing wrong was taken from what keeps the book
 abbrev pub Isolates : PolicyRules → ℕ → Command → ℕ → Reply → BookState → BookState → Type 0

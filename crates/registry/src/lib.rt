@@ -4,6 +4,7 @@
 #![tactic(auto)]
 
 mod fault;
+mod greeting;
 mod lapse;
 mod opening;
 mod order;

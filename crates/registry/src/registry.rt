@@ -6,7 +6,7 @@ ghost use Rattle.accounts.specs.Account.{saturating_next};
 ghost use Rattle.basis.specs.Sets.{names_code};
 ghost use Rattle.policy.specs.Rules.{IsRegistrar, IsSound};
 ghost use Rattle.policy.specs.Terms.{terms_of};
-ghost use Rattle.registry.specs.Execution.{Fails, GoesBack, IsPrepared, Isolates, Keeps, OrderSteps, SameTerms, Steps, last_call};
+ghost use Rattle.registry.specs.Execution.{Fails, GoesBack, Greets, IsPrepared, Isolates, Keeps, OrderSteps, SameTerms, Steps, last_call};
 ghost use Rattle.registry.specs.Opening.{Opens, Refuses};
 ghost use Rattle.registry.specs.WellFormed.{BookCanBeReopened, BookKeepsWellFormed, BookStaysWellFormed, OpensWellFormed};
 ghost use Rattle.rules.specs.Steps.{reply_of};
@@ -16,6 +16,7 @@ ghost use Rattle.verdict.specs.ResponseData.{id_of};
 ghost use Rattle.protocol.specs.Requests.{cl_trid_of};
 
 use crate::fault::{Fault, OpenFault};
+use crate::greeting::greet_in;
 use crate::opening::open_in;
 use crate::order::execute_order_in;
 use crate::transaction::{advance_clock, facts_for, keep, or_rollback};
@@ -133,6 +134,38 @@ impl<B: Book + Drop> Registry<B> {
             return Err(Fault::Moment);
         }
         self.order_step(order, moment)
+    }
+
+    /// Answers hello at a moment with the server's date (RFC 5730, 2.4), which is the clock; a moment
+    /// before the clock counts as the clock. Nobody's command is counted. A well formed registry
+    /// stays well formed.
+    pub fn greet(&mut self, moment: Moment) -> Result<Moment, Fault>
+        ensures step { IfOk result (λ date. Greets self.old.policy moment date (B.state self.old.book) (B.state self.new.book)) }
+        ensures well_formed { OnOk result (BookKeepsWellFormed self.old.policy (B.state self.old.book) (B.state self.new.book)) }
+        ensures terms { OnOk result (SameTerms (B.state self.old.book) (B.state self.new.book)) }
+        ensures reopens { OnOk result (BookCanBeReopened self.old.policy (B.state self.new.book)) }
+        ensures fault { IfErr result (λ fault. Fails fault (B.state self.old.book) (B.state self.new.book)) }
+        ensures late { (result ≡ Err Fault.Moment) ↔ (last_call < moment) }
+        ensures follows { Follows (B.state self.old.book) (B.state self.new.book) }
+        ensures policy { self.new.policy ≡ self.old.policy }
+    {
+        if is_late(moment) {
+            return Err(Fault::Moment);
+        }
+        self.greeting_step(moment)
+    }
+
+    /// Answers hello by the rules.
+    fn greeting_step(&mut self, moment: Moment) -> Result<Moment, Fault>
+        ensures step { IfOk result (λ date. Greets self.old.policy moment date (B.state self.old.book) (B.state self.new.book)) }
+        ensures fault { IfErr result (λ fault. Fails fault (B.state self.old.book) (B.state self.new.book)) }
+        ensures terms { OnOk result (SameTerms (B.state self.old.book) (B.state self.new.book)) }
+        ensures early { result ≢ Err Fault.Moment }
+        ensures follows { Follows (B.state self.old.book) (B.state self.new.book) }
+        ensures policy { self.new.policy ≡ self.old.policy }
+    {
+        self.book.begin()?;
+        greet_in(&mut self.book, self.alloc, moment, &self.policy)
     }
 
     /// Carries out an order by the rules.

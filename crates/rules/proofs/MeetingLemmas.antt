@@ -193,6 +193,7 @@ module _ (p : PolicyRules) (r : ℕ) (cl_trid : Option (List ℕ)) (s : Registry
   -- what an accepted command changes meets what is asked
   meets : (q : Request) → AllMeet p r (changes_of p r s.clock q (facts p r (Asked cl_trid q) s)) counted
   unfolding changes_of
+  meets requests.Logout = tt
   meets requests.Balance = tt
   meets (requests.CreateContact new) = (tt, (inl refl, tt))
   meets (requests.CreateDomain new) = (put-own p r counted (new_domain r s.clock (facts p r (Asked cl_trid (requests.CreateDomain new)) s) new) (eq-self r), (inl refl, (inl refl, tt)))

@@ -19,7 +19,7 @@ use Rattle.protocol.specs.declared.code.Code.TheVariants.{Completed, CompletedAc
 use Rattle.protocol.specs.declared.command.Command.{Command}
 use Rattle.protocol.specs.declared.command.Command.TheVariants.{Asked, Bad}
 use Rattle.protocol.specs.declared.command.Request.{Request}
-use Rattle.protocol.specs.declared.command.Request.TheVariants.{Balance, CheckContact, CheckDomain, CheckHost, InfoContact, InfoDomain, InfoHost, CreateContact, CreateDomain, CreateHost, DeleteContact, DeleteDomain, DeleteHost, UpdateContact, UpdateDomain, UpdateHost, RenewDomain, RequestRestore, ReportRestore, PollRequest, PollAck}
+use Rattle.protocol.specs.declared.command.Request.TheVariants.{Balance, CheckContact, CheckDomain, CheckHost, InfoContact, InfoDomain, InfoHost, CreateContact, CreateDomain, CreateHost, DeleteContact, DeleteDomain, DeleteHost, UpdateContact, UpdateDomain, UpdateHost, RenewDomain, RequestRestore, ReportRestore, PollRequest, PollAck, Logout}
 use Rattle.verdict.specs.declared.rules.Condition.TheVariants.{ReferenceIsMissing}
 use Rattle.protocol.specs.Codes.{is_accepted}
 use Rattle.facts.specs.declared.facts.Facts.{Facts}
@@ -35,6 +35,7 @@ module _ (p : PolicyRules) (r : ℕ) (cl_trid : Option (List ℕ)) (s : Registry
   kept-accepted : (request : Request) → refusal_of p r s.clock request (facts p r (Asked cl_trid request) s) ≡ None
       → IsRegistry p (changed_all p (changes_of p r s.clock request (facts p r (Asked cl_trid request) s)) (with_account r with_command s))
   unfolding changes_of
+  kept-accepted Logout taken = kept-counted p r cl_trid s place is
   kept-accepted Balance taken = kept-counted p r cl_trid s place is
   kept-accepted (CheckContact names) taken = kept-counted p r cl_trid s place is
   kept-accepted (CheckDomain names) taken = kept-counted p r cl_trid s place is

@@ -261,6 +261,7 @@ host_changes zone r t u (Some h) = renaming (name_of u.name) (updated_host zone 
 
 -- what an accepted command changes
 unfoldable pub changes_of : PolicyRules → ℕ → ℕ → Request → Facts → List Change
+changes_of p r t requests.Logout f = []
 changes_of p r t requests.Balance f = []
 changes_of p r t (requests.CreateContact new) f = PutContact (new_contact r t f new) ∷ Give r TakeSerial ∷ []
 changes_of p r t (requests.CreateDomain new) f =

@@ -2,14 +2,15 @@
 use Rattle.std.specs.Prelude.{◌≡◌, ◌≢◌, ◌⊎◌, ◌+◌, ◌≤◌, ◌==◌, ℕ, List, [], ◌∷◌, ◌++◌, length, if◌then◌else◌, Option, Some, None, IsSome, Result, Ok, Err, codes, ⊤}
 use Rattle.std.specs.List.{flat_map}
 use Rattle.std.specs.Io.KnownBytes.{Appends, Keeps}
-use Rattle.eppcommands.specs.Command.{command_in}
+use Rattle.eppcommands.specs.Session.{in_session}
 use Rattle.eppcommands.specs.Order.{order_in}
 use Rattle.eppreplies.specs.Answer.{answer_text}
+use Rattle.eppreplies.specs.Greeting.{greeting_text}
 use Rattle.eppreplies.specs.Reply.{reply_text}
 use Rattle.policy.specs.declared.fault.PolicyFault.TheVariants as faults
 use Rattle.policy.specs.Reading.{policy_of}
 use Rattle.policy.specs.Rules.{PolicyRules}
-use Rattle.registry.specs.Execution.{IsOrderStep, IsStep, last_call}
+use Rattle.registry.specs.Execution.{IsGreetingStep, IsOrderStep, IsStep, last_call}
 use Rattle.registry.specs.Opening.{opened}
 use Rattle.script.specs.declared.exit.Exit.{Exit}
 use Rattle.script.specs.declared.exit.Exit.TheVariants as exits
@@ -20,8 +21,11 @@ use Rattle.store.specs.declared.plain.PlainBook.{PlainBook}
 use Rattle.store.specs.Book.{nothing}
 use Rattle.store.specs.Plain.{plain_state}
 use Rattle.protocol.specs.declared.code.Code.{Code}
+use Rattle.protocol.specs.declared.command.Command.{Command}
 use Rattle.protocol.specs.declared.order.Order.{Order}
 use Rattle.protocol.specs.declared.reply.Reply.{Reply}
+use Rattle.protocol.specs.declared.session.InSession.{InSession}
+use Rattle.protocol.specs.declared.session.InSession.TheVariants.{Hello, Ordinary}
 use Rattle.model.specs.Registry.{Registry}
 
 -- the registry that a book holds
@@ -40,11 +44,18 @@ pub record GivesUp (before after : Registry) (text : List ℕ) : Type 0 where
   pub fixed : text ≡ failed_text
 
 -- one step of the rules by a registrar's command, and the text of its reply
-pub record IsCommandStep (p : PolicyRules) (r : ℕ) (payload : List ℕ) (moment : ℕ) (before after : Registry) (text : List ℕ) : Type 0 where
+pub record IsCommandStep (p : PolicyRules) (r : ℕ) (c : Command) (moment : ℕ) (before after : Registry) (text : List ℕ) : Type 0 where
   pub reply : Reply
   pub early : moment ≤ last_call
-  pub step : IsStep p r (command_in p.zone payload) moment before after reply
+  pub step : IsStep p r c moment before after reply
   pub written : text ≡ reply_text reply
+
+-- hello is answered with the greeting
+pub record IsHelloStep (p : PolicyRules) (moment : ℕ) (before after : Registry) (text : List ℕ) : Type 0 where
+  pub date : ℕ
+  pub early : moment ≤ last_call
+  pub step : IsGreetingStep p moment before after date
+  pub written : text ≡ greeting_text date
 
 -- one step of the rules by an order of the operator, and the text of its answer
 pub record IsOrderedStep (p : PolicyRules) (order : Order) (moment : ℕ) (before after : Registry) (text : List ℕ) : Type 0 where
@@ -53,9 +64,14 @@ pub record IsOrderedStep (p : PolicyRules) (order : Order) (moment : ℕ) (befor
   pub step : IsOrderStep p order moment before after code
   pub written : text ≡ answer_text code None
 
+-- what a registrar says takes one registry to another; it is taken as logged in
+abbrev pub SaidSteps : PolicyRules → ℕ → InSession → ℕ → Registry → Registry → List ℕ → Type 0
+SaidSteps p r Hello moment before after text = IsHelloStep p moment before after text
+SaidSteps p r (Ordinary c) moment before after text = IsCommandStep p r c moment before after text
+
 -- what somebody sends at a moment takes one registry to another, and is answered by a text
 abbrev pub Steps : PolicyRules → Sender → List ℕ → ℕ → Registry → Registry → List ℕ → Type 0
-Steps p (Registrar r) payload moment before after text = IsCommandStep p r payload moment before after text
+Steps p (Registrar r) payload moment before after text = SaidSteps p r (in_session p.zone payload) moment before after text
 Steps p Operator payload moment before after text =
     (order : Order) × (order_in payload ≡ Some order) × IsOrderedStep p order moment before after text
 
@@ -63,7 +79,16 @@ abbrev pub IsAnswered : PolicyRules → Sender → List ℕ → ℕ → Registry
 IsAnswered p sender payload moment before after text =
     GivesUp before after text ⊎ Steps p sender payload moment before after text
 
--- the same of an order
+-- the same of a command
+abbrev pub IsAnsweredCommand : PolicyRules → ℕ → Command → ℕ → Registry → Registry → List ℕ → Type 0
+IsAnsweredCommand p r c moment before after text =
+    GivesUp before after text ⊎ IsCommandStep p r c moment before after text
+
+-- of hello
+abbrev pub IsAnsweredHello : PolicyRules → ℕ → Registry → Registry → List ℕ → Type 0
+IsAnsweredHello p moment before after text = GivesUp before after text ⊎ IsHelloStep p moment before after text
+
+-- of an order
 abbrev pub IsAnsweredOrder : PolicyRules → Order → ℕ → Registry → Registry → List ℕ → Type 0
 IsAnsweredOrder p order moment before after text =
     GivesUp before after text ⊎ IsOrderedStep p order moment before after text

@@ -1,19 +1,18 @@
 //! What a line is answered.
 ghost use Rattle.std.specs.Prelude.{◌≡◌, ◌≤◌, Some, None, option_map, IfOk, IfErr, IfSome, IfNone, OnSome, OnErr};
-ghost use Rattle.eppcommands.specs.Command.{command_in};
 ghost use Rattle.policy.specs.Rules.{IsRegistrar};
-ghost use Rattle.registry.specs.Execution.{IsOrderStep, IsStep, last_call};
+ghost use Rattle.registry.specs.Execution.{IsGreetingStep, IsOrderStep, IsStep, last_call};
 ghost use Rattle.script.specs.declared.line.Sender.TheVariants.{Registrar};
 ghost use Rattle.script.specs.Lines.{IsKnown};
-ghost use Rattle.script.specs.Runs.{Answers, IsAnswered, IsAnsweredOrder, IsStopped, IsUnread, kept, told_text};
+ghost use Rattle.script.specs.Runs.{Answers, IsAnswered, IsAnsweredCommand, IsAnsweredHello, IsAnsweredOrder, IsStopped, IsUnread, kept, told_text};
 
 use crate::exit::Exit;
 use crate::line::Line;
 use basis::registrar::RegistrarNo;
 use calendar::Moment;
-use eppcommands::{command_of, order_of};
-use eppreplies::{order_bytes, reply_bytes};
-use protocol::{Code, Order, Reply};
+use eppcommands::{in_session, order_of};
+use eppreplies::{greeting_bytes, order_bytes, reply_bytes};
+use protocol::{Code, Command, InSession, Order, Reply};
 use registry::Registry;
 use std::alloc::{AllocError, Global};
 use store::PlainBook;
@@ -49,7 +48,7 @@ fn answer_asked(
 {
     let (payload, moment) = (line.payload, line.moment);
     match line.sender.registrar() {
-        Some(caller) => Ok(answer_command(alloc, registry, caller, payload, moment)?),
+        Some(caller) => Ok(answer_registrar(alloc, registry, caller, payload, moment)?),
         None => match order_of(alloc, payload) {
             Ok(Some(order)) => Ok(answer_order(alloc, registry, order, moment)?),
             Ok(None) => Err(Exit::Script(number)),
@@ -58,8 +57,8 @@ fn answer_asked(
     }
 }
 
-/// What a registrar's command is answered.
-fn answer_command(
+/// What a registrar's payload is answered.
+fn answer_registrar(
     alloc: Global,
     registry: &mut Registry<PlainBook>,
     caller: RegistrarNo,
@@ -70,7 +69,53 @@ fn answer_command(
     ensures answered { IfOk result (λ told. IsAnswered registry.old.policy (Registrar caller) payload.now moment (kept registry.old.book) (kept registry.new.book) (told_text (option_map (λ text. text.items) told))) }
     ensures policy { registry.new.policy ≡ registry.old.policy }
 {
-    let Some(reply) = reply_to(alloc, registry, caller, payload, moment) else {
+    match in_session(alloc, payload, registry.policy().zone()) {
+        Ok(InSession::Hello) => answer_hello(alloc, registry, moment),
+        Ok(InSession::Ordinary(command)) => {
+            answer_command(alloc, registry, caller, command, moment)
+        }
+        Err(_) => Ok(None),
+    }
+}
+
+/// What hello is answered.
+fn answer_hello(
+    alloc: Global,
+    registry: &mut Registry<PlainBook>,
+    moment: Moment,
+) -> Result<Option<Vec<u8>>, AllocError>
+    ensures answered { IfOk result (λ told. IsAnsweredHello registry.old.policy moment (kept registry.old.book) (kept registry.new.book) (told_text (option_map (λ text. text.items) told))) }
+    ensures policy { registry.new.policy ≡ registry.old.policy }
+{
+    let Some(date) = date_of(registry, moment) else {
+        return Ok(None);
+    };
+    Ok(Some(greeting_bytes(alloc, date)?))
+}
+
+/// The date of the greeting, unless the call gave up.
+fn date_of(registry: &mut Registry<PlainBook>, moment: Moment) -> Option<Moment>
+    ensures step { IfSome result (IsGreetingStep registry.old.policy moment (kept registry.old.book) (kept registry.new.book)) }
+    ensures early { OnSome result (moment ≤ last_call) }
+    ensures same { IfNone result (kept registry.new.book ≡ kept registry.old.book) }
+    ensures policy { registry.new.policy ≡ registry.old.policy }
+{
+    registry.greet(moment).ok()
+}
+
+/// What a registrar's command is answered.
+fn answer_command(
+    alloc: Global,
+    registry: &mut Registry<PlainBook>,
+    caller: RegistrarNo,
+    command: Command,
+    moment: Moment,
+) -> Result<Option<Vec<u8>>, AllocError>
+    requires { IsRegistrar registry.old.policy caller }
+    ensures answered { IfOk result (λ told. IsAnsweredCommand registry.old.policy caller command moment (kept registry.old.book) (kept registry.new.book) (told_text (option_map (λ text. text.items) told))) }
+    ensures policy { registry.new.policy ≡ registry.old.policy }
+{
+    let Some(reply) = reply_to(registry, caller, command, moment) else {
         return Ok(None);
     };
     let bytes = reply_bytes(alloc, &reply);
@@ -78,21 +123,19 @@ fn answer_command(
     Ok(Some(bytes?))
 }
 
-/// The reply to a command, unless the call gave up or the command found no memory.
+/// The reply to a command, unless the call gave up.
 fn reply_to(
-    alloc: Global,
     registry: &mut Registry<PlainBook>,
     caller: RegistrarNo,
-    payload: &[u8],
+    command: Command,
     moment: Moment,
 ) -> Option<Reply>
     requires { IsRegistrar registry.old.policy caller }
-    ensures step { IfSome result (IsStep registry.old.policy caller (command_in registry.old.policy.zone payload.now) moment (kept registry.old.book) (kept registry.new.book)) }
+    ensures step { IfSome result (IsStep registry.old.policy caller command moment (kept registry.old.book) (kept registry.new.book)) }
     ensures early { OnSome result (moment ≤ last_call) }
     ensures same { IfNone result (kept registry.new.book ≡ kept registry.old.book) }
     ensures policy { registry.new.policy ≡ registry.old.policy }
 {
-    let command = command_of(alloc, payload, registry.policy().zone()).ok()?;
     let reply = registry.execute(caller, &command, moment);
     drop(command);
     reply.ok()

@@ -11,12 +11,13 @@ use Rattle.objects.specs.declared.sight.Seen.{Seen}
 use Rattle.objects.specs.declared.sight.Seen.TheVariants.{Full, TransferParty, Public}
 use Rattle.policy.specs.Rules.{PolicyRules}
 use Rattle.protocol.specs.declared.command.Action.{Action}
-use Rattle.protocol.specs.declared.command.Action.TheVariants.{Balance, Check, Info, Create, Delete, Update, Renew, RequestRestore, ReportRestore, PollRequest, PollAck}
+use Rattle.protocol.specs.declared.command.Action.TheVariants.{Balance, Check, Info, Create, Delete, Update, Renew, RequestRestore, ReportRestore, PollRequest, PollAck, Logout}
 use Rattle.protocol.specs.declared.command.Request.{Request}
 use Rattle.protocol.specs.Requests.{asks_of, domains_asked}
 
 -- the price of a year in cents
 abbrev pub price_of : PolicyRules → Action → ℕ
+price_of p Logout = 0
 price_of p Balance = 0
 price_of p Check = 0
 price_of p Info = 0

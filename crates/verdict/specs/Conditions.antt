@@ -32,7 +32,7 @@ use Rattle.objects.specs.Statuses.{has_status}
 use Rattle.objects.specs.StatusTexts.{status_text}
 use Rattle.policy.specs.Rules.{PolicyRules}
 use Rattle.protocol.specs.declared.command.Action.{Action}
-use Rattle.protocol.specs.declared.command.Action.TheVariants.{Balance, Check, Info, Create, Delete, Update, Renew, RequestRestore, ReportRestore, PollRequest, PollAck}
+use Rattle.protocol.specs.declared.command.Action.TheVariants.{Balance, Check, Info, Create, Delete, Update, Renew, RequestRestore, ReportRestore, PollRequest, PollAck, Logout}
 use Rattle.protocol.specs.declared.command.Request.{Request}
 use Rattle.protocol.specs.declared.lists.TheConstants.{MOST_ADDRESSES, MOST_CONTACTS, MOST_HOSTS}
 use Rattle.protocol.specs.Requests.{GivenLists, asks_of, contacts_asked, domains_asked, holds_of, hosts_asked}
@@ -148,6 +148,7 @@ secret_is_wrong r q f =
 abbrev pub known_by : Action → Option HostFacts → Option HostFacts → Option HostFacts
 known_by Create given new = given
 known_by Update given new = new
+known_by Logout given new = None
 known_by Balance given new = None
 known_by Check given new = None
 known_by Info given new = None

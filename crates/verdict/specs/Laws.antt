@@ -7,7 +7,7 @@ use Rattle.objects.specs.declared.grace.Phase.TheVariants.{Redemption, Restoring
 use Rattle.objects.specs.declared.status.Status.TheVariants.{ClientDeleteProhibited, ClientRenewProhibited, ClientUpdateProhibited, PendingDelete, PendingTransfer, ServerDeleteProhibited, ServerRenewProhibited, ServerUpdateProhibited}
 use Rattle.policy.specs.Rules.{PolicyRules}
 use Rattle.protocol.specs.declared.command.Action.{Action}
-use Rattle.protocol.specs.declared.command.Action.TheVariants.{Balance, Check, Info, Create, Delete, Update, Renew, RequestRestore, ReportRestore, PollRequest, PollAck}
+use Rattle.protocol.specs.declared.command.Action.TheVariants.{Balance, Check, Info, Create, Delete, Update, Renew, RequestRestore, ReportRestore, PollRequest, PollAck, Logout}
 use Rattle.protocol.specs.declared.command.Command.{Command}
 use Rattle.protocol.specs.declared.command.Command.TheVariants.{Bad, Asked}
 use Rattle.protocol.specs.declared.command.Request.{Request}
@@ -20,6 +20,7 @@ use Rattle.verdict.specs.Conditions.{full_domain, has_subordinates, is_in, is_li
 
 -- it changes, renews, deletes or restores an object
 abbrev pub Alters : Action → Type 0
+Alters Logout = ⊥
 Alters Balance = ⊥
 Alters Check = ⊥
 Alters Info = ⊥
@@ -34,6 +35,7 @@ Alters PollAck = ⊥
 
 -- it acts on an object that has to be there
 abbrev pub ActsOnObject : Action → Type 0
+ActsOnObject Logout = ⊥
 ActsOnObject Balance = ⊥
 ActsOnObject Check = ⊥
 ActsOnObject Info = Unit {0}

@@ -160,6 +160,7 @@ host_info_at p known = option_map (host_info p known) known.host
 -- ---- the data of each command
 
 abbrev pub response_data : PolicyRules → ℕ → ℕ → Request → Facts → Option Data
+response_data p r t requests.Logout f = None
 response_data p r t requests.Balance f = Some (told.Balance f.account.balance)
 response_data p r t (requests.CheckContact names) f = Some (told.Checked (map (contact_result f) names))
 response_data p r t (requests.CheckDomain names) f = Some (told.Checked (map (domain_result f) names))

@@ -3,7 +3,7 @@ use Rattle.std.specs.Prelude.{ℕ, List, [], Option}
 use Rattle.policy.specs.Rules.{PolicyRules}
 use Rattle.protocol.specs.declared.code.Code.{Code}
 use Rattle.protocol.specs.declared.command.Request.{Request}
-use Rattle.protocol.specs.declared.command.Request.TheVariants.{Balance, CheckContact, CheckDomain, CheckHost, InfoContact, InfoDomain, InfoHost, CreateContact, CreateDomain, CreateHost, DeleteContact, DeleteDomain, DeleteHost, UpdateContact, UpdateDomain, UpdateHost, RenewDomain, RequestRestore, ReportRestore, PollRequest, PollAck}
+use Rattle.protocol.specs.declared.command.Request.TheVariants.{Balance, CheckContact, CheckDomain, CheckHost, InfoContact, InfoDomain, InfoHost, CreateContact, CreateDomain, CreateHost, DeleteContact, DeleteDomain, DeleteHost, UpdateContact, UpdateDomain, UpdateHost, RenewDomain, RequestRestore, ReportRestore, PollRequest, PollAck, Logout}
 use Rattle.facts.specs.declared.facts.Facts.{Facts}
 use Rattle.verdict.specs.declared.refusal.Cause.{Cause}
 use Rattle.verdict.specs.declared.rules.Condition.{Condition}
@@ -12,6 +12,7 @@ use Rattle.verdict.specs.Conditions.{holds}
 use Rattle.verdict.specs.Refusals.{first_refusal}
 
 abbrev pub rows_of : Request → List (Cause × Condition)
+rows_of Logout = []
 rows_of Balance = []
 rows_of (CheckContact names) = []
 rows_of (CheckDomain names) = []

@@ -2,7 +2,7 @@
 use Rattle.std.specs.Prelude.{ℕ, Option, Some, None}
 use Rattle.policy.specs.Rules.{PolicyRules}
 use Rattle.protocol.specs.declared.code.Code.{Code}
-use Rattle.protocol.specs.declared.code.Code.TheVariants.{Completed, CompletedActionPending}
+use Rattle.protocol.specs.declared.code.Code.TheVariants.{Completed, CompletedActionPending, CompletedEndingSession}
 use Rattle.protocol.specs.declared.command.Command.{Command}
 use Rattle.protocol.specs.Codes.{code_of_form}
 use Rattle.protocol.specs.declared.command.Command.TheVariants.{Bad, Asked}
@@ -23,6 +23,7 @@ refused code = record { code = code; content = None }
 -- the code of a request that isn't refused: the restoration that is asked for awaits its report
 -- (RFC 3915, 4.2.5)
 abbrev pub code_granted : Request → Facts → Code
+code_granted requests.Logout f = CompletedEndingSession
 code_granted requests.Balance f = Completed
 code_granted (requests.CheckContact names) f = Completed
 code_granted (requests.CheckDomain names) f = Completed

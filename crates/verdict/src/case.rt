@@ -129,7 +129,8 @@ impl<'a> Case<'a> {
         match self.request.action() {
             Action::Create => self.host_known(),
             Action::Update => self.facts.at_new_name.as_ref(),
-            Action::Balance
+            Action::Logout
+            | Action::Balance
             | Action::Check
             | Action::Info
             | Action::Delete

@@ -45,7 +45,8 @@ fn price_of(policy: &Policy, action: Action) -> u32
     match action {
         Action::Create => policy.create_price(),
         Action::Renew | Action::ReportRestore => policy.renew_price(),
-        Action::Balance
+        Action::Logout
+        | Action::Balance
         | Action::Check
         | Action::Info
         | Action::Delete

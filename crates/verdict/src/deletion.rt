@@ -39,6 +39,7 @@ pub(crate) fn code_granted(request: &Request, facts: &Facts) -> Code
         Request::DeleteDomain { name } => code_of_deletion(facts.domain_seen(name.text())),
         Request::RequestRestore { .. } => Code::CompletedActionPending,
         Request::PollRequest => code_of_poll(&facts.queue.oldest),
+        Request::Logout => Code::CompletedEndingSession,
         _ => Code::Completed,
     }
 }

@@ -37,6 +37,7 @@ pub(crate) fn response_data(
     ensures { IfOk result (λ content. content ≡ spec.response_data policy.now caller moment request.now facts.now) }
 {
     match request {
+        Request::Logout => Ok(None),
         Request::Balance => Ok(Some(Data::Balance(facts.account.balance))),
         Request::CheckContact { names } => {
             let results = check_contacts(alloc, facts, names.as_slice())?;

@@ -251,7 +251,8 @@ pub fn rows(request: &Request) -> &'static [Row]
     ensures ordered { IsTrue (in_order result.now) }
 {
     match request {
-        Request::Balance
+        Request::Logout
+        | Request::Balance
         | Request::CheckContact { .. }
         | Request::CheckDomain { .. }
         | Request::CheckHost { .. }

@@ -1,16 +1,15 @@
 use Rattle.std.proofs.Common.{◌≡◌, true, false, sym, ◌∙◌}
 use Rattle.serde_json.specs.Errors.{IsMemory}
 use Rattle.serde_json.specs.View.{view}
-use Rattle.std.proofs.lemmas.Result.{IfOk-weaker}
 use Rattle.eppcommands.proofs.Payloads.{well_read, not_read}
-use Rattle.eppcommands.proofs.command.command_of.Goals as goal
+use Rattle.eppcommands.proofs.command.value_in.Goals as goal
 
 pub returns-in-Ok : goal.returns-in-Ok
 returns-in-Ok c =
     let h = c.in-Ok.ensures.ok in
-    IfOk-weaker c.command_of_value.result _ _ (λ v e. e ∙ sym (well_read c.args.zone.now c.args.payload.now (view c.in-Ok.value) h.0 h.1)) c.command_of_value.ensures
+    sym (well_read c.args.payload.now (view c.in-Ok.value) h.0 h.1)
 
 pub returns-in-Err-2 : goal.returns-in-Err-2
 returns-in-Err-2 c =
     let other = λ (m : IsMemory c.in-Err.error). let yes : true ≡ false = sym (c.is_memory.ensures.1 m) ∙ c.if-is_memory.false in absurd (cc) in
-    sym (not_read c.args.zone.now c.args.payload.now (c.in-Err.ensures.err other))
+    sym (not_read c.args.payload.now (c.in-Err.ensures.err other))

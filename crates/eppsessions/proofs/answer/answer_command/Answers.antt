@@ -1,0 +1,14 @@
+use Rattle.std.proofs.Common.{ap, inr}
+use Rattle.eppreplies.specs.Reply.{reply_text}
+use Rattle.eppsessions.proofs.answer.answer_command.Goals as goal
+
+pub returns-in-Ok-clause-answered : goal.returns-in-Ok-clause-answered
+returns-in-Ok-clause-answered g c =
+    let h = c.in-Ok.ensures in
+    inr (record {
+      reply = c.in-Ok.reply;
+      step = h.step;
+      isolation = h.isolation;
+      bytes = λ clean other same. ap reply_text ((h.isolation clean).same_reply other same);
+      told = c.told.ensures;
+    })
