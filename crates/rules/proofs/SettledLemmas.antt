@@ -1,11 +1,13 @@
 -- What a command or an order leaves of a registry in which nothing is due has nothing due in it.
-use Rattle.std.proofs.Common.{◌≡◌, ⊎_elim, inl, inr, ℕ, ◌<◌, ◌≤◌, max, Bool, true, false, cond, List, [], ◌∷◌, Option, Some, None, option_and_then, option_map, refl, sym, ap, subst, arith}
+use Rattle.std.proofs.Common.{◌≡◌, ⊎_elim, inl, inr, ℕ, ◌+◌, ◌<◌, ◌≤◌, max, Bool, true, false, cond, List, [], ◌∷◌, Option, Some, None, option_and_then, option_map, refl, sym, ap, subst, arith}
 use Rattle.std.proofs.lemmas.Bool.{cases_lt}
 use Rattle.std.specs.FinMap.{get}
 use Rattle.calendar.specs.Moment.{plus_years}
 use Rattle.calendar.proofs.YearLaws.{plus_years-lt, plus_years-zero}
 use Rattle.lifecycle.specs.Lapse.{completes_at, due_at, due_by, due_of, earlier}
 use Rattle.lifecycle.specs.Phases.{purge_at}
+use Rattle.lifecycle.specs.Turns.{turns}
+use Rattle.lifecycle.proofs.TurnLaws.{turns-are}
 use Rattle.names.specs.declared.given.GivenName.{GivenName}
 use Rattle.names.specs.GivenName.{name_of}
 use Rattle.objects.specs.declared.contact.Contact.{Contact}
@@ -22,6 +24,7 @@ use Rattle.objects.specs.declared.sight.Seen.TheVariants.{Full, TransferParty, P
 use Rattle.objects.specs.declared.transfer.Transfer.{Transfer}
 use Rattle.objects.specs.Domains.{expiry}
 use Rattle.objects.specs.Sight.{contact_as}
+use Rattle.objects.specs.Transfers.{is_pending}
 use Rattle.policy.specs.Rules.{PolicyRules, IsSound, place_of}
 use Rattle.protocol.specs.declared.command.Command.{Command}
 use Rattle.protocol.specs.declared.command.Command.TheVariants.{Asked, Bad}
@@ -36,18 +39,20 @@ use Rattle.protocol.specs.declared.order.StatusOrder.{StatusOrder}
 use Rattle.protocol.specs.Codes.{is_accepted}
 use Rattle.protocol.specs.Orders.{name_ordered}
 use Rattle.facts.specs.declared.facts.DomainFacts.{DomainFacts}
+use Rattle.facts.specs.declared.facts.Facts.{Facts}
 use Rattle.facts.specs.Facts.{contact_facts, contact_seen, domain_at, domain_facts, domain_seen, facts, host_seen, lookups}
 use Rattle.model.specs.declared.object.Object.TheVariants as objects
 use Rattle.model.specs.LapseLaws.{IsSettled}
 use Rattle.model.specs.Objects.{object_at, object_ordered}
 use Rattle.model.specs.Registry.{Registry}
 use Rattle.model.specs.View.{domain_sight}
+use Rattle.model.specs.WellFormed.{IsDeletion, IsRegistry}
 use Rattle.verdict.specs.Deletion.{goes_at_once}
 use Rattle.verdict.specs.Orders.{order_code}
 use Rattle.rules.specs.declared.change.Change.{Change}
 use Rattle.rules.specs.declared.change.Change.TheVariants.{MoveClock, OpenAccount, PutContact, DropContact, PutDomain, DropDomain, PutHost, DropHost, RenameHost, LapseContact, LapseDomain, Give}
 use Rattle.rules.specs.Changes.{changed, changed_all, with_host_renamed}
-use Rattle.rules.specs.Decisions.{changes_after, changes_of, contact_changes, deletion_at, deletion_changes, domain_changes, ending, host_changes, renaming, renewal_changes, updated_domain, updated_host}
+use Rattle.rules.specs.Decisions.{changes_after, changes_of, contact_changes, deletion_at, deletion_changes, domain_changes, ending, host_changes, renaming, renewal_changes, report_changes, restore_changes, restored_domain, restoring_domain, updated_domain, updated_host}
 use Rattle.rules.specs.Orders.{cents_of, deposited, deposited_to, order_changes, order_effect, ordered}
 use Rattle.rules.specs.Steps.{decision, effect}
 use Rattle.rules.proofs.CommandLemmas.{at-itself, contact-full, domain-full}
@@ -79,6 +84,33 @@ due-no-earlier p t d e deletion transfer created years lt = subst (λ (o : Optio
 -- a domain that is deleted is purged later
 due-after-deletion : (p : PolicyRules) → IsSound p → (t : ℕ) → t < purge_at p (record { deleted = t; restore_requested = None })
 due-after-deletion p sound t = omega (arith, sound.days_in_range.redemption.0, sound.days_in_range.pending_delete.0)
+
+-- one whose restoration is asked for is purged later
+due-after-request : (p : PolicyRules) → IsSound p → (t : ℕ) (x : Deletion) → t < purge_at p (record x { restore_requested = Some t })
+due-after-request p sound t x = omega (arith, sound.days_in_range.restore.0, sound.days_in_range.pending_delete.0)
+
+restoring-ahead : (p : PolicyRules) → IsSound p → (t : ℕ) (d : Domain) → t < due_at p d → t < due_at p (restoring_domain t d)
+restoring-ahead p sound t d lt = by d.deletion lt
+  where
+    by : (o : Option Deletion) → t < due_of p o d → t < due_of p (option_map (λ (x : Deletion). record x { restore_requested = Some t }) o) (restoring_domain t d)
+    by None lt = lt
+    by (Some x) lt = due-after-request p sound t x
+
+earlier-of-both : (t m n : ℕ) (o : Option ℕ) → t < n → t < earlier m o → t < earlier n o
+earlier-of-both t m n None ahead lt = ahead
+earlier-of-both t m n (Some k) ahead lt = omega (arith, ahead, lt)
+
+completes-none : (o : Option Transfer) → is_pending o ≡ false → completes_at o ≡ None
+completes-none None none = refl
+completes-none (Some x) none = rw none refl
+
+-- one that is restored has the years that put its expiry after the moment, and no transfer was pending
+restored-ahead : (p : PolicyRules) (s : Registry) (t : ℕ) (d : Domain) → IsDeletion p s d d.deletion → t < due_at p d → t < due_at p (restored_domain t d)
+restored-ahead p s t d deleted lt = by d.deletion deleted lt
+  where
+    by : (o : Option Deletion) → IsDeletion p s d o → t < due_of p o d → t < earlier (plus_years d.created (d.years + turns d t)) (completes_at d.transfer)
+    by None deleted lt = earlier-of-both t (expiry d) (plus_years d.created (d.years + turns d t)) (completes_at d.transfer) (turns-are d t).after lt
+    by (Some x) deleted lt = rw (completes-none d.transfer deleted.transfer) (turns-are d t).after
 
 -- ---- changes that put nothing that is due
 
@@ -156,7 +188,7 @@ nothing-where : (p : PolicyRules) (t : ℕ) (changes : List Change) (b : Bool) �
 nothing-where p t changes true h = h
 nothing-where p t changes false h = tt
 
-module _ (p : PolicyRules) (sound : IsSound p) (r : ℕ) (cl_trid : Option (List ℕ)) (s : Registry) (is : IsSettled p s) where
+module _ (p : PolicyRules) (sound : IsSound p) (r : ℕ) (cl_trid : Option (List ℕ)) (s : Registry) (formed : IsRegistry p s) (is : IsSettled p s) where
   abbrev t : ℕ
   t = s.clock
 
@@ -186,11 +218,24 @@ module _ (p : PolicyRules) (sound : IsSound p) (r : ℕ) (cl_trid : Option (List
   domain-updated u (Some (TransferParty face transfer)) e = tt
   domain-updated u (Some (Public face)) e = tt
 
-  renewed : (q : Request) (name : List ℕ) (seen : Sight) → IsSeen name seen → PutNothingDue p t (renewal_changes p r t q seen)
-  renewed q name None e = tt
-  renewed q name (Some (Full known)) e = (due-no-earlier p t known.domain _ refl refl refl (omega arith) (not-due name known e), (tt, tt))
-  renewed q name (Some (TransferParty face transfer)) e = tt
-  renewed q name (Some (Public face)) e = tt
+  renewed : (q : Request) (f : Facts) (name : List ℕ) (seen : Sight) → IsSeen name seen → PutNothingDue p t (renewal_changes p r t q f seen)
+  renewed q f name None e = tt
+  renewed q f name (Some (Full known)) e = (due-no-earlier p t known.domain _ refl refl refl (omega arith) (not-due name known e), (tt, tt))
+  renewed q f name (Some (TransferParty face transfer)) e = tt
+  renewed q f name (Some (Public face)) e = tt
+
+  restoring : (name : List ℕ) (seen : Sight) → IsSeen name seen → PutNothingDue p t (restore_changes t seen)
+  restoring name None e = tt
+  restoring name (Some (Full known)) e = (restoring-ahead p sound t known.domain (not-due name known e), tt)
+  restoring name (Some (TransferParty face transfer)) e = tt
+  restoring name (Some (Public face)) e = tt
+
+  restored : (q : Request) (f : Facts) (name : List ℕ) (seen : Sight) → IsSeen name seen → PutNothingDue p t (report_changes p r t q f seen)
+  restored q f name None e = tt
+  restored q f name (Some (Full known)) e =
+      (restored-ahead p s t known.domain (formed.domains name known.domain (domain-full p r s None (get s.domains name) known (sym e))).deletion (not-due name known e), (tt, tt))
+  restored q f name (Some (TransferParty face transfer)) e = tt
+  restored q f name (Some (Public face)) e = tt
 
   ended : (known : DomainFacts) (d : Domain) (at_once : Bool) → PutsNothingDue p t (ending at_once t known d)
   ended known d true = tt
@@ -241,7 +286,17 @@ module _ (p : PolicyRules) (sound : IsSound p) (r : ℕ) (cl_trid : Option (List
   puts-nothing-due (requests.RenewDomain name expires years) =
       let q : Request = requests.RenewDomain name expires years in
       let c : Command = Asked cl_trid q in
-      renewed q (name_of name) (domain_seen (facts p r c s) (name_of name)) (ap (option_and_then (λ known. known.seen)) (at-itself (name_of name) (domain_facts (lookups p r c s) c (name_of name))))
+      renewed q (facts p r c s) (name_of name) (domain_seen (facts p r c s) (name_of name)) (ap (option_and_then (λ known. known.seen)) (at-itself (name_of name) (domain_facts (lookups p r c s) c (name_of name))))
+  puts-nothing-due (requests.RequestRestore name) =
+      let c : Command = Asked cl_trid (requests.RequestRestore name) in
+      restoring (name_of name) (domain_seen (facts p r c s) (name_of name)) (ap (option_and_then (λ known. known.seen)) (at-itself (name_of name) (domain_facts (lookups p r c s) c (name_of name))))
+  puts-nothing-due (requests.ReportRestore name del_time res_time) =
+      let q : Request = requests.ReportRestore name del_time res_time in
+      let c : Command = Asked cl_trid q in
+      restored q (facts p r c s) (name_of name) (domain_seen (facts p r c s) (name_of name)) (ap (option_and_then (λ known. known.seen)) (at-itself (name_of name) (domain_facts (lookups p r c s) c (name_of name))))
+  puts-nothing-due requests.PollRequest = tt
+  puts-nothing-due (requests.PollAck id) = (tt, tt)
+  puts-nothing-due requests.Logout = tt
   puts-nothing-due (requests.CheckContact names) = tt
   puts-nothing-due (requests.CheckDomain names) = tt
   puts-nothing-due (requests.CheckHost names) = tt
@@ -250,13 +305,13 @@ module _ (p : PolicyRules) (sound : IsSound p) (r : ℕ) (cl_trid : Option (List
   puts-nothing-due (requests.InfoHost name) = tt
 
 -- A registrar's command leaves nothing due where nothing was.
-pub settled-effect : (p : PolicyRules) → IsSound p → (r : ℕ) (c : Command) (s : Registry) → IsSettled p s → IsSettled p (effect p r c s)
+pub settled-effect : (p : PolicyRules) → IsSound p → (r : ℕ) (c : Command) (s : Registry) → IsRegistry p s → IsSettled p s → IsSettled p (effect p r c s)
 unfolding changes_after
-settled-effect p sound r (Bad cl_trid fault) s is = settled-changed_all p (decision p r (Bad cl_trid fault) s).changes s (tt, tt) is
-settled-effect p sound r (Asked cl_trid q) s is =
+settled-effect p sound r (Bad cl_trid fault) s formed is = settled-changed_all p (decision p r (Bad cl_trid fault) s).changes s (tt, tt) is
+settled-effect p sound r (Asked cl_trid q) s formed is =
     let changes : List Change = changes_of p r s.clock q (facts p r (Asked cl_trid q) s) in
     settled-changed_all p (decision p r (Asked cl_trid q) s).changes s
-    (tt, nothing-where p s.clock changes (is_accepted (decision p r (Asked cl_trid q) s).verdict.code) (puts-nothing-due p sound r cl_trid s is q)) is
+    (tt, nothing-where p s.clock changes (is_accepted (decision p r (Asked cl_trid q) s).verdict.code) (puts-nothing-due p sound r cl_trid s formed is q)) is
 
 -- ---- orders
 

@@ -40,6 +40,7 @@ years_needed t (Some (Public face)) = 0
 -- A request charges for the years that it names. The report on a restoration names none: it charges
 -- for those that its domain needs (RFC 3915, 4.2.5).
 abbrev pub years_for : Action → ℕ → ℕ → ℕ
+years_for Logout named needed = named
 years_for Balance named needed = named
 years_for Check named needed = named
 years_for Info named needed = named
