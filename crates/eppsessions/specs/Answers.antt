@@ -1,5 +1,5 @@
 -- What the frames of a connection are answered (RFC 5730, 2.4, 2.6, 2.9.1).
-use Rattle.std.specs.Prelude.{◌≡◌, ◌⊎◌, ◌≢◌, ℕ, Bool, true, false, not, if◌then◌else◌, List, Option, Some, None, bytes_eq, codes}
+use Rattle.std.specs.Prelude.{◌≡◌, ◌⊎◌, ℕ, Bool, true, false, if◌then◌else◌, List, Option, Some, None, bytes_eq, codes}
 use Rattle.eppcommands.specs.Session.{before_login, in_session}
 use Rattle.eppreplies.specs.Greeting.{greeting_text}
 use Rattle.eppreplies.specs.Reply.{reply_text}
@@ -16,7 +16,7 @@ use Rattle.protocol.specs.declared.session.BeforeLogin.TheVariants as before
 use Rattle.protocol.specs.declared.session.Credentials.{Credentials}
 use Rattle.protocol.specs.declared.session.InSession.{InSession}
 use Rattle.protocol.specs.declared.session.InSession.TheVariants as within
-use Rattle.protocol.specs.Codes.{code_of_form, number_of}
+use Rattle.protocol.specs.Codes.{code_of_form}
 use Rattle.registry.specs.Execution.{Greets, IsUnchanged, Isolates, Steps}
 use Rattle.rules.specs.Steps.{answer}
 use Rattle.sessions.specs.Outcomes.{Outcome, replied, ended, failed, lost}

@@ -16,12 +16,12 @@ use streams::WriteFault;
 /// A reader that gives up to `step` bytes a read and none beyond the next cut, and whose read after
 /// `reads` others fails.
 #[derive(Drop)]
-struct Pieces<'a> {
+pub(crate) struct Pieces<'a> {
     bytes: &'a [u8],
     given: usize,
-    cuts: (usize, usize),
-    step: usize,
-    reads: usize,
+    pub(crate) cuts: (usize, usize),
+    pub(crate) step: usize,
+    pub(crate) reads: usize,
 }
 
 impl Pieces<'_> {
@@ -57,7 +57,7 @@ impl Read for Pieces<'_> {
 }
 
 /// A reader of the bytes, as many a read as are asked for.
-fn whole(bytes: &[u8]) -> Pieces<'_> {
+pub(crate) fn whole(bytes: &[u8]) -> Pieces<'_> {
     Pieces {
         bytes,
         given: 0,
@@ -70,11 +70,11 @@ fn whole(bytes: &[u8]) -> Pieces<'_> {
 /// A writer that takes up to `step` bytes a write, and whose write after `writes` others fails or
 /// takes no byte.
 #[derive(Drop)]
-struct Narrow {
-    bytes: Vec<u8>,
-    step: usize,
-    writes: usize,
-    fails: bool,
+pub(crate) struct Narrow {
+    pub(crate) bytes: Vec<u8>,
+    pub(crate) step: usize,
+    pub(crate) writes: usize,
+    pub(crate) fails: bool,
 }
 
 impl Write for Narrow {

@@ -5,6 +5,8 @@
 #[cfg(test)]
 mod books;
 #[cfg(test)]
+mod connections;
+#[cfg(test)]
 mod fixtures;
 #[cfg(test)]
 mod frames;
@@ -18,6 +20,8 @@ mod rdap_answers;
 mod replies;
 #[cfg(test)]
 mod scripts;
+#[cfg(test)]
+mod session_ends;
 #[cfg(test)]
 mod unicode;
 #[cfg(test)]

@@ -1,0 +1,37 @@
+-- What a registrar is sent hangs on nothing that it may not see.
+use Rattle.std.specs.Prelude.{◌≡◌, ◌⊎◌, ℕ, true, List}
+use Rattle.eppcommands.specs.Session.{in_session}
+use Rattle.eppframes.specs.Texts.{closing_text, failed_text}
+use Rattle.eppreplies.specs.Greeting.{greeting_text}
+use Rattle.eppreplies.specs.Reply.{reply_text}
+use Rattle.model.specs.Registry.{Registry, lapsed}
+use Rattle.model.specs.View.{View, view, view_for}
+use Rattle.policy.specs.Rules.{PolicyRules}
+use Rattle.protocol.specs.declared.session.InSession.{InSession}
+use Rattle.protocol.specs.declared.session.InSession.TheVariants.{Hello, Ordinary}
+use Rattle.rules.specs.Steps.{answer}
+use Rattle.sessions.specs.Outcomes.{Outcome, sent}
+use Rattle.store.specs.Book.{BookState}
+use Rattle.eppsessions.specs.Answers.{AnswersRegistrar}
+
+-- a command could not be carried out, or its reply found no memory or has no frame
+abbrev pub IsFixed : List ℕ → Type 0
+IsFixed text = (text ≡ failed_text) ⊎ (text ≡ closing_text)
+
+-- what the rules answer in a registry to what a registrar says
+abbrev pub text_told : PolicyRules → ℕ → InSession → Registry → List ℕ
+text_told p r Hello s = greeting_text s.clock
+text_told p r (Ordinary c) s = reply_text (answer p r c s)
+
+-- what the registrar sees there with it
+abbrev pub view_saying : PolicyRules → ℕ → InSession → Registry → View
+view_saying p r Hello s = view p r s
+view_saying p r (Ordinary c) s = view_for p r c s
+
+-- For each frame of a registrar that is logged in, also one that is no JSON: what is sent is what the
+-- rules answer in every registry that shows the registrar the same at that moment, or a fixed text.
+abbrev pub FramesAreIsolated : Type 0
+FramesAreIsolated = (p : PolicyRules) (r : ℕ) (payload : List ℕ) (moment : ℕ) (old new : BookState) (outcome : Outcome)
+    → AnswersRegistrar p r payload moment old outcome new → new.is_clean ≡ true → (other : Registry)
+    → view_saying p r (in_session p.zone payload) (lapsed p moment other) ≡ view_saying p r (in_session p.zone payload) (lapsed p moment old.content.registry)
+    → IsFixed (sent outcome) ⊎ (sent outcome ≡ text_told p r (in_session p.zone payload) (lapsed p moment other))
