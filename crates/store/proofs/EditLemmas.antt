@@ -270,6 +270,5 @@ made p (LapseDomain name None) s = refl
 made p (LapseDomain name (Some d)) s = refl
 made p (Give r what) s = given p r what s
 
-pub made-by : {A E : Type 0} (p : PolicyRules) (r : Result A E) (edits : List Edit) (c : Change) (s t : Stored) → edits ≡ edits_of p c s.registry → OnOk r (t ≡ edited_all edits s) → OnOk r (t ≡ with_changes p (c ∷ []) s)
-made-by p (Ok a) edits c s t e done = done ∙ ap (λ (es : List Edit). edited_all es s) e ∙ made p c s
-made-by p (Err f) edits c s t e done = tt
+pub made-by : (p : PolicyRules) (edits : List Edit) (c : Change) (s t : Stored) → edits ≡ edits_of p c s.registry → t ≡ edited_all edits s → t ≡ with_changes p (c ∷ []) s
+made-by p edits c s t e done = done ∙ ap (λ (es : List Edit). edited_all es s) e ∙ made p c s

@@ -1,3 +1,4 @@
 pub mod LedgerLemmas
 pub mod EditLemmas
 pub mod HeldLemmas
+pub mod QuietLemmas

@@ -4,4 +4,6 @@ pub mod DueOrder
 pub mod Ledgers
 pub mod Edits
 pub mod Lookups
+pub mod Contents
 pub mod Plain
+pub mod Quiet

@@ -1,19 +1,12 @@
 -- What a `PlainBook` holds.
 use Rattle.std.specs.Prelude.{◌≡◌, true, if◌then◌else◌, [], Option, Some, None}
-use Rattle.model.specs.Registry.{Registry}
 use Rattle.policy.specs.declared.terms.Terms.{Terms}
 use Rattle.store.specs.declared.book.Ready.{Ready}
 use Rattle.store.specs.declared.book.Ready.TheVariants.{Empty, Used}
-use Rattle.store.specs.declared.content.Content.{Content}
 use Rattle.store.specs.declared.plain.PlainBook.{PlainBook}
 use Rattle.store.specs.Book.{BookState, Stored}
+pub use Rattle.store.specs.Contents.{content_of, registry_in}
 use Rattle.store.specs.Edits.{undone_all}
-
-abbrev pub registry_in : Content → Registry
-registry_in c = record { contacts = c.contacts; hosts = c.hosts; domains = c.domains; accounts = c.accounts; clock = c.clock }
-
-abbrev pub content_of : Content → Stored
-content_of c = record { registry = registry_in c; terms = c.terms }
 
 -- what was held when the transaction began
 abbrev pub at_begin : PlainBook → Stored

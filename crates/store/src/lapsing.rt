@@ -1,17 +1,20 @@
 //! What of a registry in ordered maps is due.
-ghost use Rattle.std.specs.Prelude.{◌≡◌, ◌++◌, IfOk, OnOk};
+ghost use Rattle.std.specs.Prelude.{◌≡◌, ◌++◌, Some, IfOk, OnOk};
 ghost use Rattle.std.specs.FinMap.{entries};
 ghost use Rattle.store.specs.Due as spec;
+ghost use Rattle.store.specs.Quiet.{IsQuiet, due_put, until_contacts, until_domains};
 ghost use Rattle.store.specs.Plain.{registry_in};
 
 use crate::content::Content;
 use crate::due::Due;
+use crate::quiet::Quiet;
 use basis::list::Seq;
 use basis::text::Text;
 use calendar::Moment;
 use lifecycle::{contact_due_by, due_by};
 use objects::{Contact, Domain, ObjectKind};
 use policy::Policy;
+use rules::Change;
 use std::alloc::{AllocError, Global};
 use std::collections::BTreeSet;
 
@@ -25,6 +28,34 @@ impl Content {
         self.find_contacts(moment, &mut found)?;
         self.find_domains(moment, policy, &mut found)?;
         listed(self.alloc, found)
+    }
+
+    /// Until when nothing is due. Each contact and each domain is looked at.
+    pub fn quiet_from(&self, policy: &Policy) -> Quiet
+        ensures { IsQuiet (Some result) (registry_in self.now) }
+    {
+        let until = self.domains_from(self.contacts_from(last_moment()), policy);
+        Quiet::new(policy, until)
+    }
+
+    fn contacts_from(&self, until: Moment) -> Moment
+        ensures { result ≡ until_contacts until (entries self.now.contacts) }
+    {
+        let mut until = until;
+        for (_, contact) in self.contacts.iter() {
+            until = contact_due_by(contact, until).unwrap_or(until);
+        }
+        until
+    }
+
+    fn domains_from(&self, until: Moment, policy: &Policy) -> Moment
+        ensures { result ≡ until_domains policy.now until (entries self.now.domains) }
+    {
+        let mut until = until;
+        for (_, domain) in self.domains.iter() {
+            until = due_by(domain, until, policy).unwrap_or(until);
+        }
+        until
     }
 
     fn find_contacts(&self, moment: Moment, found: &mut BTreeSet<Due>) -> Result<(), AllocError>
@@ -48,6 +79,26 @@ impl Content {
             put_due(found, domain_due(name, domain, moment, policy)?)?;
         }
         Ok(())
+    }
+}
+
+/// A moment after all that a lapse looks at.
+fn last_moment() -> Moment {
+    Moment::first().plus_years_capped(u32::MAX)
+}
+
+/// When what a change puts is due, if that is by a moment.
+pub(crate) fn due_put(change: &Change, until: Moment, policy: &Policy) -> Option<Moment>
+    ensures { result ≡ due_put policy.now until change.now }
+{
+    match change {
+        Change::PutContact(contact) | Change::LapseContact(_, Some(contact)) => {
+            contact_due_by(contact, until)
+        }
+        Change::PutDomain(domain) | Change::LapseDomain(_, Some(domain)) => {
+            due_by(domain, until, policy)
+        }
+        _ => None,
     }
 }
 

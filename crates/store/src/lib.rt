@@ -10,7 +10,9 @@ mod fault;
 mod lapsing;
 mod ledgers;
 mod plain;
+mod quiet;
 mod renamed;
+mod transaction;
 
 pub use book::{Book, Ready};
 pub use due::Due;

@@ -1,0 +1,11 @@
+use Rattle.std.proofs.Common.{ap, sym, ◌∙◌}
+use Rattle.std.specs.FinMap.{entries}
+use Rattle.store.specs.Contents.{registry_in}
+use Rattle.store.specs.Quiet.{until_domains}
+use Rattle.store.proofs.QuietLemmas.{quiet-from}
+use Rattle.store.proofs.content.Content.quiet_from.Goals as goal
+
+pub returns : goal.returns
+returns c =
+    quiet-from c.args.policy.now c.new.result (registry_in c.args.self.now) c.last_moment.result c.new.ensures.ends
+    (c.new.ensures.until ∙ c.domains_from-until.ensures ∙ ap (λ m. until_domains c.args.policy.now m (entries c.args.self.now.domains)) c.contacts_from.ensures)

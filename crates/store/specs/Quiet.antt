@@ -1,0 +1,59 @@
+-- Until when nothing is due in a book in memory.
+use Rattle.std.specs.Prelude.{◌≡◌, ℕ, ◌≤◌, List, Option, Some, None, fold, min, option_and_then, unwrap_or}
+use Rattle.std.specs.FinMap.{get}
+use Rattle.lifecycle.specs.Lapse.{completes_at, due_at}
+use Rattle.model.specs.Registry.{Registry}
+use Rattle.objects.specs.declared.contact.Contact.{Contact}
+use Rattle.objects.specs.declared.domain.Domain.{Domain}
+use Rattle.lifecycle.specs.Periods.{passed}
+use Rattle.policy.specs.Rules.{PolicyRules}
+use Rattle.rules.specs.declared.change.Change.{Change}
+use Rattle.rules.specs.declared.change.Change.TheVariants.{MoveClock, OpenAccount, PutContact, DropContact, PutDomain, DropDomain, PutHost, DropHost, RenameHost, LapseContact, LapseDomain, Give}
+use Rattle.store.specs.declared.quiet.Quiet.{Quiet}
+
+-- the periods whose ends say when a deleted domain is purged
+pub record HasEnds (q : Quiet) (p : PolicyRules) : Type 0 where
+  pub redemption : p.days.redemption ≡ q.redemption
+  pub restore : p.days.restore ≡ q.restore
+  pub pending_delete : p.days.pending_delete ≡ q.pending_delete
+
+-- no contact and no domain is due before a moment
+abbrev pub NoneBefore : PolicyRules → ℕ → Registry → Type 0
+NoneBefore p until s =
+    ((name : List ℕ) (c : Contact) (m : ℕ) → get s.contacts name ≡ Some c → completes_at c.transfer ≡ Some m → until ≤ m)
+    × ((name : List ℕ) (d : Domain) → get s.domains name ≡ Some d → until ≤ due_at p d)
+
+-- where a moment is known, under any policy with these periods
+abbrev pub IsQuiet : Option Quiet → Registry → Type 0
+IsQuiet known s = (q : Quiet) → known ≡ Some q → (p : PolicyRules) → HasEnds q p → NoneBefore p q.until s
+
+abbrev pub sooner : ℕ → Option ℕ → ℕ
+sooner until None = until
+sooner until (Some due) = min until due
+
+abbrev pub quiet_with : Quiet → Option ℕ → Quiet
+quiet_with q due = record q { until = sooner q.until due }
+
+-- when what a change puts is due, if that is by a moment
+abbrev pub due_put : PolicyRules → ℕ → Change → Option ℕ
+due_put p until (PutContact c) = option_and_then (passed until) (completes_at c.transfer)
+due_put p until (PutDomain d) = passed until (due_at p d)
+due_put p until (LapseContact name None) = None
+due_put p until (LapseContact name (Some c)) = option_and_then (passed until) (completes_at c.transfer)
+due_put p until (LapseDomain name None) = None
+due_put p until (LapseDomain name (Some d)) = passed until (due_at p d)
+due_put p until (DropContact name) = None
+due_put p until (DropDomain name) = None
+due_put p until (PutHost h) = None
+due_put p until (DropHost name) = None
+due_put p until (RenameHost old new) = None
+due_put p until (MoveClock t) = None
+due_put p until (OpenAccount r) = None
+due_put p until (Give r what) = None
+
+-- the soonest moment at which one of them is due, or that which is given
+abbrev pub until_contacts : ℕ → List (List ℕ × Contact) → ℕ
+until_contacts until contacts = fold (λ m e. unwrap_or (option_and_then (passed m) (completes_at e.1.transfer)) m) until contacts
+
+abbrev pub until_domains : PolicyRules → ℕ → List (List ℕ × Domain) → ℕ
+until_domains p until domains = fold (λ m e. unwrap_or (passed m (due_at p e.1)) m) until domains
