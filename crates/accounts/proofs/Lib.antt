@@ -1,4 +1,5 @@
 pub mod MessageLaws
+pub mod QueueLaws
 pub mod LineLaws
 pub mod GroupLaws
 pub mod EntryLaws

@@ -57,6 +57,19 @@ impl Queue {
         Ok(())
     }
 
+    pub fn has(&self, message: &Message) -> bool
+        ensures { result ≡ spec.has message.now self.now }
+    {
+        self.messages.contains(message)
+    }
+
+    /// Takes a message back that was put in.
+    pub fn take_back(&mut self, message: &Message)
+        ensures { self.new ≡ spec.dropped message.now self.old }
+    {
+        self.messages.remove(message);
+    }
+
     /// Takes the oldest message out where it has this identifier, and tells whether it has.
     pub fn ack(&mut self, alloc: Global, id: &Text) -> Result<bool, AllocError>
         ensures answer { IfOk result (λ done. done ≡ spec.is_oldest id.now self.old) }

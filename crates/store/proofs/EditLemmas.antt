@@ -1,5 +1,5 @@
 -- To take an edit back is to go back, and the edits of a change make it.
-use Rattle.std.proofs.Common.{◌≡◌, ℕ, ◌+◌, ◌-◌, ◌<◌, length, length-append, take, get_or, arith, Bool, true, false, cond, not, ◌&&◌, T, map, filter, List, [], ◌∷◌, ◌++◌, Option, Some, None, Result, Ok, Err, OnOk, OnErr, refl, sym, ap, ◌∙◌}
+use Rattle.std.proofs.Common.{◌≡◌, ℕ, ◌+◌, ◌-◌, ◌<◌, length, length-append, take, get_or, arith, Bool, true, false, cond, not, ◌&&◌, T, map, filter, List, [], ◌∷◌, ◌++◌, Option, Some, None, Result, Ok, Err, OnOk, refl, sym, ap, ◌∙◌}
 use Rattle.std.specs.Prelude.{option_map, slice_get, unwrap_or}
 use Rattle.std.specs.Ordering.{is_lt}
 use Rattle.std.specs.Str.{bytes_eq}
@@ -28,17 +28,20 @@ use Rattle.store.specs.declared.edit.Edit.TheVariants as edit
 use Rattle.store.specs.Book.{Stored, with_changes}
 use Rattle.accounts.specs.declared.account.Account.{Account}
 use Rattle.accounts.specs.Account.{empty_account}
-use Rattle.accounts.specs.Entries.{with_lines}
+use Rattle.accounts.specs.Entries.{with_lines, with_queue}
 use Rattle.accounts.specs.Lines.{in_order}
+use Rattle.accounts.specs.Queue as queue
 use Rattle.accounts.specs.declared.entries.LapseEntry.TheVariants.{Renewal, Start, Notice}
 use Rattle.accounts.specs.declared.line.Line.{Line}
+use Rattle.accounts.specs.declared.message.Message.{Message}
 use Rattle.accounts.proofs.LineLaws.{lines_in_order}
+use Rattle.accounts.proofs.QueueLaws.{dropped-put}
 use Rattle.lifecycle.specs.declared.change.AccountChange.{AccountChange}
 use Rattle.lifecycle.specs.declared.change.AccountChange.TheVariants as gifts
 use Rattle.model.specs.Registry.{account_of}
 use Rattle.store.specs.declared.ledgers.Counters.{Counters}
-use Rattle.store.specs.Ledgers.{counters_of, put, with_counted, with_counters, with_line}
-use Rattle.store.specs.Edits.{counters_back, edited, edited_all, edits_of, gift_edit, inverse, line_back, undone_all}
+use Rattle.store.specs.Ledgers.{changed_if_there, counters_of, put, with_changed, with_counted, with_counters, with_line, with_notice}
+use Rattle.store.specs.Edits.{counters_back, edited, edited_all, edits_of, gift_edit, inverse, line_back, notice_back, undone_all}
 
 -- ---- entries in order
 
@@ -75,7 +78,6 @@ module _ {K X : Type 0} (R : K → K → Ordering) (o : IsTotalOrder R) (apart :
   put-back m k value = same_map o apart _ _ (λ q.
       get-put (put m k value) k (get m k) q ∙ ap (cond (eq_by_cmp R q k) (get m k)) (get-put m k value q) ∙ as-before m k q value (eq_by_cmp R q k) refl)
 
-
 with_accounts : Stored → FinMap nat_cmp Account → Stored
 with_accounts s n = record s { registry = record s.registry { accounts = n } }
 
@@ -99,31 +101,49 @@ module _ (r : ℕ) (x : Counters) (m : FinMap nat_cmp Account) where
       ∙ ap (put (with_counted m r x) r) (sym e)
       ∙ put-back nat_cmp nat_cmp_total nat_cmp-IsAntisymmetric m r (Some (with_counters x (unwrap_or (get m r) empty_account))))
 
--- ---- a line of an account
+-- ---- a change of an account, taken back
 
-module _ (r : ℕ) (line : Line) (m : FinMap nat_cmp Account) where
-  -- what stands at a registrar's place once its line was added
-  lined : Option Account → Option Account
-  lined o = Some (with_lines (add in_order line) (unwrap_or o empty_account))
+module _ (f : Account → Account) (r : ℕ) (m : FinMap nat_cmp Account) where
+  -- what stands at a registrar's place once its account was changed
+  changed : Option Account → Option Account
+  changed o = Some (f (unwrap_or o empty_account))
 
-  lined-there : get (with_line m r line) r ≡ lined (get m r)
-  unfolding lined
-  lined-there =
-      get-insert nat_cmp_total m r (with_lines (add in_order line) (unwrap_or (get m r) empty_account)) r
-      ∙ ap (λ (b : Bool). cond b (Some (with_lines (add in_order line) (unwrap_or (get m r) empty_account))) (get m r)) ((eq_by_cmp_equiv nat_cmp_total).refl r)
+  changed-there : get (with_changed f m r) r ≡ changed (get m r)
+  unfolding changed
+  changed-there =
+      get-insert nat_cmp_total m r (f (unwrap_or (get m r) empty_account)) r
+      ∙ ap (λ (b : Bool). cond b (Some (f (unwrap_or (get m r) empty_account))) (get m r)) ((eq_by_cmp_equiv nat_cmp_total).refl r)
 
-  unlined : (a : Account) → with_lines (taken in_order line) (with_lines (add in_order line) a) ≡ a
-  unlined a = ap (λ (ls : List Line). record a { lines = ls }) (taken-add in_order lines_in_order line a.lines)
+  -- by what stood there
+  as-it-was : (o : Option Account) → get m r ≡ o → put (with_changed f m r) r o ≡ m
+  unfolding changed
+  as-it-was o e = ap (put (with_changed f m r) r) (sym e) ∙ put-back nat_cmp nat_cmp_total nat_cmp-IsAntisymmetric m r (changed (get m r))
 
-  line-back : (s : Stored) (o : Option Account) → get m r ≡ o → edited (line_back r line o) (with_accounts s (with_line m r line)) ≡ with_accounts s m
-  unfolding with_accounts lined
-  line-back s None e = ap (with_accounts s) (ap (put (with_line m r line) r) (sym e) ∙ put-back nat_cmp nat_cmp_total nat_cmp-IsAntisymmetric m r (lined (get m r)))
-  line-back s (Some a) e =
-      ap (with_accounts s)
-      (ap (λ (o : Option Account). put (with_line m r line) r (option_map (with_lines (taken in_order line)) o)) (lined-there ∙ ap lined e)
-      ∙ ap (λ (b : Account). put (with_line m r line) r (Some b)) (unlined a)
-      ∙ ap (put (with_line m r line) r) (sym e)
-      ∙ put-back nat_cmp nat_cmp_total nat_cmp-IsAntisymmetric m r (lined (get m r)))
+  -- by the change's inverse
+  changed-back : (g : Account → Account) (a : Account) → get m r ≡ Some a → g (f a) ≡ a → changed_if_there g (with_changed f m r) r ≡ m
+  unfolding changed
+  changed-back g a e is =
+      ap (λ (o : Option Account). put (with_changed f m r) r (option_map g o)) (changed-there ∙ ap changed e)
+      ∙ ap (λ (b : Account). put (with_changed f m r) r (Some b)) is
+      ∙ as-it-was (Some a) e
+
+line-back : (r : ℕ) (line : Line) (m : FinMap nat_cmp Account) (s : Stored) (o : Option Account) → get m r ≡ o → edited (line_back r line o) (with_accounts s (with_line m r line)) ≡ with_accounts s m
+unfolding with_accounts
+line-back r line m s None e = ap (with_accounts s) (as-it-was (with_lines (add in_order line)) r m None e)
+line-back r line m s (Some a) e =
+    ap (with_accounts s)
+    (changed-back (with_lines (add in_order line)) r m (with_lines (taken in_order line)) a e (ap (λ (ls : List Line). record a { lines = ls }) (taken-add in_order lines_in_order line a.lines)))
+
+notice-back : (r : ℕ) (notice : Message) (m : FinMap nat_cmp Account) (s : Stored) (o : Option Account) → get m r ≡ o → edited (notice_back r notice o) (with_accounts s (with_notice m r notice)) ≡ with_accounts s m
+unfolding with_accounts
+notice-back r notice m s None e = ap (with_accounts s) (as-it-was (with_queue (queue.put notice)) r m None e)
+notice-back r notice m s (Some a) e = by (queue.has notice a.queue) refl
+  where
+    by : (b : Bool) → queue.has notice a.queue ≡ b → edited (cond (not b) (edit.Unnotice r notice) (edit.Account r (Some a))) (with_accounts s (with_notice m r notice)) ≡ with_accounts s m
+    by true t = ap (with_accounts s) (as-it-was (with_queue (queue.put notice)) r m (Some a) e)
+    by false t =
+        ap (with_accounts s)
+        (changed-back (with_queue (queue.put notice)) r m (with_queue (queue.dropped notice)) a e (ap (λ (ms : List Message). record a { queue = ms }) (dropped-put notice a.queue t)))
 
 -- ---- one edit
 
@@ -136,6 +156,9 @@ edited-back (edit.Counters r x) s = counters-back r x s.registry.accounts s (get
 edited-back (edit.Line r line) s = line-back r line s.registry.accounts s (get s.registry.accounts r) refl
 edited-back (edit.Unline r line) s =
     ap (with_accounts s) (put-back nat_cmp nat_cmp_total nat_cmp-IsAntisymmetric s.registry.accounts r (option_map (with_lines (taken in_order line)) (get s.registry.accounts r)))
+edited-back (edit.Notice r m) s = notice-back r m s.registry.accounts s (get s.registry.accounts r) refl
+edited-back (edit.Unnotice r m) s =
+    ap (with_accounts s) (put-back nat_cmp nat_cmp_total nat_cmp-IsAntisymmetric s.registry.accounts r (option_map (with_queue (queue.dropped m)) (get s.registry.accounts r)))
 edited-back (edit.Contact name value) s = ap (λ m. record s { registry = record s.registry { contacts = m } }) (put-back (slice_cmp nat_cmp) nat_list_cmp_total names_apart s.registry.contacts name value)
 edited-back (edit.Domain name value) s = ap (λ m. record s { registry = record s.registry { domains = m } }) (put-back (slice_cmp nat_cmp) nat_list_cmp_total names_apart s.registry.domains name value)
 edited-back (edit.Host name value) s = ap (λ m. record s { registry = record s.registry { hosts = m } }) (put-back (slice_cmp nat_cmp) nat_list_cmp_total names_apart s.registry.hosts name value)

@@ -1,5 +1,5 @@
 -- Accounts, of which some have other counters.
-use Rattle.std.proofs.Common.{◌≡◌, ℕ, Bool, true, false, cond, Bor, Option, Some, None, Result, Ok, Err, List, OnOk, OnErr, refl, sym, ap, ◌∙◌}
+use Rattle.std.proofs.Common.{◌≡◌, ℕ, Bool, true, false, cond, not, Bor, Option, Some, None, Result, Ok, Err, List, OnOk, OnErr, refl, sym, ap, ◌∙◌}
 use Rattle.std.specs.Prelude.{is_some, option_map, unwrap_or}
 use Rattle.std.specs.Option.{OnSome, option_copied}
 use Rattle.std.specs.Cmp.{nat_cmp_total, Equal-is}
@@ -7,14 +7,13 @@ use Rattle.std.specs.FinMap.{FinMap, empty, get, get-empty, insert, remove, get-
 use Rattle.std.specs.Ordering.{eq_by_cmp, nat_cmp}
 use Rattle.accounts.specs.declared.account.Account.{Account}
 use Rattle.accounts.specs.declared.line.Line.{Line}
-use Rattle.accounts.specs.Entries.{with_lines}
-use Rattle.accounts.specs.Lines.{in_order}
-use Rattle.basis.specs.Bag.{add, taken}
+use Rattle.accounts.specs.declared.message.Message.{Message}
+use Rattle.accounts.specs.Entries.{with_lines, with_queue}
+use Rattle.accounts.specs.Queue.{has}
 use Rattle.accounts.specs.Account.{empty_account}
-use Rattle.basis.specs.Maps.{map_values}
 use Rattle.basis.proofs.MapLemmas.{get-map_values}
 use Rattle.store.specs.declared.ledgers.Counters.{Counters}
-use Rattle.store.specs.Ledgers.{accounts_of, counted, counters_of, lines_of, put, with_counted, with_counters, with_line, with_lined, without_line}
+use Rattle.store.specs.Ledgers.{accounts_of, changed_if_there, counted, counters_of, lacks, lines_of, put, with_changed, with_counted, with_counters}
 
 abbrev Accounts : Type 0
 Accounts = FinMap nat_cmp Account
@@ -70,28 +69,36 @@ accounts-counted m x r c a found = same-accounts _ _ (λ q.
         ∙ ap (λ (b : Account). Some b) (sym at)
     by q false e = refl
 
-relined : (f : List Line → List Line) (o : Option Counters) (a : Account) → counted o (with_lines f a) ≡ with_lines f (counted o a)
+-- what changes an account and leaves its counters
+abbrev pub LeavesCounters : (Account → Account) → Type 0
+LeavesCounters f = (o : Option Counters) (a : Account) → counted o (f a) ≡ f (counted o a)
+
+pub relined : (f : List Line → List Line) (o : Option Counters) (a : Account) → counted o (with_lines f a) ≡ with_lines f (counted o a)
 relined f None a = refl
 relined f (Some x) a = refl
 
--- an account gets other lines
-pub accounts-lined : (f : List Line → List Line) (m : Accounts) (x : FinMap nat_cmp Counters) (r : ℕ) (a : Account) → get m r ≡ Some a
-    → accounts_of (insert m r (with_lines f a)) x ≡ with_lined f (accounts_of m x) r
-accounts-lined f m x r a found = same-accounts _ _ (λ q.
-    get-accounts (insert m r (with_lines f a)) x q
-    ∙ ap (λ (o : Option Account). option_map (counted (get x q)) o) (get-insert nat_cmp_total m r (with_lines f a) q)
+pub requeued : (f : List Message → List Message) (o : Option Counters) (a : Account) → counted o (with_queue f a) ≡ with_queue f (counted o a)
+requeued f None a = refl
+requeued f (Some x) a = refl
+
+-- an account is changed in all but its counters
+pub accounts-changed : (f : Account → Account) → LeavesCounters f → (m : Accounts) (x : FinMap nat_cmp Counters) (r : ℕ) (a : Account) → get m r ≡ Some a
+    → accounts_of (insert m r (f a)) x ≡ with_changed f (accounts_of m x) r
+accounts-changed f leaves m x r a found = same-accounts _ _ (λ q.
+    get-accounts (insert m r (f a)) x q
+    ∙ ap (λ (o : Option Account). option_map (counted (get x q)) o) (get-insert nat_cmp_total m r (f a) q)
     ∙ by q (eq_by_cmp nat_cmp q r) refl
-    ∙ ap (λ (o : Option Account). cond (eq_by_cmp nat_cmp q r) (Some (with_lines f (unwrap_or (get (accounts_of m x) r) empty_account))) o) (sym (get-accounts m x q))
-    ∙ sym (get-insert nat_cmp_total (accounts_of m x) r (with_lines f (unwrap_or (get (accounts_of m x) r) empty_account)) q))
+    ∙ ap (λ (o : Option Account). cond (eq_by_cmp nat_cmp q r) (Some (f (unwrap_or (get (accounts_of m x) r) empty_account))) o) (sym (get-accounts m x q))
+    ∙ sym (get-insert nat_cmp_total (accounts_of m x) r (f (unwrap_or (get (accounts_of m x) r) empty_account)) q))
   where
-    at : with_lines f (unwrap_or (get (accounts_of m x) r) empty_account) ≡ with_lines f (counted (get x r) a)
-    at = ap (λ (o : Option Account). with_lines f (unwrap_or o empty_account)) (get-accounts m x r ∙ ap (option_map (counted (get x r))) found)
+    at : f (unwrap_or (get (accounts_of m x) r) empty_account) ≡ f (counted (get x r) a)
+    at = ap (λ (o : Option Account). f (unwrap_or o empty_account)) (get-accounts m x r ∙ ap (option_map (counted (get x r))) found)
 
     by : (q : ℕ) (b : Bool) → eq_by_cmp nat_cmp q r ≡ b
-        → option_map (counted (get x q)) (cond b (Some (with_lines f a)) (get m q)) ≡ cond b (Some (with_lines f (unwrap_or (get (accounts_of m x) r) empty_account))) (option_map (counted (get x q)) (get m q))
+        → option_map (counted (get x q)) (cond b (Some (f a)) (get m q)) ≡ cond b (Some (f (unwrap_or (get (accounts_of m x) r) empty_account))) (option_map (counted (get x q)) (get m q))
     by q true e =
         ap (λ (b : Account). Some b)
-        (relined f (get x q) a ∙ ap (λ (k : ℕ). with_lines f (counted (get x k) a)) (nat_cmp-IsAntisymmetric q r ((Equal-is (nat_cmp q r)).0 e)) ∙ sym at)
+        (leaves (get x q) a ∙ ap (λ (k : ℕ). f (counted (get x k) a)) (nat_cmp-IsAntisymmetric q r ((Equal-is (nat_cmp q r)).0 e)) ∙ sym at)
     by q false e = refl
 
 -- no account, no counters
@@ -102,6 +109,15 @@ accounts-none = same-accounts _ _ (λ q. get-accounts empty empty q ∙ ap (opti
 pub where-found : {A : Type 0} {P : Type 0} (r : Option A) (x : A) → r ≡ Some x → OnSome r P → P
 where-found None x e h = cc
 where-found (Some y) x e h = h
+
+-- what follows where it went well, and where it didn't
+pub on-ok : {A E : Type 0} {P Q : Type 0} (r : Result A E) → (P → Q) → OnOk r P → OnOk r Q
+on-ok (Ok x) f p = f p
+on-ok (Err g) f p = tt
+
+pub on-err : {A E : Type 0} {P Q : Type 0} (r : Result A E) → (P → Q) → OnErr r P → OnErr r Q
+on-err (Ok x) f p = tt
+on-err (Err g) f p = f p
 
 -- ---- by the fields of the accounts
 
@@ -142,14 +158,6 @@ module _ (m : Accounts) (x : FinMap nat_cmp Counters) (now : Accounts) (view : a
   pub has-not-found : get m r ≡ None → is_some (get now r) ≡ false
   has-not-found e = ap (λ (o : Option Account). is_some o) (sym (found None (sym e)))
 
-  -- a line is added to an account that is there, if there is memory for it
-  pub lined-found : {E : Type 0} (result : Result (Unit {0}) E) (line : Line) (a b : Account) (ls : List Line) (m' : Accounts) → get m r ≡ Some a → b ≡ record a { lines = ls } → OnOk result (ls ≡ add in_order line a.lines) → m' ≡ insert m r b
-      → OnOk result (accounts_of m' x ≡ with_line now r line)
-  lined-found (Ok u) line a b ls m' e is ok n =
-      ap (λ (n : Accounts). accounts_of n x) (n ∙ ap (insert m r) (is ∙ ap (λ (ms : List Line). record a { lines = ms }) ok))
-      ∙ accounts-lined (add in_order line) m x r a e ∙ ap (λ (o : Accounts). with_line o r line) view
-  lined-found (Err g) line a b ls m' e is ok n = tt
-
   again : (a : Account) → get m r ≡ Some a → insert m r a ≡ m
   again a e = same-accounts _ _ (λ q. get-insert nat_cmp_total m r a q ∙ by q (eq_by_cmp nat_cmp q r) refl)
     where
@@ -157,37 +165,52 @@ module _ (m : Accounts) (x : FinMap nat_cmp Counters) (now : Accounts) (view : a
       by q true t = sym e ∙ ap (get m) (sym (nat_cmp-IsAntisymmetric q r ((Equal-is (nat_cmp q r)).0 t)))
       by q false t = refl
 
-  pub lined-kept : {E : Type 0} (result : Result (Unit {0}) E) (a b : Account) (ls : List Line) (m' : Accounts) → get m r ≡ Some a → b ≡ record a { lines = ls } → OnErr result (ls ≡ a.lines) → m' ≡ insert m r b
-      → OnErr result (accounts_of m' x ≡ now)
-  lined-kept (Ok u) a b ls m' e is err n = tt
-  lined-kept (Err g) a b ls m' e is err n =
-      ap (λ (n : Accounts). accounts_of n x) (n ∙ ap (insert m r) (is ∙ ap (λ (ms : List Line). record a { lines = ms }) err) ∙ again a e) ∙ view
+  -- an account that is there stays as it is, where there is no memory for a change
+  pub changed-kept : {E : Type 0} (result : Result (Unit {0}) E) (a b : Account) (m' : Accounts) → get m r ≡ Some a → OnErr result (b ≡ a) → m' ≡ insert m r b → OnErr result (accounts_of m' x ≡ now)
+  changed-kept (Ok u) a b m' e err n = tt
+  changed-kept (Err g) a b m' e err n = ap (λ (n : Accounts). accounts_of n x) (n ∙ ap (insert m r) err ∙ again a e) ∙ view
 
-  -- and taken back
-  pub unlined-found : (line : Line) (a b : Account) (ls : List Line) (m' : Accounts) → get m r ≡ Some a → b ≡ record a { lines = ls } → ls ≡ taken in_order line a.lines → m' ≡ insert m r b → accounts_of m' x ≡ without_line now r line
-  unlined-found line a b ls m' e is gone n =
-      ap (λ (n : Accounts). accounts_of n x) (n ∙ ap (insert m r) (is ∙ ap (λ (ms : List Line). record a { lines = ms }) gone))
-      ∙ accounts-lined (taken in_order line) m x r a e
-      ∙ ap (λ (o : Accounts). with_lined (taken in_order line) o r) view
-      ∙ by (get now r) (found (Some a) (sym e))
+  module _ (f : Account → Account) (leaves : LeavesCounters f) where
+    pub changed-found : {E : Type 0} (result : Result (Unit {0}) E) (a b : Account) (m' : Accounts) → get m r ≡ Some a → OnOk result (b ≡ f a) → m' ≡ insert m r b
+        → OnOk result (accounts_of m' x ≡ with_changed f now r)
+    changed-found (Ok u) a b m' e ok n =
+        ap (λ (n : Accounts). accounts_of n x) (n ∙ ap (insert m r) ok) ∙ accounts-changed f leaves m x r a e ∙ ap (λ (o : Accounts). with_changed f o r) view
+    changed-found (Err g) a b m' e ok n = tt
+
+    pub changed-there : (a b : Account) (m' : Accounts) → get m r ≡ Some a → b ≡ f a → m' ≡ insert m r b → accounts_of m' x ≡ changed_if_there f now r
+    changed-there a b m' e is n =
+        ap (λ (n : Accounts). accounts_of n x) (n ∙ ap (insert m r) is) ∙ accounts-changed f leaves m x r a e ∙ ap (λ (o : Accounts). with_changed f o r) view
+        ∙ by (get now r) (found (Some a) (sym e))
+      where
+        by : (o : Option Account) → Some (counted (get x r) a) ≡ o → insert now r (f (unwrap_or o empty_account)) ≡ put now r (option_map f o)
+        by None t = cc
+        by (Some c) t = refl
+
+    pub changed-none : get m r ≡ None → accounts_of m x ≡ changed_if_there f now r
+    changed-none e = view ∙ by (get now r) (found None (sym e))
+      where
+        gone : remove now r ≡ now
+        gone = same-accounts _ _ (λ q. get-remove nat_cmp_total now r q ∙ at q (eq_by_cmp nat_cmp q r) refl)
+          where
+            at : (q : ℕ) (b : Bool) → eq_by_cmp nat_cmp q r ≡ b → cond b None (get now q) ≡ get now q
+            at q true t = found None (sym e) ∙ ap (get now) (sym (nat_cmp-IsAntisymmetric q r ((Equal-is (nat_cmp q r)).0 t)))
+            at q false t = refl
+
+        by : (o : Option Account) → None ≡ o → now ≡ put now r (option_map f o)
+        by None t = sym gone
+        by (Some c) t = cc
+
+  -- a message is looked for in the queue, whatever the counters are
+  pub lacks-found : (message : Message) (o : Option Account) → o ≡ get m r → lacks message o ≡ lacks message (get now r)
+  lacks-found message o e = sym (by (get x r) o) ∙ ap (λ (p : Option Account). lacks message p) (found o e)
     where
-      by : (o : Option Account) → Some (counted (get x r) a) ≡ o → insert now r (with_lines (taken in_order line) (unwrap_or o empty_account)) ≡ put now r (option_map (with_lines (taken in_order line)) o)
-      by None t = cc
-      by (Some c) t = refl
+      kept : (c : Option Counters) (a : Account) → (counted c a).queue ≡ a.queue
+      kept None a = refl
+      kept (Some y) a = refl
 
-  pub unlined-none : (line : Line) → get m r ≡ None → accounts_of m x ≡ without_line now r line
-  unlined-none line e = view ∙ by (get now r) (found None (sym e))
-    where
-      gone : remove now r ≡ now
-      gone = same-accounts _ _ (λ q. get-remove nat_cmp_total now r q ∙ at q (eq_by_cmp nat_cmp q r) refl)
-        where
-          at : (q : ℕ) (b : Bool) → eq_by_cmp nat_cmp q r ≡ b → cond b None (get now q) ≡ get now q
-          at q true t = found None (sym e) ∙ ap (get now) (sym (nat_cmp-IsAntisymmetric q r ((Equal-is (nat_cmp q r)).0 t)))
-          at q false t = refl
-
-      by : (o : Option Account) → None ≡ o → now ≡ put now r (option_map (with_lines (taken in_order line)) o)
-      by None t = sym gone
-      by (Some c) t = cc
+      by : (c : Option Counters) (o : Option Account) → lacks message (option_map (counted c) o) ≡ lacks message o
+      by c None = refl
+      by c (Some a) = ap (λ (queue : List Message). not (has message queue)) (kept c a)
 
 -- the counters that an account has now are its own
 pub given-counters : (c : Option Counters) (a : Account) → with_counters (counters_of (counted c a)) a ≡ counted c a
@@ -203,12 +226,12 @@ pub opened-counted : {E : Type 0} (result : Result (Unit {0}) E) (now new : Acco
 opened-counted (Ok u) now new r c b h e f = f ∙ ap (λ (a : Account). insert now r a) (e ∙ ap (with_counters c) (absent (get now r) h))
 opened-counted (Err g) now new r c b h e f = tt
 
--- an account is opened with its first line
-pub opened-lined : {E : Type 0} (result : Result (Unit {0}) E) (now held new : Accounts) (r : ℕ) (line : Line) (b : Account) → held ≡ now → is_some (get now r) ≡ false → b ≡ with_lines (add in_order line) empty_account
-    → OnOk result (new ≡ insert held r b) → OnOk result (new ≡ with_line now r line)
-opened-lined (Ok u) now held new r line b same h e f =
-    f ∙ ap (λ (m : Accounts). insert m r b) same ∙ ap (λ (a : Account). insert now r a) (e ∙ ap (λ (a : Account). with_lines (add in_order line) a) (absent (get now r) h))
-opened-lined (Err g) now held new r line b same h e f = tt
+-- an account is opened with its first line or message
+pub opened-changed : {E : Type 0} (result : Result (Unit {0}) E) (f : Account → Account) (now held new : Accounts) (r : ℕ) (b : Account) → held ≡ now → is_some (get now r) ≡ false → b ≡ f empty_account
+    → OnOk result (new ≡ insert held r b) → OnOk result (new ≡ with_changed f now r)
+opened-changed (Ok u) f now held new r b same h e ok =
+    ok ∙ ap (λ (m : Accounts). insert m r b) same ∙ ap (λ (a : Account). insert now r a) (e ∙ ap f (absent (get now r) h))
+opened-changed (Err g) f now held new r b same h e ok = tt
 
 -- the counters of an account that is there, or isn't
 pub counters-some : (o : Option Account) → is_some o ≡ true → Some (counters_of (unwrap_or o empty_account)) ≡ option_map counters_of o

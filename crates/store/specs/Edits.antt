@@ -1,10 +1,11 @@
 -- How a book in memory makes a change, and takes it back: values at keys.
-use Rattle.std.specs.Prelude.{ℕ, List, [], ◌∷◌, map, max, filter, fold, Option, Some, None, option_map}
+use Rattle.std.specs.Prelude.{ℕ, if◌then◌else◌, List, [], ◌∷◌, map, max, filter, fold, Option, Some, None, option_map}
 use Rattle.std.specs.FinMap.{entries, get}
 use Rattle.accounts.specs.declared.account.Account.{Account}
 use Rattle.accounts.specs.declared.entries.LapseEntry.{LapseEntry}
 use Rattle.accounts.specs.declared.entries.LapseEntry.TheVariants.{Renewal, Start, Notice}
 use Rattle.accounts.specs.declared.line.Line.{Line}
+use Rattle.accounts.specs.declared.message.Message.{Message}
 use Rattle.accounts.specs.Entries.{renewal_line}
 use Rattle.lifecycle.specs.Changes.{changed as account_changed}
 use Rattle.lifecycle.specs.declared.change.AccountChange.{AccountChange}
@@ -18,7 +19,7 @@ use Rattle.store.specs.declared.edit.Edit.{Edit}
 use Rattle.store.specs.declared.edit.Edit.TheVariants as edit
 use Rattle.store.specs.Book.{Stored}
 use Rattle.store.specs.declared.ledgers.Counters.{Counters}
-use Rattle.store.specs.Ledgers.{counters_of, next_command, next_serial, put, with_counted, with_line, without_line}
+use Rattle.store.specs.Ledgers.{counters_of, lacks, next_command, next_serial, put, with_counted, with_line, with_notice, without_line, without_notice}
 use Rattle.model.specs.Registry.{Registry, account_of}
 
 abbrev pub edited : Edit → Stored → Stored
@@ -27,6 +28,8 @@ edited (edit.Account r value) s = record s { registry = record s.registry { acco
 edited (edit.Counters r x) s = record s { registry = record s.registry { accounts = with_counted s.registry.accounts r x } }
 edited (edit.Line r line) s = record s { registry = record s.registry { accounts = with_line s.registry.accounts r line } }
 edited (edit.Unline r line) s = record s { registry = record s.registry { accounts = without_line s.registry.accounts r line } }
+edited (edit.Notice r m) s = record s { registry = record s.registry { accounts = with_notice s.registry.accounts r m } }
+edited (edit.Unnotice r m) s = record s { registry = record s.registry { accounts = without_notice s.registry.accounts r m } }
 edited (edit.Contact name value) s = record s { registry = record s.registry { contacts = put s.registry.contacts name value } }
 edited (edit.Domain name value) s = record s { registry = record s.registry { domains = put s.registry.domains name value } }
 edited (edit.Host name value) s = record s { registry = record s.registry { hosts = put s.registry.hosts name value } }
@@ -46,11 +49,17 @@ abbrev pub line_back : ℕ → Line → Option Account → Edit
 line_back r line None = edit.Account r None
 line_back r line (Some a) = edit.Unline r line
 
+-- what takes a message back, or the account as it was
+abbrev pub notice_back : ℕ → Message → Option Account → Edit
+notice_back r m before = if lacks m before then edit.Unnotice r m else edit.Account r before
+
 -- what takes an edit back: what stands at its key
 abbrev pub inverse : Edit → Stored → Edit
 inverse (edit.Counters r x) s = counters_back r (option_map counters_of (get s.registry.accounts r))
 inverse (edit.Line r line) s = line_back r line (get s.registry.accounts r)
 inverse (edit.Unline r line) s = edit.Account r (get s.registry.accounts r)
+inverse (edit.Notice r m) s = notice_back r m (get s.registry.accounts r)
+inverse (edit.Unnotice r m) s = edit.Account r (get s.registry.accounts r)
 inverse (edit.Clock t) s = edit.Clock s.registry.clock
 inverse (edit.Account r value) s = edit.Account r (get s.registry.accounts r)
 inverse (edit.Contact name value) s = edit.Contact name (get s.registry.contacts name)
@@ -91,14 +100,32 @@ line_of (Ack id) = None
 line_of CountCommand = None
 line_of TakeSerial = None
 
--- for a registrar's account, one edit: of its counters, of a line, or of the whole
-abbrev pub gift_by : PolicyRules → ℕ → AccountChange → Account → Option Counters → Option Line → Edit
-gift_by p r what a (Some x) line = edit.Counters r x
-gift_by p r what a None (Some line) = edit.Line r line
-gift_by p r what a None None = edit.Account r (Some (account_changed p what a))
+-- the message that time brings, if it brings one
+abbrev pub entered_notice : LapseEntry → Option Message
+entered_notice (Renewal x) = None
+entered_notice (Start x) = None
+entered_notice (Notice m) = Some m
+
+-- the message that a change brings, if it brings one and does nothing else
+abbrev pub notice_of : AccountChange → Option Message
+notice_of (Charge line) = None
+notice_of (Lapse what) = entered_notice what
+notice_of (RefundRunning r) = None
+notice_of (RefundTransfer r) = None
+notice_of (Tell n) = None
+notice_of (Ack id) = None
+notice_of CountCommand = None
+notice_of TakeSerial = None
+
+-- for a registrar's account, one edit: of its counters, of a line, of a message, or of the whole
+abbrev pub gift_by : PolicyRules → ℕ → AccountChange → Account → Option Counters → Option Line → Option Message → Edit
+gift_by p r what a (Some x) line m = edit.Counters r x
+gift_by p r what a None (Some line) m = edit.Line r line
+gift_by p r what a None None (Some m) = edit.Notice r m
+gift_by p r what a None None None = edit.Account r (Some (account_changed p what a))
 
 abbrev pub gift_edit : PolicyRules → ℕ → AccountChange → Account → Edit
-gift_edit p r what a = gift_by p r what a (counted_by what a) (line_of what)
+gift_edit p r what a = gift_by p r what a (counted_by what a) (line_of what) (notice_of what)
 
 -- for a host's new name, an edit for each domain that names the host
 abbrev pub renames : List ℕ → List ℕ → Registry → List Edit

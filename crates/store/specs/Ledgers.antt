@@ -1,13 +1,15 @@
 -- The accounts of a book in memory.
-use Rattle.std.specs.Prelude.{ℕ, List, Option, Some, None, option_map, unwrap_or}
+use Rattle.std.specs.Prelude.{ℕ, Bool, false, not, List, Option, Some, None, option_map, unwrap_or}
 use Rattle.std.specs.declared.cmp.Ordering.{Ordering}
 use Rattle.std.specs.FinMap.{FinMap, get, insert, remove}
 use Rattle.std.specs.Ordering.{nat_cmp}
 use Rattle.accounts.specs.declared.account.Account.{Account}
 use Rattle.accounts.specs.declared.line.Line.{Line}
+use Rattle.accounts.specs.declared.message.Message.{Message}
 use Rattle.accounts.specs.Account.{empty_account, saturating_next}
-use Rattle.accounts.specs.Entries.{with_lines}
+use Rattle.accounts.specs.Entries.{with_lines, with_queue}
 use Rattle.accounts.specs.Lines.{in_order}
+use Rattle.accounts.specs.Queue as queue
 use Rattle.basis.specs.Bag.{add, taken}
 use Rattle.basis.specs.Maps.{map_values}
 use Rattle.store.specs.declared.ledgers.Counters.{Counters}
@@ -46,13 +48,29 @@ next_serial x = record x { serial = saturating_next x.serial }
 abbrev pub with_counted : FinMap nat_cmp Account → ℕ → Counters → FinMap nat_cmp Account
 with_counted accounts r x = insert accounts r (with_counters x (unwrap_or (get accounts r) empty_account))
 
--- the accounts, where a registrar's lines are changed; what was never opened is opened
-abbrev pub with_lined : (List Line → List Line) → FinMap nat_cmp Account → ℕ → FinMap nat_cmp Account
-with_lined f accounts r = insert accounts r (with_lines f (unwrap_or (get accounts r) empty_account))
+-- the accounts, where a registrar's is changed; what was never opened is opened
+abbrev pub with_changed : (Account → Account) → FinMap nat_cmp Account → ℕ → FinMap nat_cmp Account
+with_changed f accounts r = insert accounts r (f (unwrap_or (get accounts r) empty_account))
+
+-- the accounts, where a registrar's is changed if it is there
+abbrev pub changed_if_there : (Account → Account) → FinMap nat_cmp Account → ℕ → FinMap nat_cmp Account
+changed_if_there f accounts r = put accounts r (option_map f (get accounts r))
 
 -- with a line more, and with that line taken back from an account that is there
 abbrev pub with_line : FinMap nat_cmp Account → ℕ → Line → FinMap nat_cmp Account
-with_line accounts r line = with_lined (add in_order line) accounts r
+with_line accounts r line = with_changed (with_lines (add in_order line)) accounts r
 
 abbrev pub without_line : FinMap nat_cmp Account → ℕ → Line → FinMap nat_cmp Account
-without_line accounts r line = put accounts r (option_map (with_lines (taken in_order line)) (get accounts r))
+without_line accounts r line = changed_if_there (with_lines (taken in_order line)) accounts r
+
+-- with a message in a registrar's queue, and with that message taken back
+abbrev pub with_notice : FinMap nat_cmp Account → ℕ → Message → FinMap nat_cmp Account
+with_notice accounts r m = with_changed (with_queue (queue.put m)) accounts r
+
+abbrev pub without_notice : FinMap nat_cmp Account → ℕ → Message → FinMap nat_cmp Account
+without_notice accounts r m = changed_if_there (with_queue (queue.dropped m)) accounts r
+
+-- an account is there, and a message isn't in its queue
+abbrev pub lacks : Message → Option Account → Bool
+lacks m None = false
+lacks m (Some a) = not (queue.has m a.queue)

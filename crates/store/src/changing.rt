@@ -1,6 +1,7 @@
 //! How a registry in ordered maps is changed.
 ghost use Rattle.std.specs.Prelude.{◌≡◌, ◌∷◌, [], None, option_map, IfOk, OnOk, OnErr};
 ghost use Rattle.std.specs.FinMap as finmap;
+ghost use Rattle.std.specs.Option.{option_copied};
 ghost use Rattle.store.specs.Edits as spec;
 ghost use Rattle.store.specs.Ledgers.{counters_of};
 ghost use Rattle.store.specs.Plain.{content_of, registry_in};
@@ -8,10 +9,12 @@ ghost use Rattle.lifecycle.specs.Changes.{changed as account_changed};
 ghost use Rattle.model.specs.Registry.{account_of};
 
 use crate::content::Content;
-use crate::edit::{Edit, copy_contact, copy_domain, copy_host, copy_terms, put_named};
+use crate::edit::{
+    Edit, copy_contact, copy_domain, copy_host, copy_terms, message_clone, put_named,
+};
 use crate::ledgers::Counters;
 use crate::renamed::with_host_renamed;
-use accounts::{Account, LapseEntry, Line};
+use accounts::{Account, LapseEntry, Line, Message};
 use basis::registrar::RegistrarNo;
 use basis::text::Text;
 use lifecycle::{AccountChange, change_account};
@@ -37,6 +40,32 @@ fn line_of(what: &AccountChange) -> Option<Line>
         AccountChange::Charge(line) => Some(*line),
         AccountChange::Lapse(what) => entered_line(what),
         AccountChange::RefundRunning(_)
+        | AccountChange::RefundTransfer(_)
+        | AccountChange::Tell(_)
+        | AccountChange::Ack(_)
+        | AccountChange::CountCommand
+        | AccountChange::TakeSerial => None,
+    }
+}
+
+/// The message that time brings, if it brings one.
+fn entered_notice(what: &LapseEntry) -> Option<&Message>
+    ensures { option_copied result ≡ spec.entered_notice what.now }
+{
+    match what {
+        LapseEntry::Notice(message) => Some(message),
+        LapseEntry::Renewal(_) | LapseEntry::Start(_) => None,
+    }
+}
+
+/// The message that a change brings, if it brings one and does nothing else.
+fn notice_of(what: &AccountChange) -> Option<&Message>
+    ensures { option_copied result ≡ spec.notice_of what.now }
+{
+    match what {
+        AccountChange::Lapse(what) => entered_notice(what),
+        AccountChange::Charge(_)
+        | AccountChange::RefundRunning(_)
         | AccountChange::RefundTransfer(_)
         | AccountChange::Tell(_)
         | AccountChange::Ack(_)
@@ -83,6 +112,16 @@ impl Content {
         }
     }
 
+    /// What takes a message back, or the account as it is.
+    fn notice_back(&self, registrar: RegistrarNo, message: &Message) -> Result<Edit, AllocError>
+        ensures { IfOk result (λ edit. edit ≡ spec.notice_back registrar message.now (finmap.get self.now.accounts registrar)) }
+    {
+        if self.accounts.lacks(registrar, message) {
+            return Ok(Edit::Unnotice(registrar, message_clone(message)?));
+        }
+        Ok(Edit::Account(registrar, self.accounts.copy(registrar)?))
+    }
+
     /// A registrar's account after a change.
     fn account_after(
         &self,
@@ -97,7 +136,8 @@ impl Content {
         Ok(account)
     }
 
-    /// The edit that changes a registrar's account. What counts alone, or adds a line, copies none.
+    /// The edit that changes a registrar's account. What counts alone, or adds a line or a
+    /// message of time, copies none.
     fn gift(
         &self,
         registrar: RegistrarNo,
@@ -111,6 +151,9 @@ impl Content {
         }
         if let Some(line) = line_of(&what) {
             return Ok(Edit::Line(registrar, line));
+        }
+        if let Some(message) = notice_of(&what) {
+            return Ok(Edit::Notice(registrar, message_clone(message)?));
         }
         let account = self.account_after(registrar, what, policy)?;
         Ok(Edit::Account(registrar, Some(account)))
@@ -193,10 +236,11 @@ impl Content {
             }
             Edit::Counters(registrar, _) => Ok(self.counters_back(*registrar)),
             Edit::Line(registrar, line) => Ok(self.line_back(*registrar, *line)),
-            Edit::Unline(registrar, _) => {
+            Edit::Unline(registrar, _) | Edit::Unnotice(registrar, _) => {
                 let old = self.accounts.copy(*registrar)?;
                 Ok(Edit::Account(*registrar, old))
             }
+            Edit::Notice(registrar, message) => self.notice_back(*registrar, message),
             Edit::Contact(name, _) => {
                 let old = copy_contact(self.contacts.get(name))?;
                 Ok(Edit::Contact(name.clone()?, old))
@@ -230,6 +274,13 @@ impl Content {
             Edit::Line(registrar, line) => self.accounts.add_line(self.alloc, registrar, line),
             Edit::Unline(registrar, line) => {
                 self.accounts.take_line(registrar, &line);
+                Ok(())
+            }
+            Edit::Notice(registrar, message) => {
+                self.accounts.put_notice(self.alloc, registrar, message)
+            }
+            Edit::Unnotice(registrar, message) => {
+                self.accounts.take_notice(registrar, &message);
                 Ok(())
             }
             Edit::Contact(name, value) => put_named(&mut self.contacts, name, value),

@@ -4,7 +4,7 @@ ghost use Rattle.std.specs.Option.{option_copied};
 ghost use Rattle.store.specs.Ledgers.{put};
 
 use crate::ledgers::Counters as AccountCounters;
-use accounts::{Account as AccountRecord, Line as AccountLine};
+use accounts::{Account as AccountRecord, Line as AccountLine, Message};
 use basis::maps::NameMap;
 use basis::registrar::RegistrarNo;
 use basis::text::Text;
@@ -24,6 +24,10 @@ pub(crate) enum Edit {
     Line(RegistrarNo, AccountLine),
     /// A line less, which was added.
     Unline(RegistrarNo, AccountLine),
+    /// A message more that time brings.
+    Notice(RegistrarNo, Message),
+    /// A message less, which was put in.
+    Unnotice(RegistrarNo, Message),
     Contact(Text, Option<ContactRecord>),
     Domain(Text, Option<DomainRecord>),
     Host(Text, Option<HostRecord>),
@@ -43,6 +47,12 @@ impl Edit {
             Edit::Counters(registrar, counters) => Ok(Edit::Counters(*registrar, *counters)),
             Edit::Line(registrar, line) => Ok(Edit::Line(*registrar, *line)),
             Edit::Unline(registrar, line) => Ok(Edit::Unline(*registrar, *line)),
+            Edit::Notice(registrar, message) => {
+                Ok(Edit::Notice(*registrar, message_clone(message)?))
+            }
+            Edit::Unnotice(registrar, message) => {
+                Ok(Edit::Unnotice(*registrar, message_clone(message)?))
+            }
             Edit::Contact(name, value) => {
                 let name = name.clone()?;
                 Ok(Edit::Contact(name, copy_contact(value.as_ref())?))
@@ -93,6 +103,12 @@ pub(crate) fn account_clone(account: &AccountRecord) -> Result<AccountRecord, Al
     ensures { IfOk result (λ copy. copy ≡ account.now) }
 {
     account.clone()
+}
+
+pub(crate) fn message_clone(message: &Message) -> Result<Message, AllocError>
+    ensures { IfOk result (λ copy. copy ≡ message.now) }
+{
+    message.clone()
 }
 
 pub(crate) fn copy_contact(

@@ -8,7 +8,7 @@ ghost use Rattle.store.specs.Ledgers as spec;
 ghost use Rattle.store.specs.Ledgers.{put};
 
 use crate::edit::account_clone;
-use accounts::{Account, Line, saturating_next};
+use accounts::{Account, Line, Message, saturating_next};
 use basis::maps::RegistrarMap;
 use basis::registrar::RegistrarNo;
 use std::alloc::{AllocError, Global};
@@ -220,6 +220,44 @@ impl Ledgers {
             return;
         };
         account.lines.take_back(line);
+    }
+
+    /// Puts a message into a registrar's queue. What was never opened is opened.
+    pub fn put_notice(
+        &mut self,
+        alloc: Global,
+        registrar: RegistrarNo,
+        message: Message,
+    ) -> Result<(), AllocError>
+        ensures ok { OnOk result (self.new ≡ spec.with_notice self.old registrar message) }
+        ensures err { OnErr result (self.new ≡ self.old) }
+    {
+        if let Some(account) = self.accounts.get_mut(registrar) {
+            return account.queue.push(message);
+        }
+        let mut account = Account::empty(alloc);
+        account.queue.push(message)?;
+        self.insert(registrar, account)
+    }
+
+    /// Takes a message back that was put into a registrar's queue.
+    pub fn take_notice(&mut self, registrar: RegistrarNo, message: &Message)
+        ensures { self.new ≡ spec.without_notice self.old registrar message.now }
+    {
+        let Some(account) = self.accounts.get_mut(registrar) else {
+            return;
+        };
+        account.queue.take_back(message);
+    }
+
+    /// Whether a registrar has an account, and this message isn't in its queue.
+    pub fn lacks(&self, registrar: RegistrarNo, message: &Message) -> bool
+        ensures { result ≡ spec.lacks message.now (map.get self.now registrar) }
+    {
+        match self.accounts.get(registrar) {
+            None => false,
+            Some(account) => !account.queue.has(message),
+        }
     }
 
     /// Gives a registrar's account other counters. What was never opened is opened.
