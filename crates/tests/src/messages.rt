@@ -55,6 +55,16 @@ const ARRIVALS: &[(&str, Origin, &str, &str)] = &[
 /// The places of the arrivals in the order of the queue.
 const ORDER: &[usize] = &[4, 5, 2, 6, 1, 3, 0];
 
+/// The places of arrivals that are taken back, one after another, and the oldest that is left.
+const TAKEN: &[(usize, &str)] = &[
+    (6, "C8"),
+    (4, "L1893456000-A-a-one.test"),
+    (0, "L1893456000-A-a-one.test"),
+    (5, "L1893456000-A-b-two.test"),
+    (2, "L1893456000-T-a-one.test"),
+    (1, "C9"),
+];
+
 fn message(alloc: Global, moment: &str, origin: Origin, name: &str) -> Result<Message, Fail> {
     let moment = Moment::read(moment).ok_or("range")?;
     Ok(Message {
@@ -84,5 +94,25 @@ fn messages_are_told_in_their_order(rt: HostRuntime) -> Result<(), Fail> {
         assert!(rt; queue.ack(alloc, &oldest)?);
     }
     assert_eq!(rt; queue.waiting(), 0);
+    Ok(())
+}
+
+#[test]
+fn a_message_is_taken_back(rt: HostRuntime) -> Result<(), Fail> {
+    let alloc = rt.alloc();
+    let mut queue = Queue::new(alloc);
+    for (moment, origin, name, _) in ARRIVALS {
+        queue.push(message(alloc, moment, *origin, name)?)?;
+    }
+    for (place, oldest) in TAKEN {
+        let (moment, origin, name, _) = ARRIVALS.get(*place).ok_or("place")?;
+        let taken = message(alloc, moment, *origin, name)?;
+        assert!(rt; queue.has(&taken));
+        queue.take_back(&taken);
+        assert!(rt; !queue.has(&taken));
+        let left = queue.oldest().ok_or("empty")?.id(alloc)?;
+        assert_eq!(rt; left.as_str(), *oldest);
+    }
+    assert_eq!(rt; queue.waiting(), 1);
     Ok(())
 }
