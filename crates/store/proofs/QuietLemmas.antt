@@ -86,7 +86,7 @@ module _ (r : PolicyRules) (q : Quiet) (s : Registry) (p : PolicyRules) (ends : 
       → ((name ≡ k) × (d ≡ x)) ⊎ (get s.domains name ≡ Some x) → sooner q.until (passed q.until (due_at r d)) ≤ due_at p x
   domain-after k d name x before found =
       ⊎_elim (λ put. subst (λ (y : Domain). sooner q.until (passed q.until (due_at r d)) ≤ due_at p y) put.1
-          (subst (λ m. sooner q.until (passed q.until m) ≤ due_at p d) (same-ends q p r ends own d) (no-later-than q.until (due_at p d))))
+      (subst (λ m. sooner q.until (passed q.until m) ≤ due_at p d) (same-ends q p r ends own d) (no-later-than q.until (due_at p d))))
       (λ there. let least = before there in omega (arith, least, no-later q.until (passed q.until (due_at r d)))) found
 
   contacts-still : (o : Option ℕ) (name : List ℕ) (c : Contact) (m : ℕ) → get s.contacts name ≡ Some c → completes_at c.transfer ≡ Some m → sooner q.until o ≤ m
@@ -101,26 +101,32 @@ module _ (r : PolicyRules) (q : Quiet) (s : Registry) (p : PolicyRules) (ends : 
   after (PutHost h) = none
   after (DropHost name) = none
   after (Give other what) = none
-  after (PutContact c) =
-      (λ name x m found is. contact-after c.name c name x m (λ there. none.0 name x m there) (put-cases s.contacts c.name c name x found) is,
-      domains-still (due_put r q.until (PutContact c)))
-  after (LapseContact k (Some c)) =
-      (λ name x m found is. contact-after k c name x m (λ there. none.0 name x m there) (put-cases s.contacts k c name x found) is,
-      domains-still (due_put r q.until (LapseContact k (Some c))))
+  after (PutContact c) = (
+    λ name x m found is. contact-after c.name c name x m (λ there. none.0 name x m there) (put-cases s.contacts c.name c name x found) is,
+    domains-still (due_put r q.until (PutContact c)),
+  )
+  after (LapseContact k (Some c)) = (
+    λ name x m found is. contact-after k c name x m (λ there. none.0 name x m there) (put-cases s.contacts k c name x found) is,
+    domains-still (due_put r q.until (LapseContact k (Some c))),
+  )
   after (LapseContact k None) = (λ name x m found is. none.0 name x m (drop-cases s.contacts k name x found).1 is, none.1)
   after (DropContact k) = (λ name x m found is. none.0 name x m (drop-cases s.contacts k name x found).1 is, none.1)
-  after (PutDomain d) =
-      (contacts-still (due_put r q.until (PutDomain d)),
-      λ name x found. domain-after d.name d name x (λ there. none.1 name x there) (put-cases s.domains d.name d name x found))
-  after (LapseDomain k (Some d)) =
-      (contacts-still (due_put r q.until (LapseDomain k (Some d))),
-      λ name x found. domain-after k d name x (λ there. none.1 name x there) (put-cases s.domains k d name x found))
+  after (PutDomain d) = (
+    contacts-still (due_put r q.until (PutDomain d)),
+    λ name x found. domain-after d.name d name x (λ there. none.1 name x there) (put-cases s.domains d.name d name x found),
+  )
+  after (LapseDomain k (Some d)) = (
+    contacts-still (due_put r q.until (LapseDomain k (Some d))),
+    λ name x found. domain-after k d name x (λ there. none.1 name x there) (put-cases s.domains k d name x found),
+  )
   after (LapseDomain k None) = (none.0, λ name x found. none.1 name x (drop-cases s.domains k name x found).1)
   after (DropDomain k) = (none.0, λ name x found. none.1 name x (drop-cases s.domains k name x found).1)
-  after (RenameHost old new) =
-      (none.0, λ name x found.
-      let was = remade-cases (with_host_renamed old new) s.domains name x found in
-      subst (λ (y : Domain). q.until ≤ due_at p y) was.2 (subst (λ m. q.until ≤ m) (sym (renamed-due p old new was.0)) (none.1 name was.0 was.1)))
+  after (RenameHost old new) = (
+    none.0,
+    λ name x found.
+        let was = remade-cases (with_host_renamed old new) s.domains name x found in
+        subst (λ (y : Domain). q.until ≤ due_at p y) was.2 (subst (λ m. q.until ≤ m) (sym (renamed-due p old new was.0)) (none.1 name was.0 was.1)),
+  )
 
 -- what is known after a change
 pub quiet-after : (r : PolicyRules) (known : Option Quiet) (q : Quiet) (s : Registry) (change : Change) → IsQuiet known s → known ≡ Some q → HasEnds q r
@@ -164,11 +170,11 @@ quiet-none p t s known q is e ends less =
     let none = is q e p ends in
     ap (λ found. found_due (domain_due p t) found (entries s.domains))
     (none-of (contact_due t) [] (entries s.contacts)
-        (each_entry (slice_cmp nat_cmp) nat_list_cmp_total names_apart (λ name c. contact_due t (name, c) ≡ None) s.contacts
-        (λ name c there. ap (due_then _ name) (contact-none t q.until name (completes_at c.transfer) less (λ m done. none.0 name c m there done)))))
+    (each_entry (slice_cmp nat_cmp) nat_list_cmp_total names_apart (λ name c. contact_due t (name, c) ≡ None) s.contacts
+    (λ name c there. ap (due_then _ name) (contact-none t q.until name (completes_at c.transfer) less (λ m done. none.0 name c m there done)))))
     ∙ none-of (domain_due p t) [] (entries s.domains)
-        (each_entry (slice_cmp nat_cmp) nat_list_cmp_total names_apart (λ name d. domain_due p t (name, d) ≡ None) s.domains
-        (λ name d there. ap (due_then _ name) (none-then t (due_at p d) (let least = none.1 name d there in omega (arith, less, least)))))
+    (each_entry (slice_cmp nat_cmp) nat_list_cmp_total names_apart (λ name d. domain_due p t (name, d) ≡ None) s.domains
+    (λ name d there. ap (due_then _ name) (none-then t (due_at p d) (let least = none.1 name d there in omega (arith, less, least)))))
 
 -- ---- the soonest of all
 
@@ -213,10 +219,11 @@ quiet-from r q s m own is = λ x found p ends.
     let same : q ≡ x = some-is q x found in
     let low : q.until ≤ until_contacts m (entries s.contacts) = subst (λ n. n ≤ until_contacts m (entries s.contacts)) (sym is) (all-low (λ (d : Domain). Some (due_at r d)) (entries s.domains) (until_contacts m (entries s.contacts))) in
     subst (λ (y : Quiet). NoneBefore p y.until s) same (
-    (λ name c n there done. omega (arith, low, all-due (λ (c : Contact). completes_at c.transfer) name c n done (entries s.contacts) m (sym (get-entries s.contacts name) ∙ there))),
-    λ name d there.
-    subst (λ n. q.until ≤ n) (sym (same-ends q p r (subst (λ (y : Quiet). HasEnds y p) (sym same) ends) own d))
-    (subst (λ n. n ≤ due_at r d) (sym is) (all-due (λ (d : Domain). Some (due_at r d)) name d (due_at r d) refl (entries s.domains) (until_contacts m (entries s.contacts)) (sym (get-entries s.domains name) ∙ there))))
+      (λ name c n there done. omega (arith, low, all-due (λ (c : Contact). completes_at c.transfer) name c n done (entries s.contacts) m (sym (get-entries s.contacts name) ∙ there))),
+      λ name d there.
+          subst (λ n. q.until ≤ n) (sym (same-ends q p r (subst (λ (y : Quiet). HasEnds y p) (sym same) ends) own d))
+          (subst (λ n. n ≤ due_at r d) (sym is) (all-due (λ (d : Domain). Some (due_at r d)) name d (due_at r d) refl (entries s.domains) (until_contacts m (entries s.contacts)) (sym (get-entries s.domains name) ∙ there))),
+    )
   where
     some-is : (x y : Quiet) → (let o : Option Quiet = Some x in o) ≡ Some y → x ≡ y
     some-is x y e = cc

@@ -103,11 +103,7 @@ pub(crate) fn due_put(change: &Change, until: Moment, policy: &Policy) -> Option
 }
 
 /// An object that is due, if it is.
-fn due_then(
-    kind: ObjectKind,
-    name: &Text,
-    due: Option<Moment>,
-) -> Result<Option<Due>, AllocError>
+fn due_then(kind: ObjectKind, name: &Text, due: Option<Moment>) -> Result<Option<Due>, AllocError>
     ensures { IfOk result (λ it. it ≡ spec.due_then kind name.now due) }
 {
     match due {

@@ -8,7 +8,7 @@ use Rattle.store.proofs.plain.PlainBook.make.Goals as goal
 pub invariant_of-self : goal.invariant_of-self
 invariant_of-self c =
     let is : content_of c.set_all.new.self.content ≡ with_changes c.args.policy.now (c.args.change ∷ []) (content_of c.args.self.now.content) =
-        made-by c.args.policy.now c.in_ok-edits.edits.items c.args.change (content_of c.args.self.now.content) (content_of c.set_all.new.self.content) c.in_ok-edits.ensures c.in_ok-set_all.ensures.ok in
+    made-by c.args.policy.now c.in_ok-edits.edits.items c.args.change (content_of c.args.self.now.content) (content_of c.set_all.new.self.content) c.in_ok-edits.ensures c.in_ok-set_all.ensures.ok in
     record { quiet_is = subst (λ (s : Stored). IsQuiet c.quiet_after-quiet.result s.registry) (sym is) c.quiet_after-quiet.ensures }
 
 pub returns-clause-ok : goal.returns-clause-ok
