@@ -1,11 +1,14 @@
-"""Prints a script of N lines for `tldreg run`: a deposit, a contact, then domain checks and creates in turn.
+"""Prints a script of N lines for `tldreg run`.
 
-usage: python3 make_script.py N
+usage: python3 make_script.py N [checks | renewals | lapse]
 
-The first line is the operator's deposit, which pays for all creates; the second creates the contact
-that the domains name. Each create of a domain is of a new name;
-the check after it asks for that name and for one that is free. All other
-lines are alfa's, under examples/policy.toml, and each is a second after the one before.
+The first line is the operator's deposit, which pays for all; the second creates the contact that the
+domains name. The other lines are alfa's, under examples/policy.toml, each a second after the one before:
+
+checks    (what is printed where nothing else is asked) creates of domains and checks in turn; a check
+          asks for the name before it and for one that is free
+renewals  for each domain its create, its renewal by a year, and the balance
+lapse     creates alone; the last line is a check two years later, by when each domain has expired
 """
 import json
 import sys
@@ -18,22 +21,48 @@ CONTACT = {"cmd": "create", "mail": "ann@alfa.example", "name": "c-alfa", "obj":
            "secret": "key-alfa"}
 
 
-def command(line):
-    if line == 0:
-        return {"order": "deposit", "registrar": "alfa", "cents": 1_000_000_000_000}
-    if line == 1:
-        return CONTACT
-    number = line // 2
-    if line % 2 == 0:
-        return {"cmd": "create", "name": f"n{number:06}.test", "obj": "domain",
-                "registrant": "c-alfa", "secret": "foo-secret"}
-    return {"cmd": "check", "names": [f"n{number:06}.test", f"free{number:06}.test"],
-            "obj": "domain"}
+def name(number):
+    return f"n{number:06}.test"
 
 
-if len(sys.argv) != 2 or not sys.argv[1].isdecimal():
+def create(number):
+    return {"cmd": "create", "name": name(number), "obj": "domain", "registrant": "c-alfa",
+            "secret": "foo-secret"}
+
+
+def check(number):
+    return {"cmd": "check", "names": [name(number), f"free{number:06}.test"], "obj": "domain"}
+
+
+def expires(line):
+    """The expiry of what was created in the line before."""
+    return f"{START + timedelta(seconds=line - 1):%Y-%m-%d}".replace("2028", "2029")
+
+
+def checks(line, lines):
+    return create(line // 2) if line % 2 == 0 else check(line // 2)
+
+
+def renewals(line, lines):
+    number = (line - 2) // 3
+    return (create(number), {"cmd": "renew", "expires": expires(line), "name": name(number), "obj": "domain"},
+            {"cmd": "balance"})[(line - 2) % 3]
+
+
+def lapse(line, lines):
+    return create(line) if line + 1 < lines else check(line - 1)
+
+
+KINDS = {"checks": checks, "renewals": renewals, "lapse": lapse}
+kind = KINDS.get(sys.argv[2] if len(sys.argv) > 2 else "checks")
+if len(sys.argv) not in (2, 3) or not sys.argv[1].isdecimal() or kind is None:
     sys.exit(__doc__)
-for line in range(int(sys.argv[1])):
+lines = int(sys.argv[1])
+for line in range(lines):
     moment = START + timedelta(seconds=line)
+    if kind is lapse and line + 1 == lines:
+        moment = datetime(2030, 1, 1)
     caller = "operator" if line == 0 else "alfa"
-    print(f"{moment:%Y-%m-%dT%H:%M:%SZ} {caller} {json.dumps(command(line), separators=(',', ':'))}")
+    first = {0: {"order": "deposit", "registrar": "alfa", "cents": 1_000_000_000_000}, 1: CONTACT}
+    said = first[line] if line in first else kind(line, lines)
+    print(f"{moment:%Y-%m-%dT%H:%M:%SZ} {caller} {json.dumps(said, separators=(',', ':'))}")

@@ -4,7 +4,8 @@ use Rattle.eppcommands.specs.Session.{in_session}
 use Rattle.eppframes.specs.Texts.{closing_text}
 use Rattle.eppreplies.specs.Greeting.{greeting_text}
 use Rattle.eppreplies.specs.Reply.{reply_text}
-use Rattle.model.specs.Registry.{Registry, lapsed}
+use Rattle.model.specs.Lapse.{lapsed}
+use Rattle.model.specs.Registry.{Registry}
 use Rattle.model.specs.View.{View}
 use Rattle.policy.specs.Rules.{PolicyRules}
 use Rattle.protocol.specs.declared.session.InSession.{InSession}

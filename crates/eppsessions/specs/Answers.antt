@@ -4,7 +4,8 @@ use Rattle.eppcommands.specs.Session.{before_login, in_session}
 use Rattle.eppreplies.specs.Greeting.{greeting_text}
 use Rattle.eppreplies.specs.Reply.{reply_text}
 use Rattle.eppreplies.specs.Session.{nobodys_text}
-use Rattle.model.specs.Registry.{Registry, lapsed}
+use Rattle.model.specs.Lapse.{lapsed}
+use Rattle.model.specs.Registry.{Registry}
 use Rattle.model.specs.View.{view_for}
 use Rattle.policy.specs.Rules.{PolicyRules, place_of_login}
 use Rattle.protocol.specs.declared.code.Code.{Code}
