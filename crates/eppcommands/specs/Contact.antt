@@ -5,7 +5,8 @@ use Rattle.objects.specs.declared.contact.Postal as postal
 use Rattle.objects.specs.declared.roid.ObjectKind.TheVariants.{Contact}
 use Rattle.protocol.specs.declared.form.FormFault.{FormFault}
 use Rattle.protocol.specs.declared.command.Request.{Request}
-use Rattle.protocol.specs.declared.command.Request.TheVariants.{CheckContact, InfoContact, CreateContact, DeleteContact, UpdateContact}
+use Rattle.protocol.specs.declared.command.Request.TheVariants.{CheckContact, InfoContact, CreateContact, DeleteContact, UpdateContact, TransferContact}
+use Rattle.protocol.specs.declared.transfer.TransferOp.{TransferOp}
 use Rattle.eppforms.specs.declared.member.Member.TheVariants as members
 use Rattle.eppforms.specs.declared.member.Section.{Section}
 use Rattle.eppforms.specs.declared.member.Section.TheVariants.{Top, Postal, Add, Rem, Chg, ChgPostal}
@@ -64,3 +65,9 @@ update_contact d = do
   mail ← maybe_text_at Chg members.Mail d
   secret ← maybe_text_at Chg members.Secret d
   Ok (UpdateContact (record { name = name; add = add; rem = rem; postal = postal; voice = voice; mail = mail; secret = secret }))
+
+unfoldable pub transfer_contact : TransferOp → Data → Result Request FormFault
+transfer_contact op d = do
+  name ← text_at Top members.Name d
+  secret ← maybe_text_at Top members.Secret d
+  Ok (TransferContact name op secret)

@@ -5,7 +5,8 @@ use Rattle.names.specs.Zone.{ZoneRules}
 use Rattle.objects.specs.declared.roid.ObjectKind.TheVariants as kinds
 use Rattle.protocol.specs.declared.form.FormFault.{FormFault}
 use Rattle.protocol.specs.declared.command.Request.{Request}
-use Rattle.protocol.specs.declared.command.Request.TheVariants.{CheckDomain, InfoDomain, CreateDomain, DeleteDomain, UpdateDomain, RenewDomain, RequestRestore, ReportRestore}
+use Rattle.protocol.specs.declared.command.Request.TheVariants.{CheckDomain, InfoDomain, CreateDomain, DeleteDomain, UpdateDomain, RenewDomain, RequestRestore, ReportRestore, TransferDomain}
+use Rattle.protocol.specs.declared.transfer.TransferOp.{TransferOp}
 use Rattle.protocol.specs.declared.command.DomainLists.{DomainLists}
 use Rattle.eppforms.specs.declared.member.Member.TheVariants as members
 use Rattle.eppforms.specs.declared.member.Section.{Section}
@@ -79,3 +80,11 @@ report_restore zone d = do
   del_time ← moment_at Top members.DelTime d
   res_time ← moment_at Top members.ResTime d
   Ok (ReportRestore name del_time res_time)
+
+-- ---- transfers (RFC 5731, 3.1.3 and 3.2.4)
+
+unfoldable pub transfer_domain : TransferOp → ZoneRules → Data → Result Request FormFault
+transfer_domain op zone d = do
+  name ← name_at Domain Top members.Name zone d
+  secret ← maybe_text_at Top members.Secret d
+  Ok (TransferDomain name op secret)

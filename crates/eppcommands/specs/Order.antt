@@ -1,9 +1,9 @@
 -- The operator's orders (RFC 5731, 2.3: the statuses that begin with server are the server's alone).
-use Rattle.std.specs.Prelude.{ℕ, ◌&&◌, ◌||◌, Bool, List, [], ◌∷◌, Option, Some, None, option_and_then, is_none, if◌then◌else◌, Result, Ok, Err, ok_or, codes}
+use Rattle.std.specs.Prelude.{ℕ, ◌^◌, nat_lt, ◌&&◌, ◌||◌, Bool, List, [], ◌∷◌, Option, Some, None, option_and_then, is_none, if◌then◌else◌, Result, Ok, Err, ok_or, codes}
 use Rattle.std.specs.List.{list_any}
 use Rattle.std.specs.Str.{bytes_eq, is_utf8}
 use Rattle.serde_json.specs.Data.{Data, Num}
-use Rattle.serde_json.specs.Find.{as_str, as_number, as_i64}
+use Rattle.serde_json.specs.Find.{as_str, as_number, as_i64, as_u64}
 use Rattle.serde_json.specs.Read.{read}
 use Rattle.objects.specs.declared.roid.ObjectKind.{ObjectKind}
 use Rattle.objects.specs.declared.status.Status as the_status
@@ -11,11 +11,11 @@ use Rattle.objects.specs.StatusTexts.{status_named}
 use Rattle.protocol.specs.declared.form.FormFault.{FormFault}
 use Rattle.protocol.specs.declared.form.FormFault.TheVariants.{SyntaxError, UnknownCommand, ParameterRange}
 use Rattle.protocol.specs.declared.order.Order as the_order
-use Rattle.protocol.specs.declared.order.Order.TheVariants.{Status, Deposit}
+use Rattle.protocol.specs.declared.order.Order.TheVariants.{Status, Deposit, Settle}
 use Rattle.eppforms.specs.declared.member.Member.{Member}
 use Rattle.eppforms.specs.declared.member.Member.TheVariants as members
 use Rattle.eppforms.specs.declared.member.Section.TheVariants.{Top}
-use Rattle.eppforms.specs.declared.table.TheConstants.{STATUS_ORDER_FORM, DEPOSIT_ORDER_FORM}
+use Rattle.eppforms.specs.declared.table.TheConstants.{STATUS_ORDER_FORM, DEPOSIT_ORDER_FORM, SETTLE_ORDER_FORM}
 use Rattle.eppforms.specs.declared.table.Field.{Field}
 use Rattle.eppforms.specs.Form.{◌>>=◌, refuse_unless, has_only, has_all}
 use Rattle.eppforms.specs.Member.{member_at, word_at}
@@ -75,6 +75,15 @@ deposit_order d = do
   cents ← ok_or (as_i64 number) ParameterRange
   Ok (Deposit registrar cents)
 
+-- how much of what fell due is to be settled
+unfoldable pub settle_order : Data → Result the_order.Order FormFault
+settle_order d = do
+  _ ← refuse_unless (has_form SETTLE_ORDER_FORM.now d) SyntaxError
+  number ← number_at members.AtMost d
+  at_most ← ok_or (as_u64 number) ParameterRange
+  _ ← refuse_unless (nat_lt at_most (2 ^ 32)) ParameterRange
+  Ok (Settle at_most)
+
 -- ---- the order
 
 -- the order that `order` says
@@ -82,7 +91,8 @@ abbrev pub order_said : List ℕ → Data → Result the_order.Order FormFault
 order_said order d =
     if bytes_eq order (codes "status") then status_order d
     else (if bytes_eq order (codes "deposit") then deposit_order d
-    else Err UnknownCommand)
+    else (if bytes_eq order (codes "settle") then settle_order d
+    else Err UnknownCommand))
 
 unfoldable pub order_told : Data → Result the_order.Order FormFault
 order_told d = do

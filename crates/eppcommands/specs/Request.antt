@@ -12,8 +12,8 @@ use Rattle.eppforms.specs.declared.member.Member.TheVariants as members
 use Rattle.eppforms.specs.declared.member.Section.TheVariants.{Top}
 use Rattle.eppforms.specs.Form.{◌>>=◌, checked_command}
 use Rattle.eppcommands.specs.Reading.{text_at}
-use Rattle.eppcommands.specs.Contact.{check_contact, info_contact, create_contact, delete_contact, update_contact}
-use Rattle.eppcommands.specs.Domain.{check_domain, info_domain, create_domain, delete_domain, update_domain, renew_domain, request_restore, report_restore}
+use Rattle.eppcommands.specs.Contact.{check_contact, info_contact, create_contact, delete_contact, update_contact, transfer_contact}
+use Rattle.eppcommands.specs.Domain.{check_domain, info_domain, create_domain, delete_domain, update_domain, renew_domain, request_restore, report_restore, transfer_domain}
 use Rattle.eppcommands.specs.Host.{check_host, info_host, create_host, delete_host, update_host}
 
 -- the message that was read (RFC 5730, 2.9.2.3)
@@ -46,6 +46,8 @@ request_of kinds.UpdateHost zone d = update_host zone d
 request_of kinds.RenewDomain zone d = renew_domain zone d
 request_of kinds.RequestRestore zone d = request_restore zone d
 request_of kinds.ReportRestore zone d = report_restore zone d
+request_of (kinds.TransferContact op) zone d = transfer_contact op d
+request_of (kinds.TransferDomain op) zone d = transfer_domain op zone d
 request_of kinds.PollRequest zone d = Ok PollRequest
 request_of kinds.PollAck zone d = poll_ack d
 

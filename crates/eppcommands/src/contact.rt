@@ -7,7 +7,7 @@ use crate::reading::{Fault, maybe_text_at, statuses_at, text_at, texts_at};
 use eppforms::Section::{self, Add, Chg, ChgPostal, Rem, Top};
 use eppforms::{Member, part};
 use objects::{ObjectKind, Postal};
-use protocol::{ContactUpdate, NewContact, Request};
+use protocol::{ContactUpdate, NewContact, Request, TransferOp};
 use serde_json::Value;
 use std::alloc::Global;
 
@@ -75,6 +75,15 @@ pub fn update_contact(alloc: Global, value: &Value) -> Result<Request, Fault>
         mail,
         secret,
     }))
+}
+
+#[tactic(auto, unfolding(crate::specs::Contact::transfer_contact))]
+pub fn transfer_contact(alloc: Global, op: TransferOp, value: &Value) -> Result<Request, Fault>
+    ensures { Gives result (spec.transfer_contact op (view value.now)) }
+{
+    let name = text_at(alloc, Top, Member::Name, value)?;
+    let secret = maybe_text_at(alloc, Top, Member::Secret, value)?;
+    Ok(Request::TransferContact { name, op, secret })
 }
 
 /// The postal address in a section.

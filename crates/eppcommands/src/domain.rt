@@ -11,7 +11,7 @@ use eppforms::Member;
 use eppforms::Section::{self, Add, Chg, Rem, Top};
 use names::Zone;
 use objects::ObjectKind;
-use protocol::{DomainLists, DomainUpdate, NewDomain, Request};
+use protocol::{DomainLists, DomainUpdate, NewDomain, Request, TransferOp};
 use serde_json::Value;
 use std::alloc::Global;
 
@@ -136,4 +136,18 @@ pub fn report_restore(alloc: Global, value: &Value, zone: &Zone) -> Result<Reque
         del_time,
         res_time,
     })
+}
+
+#[tactic(auto, unfolding(crate::specs::Domain::transfer_domain))]
+pub fn transfer_domain(
+    alloc: Global,
+    op: TransferOp,
+    value: &Value,
+    zone: &Zone,
+) -> Result<Request, Fault>
+    ensures { Gives result (spec.transfer_domain op zone.now (view value.now)) }
+{
+    let name = name_at(alloc, NameOf::Domain, Top, Member::Name, value, zone)?;
+    let secret = maybe_text_at(alloc, Top, Member::Secret, value)?;
+    Ok(Request::TransferDomain { name, op, secret })
 }

@@ -10,8 +10,8 @@ use crate::reading::{Fault, items_in, text_at};
 use basis::list::Seq;
 use eppforms::Section::Top;
 use eppforms::{
-    DEPOSIT_ORDER_FORM, Field, Member, STATUS_ORDER_FORM, has_all, has_only, member_of,
-    object_named, word,
+    DEPOSIT_ORDER_FORM, Field, Member, SETTLE_ORDER_FORM, STATUS_ORDER_FORM, has_all, has_only,
+    member_of, object_named, word,
 };
 use objects::{ObjectKind, Status};
 use protocol::{FormFault, Order, StatusOrder};
@@ -57,6 +57,9 @@ fn order_said(alloc: Global, order: &str, value: &Value) -> Result<Order, Fault>
     if order == "deposit" {
         return deposit_order(alloc, value);
     }
+    if order == "settle" {
+        return Ok(settle_order(value)?);
+    }
     Err(Fault::Refused(FormFault::UnknownCommand))
 }
 
@@ -101,6 +104,24 @@ fn deposit_order(alloc: Global, value: &Value) -> Result<Order, Fault>
     let number = number_at(Member::Cents, value)?;
     let cents = number.as_i64().ok_or(FormFault::ParameterRange)?;
     Ok(Order::Deposit { registrar, cents })
+}
+
+/// The order to settle what fell due.
+#[tactic(auto, unfolding(crate::specs::Order::settle_order))]
+fn settle_order(value: &Value) -> Result<Order, FormFault>
+    ensures { result ≡ spec.settle_order (view value.now) }
+{
+    if !has_form(SETTLE_ORDER_FORM, value) {
+        return Err(FormFault::SyntaxError);
+    }
+    let number = number_at(Member::AtMost, value)?;
+    let at_most = number.as_u64().ok_or(FormFault::ParameterRange)?;
+    if at_most > u64::from(u32::MAX) {
+        return Err(FormFault::ParameterRange);
+    }
+    Ok(Order::Settle {
+        at_most: at_most as u32,
+    })
 }
 
 /// Each member of the form is there, and none but these.

@@ -3,10 +3,12 @@ ghost use Rattle.serde_json.specs.View.{view};
 ghost use Rattle.eppcommands.specs.Reading.{Gives};
 ghost use Rattle.eppcommands.specs.Request as spec;
 
-use crate::contact::{check_contact, create_contact, delete_contact, info_contact, update_contact};
+use crate::contact::{
+    check_contact, create_contact, delete_contact, info_contact, transfer_contact, update_contact,
+};
 use crate::domain::{
     check_domain, create_domain, delete_domain, info_domain, renew_domain, report_restore,
-    request_restore, update_domain,
+    request_restore, transfer_domain, update_domain,
 };
 use crate::host::{check_host, create_host, delete_host, info_host, update_host};
 use crate::reading::{Fault, text_at};
@@ -43,6 +45,8 @@ pub fn request_in(alloc: Global, value: &Value, zone: &Zone) -> Result<Request, 
         CommandKind::RenewDomain => renew_domain(alloc, value, zone),
         CommandKind::RequestRestore => request_restore(alloc, value, zone),
         CommandKind::ReportRestore => report_restore(alloc, value, zone),
+        CommandKind::TransferContact(op) => transfer_contact(alloc, op, value),
+        CommandKind::TransferDomain(op) => transfer_domain(alloc, op, value, zone),
         CommandKind::PollRequest => Ok(Request::PollRequest),
         CommandKind::PollAck => poll_ack(alloc, value),
     }

@@ -16,8 +16,8 @@ use Rattle.eppforms.specs.declared.table.Field.{Field}
 use Rattle.eppforms.specs.Kind.{some_and, of_items, has_type, in_range, has_shape}
 use Rattle.eppforms.specs.Member.{text_of, is_section, word_at, part_at, value_of}
 use Rattle.eppforms.specs.declared.table.Op.{Op}
-use Rattle.protocol.specs.Texts.{object_text}
 use Rattle.eppforms.specs.Table.{CommandForm, command_forms, verb_text, op_text, is_update}
+use Rattle.protocol.specs.Texts.{object_text}
 
 -- one step after another, up to the first fault
 infixl 10 ◌>>=◌

@@ -48,6 +48,7 @@ text_of members.Statements = codes "statements"
 text_of members.Order = codes "order"
 text_of members.Registrar = codes "registrar"
 text_of members.Cents = codes "cents"
+text_of members.AtMost = codes "at_most"
 
 abbrev pub is_section : Section → Section → Bool
 is_section Top Top = true

@@ -8,32 +8,37 @@ use Rattle.eppforms.specs.declared.table.Choice.{Choice}
 use Rattle.eppforms.specs.declared.table.Field.{Field}
 use Rattle.eppforms.specs.declared.table.TheConstants.{FORMS}
 use Rattle.eppforms.specs.declared.table.Verb.{Verb}
-use Rattle.eppforms.specs.declared.table.Verb.TheVariants.{Balance, Check, Info, Create, Delete, Update, Renew, Restore, Poll, Hello, Login, Logout}
+use Rattle.eppforms.specs.declared.table.Verb.TheVariants as verbs
 use Rattle.eppforms.specs.declared.table.Op.{Op}
 use Rattle.eppforms.specs.declared.table.Op.TheVariants as ops
 
 abbrev pub verb_text : Verb → List ℕ
-verb_text Hello = codes "hello"
-verb_text Login = codes "login"
-verb_text Logout = codes "logout"
-verb_text Balance = codes "balance"
-verb_text Check = codes "check"
-verb_text Info = codes "info"
-verb_text Create = codes "create"
-verb_text Delete = codes "delete"
-verb_text Update = codes "update"
-verb_text Renew = codes "renew"
-verb_text Restore = codes "restore"
-verb_text Poll = codes "poll"
+verb_text verbs.Hello = codes "hello"
+verb_text verbs.Login = codes "login"
+verb_text verbs.Logout = codes "logout"
+verb_text verbs.Balance = codes "balance"
+verb_text verbs.Check = codes "check"
+verb_text verbs.Info = codes "info"
+verb_text verbs.Create = codes "create"
+verb_text verbs.Delete = codes "delete"
+verb_text verbs.Update = codes "update"
+verb_text verbs.Renew = codes "renew"
+verb_text verbs.Restore = codes "restore"
+verb_text verbs.Poll = codes "poll"
+verb_text verbs.Transfer = codes "transfer"
 
 -- what has to change something
 abbrev pub is_update : Verb → Bool
-is_update Update = true
+is_update verbs.Update = true
 is_update _ = false
 
 abbrev pub op_text : Op → List ℕ
 op_text ops.Request = codes "request"
 op_text ops.Report = codes "report"
+op_text ops.Query = codes "query"
+op_text ops.Approve = codes "approve"
+op_text ops.Reject = codes "reject"
+op_text ops.Cancel = codes "cancel"
 op_text ops.Req = codes "req"
 op_text ops.Ack = codes "ack"
 

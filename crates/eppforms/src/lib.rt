@@ -19,6 +19,6 @@ pub use kind::{Kind, Limits, Shape};
 pub use member::{Member, Section};
 pub use table::{
     CL_TRID, Choice, CommandForm, CommandKind, DEPOSIT_ORDER_FORM, FORMS, Field, Op,
-    STATUS_ORDER_FORM, Verb, object_named,
+    SETTLE_ORDER_FORM, STATUS_ORDER_FORM, Verb, object_named,
 };
 pub use value::{member_of, part, value_at, word};

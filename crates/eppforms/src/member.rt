@@ -44,6 +44,7 @@ pub enum Member {
     Order,
     Registrar,
     Cents,
+    AtMost,
 }
 
 impl Member {
@@ -91,6 +92,7 @@ impl Member {
             Member::Order => "order",
             Member::Registrar => "registrar",
             Member::Cents => "cents",
+            Member::AtMost => "at_most",
         }
     }
 }

@@ -8,7 +8,7 @@ use crate::kind::Kind::{self, Parts, Whole};
 use crate::kind::{Limits, Shape};
 use crate::member::{Member, Section};
 use objects::ObjectKind;
-use protocol::object_text;
+use protocol::{TransferOp, object_text};
 
 /// What `cmd` may say.
 #[derive(Clone, Copy)]
@@ -24,6 +24,7 @@ pub enum Verb {
     Update,
     Renew,
     Restore,
+    Transfer,
     Poll,
 }
 
@@ -44,6 +45,7 @@ impl Verb {
             Verb::Update => "update",
             Verb::Renew => "renew",
             Verb::Restore => "restore",
+            Verb::Transfer => "transfer",
             Verb::Poll => "poll",
         }
     }
@@ -74,6 +76,10 @@ pub fn object_named(text: &str) -> Option<ObjectKind>
 pub enum Op {
     Request,
     Report,
+    Query,
+    Approve,
+    Reject,
+    Cancel,
     Req,
     Ack,
 }
@@ -86,6 +92,10 @@ impl Op {
         match self {
             Op::Request => "request",
             Op::Report => "report",
+            Op::Query => "query",
+            Op::Approve => "approve",
+            Op::Reject => "reject",
+            Op::Cancel => "cancel",
             Op::Req => "req",
             Op::Ack => "ack",
         }
@@ -117,6 +127,8 @@ pub enum CommandKind {
     RenewDomain,
     RequestRestore,
     ReportRestore,
+    TransferContact(TransferOp),
+    TransferDomain(TransferOp),
     PollRequest,
     PollAck,
 }
@@ -181,12 +193,32 @@ macro_rules! by_op {
     };
 }
 
+/// A transfer, by its `obj` and its `op`.
+macro_rules! transfer {
+    ($object:ident, $op:ident, $command:ident) => {
+        Choice {
+            cmd: Verb::Transfer,
+            object: Some(ObjectKind::$object),
+            op: Some(Op::$op),
+            command: Some(CommandKind::$command(TransferOp::$op)),
+        }
+    };
+}
+
 /// What has a `cmd` with an `op`, and no `op` that is known. It stands behind those that are.
 macro_rules! no_op {
     ($cmd:ident) => {
         Choice {
             cmd: Verb::$cmd,
             object: None,
+            op: None,
+            command: None,
+        }
+    };
+    ($cmd:ident, $object:ident) => {
+        Choice {
+            cmd: Verb::$cmd,
+            object: Some(ObjectKind::$object),
             op: None,
             command: None,
         }
@@ -499,6 +531,28 @@ const RESTORE: &[Field] = without_object![
     may!(Top, Statements, STATEMENTS),
 ];
 
+/// RFC 5733, 3.2.4.
+const REQUEST_CONTACT: &[Field] = members![
+    must!(Top, Name, HANDLE),
+    OP,
+    must!(Top, Secret, SECRET),
+];
+
+/// RFC 5733, 3.1.3; and where `op` isn't known.
+const QUERY_CONTACT: &[Field] = members![must!(Top, Name, HANDLE), OP, may!(Top, Secret, SECRET),];
+
+/// RFC 5733, 3.2.4: to approve, to reject and to cancel.
+const ANSWER_CONTACT: &[Field] = members![must!(Top, Name, HANDLE), OP];
+
+/// RFC 5731, 3.2.4.
+const REQUEST_DOMAIN: &[Field] = members![must!(Top, Name, NAME), OP, must!(Top, Secret, SECRET),];
+
+/// RFC 5731, 3.1.3; and where `op` isn't known.
+const QUERY_DOMAIN: &[Field] = members![must!(Top, Name, NAME), OP, may!(Top, Secret, SECRET),];
+
+/// RFC 5731, 3.2.4: to approve, to reject and to cancel.
+const ANSWER_DOMAIN: &[Field] = members![must!(Top, Name, NAME), OP];
+
 /// RFC 5730, 2.9.2.3.
 const POLL_REQUEST: &[Field] = without_object![OP];
 
@@ -532,6 +586,21 @@ pub const FORMS: &[CommandForm] = &[
     (by_op!(Restore, Request, RequestRestore), REQUEST_RESTORE),
     (by_op!(Restore, Report, ReportRestore), REPORT_RESTORE),
     (no_op!(Restore), RESTORE),
+    (
+        transfer!(Contact, Request, TransferContact),
+        REQUEST_CONTACT,
+    ),
+    (transfer!(Contact, Query, TransferContact), QUERY_CONTACT),
+    (transfer!(Contact, Approve, TransferContact), ANSWER_CONTACT),
+    (transfer!(Contact, Reject, TransferContact), ANSWER_CONTACT),
+    (transfer!(Contact, Cancel, TransferContact), ANSWER_CONTACT),
+    (no_op!(Transfer, Contact), QUERY_CONTACT),
+    (transfer!(Domain, Request, TransferDomain), REQUEST_DOMAIN),
+    (transfer!(Domain, Query, TransferDomain), QUERY_DOMAIN),
+    (transfer!(Domain, Approve, TransferDomain), ANSWER_DOMAIN),
+    (transfer!(Domain, Reject, TransferDomain), ANSWER_DOMAIN),
+    (transfer!(Domain, Cancel, TransferDomain), ANSWER_DOMAIN),
+    (no_op!(Transfer, Domain), QUERY_DOMAIN),
     (by_op!(Poll, Req, PollRequest), POLL_REQUEST),
     (by_op!(Poll, Ack, PollAck), POLL_ACK),
     (no_op!(Poll), POLL),
@@ -554,3 +623,6 @@ pub const DEPOSIT_ORDER_FORM: &[Field] = &[
     must!(Top, Registrar, WORD),
     must!(Top, Cents, NUMBER),
 ];
+
+/// The members of the operator's order to settle what fell due.
+pub const SETTLE_ORDER_FORM: &[Field] = &[ORDER, must!(Top, AtMost, NUMBER)];

@@ -7,7 +7,7 @@ use Rattle.serde_json.specs.Written.{has_float, members_have_float}
 use Rattle.protocol.specs.declared.code.Code.{Code}
 use Rattle.protocol.specs.declared.reply.Reply.{Reply}
 use Rattle.protocol.specs.declared.reply.Data as the_data
-use Rattle.protocol.specs.declared.reply.Data.TheVariants.{Checked, Created, Balance, Renewed, Deleted, Polled, Acked, Contact, Domain, Host}
+use Rattle.protocol.specs.declared.reply.Data.TheVariants.{Checked, Created, Balance, Renewed, Deleted, Transferred, Polled, Acked, Contact, Domain, Host}
 use Rattle.protocol.specs.declared.reply.CheckResult.{CheckResult}
 use Rattle.protocol.specs.declared.reply.ContactInfo.{ContactInfo}
 use Rattle.protocol.specs.declared.reply.DomainInfo.{DomainInfo}
@@ -20,7 +20,7 @@ use Rattle.eppreplies.specs.Members.{members_with, texts_value, moment_value}
 use Rattle.eppreplies.specs.Answer.{settled_value, answer_members, answer_value}
 use Rattle.eppreplies.specs.Session.{nobodys_members, nobodys_value}
 use Rattle.eppreplies.specs.Greeting.{greeting_value}
-use Rattle.eppreplies.specs.Reply.{reason_text, checked_members, checked_value, checks_value, created_members, balance_members, renewed_members, deleted_members, polled_members, acked_members, transfer_members, transfer_value, postal_members, postal_value, contact_transfer_of, contact_members, host_members, domain_members, data_value, reply_members, reply_value, deleted_of, restore_requested_of, secret_of, transfer_of}
+use Rattle.eppreplies.specs.Reply.{reason_text, checked_members, checked_value, checks_value, created_members, balance_members, renewed_members, deleted_members, transferred_members, polled_members, acked_members, transfer_members, transfer_value, postal_members, postal_value, contact_transfer_of, contact_members, host_members, domain_members, data_value, reply_members, reply_value, deleted_of, restore_requested_of, secret_of, transfer_of}
 
 abbrev pub IsPlain : Data → Type 0
 IsPlain d = has_float d ≡ false
@@ -160,6 +160,7 @@ data_plain (Created c) = members_plain (created_members c) (maybe_plain (λ cent
 data_plain (Balance cents) = members_plain (balance_members cents) (refl, tt)
 data_plain (Renewed r) = members_plain (renewed_members r) (refl, (refl, (refl, tt)))
 data_plain (Deleted d) = members_plain (deleted_members d) (refl, (refl, tt))
+data_plain (Transferred t) = members_plain (transferred_members t) (refl, (refl, (maybe_plain (λ cents. string (decimal cents)) t.charge (λ n. refl), (refl, (refl, (refl, (refl, tt)))))))
 data_plain (Polled p) = members_plain (polled_members p) (refl, (refl, (refl, (refl, (refl, (refl, tt))))))
 data_plain (Acked count) = members_plain (acked_members count) (refl, tt)
 data_plain (Contact c) = members_plain (contact_members c) (contact_plain c)

@@ -8,20 +8,21 @@ use Rattle.objects.specs.declared.contact.Postal.{Postal}
 use Rattle.objects.specs.declared.domain.Deletion.{Deletion}
 use Rattle.objects.specs.declared.transfer.TransferState.{TransferState}
 use Rattle.objects.specs.declared.transfer.TransferState.TheVariants.{Pending, ClientApproved, ClientRejected, ClientCancelled, ServerApproved}
-use Rattle.objects.specs.Graces.{states_of}
 use Rattle.objects.specs.StatusTexts.{status_text, rgp_text}
+use Rattle.objects.specs.Graces.{states_of}
 use Rattle.objects.specs.Roid.{roid_text}
 use Rattle.protocol.specs.Codes.{number_of, message_of}
 use Rattle.protocol.specs.declared.reply.Reply.{Reply}
 use Rattle.protocol.specs.declared.reply.SvTrid.{SvTrid}
 use Rattle.protocol.specs.declared.reply.Data as the_data
-use Rattle.protocol.specs.declared.reply.Data.TheVariants.{Checked, Created, Balance, Renewed, Deleted, Polled, Acked, Contact, Domain, Host}
+use Rattle.protocol.specs.declared.reply.Data.TheVariants.{Checked, Created, Balance, Renewed, Deleted, Transferred, Polled, Acked, Contact, Domain, Host}
 use Rattle.protocol.specs.declared.reply.CheckResult.{CheckResult}
 use Rattle.protocol.specs.declared.reply.Reason.{Reason}
 use Rattle.protocol.specs.declared.reply.Reason.TheVariants.{Policy, InUse}
 use Rattle.protocol.specs.declared.reply.Created as the_created
 use Rattle.protocol.specs.declared.reply.Renewed as the_renewed
 use Rattle.protocol.specs.declared.reply.Deleted as the_deleted
+use Rattle.protocol.specs.declared.reply.Transferred as the_transferred
 use Rattle.protocol.specs.declared.reply.Polled as the_polled
 use Rattle.protocol.specs.Texts.{notice_text, object_text}
 use Rattle.protocol.specs.declared.reply.ContactInfo.{ContactInfo}
@@ -71,7 +72,7 @@ balance_members cents = (codes "balance", Some (cents_value cents)) ∷ []
 abbrev pub balance_value : ℤ → Data
 balance_value cents = object (members_with (balance_members cents))
 
--- ---- renew (RFC 5731, 3.2.3)
+-- ---- renew, and the report of a restoration (RFC 5731, 3.2.3; RFC 3915, 4.2.5)
 
 abbrev pub renewed_members : the_renewed.Renewed → List (List ℕ × Option Data)
 renewed_members r =
@@ -111,6 +112,20 @@ transfer_members t =
 
 abbrev pub transfer_value : TransferInfo → Data
 transfer_value t = object (members_with (transfer_members t))
+
+-- the same as data of its own, with what a request charged
+abbrev pub transferred_members : the_transferred.Transferred → List (List ℕ × Option Data)
+transferred_members t =
+    (codes "acDate", Some (moment_value t.transfer.transfer.ac_date))
+    ∷ (codes "acID", Some (string t.transfer.losing_registrar))
+    ∷ (codes "charge", option_map (λ cents. string (decimal cents)) t.charge)
+    ∷ (codes "name", Some (string t.name))
+    ∷ (codes "reDate", Some (moment_value t.transfer.transfer.requested))
+    ∷ (codes "reID", Some (string t.transfer.requester))
+    ∷ (codes "status", Some (string (state_text t.transfer.transfer.state))) ∷ []
+
+abbrev pub transferred_value : the_transferred.Transferred → Data
+transferred_value t = object (members_with (transferred_members t))
 
 -- ---- poll (RFC 5730, 2.9.2.3)
 
@@ -233,6 +248,7 @@ data_value (Created c) = created_value c
 data_value (Balance cents) = balance_value cents
 data_value (Renewed r) = renewed_value r
 data_value (Deleted d) = deleted_value d
+data_value (Transferred t) = transferred_value t
 data_value (Polled p) = polled_value p
 data_value (Acked count) = acked_value count
 data_value (Contact c) = contact_value c

@@ -7,6 +7,7 @@ ghost use Rattle.eppreplies.specs.Greeting as spec;
 
 use crate::item::{Item, object, texts};
 use calendar::Moment;
+use objects::ObjectKind;
 use serde_json::Value;
 use std::alloc::{AllocError, Global};
 
@@ -41,5 +42,8 @@ fn greeting_members(alloc: Global, date: Moment) -> Result<Value, AllocError>
 fn objects_value(alloc: Global) -> Result<Value, AllocError>
     ensures { IfOk result (λ v. view v ≡ spec.objects_value) }
 {
-    texts(alloc, &["contact", "domain", "host"])
+    texts(
+        alloc,
+        &[ObjectKind::Contact, ObjectKind::Domain, ObjectKind::Host],
+    )
 }

@@ -10,7 +10,8 @@ ghost use Rattle.eppreplies.specs.Members.{are_in_order, members_with, texts_val
 use basis::list::Seq;
 use basis::text::Text;
 use calendar::Moment;
-use objects::{Rgp, Standing, Status};
+use objects::{ObjectKind, Rgp, Standing, Status};
+use protocol::object_text;
 use serde_json::{Map, Value};
 use std::alloc::{AllocError, Global};
 
@@ -111,11 +112,13 @@ impl Shown for Status {
     }
 }
 
-impl Shown for &'static str {
-    ghost shown = { λ word. word.now };
+impl Shown for ObjectKind {
+    ghost use Rattle.protocol.specs.Texts.{object_text};
+
+    ghost shown = { object_text };
 
     fn shown(&self) -> &str {
-        self
+        object_text(*self)
     }
 }
 

@@ -12,7 +12,7 @@ use calendar::Moment;
 use objects::{Deletion, Postal, Roid, TransferState};
 use protocol::{
     CheckResult, ContactInfo, Created, Data, Deleted, DomainInfo, HostInfo, Polled, Reason,
-    Renewed, Reply, SvTrid, TransferInfo, object_text,
+    Renewed, Reply, SvTrid, TransferInfo, Transferred, object_text,
 };
 use serde_json::Value;
 use std::alloc::{AllocError, Global};
@@ -62,6 +62,7 @@ fn data_value(alloc: Global, content: &Data) -> Result<Value, AllocError>
         Data::Balance(cents) => balance_value(alloc, *cents),
         Data::Renewed(renewed) => renewed_value(alloc, renewed),
         Data::Deleted(deleted) => deleted_value(alloc, deleted),
+        Data::Transferred(transferred) => transferred_value(alloc, transferred),
         Data::Polled(polled) => polled_value(alloc, polled),
         Data::Acked(count) => acked_value(alloc, *count),
         Data::Contact(info) => contact_value(alloc, info),
@@ -108,10 +109,7 @@ fn reason_text(reason: Reason) -> &'static str
 fn created_value(alloc: Global, created: &Created) -> Result<Value, AllocError>
     ensures { IfOk result (λ v. view v ≡ spec.created_value created.now) }
 {
-    let charge = match created.charge {
-        Some(cents) => Item::Given(cents_value(alloc, u128::from(cents))?),
-        None => Item::Absent,
-    };
+    let charge = charge_item(alloc, created.charge)?;
     let members = vec![in alloc;
         ("charge", charge),
         ("crDate", Item::Time(created.created)),
@@ -149,6 +147,16 @@ fn deleted_value(alloc: Global, deleted: &Deleted) -> Result<Value, AllocError>
         ("refund", Item::Given(refund)),
     ]?;
     object(alloc, members)
+}
+
+/// What was charged, where something was.
+fn charge_item(alloc: Global, charge: Option<u64>) -> Result<Item<'static>, AllocError>
+    ensures { IfOk result (λ item. item_value item ≡ option_map (λ cents. string (decimal cents)) charge) }
+{
+    Ok(match charge {
+        Some(cents) => Item::Given(cents_value(alloc, u128::from(cents))?),
+        None => Item::Absent,
+    })
 }
 
 /// Money is shown as a text of whole cents.
@@ -349,6 +357,24 @@ fn transfer_value(alloc: Global, info: &TransferInfo) -> Result<Value, AllocErro
     let members = vec![in alloc;
         ("acDate", Item::Time(transfer.ac_date)),
         ("acID", Item::Text(&info.losing_registrar)),
+        ("reDate", Item::Time(transfer.requested)),
+        ("reID", Item::Text(&info.requester)),
+        ("status", Item::Word(state_text(transfer.state))),
+    ]?;
+    object(alloc, members)
+}
+
+fn transferred_value(alloc: Global, told: &Transferred) -> Result<Value, AllocError>
+    ensures { IfOk result (λ v. view v ≡ spec.transferred_value told.now) }
+{
+    let info = &told.transfer;
+    let transfer = &info.transfer;
+    let charge = charge_item(alloc, told.charge)?;
+    let members = vec![in alloc;
+        ("acDate", Item::Time(transfer.ac_date)),
+        ("acID", Item::Text(&info.losing_registrar)),
+        ("charge", charge),
+        ("name", Item::Text(&told.name)),
         ("reDate", Item::Time(transfer.requested)),
         ("reID", Item::Text(&info.requester)),
         ("status", Item::Word(state_text(transfer.state))),

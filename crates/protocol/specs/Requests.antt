@@ -15,7 +15,9 @@ use Rattle.protocol.specs.declared.command.DomainLists.{DomainLists}
 use Rattle.protocol.specs.declared.command.HostLists.{HostLists}
 use Rattle.protocol.specs.declared.command.HostUpdate.{HostUpdate}
 use Rattle.protocol.specs.declared.command.Request.{Request}
-use Rattle.protocol.specs.declared.command.Request.TheVariants.{Balance, CheckContact, CheckDomain, CheckHost, InfoContact, InfoDomain, InfoHost, CreateContact, CreateDomain, CreateHost, DeleteContact, DeleteDomain, DeleteHost, UpdateContact, UpdateDomain, UpdateHost, RenewDomain, RequestRestore, ReportRestore, PollRequest, PollAck, Logout}
+use Rattle.protocol.specs.declared.command.Request.TheVariants.{Balance, CheckContact, CheckDomain, CheckHost, InfoContact, InfoDomain, InfoHost, CreateContact, CreateDomain, CreateHost, DeleteContact, DeleteDomain, DeleteHost, UpdateContact, UpdateDomain, UpdateHost, RenewDomain, RequestRestore, ReportRestore, TransferContact, TransferDomain, PollRequest, PollAck, Logout}
+use Rattle.protocol.specs.declared.transfer.TransferOp.{TransferOp}
+use Rattle.protocol.specs.declared.transfer.TransferOp.TheVariants as transfer_ops
 
 -- a test of what is there, if it is
 abbrev pub holds_of : {A : Type 0} → (A → Bool) → Option A → Bool
@@ -105,6 +107,28 @@ only action = record {
   message = None;
 }
 
+abbrev pub transfer_action : TransferOp → Action
+transfer_action transfer_ops.Request = actions.RequestTransfer
+transfer_action transfer_ops.Query = actions.QueryTransfer
+transfer_action transfer_ops.Approve = actions.ApproveTransfer
+transfer_action transfer_ops.Reject = actions.RejectTransfer
+transfer_action transfer_ops.Cancel = actions.CancelTransfer
+
+abbrev pub is_request : TransferOp → Bool
+is_request transfer_ops.Request = true
+is_request transfer_ops.Query = false
+is_request transfer_ops.Approve = false
+is_request transfer_ops.Reject = false
+is_request transfer_ops.Cancel = false
+
+-- the years that a domain's transfer is charged for, with the request (RFC 5731, 3.2.4)
+abbrev pub transfer_years : TransferOp → ℕ
+transfer_years transfer_ops.Request = 1
+transfer_years transfer_ops.Query = 0
+transfer_years transfer_ops.Approve = 0
+transfer_years transfer_ops.Reject = 0
+transfer_years transfer_ops.Cancel = 0
+
 -- Info shows, and a delete is refused by, what hangs on the object (RFC 5731 to 5733, 3.1.2, 3.2.2).
 -- What is charged needs a balance (RFC 5730, 3: 2104). What a deletion gives back hangs on the
 -- graces that run (RFC 3915, 3.1).
@@ -154,6 +178,14 @@ asks_of (ReportRestore name del_time res_time) = record (only actions.ReportRest
   reads_balance = true;
   del_time = Some del_time;
   res_time = Some res_time;
+}
+asks_of (TransferContact name op secret) = record (only (transfer_action op)) { contacts = name ∷ []; secret = secret }
+asks_of (TransferDomain name op secret) = record (only (transfer_action op)) {
+  domains = name ∷ [];
+  secret = secret;
+  adds_a_held_domain = is_request op;
+  reads_balance = is_request op;
+  years = transfer_years op;
 }
 asks_of PollRequest = record (only actions.PollRequest) { reads_oldest_message = true }
 asks_of (PollAck id) = record (only actions.PollAck) { reads_oldest_message = true; message = Some id }

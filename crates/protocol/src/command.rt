@@ -4,6 +4,7 @@ ghost use Rattle.std.specs.Option.{option_copied};
 ghost use Rattle.protocol.specs.Requests as spec;
 
 use crate::form::FormFault;
+use crate::transfer::TransferOp;
 use crate::years::Years;
 use basis::list::Seq;
 use basis::text::Text;
@@ -40,6 +41,11 @@ pub enum Action {
     Renew,
     RequestRestore,
     ReportRestore,
+    RequestTransfer,
+    QueryTransfer,
+    ApproveTransfer,
+    RejectTransfer,
+    CancelTransfer,
     PollRequest,
     PollAck,
 }
@@ -120,6 +126,20 @@ pub enum Request {
         del_time: Moment,
         /// When its restoration was asked for.
         res_time: Moment,
+    },
+    /// A transfer of a contact (RFC 5733, 3.1.3 and 3.2.4).
+    TransferContact {
+        name: Text,
+        op: TransferOp,
+        /// Presented with a request, and with a query where the caller does so.
+        secret: Option<Text>,
+    },
+    /// A transfer of a domain (RFC 5731, 3.1.3 and 3.2.4).
+    TransferDomain {
+        name: GivenName,
+        op: TransferOp,
+        /// Presented with a request, and with a query where the caller does so.
+        secret: Option<Text>,
     },
     /// The oldest message (RFC 5730, 2.9.2.3, `req`).
     PollRequest,
@@ -233,6 +253,8 @@ impl Request {
             Request::RenewDomain { .. } => Action::Renew,
             Request::RequestRestore { .. } => Action::RequestRestore,
             Request::ReportRestore { .. } => Action::ReportRestore,
+            Request::TransferContact { op, .. } => op.action(),
+            Request::TransferDomain { op, .. } => op.action(),
             Request::PollRequest => Action::PollRequest,
             Request::PollAck { .. } => Action::PollAck,
         }
@@ -248,6 +270,7 @@ impl Request {
             Request::CreateContact(new) => slice::from_ref(&new.name),
             Request::DeleteContact { name } => slice::from_ref(name),
             Request::UpdateContact(update) => slice::from_ref(&update.name),
+            Request::TransferContact { name, .. } => slice::from_ref(name),
             _ => &[],
         }
     }
@@ -265,6 +288,7 @@ impl Request {
             Request::RenewDomain { name, .. } => slice::from_ref(name),
             Request::RequestRestore { name } => slice::from_ref(name),
             Request::ReportRestore { name, .. } => slice::from_ref(name),
+            Request::TransferDomain { name, .. } => slice::from_ref(name),
             _ => &[],
         }
     }
@@ -304,13 +328,15 @@ impl Request {
         }
     }
 
-    /// The years that it names, none for most.
+    /// The years that it is charged for, where it says so: those that it names, and the one of a
+    /// domain's transfer. None for most.
     pub fn years(&self) -> u32
         ensures { result ≡ (spec.asks_of self.now).years }
     {
         match self {
             Request::CreateDomain(new) => new.years.number(),
             Request::RenewDomain { years, .. } => years.number(),
+            Request::TransferDomain { op, .. } => op.years(),
             _ => 0,
         }
     }
@@ -362,6 +388,8 @@ impl Request {
         match self {
             Request::InfoContact { secret, .. } => secret.as_ref(),
             Request::InfoDomain { secret, .. } => secret.as_ref(),
+            Request::TransferContact { secret, .. } => secret.as_ref(),
+            Request::TransferDomain { secret, .. } => secret.as_ref(),
             _ => None,
         }
     }
@@ -385,20 +413,25 @@ impl Request {
     fn adds_a_held_domain(&self) -> bool
         ensures { result ≡ spec.adds_a_held_domain self.now }
     {
-        matches!(self, Request::CreateDomain(_))
+        match self {
+            Request::CreateDomain(_) => true,
+            Request::TransferDomain { op, .. } => op.is_request(),
+            _ => false,
+        }
     }
 
     /// Whether it has to know what the registrar's account has.
     fn reads_balance(&self) -> bool
         ensures { result ≡ spec.reads_balance self.now }
     {
-        matches!(
-            self,
+        match self {
             Request::Balance
-                | Request::CreateDomain(_)
-                | Request::RenewDomain { .. }
-                | Request::ReportRestore { .. }
-        )
+            | Request::CreateDomain(_)
+            | Request::RenewDomain { .. }
+            | Request::ReportRestore { .. } => true,
+            Request::TransferDomain { op, .. } => op.is_request(),
+            _ => false,
+        }
     }
 
     /// Whether it has to know the oldest message to the registrar, and how many wait.
@@ -529,16 +562,6 @@ impl Command {
         }
     }
 
-    /// Whether it has to know the oldest message to the registrar, and how many wait.
-    pub fn reads_oldest_message(&self) -> bool
-        ensures { result ≡ spec.asked false spec.reads_oldest_message self.now }
-    {
-        match self {
-            Command::Bad { .. } => false,
-            Command::Asked { request, .. } => request.reads_oldest_message(),
-        }
-    }
-
     /// Whether it has to know what is given back where its domain is deleted.
     pub fn reads_refund(&self) -> bool
         ensures { result ≡ spec.asked false spec.reads_refund self.now }
@@ -546,6 +569,16 @@ impl Command {
         match self {
             Command::Bad { .. } => false,
             Command::Asked { request, .. } => request.reads_refund(),
+        }
+    }
+
+    /// Whether it has to know the oldest message to the registrar, and how many wait.
+    pub fn reads_oldest_message(&self) -> bool
+        ensures { result ≡ spec.asked false spec.reads_oldest_message self.now }
+    {
+        match self {
+            Command::Bad { .. } => false,
+            Command::Asked { request, .. } => request.reads_oldest_message(),
         }
     }
 

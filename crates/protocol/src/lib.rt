@@ -10,6 +10,7 @@ mod notice;
 mod order;
 mod reply;
 mod session;
+mod transfer;
 mod years;
 
 pub use code::Code;
@@ -20,10 +21,11 @@ pub use command::{
 pub use form::FormFault;
 pub use lists::{Lists, MOST_ADDRESSES, MOST_CONTACTS, MOST_HOSTS};
 pub use notice::{Notice, object_text};
-pub use order::{Order, StatusOrder};
+pub use order::{OperatorRequest, Order, StatusOrder};
 pub use reply::{
     CheckResult, ContactHidden, ContactInfo, Created, Data, Deleted, DomainHidden, DomainInfo,
-    HostInfo, Polled, Reason, Renewed, Reply, SvTrid, TransferInfo,
+    HostInfo, Polled, Reason, Renewed, Reply, SvTrid, TransferInfo, Transferred,
 };
 pub use session::{BeforeLogin, Credentials, InSession};
+pub use transfer::TransferOp;
 pub use years::Years;

@@ -23,6 +23,14 @@ pub enum Order {
     },
 }
 
+/// What the operator sends.
+#[derive(Drop)]
+pub enum OperatorRequest {
+    Order(Order),
+    /// What is due is to lapse, of so many objects at most.
+    Settle { at_most: u32 },
+}
+
 /// Which statuses of which object.
 #[derive(Drop)]
 pub struct StatusOrder {

@@ -32,9 +32,12 @@ pub enum Data {
     Created(Created),
     /// What an account has, in whole cents.
     Balance(i128),
+    /// Also of a domain that came back.
     Renewed(Renewed),
     /// A domain.
     Deleted(Deleted),
+    /// How a transfer stands.
+    Transferred(Transferred),
     /// The oldest message.
     Polled(Polled),
     /// How many messages are left.
@@ -85,6 +88,15 @@ pub struct Deleted {
     pub name: Text,
     /// What was given back, in whole cents.
     pub refund: u128,
+}
+
+/// The last transfer of an object.
+#[derive(Drop)]
+pub struct Transferred {
+    pub name: Text,
+    pub transfer: TransferInfo,
+    /// In whole cents: of a domain that was asked for.
+    pub charge: Option<u64>,
 }
 
 /// A message to a registrar, the oldest that waits.
