@@ -77,16 +77,17 @@ gained d u = if nat_lt (plus_years u 10) (plus_years d.created (d.years + 1)) th
 abbrev pub approved : Transfer → Transfer
 approved x = record x { state = ServerApproved }
 
+-- the domain in the hands of the requester of a transfer that was approved, by whomever
 abbrev pub handed_over : Transfer → ℕ → Domain → Domain
 handed_over x years d = record d {
   sponsor = x.requester;
   transferred = Some x.ac_date;
   years = d.years + years;
-  transfer = Some (approved x);
+  transfer = Some x;
 }
 
 abbrev pub moved : Transfer → Domain → Domain
-moved x d = handed_over x (gained d x.ac_date) d
+moved x d = handed_over (approved x) (gained d x.ac_date) d
 
 abbrev pub transfer_start : Transfer → ℕ → Domain → Posting
 transfer_start x years d = record { registrar = x.requester; what = Start (record { roid = d.roid; moment = x.ac_date; years = years }) }
@@ -133,8 +134,11 @@ lapse p t d = lapse_by p t d.deletion d
 
 -- ---- the lapse of a contact: completion alone (RFC 5733, 3.2.4)
 
+abbrev pub contact_handed_over : Transfer → Contact → Contact
+contact_handed_over x c = record c { sponsor = x.requester; transferred = Some x.ac_date; transfer = Some x }
+
 abbrev pub contact_moved : Transfer → Contact → Contact
-contact_moved x c = record c { sponsor = x.requester; transferred = Some x.ac_date; transfer = Some (approved x) }
+contact_moved x c = contact_handed_over (approved x) c
 
 abbrev pub contact_completion : Transfer → Contact → List Posting
 contact_completion x c =

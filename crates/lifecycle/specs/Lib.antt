@@ -6,3 +6,4 @@ pub mod Lapse
 pub mod Changes
 pub mod Untouched
 pub mod Refunds
+pub mod Transfers

@@ -1,5 +1,6 @@
 pub mod Refusals
 pub mod Charges
+pub mod Transfers
 pub mod Conditions
 pub mod Deletion
 pub mod Poll
