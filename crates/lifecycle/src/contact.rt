@@ -2,9 +2,10 @@
 ghost use Rattle.std.specs.Prelude.{◌≡◌, ◌++◌, IfOk, OnOk};
 ghost use Rattle.lifecycle.specs.Lapse as spec;
 
-use crate::domain::{approved, due_by};
+use crate::domain::due_by;
 use crate::lapsed::Lapsed;
 use crate::renewal::told;
+use crate::transfer::{approved, take_over_contact};
 use accounts::{LapseNotice, Posting, Subject};
 use basis::list::Seq;
 use calendar::Moment;
@@ -24,17 +25,6 @@ fn post_completion(
     postings.push(told(loser, moment, notice, &contact.name, Subject::Contact)?)?;
     postings.push(told(gainer, moment, notice, &contact.name, Subject::Contact)?)?;
     Ok(())
-}
-
-/// Makes the requester the sponsor.
-fn hand_over(transfer: Transfer, contact: &mut Contact)
-    ensures { contact.new ≡ spec.contact_moved transfer contact.old }
-{
-    let (sponsor, moment) = (transfer.requester, transfer.ac_date);
-    let last = Some(approved(transfer));
-    contact.sponsor = sponsor;
-    contact.transferred = Some(moment);
-    contact.transfer = last;
 }
 
 /// The contact as time alone leaves it at the moment, and what is posted into accounts. To lapse on
@@ -66,7 +56,7 @@ fn lapse_any(
     };
     post_completion(&transfer, contact, &mut postings)?;
     let mut contact = contact.copy()?;
-    hand_over(transfer, &mut contact);
+    take_over_contact(&mut contact, approved(transfer));
     Ok(Lapsed {
         object: Some(contact),
         postings,

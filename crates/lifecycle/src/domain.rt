@@ -5,37 +5,13 @@ ghost use Rattle.lifecycle.specs.Lapse as spec;
 use crate::deletion::purged_by;
 use crate::lapsed::Lapsed;
 use crate::renewal::{renew, told, years_by};
+use crate::transfer::{approved, gained, take_over};
 use accounts::{LapseEntry, LapseNotice, Posting, Subject, TransferStart};
 use basis::list::Seq;
 use calendar::Moment;
-use objects::{Deletion, Domain, Transfer, TransferState};
+use objects::{Deletion, Domain, Transfer};
 use policy::Policy;
 use std::alloc::{AllocError, Global};
-
-/// The year that a transfer completed at the moment brings, unless the expiry would pass ten years.
-fn gained(domain: &Domain, moment: Moment) -> u32
-    ensures value { result ≡ spec.gained domain.now moment }
-    ensures small { domain.now.years + result < 4_294_967_296 }
-{
-    let _ = moment.secs();
-    let Some(years) = domain.years.checked_add(1) else {
-        return 0;
-    };
-    if domain.created.is_later_by(u64::from(years), &moment, 10) {
-        0
-    } else {
-        1
-    }
-}
-
-/// The transfer, approved by the server.
-pub(crate) fn approved(transfer: Transfer) -> Transfer
-    ensures { result ≡ spec.approved transfer }
-{
-    let mut transfer = transfer;
-    transfer.state = TransferState::ServerApproved;
-    transfer
-}
 
 /// The beginning of a transfer's grace.
 fn start(domain: &Domain, transfer: &Transfer, years: u32) -> Posting
@@ -80,21 +56,8 @@ fn complete(
     let moment = transfer.ac_date;
     let years = gained(domain, moment);
     post_completion(&transfer, years, domain, postings)?;
-    hand_over(transfer, years, domain);
+    take_over(domain, approved(transfer));
     Ok(())
-}
-
-/// Makes the requester the sponsor.
-fn hand_over(transfer: Transfer, years: u32, domain: &mut Domain)
-    requires { domain.old.years + years < 4_294_967_296 }
-    ensures { domain.new ≡ spec.handed_over transfer years domain.old }
-{
-    let (sponsor, moment) = (transfer.requester, transfer.ac_date);
-    let last = Some(approved(transfer));
-    domain.sponsor = sponsor;
-    domain.years += years;
-    domain.transferred = Some(moment);
-    domain.transfer = last;
 }
 
 /// The transfer that is pending and due by the moment.

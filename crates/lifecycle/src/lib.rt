@@ -16,6 +16,7 @@ mod period;
 mod refund;
 mod renewal;
 mod restoration;
+mod transfer;
 
 pub use change::{AccountChange, Notification, RunningRefund, change_account};
 pub use contact::lapse_contact;
@@ -27,3 +28,4 @@ pub use lapsed::Lapsed;
 pub use period::{end_of, is_within};
 pub use refund::{GivenBack, given_back};
 pub use restoration::years_to_outlast;
+pub use transfer::{ended, gained, hand_over, hand_over_contact, is_locked, requested};

@@ -1,7 +1,7 @@
 use Rattle.std.proofs.Common.{arith, ◌+◌, ◌<◌}
 use Rattle.calendar.proofs.YearLaws.{plus_years-far, plus_years-grows}
 use Rattle.lifecycle.proofs.PastLemmas.{no_year}
-use Rattle.lifecycle.proofs.domain.gained.Goals as goal
+use Rattle.lifecycle.proofs.transfer.gained.Goals as goal
 
 pub returns-in_default-clause-value : goal.returns-in_default-clause-value
 returns-in_default-clause-value c =
