@@ -1,8 +1,11 @@
 -- When a value of the registry's maps is a registry. What a registrar may learn is promised of every
 -- value, so no promise of that asks for this: it is what the steps of the registry keep.
-use Rattle.std.specs.Prelude.{◌≡◌, ◌≢◌, ℕ, ◌≤◌, ◌<◌, ◌^◌, true, false, List, length, Option, Some, None, IsSome, ◌↔◌}
+use Rattle.std.specs.Prelude.{◌≡◌, ◌≢◌, ℕ, ◌≤◌, ◌<◌, ◌^◌, ◌==◌, nat_lt, Bool, true, false, ◌&&◌, if◌then◌else◌, List, length, Option, Some, None, IsSome, ◌↔◌}
 use Rattle.std.specs.FinMap.{get}
+use Rattle.std.specs.List.{All, filter, list_any}
 use Rattle.accounts.specs.declared.account.Account.{Account}
+use Rattle.accounts.specs.declared.line.Line.{Line}
+use Rattle.accounts.specs.Lines.{is_on, waits}
 use Rattle.names.specs.Zone.{superordinate_of}
 use Rattle.objects.specs.declared.contact.Contact.{Contact}
 use Rattle.objects.specs.declared.domain.Domain.{Domain}
@@ -103,6 +106,65 @@ pub record IsRegistry (p : PolicyRules) (s : Registry) : Type 0 where
   pub contact_roids : (a b : List ℕ) (x y : Contact) → get s.contacts a ≡ Some x → get s.contacts b ≡ Some y → x.roid ≡ y.roid → a ≡ b
   pub host_roids : (a b : List ℕ) (x y : Host) → get s.hosts a ≡ Some x → get s.hosts b ≡ Some y → x.roid ≡ y.roid → a ≡ b
   pub domain_roids : (a b : List ℕ) (x y : Domain) → get s.domains a ≡ Some x → get s.domains b ≡ Some y → x.roid ≡ y.roid → a ≡ b
+
+-- ---- what is charged for domains
+
+-- the ROID is one that a domain was given
+abbrev pub WasGiven : PolicyRules → Registry → Option Roid → Type 0
+WasGiven p s None = Unit {0}
+WasGiven p s (Some roid) = HasRoid p s kinds.Domain roid
+
+-- a line is of a domain that is there or was, and no grace begins ahead of the clock
+pub record IsLineOf (p : PolicyRules) (s : Registry) (l : Line) : Type 0 where
+  pub roid : WasGiven p s l.roid
+  pub started : HasBeen s l.started
+
+-- a grace began after a moment; after none, it began at all
+abbrev pub is_begun_after : Option ℕ → Option ℕ → Bool
+is_begun_after last None = false
+is_begun_after None (Some started) = true
+is_begun_after (Some last) (Some started) = nat_lt last started
+
+abbrev pub begins_after : Roid → Option ℕ → Line → Bool
+begins_after roid last l = is_on roid l && is_begun_after last l.started
+
+-- how many charges of a registrar wait for the completion of a transfer: its requester's one
+abbrev pub charges_waiting : ℕ → Option Transfer → ℕ
+charges_waiting r None = 0
+charges_waiting r (Some t) = if is_pending_state t.state && (t.requester == r) then 1 else 0
+
+-- a moment is later than another that is kept
+abbrev pub IsLater : ℕ → Option ℕ → Type 0
+IsLater moment None = Unit {0}
+IsLater moment (Some earlier) = earlier < moment
+
+-- A pending transfer takes the domain from its sponsor to another registrar. It was requested after
+-- the creation and the last transfer, and no grace of the sponsor's begins after it is due (RFC 5730,
+-- 2.9.3.4).
+pub record IsAwaited (s : Registry) (d : Domain) (t : Transfer) : Type 0 where
+  pub losing_registrar : t.losing_registrar ≡ d.sponsor
+  pub requester : t.requester ≢ d.sponsor
+  pub created : d.created < t.requested
+  pub transferred : IsLater t.requested d.transferred
+  pub due : t.requested ≤ t.ac_date
+  pub lines : list_any (begins_after d.roid (Some t.ac_date)) (account_of d.sponsor s).lines ≡ false
+
+abbrev pub IsAwaitedIfPending : Registry → Domain → Option Transfer → Type 0
+IsAwaitedIfPending s d None = Unit {0}
+IsAwaitedIfPending s d (Some t) = is_pending_state t.state ≡ true → IsAwaited s d t
+
+-- Whoever doesn't sponsor a domain has no grace on it that began after it was last transferred: the
+-- graces of a sponsor end with its sponsorship (RFC 3915, 3.1). One charge waits for each transfer that
+-- is pending, and none for any other.
+pub record HasLinesOn (s : Registry) (d : Domain) : Type 0 where
+  pub elsewhere : (r : ℕ) → r ≢ d.sponsor → list_any (begins_after d.roid d.transferred) (account_of r s).lines ≡ false
+  pub waiting : (r : ℕ) → length (filter (waits d.roid) (account_of r s).lines) ≡ charges_waiting r d.transfer
+  pub awaited : IsAwaitedIfPending s d d.transfer
+
+-- the lines of all accounts
+pub record HasLines (p : PolicyRules) (s : Registry) : Type 0 where
+  pub each : (r : ℕ) → All (IsLineOf p s) (account_of r s).lines
+  pub domains : (name : List ℕ) (d : Domain) → get s.domains name ≡ Some d → HasLinesOn s d
 
 -- Counters stay at their greatest value, and two objects would then share a ROID: each counter and
 -- list of an account is far below it.

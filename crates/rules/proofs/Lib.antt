@@ -17,3 +17,4 @@ pub mod OrderLemmas
 pub mod PostingLemmas
 pub mod LapsedLemmas
 pub mod SettledLemmas
+pub mod HandedOver
