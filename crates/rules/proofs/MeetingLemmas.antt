@@ -16,13 +16,13 @@ use Rattle.objects.specs.declared.domain.FullDomain.{FullDomain}
 use Rattle.objects.specs.declared.host.Host.{Host}
 use Rattle.objects.specs.declared.sight.Seen.{Seen}
 use Rattle.objects.specs.declared.sight.Seen.TheVariants.{Full, TransferParty, Public}
-use Rattle.objects.specs.Graces.{no_graces}
 use Rattle.policy.specs.Rules.{PolicyRules}
 use Rattle.rules.specs.declared.change.Change.{Change}
 use Rattle.rules.specs.declared.change.Change.TheVariants.{PutDomain}
 use Rattle.rules.specs.Changes.{with_account}
 use Rattle.rules.specs.Decisions.{changes_after, changes_of, contact_changes, deleted_domain, deletion_at, deletion_changes, domain_changes, ending, host_changes, new_domain, renaming, renewal_changes, renewed_domain, report_changes, restore_changes, restored_domain, restoring_domain, updated_domain, updated_host}
 use Rattle.rules.specs.Steps.{decision}
+use Rattle.rules.proofs.HandedOver.{transfer_alone}
 use Rattle.rules.proofs.CommandLemmas.{at-itself, domain-full}
 use Rattle.rules.proofs.SightLemmas.{graces-seen, sponsor-seen}
 use Rattle.rules.proofs.ViewLemmas.{AllMeet, Meets, graces_kept, graces_put, same_number}
@@ -58,10 +58,10 @@ module _ (p : PolicyRules) (r : ℕ) (s : Registry) where
 
   -- another's has those that were seen, where this was its sponsor before
   kept-at : (sponsor : ℕ) (name : List ℕ) (before : Domain) → get s.domains name ≡ Some before
-      → graces_kept sponsor (get (view p r s).domains name) ≡ cond (eq_by_cmp nat_cmp before.sponsor sponsor) (graces_of p s before) no_graces
+      → graces_kept sponsor (get (view p r s).domains name) ≡ cond (eq_by_cmp nat_cmp before.sponsor sponsor) (graces_of p s before) transfer_alone
   kept-at sponsor name before found =
       ap (graces_kept sponsor) (get-map_values (slice_cmp nat_cmp) nat_list_cmp_total names_apart (λ name. domain_sight p r s None) s.domains name ∙ ap (option_map (domain_sight p r s None)) found)
-      ∙ (λ i. cond (eq_by_cmp nat_cmp (sponsor-seen r None (standing_of p s before) before i) sponsor) (graces-seen r None (standing_of p s before) before i) no_graces)
+      ∙ (λ i. cond (eq_by_cmp nat_cmp (sponsor-seen r None (standing_of p s before) before i) sponsor) (graces-seen r None (standing_of p s before) before i) transfer_alone)
 
   put-by : (d : Domain) (b : Bool) → eq_by_cmp nat_cmp d.sponsor r ≡ b → (b ≡ false → graces_of p s d ≡ graces_kept d.sponsor (get (view p r s).domains d.name)) → graces_of p s d ≡ graces_put p r d (view p r s)
   put-by d true e h = put-own d e
@@ -71,7 +71,7 @@ module _ (p : PolicyRules) (r : ℕ) (s : Registry) where
   pub put-again : (before d : Domain) → get s.domains d.name ≡ Some before → d.sponsor ≡ before.sponsor → graces_of p s d ≡ graces_of p s before → graces_of p s d ≡ graces_put p r d (view p r s)
   put-again before d found sponsor alike = put-by d (eq_by_cmp nat_cmp d.sponsor r) refl (λ not_own.
       alike ∙ sym (kept-at d.sponsor d.name before found
-      ∙ ap (λ (b : Bool). cond b (graces_of p s before) no_graces) (ap (λ (k : ℕ). eq_by_cmp nat_cmp before.sponsor k) sponsor ∙ eq-self before.sponsor)))
+      ∙ ap (λ (b : Bool). cond b (graces_of p s before) transfer_alone) (ap (λ (k : ℕ). eq_by_cmp nat_cmp before.sponsor k) sponsor ∙ eq-self before.sponsor)))
 
 -- ---- each command
 

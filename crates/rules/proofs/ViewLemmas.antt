@@ -4,7 +4,7 @@ use Rattle.std.specs.Prelude.{◌||◌, is_some, option_map, unwrap_or}
 use Rattle.std.specs.List.{list_any}
 use Rattle.std.specs.Cmp.{nat_cmp_total, Equal-is}
 use Rattle.std.specs.Cmp.Lexicographic.{slice_cmp, nat_list_cmp_total}
-use Rattle.std.specs.FinMap.{FinMap, get, insert, remove, entries, keys, values, get-insert, nat_cmp-IsAntisymmetric}
+use Rattle.std.specs.FinMap.{FinMap, get, insert, remove, entries, keys, values, get-insert, nat_cmp-IsAntisymmetric, same_map}
 use Rattle.std.specs.Ordering.{eq_by_cmp, nat_cmp}
 use Rattle.accounts.specs.declared.account.Account.{Account}
 use Rattle.accounts.specs.Account.{empty_account}
@@ -29,6 +29,7 @@ use Rattle.policy.specs.Rules.{PolicyRules}
 use Rattle.rules.specs.declared.change.Change.{Change}
 use Rattle.rules.specs.declared.change.Change.TheVariants.{MoveClock, OpenAccount, PutContact, DropContact, PutDomain, DropDomain, PutHost, DropHost, RenameHost, LapseContact, LapseDomain, Give}
 use Rattle.rules.specs.Changes.{changed, changed_all, with_account, itself, with_host_renamed}
+use Rattle.rules.proofs.HandedOver.{transfer_alone}
 use Rattle.rules.proofs.SightLemmas.{domain_again, forget, forget-domain, forget-contact, graces_seen, holds_seen, holds-seen, links-seen, Regrace, regraced, regraced-seen, relinked_seen, seen-relinked, sponsor_seen, superordinate_seen, superordinate-seen}
 use Rattle.protocol.specs.declared.command.Command.{Command}
 use Rattle.facts.specs.Facts.{Lookups, facts, facts_by, lookups, held, subordinate, superordinate_of_domain}
@@ -151,10 +152,11 @@ same_view p r c s t alike = sym (forget-view_with p (secrets_of c) r s) ∙ ap (
 abbrev pub own : ℕ → ℕ → (Account → Account) → Account → Account
 own r other f a = cond (eq_by_cmp nat_cmp r other) (f a) a
 
--- of a domain that another sponsors, the graces that were seen, where its sponsor stays
+-- Of a domain that another sponsors, the graces that were seen, where its sponsor stays. Where it is
+-- another's from now on, it was handed over, and its transfer's grace runs alone.
 abbrev pub graces_kept : ℕ → Option (Seen FullDomain DomainFace) → Graces
 graces_kept sponsor None = no_graces
-graces_kept sponsor (Some seen) = cond (eq_by_cmp nat_cmp (sponsor_seen seen) sponsor) (graces_seen seen) no_graces
+graces_kept sponsor (Some seen) = cond (eq_by_cmp nat_cmp (sponsor_seen seen) sponsor) (graces_seen seen) transfer_alone
 
 -- the graces of a domain that is put: of the registrar's own, by its lines
 abbrev pub graces_put : PolicyRules → ℕ → Domain → View → Graces
@@ -222,40 +224,56 @@ module _ (p : PolicyRules) (r q : ℕ) (f : Account → Account) (keeps : (a : A
 pub same_number : (a b : ℕ) → eq_by_cmp nat_cmp a b ≡ true → a ≡ b
 same_number a b e = nat_cmp-IsAntisymmetric a b ((Equal-is (nat_cmp a b)).0 e)
 
-module _ (p : PolicyRules) (r q : ℕ) (f : Account → Account) (s : Registry) (own_or_kept : (q ≡ r) ⊎ ((f (account_of q s)).lines ≡ (account_of q s).lines)) where
+-- the graces that an account gives its registrar's domains stay
+abbrev pub KeepsGraces : PolicyRules → ℕ → (Account → Account) → Registry → Type 0
+KeepsGraces p q f s = (name : List ℕ) (d : Domain) → get s.domains name ≡ Some d → d.sponsor ≡ q
+    → graces p s.clock d.roid d.transferred (f (account_of q s)).lines ≡ graces p s.clock d.roid d.transferred (account_of q s).lines
+
+-- values that look alike at each name of a map
+sights-alike : {X Y : Type 0} (f g : List ℕ → X → Y) (m : FinMap (slice_cmp nat_cmp) X) → ((name : List ℕ) (x : X) → get m name ≡ Some x → f name x ≡ g name x) → map_values f m ≡ map_values g m
+sights-alike {X} {Y} f g m alike = same_map nat_list_cmp_total names_apart _ _ (λ q.
+    get-map_values (slice_cmp nat_cmp) nat_list_cmp_total names_apart f m q ∙ by q (get m q) refl ∙ sym (get-map_values (slice_cmp nat_cmp) nat_list_cmp_total names_apart g m q))
+  where
+    by : (q : List ℕ) (found : Option X) → get m q ≡ found → option_map (f q) found ≡ option_map (g q) found
+    by q None at = refl
+    by q (Some x) at = ap (λ (y : Y). Some y) (alike q x at)
+
+module _ (p : PolicyRules) (r q : ℕ) (f : Account → Account) (s : Registry) (own_or_kept : (q ≡ r) ⊎ KeepsGraces p q f s) where
   abbrev given : Registry
   given = with_account q f s
 
   abbrev own_after : Account
   own_after = own r q f (account_of r s)
 
-  -- the lines of another's account stay
-  lines-of-another : (k : ℕ) → eq_by_cmp nat_cmp k r ≡ false → (account_of k given).lines ≡ (account_of k s).lines
-  lines-of-another k other = ap (λ (a : Account). a.lines) (account_of-with_account k q f s) ∙ by (eq_by_cmp nat_cmp k q) refl
+  -- the graces of another's domains stay
+  graces-of-another : (name : List ℕ) (d : Domain) → get s.domains name ≡ Some d → eq_by_cmp nat_cmp d.sponsor r ≡ false → graces_of p given d ≡ graces_of p s d
+  graces-of-another name d at other = ap (λ (a : Account). graces p s.clock d.roid d.transferred a.lines) (account_of-with_account d.sponsor q f s) ∙ by (eq_by_cmp nat_cmp d.sponsor q) refl
     where
-      by : (b : Bool) → eq_by_cmp nat_cmp k q ≡ b → (cond b (f (account_of k s)) (account_of k s)).lines ≡ (account_of k s).lines
+      by : (b : Bool) → eq_by_cmp nat_cmp d.sponsor q ≡ b → graces p s.clock d.roid d.transferred (cond b (f (account_of d.sponsor s)) (account_of d.sponsor s)).lines ≡ graces_of p s d
       by true e =
-          let same : k ≡ q = same_number k q e in
+          let same : d.sponsor ≡ q = same_number d.sponsor q e in
           ⊎_elim
-          (λ own. absurd (let never : true ≡ false = sym e ∙ ap (λ (n : ℕ). eq_by_cmp nat_cmp k n) own ∙ other in cc))
-          (λ kept. ap (λ (n : ℕ). (f (account_of n s)).lines) same ∙ kept ∙ ap (λ (n : ℕ). (account_of n s).lines) (sym same)) own_or_kept
+          (λ own. absurd (let never : true ≡ false = sym e ∙ ap (λ (n : ℕ). eq_by_cmp nat_cmp d.sponsor n) own ∙ other in cc))
+          (λ kept. ap (λ (n : ℕ). graces p s.clock d.roid d.transferred (f (account_of n s)).lines) same ∙ kept name d at same ∙ ap (λ (n : ℕ). graces p s.clock d.roid d.transferred (account_of n s).lines) (sym same)) own_or_kept
       by false e = refl
 
-  graces-given : (d : Domain) → graces_of p given d ≡ own_graces p r s.clock own_after.lines d.sponsor d.roid d.transferred (graces_of p s d)
-  graces-given d = by (eq_by_cmp nat_cmp d.sponsor r) refl
+  graces-given : (name : List ℕ) (d : Domain) → get s.domains name ≡ Some d → graces_of p given d ≡ own_graces p r s.clock own_after.lines d.sponsor d.roid d.transferred (graces_of p s d)
+  graces-given name d at = by (eq_by_cmp nat_cmp d.sponsor r) refl
     where
       by : (b : Bool) → eq_by_cmp nat_cmp d.sponsor r ≡ b → graces_of p given d ≡ cond b (graces p s.clock d.roid d.transferred own_after.lines) (graces_of p s d)
       by true e = ap (λ (k : ℕ). graces p s.clock d.roid d.transferred (account_of k given).lines) (same_number d.sponsor r e) ∙ ap (λ (a : Account). graces p s.clock d.roid d.transferred a.lines) (account_of-with_account r q f s)
-      by false e = ap (λ (lines : List Line). graces p s.clock d.roid d.transferred lines) (lines-of-another d.sponsor e)
+      by false e = graces-of-another name d at e
 
-  sight-given : (d : Domain) → domain_sight p r given None d ≡ regraced (own_graces p r s.clock own_after.lines) (domain_sight p r s None d)
-  sight-given d =
-      ap (λ (g : Graces). domain_as r None (record { graces = g; phase = phase p s.clock d }) d) (graces-given d)
+  sight-given : (name : List ℕ) (d : Domain) → get s.domains name ≡ Some d → domain_sight p r given None d ≡ regraced (own_graces p r s.clock own_after.lines) (domain_sight p r s None d)
+  sight-given name d at =
+      ap (λ (g : Graces). domain_as r None (record { graces = g; phase = phase p s.clock d }) d) (graces-given name d at)
       ∙ sym (regraced-seen (own_graces p r s.clock own_after.lines) r (standing_of p s d) d None)
 
   sights-given : map_values (λ (name : List ℕ). domain_sight p r given None) s.domains ≡ map_values (λ (name : List ℕ). regraced (own_graces p r s.clock own_after.lines)) (map_values (λ (name : List ℕ). domain_sight p r s None) s.domains)
-  sights-given = sym (map_values-twice (slice_cmp nat_cmp) nat_list_cmp_total names_apart (λ name. domain_sight p r s None) (λ name. regraced (own_graces p r s.clock own_after.lines)) (λ name. domain_sight p r given None)
-      (λ name d. sym (sight-given d)) s.domains)
+  sights-given =
+      sights-alike (λ name. domain_sight p r given None) (λ name d. regraced (own_graces p r s.clock own_after.lines) (domain_sight p r s None d)) s.domains sight-given
+      ∙ sym (map_values-twice (slice_cmp nat_cmp) nat_list_cmp_total names_apart (λ name. domain_sight p r s None) (λ name. regraced (own_graces p r s.clock own_after.lines)) (λ name d. regraced (own_graces p r s.clock own_after.lines) (domain_sight p r s None d))
+      (λ name d. refl) s.domains)
 
   view-given : view p r given ≡ with_seen_account p r (own r q f (view p r s).account) (view p r s)
   view-given = λ i. record (view p r s) { account = account_of-with_account r q f s i; domains = sights-given i }
@@ -270,7 +288,7 @@ relinked-view p r s old new m =
 -- ---- each change, by what is seen
 
 -- What is asked of a change in a registry: a domain that is put has the graces that can be told from
--- what is seen, the lines of an account stay that isn't seen, and no time passes, since graces and
+-- what is seen, the graces stay that an account gives that isn't seen, and no time passes, since graces and
 -- phases end by dates that aren't seen.
 abbrev pub Meets : PolicyRules → ℕ → Change → Registry → Type 0
 Meets p r (MoveClock t) s = ⊥
@@ -284,7 +302,7 @@ Meets p r (DropHost name) s = Unit {0}
 Meets p r (RenameHost old new) s = Unit {0}
 Meets p r (LapseContact name left) s = ⊥
 Meets p r (LapseDomain name left) s = ⊥
-Meets p r (Give other what) s = (other ≡ r) ⊎ ((account_changed p what (account_of other s)).lines ≡ (account_of other s).lines)
+Meets p r (Give other what) s = (other ≡ r) ⊎ KeepsGraces p other (account_changed p what) s
 
 -- to make a change and to look is to look and to see the change
 view-changed : (p : PolicyRules) (r : ℕ) (change : Change) (s : Registry) → Meets p r change s → view p r (changed p change s) ≡ seen_change p r change (view p r s)
