@@ -136,7 +136,7 @@ itself-number a = grind (arith, nat_tests)
 same-kind : (a b : LineKind) → is_kind a b ≡ true → a ≡ b
 same-kind a b e = sym (kind_back a) ∙ ap kind_of (same-number (kind_rank a) (kind_rank b) e) ∙ kind_back b
 
-same-roids : (a b : Roid) → is_same_roid a b ≡ true → a ≡ b
+pub same-roids : (a b : Roid) → is_same_roid a b ≡ true → a ≡ b
 same-roids a b e =
     let kinds = both-left (object_rank a.kind == object_rank b.kind) _ e in
     let rest = both-right (object_rank a.kind == object_rank b.kind) _ e in
@@ -171,7 +171,7 @@ same-lines a b e =
     let refunded = same-numbers a.refunded b.refunded (both-right (is_same_number a.started b.started) _ rest-2) in
     λ i. record { kind = kind i; roid = roid i; recorded = recorded i; years = years i; cents = cents i; started = started i; refunded = refunded i }
 
-itself-roid : (a : Roid) → is_same_roid a a ≡ true
+pub itself-roid : (a : Roid) → is_same_roid a a ≡ true
 itself-roid a = rw (itself-number (object_rank a.kind), itself-number a.creator, itself-number a.serial) refl
 
 itself-domain : (a : Option Roid) → is_same_domain a a ≡ true

@@ -18,3 +18,4 @@ pub mod PostingLemmas
 pub mod LapsedLemmas
 pub mod SettledLemmas
 pub mod HandedOver
+pub mod LineEntryLemmas
