@@ -49,6 +49,7 @@ use Rattle.protocol.specs.Requests.{asks_of, final_name}
 use Rattle.facts.specs.Facts.{is_inside, or_else}
 use Rattle.facts.specs.Facts.{contact_seen, domain_at, domain_seen, host_seen}
 use Rattle.facts.specs.Lists.{amended, itself}
+use Rattle.rules.specs.Transfers.{contact_transfer_changes, domain_transfer_changes}
 use Rattle.verdict.specs.Charges.{charge_of, years_charged}
 use Rattle.verdict.specs.Deletion.{goes_at_once}
 use Rattle.verdict.specs.Verdicts.{judged}
@@ -276,6 +277,8 @@ changes_of p r t (requests.UpdateHost u) f = host_changes p.zone r t u (host_see
 changes_of p r t (requests.RenewDomain name expires years) f = renewal_changes p r t (requests.RenewDomain name expires years) f (domain_seen f (name_of name))
 changes_of p r t (requests.RequestRestore name) f = restore_changes t (domain_seen f (name_of name))
 changes_of p r t (requests.ReportRestore name del_time res_time) f = report_changes p r t (requests.ReportRestore name del_time res_time) f (domain_seen f (name_of name))
+changes_of p r t (requests.TransferContact name op secret) f = contact_transfer_changes p r t op (contact_seen f name)
+changes_of p r t (requests.TransferDomain name op secret) f = domain_transfer_changes p r t op (requests.TransferDomain name op secret) f (domain_seen f (name_of name))
 changes_of p r t requests.PollRequest f = []
 changes_of p r t (requests.PollAck id) f = Give r (Ack id) ∷ []
 changes_of p r t (requests.CheckContact names) f = []

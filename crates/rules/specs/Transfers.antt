@@ -60,13 +60,20 @@ give_back registrar t roid = Give registrar (RefundTransfer (transfer_refund t r
 abbrev pub contact_with_transfer : Transfer → Contact → Contact
 contact_with_transfer x c = record c { transfer = Some x }
 
--- its transfer stands so after the operation
+-- the contact after the operation that leaves its transfer so
+abbrev pub contact_after : TransferOp → Transfer → Contact → Contact
+contact_after ops.Request x c = contact_with_transfer x c
+contact_after ops.Query x c = contact_with_transfer x c
+contact_after ops.Approve x c = contact_handed_over x c
+contact_after ops.Reject x c = contact_with_transfer x c
+contact_after ops.Cancel x c = contact_with_transfer x c
+
 abbrev pub contact_transferred : ℕ → TransferOp → Transfer → Contact → List Change
-contact_transferred t ops.Request x c = PutContact (contact_with_transfer x c) ∷ tell x.losing_registrar t notices.TransferRequested c.name subjects.Contact ∷ []
+contact_transferred t ops.Request x c = PutContact (contact_after ops.Request x c) ∷ tell x.losing_registrar t notices.TransferRequested c.name subjects.Contact ∷ []
 contact_transferred t ops.Query x c = []
-contact_transferred t ops.Approve x c = PutContact (contact_handed_over x c) ∷ tell x.requester t notices.TransferApproved c.name subjects.Contact ∷ []
-contact_transferred t ops.Reject x c = PutContact (contact_with_transfer x c) ∷ tell x.requester t notices.TransferRejected c.name subjects.Contact ∷ []
-contact_transferred t ops.Cancel x c = PutContact (contact_with_transfer x c) ∷ tell x.losing_registrar t notices.TransferCancelled c.name subjects.Contact ∷ []
+contact_transferred t ops.Approve x c = PutContact (contact_after ops.Approve x c) ∷ tell x.requester t notices.TransferApproved c.name subjects.Contact ∷ []
+contact_transferred t ops.Reject x c = PutContact (contact_after ops.Reject x c) ∷ tell x.requester t notices.TransferRejected c.name subjects.Contact ∷ []
+contact_transferred t ops.Cancel x c = PutContact (contact_after ops.Cancel x c) ∷ tell x.losing_registrar t notices.TransferCancelled c.name subjects.Contact ∷ []
 
 abbrev pub contact_transferred_if : ℕ → TransferOp → Option Transfer → Contact → List Change
 contact_transferred_if t op None c = []

@@ -7,6 +7,7 @@ ghost use Rattle.verdict.specs.Deletion.{goes_at_once};
 use crate::change::Change;
 use crate::charge::charge;
 use crate::created::{new_contact, new_domain, new_host, new_roid};
+use crate::transfers::{transfer_contact, transfer_domain};
 use crate::updated::{
     deleted_domain, renewed_domain, restored_domain, restoring_domain, updated_contact,
     updated_domain, updated_host,
@@ -187,6 +188,24 @@ fn accept(
             alloc,
             facts,
             caller,
+            request,
+            facts.domain_seen(name.text()),
+            moment,
+            policy,
+        ),
+        Request::TransferContact { name, op, .. } => transfer_contact(
+            alloc,
+            caller,
+            *op,
+            facts.contact_seen(name),
+            moment,
+            policy,
+        ),
+        Request::TransferDomain { name, op, .. } => transfer_domain(
+            alloc,
+            facts,
+            caller,
+            *op,
             request,
             facts.domain_seen(name.text()),
             moment,

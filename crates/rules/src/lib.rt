@@ -7,6 +7,7 @@ mod created;
 mod decision;
 mod lapse;
 mod order;
+mod transfers;
 mod updated;
 
 pub use change::Change;

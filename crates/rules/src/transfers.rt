@@ -1,0 +1,244 @@
+//! What transfers change (RFC 5730, 2.9.3.4; RFC 5731 and 5733, 3.2.4).
+ghost use Rattle.std.specs.Prelude.{◌≡◌, ◌∷◌, [], IfOk};
+ghost use Rattle.std.specs.Option.{option_copied};
+ghost use Rattle.lifecycle.specs.Lapse as lapses;
+ghost use Rattle.rules.specs.Lapsing.{gift};
+ghost use Rattle.rules.specs.Transfers as spec;
+
+use crate::change::Change;
+use accounts::{CommandNotice, LapseEntry, Line, LineKind, Subject, TransferRefund, TransferStart};
+use basis::registrar::RegistrarNo;
+use basis::text::Text;
+use calendar::Moment;
+use facts::Facts;
+use lifecycle::{AccountChange, Notification, gained, hand_over, hand_over_contact};
+use objects::{Contact, ContactFace, Domain, DomainFace, FullDomain, Roid, Seen, Transfer};
+use policy::Policy;
+use protocol::{Request, TransferOp};
+use std::alloc::{AllocError, Global};
+use verdict::{charge_of, transfer_after, years_charged};
+
+/// A message to the other side.
+fn tell(
+    registrar: RegistrarNo,
+    moment: Moment,
+    notice: CommandNotice,
+    name: &Text,
+    subject: Subject,
+) -> Result<Change, AllocError>
+    ensures { IfOk result (λ change. change ≡ spec.tell registrar moment notice name.now subject) }
+{
+    let notification = Notification {
+        moment,
+        notice,
+        name: name.clone()?,
+        subject,
+    };
+    Ok(Change::Give(registrar, AccountChange::Tell(notification)))
+}
+
+/// The contact's transfer is carried on.
+pub(crate) fn transfer_contact(
+    alloc: Global,
+    caller: RegistrarNo,
+    op: TransferOp,
+    seen: Option<&Seen<Contact, ContactFace>>,
+    moment: Moment,
+    policy: &Policy,
+) -> Result<Vec<Change>, AllocError>
+    ensures { IfOk result (λ changes. changes.items ≡ spec.contact_transfer_changes policy.now caller moment op (option_copied seen.entry)) }
+{
+    let Some(Seen::Full(contact)) = seen else {
+        return Ok(Vec::new(alloc));
+    };
+    let after = transfer_after(op, caller, contact.sponsor, contact.transfer, moment, policy);
+    match after {
+        Some(after) => contact_transferred(alloc, op, after, contact, moment),
+        None => Ok(Vec::new(alloc)),
+    }
+}
+
+/// A contact whose transfer stands so after the operation.
+fn contact_transferred(
+    alloc: Global,
+    op: TransferOp,
+    after: Transfer,
+    contact: &Contact,
+    moment: Moment,
+) -> Result<Vec<Change>, AllocError>
+    ensures { IfOk result (λ changes. changes.items ≡ spec.contact_transferred moment op after contact.now) }
+{
+    let (registrar, notice) = match op {
+        TransferOp::Request => (after.losing_registrar, CommandNotice::TransferRequested),
+        TransferOp::Query => return Ok(Vec::new(alloc)),
+        TransferOp::Approve => (after.requester, CommandNotice::TransferApproved),
+        TransferOp::Reject => (after.requester, CommandNotice::TransferRejected),
+        TransferOp::Cancel => (after.losing_registrar, CommandNotice::TransferCancelled),
+    };
+    let told = tell(registrar, moment, notice, &contact.name, Subject::Contact)?;
+    let contact = contact_after(op, after, contact)?;
+    Ok(vec![in alloc; Change::PutContact(contact), told]?)
+}
+
+fn contact_after(op: TransferOp, after: Transfer, contact: &Contact) -> Result<Contact, AllocError>
+    ensures { IfOk result (λ put. put ≡ spec.contact_after op after contact.now) }
+{
+    let mut contact = contact.clone()?;
+    if matches!(op, TransferOp::Approve) {
+        return Ok(hand_over_contact(contact, after));
+    }
+    contact.transfer = Some(after);
+    Ok(contact)
+}
+
+/// The domain's transfer is carried on.
+pub(crate) fn transfer_domain(
+    alloc: Global,
+    facts: &Facts,
+    caller: RegistrarNo,
+    op: TransferOp,
+    request: &Request,
+    seen: Option<&Seen<FullDomain, DomainFace>>,
+    moment: Moment,
+    policy: &Policy,
+) -> Result<Vec<Change>, AllocError>
+    ensures { IfOk result (λ changes. changes.items ≡ spec.domain_transfer_changes policy.now caller moment op request.now facts.now (option_copied seen.entry)) }
+{
+    let Some(Seen::Full(known)) = seen else {
+        return Ok(Vec::new(alloc));
+    };
+    let domain = &known.domain;
+    let Some(after) = transfer_after(op, caller, domain.sponsor, domain.transfer, moment, policy)
+    else {
+        return Ok(Vec::new(alloc));
+    };
+    match op {
+        TransferOp::Request => {
+            let line = transfer_line(domain.roid, request, facts, moment, policy);
+            domain_requested(alloc, caller, line, after, domain, moment)
+        }
+        TransferOp::Query => Ok(Vec::new(alloc)),
+        TransferOp::Approve => domain_approved(alloc, after, domain, moment),
+        TransferOp::Reject => {
+            let told = tell(
+                after.requester,
+                moment,
+                CommandNotice::TransferRejected,
+                &domain.name,
+                Subject::Domain,
+            )?;
+            domain_kept(alloc, after, domain, told, moment)
+        }
+        TransferOp::Cancel => {
+            let told = tell(
+                after.losing_registrar,
+                moment,
+                CommandNotice::TransferCancelled,
+                &domain.name,
+                Subject::Domain,
+            )?;
+            domain_kept(alloc, after, domain, told, moment)
+        }
+    }
+}
+
+/// The line of what a request charges, whose grace begins with the transfer's completion alone.
+fn transfer_line(
+    roid: Roid,
+    request: &Request,
+    facts: &Facts,
+    moment: Moment,
+    policy: &Policy,
+) -> Line
+    ensures { result ≡ spec.transfer_line policy.now moment roid request.now facts.now }
+{
+    Line {
+        kind: LineKind::Transfer,
+        roid: Some(roid),
+        recorded: moment,
+        years: years_charged(request, facts, moment),
+        cents: charge_of(policy, request, facts, moment),
+        started: None,
+        refunded: None,
+    }
+}
+
+/// A transfer is asked for and charged, and the sponsor is told.
+fn domain_requested(
+    alloc: Global,
+    caller: RegistrarNo,
+    line: Line,
+    after: Transfer,
+    domain: &Domain,
+    moment: Moment,
+) -> Result<Vec<Change>, AllocError>
+    ensures { IfOk result (λ changes. changes.items ≡ Change.PutDomain (spec.domain_with_transfer after domain.now) ∷ Change.Give caller (AccountChange.Charge line) ∷ spec.tell after.losing_registrar moment CommandNotice.TransferRequested domain.now.name Subject.Domain ∷ []) }
+{
+    let told = tell(
+        after.losing_registrar,
+        moment,
+        CommandNotice::TransferRequested,
+        &domain.name,
+        Subject::Domain,
+    )?;
+    let put = with_transfer(after, domain)?;
+    let charge = Change::Give(caller, AccountChange::Charge(line));
+    Ok(vec![in alloc; put, charge, told]?)
+}
+
+/// The sponsor lets the domain go. Its subordinate hosts have its sponsor.
+fn domain_approved(
+    alloc: Global,
+    after: Transfer,
+    domain: &Domain,
+    moment: Moment,
+) -> Result<Vec<Change>, AllocError>
+    ensures { IfOk result (λ changes. changes.items ≡ gift (lapses.transfer_start after (lapses.gained domain.now after.ac_date) domain.now) ∷ Change.PutDomain (lapses.handed_over after (lapses.gained domain.now after.ac_date) domain.now) ∷ spec.tell after.requester moment CommandNotice.TransferApproved domain.now.name Subject.Domain ∷ []) }
+{
+    let told = tell(
+        after.requester,
+        moment,
+        CommandNotice::TransferApproved,
+        &domain.name,
+        Subject::Domain,
+    )?;
+    let start = TransferStart {
+        roid: domain.roid,
+        moment: after.ac_date,
+        years: gained(domain, after.ac_date),
+    };
+    let begun = Change::Give(
+        after.requester,
+        AccountChange::Lapse(LapseEntry::Start(start)),
+    );
+    let domain = hand_over(domain.clone()?, after);
+    Ok(vec![in alloc; begun, Change::PutDomain(domain), told]?)
+}
+
+/// The domain stays, and its requester gets its charge back.
+fn domain_kept(
+    alloc: Global,
+    after: Transfer,
+    domain: &Domain,
+    told: Change,
+    moment: Moment,
+) -> Result<Vec<Change>, AllocError>
+    ensures { IfOk result (λ changes. changes.items ≡ Change.PutDomain (spec.domain_with_transfer after domain.now) ∷ spec.give_back after.requester moment domain.now.roid ∷ told ∷ []) }
+{
+    let refund = TransferRefund {
+        roid: domain.roid,
+        moment,
+    };
+    let back = Change::Give(after.requester, AccountChange::RefundTransfer(refund));
+    let put = with_transfer(after, domain)?;
+    Ok(vec![in alloc; put, back, told]?)
+}
+
+/// The domain, with this as its last transfer.
+fn with_transfer(after: Transfer, domain: &Domain) -> Result<Change, AllocError>
+    ensures { IfOk result (λ change. change ≡ Change.PutDomain (spec.domain_with_transfer after domain.now)) }
+{
+    let mut domain = domain.clone()?;
+    domain.transfer = Some(after);
+    Ok(Change::PutDomain(domain))
+}
