@@ -1,4 +1,5 @@
--- What commands cost (RFC 5731, 3.2.1 and 3.2.3: a domain is registered and renewed by the year).
+-- What commands cost (RFC 5731, 3.2.1, 3.2.3 and 3.2.4: a domain is registered, renewed and transferred by
+-- the year).
 use Rattle.std.specs.Prelude.{ℕ, ◌*◌, Option, Some, None, option_and_then}
 use Rattle.std.specs.List.{slice_get}
 use Rattle.facts.specs.declared.facts.Facts.{Facts}
@@ -11,7 +12,7 @@ use Rattle.objects.specs.declared.sight.Seen.{Seen}
 use Rattle.objects.specs.declared.sight.Seen.TheVariants.{Full, TransferParty, Public}
 use Rattle.policy.specs.Rules.{PolicyRules}
 use Rattle.protocol.specs.declared.command.Action.{Action}
-use Rattle.protocol.specs.declared.command.Action.TheVariants.{Balance, Check, Info, Create, Delete, Update, Renew, RequestRestore, ReportRestore, PollRequest, PollAck, Logout}
+use Rattle.protocol.specs.declared.command.Action.TheVariants.{Balance, Check, Info, Create, Delete, Update, Renew, RequestRestore, ReportRestore, RequestTransfer, QueryTransfer, ApproveTransfer, RejectTransfer, CancelTransfer, PollRequest, PollAck, Logout}
 use Rattle.protocol.specs.declared.command.Request.{Request}
 use Rattle.protocol.specs.Requests.{asks_of, domains_asked}
 
@@ -27,6 +28,11 @@ price_of p Update = 0
 price_of p Renew = p.prices.renew
 price_of p RequestRestore = 0
 price_of p ReportRestore = p.prices.renew
+price_of p RequestTransfer = p.prices.transfer
+price_of p QueryTransfer = 0
+price_of p ApproveTransfer = 0
+price_of p RejectTransfer = 0
+price_of p CancelTransfer = 0
 price_of p PollRequest = 0
 price_of p PollAck = 0
 
@@ -50,6 +56,11 @@ years_for Update named needed = named
 years_for Renew named needed = named
 years_for RequestRestore named needed = named
 years_for ReportRestore named needed = needed
+years_for RequestTransfer named needed = named
+years_for QueryTransfer named needed = named
+years_for ApproveTransfer named needed = named
+years_for RejectTransfer named needed = named
+years_for CancelTransfer named needed = named
 years_for PollRequest named needed = named
 years_for PollAck named needed = named
 

@@ -29,15 +29,18 @@ use Rattle.objects.specs.Graces.{is_phase}
 use Rattle.objects.specs.Hosts.{host_shows}
 use Rattle.objects.specs.Sight.{authorizes}
 use Rattle.objects.specs.Statuses.{has_status}
+use Rattle.objects.specs.Transfers.{is_pending, names}
+use Rattle.objects.specs.declared.transfer.Transfer.{Transfer}
+use Rattle.lifecycle.specs.Transfers.{is_locked}
 use Rattle.objects.specs.StatusTexts.{status_text}
 use Rattle.policy.specs.Rules.{PolicyRules}
 use Rattle.protocol.specs.declared.command.Action.{Action}
-use Rattle.protocol.specs.declared.command.Action.TheVariants.{Balance, Check, Info, Create, Delete, Update, Renew, RequestRestore, ReportRestore, PollRequest, PollAck, Logout}
+use Rattle.protocol.specs.declared.command.Action.TheVariants.{Balance, Check, Info, Create, Delete, Update, Renew, RequestRestore, ReportRestore, RequestTransfer, QueryTransfer, ApproveTransfer, RejectTransfer, CancelTransfer, PollRequest, PollAck, Logout}
 use Rattle.protocol.specs.declared.command.Request.{Request}
 use Rattle.protocol.specs.declared.lists.TheConstants.{MOST_ADDRESSES, MOST_CONTACTS, MOST_HOSTS}
 use Rattle.protocol.specs.Requests.{GivenLists, asks_of, contacts_asked, domains_asked, holds_of, hosts_asked}
 use Rattle.verdict.specs.declared.rules.Condition.{Condition}
-use Rattle.verdict.specs.declared.rules.Condition.TheVariants.{NameIsRefused, ListRepeats, IsThere, IsMissing, ReferenceIsMissing, NewNameIsTaken, SuperordinateIsMissing, IsAnothers, SuperordinateIsAnothers, SecretIsWrong, Shows, StillShows, SuperordinateIsDeleted, IsLinked, HasSubordinates, AddsWhatIsThere, RemovesWhatIsNot, LeavesTooMany, LeavesAddressesOutside, HoldsTheMost, PassesTenYears, ExpiresOtherwise, IsNotIn, ReportDiffers, IsNotOldest, LacksMoney}
+use Rattle.verdict.specs.declared.rules.Condition.TheVariants.{NameIsRefused, ListRepeats, IsThere, IsMissing, ReferenceIsMissing, NewNameIsTaken, SuperordinateIsMissing, IsAnothers, SuperordinateIsAnothers, SecretIsWrong, Shows, StillShows, SuperordinateIsDeleted, IsLinked, HasSubordinates, AddsWhatIsThere, RemovesWhatIsNot, LeavesTooMany, LeavesAddressesOutside, HoldsTheMost, PassesTenYears, ExpiresOtherwise, IsNotIn, ReportDiffers, IsNotOldest, LacksMoney, SecretIsNotRight, IsStranger, StrangersSecretIsWrong, IsNotRequester, HasNoTransfer, IsNotPending, IsOwn, IsLocked}
 use Rattle.verdict.specs.Charges.{charge_of}
 
 -- ---- the object that a request is about: of the three at most one is there
@@ -156,6 +159,11 @@ known_by Delete given new = None
 known_by Renew given new = None
 known_by RequestRestore given new = None
 known_by ReportRestore given new = None
+known_by RequestTransfer given new = None
+known_by QueryTransfer given new = None
+known_by ApproveTransfer given new = None
+known_by RejectTransfer given new = None
+known_by CancelTransfer given new = None
 known_by PollRequest given new = None
 known_by PollAck given new = None
 
@@ -342,6 +350,55 @@ is_another_report del_time res_time d =
 abbrev pub report_differs : Request → Facts → Bool
 report_differs q f = holds_of (is_another_report (asks_of q).del_time (asks_of q).res_time) (full_domain q f)
 
+-- ---- transfers (RFC 5730, 2.9.3.4)
+
+abbrev pub contact_transfer : Contact → Option Transfer
+contact_transfer c = c.transfer
+
+abbrev pub domain_transfer : FullDomain → Option Transfer
+domain_transfer known = known.domain.transfer
+
+-- the last transfer of what is seen, as far as it is seen
+abbrev pub last_seen : {O F : Type 0} → (O → Option Transfer) → Seen O F → Option Transfer
+last_seen transfer_of (Full o) = transfer_of o
+last_seen transfer_of (TransferParty face transfer) = Some transfer
+last_seen transfer_of (Public face) = None
+
+abbrev pub the_transfer : Request → Facts → Option Transfer
+the_transfer q f = or_else (option_and_then (last_seen contact_transfer) (the_contact q f)) (option_and_then (last_seen domain_transfer) (the_domain q f))
+
+-- the registrar sponsors the object
+abbrev pub sponsors : ℕ → Request → Facts → Bool
+sponsors r q f = holds_of (is_own contact_sponsor r) (the_contact q f) || holds_of (is_own domain_sponsor r) (the_domain q f)
+
+-- it sponsors the object, or the last transfer names it
+abbrev pub is_involved : ℕ → Request → Facts → Bool
+is_involved r q f = sponsors r q f || holds_of (names r) (the_transfer q f)
+
+-- the object's own secret is presented (RFC 5731, 2.6; RFC 5733, 2.8)
+abbrev pub presents_secret : Request → Facts → Bool
+presents_secret q f =
+    holds_of (is_authorized contact_secret (asks_of q).secret) (the_contact q f)
+    || holds_of (is_authorized domain_secret (asks_of q).secret) (the_domain q f)
+
+-- who has no part in the object and presents no secret, or another than its own
+abbrev pub is_stranger : ℕ → Request → Facts → Bool
+is_stranger r q f = not (is_involved r q f) && is_none (asks_of q).secret
+
+abbrev pub strangers_secret_is_wrong : ℕ → Request → Facts → Bool
+strangers_secret_is_wrong r q f = not (is_involved r q f) && (is_some (asks_of q).secret && not (presents_secret q f))
+
+-- the registrar asked for the last transfer
+abbrev pub is_requester : ℕ → Request → Facts → Bool
+is_requester r q f = holds_of (λ transfer. transfer.requester == r) (the_transfer q f)
+
+abbrev pub transfer_is_pending : Request → Facts → Bool
+transfer_is_pending q f = is_pending (the_transfer q f)
+
+-- the domain can't be transferred yet (RFC 5731, 3.2.4)
+abbrev pub domain_is_locked : PolicyRules → ℕ → Request → Facts → Bool
+domain_is_locked p t q f = holds_of (is_locked p t) (full_domain q f)
+
 -- ---- messages (RFC 5730, 2.9.2.3)
 
 -- the oldest message has the identifier that is acknowledged, if one is
@@ -384,3 +441,11 @@ holds p r t q f (IsNotIn phase) = not (is_in phase q f)
 holds p r t q f ReportDiffers = report_differs q f
 holds p r t q f IsNotOldest = not (is_oldest q f)
 holds p r t q f LacksMoney = lacks_money p t q f
+holds p r t q f SecretIsNotRight = not (presents_secret q f)
+holds p r t q f IsStranger = is_stranger r q f
+holds p r t q f StrangersSecretIsWrong = strangers_secret_is_wrong r q f
+holds p r t q f IsNotRequester = not (is_requester r q f)
+holds p r t q f HasNoTransfer = is_none (the_transfer q f)
+holds p r t q f IsNotPending = not (transfer_is_pending q f)
+holds p r t q f IsOwn = sponsors r q f
+holds p r t q f IsLocked = domain_is_locked p t q f

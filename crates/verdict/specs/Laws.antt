@@ -1,24 +1,25 @@
 -- What the tables keep, in the words of the standards (RFC 5730 to 5733).
-use Rattle.std.specs.Prelude.{◌≡◌, ℕ, ◌<◌, ◌≤◌, pos, ◌≤ℤ◌, true, false, Some, None}
+use Rattle.std.specs.Prelude.{◌≡◌, ℕ, ◌<◌, ◌≤◌, pos, ◌≤ℤ◌, ◌||◌, true, false, List, Option, Some, None, is_some}
 use Rattle.facts.specs.declared.facts.Facts.{Facts}
 use Rattle.names.specs.declared.given.GivenName.{GivenName}
 use Rattle.objects.specs.declared.domain.Domain.{Domain}
 use Rattle.objects.specs.declared.grace.Phase.TheVariants.{Redemption, Restoring}
-use Rattle.objects.specs.declared.status.Status.TheVariants.{ClientDeleteProhibited, ClientRenewProhibited, ClientUpdateProhibited, PendingDelete, PendingTransfer, ServerDeleteProhibited, ServerRenewProhibited, ServerUpdateProhibited}
+use Rattle.objects.specs.declared.status.Status.TheVariants.{ClientDeleteProhibited, ClientRenewProhibited, ClientTransferProhibited, ClientUpdateProhibited, PendingDelete, PendingTransfer, ServerDeleteProhibited, ServerRenewProhibited, ServerTransferProhibited, ServerUpdateProhibited}
 use Rattle.policy.specs.Rules.{PolicyRules}
 use Rattle.protocol.specs.declared.command.Action.{Action}
-use Rattle.protocol.specs.declared.command.Action.TheVariants.{Balance, Check, Info, Create, Delete, Update, Renew, RequestRestore, ReportRestore, PollRequest, PollAck, Logout}
+use Rattle.protocol.specs.declared.command.Action.TheVariants.{Balance, Check, Info, Create, Delete, Update, Renew, RequestRestore, ReportRestore, RequestTransfer, QueryTransfer, ApproveTransfer, RejectTransfer, CancelTransfer, PollRequest, PollAck, Logout}
 use Rattle.protocol.specs.declared.command.Command.{Command}
 use Rattle.protocol.specs.declared.command.Command.TheVariants.{Bad, Asked}
 use Rattle.protocol.specs.declared.command.Request.{Request}
-use Rattle.protocol.specs.declared.command.Request.TheVariants.{DeleteDomain}
+use Rattle.protocol.specs.declared.command.Request.TheVariants.{DeleteDomain, TransferDomain}
+use Rattle.protocol.specs.declared.transfer.TransferOp.TheVariants as ops
 use Rattle.protocol.specs.Codes.{is_accepted}
 use Rattle.protocol.specs.Requests.{asks_of}
 use Rattle.verdict.specs.declared.verdict.Verdict.{Verdict}
 use Rattle.verdict.specs.Charges.{charge_of, years_charged}
-use Rattle.verdict.specs.Conditions.{full_domain, has_subordinates, is_in, is_linked, is_of_another, is_oldest, is_there, renewed_expiry, report_differs, secret_is_wrong, shows_status, still_shows}
+use Rattle.verdict.specs.Conditions.{domain_is_locked, full_domain, has_subordinates, is_in, is_involved, is_linked, is_of_another, is_oldest, is_requester, is_there, presents_secret, renewed_expiry, report_differs, secret_is_wrong, shows_status, sponsors, still_shows, strangers_secret_is_wrong, the_transfer, transfer_is_pending}
 
--- it changes, renews, deletes or restores an object
+-- it changes, renews, deletes or restores an object, or answers who asks for one
 abbrev pub Alters : Action → Type 0
 Alters Logout = ⊥
 Alters Balance = ⊥
@@ -30,6 +31,11 @@ Alters Update = Unit {0}
 Alters Renew = Unit {0}
 Alters RequestRestore = Unit {0}
 Alters ReportRestore = Unit {0}
+Alters RequestTransfer = ⊥
+Alters QueryTransfer = ⊥
+Alters ApproveTransfer = Unit {0}
+Alters RejectTransfer = Unit {0}
+Alters CancelTransfer = ⊥
 Alters PollRequest = ⊥
 Alters PollAck = ⊥
 
@@ -45,11 +51,56 @@ ActsOnObject Update = Unit {0}
 ActsOnObject Renew = Unit {0}
 ActsOnObject RequestRestore = Unit {0}
 ActsOnObject ReportRestore = Unit {0}
+ActsOnObject RequestTransfer = Unit {0}
+ActsOnObject QueryTransfer = Unit {0}
+ActsOnObject ApproveTransfer = Unit {0}
+ActsOnObject RejectTransfer = Unit {0}
+ActsOnObject CancelTransfer = Unit {0}
 ActsOnObject PollRequest = ⊥
 ActsOnObject PollAck = ⊥
 
+-- it ends a pending transfer
+abbrev pub EndsTransfer : Action → Type 0
+EndsTransfer Logout = ⊥
+EndsTransfer Balance = ⊥
+EndsTransfer Check = ⊥
+EndsTransfer Info = ⊥
+EndsTransfer Create = ⊥
+EndsTransfer Delete = ⊥
+EndsTransfer Update = ⊥
+EndsTransfer Renew = ⊥
+EndsTransfer RequestRestore = ⊥
+EndsTransfer ReportRestore = ⊥
+EndsTransfer RequestTransfer = ⊥
+EndsTransfer QueryTransfer = ⊥
+EndsTransfer ApproveTransfer = Unit {0}
+EndsTransfer RejectTransfer = Unit {0}
+EndsTransfer CancelTransfer = Unit {0}
+EndsTransfer PollRequest = ⊥
+EndsTransfer PollAck = ⊥
+
+-- What an operation on a transfer that is carried out can't have met. An object is asked for with its
+-- own secret (RFC 5731, 3.2.4; RFC 5733, 3.2.4), by another than its sponsor, while no transfer of it
+-- is pending (RFC 5730, 3, code 2300), and no status prohibits it (RFC 5731, 2.3; RFC 5733, 2.2); a
+-- domain neither while it is deleted nor while it is locked (RFC 5730, 3, code 2106). A query is
+-- answered to the sponsor, to whom the last transfer names, and to who presents the secret, where
+-- there was a transfer (RFC 5730, 2.9.2.4). Its requester alone cancels one, and what isn't pending
+-- isn't ended (RFC 5730, 3, code 2301).
+pub record IsLawfulTransfer (p : PolicyRules) (r t : ℕ) (q : Request) (f : Facts) : Type 0 where
+  pub authorized : (asks_of q).action ≡ RequestTransfer → presents_secret q f ≡ true
+  pub not_twice : (asks_of q).action ≡ RequestTransfer → shows_status PendingTransfer q f ≡ false
+  pub not_deleted : (name : GivenName) (secret : Option (List ℕ)) → q ≡ TransferDomain name ops.Request secret → shows_status PendingDelete q f ≡ false
+  pub client : (asks_of q).action ≡ RequestTransfer → shows_status ClientTransferProhibited q f ≡ false
+  pub server : (asks_of q).action ≡ RequestTransfer → shows_status ServerTransferProhibited q f ≡ false
+  pub not_own : (asks_of q).action ≡ RequestTransfer → sponsors r q f ≡ false
+  pub unlocked : (asks_of q).action ≡ RequestTransfer → domain_is_locked p t q f ≡ false
+  pub entitled : (asks_of q).action ≡ QueryTransfer → (is_involved r q f || presents_secret q f) ≡ true
+  pub known : (asks_of q).action ≡ QueryTransfer → is_some (the_transfer q f) ≡ true
+  pub requester : (asks_of q).action ≡ CancelTransfer → is_requester r q f ≡ true
+  pub pending : EndsTransfer (asks_of q).action → transfer_is_pending q f ≡ true
+
 -- What a request that is carried out can't have met: an object of another's that it changes, renews,
--- deletes or restores (RFC 5731 to 5733, 3.2), no object at all, an object of the name that it
+-- deletes, restores or lets go (RFC 5731 to 5733, 3.2), no object at all, an object of the name that it
 -- creates, one that is deleted while a domain names it, or while hosts lie below it (RFC 5731, 3.2.2),
 -- a domain that is deleted twice, an object whose status prohibits it (RFC 5731, 2.3), a domain whose
 -- restoration is asked for outside its redemption period, or reported on while none is pending, or by
@@ -74,14 +125,18 @@ pub record IsLawful (p : PolicyRules) (r t : ℕ) (q : Request) (f : Facts) : Ty
   pub reported : (asks_of q).action ≡ ReportRestore → report_differs q f ≡ false
   pub outlasts : (asks_of q).action ≡ ReportRestore → (d : Domain) → full_domain q f ≡ Some d → t < renewed_expiry (years_charged t q f) d
   pub no_more : (asks_of q).action ≡ ReportRestore → (d : Domain) → full_domain q f ≡ Some d → (years : ℕ) → years < years_charged t q f → renewed_expiry years d ≤ t
+  pub transfers : IsLawfulTransfer p r t q f
   pub oldest : (asks_of q).action ≡ PollAck → is_oldest q f ≡ true
   pub paid : 0 < charge_of p t q f → pos (charge_of p t q f) ≤ℤ f.account.balance
 
--- a verdict on a request: what is carried out is lawful, and a wrong secret is never answered with
--- data (RFC 5731, 2.6; RFC 5733, 2.8)
+-- A verdict on a request: what is carried out is lawful, and a wrong secret is never answered with
+-- data (RFC 5731, 2.6; RFC 5733, 2.8), whoever presents it with the request of a transfer, and unless
+-- the sponsor does so with another command, or whom the last transfer names with a query of it.
 pub record KeepsLaws (p : PolicyRules) (r t : ℕ) (q : Request) (f : Facts) (v : Verdict) : Type 0 where
   pub carried_out : is_accepted v.code ≡ true → IsLawful p r t q f
-  pub secret : secret_is_wrong r q f ≡ true → v.content ≡ None
+  pub secret : (asks_of q).action ≡ Info → secret_is_wrong r q f ≡ true → v.content ≡ None
+  pub requesters_secret : (asks_of q).action ≡ RequestTransfer → presents_secret q f ≡ false → v.content ≡ None
+  pub strangers_secret : (asks_of q).action ≡ QueryTransfer → strangers_secret_is_wrong r q f ≡ true → v.content ≡ None
 
 unfoldable pub AnswersLawfully : PolicyRules → ℕ → ℕ → Command → Facts → Verdict → Type 0
 AnswersLawfully p r t (Bad cl_trid code) f v = v.content ≡ None

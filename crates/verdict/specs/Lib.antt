@@ -1,7 +1,7 @@
 pub mod Refusals
 pub mod Charges
-pub mod Transfers
 pub mod Conditions
+pub mod Transfers
 pub mod Deletion
 pub mod Poll
 pub mod Rules

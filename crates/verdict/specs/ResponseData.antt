@@ -38,11 +38,13 @@ use Rattle.protocol.specs.declared.reply.Reason.{Reason}
 use Rattle.protocol.specs.declared.reply.Reason.TheVariants.{Policy, InUse}
 use Rattle.protocol.specs.declared.reply.Renewed.{Renewed}
 use Rattle.protocol.specs.declared.reply.TransferInfo.{TransferInfo}
+use Rattle.protocol.specs.declared.reply.Transferred.{Transferred}
 use Rattle.facts.specs.Facts.{host_sponsor}
 use Rattle.facts.specs.Facts.{contact_at, contact_seen, domain_at, domain_seen, host_at, host_seen}
 use Rattle.verdict.specs.Charges.{charge_of, years_charged}
 use Rattle.verdict.specs.Conditions.{domain_in_full, renewed_expiry}
 use Rattle.verdict.specs.Deletion.{deleted}
+use Rattle.verdict.specs.Transfers.{charge_told, contact_after, domain_after}
 use Rattle.verdict.specs.Poll.{left, polled}
 
 -- the id of the registrar at a place
@@ -149,6 +151,14 @@ domain_info p r secret subordinate (Public face) = domain_face_info p subordinat
 abbrev pub domain_info_at : PolicyRules → ℕ → Option (List ℕ) → DomainFacts → Option DomainInfo
 domain_info_at p r secret known = option_map (domain_info p r secret known.subordinate) known.seen
 
+-- ---- transfers
+
+abbrev pub transferred : PolicyRules → List ℕ → Option ℕ → Transfer → Transferred
+transferred p name charge x = record { name = name; transfer = transfer_info p x; charge = charge }
+
+abbrev pub transferred_data : PolicyRules → List ℕ → Option ℕ → Option Transfer → Option Data
+transferred_data p name charge after = option_map told.Transferred (option_map (transferred p name charge) after)
+
 -- ---- info of hosts: all are told all
 
 abbrev pub host_info : PolicyRules → HostFacts → Host → HostInfo
@@ -182,5 +192,9 @@ response_data p r t (requests.RequestRestore name) f = None
 response_data p r t (requests.ReportRestore name del_time res_time) f =
     let report : Request = requests.ReportRestore name del_time res_time in
     option_map told.Renewed (renewed_at (charge_of p t report f) name (years_charged t report f) f)
+response_data p r t (requests.TransferContact name op secret) f = transferred_data p name None (option_and_then (contact_after p r t op) (contact_seen f name))
+response_data p r t (requests.TransferDomain name op secret) f =
+    let asked : Request = requests.TransferDomain name op secret in
+    transferred_data p (name_of name) (charge_told op (charge_of p t asked f)) (option_and_then (domain_after p r t op) (domain_seen f (name_of name)))
 response_data p r t requests.PollRequest f = option_map told.Polled (option_map (polled f.queue.waiting) f.queue.oldest)
 response_data p r t (requests.PollAck id) f = Some (told.Acked (left f.queue))

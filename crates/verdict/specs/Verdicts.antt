@@ -16,6 +16,7 @@ use Rattle.verdict.specs.Deletion.{code_of_deletion}
 use Rattle.verdict.specs.Poll.{code_of_poll}
 use Rattle.verdict.specs.Rules.{refusal_of}
 use Rattle.verdict.specs.ResponseData.{response_data}
+use Rattle.verdict.specs.Transfers.{code_of_transfer}
 
 abbrev pub refused : Code → Verdict
 refused code = record { code = code; content = None }
@@ -43,6 +44,8 @@ code_granted (requests.UpdateHost update) f = Completed
 code_granted (requests.RenewDomain name expires years) f = Completed
 code_granted (requests.RequestRestore name) f = CompletedActionPending
 code_granted (requests.ReportRestore name del_time res_time) f = Completed
+code_granted (requests.TransferContact name op secret) f = code_of_transfer op
+code_granted (requests.TransferDomain name op secret) f = code_of_transfer op
 code_granted requests.PollRequest f = code_of_poll f.queue.oldest
 code_granted (requests.PollAck id) f = Completed
 

@@ -72,7 +72,7 @@ impl<'a> Case<'a> {
         }
     }
 
-    fn contact(&self) -> Option<&'a Seen<Contact, ContactFace>>
+    pub(crate) fn contact(&self) -> Option<&'a Seen<Contact, ContactFace>>
         ensures { option_copied result ≡ spec.the_contact self.now.request.now self.now.facts.now }
     {
         match self.request.contacts().first() {
@@ -90,7 +90,7 @@ impl<'a> Case<'a> {
         }
     }
 
-    fn domain(&self) -> Option<&'a Seen<FullDomain, DomainFace>>
+    pub(crate) fn domain(&self) -> Option<&'a Seen<FullDomain, DomainFace>>
         ensures { option_copied result ≡ spec.the_domain self.now.request.now self.now.facts.now }
     {
         match self.request.domains().first() {
@@ -137,6 +137,11 @@ impl<'a> Case<'a> {
             | Action::Renew
             | Action::RequestRestore
             | Action::ReportRestore
+            | Action::RequestTransfer
+            | Action::QueryTransfer
+            | Action::ApproveTransfer
+            | Action::RejectTransfer
+            | Action::CancelTransfer
             | Action::PollRequest
             | Action::PollAck => None,
         }
@@ -357,6 +362,14 @@ impl Case<'_> {
             Condition::ReportDiffers => self.report_differs(),
             Condition::IsNotOldest => !self.is_oldest(),
             Condition::LacksMoney => self.lacks_money(),
+            Condition::SecretIsNotRight => self.secret_is_not_right(),
+            Condition::IsStranger => self.is_stranger(),
+            Condition::StrangersSecretIsWrong => self.strangers_secret_is_wrong(),
+            Condition::IsNotRequester => !self.is_requester(),
+            Condition::HasNoTransfer => self.has_no_transfer(),
+            Condition::IsNotPending => !self.transfer_is_pending(),
+            Condition::IsOwn => self.sponsors(),
+            Condition::IsLocked => self.domain_is_locked(),
         }
     }
 

@@ -45,6 +45,7 @@ fn price_of(policy: &Policy, action: Action) -> u32
     match action {
         Action::Create => policy.create_price(),
         Action::Renew | Action::ReportRestore => policy.renew_price(),
+        Action::RequestTransfer => policy.transfer_price(),
         Action::Logout
         | Action::Balance
         | Action::Check
@@ -52,6 +53,10 @@ fn price_of(policy: &Policy, action: Action) -> u32
         | Action::Delete
         | Action::Update
         | Action::RequestRestore
+        | Action::QueryTransfer
+        | Action::ApproveTransfer
+        | Action::RejectTransfer
+        | Action::CancelTransfer
         | Action::PollRequest
         | Action::PollAck => 0,
     }

@@ -10,19 +10,30 @@ use basis::registrar::RegistrarNo;
 use basis::text::Text;
 use facts::HostFacts;
 use names::Zone;
-use objects::{Contact, ContactFace, DomainFace, FullDomain, Host, Seen, Status, has_status};
+use objects::{
+    Contact, ContactFace, DomainFace, FullDomain, Host, Seen, Status, Transfer, has_status,
+};
 
 // ---- who sponsors what is seen
 
-/// An object with a sponsor and a secret.
+/// An object with a sponsor, a secret and a last transfer.
 pub(crate) trait Sponsored {
-    ghost use Rattle.std.specs.Prelude.{◌≡◌, ◌==◌, List, ℕ};
+    ghost use Rattle.std.specs.Prelude.{◌≡◌, ◌==◌, List, Option, ℕ};
     ghost use Rattle.std.specs.Option.{option_copied};
     ghost use Rattle.objects.specs.Sight.{authorizes};
+    ghost use Rattle.objects.specs.declared.transfer.Transfer.{Transfer};
 
     ghost sponsor: { Self → ℕ };
 
     ghost secret: { Self → List ℕ };
+
+    ghost transfer: { Self → Option Transfer };
+
+    fn sponsored_by(&self) -> RegistrarNo
+        ensures { result ≡ sponsor self.now };
+
+    fn last_transfer(&self) -> Option<Transfer>
+        ensures { result ≡ transfer self.now };
 
     fn is_of(&self, registrar: RegistrarNo) -> bool
         ensures { result ≡ (sponsor self.now == registrar) };
@@ -32,11 +43,21 @@ pub(crate) trait Sponsored {
 }
 
 impl Sponsored for Contact {
-    ghost use Rattle.verdict.specs.Conditions.{contact_sponsor, contact_secret};
+    ghost use Rattle.verdict.specs.Conditions.{contact_sponsor, contact_secret, contact_transfer};
 
     ghost sponsor = { contact_sponsor };
 
     ghost secret = { contact_secret };
+
+    ghost transfer = { contact_transfer };
+
+    fn sponsored_by(&self) -> RegistrarNo {
+        self.sponsor
+    }
+
+    fn last_transfer(&self) -> Option<Transfer> {
+        self.transfer
+    }
 
     fn is_of(&self, registrar: RegistrarNo) -> bool {
         self.is_sponsored_by(registrar)
@@ -48,11 +69,21 @@ impl Sponsored for Contact {
 }
 
 impl Sponsored for FullDomain {
-    ghost use Rattle.verdict.specs.Conditions.{domain_sponsor, domain_secret};
+    ghost use Rattle.verdict.specs.Conditions.{domain_sponsor, domain_secret, domain_transfer};
 
     ghost sponsor = { domain_sponsor };
 
     ghost secret = { domain_secret };
+
+    ghost transfer = { domain_transfer };
+
+    fn sponsored_by(&self) -> RegistrarNo {
+        self.domain.sponsor
+    }
+
+    fn last_transfer(&self) -> Option<Transfer> {
+        self.domain.transfer
+    }
 
     fn is_of(&self, registrar: RegistrarNo) -> bool {
         self.domain.is_sponsored_by(registrar)
@@ -60,6 +91,36 @@ impl Sponsored for FullDomain {
 
     fn authorizes(&self, presented: Option<&Text>) -> bool {
         self.domain.is_authorized_by(presented)
+    }
+}
+
+/// What everyone may know of an object: its sponsor.
+pub(crate) trait Faced {
+    ghost use Rattle.std.specs.Prelude.{◌≡◌, ℕ};
+
+    ghost sponsor: { Self → ℕ };
+
+    fn sponsored_by(&self) -> RegistrarNo
+        ensures { result ≡ sponsor self.now };
+}
+
+impl Faced for ContactFace {
+    ghost use Rattle.verdict.specs.Transfers.{contact_face_sponsor};
+
+    ghost sponsor = { contact_face_sponsor };
+
+    fn sponsored_by(&self) -> RegistrarNo {
+        self.sponsor
+    }
+}
+
+impl Faced for DomainFace {
+    ghost use Rattle.verdict.specs.Transfers.{domain_face_sponsor};
+
+    ghost sponsor = { domain_face_sponsor };
+
+    fn sponsored_by(&self) -> RegistrarNo {
+        self.sponsor
     }
 }
 
@@ -79,6 +140,29 @@ pub(crate) fn is_anothers<O: Sponsored, F>(caller: RegistrarNo, seen: Option<&Se
     match seen {
         None => false,
         Some(seen) => !is_own(caller, seen),
+    }
+}
+
+/// Whether the caller sponsors what is seen.
+pub(crate) fn is_sponsored<O: Sponsored, F>(caller: RegistrarNo, seen: Option<&Seen<O, F>>) -> bool
+    ensures { result ≡ holds_of (spec.is_own O.sponsor caller) (option_copied seen.entry) }
+{
+    match seen {
+        None => false,
+        Some(seen) => is_own(caller, seen),
+    }
+}
+
+/// Whether the secret is that of what is seen.
+pub(crate) fn is_authorized<O: Sponsored, F>(
+    secret: Option<&Text>,
+    seen: Option<&Seen<O, F>>,
+) -> bool
+    ensures { result ≡ holds_of (spec.is_authorized O.secret (option_copied secret.entry)) (option_copied seen.entry) }
+{
+    match seen {
+        Some(Seen::Full(object)) => object.authorizes(secret),
+        _ => false,
     }
 }
 

@@ -5,6 +5,7 @@ ghost use Rattle.verdict.specs.Deletion as spec;
 ghost use Rattle.verdict.specs.Verdicts.{code_granted};
 
 use crate::poll::code_of_poll;
+use crate::transfer::code_of_transfer;
 use facts::{DomainFacts, Facts};
 use objects::{DomainFace, FullDomain, Seen};
 use protocol::{Code, Data, Deleted, Request};
@@ -38,6 +39,8 @@ pub(crate) fn code_granted(request: &Request, facts: &Facts) -> Code
     match request {
         Request::DeleteDomain { name } => code_of_deletion(facts.domain_seen(name.text())),
         Request::RequestRestore { .. } => Code::CompletedActionPending,
+        Request::TransferContact { op, .. } => code_of_transfer(*op),
+        Request::TransferDomain { op, .. } => code_of_transfer(*op),
         Request::PollRequest => code_of_poll(&facts.queue.oldest),
         Request::Logout => Code::CompletedEndingSession,
         _ => Code::Completed,

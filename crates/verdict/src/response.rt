@@ -9,6 +9,7 @@ use crate::charge::{charge_of, years_charged};
 use crate::deletion::deleted_data;
 use crate::poll::{left, polled_data};
 use crate::renewal::renewed_expiry;
+use crate::transfer::{charge_told, seen_after, transferred_data};
 use basis::list::Seq;
 use basis::registrar::RegistrarNo;
 use basis::text::{Text, copied};
@@ -79,6 +80,15 @@ pub(crate) fn response_data(
             let charge = charge_of(policy, request, facts, moment);
             let years = years_charged(request, facts, moment);
             renewed_data(charge, name, years, facts.domain_seen(name.text()))
+        }
+        Request::TransferContact { name, op, .. } => {
+            let after = seen_after(*op, caller, facts.contact_seen(name), moment, policy);
+            transferred_data(alloc, policy, name, None, after)
+        }
+        Request::TransferDomain { name, op, .. } => {
+            let charge = charge_told(*op, charge_of(policy, request, facts, moment));
+            let after = seen_after(*op, caller, facts.domain_seen(name.text()), moment, policy);
+            transferred_data(alloc, policy, name.text(), charge, after)
         }
         Request::PollRequest => polled_data(&facts.queue),
         Request::PollAck { .. } => Ok(Some(Data::Acked(left(&facts.queue)))),
@@ -432,12 +442,22 @@ fn transfer_info(
 {
     match transfer {
         None => Ok(None),
-        Some(transfer) => Ok(Some(TransferInfo {
-            transfer,
-            requester: id_of(alloc, policy, transfer.requester)?,
-            losing_registrar: id_of(alloc, policy, transfer.losing_registrar)?,
-        })),
+        Some(transfer) => Ok(Some(transfer_info_of(alloc, policy, transfer)?)),
     }
+}
+
+pub(crate) fn transfer_info_of(
+    alloc: Global,
+    policy: &Policy,
+    transfer: Transfer,
+) -> Result<TransferInfo, AllocError>
+    ensures { IfOk result (λ info. info ≡ spec.transfer_info policy.now transfer) }
+{
+    Ok(TransferInfo {
+        transfer,
+        requester: id_of(alloc, policy, transfer.requester)?,
+        losing_registrar: id_of(alloc, policy, transfer.losing_registrar)?,
+    })
 }
 
 // ---- info of hosts

@@ -6,21 +6,24 @@ ghost use Rattle.verdict.specs.Rules as spec;
 
 use crate::refusal::Cause::{
     self, AssociationProhibits, BadNames, DoesNotFit, Exists, LimitReached, Missing, NoMoney,
-    NotRenewable, NotSponsor, StatusProhibits, WrongSecret,
+    NoTransferPends, NotRenewable, NotSponsor, NotTransferable, StatusProhibits, TransferPends,
+    WrongSecret,
 };
 use Condition::{
-    AddsWhatIsThere, ExpiresOtherwise, HasSubordinates, HoldsTheMost, IsAnothers, IsLinked,
-    IsMissing, IsNotIn, IsNotOldest, IsThere, LacksMoney, LeavesAddressesOutside, LeavesTooMany,
-    ListRepeats, NameIsRefused, NewNameIsTaken, PassesTenYears, ReferenceIsMissing,
-    RemovesWhatIsNot, ReportDiffers, SecretIsWrong, Shows, StillShows, SuperordinateIsAnothers,
-    SuperordinateIsDeleted, SuperordinateIsMissing,
+    AddsWhatIsThere, ExpiresOtherwise, HasNoTransfer, HasSubordinates, HoldsTheMost, IsAnothers,
+    IsLinked, IsLocked, IsMissing, IsNotIn, IsNotOldest, IsNotPending, IsNotRequester, IsOwn,
+    IsStranger, IsThere, LacksMoney, LeavesAddressesOutside, LeavesTooMany, ListRepeats,
+    NameIsRefused, NewNameIsTaken, PassesTenYears, ReferenceIsMissing, RemovesWhatIsNot,
+    ReportDiffers, SecretIsNotRight, SecretIsWrong, Shows, StillShows, StrangersSecretIsWrong,
+    SuperordinateIsAnothers, SuperordinateIsDeleted, SuperordinateIsMissing,
 };
 use objects::Phase::{self, Redemption, Restoring};
 use objects::Status::{
-    self, ClientDeleteProhibited, ClientRenewProhibited, ClientUpdateProhibited, PendingDelete,
-    PendingTransfer, ServerDeleteProhibited, ServerRenewProhibited, ServerUpdateProhibited,
+    self, ClientDeleteProhibited, ClientRenewProhibited, ClientTransferProhibited,
+    ClientUpdateProhibited, PendingDelete, PendingTransfer, ServerDeleteProhibited,
+    ServerRenewProhibited, ServerTransferProhibited, ServerUpdateProhibited,
 };
-use protocol::Request;
+use protocol::{Request, TransferOp};
 
 /// What a command can be refused on.
 #[derive(Clone, Copy, Drop)]
@@ -78,6 +81,24 @@ pub enum Condition {
     IsNotOldest,
     /// The command is charged more than the registrar's account has.
     LacksMoney,
+    /// The secret that is presented isn't the object's, whoever presents it.
+    SecretIsNotRight,
+    /// The registrar neither sponsors the object nor is named in its last transfer, and presents no
+    /// secret.
+    IsStranger,
+    /// The registrar neither sponsors the object nor is named in its last transfer, and presents a
+    /// secret that isn't right.
+    StrangersSecretIsWrong,
+    /// The registrar isn't who asked for the last transfer of the object, or there was none.
+    IsNotRequester,
+    /// No transfer of the object was ever asked for.
+    HasNoTransfer,
+    /// No transfer of the object is pending.
+    IsNotPending,
+    /// The registrar sponsors the object.
+    IsOwn,
+    /// The domain was created or transferred too short a time ago to be transferred.
+    IsLocked,
 }
 
 /// A row of a command's table.
@@ -240,6 +261,104 @@ pub const RESTORE_REPORT: &[Row] = &[
     (NoMoney, LacksMoney), // RFC 5730, 3, code 2104
 ];
 
+/// RFC 5733, 3.2.4, `request`.
+pub const CONTACT_TRANSFER_REQUEST: &[Row] = &[
+    (Missing, IsMissing), // RFC 5730, 3, code 2303
+    (WrongSecret, SecretIsNotRight), // RFC 5733, 3.2.4
+    (TransferPends, Shows(PendingTransfer)), // RFC 5730, 3, code 2300
+    (StatusProhibits, Shows(ClientTransferProhibited)), // RFC 5733, 2.2
+    (StatusProhibits, Shows(ServerTransferProhibited)), // RFC 5733, 2.2
+    (NotTransferable, IsOwn), // RFC 5730, 3, code 2106
+];
+
+/// RFC 5731, 3.2.4, `request`.
+pub const DOMAIN_TRANSFER_REQUEST: &[Row] = &[
+    (BadNames, NameIsRefused), // RFC 5730, 3, code 2306
+    (Missing, IsMissing), // RFC 5730, 3, code 2303
+    (WrongSecret, SecretIsNotRight), // RFC 5731, 3.2.4
+    (TransferPends, Shows(PendingTransfer)), // RFC 5730, 3, code 2300
+    (StatusProhibits, Shows(PendingDelete)), // RFC 5731, 2.3
+    (StatusProhibits, Shows(ClientTransferProhibited)), // RFC 5731, 2.3
+    (StatusProhibits, Shows(ServerTransferProhibited)), // RFC 5731, 2.3
+    (NotTransferable, IsOwn), // RFC 5730, 3, code 2106
+    (NotTransferable, IsLocked), // RFC 5730, 3, code 2106
+    (LimitReached, HoldsTheMost), // RFC 5730, 3, code 2308
+    (NoMoney, LacksMoney), // RFC 5730, 3, code 2104
+];
+
+/// RFC 5733, 3.1.3.
+pub const CONTACT_TRANSFER_QUERY: &[Row] = &[
+    (Missing, IsMissing), // RFC 5730, 3, code 2303
+    (NotSponsor, IsStranger), // RFC 5730, 2.9.2.4
+    (WrongSecret, StrangersSecretIsWrong), // RFC 5733, 2.8
+    (NoTransferPends, HasNoTransfer), // RFC 5730, 3, code 2301
+];
+
+/// RFC 5731, 3.1.3.
+pub const DOMAIN_TRANSFER_QUERY: &[Row] = &[
+    (BadNames, NameIsRefused), // RFC 5730, 3, code 2306
+    (Missing, IsMissing), // RFC 5730, 3, code 2303
+    (NotSponsor, IsStranger), // RFC 5730, 2.9.2.4
+    (WrongSecret, StrangersSecretIsWrong), // RFC 5731, 2.6
+    (NoTransferPends, HasNoTransfer), // RFC 5730, 3, code 2301
+];
+
+/// RFC 5733, 3.2.4, `approve` and `reject`.
+pub const CONTACT_TRANSFER_ANSWER: &[Row] = &[
+    (Missing, IsMissing), // RFC 5730, 3, code 2303
+    (NotSponsor, IsAnothers), // RFC 5730, 2.9.3.4
+    (NoTransferPends, IsNotPending), // RFC 5733, 3.2.4
+];
+
+/// RFC 5731, 3.2.4, `approve` and `reject`.
+pub const DOMAIN_TRANSFER_ANSWER: &[Row] = &[
+    (BadNames, NameIsRefused), // RFC 5730, 3, code 2306
+    (Missing, IsMissing), // RFC 5730, 3, code 2303
+    (NotSponsor, IsAnothers), // RFC 5730, 2.9.3.4
+    (NoTransferPends, IsNotPending), // RFC 5731, 3.2.4
+];
+
+/// RFC 5733, 3.2.4, `cancel`.
+pub const CONTACT_TRANSFER_CANCEL: &[Row] = &[
+    (Missing, IsMissing), // RFC 5730, 3, code 2303
+    (NotSponsor, IsNotRequester), // RFC 5730, 2.9.3.4
+    (NoTransferPends, IsNotPending), // RFC 5730, 3, code 2301
+];
+
+/// RFC 5731, 3.2.4, `cancel`.
+pub const DOMAIN_TRANSFER_CANCEL: &[Row] = &[
+    (BadNames, NameIsRefused), // RFC 5730, 3, code 2306
+    (Missing, IsMissing), // RFC 5730, 3, code 2303
+    (NotSponsor, IsNotRequester), // RFC 5730, 2.9.3.4
+    (NoTransferPends, IsNotPending), // RFC 5730, 3, code 2301
+];
+
+/// The table of an operation on a contact's transfer.
+fn contact_transfer_rows(op: TransferOp) -> &'static [Row]
+    ensures table { result.now ≡ spec.contact_transfer_rows op }
+    ensures ordered { IsTrue (in_order result.now) }
+{
+    match op {
+        TransferOp::Request => CONTACT_TRANSFER_REQUEST,
+        TransferOp::Query => CONTACT_TRANSFER_QUERY,
+        TransferOp::Approve | TransferOp::Reject => CONTACT_TRANSFER_ANSWER,
+        TransferOp::Cancel => CONTACT_TRANSFER_CANCEL,
+    }
+}
+
+/// The table of an operation on a domain's transfer.
+fn domain_transfer_rows(op: TransferOp) -> &'static [Row]
+    ensures table { result.now ≡ spec.domain_transfer_rows op }
+    ensures ordered { IsTrue (in_order result.now) }
+{
+    match op {
+        TransferOp::Request => DOMAIN_TRANSFER_REQUEST,
+        TransferOp::Query => DOMAIN_TRANSFER_QUERY,
+        TransferOp::Approve | TransferOp::Reject => DOMAIN_TRANSFER_ANSWER,
+        TransferOp::Cancel => DOMAIN_TRANSFER_CANCEL,
+    }
+}
+
 /// RFC 5730, 2.9.2.3.
 pub const MESSAGE_ACKNOWLEDGEMENT: &[Row] = &[
     (Missing, IsNotOldest), // RFC 5730, 3, code 2303
@@ -272,6 +391,8 @@ pub fn rows(request: &Request) -> &'static [Row]
         Request::RenewDomain { .. } => DOMAIN_RENEWAL,
         Request::RequestRestore { .. } => RESTORE_REQUEST,
         Request::ReportRestore { .. } => RESTORE_REPORT,
+        Request::TransferContact { op, .. } => contact_transfer_rows(*op),
+        Request::TransferDomain { op, .. } => domain_transfer_rows(*op),
         Request::PollAck { .. } => MESSAGE_ACKNOWLEDGEMENT,
     }
 }
