@@ -57,13 +57,13 @@ module _ (p : PolicyRules) (r : ℕ) (s : Registry) where
       ∙ sym (ap (λ (b : Bool). cond b (graces p s.clock d.roid d.transferred (account_of r s).lines) (graces_kept d.sponsor (get (view p r s).domains d.name))) e)
 
   -- another's has those that were seen, where this was its sponsor before
-  kept-at : (sponsor : ℕ) (name : List ℕ) (before : Domain) → get s.domains name ≡ Some before
+  pub kept-at : (sponsor : ℕ) (name : List ℕ) (before : Domain) → get s.domains name ≡ Some before
       → graces_kept sponsor (get (view p r s).domains name) ≡ cond (eq_by_cmp nat_cmp before.sponsor sponsor) (graces_of p s before) transfer_alone
   kept-at sponsor name before found =
       ap (graces_kept sponsor) (get-map_values (slice_cmp nat_cmp) nat_list_cmp_total names_apart (λ name. domain_sight p r s None) s.domains name ∙ ap (option_map (domain_sight p r s None)) found)
       ∙ (λ i. cond (eq_by_cmp nat_cmp (sponsor-seen r None (standing_of p s before) before i) sponsor) (graces-seen r None (standing_of p s before) before i) transfer_alone)
 
-  put-by : (d : Domain) (b : Bool) → eq_by_cmp nat_cmp d.sponsor r ≡ b → (b ≡ false → graces_of p s d ≡ graces_kept d.sponsor (get (view p r s).domains d.name)) → graces_of p s d ≡ graces_put p r d (view p r s)
+  pub put-by : (d : Domain) (b : Bool) → eq_by_cmp nat_cmp d.sponsor r ≡ b → (b ≡ false → graces_of p s d ≡ graces_kept d.sponsor (get (view p r s).domains d.name)) → graces_of p s d ≡ graces_put p r d (view p r s)
   put-by d true e h = put-own d e
   put-by d false e h = h refl ∙ sym (ap (λ (b : Bool). cond b (graces p s.clock d.roid d.transferred (account_of r s).lines) (graces_kept d.sponsor (get (view p r s).domains d.name))) e)
 

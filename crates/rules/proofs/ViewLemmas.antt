@@ -205,7 +205,7 @@ account_of-with_account r other f s =
 -- ---- an account whose lines stay
 
 module _ (p : PolicyRules) (r q : ℕ) (f : Account → Account) (keeps : (a : Account) → (f a).lines ≡ a.lines) (s : Registry) where
-  lines-kept : (k : ℕ) → (account_of k (with_account q f s)).lines ≡ (account_of k s).lines
+  pub lines-kept : (k : ℕ) → (account_of k (with_account q f s)).lines ≡ (account_of k s).lines
   lines-kept k = ap (λ (a : Account). a.lines) (account_of-with_account k q f s) ∙ by (eq_by_cmp nat_cmp k q)
     where
       by : (b : Bool) → (cond b (f (account_of k s)) (account_of k s)).lines ≡ (account_of k s).lines

@@ -83,7 +83,7 @@ fn contact_transferred(
 fn contact_after(op: TransferOp, after: Transfer, contact: &Contact) -> Result<Contact, AllocError>
     ensures { IfOk result (λ put. put ≡ spec.contact_after op after contact.now) }
 {
-    let mut contact = contact.clone()?;
+    let mut contact = contact.copy()?;
     if matches!(op, TransferOp::Approve) {
         return Ok(hand_over_contact(contact, after));
     }

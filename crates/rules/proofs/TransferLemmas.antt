@@ -1,0 +1,186 @@
+-- What operations on transfers change: it can be told from what is seen, keeps a registry well formed,
+-- and puts nothing that is due.
+use Rattle.std.proofs.Common.{◌≡◌, ◌≢◌, ◌⊎◌, inl, inr, ℕ, ◌<◌, ◌≤◌, Bool, true, false, cond, not, ◌&&◌, ◌||◌, nat_lt, nat_le, map, List, [], ◌∷◌, Option, Some, None, is_some, option_and_then, option_map, refl, sym, ap, subst, ◌∙◌, arith}
+use Rattle.std.proofs.lemmas.Bool.Decides.{nat_tests}
+use Rattle.std.proofs.lemmas.Bool.{and_parts}
+use Rattle.std.specs.List.{list_any}
+use Rattle.std.specs.Cmp.{Equal-is}
+use Rattle.std.specs.FinMap.{get}
+use Rattle.std.specs.Ordering.{eq_by_cmp, nat_cmp}
+use Rattle.accounts.specs.declared.account.Account.{Account}
+use Rattle.accounts.specs.Account.{with_command}
+use Rattle.accounts.specs.declared.line.Line.{Line}
+use Rattle.accounts.specs.declared.line.LineKind.{LineKind}
+use Rattle.accounts.specs.declared.line.LineKind.TheVariants as kinds
+use Rattle.accounts.specs.declared.line.TransferRefund.{TransferRefund}
+use Rattle.accounts.specs.declared.line.TransferStart.{TransferStart}
+use Rattle.accounts.specs.declared.entries.LapseEntry.TheVariants.{Start}
+use Rattle.accounts.specs.Entries.{entered}
+use Rattle.accounts.specs.LineChanges.{start-elsewhere, start-stays, unasked}
+use Rattle.accounts.specs.Lines.{in_order, is_for_transfer, is_kind, is_on, is_same_roid, transfer_refunded, transfer_started, waits}
+use Rattle.accounts.proofs.LineLaws.{same-roids}
+use Rattle.basis.specs.Bag.{remade}
+use Rattle.basis.proofs.BagLaws.{any-bag_of}
+use Rattle.lifecycle.specs.declared.change.AccountChange.TheVariants.{Lapse, RefundTransfer, Tell}
+use Rattle.lifecycle.specs.declared.change.Notification.{Notification}
+use Rattle.lifecycle.specs.Changes.{changed as account_changed, told_by_command}
+use Rattle.lifecycle.specs.Graces.{gives, graces, period_of, runs, runs_from}
+use Rattle.lifecycle.specs.Lapse.{contact_handed_over, gained, handed_over}
+use Rattle.lifecycle.specs.Transfers.{ended, requested}
+use Rattle.objects.specs.declared.contact.Contact.{Contact}
+use Rattle.objects.specs.declared.domain.Deletion.{Deletion}
+use Rattle.objects.specs.declared.domain.Domain.{Domain}
+use Rattle.objects.specs.declared.grace.Graces.{Graces}
+use Rattle.objects.specs.declared.roid.Roid.{Roid}
+use Rattle.objects.specs.declared.transfer.Transfer.{Transfer}
+use Rattle.objects.specs.declared.transfer.TransferState.{TransferState}
+use Rattle.objects.specs.declared.transfer.TransferState.TheVariants.{ClientApproved}
+use Rattle.objects.specs.Transfers.{is_pending, is_pending_state}
+use Rattle.policy.specs.Rules.{PolicyRules, IsRegistrar, IsSound}
+use Rattle.model.specs.Registry.{Registry, account_of}
+use Rattle.model.specs.Standing.{graces_of}
+use Rattle.model.specs.View.{view}
+use Rattle.model.specs.WellFormed.{HasBeen, HasLines, IsAfter, IsDeletion, IsLastTransfer, IsRegistry, IsTransfer}
+use Rattle.rules.specs.declared.change.Change.TheVariants.{PutContact, PutDomain, Give}
+use Rattle.rules.specs.Changes.{changed, with_account}
+use Rattle.rules.specs.Lapsing.{gift}
+use Rattle.rules.specs.Transfers.{contact_with_transfer, domain_with_transfer}
+use Rattle.rules.proofs.HandedOver.{graces-handed-over, requester-elsewhere, transfer_alone}
+use Rattle.rules.proofs.KeepingLemmas.{kept-account}
+use Rattle.rules.proofs.LineEntryLemmas.{AsksFor, test-elsewhere}
+use Rattle.rules.proofs.StandInLemmas.{kept-put-contact, kept-put-domain}
+use Rattle.rules.proofs.ViewLemmas.{KeepsGraces, Meets, account_of-with_account, graces_kept, graces_put, lines-kept, own, same_number}
+use Rattle.rules.proofs.MeetingLemmas.{eq-self, kept-at, put-again, put-by}
+
+-- ---- graces that a gift leaves
+
+-- a message gives no graces
+pub told-keeps : (p : PolicyRules) (q : ℕ) (n : Notification) (s : Registry) → KeepsGraces p q (account_changed p (Tell n)) s
+told-keeps p q n s = λ name d at own. refl
+
+none-of : (o : Option ℕ) → not (is_some o) ≡ true → o ≡ None
+none-of None e = refl
+none-of (Some m) e = absurd (let never : false ≡ true = e in cc)
+
+no-grace : (k o n : Bool) → (k && (o && (n && false))) ≡ false
+no-grace true true true = refl
+no-grace true true false = refl
+no-grace true false n = refl
+no-grace false o n = refl
+
+any-map : {A : Type 0} (test : A → Bool) (f : A → A) → ((x : A) → test (f x) ≡ test x) → (xs : List A) → list_any test (map f xs) ≡ list_any test xs
+any-map test f same [] = refl
+any-map test f same (x ∷ xs) = λ i. same x i || any-map test f same xs i
+
+module _ (p : PolicyRules) (t : ℕ) (roid : Roid) (since : Option ℕ) where
+  abbrev gives_now : LineKind → Line → Bool
+  gives_now kind l = gives kind p t roid since l
+
+  -- a charge whose grace hasn't begun gives none
+  begun-not : (kind : LineKind) (l : Line) → l.started ≡ None → gives_now kind l ≡ false
+  begun-not kind l e =
+      ap (λ (started : Option ℕ). is_kind l.kind kind && (is_on roid l && (not (is_some l.refunded) && runs_from p t since started (period_of l.kind)))) e
+      ∙ no-grace (is_kind l.kind kind) (is_on roid l) (not (is_some l.refunded))
+
+  refund-same : (x : TransferRefund) (kind : LineKind) (l : Line) → gives_now kind (transfer_refunded x l) ≡ gives_now kind l
+  refund-same x kind l = by (waits x.roid l) refl
+    where
+      by : (b : Bool) → waits x.roid l ≡ b → gives_now kind (cond b (record l { refunded = Some x.moment }) l) ≡ gives_now kind l
+      by true w =
+          let none : l.started ≡ None = none-of l.started (and_parts (is_for_transfer x.roid l) (not (is_some l.started)) w).1 in
+          begun-not kind (record l { refunded = Some x.moment }) none ∙ sym (begun-not kind l none)
+      by false w = refl
+
+  asks-for : (kind : LineKind) → AsksFor roid (gives_now kind)
+  asks-for kind l off = unasked (is_kind l.kind kind) (is_on roid l) (not (is_some l.refunded) && runs_from p t since l.started (period_of l.kind)) off
+
+  any-same : (kind : LineKind) (f : Line → Line) → ((l : Line) → gives_now kind (f l) ≡ gives_now kind l) → (ls : List Line) → list_any (gives_now kind) (remade in_order f ls) ≡ list_any (gives_now kind) ls
+  any-same kind f same ls = any-bag_of in_order (gives_now kind) (map f ls) ∙ any-map (gives_now kind) f same ls
+
+  -- lines made anew that give what they gave
+  graces-same : (f : Line → Line) → ((kind : LineKind) (l : Line) → gives_now kind (f l) ≡ gives_now kind l) → (ls : List Line) → graces p t roid since (remade in_order f ls) ≡ graces p t roid since ls
+  unfolding graces
+  graces-same f same ls = λ i. record {
+    add = any-same kinds.Create f (same kinds.Create) ls i;
+    auto_renew = any-same kinds.AutoRenew f (same kinds.AutoRenew) ls i;
+    renew = any-same kinds.Renew f (same kinds.Renew) ls i;
+    transfer = any-same kinds.Transfer f (same kinds.Transfer) ls i;
+  }
+
+  -- the refund of a charge that waits ends no grace
+  pub graces-refunded : (x : TransferRefund) (ls : List Line) → graces p t roid since (remade in_order (transfer_refunded x) ls) ≡ graces p t roid since ls
+  graces-refunded x ls = graces-same (transfer_refunded x) (refund-same x) ls
+
+  -- what begins on another domain begins none on this one
+  pub graces-elsewhere : (x : TransferStart) → is_same_roid x.roid roid ≡ false → (ls : List Line) → graces p t roid since (remade in_order (transfer_started x) ls) ≡ graces p t roid since ls
+  graces-elsewhere x apart ls = graces-same (transfer_started x) (λ kind. test-elsewhere roid x.roid (gives_now kind) (asks-for kind) apart (transfer_started x) (start-elsewhere x) (start-stays x)) ls
+
+pub refund-keeps : (p : PolicyRules) (q : ℕ) (x : TransferRefund) (s : Registry) → KeepsGraces p q (account_changed p (RefundTransfer x)) s
+refund-keeps p q x s = λ name d at own. graces-refunded p s.clock d.roid d.transferred x (account_of q s).lines
+
+-- ---- a domain that is handed over, as its last sponsor sees it
+
+not-same : (a b : ℕ) → a ≢ b → eq_by_cmp nat_cmp a b ≡ false
+not-same a b apart = by (eq_by_cmp nat_cmp a b) refl
+  where
+    by : (c : Bool) → eq_by_cmp nat_cmp a b ≡ c → eq_by_cmp nat_cmp a b ≡ false
+    by true e = absurd (apart (same_number a b e))
+    by false e = e
+
+module _ (p : PolicyRules) (sound : IsSound p) (r : ℕ) (s : Registry) (is : IsRegistry p s) (lines : HasLines p s) (name : List ℕ) (d : Domain) (at : get s.domains name ≡ Some d)
+    (y : Transfer) (last : d.transfer ≡ Some y) (pending : is_pending_state y.state ≡ true) where
+  abbrev counted : Registry
+  counted = with_account r with_command s
+
+  -- the transfer, approved now
+  abbrev x : Transfer
+  x = ended ClientApproved s.clock y
+
+  abbrev years : ℕ
+  years = gained d s.clock
+
+  abbrev start : TransferStart
+  start = record { roid = d.roid; moment = s.clock; years = years }
+
+  lines-counted : (k : ℕ) → (account_of k counted).lines ≡ (account_of k s).lines
+  lines-counted k = lines-kept p r r with_command (λ a. refl) s k
+
+  other-sponsor : y.requester ≢ d.sponsor
+  other-sponsor = requester-elsewhere p s is lines name d y at last pending
+
+  -- the requester's other domains have the graces that they had
+  pub start-keeps : KeepsGraces p y.requester (account_changed p (Lapse (Start start))) counted
+  start-keeps n e found own = by (is_same_roid d.roid e.roid) refl
+    where
+      by : (b : Bool) → is_same_roid d.roid e.roid ≡ b
+          → graces p s.clock e.roid e.transferred (remade in_order (transfer_started start) (account_of y.requester counted).lines) ≡ graces p s.clock e.roid e.transferred (account_of y.requester counted).lines
+      by true same =
+          let one : n ≡ name = is.domain_roids n name e d found at (sym (same-roids d.roid e.roid same)) in
+          let alike : Some e ≡ Some d = sym found ∙ ap (get s.domains) one ∙ at in
+          let it : e ≡ d = cc in
+          absurd (other-sponsor (sym own ∙ ap (λ (z : Domain). z.sponsor) it))
+      by false apart = graces-elsewhere p s.clock e.roid e.transferred start apart (account_of y.requester counted).lines
+
+  -- the registry once the grace of the transfer has begun
+  abbrev begun : Registry
+  begun = changed p (Give y.requester (Lapse (Start start))) counted
+
+  abbrev handed : Domain
+  handed = handed_over x years d
+
+  lines-begun : (account_of y.requester begun).lines ≡ remade in_order (transfer_started start) (account_of y.requester s).lines
+  lines-begun =
+      ap (λ (a : Account). a.lines) (account_of-with_account y.requester y.requester (entered (Start start)) counted
+      ∙ ap (λ (b : Bool). cond b (entered (Start start) (account_of y.requester counted)) (account_of y.requester counted)) (eq-self y.requester))
+      ∙ ap (remade in_order (transfer_started start)) (lines-counted y.requester)
+
+  -- its requester sees it by its own lines, and any other with the grace of the transfer alone
+  pub handed-meets : Meets p r (PutDomain handed) begun
+  handed-meets = put-by p r begun handed (eq_by_cmp nat_cmp y.requester r) refl (λ other.
+      ap (graces p s.clock d.roid (Some s.clock)) lines-begun
+      ∙ graces-handed-over p s is lines name d y at last pending sound years
+      ∙ sym (kept-at p r begun y.requester d.name d there
+      ∙ ap (λ (b : Bool). cond b (graces_of p begun d) transfer_alone) (not-same d.sponsor y.requester (λ same. other-sponsor (sym same)))))
+    where
+      there : get s.domains d.name ≡ Some d
+      there = ap (get s.domains) (is.domains name d at).named ∙ at
