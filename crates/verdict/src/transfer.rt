@@ -188,7 +188,7 @@ impl Case<'_> {
     pub(crate) fn strangers_secret_is_wrong(&self) -> bool
         ensures { result ≡ conditions.strangers_secret_is_wrong self.now.caller self.now.request.now self.now.facts.now }
     {
-        !self.is_involved() && self.request.secret().is_some() && !self.presents_secret()
+        !self.is_involved() && self.request.secret().is_some() && self.secret_is_not_right()
     }
 
     /// Whether the caller asked for the last transfer.
