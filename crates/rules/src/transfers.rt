@@ -108,10 +108,29 @@ pub(crate) fn transfer_domain(
         return Ok(Vec::new(alloc));
     };
     let domain = &known.domain;
-    let Some(after) = transfer_after(op, caller, domain.sponsor, domain.transfer, moment, policy)
-    else {
-        return Ok(Vec::new(alloc));
-    };
+    let after = transfer_after(op, caller, domain.sponsor, domain.transfer, moment, policy);
+    match after {
+        Some(after) => domain_transferred(
+            alloc, facts, caller, op, request, after, domain, moment, policy,
+        ),
+        None => Ok(Vec::new(alloc)),
+    }
+}
+
+/// A domain whose transfer stands so after the operation.
+fn domain_transferred(
+    alloc: Global,
+    facts: &Facts,
+    caller: RegistrarNo,
+    op: TransferOp,
+    request: &Request,
+    after: Transfer,
+    domain: &Domain,
+    moment: Moment,
+    policy: &Policy,
+) -> Result<Vec<Change>, AllocError>
+    ensures { IfOk result (λ changes. changes.items ≡ spec.domain_transferred policy.now caller moment op request.now facts.now after domain.now) }
+{
     match op {
         TransferOp::Request => {
             let line = transfer_line(domain.roid, request, facts, moment, policy);
@@ -120,24 +139,12 @@ pub(crate) fn transfer_domain(
         TransferOp::Query => Ok(Vec::new(alloc)),
         TransferOp::Approve => domain_approved(alloc, after, domain, moment),
         TransferOp::Reject => {
-            let told = tell(
-                after.requester,
-                moment,
-                CommandNotice::TransferRejected,
-                &domain.name,
-                Subject::Domain,
-            )?;
-            domain_kept(alloc, after, domain, told, moment)
+            let (registrar, notice) = (after.requester, CommandNotice::TransferRejected);
+            domain_kept(alloc, registrar, notice, after, domain, moment)
         }
         TransferOp::Cancel => {
-            let told = tell(
-                after.losing_registrar,
-                moment,
-                CommandNotice::TransferCancelled,
-                &domain.name,
-                Subject::Domain,
-            )?;
-            domain_kept(alloc, after, domain, told, moment)
+            let (registrar, notice) = (after.losing_registrar, CommandNotice::TransferCancelled);
+            domain_kept(alloc, registrar, notice, after, domain, moment)
         }
     }
 }
@@ -215,16 +222,18 @@ fn domain_approved(
     Ok(vec![in alloc; begun, Change::PutDomain(domain), told]?)
 }
 
-/// The domain stays, and its requester gets its charge back.
+/// The domain stays, its requester gets its charge back, and a registrar is told.
 fn domain_kept(
     alloc: Global,
+    registrar: RegistrarNo,
+    notice: CommandNotice,
     after: Transfer,
     domain: &Domain,
-    told: Change,
     moment: Moment,
 ) -> Result<Vec<Change>, AllocError>
-    ensures { IfOk result (λ changes. changes.items ≡ Change.PutDomain (spec.domain_with_transfer after domain.now) ∷ spec.give_back after.requester moment domain.now.roid ∷ told ∷ []) }
+    ensures { IfOk result (λ changes. changes.items ≡ Change.PutDomain (spec.domain_with_transfer after domain.now) ∷ spec.give_back after.requester moment domain.now.roid ∷ spec.tell registrar moment notice domain.now.name Subject.Domain ∷ []) }
 {
+    let told = tell(registrar, moment, notice, &domain.name, Subject::Domain)?;
     let refund = TransferRefund {
         roid: domain.roid,
         moment,
