@@ -19,3 +19,4 @@ pub mod LapsedLemmas
 pub mod SettledLemmas
 pub mod HandedOver
 pub mod LineEntryLemmas
+pub mod LineLapseLemmas
