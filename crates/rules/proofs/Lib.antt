@@ -20,3 +20,4 @@ pub mod SettledLemmas
 pub mod HandedOver
 pub mod LineEntryLemmas
 pub mod LineLapseLemmas
+pub mod LineTimeLemmas

@@ -60,7 +60,8 @@ due-later t x e pending = by (nat_le x.ac_date t) refl ((λ i. let o : Option Tr
 
 -- ---- the turns of a domain
 
-abbrev renewal_at : PolicyRules → Domain → ℕ → AutoRenewal
+-- the turn's charge
+abbrev pub renewal_at : PolicyRules → Domain → ℕ → AutoRenewal
 renewal_at p d k = record { roid = d.roid; moment = plus_years d.created (d.years + k); cents = p.prices.renew }
 
 -- none begins after a moment by which all turns come
