@@ -21,3 +21,4 @@ pub mod HandedOver
 pub mod LineEntryLemmas
 pub mod LineLapseLemmas
 pub mod LineTimeLemmas
+pub mod LineKeepingLemmas
