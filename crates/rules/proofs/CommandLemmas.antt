@@ -170,11 +170,11 @@ module _ (p : PolicyRules) (r : ℕ) (cl_trid : Option (List ℕ)) (s : Registry
       abbrev given : Roid
       given = new_roid kind r (facts p r (Asked cl_trid request) s)
 
-      has-given : HasRoid p numbered_too kind given
+      pub has-given : HasRoid p numbered_too kind given
       has-given = record { kind_is = refl; creator = place; serial = omega (arith, serial-after) }
 
       -- no object has it yet
-      ungiven : (other : ObjectKind) (roid : Roid) → HasRoid p s other roid → roid ≢ given
+      pub ungiven : (other : ObjectKind) (roid : Roid) → HasRoid p s other roid → roid ≢ given
       ungiven other roid has same =
           let at : roid.serial ≤ (account_of r s).serial = subst (λ (q : ℕ). roid.serial ≤ (account_of q s).serial) (ap (λ (x : Roid). x.creator) same) has.serial in
           let next : roid.serial ≡ saturating_next (account_of r s).serial = ap (λ (x : Roid). x.serial) same in

@@ -22,3 +22,4 @@ pub mod LineEntryLemmas
 pub mod LineLapseLemmas
 pub mod LineTimeLemmas
 pub mod LineKeepingLemmas
+pub mod LineCommandLemmas

@@ -122,7 +122,7 @@ module _ (s : Registry) (r : ℕ) (f : Account → Account) where
       by true own = keeps (sym (same_number q r own)) h
       by false other = h
 
-  rises : ((a : Account) → a.serial ≤ (f a).serial) → (q : ℕ) → (account_of q s).serial ≤ (account_of q (with_account r f s)).serial
+  pub rises : ((a : Account) → a.serial ≤ (f a).serial) → (q : ℕ) → (account_of q s).serial ≤ (account_of q (with_account r f s)).serial
   rises more q = subst (λ (a : Account). (account_of q s).serial ≤ a.serial) (sym (account_of-with_account q r f s)) (by (eq_by_cmp nat_cmp q r))
     where
       by : (b : Bool) → (account_of q s).serial ≤ (cond b (f (account_of q s)) (account_of q s)).serial
