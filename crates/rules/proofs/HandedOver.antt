@@ -23,7 +23,7 @@ use Rattle.policy.specs.declared.days.Period.{Period}
 use Rattle.policy.specs.declared.days.Period.TheVariants as periods
 use Rattle.policy.specs.Rules.{PolicyRules, IsSound}
 use Rattle.model.specs.Registry.{Registry, account_of}
-use Rattle.model.specs.WellFormed.{HasLines, HasLinesOn, IsAwaited, IsAwaitedIfPending, IsLastTransfer, IsLater, IsRegistry, begins_after, charges_waiting, is_begun_after}
+use Rattle.model.specs.WellFormed.{HasLines, HasLinesOn, IsAwaited, IsAwaitedIfPending, IsLastTransfer, IsLater, HasObjects, begins_after, charges_waiting, is_begun_after}
 use Rattle.model.proofs.LineLemmas.{any-of-one, none-remade, none-weaker}
 
 -- ---- one line
@@ -163,7 +163,7 @@ module _ (p : PolicyRules) (s : Registry) (d : Domain) (x : Transfer) (on : HasL
     }
 
 -- The domain at a name, of which a transfer is pending.
-module _ (p : PolicyRules) (s : Registry) (objects : IsRegistry p s) (lines : HasLines p s) (name : List ℕ) (d : Domain) (x : Transfer)
+module _ (p : PolicyRules) (s : Registry) (objects : HasObjects p s) (lines : HasLines p s) (name : List ℕ) (d : Domain) (x : Transfer)
     (at : get s.domains name ≡ Some d) (is : d.transfer ≡ Some x) (pending : is_pending_state x.state ≡ true) where
   requested-before : x.requested ≤ s.clock
   requested-before = (subst (IsLastTransfer p s d.created d.transferred) is (objects.domains name d at).transfer).requested

@@ -63,7 +63,7 @@ use Rattle.model.specs.LapseLaws.{IsSettled}
 use Rattle.model.specs.Objects.{object_at, object_ordered}
 use Rattle.model.specs.Registry.{Registry, account_of}
 use Rattle.model.specs.View.{domain_sight}
-use Rattle.model.specs.WellFormed.{HasBeen, HasLines, HasLinesOn, HasRoid, IsDeletion, IsLineOf, IsRegistry, WasGiven, begins_after, charges_waiting, is_begun_after}
+use Rattle.model.specs.WellFormed.{HasBeen, HasLines, HasLinesOn, HasRoid, IsDeletion, IsLineOf, HasObjects, WasGiven, begins_after, charges_waiting, is_begun_after}
 use Rattle.model.proofs.LineLemmas.{count-none, none-by}
 use Rattle.rules.specs.declared.change.Change.{Change}
 use Rattle.rules.specs.declared.change.Change.TheVariants.{PutDomain, Give}
@@ -136,7 +136,7 @@ fit-where p changes s false h = tt
 sponsored : (r : ℕ) (full : FullDomain) → is_anothers {O = FullDomain} {F = DomainFace} domain_sponsor r (Some (Full full)) ≡ false → r ≡ full.domain.sponsor
 sponsored r full own = sym (eqb-true full.domain.sponsor r (not-false (full.domain.sponsor == r) own))
 
-module _ (p : PolicyRules) (r : ℕ) (cl_trid : Option (List ℕ)) (s : Registry) (place : IsRegistrar p r) (is : IsRegistry p s) (has : HasLines p s) (settled : IsSettled p s) where
+module _ (p : PolicyRules) (r : ℕ) (cl_trid : Option (List ℕ)) (s : Registry) (place : IsRegistrar p r) (is : HasObjects p s) (has : HasLines p s) (settled : IsSettled p s) where
   -- the registry once the command is counted
   abbrev counted : Registry
   counted = with_account r with_command s
@@ -322,7 +322,7 @@ module _ (p : PolicyRules) (r : ℕ) (cl_trid : Option (List ℕ)) (s : Registry
       (λ accepted. let never : true ≡ false = sym accepted ∙ refusing p r s.clock q (facts p r (Asked cl_trid q) s) code refused in absurd cc)
 
 -- A registrar's command keeps what is so of lines, where nothing is due.
-pub lines-effect : (p : PolicyRules) (r : ℕ) (c : Command) (s : Registry) → IsRegistrar p r → IsRegistry p s → HasLines p s → IsSettled p s → (account_of r s).serial < 4_611_686_018_427_387_904 → HasLines p (effect p r c s)
+pub lines-effect : (p : PolicyRules) (r : ℕ) (c : Command) (s : Registry) → IsRegistrar p r → HasObjects p s → HasLines p s → IsSettled p s → (account_of r s).serial < 4_611_686_018_427_387_904 → HasLines p (effect p r c s)
 unfolding judged changes_after
 lines-effect p r (Bad cl_trid fault) s place is has settled small = lines-changed_all p (decision p r (Bad cl_trid fault) s).changes s (tt, tt) has
 lines-effect p r (Asked cl_trid q) s place is has settled small =

@@ -31,7 +31,7 @@ use Rattle.objects.specs.declared.transfer.Transfer.{Transfer}
 use Rattle.policy.specs.Rules.{PolicyRules}
 use Rattle.model.specs.Lapse.{Choice, accounts_at, at, contacts_at, domains_at, is_named, lapse as lapse_registry, lapse_if, lapse_one, lapse_some, lapsed, now, only, postings, put_or_drop, swept, with_domain_lapsed}
 use Rattle.model.specs.Registry.{Registry, account_of}
-use Rattle.model.specs.WellFormed.{HasBeen, HasLines, HasLinesOn, HasRoid, IsAwaited, IsAwaitedIfPending, IsLineOf, IsRegistry, WasGiven, begins_after, charges_waiting}
+use Rattle.model.specs.WellFormed.{HasBeen, HasLines, HasLinesOn, HasRoid, IsAwaited, IsAwaitedIfPending, IsLineOf, HasObjects, WasGiven, begins_after, charges_waiting}
 use Rattle.model.proofs.LapseLaws.{lapses-on, left-of, some-lapse-together}
 use Rattle.model.proofs.LineLemmas.{all-weaker, count}
 use Rattle.model.proofs.OneByOneLemmas.{one-lapses}
@@ -172,7 +172,7 @@ module _ (p : PolicyRules) (t : ℕ) (name : List ℕ) (s : Registry) where
 
 -- ---- the registry
 
-module _ (p : PolicyRules) (t : ℕ) (s : Registry) (le : s.clock ≤ t) (objects : IsRegistry p s) (is : HasLines p s) where
+module _ (p : PolicyRules) (t : ℕ) (s : Registry) (le : s.clock ≤ t) (objects : HasObjects p s) (is : HasLines p s) where
   abbrev left : Registry
   left = lapse_registry p t s
 
