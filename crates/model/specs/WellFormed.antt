@@ -166,9 +166,10 @@ pub record HasLines (p : PolicyRules) (s : Registry) : Type 0 where
   pub each : (r : ℕ) → All (IsLineOf p s) (account_of r s).lines
   pub domains : (name : List ℕ) (d : Domain) → get s.domains name ≡ Some d → HasLinesOn s d
 
--- a registry is well formed
-abbrev pub IsRegistry : PolicyRules → Registry → Type 0
-IsRegistry p s = HasObjects p s
+-- a well-formed registry
+pub record IsRegistry (p : PolicyRules) (s : Registry) : Type 0 where
+  pub objects : HasObjects p s
+  pub lines : HasLines p s
 
 -- Counters stay at their greatest value, and two objects would then share a ROID: each counter and
 -- list of an account is far below it.

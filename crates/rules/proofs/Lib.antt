@@ -12,7 +12,6 @@ pub mod DeletionLemmas
 pub mod RestoreLemmas
 pub mod WellFormedLemmas
 pub mod MeetingLemmas
-pub mod IsolationLemmas
 pub mod OrderLemmas
 pub mod PostingLemmas
 pub mod LapsedLemmas
@@ -23,3 +22,5 @@ pub mod LineLapseLemmas
 pub mod LineTimeLemmas
 pub mod LineKeepingLemmas
 pub mod LineCommandLemmas
+pub mod RegistryLemmas
+pub mod IsolationLemmas

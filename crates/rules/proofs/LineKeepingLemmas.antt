@@ -96,10 +96,10 @@ on-as-before s d e same h =
 -- ---- objects are put and taken away
 
 -- domains come and go, each with the lines that it is to have
-pub lines-domains : (p : PolicyRules) (s t : Registry) → Grows p p s t → ((r : ℕ) → (account_of r t).lines ≡ (account_of r s).lines)
-    → ((name : List ℕ) (d : Domain) → get t.domains name ≡ Some d → HasLinesOn s d) → HasLines p s → HasLines p t
-lines-domains p s t grows same on is = record {
-  each = each-grown p p s t grows same is;
+pub lines-domains : (p q : PolicyRules) (s t : Registry) → Grows p q s t → ((r : ℕ) → (account_of r t).lines ≡ (account_of r s).lines)
+    → ((name : List ℕ) (d : Domain) → get t.domains name ≡ Some d → HasLinesOn s d) → HasLines p s → HasLines q t
+lines-domains p q s t grows same on is = record {
+  each = each-grown p q s t grows same is;
   domains = λ name d at. on-same s t same d (on name d at);
 }
 
@@ -135,7 +135,7 @@ module _ (s : Registry) (r : ℕ) (f : Account → Account) where
 -- its counters and its queue change
 pub lines-counted : (p : PolicyRules) (s : Registry) (r : ℕ) (f : Account → Account) → ((a : Account) → (f a).lines ≡ a.lines) → ((a : Account) → a.serial ≤ (f a).serial) → HasLines p s → HasLines p (with_account r f s)
 lines-counted p s r f keeps more is =
-    lines-domains p s (with_account r f s) (account-grows s r f p more) (lines-stay s r f keeps) is.domains is
+    lines-domains p p s (with_account r f s) (account-grows s r f p more) (lines-stay s r f keeps) is.domains is
 
 -- ---- a charge
 
@@ -338,7 +338,7 @@ lines-account p r TakeSerial s fits is = lines-counted p s r (account_changed p 
 -- objects change, and no account does
 lines-objects : (p : PolicyRules) (change : Change) (s : Registry) → Grows p p s (changed p change s) → ((r : ℕ) → (account_of r (changed p change s)).lines ≡ (account_of r s).lines)
     → ((name : List ℕ) (d : Domain) → get (changed p change s).domains name ≡ Some d → HasLinesOn s d) → HasLines p s → HasLines p (changed p change s)
-lines-objects p change s grows same on is = lines-domains p s (changed p change s) grows same on is
+lines-objects p change s grows same on is = lines-domains p p s (changed p change s) grows same on is
 
 still : (p : PolicyRules) (s t : Registry) → s.clock ≤ t.clock → ((r : ℕ) → (account_of r s).serial ≤ (account_of r t).serial) → Grows p p s t
 still p s t clock serial = record { zone = refl; place = λ r place. place; clock = clock; serial = serial }
