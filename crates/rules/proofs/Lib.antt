@@ -24,3 +24,4 @@ pub mod LineKeepingLemmas
 pub mod LineCommandLemmas
 pub mod RegistryLemmas
 pub mod IsolationLemmas
+pub mod LineTransferLemmas

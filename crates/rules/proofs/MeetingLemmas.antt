@@ -41,7 +41,7 @@ use Rattle.model.specs.Registry.{Registry, account_of}
 use Rattle.lifecycle.specs.Graces.{graces}
 use Rattle.model.specs.Standing.{graces_of, standing_of}
 use Rattle.model.specs.View.{domain_sight, view}
-use Rattle.model.specs.WellFormed.{IsRegistry}
+use Rattle.model.specs.WellFormed.{HasObjects, IsRegistry}
 use Rattle.verdict.specs.Deletion.{goes_at_once}
 
 pub eq-self : (a : ℕ) → eq_by_cmp nat_cmp a a ≡ true
@@ -93,7 +93,7 @@ meet-host : (p : PolicyRules) (r t : ℕ) (u : HostUpdate) (seen : Option Host) 
 meet-host p r t u None s = tt
 meet-host p r t u (Some h) s = meet-renaming p r (name_of u.name) (updated_host p.zone r t u h) u.new_name s
 
-module _ (p : PolicyRules) (r : ℕ) (cl_trid : Option (List ℕ)) (s : Registry) (is : IsRegistry p s) where
+module _ (p : PolicyRules) (r : ℕ) (cl_trid : Option (List ℕ)) (s : Registry) (is : HasObjects p s) where
   -- the registry once the command is counted
   abbrev counted : Registry
   counted = with_account r with_command s
@@ -109,7 +109,7 @@ module _ (p : PolicyRules) (r : ℕ) (cl_trid : Option (List ℕ)) (s : Registry
       by (Some (Full known)) e =
           let d : Domain = known.domain in
           let found : get s.domains (name_of u.name) ≡ Some d = domain-full p r s None (get s.domains (name_of u.name)) known (sym e) in
-          let named : d.name ≡ name_of u.name = (is.objects.domains (name_of u.name) d found).named in
+          let named : d.name ≡ name_of u.name = (is.domains (name_of u.name) d found).named in
           let there : get s.domains d.name ≡ Some d = ap (λ (name : List ℕ). get s.domains name) named ∙ found in
           (put-again p r counted d (updated_domain s.clock u d) there refl refl, tt)
       by (Some (TransferParty face transfer)) e = tt
@@ -126,7 +126,7 @@ module _ (p : PolicyRules) (r : ℕ) (cl_trid : Option (List ℕ)) (s : Registry
       by (Some (Full known)) e =
           let d : Domain = known.domain in
           let found : get s.domains (name_of name) ≡ Some d = domain-full p r s None (get s.domains (name_of name)) known (sym e) in
-          let named : d.name ≡ name_of name = (is.objects.domains (name_of name) d found).named in
+          let named : d.name ≡ name_of name = (is.domains (name_of name) d found).named in
           let there : get s.domains d.name ≡ Some d = ap (λ (n : List ℕ). get s.domains n) named ∙ found in
           (put-again p r counted d (renewed_domain s.clock years d) there refl refl, (inl refl, tt))
       by (Some (TransferParty face transfer)) e = tt
@@ -136,7 +136,7 @@ module _ (p : PolicyRules) (r : ℕ) (cl_trid : Option (List ℕ)) (s : Registry
   own-put : (name : GivenName) (d after : Domain) → get s.domains (name_of name) ≡ Some d → after.name ≡ d.name → after.sponsor ≡ d.sponsor → graces_of p counted after ≡ graces_of p counted d
       → Meets p r (PutDomain after) counted
   own-put name d after found called sponsor alike =
-      let named : after.name ≡ name_of name = called ∙ (is.objects.domains (name_of name) d found).named in
+      let named : after.name ≡ name_of name = called ∙ (is.domains (name_of name) d found).named in
       put-again p r counted d after (ap (λ (n : List ℕ). get s.domains n) named ∙ found) sponsor alike
 
   meet-restore : (name : GivenName) → AllMeet p r (restore_changes s.clock (domain_seen (facts p r (Asked cl_trid (requests.RequestRestore name)) s) (name_of name))) counted
@@ -181,7 +181,7 @@ module _ (p : PolicyRules) (r : ℕ) (cl_trid : Option (List ℕ)) (s : Registry
   meet-known name (Some (Full full)) e =
       let d : Domain = full.domain in
       let found : get s.domains (name_of name) ≡ Some d = domain-full p r s None (get s.domains (name_of name)) full e in
-      let named : d.name ≡ name_of name = (is.objects.domains (name_of name) d found).named in
+      let named : d.name ≡ name_of name = (is.domains (name_of name) d found).named in
       let there : get s.domains d.name ≡ Some d = ap (λ (n : List ℕ). get s.domains n) named ∙ found in
       (meet-ending name d there (goes_at_once (Some (Full full))), (inl refl, tt))
   meet-known name (Some (TransferParty face transfer)) e = tt
@@ -220,4 +220,4 @@ module _ (p : PolicyRules) (r : ℕ) (cl_trid : Option (List ℕ)) (s : Registry
 pub meets-decided : (p : PolicyRules) (r : ℕ) (c : Command) (s : Registry) → IsRegistry p s → AllMeet p r (decision p r c s).changes s
 unfolding changes_after
 meets-decided p r (Bad cl_trid fault) s is = (inl refl, tt)
-meets-decided p r (Asked cl_trid q) s is = (inl refl, meet-where p r (counted p r cl_trid s is) (changes_of p r s.clock q (facts p r (Asked cl_trid q) s)) (is_accepted (decision p r (Asked cl_trid q) s).verdict.code) (meets p r cl_trid s is q))
+meets-decided p r (Asked cl_trid q) s is = (inl refl, meet-where p r (counted p r cl_trid s is.objects) (changes_of p r s.clock q (facts p r (Asked cl_trid q) s)) (is_accepted (decision p r (Asked cl_trid q) s).verdict.code) (meets p r cl_trid s is.objects q))
