@@ -98,7 +98,7 @@ pub record IsDomainOf (p : PolicyRules) (s : Registry) (name : List ℕ) (d : Do
 
 -- Exactly the policy's registrars have accounts, each object stands under its name, domains name what
 -- is there, and no two objects of a kind share a ROID.
-pub record IsRegistry (p : PolicyRules) (s : Registry) : Type 0 where
+pub record HasObjects (p : PolicyRules) (s : Registry) : Type 0 where
   pub accounts : (r : ℕ) → IsSome (get s.accounts r) ↔ IsRegistrar p r
   pub contacts : (name : List ℕ) (c : Contact) → get s.contacts name ≡ Some c → IsContactOf p s name c
   pub hosts : (name : List ℕ) (h : Host) → get s.hosts name ≡ Some h → IsHostOf p s name h
@@ -165,6 +165,11 @@ pub record HasLinesOn (s : Registry) (d : Domain) : Type 0 where
 pub record HasLines (p : PolicyRules) (s : Registry) : Type 0 where
   pub each : (r : ℕ) → All (IsLineOf p s) (account_of r s).lines
   pub domains : (name : List ℕ) (d : Domain) → get s.domains name ≡ Some d → HasLinesOn s d
+
+-- a well-formed registry
+pub record IsRegistry (p : PolicyRules) (s : Registry) : Type 0 where
+  pub objects : HasObjects p s
+  pub lines : HasLines p s
 
 -- Counters stay at their greatest value, and two objects would then share a ROID: each counter and
 -- list of an account is far below it.

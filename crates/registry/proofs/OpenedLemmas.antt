@@ -1,7 +1,9 @@
 -- What is opened is a registry of the policy.
-use Rattle.std.proofs.Common.{◌≡◌, ◌↔◌, ◌⊎◌, inl, inr, ⊎_elim, ℕ, zero, suc, ◌+◌, ◌≤◌, Bool, true, false, cond, List, [], ◌∷◌, ◌++◌, length, Some, None, IsSome, is_some, refl, sym, ap, subst, ◌∙◌, arith, length-append}
+use Rattle.std.proofs.Common.{◌≡◌, ◌↔◌, ◌⊎◌, inl, inr, ⊎_elim, ℕ, zero, suc, ◌+◌, ◌≤◌, Bool, true, false, cond, List, [], ◌∷◌, ◌++◌, length, Option, Some, None, IsSome, is_some, refl, sym, ap, subst, ◌∙◌, arith, length-append}
 use lib.ListN.{length-map}
-use Rattle.std.specs.Prelude.{fold}
+use Rattle.std.specs.Prelude.{fold, unwrap_or}
+use Rattle.std.specs.List.{All}
+use Rattle.std.proofs.lemmas.List.Elements.{All-nil}
 use Rattle.std.specs.declared.cmp.Ordering.{Ordering}
 use Rattle.std.specs.Cmp.{nat_cmp_total}
 use Rattle.std.specs.Cmp.Lexicographic.{slice_cmp}
@@ -25,13 +27,14 @@ use Rattle.rules.specs.declared.change.Change.TheVariants.{OpenAccount}
 use Rattle.rules.specs.Changes.{changed, changed_all, itself, with_account}
 use Rattle.rules.proofs.GrowthLemmas.{Grows}
 use Rattle.rules.proofs.KeepingLemmas.{kept-grown, placed}
-use Rattle.rules.proofs.LapsedLemmas.{kept-now}
+use Rattle.rules.proofs.LineKeepingLemmas.{lines-domains}
+use Rattle.rules.proofs.RegistryLemmas.{registry-now}
 use Rattle.rules.proofs.ViewLemmas.{account_of-with_account}
 use Rattle.store.specs.Book.{BookState, Stored}
 use Rattle.model.specs.Lapse.{accounts_at, now, postings}
 use Rattle.model.specs.Registry.{Registry, account_of, blank}
 use Rattle.model.proofs.TermsLemmas.{same-lapse}
-use Rattle.model.specs.WellFormed.{IsRegistry}
+use Rattle.model.specs.WellFormed.{HasLines, HasObjects, IsLineOf, IsRegistry}
 
 -- ---- the accounts, once those of the first n registrars are open
 
@@ -112,8 +115,12 @@ kept-opened p q s zone more is =
       serial = λ r. omega (arith, ap (λ (a : Account). a.serial) (same-account n r s));
     } in
     let places : (r : ℕ) → IsSome (get (accounts-after n s) r) ↔ IsRegistrar p r = λ r.
-    (λ there. ⊎_elim (λ was. grows.place r ((is.accounts r).0 was)) (λ place. place) ((places-after n r s).0 there), λ place. (places-after n r s).1 (inr place)) in
-    subst (IsRegistry p) (sym (changed-openings p n s)) (kept-grown q p s (accounts-after n s) s.clock grows places is)
+    (λ there. ⊎_elim (λ was. grows.place r ((is.objects.accounts r).0 was)) (λ place. place) ((places-after n r s).0 there), λ place. (places-after n r s).1 (inr place)) in
+    let t : Registry = record s { accounts = accounts-after n s } in
+    subst (IsRegistry p) (sym (changed-openings p n s)) (record {
+      objects = kept-grown q p s (accounts-after n s) s.clock grows places is.objects;
+      lines = lines-domains q p s t grows (λ r. ap (λ (a : Account). a.lines) (same-account n r s)) is.lines.domains is.lines;
+    })
 
 -- ---- what was never opened is the registry of a policy without registrars
 
@@ -126,8 +133,8 @@ nothing-at R k x at = let never : None ≡ Some x = sym (get-empty R k) ∙ at i
 nobody-there : (r : ℕ) → IsSome (get blank.accounts r) → ⊥
 nobody-there r there = let never : false ≡ true = sym (ap is_some (get-empty nat_cmp r)) ∙ there in cc
 
-blank-is : (p : PolicyRules) → IsRegistry (without_registrars p) blank
-blank-is p = record {
+no-objects : (p : PolicyRules) → HasObjects (without_registrars p) blank
+no-objects p = record {
   accounts = λ r. (λ there. absurd (nobody-there r there), λ place. absurd (omega (arith, place.0, place.1)));
   contacts = λ name c at. absurd (nothing-at (slice_cmp nat_cmp) name c at);
   hosts = λ name h at. absurd (nothing-at (slice_cmp nat_cmp) name h at);
@@ -136,6 +143,16 @@ blank-is p = record {
   host_roids = λ a b x y at-a at-b same. absurd (nothing-at (slice_cmp nat_cmp) a x at-a);
   domain_roids = λ a b x y at-a at-b same. absurd (nothing-at (slice_cmp nat_cmp) a x at-a);
 }
+
+-- no account, and so no line
+no-lines : (p : PolicyRules) → HasLines (without_registrars p) blank
+no-lines p = record {
+  each = λ r. subst (λ (o : Option Account). All (IsLineOf (without_registrars p) blank) (unwrap_or o empty_account).lines) (sym (get-empty nat_cmp r)) (All-nil (IsLineOf (without_registrars p) blank));
+  domains = λ name d at. absurd (nothing-at (slice_cmp nat_cmp) name d at);
+}
+
+blank-is : (p : PolicyRules) → IsRegistry (without_registrars p) blank
+blank-is p = record { objects = no-objects p; lines = no-lines p }
 
 -- ---- a book is opened
 
@@ -156,7 +173,7 @@ now-kept-opened p q s zone days prices more is =
 held-opened : (p : PolicyRules) (held : Stored) → goes_on (terms_of p) held ≡ true → HoldsRegistry held → IsRegistry p (now p (opened p held).registry)
 held-opened p held fits (inl e) =
     subst (λ (held : Stored). IsRegistry p (now p (opened p held).registry)) (sym e)
-    (now-kept-opened p (without_registrars p) blank refl refl refl (omega arith) (kept-now (without_registrars p) blank (blank-is p)))
+    (now-kept-opened p (without_registrars p) blank refl refl refl (omega arith) (registry-now (without_registrars p) blank (blank-is p)))
 held-opened p held fits (inr before) =
     let q : PolicyRules = before.0 in
     let same : Continues (terms_of p) (terms_of q) = (continues-Decides (terms_of p) (terms_of q)).0 (sym (ap (continues_earlier (terms_of p)) before.1) ∙ fits) in

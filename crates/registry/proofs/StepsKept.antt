@@ -1,25 +1,25 @@
 -- A step of the rules leaves a well formed registry.
-use Rattle.std.proofs.Common.{◌≡◌, ℕ, Result, Ok, Err, IfOk, OnOk, sym, subst, arith}
+use Rattle.std.proofs.Common.{◌≡◌, ℕ, max, Result, Ok, Err, IfOk, OnOk, sym, subst, arith}
 use Rattle.policy.specs.Rules.{PolicyRules, IsRegistrar}
 use Rattle.registry.specs.Execution.{IsGreetingStep, IsOrderStep, IsStep}
 use Rattle.registry.specs.WellFormed.{KeepsWellFormed, StaysWellFormed}
 use Rattle.rules.specs.Orders.{order_effect}
 use Rattle.rules.specs.Steps.{effect}
-use Rattle.rules.proofs.LapsedLemmas.{kept-lapsed, kept-now, serial-lapsed}
-use Rattle.rules.proofs.OrderLemmas.{kept-order}
-use Rattle.rules.proofs.WellFormedLemmas.{kept-effect}
+use Rattle.rules.proofs.LapsedLemmas.{serial-lapsed}
+use Rattle.rules.proofs.RegistryLemmas.{registry-effect, registry-lapsed, registry-now, registry-order}
 use Rattle.protocol.specs.declared.code.Code.{Code}
 use Rattle.protocol.specs.declared.command.Command.{Command}
 use Rattle.protocol.specs.declared.order.Order.{Order}
 use Rattle.protocol.specs.declared.reply.Reply.{Reply}
 use Rattle.model.specs.Lapse.{lapsed, now}
 use Rattle.model.specs.Registry.{Registry}
+use Rattle.model.proofs.LapseLaws.{lapsed-is-settled}
 use Rattle.model.specs.WellFormed.{IsRegistry}
 
 stays : (p : PolicyRules) (r : ℕ) (c : Command) (moment : ℕ) (before after : Registry) → IsRegistrar p r → now p after ≡ now p (effect p r c (lapsed p moment before)) → StaysWellFormed p before after
 stays p r c moment before after place left is small =
     let passed : Registry = lapsed p moment before in
-    subst (IsRegistry p) (sym left) (kept-now p (effect p r c passed) (kept-effect p r c passed place (kept-lapsed p moment before is) (omega (arith, (small r).serial, serial-lapsed p moment r before))))
+    subst (IsRegistry p) (sym left) (registry-now p (effect p r c passed) (registry-effect p r c passed place (registry-lapsed p moment before is) (lapsed-is-settled p (max moment before.clock) before) (omega (arith, (small r).serial, serial-lapsed p moment r before))))
 
 pub kept_step : {E : Type 0} (result : Result Reply E) (clean : Type 0) (p : PolicyRules) (r : ℕ) (c : Command) (moment : ℕ) (before after : Registry) → IsRegistrar p r
     → IfOk result (λ reply. clean → IsStep p r c moment before after reply) → OnOk result (clean → StaysWellFormed p before after)
@@ -29,7 +29,7 @@ kept_step (Err e) clean p r c moment before after place step = tt
 kept-after-order : (p : PolicyRules) (order : Order) (moment : ℕ) (before after : Registry) → now p after ≡ now p (order_effect p order (lapsed p moment before)) → KeepsWellFormed p before after
 kept-after-order p order moment before after left is =
     let passed : Registry = lapsed p moment before in
-    subst (IsRegistry p) (sym left) (kept-now p (order_effect p order passed) (kept-order p order passed (kept-lapsed p moment before is)))
+    subst (IsRegistry p) (sym left) (registry-now p (order_effect p order passed) (registry-order p order passed (registry-lapsed p moment before is)))
 
 pub kept_order_step : {E : Type 0} (result : Result Code E) (clean : Type 0) (p : PolicyRules) (order : Order) (moment : ℕ) (before after : Registry)
     → IfOk result (λ code. clean → IsOrderStep p order moment before after code) → OnOk result (clean → KeepsWellFormed p before after)
@@ -38,5 +38,5 @@ kept_order_step (Err e) clean p order moment before after step = tt
 
 pub kept_greeting : {E : Type 0} (result : Result ℕ E) (clean : Type 0) (p : PolicyRules) (moment : ℕ) (before after : Registry)
     → IfOk result (λ date. clean → IsGreetingStep p moment before after date) → OnOk result (clean → KeepsWellFormed p before after)
-kept_greeting (Ok date) clean p moment before after step = λ taken is. subst (IsRegistry p) (sym (step taken).left) (kept-now p (lapsed p moment before) (kept-lapsed p moment before is))
+kept_greeting (Ok date) clean p moment before after step = λ taken is. subst (IsRegistry p) (sym (step taken).left) (registry-now p (lapsed p moment before) (registry-lapsed p moment before is))
 kept_greeting (Err e) clean p moment before after step = tt

@@ -68,7 +68,7 @@ use Rattle.model.specs.Registry.{Registry, account_of}
 use Rattle.model.specs.Standing.{standing_of}
 use Rattle.model.specs.View.{domain_sight}
 use Rattle.verdict.specs.Rules.{refusal_of}
-use Rattle.model.specs.WellFormed.{BelongsTo, HasRoid, IsRegistry}
+use Rattle.model.specs.WellFormed.{BelongsTo, HasRoid, HasObjects}
 
 -- ---- what is seen in full is the object itself
 
@@ -112,16 +112,16 @@ raised-next n small = by (n == 0xFFFF_FFFF_FFFF_FFFF) refl
 account-after : (r : ℕ) (f : Account → Account) (s : Registry) → account_of r (with_account r f s) ≡ f (account_of r s)
 account-after r f s = account_of-with_account r r f s ∙ ap (λ (b : Bool). cond b (f (account_of r s)) (account_of r s)) ((eq_by_cmp_equiv nat_cmp_total).refl r)
 
-module _ (p : PolicyRules) (r : ℕ) (cl_trid : Option (List ℕ)) (s : Registry) (place : IsRegistrar p r) (is : IsRegistry p s) where
+module _ (p : PolicyRules) (r : ℕ) (cl_trid : Option (List ℕ)) (s : Registry) (place : IsRegistrar p r) (is : HasObjects p s) where
   -- the registry once the command is counted
   abbrev after_count : Registry
   after_count = with_account r with_command s
 
-  pub kept-counted : IsRegistry p after_count
+  pub kept-counted : HasObjects p after_count
   kept-counted = kept-account p r with_command (λ a. omega arith) s place is
 
   -- a charge leaves objects and serials
-  pub kept-charged : (line : Line) (t : Registry) → IsRegistry p t → IsRegistry p (with_account r (with_lines (bag_add in_order line)) t)
+  pub kept-charged : (line : Line) (t : Registry) → HasObjects p t → HasObjects p (with_account r (with_lines (bag_add in_order line)) t)
   kept-charged line t well = kept-account p r (with_lines (bag_add in_order line)) (λ a. omega arith) t place well
 
   -- ---- a name that a host is to have (RFC 5732, 3.2.1)
@@ -160,7 +160,7 @@ module _ (p : PolicyRules) (r : ℕ) (cl_trid : Option (List ℕ)) (s : Registry
         by true = omega arith
         by false = omega arith
 
-    kept-numbered : IsRegistry p numbered_too
+    kept-numbered : HasObjects p numbered_too
     kept-numbered = kept-account p r with_serial numbered-rises after_count place kept-counted
 
     serial-after : (account_of r numbered_too).serial ≡ saturating_next (account_of r s).serial
@@ -170,17 +170,17 @@ module _ (p : PolicyRules) (r : ℕ) (cl_trid : Option (List ℕ)) (s : Registry
       abbrev given : Roid
       given = new_roid kind r (facts p r (Asked cl_trid request) s)
 
-      has-given : HasRoid p numbered_too kind given
+      pub has-given : HasRoid p numbered_too kind given
       has-given = record { kind_is = refl; creator = place; serial = omega (arith, serial-after) }
 
       -- no object has it yet
-      ungiven : (other : ObjectKind) (roid : Roid) → HasRoid p s other roid → roid ≢ given
+      pub ungiven : (other : ObjectKind) (roid : Roid) → HasRoid p s other roid → roid ≢ given
       ungiven other roid has same =
           let at : roid.serial ≤ (account_of r s).serial = subst (λ (q : ℕ). roid.serial ≤ (account_of q s).serial) (ap (λ (x : Roid). x.creator) same) has.serial in
           let next : roid.serial ≡ saturating_next (account_of r s).serial = ap (λ (x : Roid). x.serial) same in
           omega (arith, raised-next (account_of r s).serial small)
 
-    pub kept-new-contact : (new : NewContact) → let f : Facts = facts p r (Asked cl_trid (requests.CreateContact new)) s in IsRegistry p (changed_all p (PutContact (new_contact r s.clock f new) ∷ Give r TakeSerial ∷ []) after_count)
+    pub kept-new-contact : (new : NewContact) → let f : Facts = facts p r (Asked cl_trid (requests.CreateContact new)) s in HasObjects p (changed_all p (PutContact (new_contact r s.clock f new) ∷ Give r TakeSerial ∷ []) after_count)
     kept-new-contact new =
         let request : Request = requests.CreateContact new in
         put-contact p numbered_too kept-numbered new.name (new_contact r s.clock (facts p r (Asked cl_trid request) s) new)
@@ -188,7 +188,7 @@ module _ (p : PolicyRules) (r : ℕ) (cl_trid : Option (List ℕ)) (s : Registry
         (λ n x at same. absurd (ungiven kinds.Contact request kinds.Contact x.roid (is.contacts n x at).roid same))
 
     pub kept-new-domain : (new : NewDomain) → let f : Facts = facts p r (Asked cl_trid (requests.CreateDomain new)) s in f.reference_missing ≡ false
-        → IsRegistry p (changed_all p (PutDomain (new_domain r s.clock f new) ∷ Give r TakeSerial ∷ charge lines.Create p r s.clock (new_roid kinds.Domain r f) (requests.CreateDomain new) f ∷ []) after_count)
+        → HasObjects p (changed_all p (PutDomain (new_domain r s.clock f new) ∷ Give r TakeSerial ∷ charge lines.Create p r s.clock (new_roid kinds.Domain r f) (requests.CreateDomain new) f ∷ []) after_count)
     kept-new-domain new linked =
         let request : Request = requests.CreateDomain new in
         kept-charged (charge_line lines.Create p s.clock (given kinds.Domain request) request (facts p r (Asked cl_trid request) s))
@@ -209,7 +209,7 @@ module _ (p : PolicyRules) (r : ℕ) (cl_trid : Option (List ℕ)) (s : Registry
         (λ n x at same. absurd (ungiven kinds.Domain request kinds.Domain x.roid (is.domains n x at).roid same)))
 
     pub kept-new-host : (new : NewHost) → let f : Facts = facts p r (Asked cl_trid (requests.CreateHost new)) s in refusal_of p r s.clock (requests.CreateHost new) f ≡ None
-        → IsRegistry p (changed_all p (PutHost (new_host p.zone r s.clock f new) ∷ Give r TakeSerial ∷ []) after_count)
+        → HasObjects p (changed_all p (PutHost (new_host p.zone r s.clock f new) ∷ Give r TakeSerial ∷ []) after_count)
     kept-new-host new taken =
         let request : Request = requests.CreateHost new in
         let c : Command = Asked cl_trid request in
@@ -226,7 +226,7 @@ module _ (p : PolicyRules) (r : ℕ) (cl_trid : Option (List ℕ)) (s : Registry
   unlinked : (linked : Bool) → linked ≡ false → linked ≢ true
   unlinked linked e f = let never : false ≡ true = sym e ∙ f in absurd cc
 
-  pub kept-contact-deletion : (name : List ℕ) → refusal_of p r s.clock (requests.DeleteContact name) (facts p r (Asked cl_trid (requests.DeleteContact name)) s) ≡ None → IsRegistry p (changed_all p (DropContact name ∷ []) after_count)
+  pub kept-contact-deletion : (name : List ℕ) → refusal_of p r s.clock (requests.DeleteContact name) (facts p r (Asked cl_trid (requests.DeleteContact name)) s) ≡ None → HasObjects p (changed_all p (DropContact name ∷ []) after_count)
   kept-contact-deletion name taken =
       let c : Command = Asked cl_trid (requests.DeleteContact name) in
       let free : is_linked_contact s name ≡ false =
@@ -234,7 +234,7 @@ module _ (p : PolicyRules) (r : ℕ) (cl_trid : Option (List ℕ)) (s : Registry
       ∙ (or_parts (contact_is_linked (requests.DeleteContact name) (facts p r c s)) false (unrefused p r s.clock (requests.DeleteContact name) (facts p r c s) taken conditions.IsLinked (search (inl, inr) depth 20))).0 in
       drop-contact p after_count kept-counted name (λ n d at. unlinked (names_contact name d.links) (value-fails (λ d. names_contact name d.links) s.domains n d at free))
 
-  pub kept-host-deletion : (name : GivenName) → refusal_of p r s.clock (requests.DeleteHost name) (facts p r (Asked cl_trid (requests.DeleteHost name)) s) ≡ None → IsRegistry p (changed_all p (DropHost (name_of name) ∷ []) after_count)
+  pub kept-host-deletion : (name : GivenName) → refusal_of p r s.clock (requests.DeleteHost name) (facts p r (Asked cl_trid (requests.DeleteHost name)) s) ≡ None → HasObjects p (changed_all p (DropHost (name_of name) ∷ []) after_count)
   kept-host-deletion name taken =
       let c : Command = Asked cl_trid (requests.DeleteHost name) in
       let free : is_linked_host s (name_of name) ≡ false =
@@ -247,10 +247,10 @@ module _ (p : PolicyRules) (r : ℕ) (cl_trid : Option (List ℕ)) (s : Registry
   abbrev asked_contact : ContactUpdate → Command
   asked_contact u = Asked cl_trid (requests.UpdateContact u)
 
-  pub kept-contact-update : (u : ContactUpdate) → IsRegistry p (changed_all p (contact_changes s.clock u (contact_seen (facts p r (Asked cl_trid (requests.UpdateContact u)) s) u.name)) after_count)
+  pub kept-contact-update : (u : ContactUpdate) → HasObjects p (changed_all p (contact_changes s.clock u (contact_seen (facts p r (Asked cl_trid (requests.UpdateContact u)) s) u.name)) after_count)
   kept-contact-update u = by (contact_seen (facts p r (asked_contact u) s) u.name) (ap (option_and_then (λ known. known.seen)) (at-itself u.name (contact_facts (lookups p r (asked_contact u) s) (asked_contact u) u.name)))
     where
-      by : (seen : Option (Seen Contact ContactFace)) → seen ≡ option_map (contact_as r None) (get s.contacts u.name) → IsRegistry p (changed_all p (contact_changes s.clock u seen) after_count)
+      by : (seen : Option (Seen Contact ContactFace)) → seen ≡ option_map (contact_as r None) (get s.contacts u.name) → HasObjects p (changed_all p (contact_changes s.clock u seen) after_count)
       by None e = kept-counted
       by (Some (Full o)) e =
           let at : get s.contacts u.name ≡ Some o = contact-full r None (get s.contacts u.name) o (sym e) in
@@ -264,13 +264,13 @@ module _ (p : PolicyRules) (r : ℕ) (cl_trid : Option (List ℕ)) (s : Registry
   asked_domain u = Asked cl_trid (requests.UpdateDomain u)
 
   pub kept-domain-update : (u : DomainUpdate) → refusal_of p r s.clock (requests.UpdateDomain u) (facts p r (Asked cl_trid (requests.UpdateDomain u)) s) ≡ None
-      → IsRegistry p (changed_all p (domain_changes s.clock u (domain_seen (facts p r (Asked cl_trid (requests.UpdateDomain u)) s) (name_of u.name))) after_count)
+      → HasObjects p (changed_all p (domain_changes s.clock u (domain_seen (facts p r (Asked cl_trid (requests.UpdateDomain u)) s) (name_of u.name))) after_count)
   kept-domain-update u taken = by (domain_seen (facts p r (asked_domain u) s) (name_of u.name)) (ap (option_and_then (λ known. known.seen)) (at-itself (name_of u.name) (domain_facts (lookups p r (asked_domain u) s) (asked_domain u) (name_of u.name))))
     where
       linked : (facts p r (asked_domain u) s).reference_missing ≡ false
       linked = unrefused p r s.clock (requests.UpdateDomain u) (facts p r (asked_domain u) s) taken conditions.ReferenceIsMissing (search (inl, inr) depth 20)
 
-      by : (seen : Option (Seen FullDomain DomainFace)) → seen ≡ option_map (domain_sight p r s None) (get s.domains (name_of u.name)) → IsRegistry p (changed_all p (domain_changes s.clock u seen) after_count)
+      by : (seen : Option (Seen FullDomain DomainFace)) → seen ≡ option_map (domain_sight p r s None) (get s.domains (name_of u.name)) → HasObjects p (changed_all p (domain_changes s.clock u seen) after_count)
       by None e = kept-counted
       by (Some (Full known)) e =
           let d : Domain = known.domain in
@@ -291,10 +291,10 @@ module _ (p : PolicyRules) (r : ℕ) (cl_trid : Option (List ℕ)) (s : Registry
   asked_renewal name expires years = Asked cl_trid (requests.RenewDomain name expires years)
 
   pub kept-renewal : (name : GivenName) (expires : List ℕ) (years : ℕ)
-      → IsRegistry p (changed_all p (renewal_changes p r s.clock (requests.RenewDomain name expires years) (facts p r (Asked cl_trid (requests.RenewDomain name expires years)) s) (domain_seen (facts p r (Asked cl_trid (requests.RenewDomain name expires years)) s) (name_of name))) after_count)
+      → HasObjects p (changed_all p (renewal_changes p r s.clock (requests.RenewDomain name expires years) (facts p r (Asked cl_trid (requests.RenewDomain name expires years)) s) (domain_seen (facts p r (Asked cl_trid (requests.RenewDomain name expires years)) s) (name_of name))) after_count)
   kept-renewal name expires years = by (domain_seen (facts p r (asked_renewal name expires years) s) (name_of name)) (ap (option_and_then (λ known. known.seen)) (at-itself (name_of name) (domain_facts (lookups p r (asked_renewal name expires years) s) (asked_renewal name expires years) (name_of name))))
     where
-      by : (seen : Option (Seen FullDomain DomainFace)) → seen ≡ option_map (domain_sight p r s None) (get s.domains (name_of name)) → IsRegistry p (changed_all p (renewal_changes p r s.clock (requests.RenewDomain name expires years) (facts p r (asked_renewal name expires years) s) seen) after_count)
+      by : (seen : Option (Seen FullDomain DomainFace)) → seen ≡ option_map (domain_sight p r s None) (get s.domains (name_of name)) → HasObjects p (changed_all p (renewal_changes p r s.clock (requests.RenewDomain name expires years) (facts p r (asked_renewal name expires years) s) seen) after_count)
       by None e = kept-counted
       by (Some (Full known)) e =
           let d : Domain = known.domain in
@@ -327,7 +327,7 @@ module _ (p : PolicyRules) (r : ℕ) (cl_trid : Option (List ℕ)) (s : Registry
 
   kept-renaming : (u : HostUpdate) (h : Host) → get s.hosts (name_of u.name) ≡ Some h → (given : Option GivenName)
       → holds_of (has_no_superordinate p.zone) (known_new u given) ≡ false → holds_of (superordinate_is_deleted p.zone) (known_new u given) ≡ false
-      → IsRegistry p (changed_all p (renaming (name_of u.name) (host_with u h given) given) after_count)
+      → HasObjects p (changed_all p (renaming (name_of u.name) (host_with u h given) given) after_count)
   kept-renaming u h at None based alive =
       let k = kept-counted.hosts (name_of u.name) h at in
       kept-put-host p after_count kept-counted (name_of u.name) h (host_with u h None) at refl (record { named = refl; roid = k.roid; belongs = k.belongs; created = k.created; updated = omega arith })
@@ -338,7 +338,7 @@ module _ (p : PolicyRules) (r : ℕ) (cl_trid : Option (List ℕ)) (s : Registry
       (undeleted-new (name_of name) alive)
 
   pub kept-host-update : (u : HostUpdate) → refusal_of p r s.clock (requests.UpdateHost u) (facts p r (Asked cl_trid (requests.UpdateHost u)) s) ≡ None
-      → IsRegistry p (changed_all p (host_changes p.zone r s.clock u (host_seen (facts p r (Asked cl_trid (requests.UpdateHost u)) s) (name_of u.name))) after_count)
+      → HasObjects p (changed_all p (host_changes p.zone r s.clock u (host_seen (facts p r (Asked cl_trid (requests.UpdateHost u)) s) (name_of u.name))) after_count)
   kept-host-update u taken = by (host_seen (facts p r (asked_host u) s) (name_of u.name)) (ap (option_and_then (λ known. known.host)) (at-itself (name_of u.name) (host_facts (lookups p r (asked_host u) s) (asked_host u) (name_of u.name))))
     where
       based : holds_of (has_no_superordinate p.zone) (known_new u u.new_name) ≡ false
@@ -347,6 +347,6 @@ module _ (p : PolicyRules) (r : ℕ) (cl_trid : Option (List ℕ)) (s : Registry
       alive : holds_of (superordinate_is_deleted p.zone) (known_new u u.new_name) ≡ false
       alive = unrefused p r s.clock (requests.UpdateHost u) (facts p r (asked_host u) s) taken conditions.SuperordinateIsDeleted (search (inl, inr) depth 20)
 
-      by : (seen : Option Host) → seen ≡ get s.hosts (name_of u.name) → IsRegistry p (changed_all p (host_changes p.zone r s.clock u seen) after_count)
+      by : (seen : Option Host) → seen ≡ get s.hosts (name_of u.name) → HasObjects p (changed_all p (host_changes p.zone r s.clock u seen) after_count)
       by None e = kept-counted
       by (Some h) e = kept-renaming u h (sym e) u.new_name based alive

@@ -26,7 +26,7 @@ use Rattle.protocol.specs.Requests.{holds_of}
 use Rattle.facts.specs.declared.facts.DomainFacts.{DomainFacts}
 use Rattle.facts.specs.Facts.{domain_at, domain_facts, facts, lookups, subordinate}
 use Rattle.model.specs.Registry.{Registry}
-use Rattle.model.specs.WellFormed.{IsRegistry}
+use Rattle.model.specs.WellFormed.{HasObjects}
 use Rattle.verdict.specs.declared.rules.Condition.TheVariants.{HasSubordinates, Shows}
 use Rattle.verdict.specs.Conditions.{domain_seen_shows, is_shown}
 use Rattle.verdict.specs.Deletion.{goes_at_once}
@@ -40,7 +40,7 @@ use Rattle.rules.proofs.KeepingLemmas.{drop-domain, kept-account}
 use Rattle.rules.proofs.NamedLemmas.{name-fails}
 use Rattle.rules.proofs.StandInLemmas.{kept-put-domain}
 
-module _ (p : PolicyRules) (r : ℕ) (cl_trid : Option (List ℕ)) (s : Registry) (place : IsRegistrar p r) (is : IsRegistry p s) (name : GivenName)
+module _ (p : PolicyRules) (r : ℕ) (cl_trid : Option (List ℕ)) (s : Registry) (place : IsRegistrar p r) (is : HasObjects p s) (name : GivenName)
     (taken : refusal_of p r s.clock (DeleteDomain name) (facts p r (Asked cl_trid (DeleteDomain name)) s) ≡ None) where
   abbrev asked : Command
   asked = Asked cl_trid (DeleteDomain name)
@@ -53,7 +53,7 @@ module _ (p : PolicyRules) (r : ℕ) (cl_trid : Option (List ℕ)) (s : Registry
   abbrev known : DomainFacts
   known = domain_facts (lookups p r asked s) asked (name_of name)
 
-  kept : IsRegistry p counted
+  kept : HasObjects p counted
   kept = kept-counted p r cl_trid s place is
 
   -- no host lies below it
@@ -75,7 +75,7 @@ module _ (p : PolicyRules) (r : ℕ) (cl_trid : Option (List ℕ)) (s : Registry
       sym (ap (is_shown domain_seen_shows PendingTransfer) seen) ∙ shown
 
   -- it is gone, or stands deleted
-  kept-ending : (d : Domain) → get s.domains (name_of name) ≡ Some d → is_pending d.transfer ≡ false → (at_once : Bool) → IsRegistry p (changed p (ending at_once s.clock known d) counted)
+  kept-ending : (d : Domain) → get s.domains (name_of name) ≡ Some d → is_pending d.transfer ≡ false → (at_once : Bool) → HasObjects p (changed p (ending at_once s.clock known d) counted)
   kept-ending d at settled true = drop-domain p counted kept (name_of name) alone
   kept-ending d at settled false =
       let k = kept.domains (name_of name) d at in
@@ -93,10 +93,10 @@ module _ (p : PolicyRules) (r : ℕ) (cl_trid : Option (List ℕ)) (s : Registry
       })
 
   -- what is given back leaves objects and serials
-  kept-refunded : (refund : RunningRefund) (t : Registry) → IsRegistry p t → IsRegistry p (with_account r (with_running_refunded p refund) t)
+  kept-refunded : (refund : RunningRefund) (t : Registry) → HasObjects p t → HasObjects p (with_account r (with_running_refunded p refund) t)
   kept-refunded refund t well = kept-account p r (with_running_refunded p refund) (λ a. omega arith) t place well
 
-  kept-known : (seen : Option (Seen FullDomain DomainFace)) → known.seen ≡ seen → IsRegistry p (changed_all p (deletion_changes r s.clock known seen) counted)
+  kept-known : (seen : Option (Seen FullDomain DomainFace)) → known.seen ≡ seen → HasObjects p (changed_all p (deletion_changes r s.clock known seen) counted)
   kept-known None e = kept
   kept-known (Some (Full full)) e =
       let at : get s.domains (name_of name) ≡ Some full.domain = domain-full p r s None (get s.domains (name_of name)) full e in
@@ -105,5 +105,5 @@ module _ (p : PolicyRules) (r : ℕ) (cl_trid : Option (List ℕ)) (s : Registry
   kept-known (Some (TransferParty face transfer)) e = kept
   kept-known (Some (Public face)) e = kept
 
-  pub kept-domain-deletion : IsRegistry p (changed_all p (deletion_at r s.clock (domain_at (facts p r (Asked cl_trid (DeleteDomain name)) s) (name_of name))) (with_account r with_command s))
-  kept-domain-deletion = subst (λ (o : Option DomainFacts). IsRegistry p (changed_all p (deletion_at r s.clock o) counted)) (sym (at-itself (name_of name) known)) (kept-known known.seen refl)
+  pub kept-domain-deletion : HasObjects p (changed_all p (deletion_at r s.clock (domain_at (facts p r (Asked cl_trid (DeleteDomain name)) s) (name_of name))) (with_account r with_command s))
+  kept-domain-deletion = subst (λ (o : Option DomainFacts). HasObjects p (changed_all p (deletion_at r s.clock o) counted)) (sym (at-itself (name_of name) known)) (kept-known known.seen refl)

@@ -24,10 +24,10 @@ pub record Grows (p q : PolicyRules) (s t : Registry) : Type 0 where
   pub serial : (r : ℕ) → (account_of r s).serial ≤ (account_of r t).serial
 
 module _ (p q : PolicyRules) (s t : Registry) (grows : Grows p q s t) where
-  roid-grown : (kind : ObjectKind) (roid : Roid) → HasRoid p s kind roid → HasRoid q t kind roid
+  pub roid-grown : (kind : ObjectKind) (roid : Roid) → HasRoid p s kind roid → HasRoid q t kind roid
   roid-grown kind roid h = record { kind_is = h.kind_is; creator = grows.place _ h.creator; serial = omega (arith, h.serial, grows.serial roid.creator) }
 
-  been-grown : (moment : Option ℕ) → HasBeen s moment → HasBeen t moment
+  pub been-grown : (moment : Option ℕ) → HasBeen s moment → HasBeen t moment
   been-grown None h = tt
   been-grown (Some moment) h = omega (arith, grows.clock)
 

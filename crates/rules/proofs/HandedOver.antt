@@ -1,6 +1,6 @@
 -- A domain that is handed over by a pending transfer begins with the grace of the transfer alone (RFC
 -- 3915, 3.1; RFC 5730, 2.9.3.4).
-use Rattle.std.proofs.Common.{◌≡◌, ◌≢◌, ℕ, ◌≤◌, ◌<◌, ◌==◌, nat_lt, nat_le, Bool, true, false, cond, not, ◌&&◌, List, length, Option, Some, None, is_some, refl, sym, ap, subst, ◌∙◌, arith, eqb-true}
+use Rattle.std.proofs.Common.{◌≡◌, ◌≢◌, ℕ, ◌≤◌, ◌<◌, ◌==◌, nat_lt, nat_le, Bool, true, false, cond, not, ◌&&◌, List, length, Option, Some, None, is_some, refl, ap, subst, ◌∙◌, arith, eqb-true}
 use Rattle.std.specs.FinMap.{get}
 use Rattle.std.specs.List.{filter, list_any}
 use Rattle.std.proofs.lemmas.Bool.{and_parts}
@@ -23,7 +23,7 @@ use Rattle.policy.specs.declared.days.Period.{Period}
 use Rattle.policy.specs.declared.days.Period.TheVariants as periods
 use Rattle.policy.specs.Rules.{PolicyRules, IsSound}
 use Rattle.model.specs.Registry.{Registry, account_of}
-use Rattle.model.specs.WellFormed.{HasLines, HasLinesOn, IsAwaited, IsAwaitedIfPending, IsLastTransfer, IsLater, IsRegistry, begins_after, charges_waiting, is_begun_after}
+use Rattle.model.specs.WellFormed.{HasLines, HasLinesOn, IsAwaited, IsAwaitedIfPending, IsLastTransfer, IsLater, HasObjects, begins_after, charges_waiting, is_begun_after}
 use Rattle.model.proofs.LineLemmas.{any-of-one, none-remade, none-weaker}
 
 -- ---- one line
@@ -163,7 +163,7 @@ module _ (p : PolicyRules) (s : Registry) (d : Domain) (x : Transfer) (on : HasL
     }
 
 -- The domain at a name, of which a transfer is pending.
-module _ (p : PolicyRules) (s : Registry) (objects : IsRegistry p s) (lines : HasLines p s) (name : List ℕ) (d : Domain) (x : Transfer)
+module _ (p : PolicyRules) (s : Registry) (objects : HasObjects p s) (lines : HasLines p s) (name : List ℕ) (d : Domain) (x : Transfer)
     (at : get s.domains name ≡ Some d) (is : d.transfer ≡ Some x) (pending : is_pending_state x.state ≡ true) where
   requested-before : x.requested ≤ s.clock
   requested-before = (subst (IsLastTransfer p s d.created d.transferred) is (objects.domains name d at).transfer).requested

@@ -6,7 +6,7 @@ use Rattle.rules.specs.Changes.{changed_all}
 use Rattle.rules.specs.Decisions.{decided}
 use Rattle.rules.specs.Isolation.{IsIsolated}
 use Rattle.rules.specs.Steps.{answer, decision, effect, reply_of}
-use Rattle.rules.proofs.LapsedLemmas.{kept-lapsed}
+use Rattle.rules.proofs.RegistryLemmas.{registry-lapsed}
 use Rattle.rules.proofs.MeetingLemmas.{meets-decided}
 use Rattle.rules.proofs.SettledLemmas.{settled-effect}
 use Rattle.rules.proofs.ViewLemmas.{AllMeet, same_facts, same_view, same_changed_all}
@@ -36,13 +36,13 @@ same_effect p r c s t here there alike =
 
 -- a command leaves nothing due, so what it leaves is what that is now
 pub effect-is-now : (p : PolicyRules) → IsSound p → (r : ℕ) (c : Command) (moment : ℕ) (s : Registry) → IsRegistry p (lapsed p moment s) → now p (effect p r c (lapsed p moment s)) ≡ effect p r c (lapsed p moment s)
-effect-is-now p sound r c moment s formed = settled-is-now p (effect p r c (lapsed p moment s)) (settled-effect p sound r c (lapsed p moment s) formed (lapsed-is-settled p (max moment s.clock) s))
+effect-is-now p sound r c moment s formed = settled-is-now p (effect p r c (lapsed p moment s)) (settled-effect p sound r c (lapsed p moment s) formed.objects (lapsed-is-settled p (max moment s.clock) s))
 
 pub isolated : (p : PolicyRules) → IsSound p → (r : ℕ) (c : Command) (moment : ℕ) (before after : Registry) (reply : Reply)
     → reply ≡ answer p r c (lapsed p moment before) → now p after ≡ now p (effect p r c (lapsed p moment before)) → IsIsolated p r c moment before after reply
 isolated p sound r c moment before after reply told left = record {
   same_reply = λ other alike. told ∙ sym (same_answer p r c _ _ alike);
-  same_view = λ formed other also alike. ap (view p r) (left ∙ effect-is-now p sound r c moment before (kept-lapsed p moment before formed))
-      ∙ sym (same_effect p r c (lapsed p moment other) (lapsed p moment before) (kept-lapsed p moment other also) (kept-lapsed p moment before formed) alike)
-      ∙ sym (ap (view p r) (effect-is-now p sound r c moment other (kept-lapsed p moment other also)));
+  same_view = λ formed other also alike. ap (view p r) (left ∙ effect-is-now p sound r c moment before (registry-lapsed p moment before formed))
+      ∙ sym (same_effect p r c (lapsed p moment other) (lapsed p moment before) (registry-lapsed p moment other also) (registry-lapsed p moment before formed) alike)
+      ∙ sym (ap (view p r) (effect-is-now p sound r c moment other (registry-lapsed p moment other also)));
 }

@@ -24,13 +24,13 @@ use Rattle.rules.proofs.NameListLemmas.{has_name-filter}
 use Rattle.rules.proofs.NamedLemmas.{drop-cases, drop-keeps, drop-there, is-there, put-cases, put-is, put-keeps, put-there, remade-cases, remade-keeps}
 use Rattle.rules.proofs.ViewLemmas.{account_of-with_account}
 use Rattle.model.specs.Registry.{Registry, account_of}
-use Rattle.model.specs.WellFormed.{IsContactOf, IsDomainOf, IsHostOf, IsRegistry}
+use Rattle.model.specs.WellFormed.{IsContactOf, IsDomainOf, IsHostOf, HasObjects}
 
 -- ---- the clock and the accounts
 
 -- A policy and a registry grow, and the objects stay.
 pub kept-grown : (p q : PolicyRules) (s : Registry) (accounts : FinMap nat_cmp Account) (clock : ℕ) → Grows p q s (record s { accounts = accounts; clock = clock })
-    → ((r : ℕ) → IsSome (get accounts r) ↔ IsRegistrar q r) → IsRegistry p s → IsRegistry q (record s { accounts = accounts; clock = clock })
+    → ((r : ℕ) → IsSome (get accounts r) ↔ IsRegistrar q r) → HasObjects p s → HasObjects q (record s { accounts = accounts; clock = clock })
 kept-grown p q s accounts clock grows places is =
     let t : Registry = record s { accounts = accounts; clock = clock } in
     record {
@@ -59,7 +59,7 @@ placed accounts r a q = by (eq_by_cmp nat_cmp q r) refl (ap is_some (get-insert 
     by false same e = (λ there. inr (sym e ∙ there), ⊎_elim (λ is. absurd (let never : true ≡ false = sym ((eq_by_cmp_equiv nat_cmp_total).refl r) ∙ ap (λ (n : ℕ). eq_by_cmp nat_cmp n r) (sym is) ∙ same in cc)) (λ there. e ∙ there))
 
 -- an account of the policy changes, and its serial doesn't fall
-pub kept-account : (p : PolicyRules) (r : ℕ) (f : Account → Account) → ((a : Account) → a.serial ≤ (f a).serial) → (s : Registry) → IsRegistrar p r → IsRegistry p s → IsRegistry p (with_account r f s)
+pub kept-account : (p : PolicyRules) (r : ℕ) (f : Account → Account) → ((a : Account) → a.serial ≤ (f a).serial) → (s : Registry) → IsRegistrar p r → HasObjects p s → HasObjects p (with_account r f s)
 kept-account p r f rises s place is =
     let accounts : FinMap nat_cmp Account = insert s.accounts r (f (account_of r s)) in
     kept-grown p p s accounts s.clock (record { zone = refl; place = λ q place. place; clock = omega arith; serial = λ q. serial-risen f rises q r s })
@@ -126,7 +126,7 @@ same-time p s contacts hosts domains = record { zone = refl; place = λ r place.
 abbrev pub IsUndeleted : PolicyRules → Registry → List ℕ → Type 0
 IsUndeleted p s host = (n : List ℕ) (d : Domain) → get s.domains n ≡ Some d → IsSome d.deletion → superordinate_of p.zone host ≢ Some d.name
 
-module _ (p : PolicyRules) (s : Registry) (is : IsRegistry p s) where
+module _ (p : PolicyRules) (s : Registry) (is : HasObjects p s) where
   -- the same domain, where contacts and hosts are there that were
   same-domain : (contacts : Contacts) (hosts : Hosts) (domains : Domains) (name : List ℕ) (d : Domain) → IsDomainOf p s name d
       → ((host : List ℕ) → IsSome (get hosts host) → IsSome (get s.hosts host) ⊎ (IsSome d.deletion → superordinate_of p.zone host ≢ Some d.name))
@@ -136,7 +136,7 @@ module _ (p : PolicyRules) (s : Registry) (is : IsRegistry p s) where
   same-domain contacts hosts domains name d of free there-contacts there-hosts =
       domain-grown p p s (with_objects contacts hosts domains s) (same-time p s contacts hosts domains) name d d.links free there-contacts there-hosts of
 
-  pub put-contact : (name : List ℕ) (c : Contact) → IsContactOf p s name c → IsItsOwn contact_roid s.contacts name c.roid → IsRegistry p (changed p (PutContact c) s)
+  pub put-contact : (name : List ℕ) (c : Contact) → IsContactOf p s name c → IsItsOwn contact_roid s.contacts name c.roid → HasObjects p (changed p (PutContact c) s)
   put-contact name c fits own =
       let contacts : Contacts = insert s.contacts c.name c in
       let grows : Grows p p s (changed p (PutContact c) s) = same-time p s contacts s.hosts s.domains in
@@ -151,7 +151,7 @@ module _ (p : PolicyRules) (s : Registry) (is : IsRegistry p s) where
       }
 
   -- a contact that no domain names
-  pub drop-contact : (name : List ℕ) → ((n : List ℕ) (d : Domain) → get s.domains n ≡ Some d → names_contact name d.links ≢ true) → IsRegistry p (changed p (DropContact name) s)
+  pub drop-contact : (name : List ℕ) → ((n : List ℕ) (d : Domain) → get s.domains n ≡ Some d → names_contact name d.links ≢ true) → HasObjects p (changed p (DropContact name) s)
   drop-contact name unnamed =
       let contacts : Contacts = remove s.contacts name in
       let grows : Grows p p s (changed p (DropContact name) s) = same-time p s contacts s.hosts s.domains in
@@ -166,7 +166,7 @@ module _ (p : PolicyRules) (s : Registry) (is : IsRegistry p s) where
         domain_roids = is.domain_roids;
       }
 
-  pub put-host : (name : List ℕ) (h : Host) → IsHostOf p s name h → IsItsOwn host_roid s.hosts name h.roid → IsSome (get s.hosts name) ⊎ IsUndeleted p s name → IsRegistry p (changed p (PutHost h) s)
+  pub put-host : (name : List ℕ) (h : Host) → IsHostOf p s name h → IsItsOwn host_roid s.hosts name h.roid → IsSome (get s.hosts name) ⊎ IsUndeleted p s name → HasObjects p (changed p (PutHost h) s)
   put-host name h fits own free =
       let hosts : Hosts = insert s.hosts h.name h in
       let grows : Grows p p s (changed p (PutHost h) s) = same-time p s s.contacts hosts s.domains in
@@ -185,7 +185,7 @@ module _ (p : PolicyRules) (s : Registry) (is : IsRegistry p s) where
       }
 
   -- a host that no domain names
-  pub drop-host : (name : List ℕ) → ((n : List ℕ) (d : Domain) → get s.domains n ≡ Some d → names_host name d.links ≢ true) → IsRegistry p (changed p (DropHost name) s)
+  pub drop-host : (name : List ℕ) → ((n : List ℕ) (d : Domain) → get s.domains n ≡ Some d → names_host name d.links ≢ true) → HasObjects p (changed p (DropHost name) s)
   drop-host name unnamed =
       let hosts : Hosts = remove s.hosts name in
       let grows : Grows p p s (changed p (DropHost name) s) = same-time p s s.contacts hosts s.domains in
@@ -200,7 +200,7 @@ module _ (p : PolicyRules) (s : Registry) (is : IsRegistry p s) where
         domain_roids = is.domain_roids;
       }
 
-  pub put-domain : (name : List ℕ) (d : Domain) → IsDomainOf p s name d → IsItsOwn domain_roid s.domains name d.roid → IsRegistry p (changed p (PutDomain d) s)
+  pub put-domain : (name : List ℕ) (d : Domain) → IsDomainOf p s name d → IsItsOwn domain_roid s.domains name d.roid → HasObjects p (changed p (PutDomain d) s)
   put-domain name d fits own =
       let domains : Domains = insert s.domains d.name d in
       let grows : Grows p p s (changed p (PutDomain d) s) = same-time p s s.contacts s.hosts domains in
@@ -216,7 +216,7 @@ module _ (p : PolicyRules) (s : Registry) (is : IsRegistry p s) where
       }
 
   -- a domain that no host lies below
-  pub drop-domain : (name : List ℕ) → ((host : List ℕ) → IsSome (get s.hosts host) → superordinate_of p.zone host ≢ Some name) → IsRegistry p (changed p (DropDomain name) s)
+  pub drop-domain : (name : List ℕ) → ((host : List ℕ) → IsSome (get s.hosts host) → superordinate_of p.zone host ≢ Some name) → HasObjects p (changed p (DropDomain name) s)
   drop-domain name alone =
       let domains : Domains = remove s.domains name in
       let grows : Grows p p s (changed p (DropDomain name) s) = same-time p s s.contacts s.hosts domains in
@@ -246,10 +246,10 @@ renamed-listed old new hosts n e = by (has_name hosts old) refl e
     by true is e = ⊎_elim (λ first. inl (sym ((bytes_decides new n).0 first))) (λ rest. inr (kept-listed old hosts n rest)) (or_cases (bytes_eq new n) (has_name (filter (λ host. not (bytes_eq host old)) hosts) n) (sym (any-add (precedes (slice_cmp nat_cmp)) (λ other. bytes_eq other n) new (filter (λ host. not (bytes_eq host old)) hosts)) ∙ e))
     by false is e = inr (λ same. let never : true ≡ false = sym e ∙ ap (has_name hosts) same ∙ is in cc, e)
 
-module _ (p : PolicyRules) (s : Registry) (is : IsRegistry p s) where
+module _ (p : PolicyRules) (s : Registry) (is : HasObjects p s) where
   -- A host goes from one name to another, and domains that named it name it still.
   pub rename-host : (old : List ℕ) (o h : Host) → get s.hosts old ≡ Some o → h.roid ≡ o.roid → IsHostOf p s h.name h → IsUndeleted p s h.name
-      → IsRegistry p (changed p (RenameHost old h.name) (changed p (PutHost h) (changed p (DropHost old) s)))
+      → HasObjects p (changed p (RenameHost old h.name) (changed p (PutHost h) (changed p (DropHost old) s)))
   rename-host old o h at-old same fits free =
       let left : Hosts = remove s.hosts old in
       let hosts : Hosts = insert left h.name h in

@@ -22,7 +22,7 @@ use Rattle.objects.specs.declared.transfer.Transfer.{Transfer}
 use Rattle.policy.specs.Rules.{PolicyRules}
 use Rattle.model.specs.Lapse.{accounts_at, contacts_at, domains_at, lapse as lapse_registry, lapsed, now, postings}
 use Rattle.model.specs.Registry.{Registry, account_of}
-use Rattle.model.specs.WellFormed.{IsContactOf, IsDeletion, IsDomainOf, IsRegistry, IsTransfer}
+use Rattle.model.specs.WellFormed.{IsContactOf, IsDeletion, IsDomainOf, HasObjects, IsTransfer}
 use Rattle.model.proofs.LapseLaws.{lapses-on, left-of}
 use Rattle.model.proofs.SweepLemmas.{left}
 use Rattle.rules.proofs.GrowthLemmas.{Grows, contact-grown, domain-grown, host-grown-below}
@@ -98,7 +98,7 @@ module _ {X : Type 0} (f : List ℕ → X → Lapsed X) (m : FinMap (slice_cmp n
 
 -- ---- objects that lapse by the clock
 
-module _ (p : PolicyRules) (t : ℕ) (s : Registry) (past : t ≤ s.clock) (is : IsRegistry p s) where
+module _ (p : PolicyRules) (t : ℕ) (s : Registry) (past : t ≤ s.clock) (is : HasObjects p s) where
   abbrev after : Registry
   after = record s { contacts = kept (left (λ name. lapse_contact t)) s.contacts; domains = kept (left (λ name. lapse p t)) s.domains }
 
@@ -182,7 +182,7 @@ module _ (p : PolicyRules) (t : ℕ) (s : Registry) (past : t ≤ s.clock) (is :
       let found = there-is (get s.domains name) domain in
       left-there (λ name. lapse p t) s.domains name found.0 found.1 (below-stays host there name found.0 found.1 above found.0.deletion refl)
 
-  kept-objects : IsRegistry p after
+  kept-objects : HasObjects p after
   kept-objects = record {
     accounts = is.accounts;
     contacts = λ name e found. let was = left-of (λ name. lapse_contact t) s.contacts name e found in contact-fits name was.0 e (is.contacts name was.0 was.1) was.2;
@@ -195,11 +195,11 @@ module _ (p : PolicyRules) (t : ℕ) (s : Registry) (past : t ≤ s.clock) (is :
 
 -- ---- a registry that lapses
 
-pub kept-lapse : (p : PolicyRules) (t : ℕ) (s : Registry) → s.clock ≤ t → IsRegistry p s → IsRegistry p (lapse_registry p t s)
+pub kept-lapse : (p : PolicyRules) (t : ℕ) (s : Registry) → s.clock ≤ t → HasObjects p s → HasObjects p (lapse_registry p t s)
 unfolding contacts_at domains_at accounts_at
 kept-lapse p t s le is =
     let posted_to : Registry = record s { accounts = fold posted s.accounts (postings (λ name. lapse_contact t) (λ name. lapse p t) s) } in
-    let with_postings : IsRegistry p posted_to = kept-posted p (postings (λ name. lapse_contact t) (λ name. lapse p t) s) (postings-to p s t is) s is in
+    let with_postings : HasObjects p posted_to = kept-posted p (postings (λ name. lapse_contact t) (λ name. lapse p t) s) (postings-to p s t is) s is in
     let later : Registry = record posted_to { clock = t } in
     kept-objects p t later (omega arith) (kept-grown p p posted_to posted_to.accounts t (record { zone = refl; place = λ r place. place; clock = omega (arith, le); serial = λ r. omega arith }) with_postings.accounts with_postings)
 
@@ -209,11 +209,11 @@ unfolding accounts_at
 serial-lapsed p moment r s = let t : ℕ = max moment s.clock in serial-posted r (postings (λ name. lapse_contact t) (λ name. lapse p t) s) s
 
 -- what is due by its own clock is done
-pub kept-now : (p : PolicyRules) (s : Registry) → IsRegistry p s → IsRegistry p (now p s)
+pub kept-now : (p : PolicyRules) (s : Registry) → HasObjects p s → HasObjects p (now p s)
 kept-now p s is = kept-lapse p s.clock s (omega arith) is
 
 -- time passes; it is enough that what is kept is well formed by its own clock
-pub kept-lapsed : (p : PolicyRules) (moment : ℕ) (s : Registry) → IsRegistry p (now p s) → IsRegistry p (lapsed p moment s)
+pub kept-lapsed : (p : PolicyRules) (moment : ℕ) (s : Registry) → HasObjects p (now p s) → HasObjects p (lapsed p moment s)
 kept-lapsed p moment s is =
     let t : ℕ = max moment s.clock in
-    subst (IsRegistry p) (lapses-on p s.clock t (omega arith) s) (kept-lapse p t (now p s) (omega arith) is)
+    subst (HasObjects p) (lapses-on p s.clock t (omega arith) s) (kept-lapse p t (now p s) (omega arith) is)

@@ -41,7 +41,7 @@ use Rattle.model.specs.Registry.{Registry, account_of}
 use Rattle.lifecycle.specs.Graces.{graces}
 use Rattle.model.specs.Standing.{graces_of, standing_of}
 use Rattle.model.specs.View.{domain_sight, view}
-use Rattle.model.specs.WellFormed.{IsRegistry}
+use Rattle.model.specs.WellFormed.{HasObjects, IsRegistry}
 use Rattle.verdict.specs.Deletion.{goes_at_once}
 
 pub eq-self : (a : ℕ) → eq_by_cmp nat_cmp a a ≡ true
@@ -93,7 +93,7 @@ meet-host : (p : PolicyRules) (r t : ℕ) (u : HostUpdate) (seen : Option Host) 
 meet-host p r t u None s = tt
 meet-host p r t u (Some h) s = meet-renaming p r (name_of u.name) (updated_host p.zone r t u h) u.new_name s
 
-module _ (p : PolicyRules) (r : ℕ) (cl_trid : Option (List ℕ)) (s : Registry) (is : IsRegistry p s) where
+module _ (p : PolicyRules) (r : ℕ) (cl_trid : Option (List ℕ)) (s : Registry) (is : HasObjects p s) where
   -- the registry once the command is counted
   abbrev counted : Registry
   counted = with_account r with_command s
@@ -220,4 +220,4 @@ module _ (p : PolicyRules) (r : ℕ) (cl_trid : Option (List ℕ)) (s : Registry
 pub meets-decided : (p : PolicyRules) (r : ℕ) (c : Command) (s : Registry) → IsRegistry p s → AllMeet p r (decision p r c s).changes s
 unfolding changes_after
 meets-decided p r (Bad cl_trid fault) s is = (inl refl, tt)
-meets-decided p r (Asked cl_trid q) s is = (inl refl, meet-where p r (counted p r cl_trid s is) (changes_of p r s.clock q (facts p r (Asked cl_trid q) s)) (is_accepted (decision p r (Asked cl_trid q) s).verdict.code) (meets p r cl_trid s is q))
+meets-decided p r (Asked cl_trid q) s is = (inl refl, meet-where p r (counted p r cl_trid s is.objects) (changes_of p r s.clock q (facts p r (Asked cl_trid q) s)) (is_accepted (decision p r (Asked cl_trid q) s).verdict.code) (meets p r cl_trid s is.objects q))

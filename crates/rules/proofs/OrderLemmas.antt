@@ -27,29 +27,29 @@ use Rattle.protocol.specs.Orders.{name_ordered}
 use Rattle.model.specs.Objects.{object_at, object_ordered}
 use Rattle.verdict.specs.Orders.{order_code}
 use Rattle.model.specs.Registry.{Registry}
-use Rattle.model.specs.WellFormed.{IsRegistry}
+use Rattle.model.specs.WellFormed.{HasObjects}
 
-module _ (p : PolicyRules) (s : Registry) (is : IsRegistry p s) (o : StatusOrder) where
-  at-contact : (name : List ℕ) (found : Option Contact) → get s.contacts name ≡ found → IsRegistry p (changed_all p (order_changes o (option_map objects.Contact found)) s)
+module _ (p : PolicyRules) (s : Registry) (is : HasObjects p s) (o : StatusOrder) where
+  at-contact : (name : List ℕ) (found : Option Contact) → get s.contacts name ≡ found → HasObjects p (changed_all p (order_changes o (option_map objects.Contact found)) s)
   at-contact name None at = is
   at-contact name (Some c) at = kept-contact-statuses p s is name (ordered o c.statuses) c at
 
-  at-domain : (name : List ℕ) (found : Option Domain) → get s.domains name ≡ found → IsRegistry p (changed_all p (order_changes o (option_map objects.Domain found)) s)
+  at-domain : (name : List ℕ) (found : Option Domain) → get s.domains name ≡ found → HasObjects p (changed_all p (order_changes o (option_map objects.Domain found)) s)
   at-domain name None at = is
   at-domain name (Some d) at = kept-domain-statuses p s is name (ordered o d.statuses) d at
 
-  at-host : (name : List ℕ) (found : Option Host) → get s.hosts name ≡ found → IsRegistry p (changed_all p (order_changes o (option_map objects.Host found)) s)
+  at-host : (name : List ℕ) (found : Option Host) → get s.hosts name ≡ found → HasObjects p (changed_all p (order_changes o (option_map objects.Host found)) s)
   at-host name None at = is
   at-host name (Some h) at = kept-host-statuses p s is name (ordered o h.statuses) h at
 
-  at-name : (kind : ObjectKind) (name : Option (List ℕ)) → IsRegistry p (changed_all p (order_changes o (option_and_then (object_at s kind) name)) s)
+  at-name : (kind : ObjectKind) (name : Option (List ℕ)) → HasObjects p (changed_all p (order_changes o (option_and_then (object_at s kind) name)) s)
   at-name kind None = is
   at-name kinds.Contact (Some name) = at-contact name (get s.contacts name) refl
   at-name kinds.Domain (Some name) = at-domain name (get s.domains name) refl
   at-name kinds.Host (Some name) = at-host name (get s.hosts name) refl
 
   -- a refused order changes nothing
-  at-code : (accepted : Bool) → IsRegistry p (changed_all p (cond accepted (order_changes o (object_ordered p.zone o s)) []) s)
+  at-code : (accepted : Bool) → HasObjects p (changed_all p (cond accepted (order_changes o (object_ordered p.zone o s)) []) s)
   at-code true = at-name o.kind (name_ordered p.zone o)
   at-code false = is
 
@@ -63,15 +63,15 @@ placed k n r false e f = absurd cc
 place_of-is : (p : PolicyRules) (id : List ℕ) (r : ℕ) → place_of id p ≡ Some r → IsRegistrar p r
 place_of-is p id r e = placed (position_or_len (has_id id) p.registrars) (length p.registrars) r (nat_lt (position_or_len (has_id id) p.registrars) (length p.registrars)) refl e
 
-module _ (p : PolicyRules) (s : Registry) (is : IsRegistry p s) where
-  kept-to : (cents : ℕ) (place : Option ℕ) → ((r : ℕ) → place ≡ Some r → IsRegistrar p r) → IsRegistry p (changed_all p (deposited_to s.clock cents place).changes s)
+module _ (p : PolicyRules) (s : Registry) (is : HasObjects p s) where
+  kept-to : (cents : ℕ) (place : Option ℕ) → ((r : ℕ) → place ≡ Some r → IsRegistrar p r) → HasObjects p (changed_all p (deposited_to s.clock cents place).changes s)
   kept-to cents None registrar = is
   kept-to cents (Some r) registrar = kept-account p r (with_lines (add in_order (deposit_line s.clock cents))) (λ a. omega arith) s (registrar r refl) is
 
-  kept-deposit : (id : List ℕ) (cents : Option ℕ) → IsRegistry p (changed_all p (deposited p s.clock id cents).changes s)
+  kept-deposit : (id : List ℕ) (cents : Option ℕ) → HasObjects p (changed_all p (deposited p s.clock id cents).changes s)
   kept-deposit id None = is
   kept-deposit id (Some cents) = kept-to cents (place_of id p) (λ r found. place_of-is p id r found)
 
-pub kept-order : (p : PolicyRules) (order : Order) (s : Registry) → IsRegistry p s → IsRegistry p (order_effect p order s)
+pub kept-order : (p : PolicyRules) (order : Order) (s : Registry) → HasObjects p s → HasObjects p (order_effect p order s)
 kept-order p (orders.Status o) s is = at-code p s is o (is_accepted (order_code o (object_ordered p.zone o s)))
 kept-order p (orders.Deposit id cents) s is = kept-deposit p s is id (cents_of cents)

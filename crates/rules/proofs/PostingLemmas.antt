@@ -24,7 +24,7 @@ use Rattle.objects.specs.Transfers.{is_pending_state}
 use Rattle.policy.specs.Rules.{PolicyRules, IsRegistrar}
 use Rattle.model.specs.Lapse.{postings}
 use Rattle.model.specs.Registry.{Registry, account_of}
-use Rattle.model.specs.WellFormed.{IsLastTransfer, IsRegistry, IsTransfer}
+use Rattle.model.specs.WellFormed.{IsLastTransfer, HasObjects, IsTransfer}
 use Rattle.rules.specs.Changes.{with_account}
 use Rattle.rules.proofs.KeepingLemmas.{kept-account}
 use Rattle.rules.proofs.ViewLemmas.{account_of-with_account}
@@ -93,7 +93,7 @@ module _ (p : PolicyRules) (s : Registry) (t : ℕ) where
   domain-to d None place is = lived-to d (due_by t d.transfer) refl place is
   domain-to d (Some x) place is = purged-to d x (nat_lt t (purge_at p x)) place
 
-  pub postings-to : IsRegistry p s → AreToRegistrars p (postings (λ name. lapse_contact t) (λ name. lapse p t) s)
+  pub postings-to : HasObjects p s → AreToRegistrars p (postings (λ name. lapse_contact t) (λ name. lapse p t) s)
   postings-to is = to-both p (given (λ name c. (lapse_contact t c).postings) s.contacts) (given (λ name d. (lapse p t d).postings) s.domains)
       (to-given p (λ name c. (lapse_contact t c).postings) s.contacts (λ name c at. contact-to c (due_by t c.transfer) refl (is.contacts name c at).transfer))
       (to-given p (λ name d. (lapse p t d).postings) s.domains (λ name d at. let k = is.domains name d at in domain-to d d.deletion k.sponsor k.transfer))
@@ -119,6 +119,6 @@ pub serial-posted : (r : ℕ) (es : List Posting) (s : Registry) → (account_of
 serial-posted r [] s = refl
 serial-posted r (e ∷ es) s = serial-posted r es (with_account e.registrar (entered e.what) s) ∙ serial-entered r e.registrar e.what s
 
-pub kept-posted : (p : PolicyRules) (es : List Posting) → AreToRegistrars p es → (s : Registry) → IsRegistry p s → IsRegistry p (record s { accounts = fold posted s.accounts es })
+pub kept-posted : (p : PolicyRules) (es : List Posting) → AreToRegistrars p es → (s : Registry) → HasObjects p s → HasObjects p (record s { accounts = fold posted s.accounts es })
 kept-posted p [] to s is = is
 kept-posted p (e ∷ es) to s is = kept-posted p es to.1 (with_account e.registrar (entered e.what) s) (kept-account p e.registrar (entered e.what) (serial-stays e.what) s to.0 is)

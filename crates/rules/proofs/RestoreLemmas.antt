@@ -19,19 +19,19 @@ use Rattle.facts.specs.declared.facts.Facts.{Facts}
 use Rattle.facts.specs.Facts.{domain_facts, domain_seen, facts, lookups}
 use Rattle.model.specs.Registry.{Registry}
 use Rattle.model.specs.View.{domain_sight}
-use Rattle.model.specs.WellFormed.{IsDeletion, IsRegistry}
+use Rattle.model.specs.WellFormed.{IsDeletion, HasObjects}
 use Rattle.rules.specs.declared.change.Change.TheVariants.{PutDomain}
 use Rattle.rules.specs.Changes.{changed_all, with_account}
 use Rattle.rules.specs.Decisions.{charge_line, report_changes, restore_changes, restored_domain, restoring_domain}
 use Rattle.rules.proofs.CommandLemmas.{at-itself, domain-full, kept-charged, kept-counted}
 use Rattle.rules.proofs.StandInLemmas.{kept-put-domain}
 
-module _ (p : PolicyRules) (r : ℕ) (cl_trid : Option (List ℕ)) (s : Registry) (place : IsRegistrar p r) (is : IsRegistry p s) where
+module _ (p : PolicyRules) (r : ℕ) (cl_trid : Option (List ℕ)) (s : Registry) (place : IsRegistrar p r) (is : HasObjects p s) where
   -- the registry once the command is counted
   abbrev counted : Registry
   counted = with_account r with_command s
 
-  kept : IsRegistry p counted
+  kept : HasObjects p counted
   kept = kept-counted p r cl_trid s place is
 
   requested-now : (d : Domain) (deletion : Option Deletion) → IsDeletion p counted d deletion
@@ -43,10 +43,10 @@ module _ (p : PolicyRules) (r : ℕ) (cl_trid : Option (List ℕ)) (s : Registry
   abbrev seen_by : Request → GivenName → Option (Seen FullDomain DomainFace)
   seen_by q name = domain_seen (facts p r (Asked cl_trid q) s) (name_of name)
 
-  pub kept-restore-request : (name : GivenName) → IsRegistry p (changed_all p (restore_changes s.clock (domain_seen (facts p r (Asked cl_trid (RequestRestore name)) s) (name_of name))) (with_account r with_command s))
+  pub kept-restore-request : (name : GivenName) → HasObjects p (changed_all p (restore_changes s.clock (domain_seen (facts p r (Asked cl_trid (RequestRestore name)) s) (name_of name))) (with_account r with_command s))
   kept-restore-request name = by (seen_by (RequestRestore name) name) (ap (option_and_then (λ known. known.seen)) (at-itself (name_of name) (domain_facts (lookups p r (Asked cl_trid (RequestRestore name)) s) (Asked cl_trid (RequestRestore name)) (name_of name))))
     where
-      by : (seen : Option (Seen FullDomain DomainFace)) → seen ≡ option_map (domain_sight p r s None) (get s.domains (name_of name)) → IsRegistry p (changed_all p (restore_changes s.clock seen) counted)
+      by : (seen : Option (Seen FullDomain DomainFace)) → seen ≡ option_map (domain_sight p r s None) (get s.domains (name_of name)) → HasObjects p (changed_all p (restore_changes s.clock seen) counted)
       by None e = kept
       by (Some (Full known)) e =
           let d : Domain = known.domain in
@@ -74,11 +74,11 @@ module _ (p : PolicyRules) (r : ℕ) (cl_trid : Option (List ℕ)) (s : Registry
   facts_with q = facts p r (Asked cl_trid q) s
 
   pub kept-restore-report : (name : GivenName) (del_time res_time : ℕ) → let q : Request = ReportRestore name del_time res_time in let f : Facts = facts p r (Asked cl_trid q) s in
-      IsRegistry p (changed_all p (report_changes p r s.clock q f (domain_seen f (name_of name))) (with_account r with_command s))
+      HasObjects p (changed_all p (report_changes p r s.clock q f (domain_seen f (name_of name))) (with_account r with_command s))
   kept-restore-report name del_time res_time = by (asked_report name del_time res_time) (facts_with (asked_report name del_time res_time)) (seen_by (asked_report name del_time res_time) name)
       (ap (option_and_then (λ known. known.seen)) (at-itself (name_of name) (domain_facts (lookups p r (Asked cl_trid (asked_report name del_time res_time)) s) (Asked cl_trid (asked_report name del_time res_time)) (name_of name))))
     where
-      by : (q : Request) (f : Facts) (seen : Option (Seen FullDomain DomainFace)) → seen ≡ option_map (domain_sight p r s None) (get s.domains (name_of name)) → IsRegistry p (changed_all p (report_changes p r s.clock q f seen) counted)
+      by : (q : Request) (f : Facts) (seen : Option (Seen FullDomain DomainFace)) → seen ≡ option_map (domain_sight p r s None) (get s.domains (name_of name)) → HasObjects p (changed_all p (report_changes p r s.clock q f seen) counted)
       by q f None e = kept
       by q f (Some (Full known)) e =
           let d : Domain = known.domain in

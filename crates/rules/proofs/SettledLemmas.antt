@@ -46,7 +46,7 @@ use Rattle.model.specs.LapseLaws.{IsSettled}
 use Rattle.model.specs.Objects.{object_at, object_ordered}
 use Rattle.model.specs.Registry.{Registry}
 use Rattle.model.specs.View.{domain_sight}
-use Rattle.model.specs.WellFormed.{IsDeletion, IsRegistry}
+use Rattle.model.specs.WellFormed.{IsDeletion, HasObjects}
 use Rattle.verdict.specs.Deletion.{goes_at_once}
 use Rattle.verdict.specs.Orders.{order_code}
 use Rattle.rules.specs.declared.change.Change.{Change}
@@ -188,7 +188,7 @@ nothing-where : (p : PolicyRules) (t : ℕ) (changes : List Change) (b : Bool) �
 nothing-where p t changes true h = h
 nothing-where p t changes false h = tt
 
-module _ (p : PolicyRules) (sound : IsSound p) (r : ℕ) (cl_trid : Option (List ℕ)) (s : Registry) (formed : IsRegistry p s) (is : IsSettled p s) where
+module _ (p : PolicyRules) (sound : IsSound p) (r : ℕ) (cl_trid : Option (List ℕ)) (s : Registry) (formed : HasObjects p s) (is : IsSettled p s) where
   abbrev t : ℕ
   t = s.clock
 
@@ -305,7 +305,7 @@ module _ (p : PolicyRules) (sound : IsSound p) (r : ℕ) (cl_trid : Option (List
   puts-nothing-due (requests.InfoHost name) = tt
 
 -- A registrar's command leaves nothing due where nothing was.
-pub settled-effect : (p : PolicyRules) → IsSound p → (r : ℕ) (c : Command) (s : Registry) → IsRegistry p s → IsSettled p s → IsSettled p (effect p r c s)
+pub settled-effect : (p : PolicyRules) → IsSound p → (r : ℕ) (c : Command) (s : Registry) → HasObjects p s → IsSettled p s → IsSettled p (effect p r c s)
 unfolding changes_after
 settled-effect p sound r (Bad cl_trid fault) s formed is = settled-changed_all p (decision p r (Bad cl_trid fault) s).changes s (tt, tt) is
 settled-effect p sound r (Asked cl_trid q) s formed is =

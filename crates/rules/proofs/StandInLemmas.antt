@@ -16,16 +16,16 @@ use Rattle.rules.specs.Changes.{changed}
 use Rattle.rules.proofs.KeepingLemmas.{put-contact, put-domain, put-host}
 use Rattle.rules.proofs.NamedLemmas.{is-there}
 use Rattle.model.specs.Registry.{Registry}
-use Rattle.model.specs.WellFormed.{HasBeen, IsContactOf, IsDeletion, IsDomainOf, IsHostOf, IsRegistry}
+use Rattle.model.specs.WellFormed.{HasBeen, IsContactOf, IsDeletion, IsDomainOf, IsHostOf, HasObjects}
 
-module _ (p : PolicyRules) (s : Registry) (is : IsRegistry p s) (name : List ℕ) where
-  pub kept-put-contact : (c other : Contact) → get s.contacts name ≡ Some c → other.roid ≡ c.roid → IsContactOf p s name other → IsRegistry p (changed p (PutContact other) s)
+module _ (p : PolicyRules) (s : Registry) (is : HasObjects p s) (name : List ℕ) where
+  pub kept-put-contact : (c other : Contact) → get s.contacts name ≡ Some c → other.roid ≡ c.roid → IsContactOf p s name other → HasObjects p (changed p (PutContact other) s)
   kept-put-contact c other at same fits = put-contact p s is name other fits (λ n x at-n alike. is.contact_roids n name x c at-n at (alike ∙ same))
 
-  pub kept-put-domain : (d other : Domain) → get s.domains name ≡ Some d → other.roid ≡ d.roid → IsDomainOf p s name other → IsRegistry p (changed p (PutDomain other) s)
+  pub kept-put-domain : (d other : Domain) → get s.domains name ≡ Some d → other.roid ≡ d.roid → IsDomainOf p s name other → HasObjects p (changed p (PutDomain other) s)
   kept-put-domain d other at same fits = put-domain p s is name other fits (λ n x at-n alike. is.domain_roids n name x d at-n at (alike ∙ same))
 
-  pub kept-put-host : (h other : Host) → get s.hosts name ≡ Some h → other.roid ≡ h.roid → IsHostOf p s name other → IsRegistry p (changed p (PutHost other) s)
+  pub kept-put-host : (h other : Host) → get s.hosts name ≡ Some h → other.roid ≡ h.roid → IsHostOf p s name other → HasObjects p (changed p (PutHost other) s)
   kept-put-host h other at same fits = put-host p s is name other fits (λ n x at-n alike. is.host_roids n name x h at-n at (alike ∙ same)) (inl (is-there (get s.hosts name) h at))
 
 module _ (p : PolicyRules) (s : Registry) (name : List ℕ) where
@@ -72,18 +72,18 @@ module _ (p : PolicyRules) (s : Registry) (name : List ℕ) where
 
 -- ---- other statuses are set on an object
 
-module _ (p : PolicyRules) (s : Registry) (is : IsRegistry p s) (name : List ℕ) (statuses : List Status) where
-  pub kept-contact-statuses : (c : Contact) → get s.contacts name ≡ Some c → IsRegistry p (changed p (PutContact (record c { statuses = statuses })) s)
+module _ (p : PolicyRules) (s : Registry) (is : HasObjects p s) (name : List ℕ) (statuses : List Status) where
+  pub kept-contact-statuses : (c : Contact) → get s.contacts name ≡ Some c → HasObjects p (changed p (PutContact (record c { statuses = statuses })) s)
   kept-contact-statuses c at =
       let k = is.contacts name c at in
       kept-put-contact p s is name c (record c { statuses = statuses }) at refl (contact-updated p s name c c.updated statuses c.secret c.postal c.voice c.mail k.updated k)
 
-  pub kept-domain-statuses : (d : Domain) → get s.domains name ≡ Some d → IsRegistry p (changed p (PutDomain (record d { statuses = statuses })) s)
+  pub kept-domain-statuses : (d : Domain) → get s.domains name ≡ Some d → HasObjects p (changed p (PutDomain (record d { statuses = statuses })) s)
   kept-domain-statuses d at =
       let k = is.domains name d at in
       kept-put-domain p s is name d (record d { statuses = statuses }) at refl (domain-updated p s name d d.years d.updated statuses d.secret d.links k.updated k.contacts k.hosts k)
 
-  pub kept-host-statuses : (h : Host) → get s.hosts name ≡ Some h → IsRegistry p (changed p (PutHost (record h { statuses = statuses })) s)
+  pub kept-host-statuses : (h : Host) → get s.hosts name ≡ Some h → HasObjects p (changed p (PutHost (record h { statuses = statuses })) s)
   kept-host-statuses h at =
       let k = is.hosts name h at in
       kept-put-host p s is name h (record h { statuses = statuses }) at refl (host-updated p s name h h.updated statuses h.addresses k.updated k)

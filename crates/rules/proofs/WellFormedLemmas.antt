@@ -29,11 +29,11 @@ use Rattle.model.specs.Registry.{Registry, account_of}
 use Rattle.verdict.specs.Deletion.{goes_at_once}
 use Rattle.verdict.specs.Rules.{refusal_of}
 use Rattle.verdict.specs.Verdicts.{code_granted, granted, judged, unless_refused}
-use Rattle.model.specs.WellFormed.{IsRegistry}
+use Rattle.model.specs.WellFormed.{HasObjects}
 
-module _ (p : PolicyRules) (r : ℕ) (cl_trid : Option (List ℕ)) (s : Registry) (place : IsRegistrar p r) (is : IsRegistry p s) (small : (account_of r s).serial < 4_611_686_018_427_387_904) where
+module _ (p : PolicyRules) (r : ℕ) (cl_trid : Option (List ℕ)) (s : Registry) (place : IsRegistrar p r) (is : HasObjects p s) (small : (account_of r s).serial < 4_611_686_018_427_387_904) where
   kept-accepted : (request : Request) → refusal_of p r s.clock request (facts p r (Asked cl_trid request) s) ≡ None
-      → IsRegistry p (changed_all p (changes_of p r s.clock request (facts p r (Asked cl_trid request) s)) (with_account r with_command s))
+      → HasObjects p (changed_all p (changes_of p r s.clock request (facts p r (Asked cl_trid request) s)) (with_account r with_command s))
   unfolding changes_of
   kept-accepted Logout taken = kept-counted p r cl_trid s place is
   kept-accepted Balance taken = kept-counted p r cl_trid s place is
@@ -66,19 +66,19 @@ module _ (p : PolicyRules) (r : ℕ) (cl_trid : Option (List ℕ)) (s : Registry
 
   -- a refused command changes nothing but the caller's counter
   kept-judged : (request : Request) (refusal : Option Code) → refusal_of p r s.clock request (facts p r (Asked cl_trid request) s) ≡ refusal
-      → IsRegistry p (changed_all p (cond (is_accepted (unless_refused refusal (granted p r s.clock request (facts p r (Asked cl_trid request) s))).code) (changes_of p r s.clock request (facts p r (Asked cl_trid request) s)) []) (with_account r with_command s))
+      → HasObjects p (changed_all p (cond (is_accepted (unless_refused refusal (granted p r s.clock request (facts p r (Asked cl_trid request) s))).code) (changes_of p r s.clock request (facts p r (Asked cl_trid request) s)) []) (with_account r with_command s))
   kept-judged request None taken =
       let changes : List Change = changes_of p r s.clock request (facts p r (Asked cl_trid request) s) in
-      subst (λ (b : Bool). IsRegistry p (changed_all p (cond b changes []) (with_account r with_command s)))
+      subst (λ (b : Bool). HasObjects p (changed_all p (cond b changes []) (with_account r with_command s)))
       (sym (carried-out request (facts p r (Asked cl_trid request) s))) (kept-accepted request taken)
   kept-judged request (Some code) refused =
       let changes : List Change = changes_of p r s.clock request (facts p r (Asked cl_trid request) s) in
-      subst (λ (b : Bool). IsRegistry p (changed_all p (cond b changes []) (with_account r with_command s)))
+      subst (λ (b : Bool). HasObjects p (changed_all p (cond b changes []) (with_account r with_command s)))
       (sym (refusing p r s.clock request (facts p r (Asked cl_trid request) s) code refused)) (kept-counted p r cl_trid s place is)
 
 -- A registrar's command leaves a registry well formed, but that a serial at its greatest would be
 -- given twice.
-pub kept-effect : (p : PolicyRules) (r : ℕ) (c : Command) (s : Registry) → IsRegistrar p r → IsRegistry p s → (account_of r s).serial < 4_611_686_018_427_387_904 → IsRegistry p (effect p r c s)
+pub kept-effect : (p : PolicyRules) (r : ℕ) (c : Command) (s : Registry) → IsRegistrar p r → HasObjects p s → (account_of r s).serial < 4_611_686_018_427_387_904 → HasObjects p (effect p r c s)
 unfolding judged changes_after
 kept-effect p r (Bad cl_trid code) s place is small = kept-counted p r cl_trid s place is
 kept-effect p r (Asked cl_trid request) s place is small =

@@ -1,0 +1,372 @@
+-- Each change keeps what a well-formed registry says of lines, where what it puts or charges fits.
+use Rattle.std.proofs.Common.{◌≡◌, ◌≢◌, ◌⊎◌, inl, inr, ⊎_elim, ℕ, ◌≤◌, ◌<◌, ◌+◌, ◌==◌, Bool, true, false, cond, not, nat_lt, ◌&&◌, List, [], ◌∷◌, Option, Some, None, is_some, refl, sym, ap, subst, ◌∙◌, arith}
+use Rattle.std.specs.Cmp.Lexicographic.{slice_cmp}
+use Rattle.std.specs.FinMap.{FinMap, get, insert, remove}
+use Rattle.std.specs.List.{All, AllByRecursion, list_any}
+use Rattle.std.specs.Ordering.{eq_by_cmp, nat_cmp}
+use Rattle.std.proofs.lemmas.List.Elements.{All-from_recursion, recursion_from_All}
+use Rattle.accounts.specs.declared.account.Account.{Account}
+use Rattle.accounts.specs.declared.line.Line.{Line}
+use Rattle.accounts.specs.Account.{with_serial}
+use Rattle.accounts.specs.Entries.{with_lines}
+use Rattle.accounts.specs.Lines.{in_order, is_for_transfer, is_on, waits}
+use Rattle.basis.specs.Bag.{add, remade}
+use Rattle.lifecycle.specs.declared.change.AccountChange.{AccountChange}
+use Rattle.lifecycle.specs.declared.change.AccountChange.TheVariants.{Charge, RefundRunning, RefundTransfer, Lapse, Tell, Ack, CountCommand, TakeSerial}
+use Rattle.lifecycle.specs.declared.change.RunningRefund.{RunningRefund}
+use Rattle.lifecycle.specs.Changes.{changed as account_changed, refunded_by}
+use Rattle.lifecycle.specs.Graces.{period_of, runs, runs_from}
+use Rattle.objects.specs.declared.domain.Domain.{Domain}
+use Rattle.objects.specs.declared.roid.Roid.{Roid}
+use Rattle.objects.specs.declared.transfer.Transfer.{Transfer}
+use Rattle.objects.specs.Transfers.{is_pending_state}
+use Rattle.policy.specs.Rules.{PolicyRules}
+use Rattle.rules.specs.declared.change.Change.{Change}
+use Rattle.rules.specs.declared.change.Change.TheVariants.{MoveClock, OpenAccount, PutContact, DropContact, PutDomain, DropDomain, PutHost, DropHost, RenameHost, LapseContact, LapseDomain, Give}
+use Rattle.rules.specs.Changes.{changed, changed_all, itself, with_account, with_host_renamed}
+use Rattle.rules.proofs.GrowthLemmas.{Grows, been-grown, roid-grown}
+use Rattle.rules.proofs.LineEntryLemmas.{begins-asks, waits-asks}
+use Rattle.rules.proofs.NamedLemmas.{drop-cases, put-cases, remade-cases}
+use Rattle.rules.proofs.ViewLemmas.{account_of-with_account, same_number}
+use Rattle.model.specs.Registry.{Registry, account_of}
+use Rattle.model.specs.WellFormed.{HasLines, HasLinesOn, IsAwaited, IsAwaitedIfPending, IsLineOf, WasGiven, begins_after, charges_waiting}
+use Rattle.model.proofs.LineLemmas.{all-add, all-remade, all-weaker, count, count-add-none, count-remade, none-add, none-remade}
+
+-- ---- the clock and serials grow, and lines stay
+
+module _ (p q : PolicyRules) (s t : Registry) (grows : Grows p q s t) where
+  given-grown : (roid : Option Roid) → WasGiven p s roid → WasGiven q t roid
+  given-grown None h = tt
+  given-grown (Some roid) h = roid-grown p q s t grows _ roid h
+
+  pub line-grown : (l : Line) → IsLineOf p s l → IsLineOf q t l
+  line-grown l h = record { roid = given-grown l.roid h.roid; started = been-grown p q s t grows l.started h.started }
+
+  module _ (same : (r : ℕ) → (account_of r t).lines ≡ (account_of r s).lines) where
+    pub each-grown : HasLines p s → (r : ℕ) → All (IsLineOf q t) (account_of r t).lines
+    each-grown is r = subst (λ (ls : List Line). All (IsLineOf q t) ls) (sym (same r))
+        (All-from_recursion (IsLineOf q t) (account_of r s).lines (all-weaker (IsLineOf p s) (IsLineOf q t) line-grown (account_of r s).lines (recursion_from_All (IsLineOf p s) (account_of r s).lines (is.each r))))
+
+-- a domain under the lines of another registry's accounts
+awaited-same : (s t : Registry) → ((r : ℕ) → (account_of r t).lines ≡ (account_of r s).lines) → (d : Domain) (o : Option Transfer) → IsAwaitedIfPending s d o → IsAwaitedIfPending t d o
+awaited-same s t same d None h = tt
+awaited-same s t same d (Some x) h = λ pending. let w = h pending in record {
+  losing_registrar = w.losing_registrar;
+  requester = w.requester;
+  created = w.created;
+  transferred = w.transferred;
+  due = w.due;
+  lines = ap (list_any (begins_after d.roid (Some x.ac_date))) (same d.sponsor) ∙ w.lines;
+}
+
+pub on-same : (s t : Registry) → ((r : ℕ) → (account_of r t).lines ≡ (account_of r s).lines) → (d : Domain) → HasLinesOn s d → HasLinesOn t d
+on-same s t same d h = record {
+  elsewhere = λ r other. ap (list_any (begins_after d.roid d.transferred)) (same r) ∙ h.elsewhere r other;
+  waiting = λ r. ap (count (waits d.roid)) (same r) ∙ h.waiting r;
+  awaited = awaited-same s t same d d.transfer h.awaited;
+}
+
+-- what is asked of the lines on a domain hangs on these of its parts
+pub record IsAsBefore (d e : Domain) : Type 0 where
+  pub roid : e.roid ≡ d.roid
+  pub sponsor : e.sponsor ≡ d.sponsor
+  pub created : e.created ≡ d.created
+  pub transferred : e.transferred ≡ d.transferred
+  pub transfer : e.transfer ≡ d.transfer
+
+abbrev with_parts : Domain → Roid → ℕ → ℕ → Option ℕ → Option Transfer → Domain
+with_parts e roid sponsor created transferred transfer = record e { roid = roid; sponsor = sponsor; created = created; transferred = transferred; transfer = transfer }
+
+awaited-parts : (s : Registry) (d e : Domain) (o : Option Transfer) → IsAwaitedIfPending s d o → IsAwaitedIfPending s (with_parts e d.roid d.sponsor d.created d.transferred d.transfer) o
+awaited-parts s d e None h = tt
+awaited-parts s d e (Some x) h = λ pending. let w = h pending in record {
+  losing_registrar = w.losing_registrar;
+  requester = w.requester;
+  created = w.created;
+  transferred = w.transferred;
+  due = w.due;
+  lines = w.lines;
+}
+
+pub on-as-before : (s : Registry) (d e : Domain) → IsAsBefore d e → HasLinesOn s d → HasLinesOn s e
+on-as-before s d e same h =
+    let parts : HasLinesOn s (with_parts e d.roid d.sponsor d.created d.transferred d.transfer) = record { elsewhere = h.elsewhere; waiting = h.waiting; awaited = awaited-parts s d e d.transfer h.awaited } in
+    subst (HasLinesOn s) (λ i. with_parts e (sym same.roid i) (sym same.sponsor i) (sym same.created i) (sym same.transferred i) (sym same.transfer i)) parts
+
+-- ---- objects are put and taken away
+
+-- domains come and go, each with the lines that it is to have
+pub lines-domains : (p q : PolicyRules) (s t : Registry) → Grows p q s t → ((r : ℕ) → (account_of r t).lines ≡ (account_of r s).lines)
+    → ((name : List ℕ) (d : Domain) → get t.domains name ≡ Some d → HasLinesOn s d) → HasLines p s → HasLines q t
+lines-domains p q s t grows same on is = record {
+  each = each-grown p q s t grows same is;
+  domains = λ name d at. on-same s t same d (on name d at);
+}
+
+-- ---- one account changes
+
+module _ (s : Registry) (r : ℕ) (f : Account → Account) where
+  -- its lines stay
+  pub lines-stay : ((a : Account) → (f a).lines ≡ a.lines) → (q : ℕ) → (account_of q (with_account r f s)).lines ≡ (account_of q s).lines
+  lines-stay keeps q = ap (λ (a : Account). a.lines) (account_of-with_account q r f s) ∙ by (eq_by_cmp nat_cmp q r)
+    where
+      by : (b : Bool) → (cond b (f (account_of q s)) (account_of q s)).lines ≡ (account_of q s).lines
+      by true = keeps (account_of q s)
+      by false = refl
+
+  -- and a property of them
+  pub lines-keep : (P : List Line → Type 0) (q : ℕ) → (r ≡ q → P (account_of q s).lines → P (f (account_of q s)).lines) → P (account_of q s).lines → P (account_of q (with_account r f s)).lines
+  lines-keep P q keeps h = subst (λ (a : Account). P a.lines) (sym (account_of-with_account q r f s)) (by (eq_by_cmp nat_cmp q r) refl)
+    where
+      by : (b : Bool) → eq_by_cmp nat_cmp q r ≡ b → P (cond b (f (account_of q s)) (account_of q s)).lines
+      by true own = keeps (sym (same_number q r own)) h
+      by false other = h
+
+  pub rises : ((a : Account) → a.serial ≤ (f a).serial) → (q : ℕ) → (account_of q s).serial ≤ (account_of q (with_account r f s)).serial
+  rises more q = subst (λ (a : Account). (account_of q s).serial ≤ a.serial) (sym (account_of-with_account q r f s)) (by (eq_by_cmp nat_cmp q r))
+    where
+      by : (b : Bool) → (account_of q s).serial ≤ (cond b (f (account_of q s)) (account_of q s)).serial
+      by true = more (account_of q s)
+      by false = omega arith
+
+  pub account-grows : (p : PolicyRules) → ((a : Account) → a.serial ≤ (f a).serial) → Grows p p s (with_account r f s)
+  account-grows p more = record { zone = refl; place = λ q place. place; clock = omega arith; serial = rises more }
+
+-- its counters and its queue change
+pub lines-counted : (p : PolicyRules) (s : Registry) (r : ℕ) (f : Account → Account) → ((a : Account) → (f a).lines ≡ a.lines) → ((a : Account) → a.serial ≤ (f a).serial) → HasLines p s → HasLines p (with_account r f s)
+lines-counted p s r f keeps more is =
+    lines-domains p p s (with_account r f s) (account-grows s r f p more) (lines-stay s r f keeps) is.domains is
+
+-- ---- a charge
+
+-- for a domain of the registrar's own, which isn't for a transfer, and whose grace begins before a
+-- transfer that is pending is due
+pub record IsCharged (r : ℕ) (line : Line) (d : Domain) : Type 0 where
+  pub sponsor : r ≡ d.sponsor
+  pub waits : waits d.roid line ≡ false
+  pub awaited : (x : Transfer) → d.transfer ≡ Some x → is_pending_state x.state ≡ true → begins_after d.roid (Some x.ac_date) line ≡ false
+
+pub record IsChargeIn (p : PolicyRules) (s : Registry) (r : ℕ) (line : Line) : Type 0 where
+  pub fits : IsLineOf p s line
+  pub domains : (name : List ℕ) (d : Domain) → get s.domains name ≡ Some d → (is_on d.roid line ≡ false) ⊎ IsCharged r line d
+
+module _ (p : PolicyRules) (s : Registry) (r : ℕ) where
+  abbrev with_line : Line → Registry
+  with_line line = with_account r (with_lines (add in_order line)) s
+
+  -- what is so of lines but of this one
+  none-charged : (line : Line) (test : Line → Bool) (q : ℕ) → (r ≡ q → test line ≡ false) → list_any test (account_of q s).lines ≡ false → list_any test (account_of q (with_line line)).lines ≡ false
+  none-charged line test q fails none =
+      lines-keep s r (with_lines (add in_order line)) (λ ls. list_any test ls ≡ false) q (λ own h. none-add in_order test line (account_of q s).lines (fails own) h) none
+
+  count-charged : (line : Line) (test : Line → Bool) (q n : ℕ) → test line ≡ false → count test (account_of q s).lines ≡ n → count test (account_of q (with_line line)).lines ≡ n
+  count-charged line test q n fails e =
+      lines-keep s r (with_lines (add in_order line)) (λ ls. count test ls ≡ n) q (λ own h. count-add-none in_order test line (account_of q s).lines fails ∙ h) e
+
+  charged-off : (line : Line) (d : Domain) → is_on d.roid line ≡ false → HasLinesOn s d → HasLinesOn (with_line line) d
+  charged-off line d off h = record {
+    elsewhere = λ q other. none-charged line (begins_after d.roid d.transferred) q (λ own. begins-asks d.roid d.transferred line off) (h.elsewhere q other);
+    waiting = λ q. count-charged line (waits d.roid) q (charges_waiting q d.transfer) (waits-asks d.roid line off) (h.waiting q);
+    awaited = by d.transfer h.awaited;
+  }
+    where
+      by : (o : Option Transfer) → IsAwaitedIfPending s d o → IsAwaitedIfPending (with_line line) d o
+      by None h = tt
+      by (Some x) h = λ pending. let w = h pending in record {
+        losing_registrar = w.losing_registrar;
+        requester = w.requester;
+        created = w.created;
+        transferred = w.transferred;
+        due = w.due;
+        lines = none-charged line (begins_after d.roid (Some x.ac_date)) d.sponsor (λ own. begins-asks d.roid (Some x.ac_date) line off) w.lines;
+      }
+
+  charged-own : (line : Line) (d : Domain) → IsCharged r line d → HasLinesOn s d → HasLinesOn (with_line line) d
+  charged-own line d charged h = record {
+    elsewhere = λ q other. none-charged line (begins_after d.roid d.transferred) q (λ own. absurd (other (sym own ∙ charged.sponsor))) (h.elsewhere q other);
+    waiting = λ q. count-charged line (waits d.roid) q (charges_waiting q d.transfer) charged.waits (h.waiting q);
+    awaited = by d.transfer charged.awaited h.awaited;
+  }
+    where
+      by : (o : Option Transfer) → ((x : Transfer) → o ≡ Some x → is_pending_state x.state ≡ true → begins_after d.roid (Some x.ac_date) line ≡ false) → IsAwaitedIfPending s d o → IsAwaitedIfPending (with_line line) d o
+      by None before h = tt
+      by (Some x) before h = λ pending. let w = h pending in record {
+        losing_registrar = w.losing_registrar;
+        requester = w.requester;
+        created = w.created;
+        transferred = w.transferred;
+        due = w.due;
+        lines = none-charged line (begins_after d.roid (Some x.ac_date)) d.sponsor (λ own. before x refl pending) w.lines;
+      }
+
+  pub lines-charged : (line : Line) → IsChargeIn p s r line → HasLines p s → HasLines p (with_line line)
+  lines-charged line charge is =
+      let t : Registry = with_line line in
+      let grows : Grows p p s t = account-grows s r (with_lines (add in_order line)) p (λ a. omega arith) in
+      record {
+        each = λ q. All-from_recursion (IsLineOf p t) (account_of q t).lines
+            (lines-keep s r (with_lines (add in_order line)) (AllByRecursion (IsLineOf p t)) q (λ own all. all-add in_order (IsLineOf p t) line (account_of q s).lines (line-grown p p s t grows line charge.fits) all)
+            (all-weaker (IsLineOf p s) (IsLineOf p t) (line-grown p p s t grows) (account_of q s).lines (recursion_from_All (IsLineOf p s) (account_of q s).lines (is.each q))));
+        domains = λ name d at. ⊎_elim (λ off. charged-off line d off (is.domains name d at)) (λ own. charged-own line d own (is.domains name d at)) (charge.domains name d at);
+      }
+
+-- ---- what a deletion gives back
+
+and-false : (a b : Bool) → b ≡ false → (a && b) ≡ false
+and-false true b e = e
+and-false false b e = refl
+
+module _ (p : PolicyRules) (x : RunningRefund) where
+  abbrev back : Line → Line
+  back = refunded_by p x
+
+  refund-begins : (roid : Roid) (last : Option ℕ) (l : Line) → begins_after roid last (back l) ≡ begins_after roid last l
+  refund-begins roid last l = by (runs p x.moment x.roid x.transferred l)
+    where
+      by : (b : Bool) → begins_after roid last (cond b (record l { refunded = Some x.moment }) l) ≡ begins_after roid last l
+      by true = refl
+      by false = refl
+
+  -- what waits for a transfer isn't given back
+  refund-waits : (roid : Roid) (l : Line) → waits roid (back l) ≡ waits roid l
+  refund-waits roid l = by l.started
+    where
+      begun : (started : ℕ) (b : Bool) → (let m : Line = record l { started = Some started } in waits roid (cond b (record m { refunded = Some x.moment }) m)) ≡ (let m : Line = record l { started = Some started } in waits roid m)
+      begun started true = and-false _ false refl ∙ sym (and-false (is_for_transfer roid l) false refl)
+      begun started false = refl
+
+      by : (started : Option ℕ) → (let m : Line = record l { started = started } in waits roid (back m)) ≡ (let m : Line = record l { started = started } in waits roid m)
+      by None =
+          let m : Line = record l { started = None } in
+          let none : runs p x.moment x.roid x.transferred m ≡ false = and-false (is_on x.roid l) _ (and-false (not (is_some l.refunded)) false refl) in
+          ap (λ (b : Bool). waits roid (cond b (record m { refunded = Some x.moment }) m)) none
+      by (Some started) = begun started (runs p x.moment x.roid x.transferred (let m : Line = record l { started = Some started } in m))
+
+  refund-line : (s : Registry) (l : Line) → IsLineOf p s l → IsLineOf p s (back l)
+  refund-line s l h = by (runs p x.moment x.roid x.transferred l)
+    where
+      by : (b : Bool) → IsLineOf p s (cond b (record l { refunded = Some x.moment }) l)
+      by true = record { roid = h.roid; started = h.started }
+      by false = h
+
+  module _ (s : Registry) (r : ℕ) where
+    abbrev refunded : Registry
+    refunded = with_account r (with_lines (remade in_order back)) s
+
+    none-refunded : (roid : Roid) (last : Option ℕ) (q : ℕ) → list_any (begins_after roid last) (account_of q s).lines ≡ false → list_any (begins_after roid last) (account_of q refunded).lines ≡ false
+    none-refunded roid last q none = lines-keep s r (with_lines (remade in_order back)) (λ ls. list_any (begins_after roid last) ls ≡ false) q
+        (λ own h. none-remade in_order (begins_after roid last) (begins_after roid last) back (λ l e. refund-begins roid last l ∙ e) (account_of q s).lines h) none
+
+    count-refunded : (roid : Roid) (q n : ℕ) → count (waits roid) (account_of q s).lines ≡ n → count (waits roid) (account_of q refunded).lines ≡ n
+    count-refunded roid q n e = lines-keep s r (with_lines (remade in_order back)) (λ ls. count (waits roid) ls ≡ n) q
+        (λ own h. count-remade in_order (waits roid) back (refund-waits roid) (account_of q s).lines ∙ h) e
+
+    refunded-on : (d : Domain) → HasLinesOn s d → HasLinesOn refunded d
+    refunded-on d h = record {
+      elsewhere = λ q other. none-refunded d.roid d.transferred q (h.elsewhere q other);
+      waiting = λ q. count-refunded d.roid q (charges_waiting q d.transfer) (h.waiting q);
+      awaited = by d.transfer h.awaited;
+    }
+      where
+        by : (o : Option Transfer) → IsAwaitedIfPending s d o → IsAwaitedIfPending refunded d o
+        by None h = tt
+        by (Some y) h = λ pending. let w = h pending in record {
+          losing_registrar = w.losing_registrar;
+          requester = w.requester;
+          created = w.created;
+          transferred = w.transferred;
+          due = w.due;
+          lines = none-refunded d.roid (Some y.ac_date) d.sponsor w.lines;
+        }
+
+    pub lines-refunded : HasLines p s → HasLines p (with_account r (with_lines (remade in_order (refunded_by p x))) s)
+    lines-refunded is =
+        let grows : Grows p p s refunded = account-grows s r (with_lines (remade in_order back)) p (λ a. omega arith) in
+        record {
+          each = λ q. All-from_recursion (IsLineOf p refunded) (account_of q refunded).lines
+              (lines-keep s r (with_lines (remade in_order back)) (AllByRecursion (IsLineOf p refunded)) q
+              (λ own all. all-remade in_order (IsLineOf p refunded) (IsLineOf p refunded) back (refund-line refunded) (account_of q s).lines all)
+              (all-weaker (IsLineOf p s) (IsLineOf p refunded) (line-grown p p s refunded grows) (account_of q s).lines (recursion_from_All (IsLineOf p s) (account_of q s).lines (is.each q))));
+          domains = λ name d at. refunded-on d (is.domains name d at);
+        }
+
+-- ---- each change
+
+-- what is charged or given back to an account fits the domains that are there
+abbrev pub FitsAccount : PolicyRules → ℕ → AccountChange → Registry → Type 0
+FitsAccount p r (Charge line) s = IsChargeIn p s r line
+FitsAccount p r (RefundRunning x) s = Unit {0}
+FitsAccount p r (RefundTransfer x) s = ⊥
+FitsAccount p r (Lapse what) s = ⊥
+FitsAccount p r (Tell n) s = Unit {0}
+FitsAccount p r (Ack id) s = Unit {0}
+FitsAccount p r CountCommand s = Unit {0}
+FitsAccount p r TakeSerial s = Unit {0}
+
+-- a domain that is put has the lines that it is to have, and no time passes
+abbrev pub FitsLines : PolicyRules → Change → Registry → Type 0
+FitsLines p (MoveClock t) s = ⊥
+FitsLines p (OpenAccount r) s = Unit {0}
+FitsLines p (PutContact c) s = Unit {0}
+FitsLines p (DropContact name) s = Unit {0}
+FitsLines p (PutDomain d) s = HasLinesOn s d
+FitsLines p (DropDomain name) s = Unit {0}
+FitsLines p (PutHost h) s = Unit {0}
+FitsLines p (DropHost name) s = Unit {0}
+FitsLines p (RenameHost old new) s = Unit {0}
+FitsLines p (LapseContact name left) s = ⊥
+FitsLines p (LapseDomain name left) s = ⊥
+FitsLines p (Give r what) s = FitsAccount p r what s
+
+serial-rises : (a : Account) → a.serial ≤ (with_serial a).serial
+serial-rises a = by (a.serial == 0xFFFF_FFFF_FFFF_FFFF)
+  where
+    by : (b : Bool) → a.serial ≤ cond b a.serial (a.serial + 1)
+    by true = omega arith
+    by false = omega arith
+
+lines-account : (p : PolicyRules) (r : ℕ) (what : AccountChange) (s : Registry) → FitsAccount p r what s → HasLines p s → HasLines p (changed p (Give r what) s)
+lines-account p r (Charge line) s fits is = lines-charged p s r line fits is
+lines-account p r (RefundRunning x) s fits is = lines-refunded p x s r is
+lines-account p r (RefundTransfer x) s fits is = absurd fits
+lines-account p r (Lapse what) s fits is = absurd fits
+lines-account p r (Tell n) s fits is = lines-counted p s r (account_changed p (Tell n)) (λ a. refl) (λ a. omega arith) is
+lines-account p r (Ack id) s fits is = lines-counted p s r (account_changed p (Ack id)) (λ a. refl) (λ a. omega arith) is
+lines-account p r CountCommand s fits is = lines-counted p s r (account_changed p CountCommand) (λ a. refl) (λ a. omega arith) is
+lines-account p r TakeSerial s fits is = lines-counted p s r (account_changed p TakeSerial) (λ a. refl) serial-rises is
+
+-- objects change, and no account does
+lines-objects : (p : PolicyRules) (change : Change) (s : Registry) → Grows p p s (changed p change s) → ((r : ℕ) → (account_of r (changed p change s)).lines ≡ (account_of r s).lines)
+    → ((name : List ℕ) (d : Domain) → get (changed p change s).domains name ≡ Some d → HasLinesOn s d) → HasLines p s → HasLines p (changed p change s)
+lines-objects p change s grows same on is = lines-domains p p s (changed p change s) grows same on is
+
+still : (p : PolicyRules) (s t : Registry) → s.clock ≤ t.clock → ((r : ℕ) → (account_of r s).serial ≤ (account_of r t).serial) → Grows p p s t
+still p s t clock serial = record { zone = refl; place = λ r place. place; clock = clock; serial = serial }
+
+pub lines-changed : (p : PolicyRules) (change : Change) (s : Registry) → FitsLines p change s → HasLines p s → HasLines p (changed p change s)
+lines-changed p (MoveClock t) s fits is = absurd fits
+lines-changed p (OpenAccount r) s fits is = lines-counted p s r itself (λ a. refl) (λ a. omega arith) is
+lines-changed p (PutContact c) s fits is = lines-objects p (PutContact c) s (still p s (changed p (PutContact c) s) (omega arith) (λ r. omega arith)) (λ r. refl) is.domains is
+lines-changed p (DropContact name) s fits is = lines-objects p (DropContact name) s (still p s (changed p (DropContact name) s) (omega arith) (λ r. omega arith)) (λ r. refl) is.domains is
+lines-changed p (PutDomain d) s fits is = lines-objects p (PutDomain d) s (still p s (changed p (PutDomain d) s) (omega arith) (λ r. omega arith)) (λ r. refl)
+    (λ name e at. ⊎_elim (λ put. subst (HasLinesOn s) put.1 fits) (λ before. is.domains name e before) (put-cases s.domains d.name d name e at)) is
+lines-changed p (DropDomain dropped) s fits is = lines-objects p (DropDomain dropped) s (still p s (changed p (DropDomain dropped) s) (omega arith) (λ r. omega arith)) (λ r. refl)
+    (λ name e at. is.domains name e (drop-cases s.domains dropped name e at).1) is
+lines-changed p (PutHost h) s fits is = lines-objects p (PutHost h) s (still p s (changed p (PutHost h) s) (omega arith) (λ r. omega arith)) (λ r. refl) is.domains is
+lines-changed p (DropHost name) s fits is = lines-objects p (DropHost name) s (still p s (changed p (DropHost name) s) (omega arith) (λ r. omega arith)) (λ r. refl) is.domains is
+lines-changed p (RenameHost old new) s fits is = lines-objects p (RenameHost old new) s (still p s (changed p (RenameHost old new) s) (omega arith) (λ r. omega arith)) (λ r. refl)
+    (λ name e at.
+    let was = remade-cases (with_host_renamed old new) s.domains name e at in
+    subst (HasLinesOn s) was.2 (on-as-before s was.0 (with_host_renamed old new was.0) (record { roid = refl; sponsor = refl; created = refl; transferred = refl; transfer = refl }) (is.domains name was.0 was.1))) is
+lines-changed p (LapseContact name left) s fits is = absurd fits
+lines-changed p (LapseDomain name left) s fits is = absurd fits
+lines-changed p (Give r what) s fits is = lines-account p r what s fits is
+
+-- each of the changes fits when its turn comes
+abbrev pub AllFitLines : PolicyRules → List Change → Registry → Type 0
+AllFitLines p [] s = Unit {0}
+AllFitLines p (change ∷ changes) s = FitsLines p change s × AllFitLines p changes (changed p change s)
+
+pub lines-changed_all : (p : PolicyRules) (changes : List Change) (s : Registry) → AllFitLines p changes s → HasLines p s → HasLines p (changed_all p changes s)
+lines-changed_all p [] s fits is = is
+lines-changed_all p (change ∷ changes) s fits is = lines-changed_all p changes (changed p change s) fits.1 (lines-changed p change s fits.0 is)

@@ -1,0 +1,317 @@
+-- What is asked for, approved, rejected or withdrawn of a domain's transfer keeps what a well-formed
+-- registry says of lines (RFC 5730, 2.9.3.4).
+use Rattle.std.proofs.Common.{◌≡◌, ◌≢◌, ◌⊎◌, ⊎_elim, ℕ, ◌≤◌, ◌<◌, ◌==◌, Bool, true, false, cond, not, ◌&&◌, List, Option, Some, None, is_some, refl, sym, ap, subst, ◌∙◌, arith, eqb-true}
+use Rattle.std.specs.Cmp.{eq_by_cmp_equiv, nat_cmp_total}
+use Rattle.std.specs.FinMap.{get}
+use Rattle.std.specs.List.{AllByRecursion, list_any}
+use Rattle.std.specs.Ordering.{eq_by_cmp, nat_cmp}
+use Rattle.std.proofs.lemmas.Bool.Decides.{nat_tests}
+use Rattle.std.proofs.lemmas.List.Elements.{All-from_recursion, recursion_from_All}
+use Rattle.std.proofs.lemmas.Option.{same_Some}
+use Rattle.accounts.specs.declared.account.Account.{Account}
+use Rattle.accounts.specs.declared.entries.LapseEntry.TheVariants.{Start}
+use Rattle.accounts.specs.declared.line.Line.{Line}
+use Rattle.accounts.specs.declared.line.LineKind.TheVariants as lines
+use Rattle.accounts.specs.declared.line.TransferRefund.{TransferRefund}
+use Rattle.accounts.specs.declared.line.TransferStart.{TransferStart}
+use Rattle.accounts.specs.Entries.{with_lines}
+use Rattle.accounts.specs.LineChanges.{refund-elsewhere, refund-stays, start-elsewhere, start-stays}
+use Rattle.accounts.specs.Lines.{in_order, is_for_transfer, is_kind, is_of, is_on, is_same_roid, transfer_refunded, transfer_started, waits}
+use Rattle.accounts.proofs.LineLaws.{same-roids}
+use Rattle.basis.specs.Bag.{add, remade}
+use Rattle.objects.specs.declared.domain.Domain.{Domain}
+use Rattle.objects.specs.declared.roid.ObjectKind.TheVariants as kinds
+use Rattle.objects.specs.declared.roid.Roid.{Roid}
+use Rattle.objects.specs.declared.transfer.Transfer.{Transfer}
+use Rattle.objects.specs.Transfers.{is_pending, is_pending_state}
+use Rattle.policy.specs.Rules.{PolicyRules}
+use Rattle.model.specs.Registry.{Registry, account_of}
+use Rattle.model.specs.WellFormed.{HasBeen, HasLines, HasLinesOn, HasObjects, HasRoid, IsAwaited, IsAwaitedIfPending, IsLater, IsLineOf, WasGiven, begins_after, charges_waiting, is_begun_after}
+use Rattle.model.proofs.LineLemmas.{all-add, all-remade, all-weaker, count, count-add, count-add-none, count-none-remade, count-remade, none-add, none-by, none-remade, one_if}
+use Rattle.rules.specs.declared.change.Change.TheVariants.{PutDomain}
+use Rattle.rules.specs.Changes.{changed, with_account}
+use Rattle.rules.proofs.GrowthLemmas.{Grows}
+use Rattle.rules.proofs.LineEntryLemmas.{AsksFor, begins-asks, lines-kept, started-waits-not, test-elsewhere, waits-asks}
+use Rattle.rules.proofs.LineKeepingLemmas.{account-grows, line-grown, lines-keep}
+use Rattle.rules.proofs.NamedLemmas.{put-cases, put-is}
+use Rattle.rules.proofs.ViewLemmas.{account_of-with_account}
+
+-- ---- a number is another, or isn't
+
+itself : (n : ℕ) → (n == n) ≡ true
+itself n = grind (arith, nat_tests)
+
+one-or-other : {A : Type 0} (a b : ℕ) → (a ≡ b → A) → (a ≢ b → A) → A
+one-or-other {A} a b same other = by (a == b) refl
+  where
+    by : (c : Bool) → (a == b) ≡ c → A
+    by true e = same (eqb-true a b e)
+    by false e = other (λ is. let never : true ≡ false = sym (itself a) ∙ ap (λ (n : ℕ). a == n) is ∙ e in absurd cc)
+
+not-itself : (a b : ℕ) → a ≢ b → (a == b) ≡ false
+not-itself a b other = by (a == b) refl
+  where
+    by : (c : Bool) → (a == b) ≡ c → c ≡ false
+    by true e = absurd (other (eqb-true a b e))
+    by false e = refl
+
+own-account : (r : ℕ) (f : Account → Account) (s : Registry) → account_of r (with_account r f s) ≡ f (account_of r s)
+own-account r f s = account_of-with_account r r f s ∙ ap (λ (b : Bool). cond b (f (account_of r s)) (account_of r s)) ((eq_by_cmp_equiv nat_cmp_total).refl r)
+
+none-awaited : (r : ℕ) (o : Option Transfer) → is_pending o ≡ false → charges_waiting r o ≡ 0
+none-awaited r None over = refl
+none-awaited r (Some x) over = ap (λ (b : Bool). cond (b && (x.requester == r)) 1 0) over
+
+-- ---- one domain is put, and the lines on it in one account change
+
+-- what is done to lines is done to those on the domain alone
+pub record IsOnDomain (roid : Roid) (g : List Line → List Line) : Type 0 where
+  pub none : (other : Roid) (test : Line → Bool) → AsksFor other test → is_same_roid roid other ≡ false → (ls : List Line) → list_any test ls ≡ false → list_any test (g ls) ≡ false
+  pub as_many : (other : Roid) (test : Line → Bool) → AsksFor other test → is_same_roid roid other ≡ false → (ls : List Line) → count test (g ls) ≡ count test ls
+
+module _ (p : PolicyRules) (s : Registry) (objects : HasObjects p s) (has : HasLines p s) (name : List ℕ) (d : Domain) (at : get s.domains name ≡ Some d) where
+  module _ (e : Domain) (called : e.name ≡ d.name) (r : ℕ) (g : List Line → List Line) where
+    -- the domain in place of what stood there, and the account
+    abbrev put : Registry
+    put = changed p (PutDomain e) s
+
+    abbrev left : Registry
+    left = with_account r (with_lines g) put
+
+    grows : Grows p p s left
+    grows =
+        let given : Grows p p put left = account-grows put r (with_lines g) p (λ a. omega arith) in
+        record { zone = refl; place = λ q place. place; clock = omega arith; serial = λ q. given.serial q }
+
+    none-changed : (test : Line → Bool) (q : ℕ) → (r ≡ q → list_any test (account_of q s).lines ≡ false → list_any test (g (account_of q s).lines) ≡ false) → list_any test (account_of q s).lines ≡ false → list_any test (account_of q left).lines ≡ false
+    none-changed test q keeps none = lines-keep put r (with_lines g) (λ ls. list_any test ls ≡ false) q keeps none
+
+    count-changed : (test : Line → Bool) (q n : ℕ) → (r ≡ q → count test (account_of q s).lines ≡ n → count test (g (account_of q s).lines) ≡ n) → count test (account_of q s).lines ≡ n → count test (account_of q left).lines ≡ n
+    count-changed test q n keeps h = lines-keep put r (with_lines g) (λ ls. count test ls ≡ n) q keeps h
+
+    -- other domains see nothing of it
+    others-on : IsOnDomain d.roid g → (x : Domain) → is_same_roid d.roid x.roid ≡ false → HasLinesOn s x → HasLinesOn left x
+    others-on only x apart h = record {
+      elsewhere = λ q other. none-changed (begins_after x.roid x.transferred) q (λ own. only.none x.roid (begins_after x.roid x.transferred) (begins-asks x.roid x.transferred) apart (account_of q s).lines) (h.elsewhere q other);
+      waiting = λ q. count-changed (waits x.roid) q (charges_waiting q x.transfer) (λ own k. only.as_many x.roid (waits x.roid) (waits-asks x.roid) apart (account_of q s).lines ∙ k) (h.waiting q);
+      awaited = by x.transfer h.awaited;
+    }
+      where
+        by : (o : Option Transfer) → IsAwaitedIfPending s x o → IsAwaitedIfPending left x o
+        by None h = tt
+        by (Some y) h = λ pending. let w = h pending in record {
+          losing_registrar = w.losing_registrar;
+          requester = w.requester;
+          created = w.created;
+          transferred = w.transferred;
+          due = w.due;
+          lines = none-changed (begins_after x.roid (Some y.ac_date)) x.sponsor (λ own. only.none x.roid (begins_after x.roid (Some y.ac_date)) (begins-asks x.roid (Some y.ac_date)) apart (account_of x.sponsor s).lines) w.lines;
+        }
+
+    pub lines-left : IsOnDomain d.roid g → ((ls : List Line) → AllByRecursion (IsLineOf p left) ls → AllByRecursion (IsLineOf p left) (g ls)) → HasLinesOn left e → HasLines p left
+    lines-left only fits on = record {
+      each = λ q. All-from_recursion (IsLineOf p left) (account_of q left).lines
+          (lines-keep put r (with_lines g) (AllByRecursion (IsLineOf p left)) q (λ own all. fits (account_of q s).lines all)
+          (all-weaker (IsLineOf p s) (IsLineOf p left) (line-grown p p s left grows) (account_of q s).lines (recursion_from_All (IsLineOf p s) (account_of q s).lines (has.each q))));
+      domains = λ n x there. ⊎_elim (λ new. subst (HasLinesOn left) new.1 on) (λ before. by n x there before (is_same_roid d.roid x.roid) refl) (put-cases s.domains e.name e n x there);
+    }
+      where
+        by : (n : List ℕ) (x : Domain) → get left.domains n ≡ Some x → get s.domains n ≡ Some x → (b : Bool) → is_same_roid d.roid x.roid ≡ b → HasLinesOn left x
+        by n x there before true same =
+            let here : n ≡ e.name = objects.domain_roids n name x d before at (sym (same-roids d.roid x.roid same)) ∙ sym (objects.domains name d at).named ∙ sym called in
+            let is : e ≡ x = same_Some e x (sym (put-is s.domains e.name e) ∙ ap (λ (m : List ℕ). get left.domains m) (sym here) ∙ there) in
+            subst (HasLinesOn left) is on
+        by n x there before false apart = others-on only x apart (has.domains n x before)
+
+  -- no grace has begun ahead of the clock
+  none-ahead : (roid : Roid) (last q : ℕ) → s.clock ≤ last → list_any (begins_after roid (Some last)) (account_of q s).lines ≡ false
+  none-ahead roid last q le = none-by (IsLineOf p s) (begins_after roid (Some last)) (λ l k. by l (is_on roid l) (begun l.started k.started)) (account_of q s).lines (recursion_from_All (IsLineOf p s) (account_of q s).lines (has.each q))
+    where
+      begun : (started : Option ℕ) → HasBeen s started → is_begun_after (Some last) started ≡ false
+      begun None been = refl
+      begun (Some start) been = grind (arith, nat_tests, le, been)
+
+      by : (l : Line) (b : Bool) → is_begun_after (Some last) l.started ≡ false → (b && is_begun_after (Some last) l.started) ≡ false
+      by l true e = e
+      by l false e = refl
+
+  -- ---- a transfer is asked for: its charge waits
+
+  module _ (x : Transfer) (line : Line) (over : is_pending d.transfer ≡ false) (pending : is_pending_state x.state ≡ true)
+      (of : line.roid ≡ Some d.roid) (waiting : waits d.roid line ≡ true) (unbegun : line.started ≡ None) where
+    abbrev asked : Domain
+    asked = record d { transfer = Some x }
+
+    abbrev charged : List Line → List Line
+    charged ls = add in_order line ls
+
+    charged-only : IsOnDomain d.roid charged
+    charged-only = record {
+      none = λ other test asks apart ls none. none-add in_order test line ls (asks line (off other apart)) none;
+      as_many = λ other test asks apart ls. count-add-none in_order test line ls (asks line (off other apart));
+    }
+      where
+        off : (other : Roid) → is_same_roid d.roid other ≡ false → is_on other line ≡ false
+        off other apart = ap (is_of other) of ∙ apart
+
+    begins-not : (last : Option ℕ) → begins_after d.roid last line ≡ false
+    begins-not last = ap (λ (started : Option ℕ). is_on d.roid line && is_begun_after last started) unbegun ∙ no-more (is_on d.roid line)
+      where
+        no-more : (b : Bool) → (b && false) ≡ false
+        no-more true = refl
+        no-more false = refl
+
+    asked-on : x.losing_registrar ≡ d.sponsor → x.requester ≢ d.sponsor → d.created < x.requested → IsLater x.requested d.transferred → x.requested ≤ x.ac_date → s.clock ≤ x.ac_date → HasLinesOn (left asked refl x.requester charged) asked
+    asked-on losing other created transferred due ahead =
+        let begun : (last : Option ℕ) (q : ℕ) → list_any (begins_after d.roid last) (account_of q s).lines ≡ false → list_any (begins_after d.roid last) (account_of q (left asked refl x.requester charged)).lines ≡ false =
+        λ last q. none-changed asked refl x.requester charged (begins_after d.roid last) q (λ own none. none-add in_order (begins_after d.roid last) line (account_of q s).lines (begins-not last) none) in
+        record {
+          elsewhere = λ q elsewhere. begun d.transferred q ((has.domains name d at).elsewhere q elsewhere);
+          waiting = one;
+          awaited = λ is. record {
+            losing_registrar = losing;
+            requester = other;
+            created = created;
+            transferred = transferred;
+            due = due;
+            lines = begun (Some x.ac_date) d.sponsor (none-ahead d.roid x.ac_date d.sponsor ahead);
+          };
+        }
+      where
+        none-before : (q : ℕ) → count (waits d.roid) (account_of q s).lines ≡ 0
+        none-before q = (has.domains name d at).waiting q ∙ none-awaited q d.transfer over
+
+        here : count (waits d.roid) (account_of x.requester (left asked refl x.requester charged)).lines ≡ charges_waiting x.requester (Some x)
+        here =
+            ap (λ (a : Account). count (waits d.roid) a.lines) (own-account x.requester (with_lines charged) (put asked refl x.requester charged))
+            ∙ count-add in_order (waits d.roid) line (account_of x.requester s).lines
+            ∙ (λ i. one_if (waiting i) (none-before x.requester i))
+            ∙ sym (λ i. cond (pending i && itself x.requester i) 1 0)
+
+        one : (q : ℕ) → count (waits d.roid) (account_of q (left asked refl x.requester charged)).lines ≡ charges_waiting q (Some x)
+        one q = one-or-other x.requester q
+            (λ own. subst (λ (n : ℕ). count (waits d.roid) (account_of n (left asked refl x.requester charged)).lines ≡ charges_waiting n (Some x)) own here)
+            (λ elsewhere. count-changed asked refl x.requester charged (waits d.roid) q 0 (λ own. absurd (elsewhere own)) (none-before q) ∙ sym (λ i. cond (pending i && not-itself x.requester q elsewhere i) 1 0))
+
+    -- of another registrar, after the creation and the last transfer; it is due by the clock or later
+    pub lines-asked : x.losing_registrar ≡ d.sponsor → x.requester ≢ d.sponsor → d.created < x.requested → IsLater x.requested d.transferred → x.requested ≤ x.ac_date → s.clock ≤ x.ac_date
+        → HasLines p (with_account x.requester (with_lines (add in_order line)) (changed p (PutDomain (record d { transfer = Some x })) s))
+    lines-asked losing other created transferred due ahead =
+        lines-left asked refl x.requester charged charged-only
+        (λ ls all. all-add in_order (IsLineOf p (left asked refl x.requester charged)) line ls (record { roid = given line.roid of; started = begun line.started unbegun }) all)
+        (asked-on losing other created transferred due ahead)
+      where
+        given : (o : Option Roid) → o ≡ Some d.roid → WasGiven p (left asked refl x.requester charged) o
+        given None is = absurd cc
+        given (Some roid) is =
+            let one : roid ≡ d.roid = cc in
+            let k = (objects.domains name d at).roid in
+            subst (λ (n : Roid). HasRoid p (left asked refl x.requester charged) kinds.Domain n) (sym one)
+            (record { kind_is = k.kind_is; creator = k.creator; serial = omega (arith, k.serial, (grows asked refl x.requester charged).serial d.roid.creator) })
+
+        begun : (o : Option ℕ) → o ≡ None → HasBeen (left asked refl x.requester charged) o
+        begun None is = tt
+        begun (Some start) is = absurd cc
+
+  -- ---- a transfer that was pending ends
+
+  module _ (x y : Transfer) (is : d.transfer ≡ Some y) (pending : is_pending_state y.state ≡ true) (same : x.requester ≡ y.requester) (over : is_pending_state x.state ≡ false) where
+    none-of-others : (q : ℕ) → x.requester ≢ q → count (waits d.roid) (account_of q s).lines ≡ 0
+    none-of-others q other =
+        (has.domains name d at).waiting q ∙ ap (charges_waiting q) is
+        ∙ (λ i. cond (pending i && (sym same i == q)) 1 0) ∙ (λ i. cond (not-itself x.requester q other i) 1 0)
+
+    over-of : (q : ℕ) → charges_waiting q (Some x) ≡ 0
+    over-of q = ap (λ (b : Bool). cond (b && (x.requester == q)) 1 0) over
+
+    -- no charge waits for it any more, where those of its requester don't
+    module _ (e : Domain) (called : e.name ≡ d.name) (roid : e.roid ≡ d.roid) (f : Line → Line) (done : (l : Line) → waits d.roid (f l) ≡ false) where
+      none-wait : (q : ℕ) → count (waits d.roid) (account_of q (left e called x.requester (remade in_order f))).lines ≡ 0
+      none-wait q = one-or-other x.requester q
+          (λ own. subst (λ (n : ℕ). count (waits d.roid) (account_of n (left e called x.requester (remade in_order f))).lines ≡ 0) own
+          (ap (λ (a : Account). count (waits d.roid) a.lines) (own-account x.requester (with_lines (remade in_order f)) (put e called x.requester (remade in_order f)))
+          ∙ count-none-remade in_order (waits d.roid) f done (account_of x.requester s).lines))
+          (λ other. count-changed e called x.requester (remade in_order f) (waits d.roid) q 0 (λ own. absurd (other own)) (none-of-others q other))
+
+    -- what is done to each line on the domain is done to none on another
+    remade-only : (f : Line → Line) → ((l : Line) → is_on d.roid l ≡ false → f l ≡ l) → ((l : Line) → (f l).roid ≡ l.roid) → IsOnDomain d.roid (remade in_order f)
+    remade-only f elsewhere stays = record {
+      none = λ other test asks apart ls none. none-remade in_order test test f (λ l k. test-elsewhere other d.roid test asks apart f elsewhere stays l ∙ k) ls none;
+      as_many = λ other test asks apart ls. count-remade in_order test f (test-elsewhere other d.roid test asks apart f elsewhere stays) ls;
+    }
+
+    -- ---- by its sponsor, or by itself: the grace begins
+
+    module _ (now : x.ac_date ≡ s.clock) (years more : ℕ) where
+      abbrev start : TransferStart
+      start = record { roid = d.roid; moment = x.ac_date; years = more }
+
+      abbrev handed : Domain
+      handed = record d { sponsor = x.requester; transferred = Some x.ac_date; years = years; transfer = Some x }
+
+      abbrev begun : List Line → List Line
+      begun ls = remade in_order (transfer_started start) ls
+
+      handed-on : HasLinesOn (left handed refl x.requester begun) handed
+      handed-on = record {
+        elsewhere = λ q other. none-changed handed refl x.requester begun (begins_after d.roid (Some x.ac_date)) q (λ own. absurd (other (sym own))) (none-ahead d.roid x.ac_date q (omega (arith, now)));
+        waiting = λ q. none-wait handed refl refl (transfer_started start) (started-waits-not start) q ∙ sym (over-of q);
+        awaited = λ never. absurd (let no : true ≡ false = sym never ∙ over in cc);
+      }
+
+      -- the domain is handed over
+      pub lines-handed-over : HasLines p (with_account x.requester (with_lines (remade in_order (transfer_started (record { roid = d.roid; moment = x.ac_date; years = more }))))
+          (changed p (PutDomain (record d { sponsor = x.requester; transferred = Some x.ac_date; years = years; transfer = Some x })) s))
+      lines-handed-over = lines-left handed refl x.requester begun (remade-only (transfer_started start) (start-elsewhere start) (start-stays start))
+          (lines-kept p (left handed refl x.requester begun) (Start start) (omega (arith, now))) handed-on
+
+    -- ---- it is rejected or withdrawn: the charge is given back
+
+    module _ (moment : ℕ) where
+      abbrev back : TransferRefund
+      back = record { roid = d.roid; moment = moment }
+
+      abbrev ended : Domain
+      ended = record d { transfer = Some x }
+
+      abbrev refunded : List Line → List Line
+      refunded ls = remade in_order (transfer_refunded back) ls
+
+      refund-begins : (roid : Roid) (last : Option ℕ) (l : Line) → begins_after roid last (transfer_refunded back l) ≡ begins_after roid last l
+      refund-begins roid last l = by (waits d.roid l)
+        where
+          by : (b : Bool) → begins_after roid last (cond b (record l { refunded = Some moment }) l) ≡ begins_after roid last l
+          by true = refl
+          by false = refl
+
+      refund-waits-not : (l : Line) → waits d.roid (transfer_refunded back l) ≡ false
+      refund-waits-not l = by (waits d.roid l) refl
+        where
+          given-back : (k b c : Bool) → ((k && (b && false)) && c) ≡ false
+          given-back true true c = refl
+          given-back true false c = refl
+          given-back false b c = refl
+
+          by : (b : Bool) → waits d.roid l ≡ b → waits d.roid (cond b (record l { refunded = Some moment }) l) ≡ false
+          by true e = given-back (is_kind l.kind lines.Transfer) (is_on d.roid l) (not (is_some l.started))
+          by false e = e
+
+      refund-line : (t : Registry) (l : Line) → IsLineOf p t l → IsLineOf p t (transfer_refunded back l)
+      refund-line t l k = by (waits d.roid l)
+        where
+          by : (b : Bool) → IsLineOf p t (cond b (record l { refunded = Some moment }) l)
+          by true = record { roid = k.roid; started = k.started }
+          by false = k
+
+      ended-on : HasLinesOn (left ended refl x.requester refunded) ended
+      ended-on = record {
+        elsewhere = λ q other. none-changed ended refl x.requester refunded (begins_after d.roid d.transferred) q
+            (λ own none. none-remade in_order (begins_after d.roid d.transferred) (begins_after d.roid d.transferred) (transfer_refunded back) (λ l k. refund-begins d.roid d.transferred l ∙ k) (account_of q s).lines none)
+            ((has.domains name d at).elsewhere q other);
+        waiting = λ q. none-wait ended refl refl (transfer_refunded back) refund-waits-not q ∙ sym (over-of q);
+        awaited = λ never. absurd (let no : true ≡ false = sym never ∙ over in cc);
+      }
+
+      pub lines-ended : HasLines p (with_account x.requester (with_lines (remade in_order (transfer_refunded (record { roid = d.roid; moment = moment })))) (changed p (PutDomain (record d { transfer = Some x })) s))
+      lines-ended = lines-left ended refl x.requester refunded (remade-only (transfer_refunded back) (refund-elsewhere back) (refund-stays back))
+          (λ ls all. all-remade in_order (IsLineOf p (left ended refl x.requester refunded)) (IsLineOf p (left ended refl x.requester refunded)) (transfer_refunded back) (refund-line (left ended refl x.requester refunded)) ls all) ended-on
