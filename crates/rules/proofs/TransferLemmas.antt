@@ -1,5 +1,5 @@
--- What operations on transfers change: it can be told from what is seen, keeps a registry well formed,
--- and puts nothing that is due.
+-- What the changes of transfers leave: graces that no one else sees, and a face that can be told by who
+-- hands a domain over.
 use Rattle.std.proofs.Common.{◌≡◌, ◌≢◌, ◌⊎◌, inl, inr, ℕ, ◌<◌, ◌≤◌, Bool, true, false, cond, not, ◌&&◌, ◌||◌, nat_lt, nat_le, map, List, [], ◌∷◌, Option, Some, None, is_some, option_and_then, option_map, refl, sym, ap, subst, ◌∙◌, arith}
 use Rattle.std.proofs.lemmas.Bool.Decides.{nat_tests}
 use Rattle.std.proofs.lemmas.Bool.{and_parts}
@@ -40,7 +40,7 @@ use Rattle.policy.specs.Rules.{PolicyRules, IsRegistrar, IsSound}
 use Rattle.model.specs.Registry.{Registry, account_of}
 use Rattle.model.specs.Standing.{graces_of}
 use Rattle.model.specs.View.{view}
-use Rattle.model.specs.WellFormed.{HasBeen, HasLines, IsAfter, IsDeletion, IsLastTransfer, IsRegistry, IsTransfer}
+use Rattle.model.specs.WellFormed.{HasBeen, HasLines, IsAfter, IsDeletion, IsLastTransfer, HasObjects, IsTransfer}
 use Rattle.rules.specs.declared.change.Change.TheVariants.{PutContact, PutDomain, Give}
 use Rattle.rules.specs.Changes.{changed, with_account}
 use Rattle.rules.specs.Lapsing.{gift}
@@ -127,7 +127,7 @@ not-same a b apart = by (eq_by_cmp nat_cmp a b) refl
     by true e = absurd (apart (same_number a b e))
     by false e = e
 
-module _ (p : PolicyRules) (sound : IsSound p) (r : ℕ) (s : Registry) (is : IsRegistry p s) (lines : HasLines p s) (name : List ℕ) (d : Domain) (at : get s.domains name ≡ Some d)
+module _ (p : PolicyRules) (sound : IsSound p) (r : ℕ) (s : Registry) (is : HasObjects p s) (lines : HasLines p s) (name : List ℕ) (d : Domain) (at : get s.domains name ≡ Some d)
     (y : Transfer) (last : d.transfer ≡ Some y) (pending : is_pending_state y.state ≡ true) where
   abbrev counted : Registry
   counted = with_account r with_command s
