@@ -26,3 +26,6 @@ pub mod RegistryLemmas
 pub mod IsolationLemmas
 pub mod LineTransferLemmas
 pub mod TransferLemmas
+pub mod AcceptedLemmas
+pub mod TransferCases
+pub mod TransferKeepingLemmas

@@ -19,7 +19,7 @@ use Rattle.protocol.specs.declared.code.Code.TheVariants.{Completed, CompletedAc
 use Rattle.protocol.specs.declared.command.Command.{Command}
 use Rattle.protocol.specs.declared.command.Command.TheVariants.{Asked, Bad}
 use Rattle.protocol.specs.declared.command.Request.{Request}
-use Rattle.protocol.specs.declared.command.Request.TheVariants.{Balance, CheckContact, CheckDomain, CheckHost, InfoContact, InfoDomain, InfoHost, CreateContact, CreateDomain, CreateHost, DeleteContact, DeleteDomain, DeleteHost, UpdateContact, UpdateDomain, UpdateHost, RenewDomain, RequestRestore, ReportRestore, PollRequest, PollAck, Logout}
+use Rattle.protocol.specs.declared.command.Request.TheVariants.{Balance, CheckContact, CheckDomain, CheckHost, InfoContact, InfoDomain, InfoHost, CreateContact, CreateDomain, CreateHost, DeleteContact, DeleteDomain, DeleteHost, UpdateContact, UpdateDomain, UpdateHost, RenewDomain, RequestRestore, ReportRestore, TransferContact, TransferDomain, PollRequest, PollAck, Logout}
 use Rattle.verdict.specs.declared.rules.Condition.TheVariants.{ReferenceIsMissing}
 use Rattle.protocol.specs.Codes.{is_accepted}
 use Rattle.facts.specs.declared.facts.Facts.{Facts}
@@ -54,27 +54,11 @@ module _ (p : PolicyRules) (r : ℕ) (cl_trid : Option (List ℕ)) (s : Registry
   kept-accepted (RenewDomain name expires years) taken = kept-renewal p r cl_trid s place is name expires years
   kept-accepted (RequestRestore name) taken = kept-restore-request p r cl_trid s place is name
   kept-accepted (ReportRestore name del_time res_time) taken = kept-restore-report p r cl_trid s place is name del_time res_time
+  kept-accepted (TransferContact name op secret) taken = kept-contact-transfers p r cl_trid s place is name op secret
+  kept-accepted (TransferDomain name op secret) taken = kept-domain-transfers p r cl_trid s place is name op secret taken
   kept-accepted PollRequest taken = kept-counted p r cl_trid s place is
   kept-accepted (PollAck id) taken = kept-account p r (with_acked id) (λ a. omega arith) (with_account r with_command s) place (kept-counted p r cl_trid s place is)
   kept-accepted (UpdateHost u) taken = kept-host-update p r cl_trid s place is u taken
-
-  -- a request that isn't refused is answered that it is carried out
-  carried-out : (request : Request) (f : Facts) → is_accepted (code_granted request f) ≡ true
-  carried-out (DeleteDomain name) f = elim (goes_at_once (domain_seen f (name_of name))) as (λ (b : Bool). is_accepted (cond b Completed CompletedActionPending) ≡ true) [ true ↦ refl | false ↦ refl ]
-  carried-out PollRequest f = elim f.queue.oldest as (λ (o : Option OldestMessage). is_accepted (code_of_poll o) ≡ true) [ None ↦ refl | Some oldest ↦ refl ]
-  carried-out _ f = refl
-
-  -- a refused command changes nothing but the caller's counter
-  kept-judged : (request : Request) (refusal : Option Code) → refusal_of p r s.clock request (facts p r (Asked cl_trid request) s) ≡ refusal
-      → HasObjects p (changed_all p (cond (is_accepted (unless_refused refusal (granted p r s.clock request (facts p r (Asked cl_trid request) s))).code) (changes_of p r s.clock request (facts p r (Asked cl_trid request) s)) []) (with_account r with_command s))
-  kept-judged request None taken =
-      let changes : List Change = changes_of p r s.clock request (facts p r (Asked cl_trid request) s) in
-      subst (λ (b : Bool). HasObjects p (changed_all p (cond b changes []) (with_account r with_command s)))
-      (sym (carried-out request (facts p r (Asked cl_trid request) s))) (kept-accepted request taken)
-  kept-judged request (Some code) refused =
-      let changes : List Change = changes_of p r s.clock request (facts p r (Asked cl_trid request) s) in
-      subst (λ (b : Bool). HasObjects p (changed_all p (cond b changes []) (with_account r with_command s)))
-      (sym (refusing p r s.clock request (facts p r (Asked cl_trid request) s) code refused)) (kept-counted p r cl_trid s place is)
 
 -- A registrar's command leaves a registry well formed, but that a serial at its greatest would be
 -- given twice.
@@ -82,4 +66,5 @@ pub kept-effect : (p : PolicyRules) (r : ℕ) (c : Command) (s : Registry) → I
 unfolding judged changes_after
 kept-effect p r (Bad cl_trid code) s place is small = kept-counted p r cl_trid s place is
 kept-effect p r (Asked cl_trid request) s place is small =
-    kept-judged p r cl_trid s place is small request (refusal_of p r s.clock request (facts p r (Asked cl_trid request) s)) refl
+    where-accepted p r s.clock request (facts p r (Asked cl_trid request) s) (λ changes. HasObjects p (changed_all p changes (with_account r with_command s)))
+    (kept-counted p r cl_trid s place is) (kept-accepted p r cl_trid s place is small request) cl_trid
