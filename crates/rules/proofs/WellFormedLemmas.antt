@@ -1,10 +1,8 @@
 -- Each step of the rules keeps a registry well formed.
-use Rattle.std.proofs.Common.{◌≡◌, ℕ, ◌<◌, Bool, true, false, cond, List, [], Option, Some, None, inl, inr, refl, sym, subst, arith}
+use Rattle.std.proofs.Common.{◌≡◌, ℕ, ◌<◌, List, None, inl, inr, refl, sym, subst, arith}
 use Rattle.accounts.specs.Account.{with_command}
 use Rattle.lifecycle.specs.Changes.{with_acked}
-use Rattle.facts.specs.declared.facts.OldestMessage.{OldestMessage}
 use Rattle.rules.proofs.KeepingLemmas.{kept-account}
-use Rattle.verdict.specs.Poll.{code_of_poll}
 use Rattle.policy.specs.Rules.{PolicyRules, IsRegistrar}
 use Rattle.rules.specs.declared.change.Change.{Change}
 use Rattle.rules.specs.Changes.{changed_all, with_account}
@@ -13,22 +11,19 @@ use Rattle.rules.specs.Steps.{effect}
 use Rattle.rules.proofs.CommandLemmas.{kept-contact-deletion, kept-contact-update, kept-counted, kept-domain-update, kept-host-deletion, kept-host-update, kept-renewal, kept-new-contact, kept-new-domain, kept-new-host}
 use Rattle.rules.proofs.DeletionLemmas.{kept-domain-deletion}
 use Rattle.rules.proofs.RestoreLemmas.{kept-restore-report, kept-restore-request}
-use Rattle.verdict.proofs.RowLemmas.{refusing, unrefused}
-use Rattle.protocol.specs.declared.code.Code.{Code}
-use Rattle.protocol.specs.declared.code.Code.TheVariants.{Completed, CompletedActionPending}
+use Rattle.verdict.proofs.RowLemmas.{unrefused}
 use Rattle.protocol.specs.declared.command.Command.{Command}
 use Rattle.protocol.specs.declared.command.Command.TheVariants.{Asked, Bad}
 use Rattle.protocol.specs.declared.command.Request.{Request}
 use Rattle.protocol.specs.declared.command.Request.TheVariants.{Balance, CheckContact, CheckDomain, CheckHost, InfoContact, InfoDomain, InfoHost, CreateContact, CreateDomain, CreateHost, DeleteContact, DeleteDomain, DeleteHost, UpdateContact, UpdateDomain, UpdateHost, RenewDomain, RequestRestore, ReportRestore, TransferContact, TransferDomain, PollRequest, PollAck, Logout}
 use Rattle.verdict.specs.declared.rules.Condition.TheVariants.{ReferenceIsMissing}
-use Rattle.protocol.specs.Codes.{is_accepted}
 use Rattle.facts.specs.declared.facts.Facts.{Facts}
-use Rattle.facts.specs.Facts.{domain_seen, facts}
-use Rattle.names.specs.GivenName.{name_of}
+use Rattle.facts.specs.Facts.{facts}
 use Rattle.model.specs.Registry.{Registry, account_of}
-use Rattle.verdict.specs.Deletion.{goes_at_once}
 use Rattle.verdict.specs.Rules.{refusal_of}
-use Rattle.verdict.specs.Verdicts.{code_granted, granted, judged, unless_refused}
+use Rattle.verdict.specs.Verdicts.{judged}
+use Rattle.rules.proofs.AcceptedLemmas.{where-accepted}
+use Rattle.rules.proofs.TransferKeepingLemmas.{kept-contact-transfers, kept-domain-transfers}
 use Rattle.model.specs.WellFormed.{HasObjects}
 
 module _ (p : PolicyRules) (r : ℕ) (cl_trid : Option (List ℕ)) (s : Registry) (place : IsRegistrar p r) (is : HasObjects p s) (small : (account_of r s).serial < 4_611_686_018_427_387_904) where
