@@ -69,7 +69,7 @@ use Rattle.rules.specs.declared.change.Change.{Change}
 use Rattle.rules.specs.declared.change.Change.TheVariants.{PutDomain, Give}
 use Rattle.rules.specs.Changes.{changed, changed_all, with_account}
 use Rattle.rules.specs.Decisions.{changes_after, changes_of, charge_line, contact_changes, deleted_domain, deletion_at, deletion_changes, domain_changes, ending, host_changes, new_domain, new_roid, renaming, renewal_changes, renewed_domain, report_changes, restore_changes, restored_domain, restoring_domain, updated_domain, updated_host}
-use Rattle.rules.specs.Orders.{cents_of, deposit_line, deposited, deposited_to, order_changes, order_effect, ordered}
+use Rattle.rules.specs.Orders.{cents_of, deposit_line, deposited, deposited_to, order_changes, order_decision, order_effect, ordered}
 use Rattle.rules.specs.Steps.{decision, effect}
 use Rattle.rules.proofs.CommandLemmas.{at-itself, domain-full, has-given, ungiven}
 use Rattle.rules.proofs.KeepingLemmas.{AreApart, IsItsOwn, domain_roid}
@@ -363,7 +363,11 @@ deposited-cents : (p : PolicyRules) (s : Registry) (id : List ℕ) (cents : Opti
 deposited-cents p s id None = tt
 deposited-cents p s id (Some cents) = deposited-place p s cents (place_of id p)
 
--- An order of the operator keeps what is so of lines.
+-- what an order of the operator changes fits the lines
+pub fits-order : (p : PolicyRules) (order : Order) (s : Registry) → HasLines p s → AllFitLines p (order_decision p order s).changes s
+fits-order p (orders.Status o) s has = fit-where p (order_changes o (object_ordered p.zone o s)) s (is_accepted (order_code o (object_ordered p.zone o s))) (λ accepted. ordered-at p s has o o.kind (name_ordered p.zone o))
+fits-order p (orders.Deposit id cents) s has = deposited-cents p s id (cents_of cents)
+
+-- and keeps what is so of them
 pub lines-order : (p : PolicyRules) (order : Order) (s : Registry) → HasLines p s → HasLines p (order_effect p order s)
-lines-order p (orders.Status o) s has = lines-changed_all p _ s (fit-where p (order_changes o (object_ordered p.zone o s)) s (is_accepted (order_code o (object_ordered p.zone o s))) (λ accepted. ordered-at p s has o o.kind (name_ordered p.zone o))) has
-lines-order p (orders.Deposit id cents) s has = lines-changed_all p _ s (deposited-cents p s id (cents_of cents)) has
+lines-order p order s has = lines-changed_all p (order_decision p order s).changes s (fits-order p order s has) has
