@@ -166,8 +166,13 @@ pub record HasLines (p : PolicyRules) (s : Registry) : Type 0 where
   pub each : (r : ℕ) → All (IsLineOf p s) (account_of r s).lines
   pub domains : (name : List ℕ) (d : Domain) → get s.domains name ≡ Some d → HasLinesOn s d
 
+-- the latest moment at which a clock stands, as no call is taken later: 2099-12-31T23:59:59Z
+abbrev pub last_clock : ℕ
+last_clock = 4_102_444_799
+
 -- a well-formed registry
 pub record IsRegistry (p : PolicyRules) (s : Registry) : Type 0 where
+  pub clock : s.clock ≤ last_clock
   pub objects : HasObjects p s
   pub lines : HasLines p s
 

@@ -5,3 +5,4 @@ pub mod OpenedLemmas
 pub mod Reopenings
 pub mod LapsingLemmas
 pub mod LapseSteps
+mod CallLemmas

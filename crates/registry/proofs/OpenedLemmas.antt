@@ -118,6 +118,7 @@ kept-opened p q s zone more is =
     (λ there. ⊎_elim (λ was. grows.place r ((is.objects.accounts r).0 was)) (λ place. place) ((places-after n r s).0 there), λ place. (places-after n r s).1 (inr place)) in
     let t : Registry = record s { accounts = accounts-after n s } in
     subst (IsRegistry p) (sym (changed-openings p n s)) (record {
+      clock = is.clock;
       objects = kept-grown q p s (accounts-after n s) s.clock grows places is.objects;
       lines = lines-domains q p s t grows (λ r. ap (λ (a : Account). a.lines) (same-account n r s)) is.lines.domains is.lines;
     })
@@ -152,7 +153,7 @@ no-lines p = record {
 }
 
 blank-is : (p : PolicyRules) → IsRegistry (without_registrars p) blank
-blank-is p = record { objects = no-objects p; lines = no-lines p }
+blank-is p = record { clock = omega arith; objects = no-objects p; lines = no-lines p }
 
 -- ---- a book is opened
 

@@ -1,6 +1,6 @@
 -- Who can't tell two registries apart is answered alike, and can't tell them apart afterwards. No
 -- command is named here: facts are a function of the view, and each change commutes with it.
-use Rattle.std.proofs.Common.{◌≡◌, ℕ, max, sym, ap, subst, ◌∙◌}
+use Rattle.std.proofs.Common.{◌≡◌, ℕ, ◌≤◌, max, sym, ap, subst, ◌∙◌}
 use Rattle.policy.specs.Rules.{PolicyRules, IsSound}
 use Rattle.rules.specs.Changes.{changed_all}
 use Rattle.rules.specs.Decisions.{decided}
@@ -16,7 +16,7 @@ use Rattle.facts.specs.Facts.{facts}
 use Rattle.model.specs.Lapse.{lapsed, now}
 use Rattle.model.specs.Registry.{Registry, account_of}
 use Rattle.model.specs.View.{view, view_for}
-use Rattle.model.specs.WellFormed.{IsRegistry}
+use Rattle.model.specs.WellFormed.{IsRegistry, last_clock}
 use Rattle.model.proofs.LapseLaws.{lapsed-is-settled, settled-is-now}
 
 same_decision : (p : PolicyRules) (r : ℕ) (c : Command) (s t : Registry) → view_for p r c s ≡ view_for p r c t → decision p r c s ≡ decision p r c t
@@ -38,11 +38,11 @@ same_effect p r c s t here there alike =
 pub effect-is-now : (p : PolicyRules) → IsSound p → (r : ℕ) (c : Command) (moment : ℕ) (s : Registry) → IsRegistry p (lapsed p moment s) → now p (effect p r c (lapsed p moment s)) ≡ effect p r c (lapsed p moment s)
 effect-is-now p sound r c moment s formed = settled-is-now p (effect p r c (lapsed p moment s)) (settled-effect p sound r c (lapsed p moment s) formed.objects (lapsed-is-settled p (max moment s.clock) s))
 
-pub isolated : (p : PolicyRules) → IsSound p → (r : ℕ) (c : Command) (moment : ℕ) (before after : Registry) (reply : Reply)
+pub isolated : (p : PolicyRules) → IsSound p → (r : ℕ) (c : Command) (moment : ℕ) → moment ≤ last_clock → (before after : Registry) (reply : Reply)
     → reply ≡ answer p r c (lapsed p moment before) → now p after ≡ now p (effect p r c (lapsed p moment before)) → IsIsolated p r c moment before after reply
-isolated p sound r c moment before after reply told left = record {
+isolated p sound r c moment early before after reply told left = record {
   same_reply = λ other alike. told ∙ sym (same_answer p r c _ _ alike);
-  same_view = λ formed other also alike. ap (view p r) (left ∙ effect-is-now p sound r c moment before (registry-lapsed p moment before formed))
-      ∙ sym (same_effect p r c (lapsed p moment other) (lapsed p moment before) (registry-lapsed p moment other also) (registry-lapsed p moment before formed) alike)
-      ∙ sym (ap (view p r) (effect-is-now p sound r c moment other (registry-lapsed p moment other also)));
+  same_view = λ formed other also alike. ap (view p r) (left ∙ effect-is-now p sound r c moment before (registry-lapsed p moment before early formed))
+      ∙ sym (same_effect p r c (lapsed p moment other) (lapsed p moment before) (registry-lapsed p moment other early also) (registry-lapsed p moment before early formed) alike)
+      ∙ sym (ap (view p r) (effect-is-now p sound r c moment other (registry-lapsed p moment other early also)));
 }

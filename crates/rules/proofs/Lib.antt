@@ -22,6 +22,7 @@ pub mod LineLapseLemmas
 pub mod LineTimeLemmas
 pub mod LineKeepingLemmas
 pub mod LineCommandLemmas
+pub mod ClockLemmas
 pub mod RegistryLemmas
 pub mod IsolationLemmas
 pub mod LineTransferLemmas

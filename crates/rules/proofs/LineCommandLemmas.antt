@@ -69,7 +69,7 @@ use Rattle.rules.specs.declared.change.Change.{Change}
 use Rattle.rules.specs.declared.change.Change.TheVariants.{PutDomain, Give}
 use Rattle.rules.specs.Changes.{changed, changed_all, with_account}
 use Rattle.rules.specs.Decisions.{changes_after, changes_of, charge_line, contact_changes, deleted_domain, deletion_at, deletion_changes, domain_changes, ending, host_changes, new_domain, new_roid, renaming, renewal_changes, renewed_domain, report_changes, restore_changes, restored_domain, restoring_domain, updated_domain, updated_host}
-use Rattle.rules.specs.Orders.{cents_of, deposit_line, deposited, deposited_to, order_changes, order_effect, ordered}
+use Rattle.rules.specs.Orders.{cents_of, deposit_line, deposited, deposited_to, order_changes, order_decision, order_effect, ordered}
 use Rattle.rules.specs.Steps.{decision, effect}
 use Rattle.rules.proofs.CommandLemmas.{at-itself, domain-full, has-given, ungiven}
 use Rattle.rules.proofs.KeepingLemmas.{AreApart, IsItsOwn, domain_roid}
@@ -273,61 +273,66 @@ module _ (p : PolicyRules) (r : ℕ) (cl_trid : Option (List ℕ)) (s : Registry
 
   -- ---- each command
 
-  -- what an accepted command changes fits the lines
-  fits : (account_of r s).serial < 4_611_686_018_427_387_904 → (q : Request) → refusal_of p r s.clock q (facts p r (Asked cl_trid q) s) ≡ None → AllFitLines p (changes_of p r s.clock q (facts p r (Asked cl_trid q) s)) counted
+  -- what an accepted command changes fits the lines at each step, or together
+  abbrev Kept : Request → Type 0
+  Kept q = AllFitLines p (changes_of p r s.clock q (facts p r (Asked cl_trid q) s)) counted ⊎ HasLines p (changed_all p (changes_of p r s.clock q (facts p r (Asked cl_trid q) s)) counted)
+
+  kept-accepted : (account_of r s).serial < 4_611_686_018_427_387_904 → (q : Request) → refusal_of p r s.clock q (facts p r (Asked cl_trid q) s) ≡ None → Kept q
   unfolding changes_of
-  fits small requests.Logout taken = tt
-  fits small requests.Balance taken = tt
-  fits small (requests.CreateContact new) taken = (tt, (tt, tt))
-  fits small (requests.CreateDomain new) taken = created small new
-  fits small (requests.CreateHost new) taken = (tt, (tt, tt))
-  fits small (requests.DeleteContact name) taken = (tt, tt)
-  fits small (requests.DeleteDomain name) taken =
+  kept-accepted small requests.Logout taken = inl tt
+  kept-accepted small requests.Balance taken = inl tt
+  kept-accepted small (requests.CreateContact new) taken = inl (tt, (tt, tt))
+  kept-accepted small (requests.CreateDomain new) taken = inl (created small new)
+  kept-accepted small (requests.CreateHost new) taken = inl (tt, (tt, tt))
+  kept-accepted small (requests.DeleteContact name) taken = inl (tt, tt)
+  kept-accepted small (requests.DeleteDomain name) taken =
       let c : Command = Asked cl_trid (requests.DeleteDomain name) in
       let known : DomainFacts = domain_facts (lookups p r c s) c (name_of name) in
-      subst (λ (o : Option DomainFacts). AllFitLines p (deletion_at r s.clock o) counted) (sym (at-itself (name_of name) known)) (deleted (name_of name) known known.seen refl)
-  fits small (requests.DeleteHost name) taken = (tt, tt)
-  fits small (requests.UpdateContact u) taken = contact-updated u (contact_seen (facts p r (Asked cl_trid (requests.UpdateContact u)) s) u.name)
-  fits small (requests.UpdateDomain u) taken =
+      inl (subst (λ (o : Option DomainFacts). AllFitLines p (deletion_at r s.clock o) counted) (sym (at-itself (name_of name) known)) (deleted (name_of name) known known.seen refl))
+  kept-accepted small (requests.DeleteHost name) taken = inl (tt, tt)
+  kept-accepted small (requests.UpdateContact u) taken = inl (contact-updated u (contact_seen (facts p r (Asked cl_trid (requests.UpdateContact u)) s) u.name))
+  kept-accepted small (requests.UpdateDomain u) taken =
       let c : Command = Asked cl_trid (requests.UpdateDomain u) in
-      updated u (domain_seen (facts p r c s) (name_of u.name)) (ap (option_and_then (λ known. known.seen)) (at-itself (name_of u.name) (domain_facts (lookups p r c s) c (name_of u.name))))
-  fits small (requests.UpdateHost u) taken = host-updated u (host_seen (facts p r (Asked cl_trid (requests.UpdateHost u)) s) (name_of u.name))
-  fits small (requests.RenewDomain name expires years) taken =
+      inl (updated u (domain_seen (facts p r c s) (name_of u.name)) (ap (option_and_then (λ known. known.seen)) (at-itself (name_of u.name) (domain_facts (lookups p r c s) c (name_of u.name)))))
+  kept-accepted small (requests.UpdateHost u) taken = inl (host-updated u (host_seen (facts p r (Asked cl_trid (requests.UpdateHost u)) s) (name_of u.name)))
+  kept-accepted small (requests.RenewDomain name expires years) taken =
       let q : Request = requests.RenewDomain name expires years in
       let c : Command = Asked cl_trid q in
-      renewed q (facts p r c s) (name_of name) (domain_seen (facts p r c s) (name_of name)) (ap (option_and_then (λ known. known.seen)) (at-itself (name_of name) (domain_facts (lookups p r c s) c (name_of name))))
-      (or_parts (is_anothers domain_sponsor r (domain_seen (facts p r c s) (name_of name))) _ (unrefused p r s.clock q (facts p r c s) taken conditions.IsAnothers (search (inl, inr) depth 20))).0
-  fits small (requests.RequestRestore name) taken =
+      inl (renewed q (facts p r c s) (name_of name) (domain_seen (facts p r c s) (name_of name)) (ap (option_and_then (λ known. known.seen)) (at-itself (name_of name) (domain_facts (lookups p r c s) c (name_of name))))
+      (or_parts (is_anothers domain_sponsor r (domain_seen (facts p r c s) (name_of name))) _ (unrefused p r s.clock q (facts p r c s) taken conditions.IsAnothers (search (inl, inr) depth 20))).0)
+  kept-accepted small (requests.RequestRestore name) taken =
       let c : Command = Asked cl_trid (requests.RequestRestore name) in
-      restoring (name_of name) (domain_seen (facts p r c s) (name_of name)) (ap (option_and_then (λ known. known.seen)) (at-itself (name_of name) (domain_facts (lookups p r c s) c (name_of name))))
-  fits small (requests.ReportRestore name del_time res_time) taken =
+      inl (restoring (name_of name) (domain_seen (facts p r c s) (name_of name)) (ap (option_and_then (λ known. known.seen)) (at-itself (name_of name) (domain_facts (lookups p r c s) c (name_of name)))))
+  kept-accepted small (requests.ReportRestore name del_time res_time) taken =
       let q : Request = requests.ReportRestore name del_time res_time in
       let c : Command = Asked cl_trid q in
-      restored q (facts p r c s) (name_of name) (domain_seen (facts p r c s) (name_of name)) (ap (option_and_then (λ known. known.seen)) (at-itself (name_of name) (domain_facts (lookups p r c s) c (name_of name))))
-      (or_parts (is_anothers domain_sponsor r (domain_seen (facts p r c s) (name_of name))) _ (unrefused p r s.clock q (facts p r c s) taken conditions.IsAnothers (search (inl, inr) depth 20))).0
-  fits small requests.PollRequest taken = tt
-  fits small (requests.PollAck id) taken = (tt, tt)
-  fits small (requests.CheckContact names) taken = tt
-  fits small (requests.CheckDomain names) taken = tt
-  fits small (requests.CheckHost names) taken = tt
-  fits small (requests.InfoContact name secret) taken = tt
-  fits small (requests.InfoDomain name secret) taken = tt
-  fits small (requests.InfoHost name) taken = tt
+      inl (restored q (facts p r c s) (name_of name) (domain_seen (facts p r c s) (name_of name)) (ap (option_and_then (λ known. known.seen)) (at-itself (name_of name) (domain_facts (lookups p r c s) c (name_of name))))
+      (or_parts (is_anothers domain_sponsor r (domain_seen (facts p r c s) (name_of name))) _ (unrefused p r s.clock q (facts p r c s) taken conditions.IsAnothers (search (inl, inr) depth 20))).0)
+  kept-accepted small requests.PollRequest taken = inl tt
+  kept-accepted small (requests.PollAck id) taken = inl (tt, tt)
+  kept-accepted small (requests.CheckContact names) taken = inl tt
+  kept-accepted small (requests.CheckDomain names) taken = inl tt
+  kept-accepted small (requests.CheckHost names) taken = inl tt
+  kept-accepted small (requests.InfoContact name secret) taken = inl tt
+  kept-accepted small (requests.InfoDomain name secret) taken = inl tt
+  kept-accepted small (requests.InfoHost name) taken = inl tt
+
+  kept-where : (changes : List Change) (b : Bool) → (b ≡ true → HasLines p (changed_all p changes counted)) → HasLines p (changed_all p (cond b changes []) counted)
+  kept-where changes true h = h refl
+  kept-where changes false h = has-counted
 
   -- a refused command changes nothing but the caller's counter
-  fits-judged : (small : (account_of r s).serial < 4_611_686_018_427_387_904) (q : Request) (refusal : Option Code) → refusal_of p r s.clock q (facts p r (Asked cl_trid q) s) ≡ refusal
-      → AllFitLines p (cond (is_accepted (unless_refused refusal (granted p r s.clock q (facts p r (Asked cl_trid q) s))).code) (changes_of p r s.clock q (facts p r (Asked cl_trid q) s)) []) counted
-  fits-judged small q None taken = fit-where p (changes_of p r s.clock q (facts p r (Asked cl_trid q) s)) counted (is_accepted (granted p r s.clock q (facts p r (Asked cl_trid q) s)).code) (λ accepted. fits small q taken)
-  fits-judged small q (Some code) refused = fit-where p (changes_of p r s.clock q (facts p r (Asked cl_trid q) s)) counted (is_accepted code)
+  kept-judged : (small : (account_of r s).serial < 4_611_686_018_427_387_904) (q : Request) (refusal : Option Code) → refusal_of p r s.clock q (facts p r (Asked cl_trid q) s) ≡ refusal
+      → HasLines p (changed_all p (cond (is_accepted (unless_refused refusal (granted p r s.clock q (facts p r (Asked cl_trid q) s))).code) (changes_of p r s.clock q (facts p r (Asked cl_trid q) s)) []) counted)
+  kept-judged small q None taken = kept-where (changes_of p r s.clock q (facts p r (Asked cl_trid q) s)) (is_accepted (granted p r s.clock q (facts p r (Asked cl_trid q) s)).code) (λ accepted. ⊎_elim (λ fit. lines-changed_all p (changes_of p r s.clock q (facts p r (Asked cl_trid q) s)) counted fit has-counted) (λ kept. kept) (kept-accepted small q taken))
+  kept-judged small q (Some code) refused = kept-where (changes_of p r s.clock q (facts p r (Asked cl_trid q) s)) (is_accepted code)
       (λ accepted. let never : true ≡ false = sym accepted ∙ refusing p r s.clock q (facts p r (Asked cl_trid q) s) code refused in absurd cc)
 
 -- A registrar's command keeps what is so of lines, where nothing is due.
 pub lines-effect : (p : PolicyRules) (r : ℕ) (c : Command) (s : Registry) → IsRegistrar p r → HasObjects p s → HasLines p s → IsSettled p s → (account_of r s).serial < 4_611_686_018_427_387_904 → HasLines p (effect p r c s)
 unfolding judged changes_after
-lines-effect p r (Bad cl_trid fault) s place is has settled small = lines-changed_all p (decision p r (Bad cl_trid fault) s).changes s (tt, tt) has
-lines-effect p r (Asked cl_trid q) s place is has settled small =
-    lines-changed_all p (decision p r (Asked cl_trid q) s).changes s
-    (tt, fits-judged p r cl_trid s place is has settled small q (refusal_of p r s.clock q (facts p r (Asked cl_trid q) s)) refl) has
+lines-effect p r (Bad cl_trid fault) s place is has settled small = has-counted p r cl_trid s place is has settled
+lines-effect p r (Asked cl_trid q) s place is has settled small = kept-judged p r cl_trid s place is has settled small q (refusal_of p r s.clock q (facts p r (Asked cl_trid q) s)) refl
 
 -- ---- orders
 
@@ -358,7 +363,11 @@ deposited-cents : (p : PolicyRules) (s : Registry) (id : List ℕ) (cents : Opti
 deposited-cents p s id None = tt
 deposited-cents p s id (Some cents) = deposited-place p s cents (place_of id p)
 
--- An order of the operator keeps what is so of lines.
+-- what an order of the operator changes fits the lines
+pub fits-order : (p : PolicyRules) (order : Order) (s : Registry) → HasLines p s → AllFitLines p (order_decision p order s).changes s
+fits-order p (orders.Status o) s has = fit-where p (order_changes o (object_ordered p.zone o s)) s (is_accepted (order_code o (object_ordered p.zone o s))) (λ accepted. ordered-at p s has o o.kind (name_ordered p.zone o))
+fits-order p (orders.Deposit id cents) s has = deposited-cents p s id (cents_of cents)
+
+-- and keeps what is so of them
 pub lines-order : (p : PolicyRules) (order : Order) (s : Registry) → HasLines p s → HasLines p (order_effect p order s)
-lines-order p (orders.Status o) s has = lines-changed_all p _ s (fit-where p (order_changes o (object_ordered p.zone o s)) s (is_accepted (order_code o (object_ordered p.zone o s))) (λ accepted. ordered-at p s has o o.kind (name_ordered p.zone o))) has
-lines-order p (orders.Deposit id cents) s has = lines-changed_all p _ s (deposited-cents p s id (cents_of cents)) has
+lines-order p order s has = lines-changed_all p (order_decision p order s).changes s (fits-order p order s has) has

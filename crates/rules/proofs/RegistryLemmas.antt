@@ -1,4 +1,4 @@
--- Each step of the rules, and time alone, keep a registry well formed, with its objects and its lines.
+-- Each step of the rules, and time alone, keep a registry well formed, with its clock, its objects and its lines.
 use Rattle.std.proofs.Common.{ℕ, ◌≤◌, ◌<◌, max, subst, arith}
 use Rattle.policy.specs.Rules.{PolicyRules, IsRegistrar}
 use Rattle.protocol.specs.declared.command.Command.{Command}
@@ -6,33 +6,42 @@ use Rattle.protocol.specs.declared.order.Order.{Order}
 use Rattle.model.specs.Lapse.{lapse, lapsed, now}
 use Rattle.model.specs.LapseLaws.{IsSettled}
 use Rattle.model.specs.Registry.{Registry, account_of}
-use Rattle.model.specs.WellFormed.{IsRegistry}
+use Rattle.model.specs.WellFormed.{IsRegistry, last_clock}
 use Rattle.model.proofs.LapseLaws.{lapses-on}
 use Rattle.rules.specs.Orders.{order_effect}
 use Rattle.rules.specs.Steps.{effect}
+use Rattle.rules.proofs.ClockLemmas.{clock-effect, clock-order}
 use Rattle.rules.proofs.LapsedLemmas.{kept-lapse}
 use Rattle.rules.proofs.LineCommandLemmas.{lines-effect, lines-order}
 use Rattle.rules.proofs.LineTimeLemmas.{lines-lapse}
 use Rattle.rules.proofs.OrderLemmas.{kept-order}
 use Rattle.rules.proofs.WellFormedLemmas.{kept-effect}
 
-pub registry-lapse : (p : PolicyRules) (t : ℕ) (s : Registry) → s.clock ≤ t → IsRegistry p s → IsRegistry p (lapse p t s)
-registry-lapse p t s le is = record { objects = kept-lapse p t s le is.objects; lines = lines-lapse p t s le is.objects is.lines }
+pub registry-lapse : (p : PolicyRules) (t : ℕ) (s : Registry) → s.clock ≤ t → t ≤ last_clock → IsRegistry p s → IsRegistry p (lapse p t s)
+registry-lapse p t s le early is = record { clock = early; objects = kept-lapse p t s le is.objects; lines = lines-lapse p t s le is.objects is.lines }
 
 -- what is due by its own clock is done
 pub registry-now : (p : PolicyRules) (s : Registry) → IsRegistry p s → IsRegistry p (now p s)
-registry-now p s is = registry-lapse p s.clock s (omega arith) is
+registry-now p s is = registry-lapse p s.clock s (omega arith) is.clock is
 
 -- time passes; it is enough that what is kept is well formed by its own clock
-pub registry-lapsed : (p : PolicyRules) (moment : ℕ) (s : Registry) → IsRegistry p (now p s) → IsRegistry p (lapsed p moment s)
-registry-lapsed p moment s is =
+pub registry-lapsed : (p : PolicyRules) (moment : ℕ) (s : Registry) → moment ≤ last_clock → IsRegistry p (now p s) → IsRegistry p (lapsed p moment s)
+registry-lapsed p moment s early is =
     let t : ℕ = max moment s.clock in
-    subst (IsRegistry p) (lapses-on p s.clock t (omega arith) s) (registry-lapse p t (now p s) (omega arith) is)
+    subst (IsRegistry p) (lapses-on p s.clock t (omega arith) s) (registry-lapse p t (now p s) (omega arith) (omega (arith, early, is.clock)) is)
 
 -- A registrar's command, where nothing is due, but that a serial at its greatest would be given twice.
 pub registry-effect : (p : PolicyRules) (r : ℕ) (c : Command) (s : Registry) → IsRegistrar p r → IsRegistry p s → IsSettled p s → (account_of r s).serial < 4_611_686_018_427_387_904 → IsRegistry p (effect p r c s)
-registry-effect p r c s place is settled small = record { objects = kept-effect p r c s place is.objects small; lines = lines-effect p r c s place is.objects is.lines settled small }
+registry-effect p r c s place is settled small = record {
+  clock = omega (arith, is.clock, clock-effect p r c s is);
+  objects = kept-effect p r c s place is.objects small;
+  lines = lines-effect p r c s place is.objects is.lines settled small;
+}
 
 -- an order of the operator
 pub registry-order : (p : PolicyRules) (order : Order) (s : Registry) → IsRegistry p s → IsRegistry p (order_effect p order s)
-registry-order p order s is = record { objects = kept-order p order s is.objects; lines = lines-order p order s is.lines }
+registry-order p order s is = record {
+  clock = omega (arith, is.clock, clock-order p order s is.lines);
+  objects = kept-order p order s is.objects;
+  lines = lines-order p order s is.lines;
+}

@@ -1,9 +1,10 @@
+use Rattle.registry.proofs.CallLemmas.{taken}
 use Rattle.registry.proofs.Reopenings.{reopened_step}
 use Rattle.registry.proofs.StepsKept.{kept_greeting}
 use Rattle.registry.proofs.registry.Registry.greet.Goals as goal
 
 pub returns-clause-well_formed : goal.returns-clause-well_formed
-returns-clause-well_formed g c = kept_greeting c.greeting_step.result _ c.args.self.now.policy c.args.moment _ _ c.greeting_step.ensures.step
+returns-clause-well_formed g c = kept_greeting c.greeting_step.result _ c.args.self.now.policy c.args.moment (taken c.is_late.result c.args.moment c.is_late.ensures c.if-is_late.false) _ _ c.greeting_step.ensures.step
 
 pub returns-clause-reopens : goal.returns-clause-reopens
 returns-clause-reopens g c =

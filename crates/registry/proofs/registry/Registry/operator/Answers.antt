@@ -1,9 +1,10 @@
+use Rattle.registry.proofs.CallLemmas.{taken}
 use Rattle.registry.proofs.Reopenings.{reopened_step}
 use Rattle.registry.proofs.StepsKept.{kept_order_step}
 use Rattle.registry.proofs.registry.Registry.operator.Goals as goal
 
 pub returns-clause-well_formed : goal.returns-clause-well_formed
-returns-clause-well_formed g c = kept_order_step c.order_step.result _ c.args.self.now.policy c.args.order.now c.args.moment _ _ c.order_step.ensures.step
+returns-clause-well_formed g c = kept_order_step c.order_step.result _ c.args.self.now.policy c.args.order.now c.args.moment (taken c.is_late.result c.args.moment c.is_late.ensures c.if-is_late.false) _ _ c.order_step.ensures.step
 
 pub returns-clause-reopens : goal.returns-clause-reopens
 returns-clause-reopens g c =
