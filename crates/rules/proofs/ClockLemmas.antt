@@ -1,6 +1,6 @@
 -- Commands and orders leave the clock where it stands.
 use Rattle.std.proofs.Common.{◌≡◌, ℕ, List, [], ◌∷◌, refl, ◌∙◌}
-use Rattle.policy.specs.Rules.{PolicyRules}
+use Rattle.policy.specs.Rules.{PolicyRules, IsSound}
 use Rattle.protocol.specs.declared.command.Command.{Command}
 use Rattle.protocol.specs.declared.order.Order.{Order}
 use Rattle.rules.specs.declared.change.Change.{Change}
@@ -35,8 +35,8 @@ clock-met_all : (p : PolicyRules) (r : ℕ) (changes : List Change) (s : Registr
 clock-met_all p r [] s meet = refl
 clock-met_all p r (change ∷ changes) s meet = clock-met_all p r changes (changed p change s) meet.1 ∙ clock-met p r change s meet.0
 
-pub clock-effect : (p : PolicyRules) (r : ℕ) (c : Command) (s : Registry) → IsRegistry p s → (effect p r c s).clock ≡ s.clock
-clock-effect p r c s is = clock-met_all p r (decision p r c s).changes s (meets-decided p r c s is)
+pub clock-effect : (p : PolicyRules) → IsSound p → (r : ℕ) (c : Command) (s : Registry) → IsRegistry p s → (effect p r c s).clock ≡ s.clock
+clock-effect p sound r c s is = clock-met_all p r (decision p r c s).changes s (meets-decided p sound r c s is)
 
 -- ---- orders
 

@@ -30,3 +30,5 @@ pub mod TransferLemmas
 pub mod AcceptedLemmas
 pub mod TransferCases
 pub mod TransferKeepingLemmas
+pub mod PutLemmas
+pub mod TransferLineLemmas

@@ -35,7 +35,9 @@ use Rattle.objects.specs.declared.sight.Seen.TheVariants.{Full, TransferParty, P
 use Rattle.objects.specs.declared.transfer.Transfer.{Transfer}
 use Rattle.objects.specs.Domains.{expiry}
 use Rattle.objects.specs.Transfers.{is_pending, is_pending_state}
-use Rattle.policy.specs.Rules.{PolicyRules, IsRegistrar, place_of}
+use Rattle.policy.specs.Rules.{PolicyRules, IsRegistrar, place_of, IsSound}
+use Rattle.rules.proofs.AcceptedLemmas.{where-accepted}
+use Rattle.rules.proofs.TransferLineLemmas.{fits-contact-transfers, lines-domain-transfers}
 use Rattle.protocol.specs.declared.command.Command.{Command}
 use Rattle.protocol.specs.declared.command.Command.TheVariants.{Asked, Bad}
 use Rattle.protocol.specs.declared.command.ContactUpdate.{ContactUpdate}
@@ -63,7 +65,7 @@ use Rattle.model.specs.LapseLaws.{IsSettled}
 use Rattle.model.specs.Objects.{object_at, object_ordered}
 use Rattle.model.specs.Registry.{Registry, account_of}
 use Rattle.model.specs.View.{domain_sight}
-use Rattle.model.specs.WellFormed.{HasBeen, HasLines, HasLinesOn, HasRoid, IsDeletion, IsLineOf, HasObjects, WasGiven, begins_after, charges_waiting, is_begun_after}
+use Rattle.model.specs.WellFormed.{HasBeen, HasLines, HasLinesOn, HasRoid, IsDeletion, IsLineOf, HasObjects, WasGiven, begins_after, charges_waiting, is_begun_after, IsRegistry, last_clock}
 use Rattle.model.proofs.LineLemmas.{count-none, none-by}
 use Rattle.rules.specs.declared.change.Change.{Change}
 use Rattle.rules.specs.declared.change.Change.TheVariants.{PutDomain, Give}
@@ -136,7 +138,7 @@ fit-where p changes s false h = tt
 sponsored : (r : ℕ) (full : FullDomain) → is_anothers {O = FullDomain} {F = DomainFace} domain_sponsor r (Some (Full full)) ≡ false → r ≡ full.domain.sponsor
 sponsored r full own = sym (eqb-true full.domain.sponsor r (not-false (full.domain.sponsor == r) own))
 
-module _ (p : PolicyRules) (r : ℕ) (cl_trid : Option (List ℕ)) (s : Registry) (place : IsRegistrar p r) (is : HasObjects p s) (has : HasLines p s) (settled : IsSettled p s) where
+module _ (p : PolicyRules) (r : ℕ) (cl_trid : Option (List ℕ)) (s : Registry) (place : IsRegistrar p r) (is : HasObjects p s) (has : HasLines p s) (settled : IsSettled p s) (sound : IsSound p) (early : s.clock ≤ last_clock) where
   -- the registry once the command is counted
   abbrev counted : Registry
   counted = with_account r with_command s
@@ -308,6 +310,8 @@ module _ (p : PolicyRules) (r : ℕ) (cl_trid : Option (List ℕ)) (s : Registry
       let c : Command = Asked cl_trid q in
       inl (restored q (facts p r c s) (name_of name) (domain_seen (facts p r c s) (name_of name)) (ap (option_and_then (λ known. known.seen)) (at-itself (name_of name) (domain_facts (lookups p r c s) c (name_of name))))
       (or_parts (is_anothers domain_sponsor r (domain_seen (facts p r c s) (name_of name))) _ (unrefused p r s.clock q (facts p r c s) taken conditions.IsAnothers (search (inl, inr) depth 20))).0)
+  kept-accepted small (requests.TransferContact name op secret) taken = inl (fits-contact-transfers p r cl_trid s name op secret)
+  kept-accepted small (requests.TransferDomain name op secret) taken = inr (lines-domain-transfers p sound r cl_trid s place early is has name op secret taken)
   kept-accepted small requests.PollRequest taken = inl tt
   kept-accepted small (requests.PollAck id) taken = inl (tt, tt)
   kept-accepted small (requests.CheckContact names) taken = inl tt
@@ -317,22 +321,17 @@ module _ (p : PolicyRules) (r : ℕ) (cl_trid : Option (List ℕ)) (s : Registry
   kept-accepted small (requests.InfoDomain name secret) taken = inl tt
   kept-accepted small (requests.InfoHost name) taken = inl tt
 
-  kept-where : (changes : List Change) (b : Bool) → (b ≡ true → HasLines p (changed_all p changes counted)) → HasLines p (changed_all p (cond b changes []) counted)
-  kept-where changes true h = h refl
-  kept-where changes false h = has-counted
-
-  -- a refused command changes nothing but the caller's counter
-  kept-judged : (small : (account_of r s).serial < 4_611_686_018_427_387_904) (q : Request) (refusal : Option Code) → refusal_of p r s.clock q (facts p r (Asked cl_trid q) s) ≡ refusal
-      → HasLines p (changed_all p (cond (is_accepted (unless_refused refusal (granted p r s.clock q (facts p r (Asked cl_trid q) s))).code) (changes_of p r s.clock q (facts p r (Asked cl_trid q) s)) []) counted)
-  kept-judged small q None taken = kept-where (changes_of p r s.clock q (facts p r (Asked cl_trid q) s)) (is_accepted (granted p r s.clock q (facts p r (Asked cl_trid q) s)).code) (λ accepted. ⊎_elim (λ fit. lines-changed_all p (changes_of p r s.clock q (facts p r (Asked cl_trid q) s)) counted fit has-counted) (λ kept. kept) (kept-accepted small q taken))
-  kept-judged small q (Some code) refused = kept-where (changes_of p r s.clock q (facts p r (Asked cl_trid q) s)) (is_accepted code)
-      (λ accepted. let never : true ≡ false = sym accepted ∙ refusing p r s.clock q (facts p r (Asked cl_trid q) s) code refused in absurd cc)
+  -- together with the count of the command
+  pub kept-taken : (account_of r s).serial < 4_611_686_018_427_387_904 → (q : Request) → refusal_of p r s.clock q (facts p r (Asked cl_trid q) s) ≡ None → HasLines p (changed_all p (changes_of p r s.clock q (facts p r (Asked cl_trid q) s)) counted)
+  kept-taken small q taken = ⊎_elim (λ fit. lines-changed_all p (changes_of p r s.clock q (facts p r (Asked cl_trid q) s)) counted fit has-counted) (λ kept. kept) (kept-accepted small q taken)
 
 -- A registrar's command keeps what is so of lines, where nothing is due.
-pub lines-effect : (p : PolicyRules) (r : ℕ) (c : Command) (s : Registry) → IsRegistrar p r → HasObjects p s → HasLines p s → IsSettled p s → (account_of r s).serial < 4_611_686_018_427_387_904 → HasLines p (effect p r c s)
-unfolding judged changes_after
-lines-effect p r (Bad cl_trid fault) s place is has settled small = has-counted p r cl_trid s place is has settled
-lines-effect p r (Asked cl_trid q) s place is has settled small = kept-judged p r cl_trid s place is has settled small q (refusal_of p r s.clock q (facts p r (Asked cl_trid q) s)) refl
+pub lines-effect : (p : PolicyRules) → IsSound p → (r : ℕ) (c : Command) (s : Registry) → IsRegistrar p r → IsRegistry p s → IsSettled p s → (account_of r s).serial < 4_611_686_018_427_387_904 → HasLines p (effect p r c s)
+unfolding changes_after
+lines-effect p sound r (Bad cl_trid fault) s place is settled small = has-counted p r cl_trid s place is.objects is.lines settled sound is.clock
+lines-effect p sound r (Asked cl_trid q) s place is settled small =
+    where-accepted p r s.clock q (facts p r (Asked cl_trid q) s) (λ changes. HasLines p (changed_all p changes (with_account r with_command s)))
+    (has-counted p r cl_trid s place is.objects is.lines settled sound is.clock) (kept-taken p r cl_trid s place is.objects is.lines settled sound is.clock small q) cl_trid
 
 -- ---- orders
 

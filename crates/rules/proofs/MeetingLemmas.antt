@@ -22,7 +22,9 @@ use Rattle.rules.specs.declared.change.Change.TheVariants.{PutDomain}
 use Rattle.rules.specs.Changes.{with_account}
 use Rattle.rules.specs.Decisions.{changes_after, changes_of, contact_changes, deleted_domain, deletion_at, deletion_changes, domain_changes, ending, host_changes, new_domain, renaming, renewal_changes, renewed_domain, report_changes, restore_changes, restored_domain, restoring_domain, updated_domain, updated_host}
 use Rattle.rules.specs.Steps.{decision}
-use Rattle.rules.proofs.HandedOver.{transfer_alone}
+use Rattle.rules.proofs.AcceptedLemmas.{where-accepted}
+use Rattle.rules.proofs.PutLemmas.{eq-self, put-again, put-own}
+use Rattle.rules.proofs.TransferLemmas.{meet-contact-transfers, meet-domain-transfers}
 use Rattle.rules.proofs.CommandLemmas.{at-itself, domain-full}
 use Rattle.rules.proofs.SightLemmas.{graces-seen, sponsor-seen}
 use Rattle.rules.proofs.ViewLemmas.{AllMeet, Meets, graces_kept, graces_put, same_number}
@@ -41,43 +43,11 @@ use Rattle.model.specs.Registry.{Registry, account_of}
 use Rattle.lifecycle.specs.Graces.{graces}
 use Rattle.model.specs.Standing.{graces_of, standing_of}
 use Rattle.model.specs.View.{domain_sight, view}
-use Rattle.model.specs.WellFormed.{HasObjects, IsRegistry}
+use Rattle.model.specs.WellFormed.{HasLines, HasObjects, IsRegistry}
+use Rattle.verdict.specs.Rules.{refusal_of}
 use Rattle.verdict.specs.Deletion.{goes_at_once}
 
-pub eq-self : (a : ℕ) → eq_by_cmp nat_cmp a a ≡ true
-eq-self a = (eq_by_cmp_equiv nat_cmp_total).refl a
-
--- ---- a domain that is put
-
-module _ (p : PolicyRules) (r : ℕ) (s : Registry) where
-  -- the registrar's own has the graces of its lines
-  pub put-own : (d : Domain) → eq_by_cmp nat_cmp d.sponsor r ≡ true → graces_of p s d ≡ graces_put p r d (view p r s)
-  put-own d e =
-      ap (λ (k : ℕ). graces p s.clock d.roid d.transferred (account_of k s).lines) (same_number d.sponsor r e)
-      ∙ sym (ap (λ (b : Bool). cond b (graces p s.clock d.roid d.transferred (account_of r s).lines) (graces_kept d.sponsor (get (view p r s).domains d.name))) e)
-
-  -- another's has those that were seen, where this was its sponsor before
-  pub kept-at : (sponsor : ℕ) (name : List ℕ) (before : Domain) → get s.domains name ≡ Some before
-      → graces_kept sponsor (get (view p r s).domains name) ≡ cond (eq_by_cmp nat_cmp before.sponsor sponsor) (graces_of p s before) transfer_alone
-  kept-at sponsor name before found =
-      ap (graces_kept sponsor) (get-map_values (slice_cmp nat_cmp) nat_list_cmp_total names_apart (λ name. domain_sight p r s None) s.domains name ∙ ap (option_map (domain_sight p r s None)) found)
-      ∙ (λ i. cond (eq_by_cmp nat_cmp (sponsor-seen r None (standing_of p s before) before i) sponsor) (graces-seen r None (standing_of p s before) before i) transfer_alone)
-
-  pub put-by : (d : Domain) (b : Bool) → eq_by_cmp nat_cmp d.sponsor r ≡ b → (b ≡ false → graces_of p s d ≡ graces_kept d.sponsor (get (view p r s).domains d.name)) → graces_of p s d ≡ graces_put p r d (view p r s)
-  put-by d true e h = put-own d e
-  put-by d false e h = h refl ∙ sym (ap (λ (b : Bool). cond b (graces p s.clock d.roid d.transferred (account_of r s).lines) (graces_kept d.sponsor (get (view p r s).domains d.name))) e)
-
-  -- one whose sponsor, ROID and last completed transfer stay has the graces that were seen
-  pub put-again : (before d : Domain) → get s.domains d.name ≡ Some before → d.sponsor ≡ before.sponsor → graces_of p s d ≡ graces_of p s before → graces_of p s d ≡ graces_put p r d (view p r s)
-  put-again before d found sponsor alike = put-by d (eq_by_cmp nat_cmp d.sponsor r) refl (λ not_own.
-      alike ∙ sym (kept-at d.sponsor d.name before found
-      ∙ ap (λ (b : Bool). cond b (graces_of p s before) transfer_alone) (ap (λ (k : ℕ). eq_by_cmp nat_cmp before.sponsor k) sponsor ∙ eq-self before.sponsor)))
-
 -- ---- each command
-
-meet-where : (p : PolicyRules) (r : ℕ) (s : Registry) (changes : List Change) (b : Bool) → AllMeet p r changes s → AllMeet p r (cond b changes []) s
-meet-where p r s changes true h = h
-meet-where p r s changes false h = tt
 
 meet-contact : (p : PolicyRules) (r t : ℕ) (u : ContactUpdate) (seen : Option (Seen Contact ContactFace)) (s : Registry) → AllMeet p r (contact_changes t u seen) s
 meet-contact p r t u None s = tt
@@ -191,33 +161,36 @@ module _ (p : PolicyRules) (r : ℕ) (cl_trid : Option (List ℕ)) (s : Registry
   meet-deletion name = subst (λ (o : Option DomainFacts). AllMeet p r (deletion_at r s.clock o) counted) (sym (at-itself (name_of name) (known_at name))) (meet-known name (known_at name).seen refl)
 
   -- what an accepted command changes meets what is asked
-  meets : (q : Request) → AllMeet p r (changes_of p r s.clock q (facts p r (Asked cl_trid q) s)) counted
+  meets : IsSound p → HasLines p s → (q : Request) → refusal_of p r s.clock q (facts p r (Asked cl_trid q) s) ≡ None → AllMeet p r (changes_of p r s.clock q (facts p r (Asked cl_trid q) s)) counted
   unfolding changes_of
-  meets requests.Logout = tt
-  meets requests.Balance = tt
-  meets (requests.CreateContact new) = (tt, (inl refl, tt))
-  meets (requests.CreateDomain new) = (put-own p r counted (new_domain r s.clock (facts p r (Asked cl_trid (requests.CreateDomain new)) s) new) (eq-self r), (inl refl, (inl refl, tt)))
-  meets (requests.CreateHost new) = (tt, (inl refl, tt))
-  meets (requests.DeleteContact name) = (tt, tt)
-  meets (requests.DeleteDomain name) = meet-deletion name
-  meets (requests.DeleteHost name) = (tt, tt)
-  meets (requests.UpdateContact u) = meet-contact p r s.clock u (contact_seen (facts p r (Asked cl_trid (requests.UpdateContact u)) s) u.name) counted
-  meets (requests.UpdateDomain u) = meet-domain u
-  meets (requests.UpdateHost u) = meet-host p r s.clock u (host_seen (facts p r (Asked cl_trid (requests.UpdateHost u)) s) (name_of u.name)) counted
-  meets (requests.RenewDomain name expires years) = meet-renewal name expires years
-  meets (requests.RequestRestore name) = meet-restore name
-  meets (requests.ReportRestore name del_time res_time) = meet-report name del_time res_time
-  meets requests.PollRequest = tt
-  meets (requests.PollAck id) = (inl refl, tt)
-  meets (requests.CheckContact names) = tt
-  meets (requests.CheckDomain names) = tt
-  meets (requests.CheckHost names) = tt
-  meets (requests.InfoContact name secret) = tt
-  meets (requests.InfoDomain name secret) = tt
-  meets (requests.InfoHost name) = tt
+  meets sound lines requests.Logout taken = tt
+  meets sound lines requests.Balance taken = tt
+  meets sound lines (requests.CreateContact new) taken = (tt, (inl refl, tt))
+  meets sound lines (requests.CreateDomain new) taken = (put-own p r counted (new_domain r s.clock (facts p r (Asked cl_trid (requests.CreateDomain new)) s) new) (eq-self r), (inl refl, (inl refl, tt)))
+  meets sound lines (requests.CreateHost new) taken = (tt, (inl refl, tt))
+  meets sound lines (requests.DeleteContact name) taken = (tt, tt)
+  meets sound lines (requests.DeleteDomain name) taken = meet-deletion name
+  meets sound lines (requests.DeleteHost name) taken = (tt, tt)
+  meets sound lines (requests.UpdateContact u) taken = meet-contact p r s.clock u (contact_seen (facts p r (Asked cl_trid (requests.UpdateContact u)) s) u.name) counted
+  meets sound lines (requests.UpdateDomain u) taken = meet-domain u
+  meets sound lines (requests.UpdateHost u) taken = meet-host p r s.clock u (host_seen (facts p r (Asked cl_trid (requests.UpdateHost u)) s) (name_of u.name)) counted
+  meets sound lines (requests.RenewDomain name expires years) taken = meet-renewal name expires years
+  meets sound lines (requests.RequestRestore name) taken = meet-restore name
+  meets sound lines (requests.ReportRestore name del_time res_time) taken = meet-report name del_time res_time
+  meets sound lines (requests.TransferContact name op secret) taken = meet-contact-transfers p r cl_trid s name op secret
+  meets sound lines (requests.TransferDomain name op secret) taken = meet-domain-transfers p sound r cl_trid s is lines name op secret taken
+  meets sound lines requests.PollRequest taken = tt
+  meets sound lines (requests.PollAck id) taken = (inl refl, tt)
+  meets sound lines (requests.CheckContact names) taken = tt
+  meets sound lines (requests.CheckDomain names) taken = tt
+  meets sound lines (requests.CheckHost names) taken = tt
+  meets sound lines (requests.InfoContact name secret) taken = tt
+  meets sound lines (requests.InfoDomain name secret) taken = tt
+  meets sound lines (requests.InfoHost name) taken = tt
 
 -- what a command changes meets what is asked
-pub meets-decided : (p : PolicyRules) (r : ℕ) (c : Command) (s : Registry) → IsRegistry p s → AllMeet p r (decision p r c s).changes s
+pub meets-decided : (p : PolicyRules) → IsSound p → (r : ℕ) (c : Command) (s : Registry) → IsRegistry p s → AllMeet p r (decision p r c s).changes s
 unfolding changes_after
-meets-decided p r (Bad cl_trid fault) s is = (inl refl, tt)
-meets-decided p r (Asked cl_trid q) s is = (inl refl, meet-where p r (counted p r cl_trid s is.objects) (changes_of p r s.clock q (facts p r (Asked cl_trid q) s)) (is_accepted (decision p r (Asked cl_trid q) s).verdict.code) (meets p r cl_trid s is.objects q))
+meets-decided p sound r (Bad cl_trid fault) s is = (inl refl, tt)
+meets-decided p sound r (Asked cl_trid q) s is =
+    (inl refl, where-accepted p r s.clock q (facts p r (Asked cl_trid q) s) (λ changes. AllMeet p r changes (with_account r with_command s)) tt (meets p r cl_trid s is.objects sound is.lines q) cl_trid)

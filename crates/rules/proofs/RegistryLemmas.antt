@@ -1,6 +1,6 @@
 -- Each step of the rules, and time alone, keep a registry well formed, with its clock, its objects and its lines.
 use Rattle.std.proofs.Common.{ℕ, ◌≤◌, ◌<◌, max, subst, arith}
-use Rattle.policy.specs.Rules.{PolicyRules, IsRegistrar}
+use Rattle.policy.specs.Rules.{PolicyRules, IsRegistrar, IsSound}
 use Rattle.protocol.specs.declared.command.Command.{Command}
 use Rattle.protocol.specs.declared.order.Order.{Order}
 use Rattle.model.specs.Lapse.{lapse, lapsed, now}
@@ -31,11 +31,11 @@ registry-lapsed p moment s early is =
     subst (IsRegistry p) (lapses-on p s.clock t (omega arith) s) (registry-lapse p t (now p s) (omega arith) (omega (arith, early, is.clock)) is)
 
 -- A registrar's command, where nothing is due, but that a serial at its greatest would be given twice.
-pub registry-effect : (p : PolicyRules) (r : ℕ) (c : Command) (s : Registry) → IsRegistrar p r → IsRegistry p s → IsSettled p s → (account_of r s).serial < 4_611_686_018_427_387_904 → IsRegistry p (effect p r c s)
-registry-effect p r c s place is settled small = record {
-  clock = omega (arith, is.clock, clock-effect p r c s is);
+pub registry-effect : (p : PolicyRules) → IsSound p → (r : ℕ) (c : Command) (s : Registry) → IsRegistrar p r → IsRegistry p s → IsSettled p s → (account_of r s).serial < 4_611_686_018_427_387_904 → IsRegistry p (effect p r c s)
+registry-effect p sound r c s place is settled small = record {
+  clock = omega (arith, is.clock, clock-effect p sound r c s is);
   objects = kept-effect p r c s place is.objects small;
-  lines = lines-effect p r c s place is.objects is.lines settled small;
+  lines = lines-effect p sound r c s place is settled small;
 }
 
 -- an order of the operator

@@ -1,10 +1,11 @@
 -- What a command or an order leaves of a registry in which nothing is due has nothing due in it.
-use Rattle.std.proofs.Common.{◌≡◌, ⊎_elim, inl, inr, ℕ, ◌+◌, ◌<◌, ◌≤◌, max, Bool, true, false, cond, List, [], ◌∷◌, Option, Some, None, option_and_then, option_map, refl, sym, ap, subst, arith}
+use Rattle.std.proofs.Common.{◌≡◌, ⊎_elim, inl, inr, ℕ, ◌+◌, ◌<◌, ◌≤◌, max, nat_le, Bool, true, false, cond, List, [], ◌∷◌, Option, Some, None, option_and_then, option_map, refl, sym, ap, subst, arith}
 use Rattle.std.proofs.lemmas.Bool.{cases_lt}
+use Rattle.std.proofs.lemmas.Bool.Decides.{nat_tests}
 use Rattle.std.specs.FinMap.{get}
 use Rattle.calendar.specs.Moment.{plus_years}
 use Rattle.calendar.proofs.YearLaws.{plus_years-lt, plus_years-zero}
-use Rattle.lifecycle.specs.Lapse.{completes_at, due_at, due_by, due_of, earlier}
+use Rattle.lifecycle.specs.Lapse.{completes_at, due_at, due_by, due_of, earlier, gained, handed_over}
 use Rattle.lifecycle.specs.Phases.{purge_at}
 use Rattle.lifecycle.specs.Turns.{turns}
 use Rattle.lifecycle.proofs.TurnLaws.{turns-are}
@@ -46,7 +47,14 @@ use Rattle.model.specs.LapseLaws.{IsSettled}
 use Rattle.model.specs.Objects.{object_at, object_ordered}
 use Rattle.model.specs.Registry.{Registry}
 use Rattle.model.specs.View.{domain_sight}
-use Rattle.model.specs.WellFormed.{IsDeletion, HasObjects}
+use Rattle.model.specs.WellFormed.{IsDeletion, HasObjects, last_clock}
+use Rattle.lifecycle.specs.Transfers.{ended as ended_so, requested}
+use Rattle.objects.specs.declared.transfer.TransferState.TheVariants.{ClientApproved, ClientRejected, ClientCancelled}
+use Rattle.protocol.specs.declared.transfer.TransferOp.{TransferOp}
+use Rattle.rules.specs.Transfers.{contact_transfer_changes, domain_transfer_changes, domain_with_transfer}
+use Rattle.rules.proofs.AcceptedLemmas.{where-accepted}
+use Rattle.rules.proofs.TransferCases.{contact-cases, domain-cases}
+use Rattle.verdict.specs.Rules.{refusal_of}
 use Rattle.verdict.specs.Deletion.{goes_at_once}
 use Rattle.verdict.specs.Orders.{order_code}
 use Rattle.rules.specs.declared.change.Change.{Change}
@@ -188,7 +196,7 @@ nothing-where : (p : PolicyRules) (t : ℕ) (changes : List Change) (b : Bool) �
 nothing-where p t changes true h = h
 nothing-where p t changes false h = tt
 
-module _ (p : PolicyRules) (sound : IsSound p) (r : ℕ) (cl_trid : Option (List ℕ)) (s : Registry) (formed : HasObjects p s) (is : IsSettled p s) where
+module _ (p : PolicyRules) (sound : IsSound p) (r : ℕ) (cl_trid : Option (List ℕ)) (s : Registry) (early : s.clock ≤ last_clock) (formed : HasObjects p s) (is : IsSettled p s) where
   abbrev t : ℕ
   t = s.clock
 
@@ -255,6 +263,54 @@ module _ (p : PolicyRules) (sound : IsSound p) (r : ℕ) (cl_trid : Option (List
   new-ahead : (years : ℕ) → t < plus_years t (max 1 years)
   new-ahead years = omega (arith, plus_years-zero t, plus_years-lt t 0 (max 1 years) (omega arith))
 
+  -- ---- transfers
+
+  -- one that is asked for is due once the time to answer is over
+  asked-ahead : (sponsor : ℕ) → t < (requested p r sponsor t).ac_date
+  asked-ahead sponsor = omega (arith, early, sound.days_in_range.answer.0)
+
+  asked-not-due : (sponsor : ℕ) → due_by t (Some (requested p r sponsor t)) ≡ None
+  asked-not-due sponsor =
+      let no : nat_le (requested p r sponsor t).ac_date t ≡ false = grind (arith, nat_tests, asked-ahead sponsor) in
+      ap (λ (b : Bool). let o : Option Transfer = cond b (Some (requested p r sponsor t)) None in o) no
+
+  expiry-ahead : (m : ℕ) (o : Option ℕ) → t < earlier m o → t < m
+  expiry-ahead m None lt = lt
+  expiry-ahead m (Some n) lt = omega (arith, lt)
+
+  -- a domain whose transfer isn't pending, and that is registered for at least its years
+  ended-ahead : (d e : Domain) → e.deletion ≡ d.deletion → completes_at e.transfer ≡ None → e.created ≡ d.created → d.years ≤ e.years → t < due_at p d → t < due_at p e
+  ended-ahead d e deletion over created years lt = subst (λ (o : Option Deletion). t < due_of p o e) (sym deletion) (by d.deletion lt)
+    where
+      ahead : expiry d ≤ expiry e
+      ahead = subst (λ (m : ℕ). expiry d ≤ plus_years m e.years) (sym created) (years-ahead d.created d.years e.years years)
+
+      by : (o : Option Deletion) → t < due_of p o d → t < due_of p o e
+      by None lt = subst (λ (o : Option ℕ). t < earlier (expiry e) o) (sym over) (omega (arith, ahead, expiry-ahead (expiry d) (completes_at d.transfer) lt))
+      by (Some x) lt = lt
+
+  asked-domain-ahead : (d : Domain) → d.deletion ≡ None → t < due_at p d → t < due_at p (domain_with_transfer (requested p r d.sponsor t) d)
+  asked-domain-ahead d undeleted lt =
+      let expires : t < expiry d = expiry-ahead (expiry d) (completes_at d.transfer) (subst (λ (o : Option Deletion). t < due_of p o d) undeleted lt) in
+      subst (λ (o : Option Deletion). t < due_of p o (domain_with_transfer (requested p r d.sponsor t) d)) (sym undeleted) (omega (arith, expires, asked-ahead d.sponsor))
+
+  contact-transfers : (name : List ℕ) (op : TransferOp) (secret : Option (List ℕ)) → PutNothingDue p t (contact_transfer_changes p r t op (contact_seen (facts p r (Asked cl_trid (requests.TransferContact name op secret)) s) name))
+  contact-transfers name op secret = contact-cases p r cl_trid s (PutNothingDue p t) tt
+      (λ n c at. (asked-not-due c.sponsor, (tt, tt)))
+      (λ n c at y e. (refl, (tt, tt)))
+      (λ n c at y e. (refl, (tt, tt)))
+      (λ n c at y e. (refl, (tt, tt)))
+      name secret op
+
+  domain-transfers : (name : GivenName) (op : TransferOp) (secret : Option (List ℕ)) → let q : Request = requests.TransferDomain name op secret in let f : Facts = facts p r (Asked cl_trid q) s in
+      refusal_of p r t q f ≡ None → PutNothingDue p t (domain_transfer_changes p r t op q f (domain_seen f (name_of name)))
+  domain-transfers name op secret taken = domain-cases p r cl_trid s (PutNothingDue p t) tt
+      (λ q f n d at askable. (asked-domain-ahead d askable.undeleted (is.domains n d at), (tt, (tt, tt))))
+      (λ q f n d at y e pending own. (tt, (ended-ahead d (handed_over (ended_so ClientApproved t y) (gained d t) d) refl refl refl (omega arith) (is.domains n d at), (tt, tt))))
+      (λ q f n d at y e pending. (ended-ahead d (domain_with_transfer (ended_so ClientRejected t y) d) refl refl refl (omega arith) (is.domains n d at), (tt, (tt, tt))))
+      (λ q f n d at y e pending. (ended-ahead d (domain_with_transfer (ended_so ClientCancelled t y) d) refl refl refl (omega arith) (is.domains n d at), (tt, (tt, tt))))
+      name secret op taken
+
   -- ---- hosts
 
   renamed : (old : List ℕ) (h : Host) (given : Option GivenName) → PutNothingDue p t (renaming old h given)
@@ -267,51 +323,52 @@ module _ (p : PolicyRules) (sound : IsSound p) (r : ℕ) (cl_trid : Option (List
 
   -- ---- each command
 
-  puts-nothing-due : (q : Request) → PutNothingDue p t (changes_of p r t q (facts p r (Asked cl_trid q) s))
+  puts-nothing-due : (q : Request) → refusal_of p r t q (facts p r (Asked cl_trid q) s) ≡ None → PutNothingDue p t (changes_of p r t q (facts p r (Asked cl_trid q) s))
   unfolding changes_of
-  puts-nothing-due requests.Balance = tt
-  puts-nothing-due (requests.CreateContact new) = (refl, (tt, tt))
-  puts-nothing-due (requests.CreateDomain new) = (new-ahead new.years, (tt, (tt, tt)))
-  puts-nothing-due (requests.CreateHost new) = (tt, (tt, tt))
-  puts-nothing-due (requests.DeleteContact name) = (tt, tt)
-  puts-nothing-due (requests.DeleteDomain name) = deleted-at (domain_at (facts p r (Asked cl_trid (requests.DeleteDomain name)) s) (name_of name))
-  puts-nothing-due (requests.DeleteHost name) = (tt, tt)
-  puts-nothing-due (requests.UpdateContact u) =
+  puts-nothing-due requests.Balance taken = tt
+  puts-nothing-due (requests.CreateContact new) taken = (refl, (tt, tt))
+  puts-nothing-due (requests.CreateDomain new) taken = (new-ahead new.years, (tt, (tt, tt)))
+  puts-nothing-due (requests.CreateHost new) taken = (tt, (tt, tt))
+  puts-nothing-due (requests.DeleteContact name) taken = (tt, tt)
+  puts-nothing-due (requests.DeleteDomain name) taken = deleted-at (domain_at (facts p r (Asked cl_trid (requests.DeleteDomain name)) s) (name_of name))
+  puts-nothing-due (requests.DeleteHost name) taken = (tt, tt)
+  puts-nothing-due (requests.UpdateContact u) taken =
       let c : Command = Asked cl_trid (requests.UpdateContact u) in
       contact-updated u (contact_seen (facts p r c s) u.name) (ap (option_and_then (λ known. known.seen)) (at-itself u.name (contact_facts (lookups p r c s) c u.name)))
-  puts-nothing-due (requests.UpdateDomain u) =
+  puts-nothing-due (requests.UpdateDomain u) taken =
       let c : Command = Asked cl_trid (requests.UpdateDomain u) in
       domain-updated u (domain_seen (facts p r c s) (name_of u.name)) (ap (option_and_then (λ known. known.seen)) (at-itself (name_of u.name) (domain_facts (lookups p r c s) c (name_of u.name))))
-  puts-nothing-due (requests.UpdateHost u) = host-updated u (host_seen (facts p r (Asked cl_trid (requests.UpdateHost u)) s) (name_of u.name))
-  puts-nothing-due (requests.RenewDomain name expires years) =
+  puts-nothing-due (requests.UpdateHost u) taken = host-updated u (host_seen (facts p r (Asked cl_trid (requests.UpdateHost u)) s) (name_of u.name))
+  puts-nothing-due (requests.RenewDomain name expires years) taken =
       let q : Request = requests.RenewDomain name expires years in
       let c : Command = Asked cl_trid q in
       renewed q (facts p r c s) (name_of name) (domain_seen (facts p r c s) (name_of name)) (ap (option_and_then (λ known. known.seen)) (at-itself (name_of name) (domain_facts (lookups p r c s) c (name_of name))))
-  puts-nothing-due (requests.RequestRestore name) =
+  puts-nothing-due (requests.RequestRestore name) taken =
       let c : Command = Asked cl_trid (requests.RequestRestore name) in
       restoring (name_of name) (domain_seen (facts p r c s) (name_of name)) (ap (option_and_then (λ known. known.seen)) (at-itself (name_of name) (domain_facts (lookups p r c s) c (name_of name))))
-  puts-nothing-due (requests.ReportRestore name del_time res_time) =
+  puts-nothing-due (requests.ReportRestore name del_time res_time) taken =
       let q : Request = requests.ReportRestore name del_time res_time in
       let c : Command = Asked cl_trid q in
       restored q (facts p r c s) (name_of name) (domain_seen (facts p r c s) (name_of name)) (ap (option_and_then (λ known. known.seen)) (at-itself (name_of name) (domain_facts (lookups p r c s) c (name_of name))))
-  puts-nothing-due requests.PollRequest = tt
-  puts-nothing-due (requests.PollAck id) = (tt, tt)
-  puts-nothing-due requests.Logout = tt
-  puts-nothing-due (requests.CheckContact names) = tt
-  puts-nothing-due (requests.CheckDomain names) = tt
-  puts-nothing-due (requests.CheckHost names) = tt
-  puts-nothing-due (requests.InfoContact name secret) = tt
-  puts-nothing-due (requests.InfoDomain name secret) = tt
-  puts-nothing-due (requests.InfoHost name) = tt
+  puts-nothing-due (requests.TransferContact name op secret) taken = contact-transfers name op secret
+  puts-nothing-due (requests.TransferDomain name op secret) taken = domain-transfers name op secret taken
+  puts-nothing-due requests.PollRequest taken = tt
+  puts-nothing-due (requests.PollAck id) taken = (tt, tt)
+  puts-nothing-due requests.Logout taken = tt
+  puts-nothing-due (requests.CheckContact names) taken = tt
+  puts-nothing-due (requests.CheckDomain names) taken = tt
+  puts-nothing-due (requests.CheckHost names) taken = tt
+  puts-nothing-due (requests.InfoContact name secret) taken = tt
+  puts-nothing-due (requests.InfoDomain name secret) taken = tt
+  puts-nothing-due (requests.InfoHost name) taken = tt
 
 -- A registrar's command leaves nothing due where nothing was.
-pub settled-effect : (p : PolicyRules) → IsSound p → (r : ℕ) (c : Command) (s : Registry) → HasObjects p s → IsSettled p s → IsSettled p (effect p r c s)
+pub settled-effect : (p : PolicyRules) → IsSound p → (r : ℕ) (c : Command) (s : Registry) → s.clock ≤ last_clock → HasObjects p s → IsSettled p s → IsSettled p (effect p r c s)
 unfolding changes_after
-settled-effect p sound r (Bad cl_trid fault) s formed is = settled-changed_all p (decision p r (Bad cl_trid fault) s).changes s (tt, tt) is
-settled-effect p sound r (Asked cl_trid q) s formed is =
-    let changes : List Change = changes_of p r s.clock q (facts p r (Asked cl_trid q) s) in
+settled-effect p sound r (Bad cl_trid fault) s early formed is = settled-changed_all p (decision p r (Bad cl_trid fault) s).changes s (tt, tt) is
+settled-effect p sound r (Asked cl_trid q) s early formed is =
     settled-changed_all p (decision p r (Asked cl_trid q) s).changes s
-    (tt, nothing-where p s.clock changes (is_accepted (decision p r (Asked cl_trid q) s).verdict.code) (puts-nothing-due p sound r cl_trid s formed is q)) is
+    (tt, where-accepted p r s.clock q (facts p r (Asked cl_trid q) s) (PutNothingDue p s.clock) tt (puts-nothing-due p sound r cl_trid s early formed is q) cl_trid) is
 
 -- ---- orders
 

@@ -26,7 +26,17 @@ use Rattle.lifecycle.specs.declared.change.Notification.{Notification}
 use Rattle.lifecycle.specs.Changes.{changed as account_changed, told_by_command}
 use Rattle.lifecycle.specs.Graces.{gives, graces, period_of, runs, runs_from}
 use Rattle.lifecycle.specs.Lapse.{contact_handed_over, gained, handed_over}
-use Rattle.lifecycle.specs.Transfers.{ended, requested}
+use Rattle.lifecycle.specs.Transfers.{ended}
+use Rattle.facts.specs.declared.facts.Facts.{Facts}
+use Rattle.facts.specs.Facts.{contact_seen, domain_seen, facts}
+use Rattle.names.specs.declared.given.GivenName.{GivenName}
+use Rattle.names.specs.GivenName.{name_of}
+use Rattle.protocol.specs.declared.command.Command.TheVariants.{Asked}
+use Rattle.protocol.specs.declared.command.Request.{Request}
+use Rattle.protocol.specs.declared.command.Request.TheVariants.{TransferContact, TransferDomain}
+use Rattle.protocol.specs.declared.transfer.TransferOp.{TransferOp}
+use Rattle.rules.specs.declared.change.Change.{Change}
+use Rattle.verdict.specs.Rules.{refusal_of}
 use Rattle.objects.specs.declared.contact.Contact.{Contact}
 use Rattle.objects.specs.declared.domain.Deletion.{Deletion}
 use Rattle.objects.specs.declared.domain.Domain.{Domain}
@@ -44,13 +54,14 @@ use Rattle.model.specs.WellFormed.{HasBeen, HasLines, IsAfter, IsDeletion, IsLas
 use Rattle.rules.specs.declared.change.Change.TheVariants.{PutContact, PutDomain, Give}
 use Rattle.rules.specs.Changes.{changed, with_account}
 use Rattle.rules.specs.Lapsing.{gift}
-use Rattle.rules.specs.Transfers.{contact_with_transfer, domain_with_transfer}
+use Rattle.rules.specs.Transfers.{contact_transfer_changes, domain_transfer_changes, domain_with_transfer}
 use Rattle.rules.proofs.HandedOver.{graces-handed-over, requester-elsewhere, transfer_alone}
 use Rattle.rules.proofs.KeepingLemmas.{kept-account}
 use Rattle.rules.proofs.LineEntryLemmas.{AsksFor, test-elsewhere}
 use Rattle.rules.proofs.StandInLemmas.{kept-put-contact, kept-put-domain}
-use Rattle.rules.proofs.ViewLemmas.{KeepsGraces, Meets, account_of-with_account, graces_kept, graces_put, lines-kept, own, same_number}
-use Rattle.rules.proofs.MeetingLemmas.{eq-self, kept-at, put-again, put-by}
+use Rattle.rules.proofs.ViewLemmas.{AllMeet, KeepsGraces, Meets, account_of-with_account, graces_kept, graces_put, lines-kept, own, same_number}
+use Rattle.rules.proofs.PutLemmas.{eq-self, kept-at, put-again, put-by}
+use Rattle.rules.proofs.TransferCases.{contact-cases, domain-cases}
 
 -- ---- graces that a gift leaves
 
@@ -184,3 +195,37 @@ module _ (p : PolicyRules) (sound : IsSound p) (r : ℕ) (s : Registry) (is : Ha
     where
       there : get s.domains d.name ≡ Some d
       there = ap (get s.domains) (is.domains name d at).named ∙ at
+
+-- ---- each operation
+
+module _ (p : PolicyRules) (r : ℕ) (cl_trid : Option (List ℕ)) (s : Registry) where
+  abbrev Meet : List Change → Type 0
+  Meet changes = AllMeet p r changes (with_account r with_command s)
+
+  pub meet-contact-transfers : (name : List ℕ) (op : TransferOp) (secret : Option (List ℕ))
+      → AllMeet p r (contact_transfer_changes p r s.clock op (contact_seen (facts p r (Asked cl_trid (TransferContact name op secret)) s) name)) (with_account r with_command s)
+  meet-contact-transfers name op secret = contact-cases p r cl_trid s Meet tt
+      (λ n c at. (tt, (inr (told-keeps p _ _ _), tt)))
+      (λ n c at y e. (tt, (inr (told-keeps p _ _ _), tt)))
+      (λ n c at y e. (tt, (inr (told-keeps p _ _ _), tt)))
+      (λ n c at y e. (tt, (inr (told-keeps p _ _ _), tt)))
+      name secret op
+
+module _ (p : PolicyRules) (sound : IsSound p) (r : ℕ) (cl_trid : Option (List ℕ)) (s : Registry) (is : HasObjects p s) (lines : HasLines p s) where
+  abbrev after_count : Registry
+  after_count = with_account r with_command s
+
+  there-still : (name : List ℕ) (d : Domain) → get s.domains name ≡ Some d → get s.domains d.name ≡ Some d
+  there-still name d at = ap (get s.domains) (is.domains name d at).named ∙ at
+
+  again : (name : List ℕ) (d : Domain) → get s.domains name ≡ Some d → (x : Transfer) → Meets p r (PutDomain (domain_with_transfer x d)) after_count
+  again name d at x = put-again p r after_count d (domain_with_transfer x d) (there-still name d at) refl refl
+
+  pub meet-domain-transfers : (name : GivenName) (op : TransferOp) (secret : Option (List ℕ)) → let q : Request = TransferDomain name op secret in let f : Facts = facts p r (Asked cl_trid q) s in
+      refusal_of p r s.clock q f ≡ None → AllMeet p r (domain_transfer_changes p r s.clock op q f (domain_seen f (name_of name))) (with_account r with_command s)
+  meet-domain-transfers name op secret taken = domain-cases p r cl_trid s (Meet p r cl_trid s) tt
+      (λ q f n d at askable. (again n d at _, (inl refl, (inr (told-keeps p _ _ _), tt))))
+      (λ q f n d at y e pending own. (inr (start-keeps p sound r s is lines n d at y e pending), (handed-meets p sound r s is lines n d at y e pending, (inr (told-keeps p _ _ _), tt))))
+      (λ q f n d at y e pending. (again n d at _, (inr (refund-keeps p _ _ _), (inr (told-keeps p _ _ _), tt))))
+      (λ q f n d at y e pending. (again n d at _, (inr (refund-keeps p _ _ _), (inr (told-keeps p _ _ _), tt))))
+      name secret op taken
