@@ -18,7 +18,8 @@ use Rattle.rules.specs.Decisions.{changes_of}
 use Rattle.verdict.specs.Deletion.{goes_at_once}
 use Rattle.verdict.specs.Poll.{code_of_poll}
 use Rattle.verdict.specs.Rules.{refusal_of}
-use Rattle.verdict.specs.Verdicts.{code_granted, code_of_transfer, granted, judged, unless_refused}
+use Rattle.verdict.specs.Transfers.{code_of_transfer}
+use Rattle.verdict.specs.Verdicts.{code_granted, granted, judged, unless_refused}
 use Rattle.verdict.proofs.RowLemmas.{refusing}
 
 transfer-accepted : (op : TransferOp) → is_accepted (code_of_transfer op) ≡ true

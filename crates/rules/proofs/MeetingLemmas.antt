@@ -16,7 +16,7 @@ use Rattle.objects.specs.declared.domain.FullDomain.{FullDomain}
 use Rattle.objects.specs.declared.host.Host.{Host}
 use Rattle.objects.specs.declared.sight.Seen.{Seen}
 use Rattle.objects.specs.declared.sight.Seen.TheVariants.{Full, TransferParty, Public}
-use Rattle.policy.specs.Rules.{PolicyRules}
+use Rattle.policy.specs.Rules.{PolicyRules, IsSound}
 use Rattle.rules.specs.declared.change.Change.{Change}
 use Rattle.rules.specs.declared.change.Change.TheVariants.{PutDomain}
 use Rattle.rules.specs.Changes.{with_account}

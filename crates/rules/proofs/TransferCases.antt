@@ -1,6 +1,7 @@
 -- What is so of an operation on a transfer that isn't refused (RFC 5730, 2.9.3.4).
-use Rattle.std.proofs.Common.{◌≡◌, ◌≢◌, ℕ, ◌==◌, Bool, true, false, not, ◌||◌, List, [], Option, Some, None, is_some, option_and_then, option_map, refl, sym, ap, subst, ◌∙◌, eqb-true}
+use Rattle.std.proofs.Common.{◌≡◌, ◌≢◌, inl, inr, ℕ, ◌==◌, Bool, true, false, not, ◌||◌, List, [], Option, Some, None, is_some, option_and_then, option_map, refl, sym, ap, subst, ◌∙◌, arith, eqb-true}
 use Rattle.std.proofs.lemmas.Bool.{or_parts}
+use Rattle.std.proofs.lemmas.Bool.Decides.{nat_tests}
 use Rattle.std.specs.FinMap.{get}
 use Rattle.facts.specs.declared.facts.Facts.{Facts}
 use Rattle.facts.specs.Facts.{contact_facts, contact_seen, domain_facts, domain_seen, facts, lookups}
@@ -61,7 +62,7 @@ not-equal : (a b : ℕ) → (b == a) ≡ false → a ≢ b
 not-equal a b e same = let never : true ≡ false = sym (eqb-itself a) ∙ ap (λ (n : ℕ). n == a) same ∙ e in absurd cc
   where
     eqb-itself : (n : ℕ) → (n == n) ≡ true
-    eqb-itself n = grind (arith)
+    eqb-itself n = grind (arith, nat_tests)
 
 abbrev Sight : Type 0
 Sight = Option (Seen FullDomain DomainFace)

@@ -26,7 +26,7 @@ use Rattle.lifecycle.specs.declared.change.Notification.{Notification}
 use Rattle.lifecycle.specs.Changes.{changed as account_changed, told_by_command}
 use Rattle.lifecycle.specs.Graces.{gives, graces, period_of, runs, runs_from}
 use Rattle.lifecycle.specs.Lapse.{contact_handed_over, gained, handed_over}
-use Rattle.lifecycle.specs.Transfers.{ended}
+use Rattle.lifecycle.specs.Transfers.{ended, requested}
 use Rattle.facts.specs.declared.facts.Facts.{Facts}
 use Rattle.facts.specs.Facts.{contact_seen, domain_seen, facts}
 use Rattle.names.specs.declared.given.GivenName.{GivenName}
@@ -44,7 +44,7 @@ use Rattle.objects.specs.declared.grace.Graces.{Graces}
 use Rattle.objects.specs.declared.roid.Roid.{Roid}
 use Rattle.objects.specs.declared.transfer.Transfer.{Transfer}
 use Rattle.objects.specs.declared.transfer.TransferState.{TransferState}
-use Rattle.objects.specs.declared.transfer.TransferState.TheVariants.{ClientApproved}
+use Rattle.objects.specs.declared.transfer.TransferState.TheVariants.{ClientApproved, ClientCancelled, ClientRejected}
 use Rattle.objects.specs.Transfers.{is_pending, is_pending_state}
 use Rattle.policy.specs.Rules.{PolicyRules, IsRegistrar, IsSound}
 use Rattle.model.specs.Registry.{Registry, account_of}
@@ -64,10 +64,6 @@ use Rattle.rules.proofs.PutLemmas.{eq-self, kept-at, put-again, put-by}
 use Rattle.rules.proofs.TransferCases.{contact-cases, domain-cases}
 
 -- ---- graces that a gift leaves
-
--- a message gives no graces
-pub told-keeps : (p : PolicyRules) (q : ℕ) (n : Notification) (s : Registry) → KeepsGraces p q (account_changed p (Tell n)) s
-told-keeps p q n s = λ name d at own. refl
 
 none-of : (o : Option ℕ) → not (is_some o) ≡ true → o ≡ None
 none-of None e = refl
@@ -205,10 +201,10 @@ module _ (p : PolicyRules) (r : ℕ) (cl_trid : Option (List ℕ)) (s : Registry
   pub meet-contact-transfers : (name : List ℕ) (op : TransferOp) (secret : Option (List ℕ))
       → AllMeet p r (contact_transfer_changes p r s.clock op (contact_seen (facts p r (Asked cl_trid (TransferContact name op secret)) s) name)) (with_account r with_command s)
   meet-contact-transfers name op secret = contact-cases p r cl_trid s Meet tt
-      (λ n c at. (tt, (inr (told-keeps p _ _ _), tt)))
-      (λ n c at y e. (tt, (inr (told-keeps p _ _ _), tt)))
-      (λ n c at y e. (tt, (inr (told-keeps p _ _ _), tt)))
-      (λ n c at y e. (tt, (inr (told-keeps p _ _ _), tt)))
+      (λ n c at. (tt, (inr (λ name d at own. refl), tt)))
+      (λ n c at y e. (tt, (inr (λ name d at own. refl), tt)))
+      (λ n c at y e. (tt, (inr (λ name d at own. refl), tt)))
+      (λ n c at y e. (tt, (inr (λ name d at own. refl), tt)))
       name secret op
 
 module _ (p : PolicyRules) (sound : IsSound p) (r : ℕ) (cl_trid : Option (List ℕ)) (s : Registry) (is : HasObjects p s) (lines : HasLines p s) where
@@ -224,8 +220,8 @@ module _ (p : PolicyRules) (sound : IsSound p) (r : ℕ) (cl_trid : Option (List
   pub meet-domain-transfers : (name : GivenName) (op : TransferOp) (secret : Option (List ℕ)) → let q : Request = TransferDomain name op secret in let f : Facts = facts p r (Asked cl_trid q) s in
       refusal_of p r s.clock q f ≡ None → AllMeet p r (domain_transfer_changes p r s.clock op q f (domain_seen f (name_of name))) (with_account r with_command s)
   meet-domain-transfers name op secret taken = domain-cases p r cl_trid s (Meet p r cl_trid s) tt
-      (λ q f n d at askable. (again n d at _, (inl refl, (inr (told-keeps p _ _ _), tt))))
-      (λ q f n d at y e pending own. (inr (start-keeps p sound r s is lines n d at y e pending), (handed-meets p sound r s is lines n d at y e pending, (inr (told-keeps p _ _ _), tt))))
-      (λ q f n d at y e pending. (again n d at _, (inr (refund-keeps p _ _ _), (inr (told-keeps p _ _ _), tt))))
-      (λ q f n d at y e pending. (again n d at _, (inr (refund-keeps p _ _ _), (inr (told-keeps p _ _ _), tt))))
+      (λ q f n d at askable. (again n d at (requested p r d.sponsor s.clock), (inl refl, (inr (λ name d at own. refl), tt))))
+      (λ q f n d at y e pending own. (inr (start-keeps p sound r s is lines n d at y e pending), (handed-meets p sound r s is lines n d at y e pending, (inr (λ name d at own. refl), tt))))
+      (λ q f n d at y e pending. (again n d at (ended ClientRejected s.clock y), (inr (refund-keeps p y.requester (record { roid = d.roid; moment = s.clock }) (changed p (PutDomain (domain_with_transfer (ended ClientRejected s.clock y) d)) after_count)), (inr (λ name d at own. refl), tt))))
+      (λ q f n d at y e pending. (again n d at (ended ClientCancelled s.clock y), (inr (refund-keeps p y.requester (record { roid = d.roid; moment = s.clock }) (changed p (PutDomain (domain_with_transfer (ended ClientCancelled s.clock y) d)) after_count)), (inr (λ name d at own. refl), tt))))
       name secret op taken

@@ -1,5 +1,5 @@
 -- Each step of the rules keeps a registry well formed.
-use Rattle.std.proofs.Common.{◌≡◌, ℕ, ◌<◌, List, None, inl, inr, refl, sym, subst, arith}
+use Rattle.std.proofs.Common.{◌≡◌, ℕ, ◌<◌, List, Option, None, inl, inr, refl, sym, subst, arith}
 use Rattle.accounts.specs.Account.{with_command}
 use Rattle.lifecycle.specs.Changes.{with_acked}
 use Rattle.rules.proofs.KeepingLemmas.{kept-account}
