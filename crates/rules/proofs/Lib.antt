@@ -26,3 +26,4 @@ pub mod ClockLemmas
 pub mod RegistryLemmas
 pub mod IsolationLemmas
 pub mod LineTransferLemmas
+pub mod AnswerLemmas
