@@ -1,9 +1,16 @@
--- What is so of all lines of a bag, of none, or of a number of them, as lines are added and made anew.
-use Rattle.std.proofs.Common.{◌≡◌, ℕ, suc, Bool, true, false, cond, ◌||◌, List, [], ◌∷◌, map, length, refl, sym, ap, ◌∙◌, arith}
+-- What is so of all items of a bag, of none, or of a number of them, as items are added and made anew;
+-- and tests of lines.
+use Rattle.std.proofs.Common.{◌≡◌, ◌≢◌, ℕ, suc, ◌==◌, Bool, true, false, cond, ◌&&◌, ◌||◌, List, [], ◌∷◌, map, length, Option, Some, None, refl, sym, ap, ◌∙◌, arith, eqb-true}
 use Rattle.std.specs.List.{AllByRecursion, filter, list_any}
 use Rattle.std.proofs.lemmas.Bool.{or_parts}
+use Rattle.std.proofs.lemmas.Bool.Decides.{nat_tests}
 use Rattle.basis.specs.Bag.{add, bag_of, remade}
 use Rattle.basis.proofs.BagLaws.{any-add, any-bag_of}
+use Rattle.objects.specs.declared.domain.Domain.{Domain}
+use Rattle.objects.specs.declared.transfer.Transfer.{Transfer}
+use Rattle.objects.specs.Transfers.{is_pending_state}
+use Rattle.model.specs.Registry.{Registry, account_of}
+use Rattle.model.specs.WellFormed.{IsAwaitedIfPending, begins_after}
 
 -- ---- all
 
@@ -123,3 +130,43 @@ any-of-one {A} le test tested f step xs one = any-bag_of le tested (map f xs) �
         by : (b : Bool) → test y ≡ b → one_if b (count test ys) ≡ 1 → (count test ys ≡ 1 → list_any tested (map f ys) ≡ true) → (tested (f y) || list_any tested (map f ys)) ≡ true
         by true e one rest = ap (λ (c : Bool). c || list_any tested (map f ys)) (step y e)
         by false e one rest = or-second (tested (f y)) (list_any tested (map f ys)) (rest one)
+
+-- ---- tests
+
+pub and-false : (a b : Bool) → b ≡ false → (a && b) ≡ false
+and-false true b e = e
+and-false false b e = refl
+
+pub itself : (n : ℕ) → (n == n) ≡ true
+itself n = grind (arith, nat_tests)
+
+-- a number is another, or isn't
+pub one-or-other : {A : Type 0} (a b : ℕ) → (a ≡ b → A) → (a ≢ b → A) → A
+one-or-other {A} a b same other = by (a == b) refl
+  where
+    by : (c : Bool) → (a == b) ≡ c → A
+    by true e = same (eqb-true a b e)
+    by false e = other (λ is. let never : true ≡ false = sym (itself a) ∙ ap (λ (n : ℕ). a == n) is ∙ e in absurd cc)
+
+pub not-itself : (a b : ℕ) → a ≢ b → (a == b) ≡ false
+not-itself a b other = by (a == b) refl
+  where
+    by : (c : Bool) → (a == b) ≡ c → c ≡ false
+    by true e = absurd (other (eqb-true a b e))
+    by false e = refl
+
+-- ---- a pending transfer
+
+-- where its sponsor has no line in another registry that begins after the transfer is due, there too
+pub awaited-carried : (s t : Registry) (d : Domain) (o : Option Transfer)
+    → ((x : Transfer) → o ≡ Some x → is_pending_state x.state ≡ true → list_any (begins_after d.roid (Some x.ac_date)) (account_of d.sponsor s).lines ≡ false → list_any (begins_after d.roid (Some x.ac_date)) (account_of d.sponsor t).lines ≡ false)
+    → IsAwaitedIfPending s d o → IsAwaitedIfPending t d o
+awaited-carried s t d None carry h = tt
+awaited-carried s t d (Some x) carry h = λ pending. let w = h pending in record {
+  losing_registrar = w.losing_registrar;
+  requester = w.requester;
+  created = w.created;
+  transferred = w.transferred;
+  due = w.due;
+  lines = carry x refl pending w.lines;
+}

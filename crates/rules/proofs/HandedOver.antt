@@ -24,13 +24,9 @@ use Rattle.policy.specs.declared.days.Period.TheVariants as periods
 use Rattle.policy.specs.Rules.{PolicyRules, IsSound}
 use Rattle.model.specs.Registry.{Registry, account_of}
 use Rattle.model.specs.WellFormed.{HasLines, HasLinesOn, IsAwaited, IsAwaitedIfPending, IsLastTransfer, IsLater, HasObjects, begins_after, charges_waiting, is_begun_after}
-use Rattle.model.proofs.LineLemmas.{any-of-one, none-remade, none-weaker}
+use Rattle.model.proofs.LineLemmas.{and-false, any-of-one, none-remade, none-weaker}
 
 -- ---- one line
-
-and-false : (a b : Bool) → b ≡ false → (a && b) ≡ false
-and-false true b e = e
-and-false false b e = refl
 
 -- the transfer's grace alone
 abbrev pub transfer_alone : Graces

@@ -1,11 +1,10 @@
 -- Each command and each order keeps what a well-formed registry says of lines.
-use Rattle.std.proofs.Common.{◌≡◌, ◌≢◌, ◌⊎◌, inl, inr, ⊎_elim, ℕ, ◌≤◌, ◌<◌, ◌==◌, Bool, true, false, cond, not, nat_lt, ◌&&◌, min, List, [], ◌∷◌, Option, Some, None, is_some, option_and_then, option_map, refl, sym, ap, subst, ◌∙◌, arith, eqb-true}
+use Rattle.std.proofs.Common.{◌≡◌, ◌⊎◌, inl, inr, ⊎_elim, ℕ, ◌<◌, ◌==◌, Bool, true, false, cond, not, ◌&&◌, min, List, [], ◌∷◌, Option, Some, None, is_some, option_and_then, option_map, refl, sym, ap, subst, ◌∙◌, arith, eqb-true}
 use Rattle.std.specs.FinMap.{FinMap, get, insert}
 use Rattle.std.specs.Cmp.Lexicographic.{slice_cmp}
 use Rattle.std.specs.List.{list_any}
 use Rattle.std.specs.Ordering.{nat_cmp}
 use Rattle.std.proofs.lemmas.Bool.{not-false, or_parts}
-use Rattle.std.proofs.lemmas.Bool.Decides.{nat_tests}
 use Rattle.std.proofs.lemmas.List.Elements.{recursion_from_All}
 use Rattle.std.proofs.lemmas.Option.{same_Some}
 use Rattle.accounts.specs.Account.{with_command}
@@ -15,7 +14,7 @@ use Rattle.accounts.specs.Lines.{is_kind, is_of, is_on, is_same_roid, waits}
 use Rattle.accounts.proofs.LineLaws.{same-roids}
 use Rattle.facts.specs.declared.facts.DomainFacts.{DomainFacts}
 use Rattle.facts.specs.declared.facts.Facts.{Facts}
-use Rattle.facts.specs.Facts.{contact_facts, contact_seen, domain_at, domain_facts, domain_seen, facts, host_seen, lookups}
+use Rattle.facts.specs.Facts.{contact_seen, domain_facts, domain_seen, facts, host_seen, lookups}
 use Rattle.lifecycle.specs.Lapse.{completes_at, due_at, due_of, earlier}
 use Rattle.lifecycle.specs.declared.change.AccountChange.TheVariants.{Charge, TakeSerial}
 use Rattle.names.specs.declared.given.GivenName.{GivenName}
@@ -65,25 +64,21 @@ use Rattle.model.specs.LapseLaws.{IsSettled}
 use Rattle.model.specs.Objects.{object_at, object_ordered}
 use Rattle.model.specs.Registry.{Registry, account_of}
 use Rattle.model.specs.View.{domain_sight}
-use Rattle.model.specs.WellFormed.{HasBeen, HasLines, HasLinesOn, HasRoid, IsDeletion, IsLineOf, HasObjects, WasGiven, begins_after, charges_waiting, is_begun_after, IsRegistry, last_clock}
-use Rattle.model.proofs.LineLemmas.{count-none, none-by}
+use Rattle.model.specs.WellFormed.{HasBeen, HasLines, HasLinesOn, HasRoid, IsDeletion, IsLineOf, HasObjects, WasGiven, begins_after, IsRegistry, last_clock}
+use Rattle.model.proofs.LineLemmas.{and-false, count-none, none-by}
 use Rattle.rules.specs.declared.change.Change.{Change}
 use Rattle.rules.specs.declared.change.Change.TheVariants.{PutDomain, Give}
 use Rattle.rules.specs.Changes.{changed, changed_all, with_account}
-use Rattle.rules.specs.Decisions.{changes_after, changes_of, charge_line, contact_changes, deleted_domain, deletion_at, deletion_changes, domain_changes, ending, host_changes, new_domain, new_roid, renaming, renewal_changes, renewed_domain, report_changes, restore_changes, restored_domain, restoring_domain, updated_domain, updated_host}
-use Rattle.rules.specs.Orders.{cents_of, deposit_line, deposited, deposited_to, order_changes, order_decision, order_effect, ordered}
-use Rattle.rules.specs.Steps.{decision, effect}
+use Rattle.rules.specs.Decisions.{changes_after, changes_of, charge_line, contact_changes, deleted_domain, deletion_at, deletion_changes, domain_changes, ending, host_changes, new_domain, renaming, renewal_changes, renewed_domain, report_changes, restore_changes, restored_domain, restoring_domain, updated_domain, updated_host}
+use Rattle.rules.specs.Orders.{cents_of, deposited, deposited_to, order_changes, order_decision, order_effect, ordered}
+use Rattle.rules.specs.Steps.{effect}
 use Rattle.rules.proofs.CommandLemmas.{at-itself, domain-full, has-given, ungiven}
 use Rattle.rules.proofs.KeepingLemmas.{AreApart, IsItsOwn, domain_roid}
 use Rattle.rules.proofs.LineEntryLemmas.{AsksFor, begins-asks, waits-asks}
-use Rattle.rules.proofs.LineKeepingLemmas.{AllFitLines, FitsLines, IsAsBefore, IsChargeIn, IsCharged, lines-changed_all, lines-counted, lines-stay, on-as-before, on-same, rises}
+use Rattle.rules.proofs.LineKeepingLemmas.{AllFitLines, FitsLines, IsAsBefore, IsChargeIn, IsCharged, begun-by, lines-changed_all, lines-counted, lines-stay, on-as-before, on-same, rises}
 use Rattle.rules.proofs.NamedLemmas.{put-cases, put-is}
 
 -- ---- a charge for a domain that is the registrar's own
-
-and-false : (a b : Bool) → b ≡ false → (a && b) ≡ false
-and-false true b e = e
-and-false false b e = refl
 
 -- no transfer is due by the clock
 awaited-ahead : (p : PolicyRules) (s : Registry) (d : Domain) → IsDeletion p s d d.deletion → s.clock < due_at p d → (x : Transfer) → d.transfer ≡ Some x → is_pending_state x.state ≡ true → s.clock < x.ac_date
@@ -95,10 +90,6 @@ awaited-ahead p s d deletion ahead x is pending = by d.deletion deletion ahead
     by : (o : Option Deletion) → IsDeletion p s d o → s.clock < due_of p o d → s.clock < x.ac_date
     by None k lt = let sooner : s.clock < min (expiry d) x.ac_date = subst (λ (o : Option ℕ). s.clock < earlier (expiry d) o) completes lt in omega (arith, sooner)
     by (Some y) k lt = let never : true ≡ false = sym (ap is_pending is ∙ pending) ∙ k.transfer in absurd cc
-
-begun-by : (t last : ℕ) (s : Registry) (started : Option ℕ) → s.clock ≤ last → HasBeen s started → is_begun_after (Some last) started ≡ false
-begun-by t last s None le been = refl
-begun-by t last s (Some start) le been = grind (arith, nat_tests, le, been)
 
 own-charge : (p : PolicyRules) (t : Registry) (r : ℕ) (name : List ℕ) (d : Domain) (line : Line) → get t.domains name ≡ Some d → IsItsOwn domain_roid t.domains name d.roid → HasRoid p t kinds.Domain d.roid
     → r ≡ d.sponsor → ((x : Transfer) → d.transfer ≡ Some x → is_pending_state x.state ≡ true → t.clock < x.ac_date)
@@ -112,7 +103,7 @@ own-charge p t r name d line at own has sponsor ahead of kind started = record {
     charged = record {
       sponsor = sponsor;
       waits = ap (λ (b : Bool). (b && (is_on d.roid line && not (is_some line.refunded))) && not (is_some line.started)) kind;
-      awaited = λ x is pending. and-false (is_on d.roid line) _ (begun-by t.clock x.ac_date t line.started (omega (arith, ahead x is pending)) started);
+      awaited = λ x is pending. and-false (is_on d.roid line) _ (begun-by t x.ac_date line.started (omega (arith, ahead x is pending)) started);
     }
 
     by : (n : List ℕ) (e : Domain) → get t.domains n ≡ Some e → (b : Bool) → is_same_roid d.roid e.roid ≡ b → (is_on e.roid line ≡ false) ⊎ IsCharged r line e
@@ -162,13 +153,18 @@ module _ (p : PolicyRules) (r : ℕ) (cl_trid : Option (List ℕ)) (s : Registry
       → AllFitLines p (PutDomain new ∷ Give r (Charge line) ∷ []) counted
   put-charged name d new line at called same sponsor of kind started =
       let k = is.domains name d at in
-      let t : Registry = changed p (PutDomain new) counted in
-      (put-again name d new at same, (own-charge p t r new.name new line (put-is counted.domains new.name new)
-      (own-put s.domains name d new is.domain_roids at k.named called same.roid)
-      (given-there new.roid (subst (HasRoid p s kinds.Domain) (sym same.roid) k.roid))
-      (sponsor ∙ sym same.sponsor)
-      (λ x e pending. awaited-ahead p s d k.deletion (settled.domains name d at) x (sym same.transfer ∙ e) pending)
-      (of ∙ ap (λ (roid : Roid). Some roid) (sym same.roid)) kind (been line.started started), tt))
+      let t : Registry = changed p (PutDomain new) counted in (
+        put-again name d new at same,
+        (
+          own-charge p t r new.name new line (put-is counted.domains new.name new)
+              (own-put s.domains name d new is.domain_roids at k.named called same.roid)
+              (given-there new.roid (subst (HasRoid p s kinds.Domain) (sym same.roid) k.roid))
+              (sponsor ∙ sym same.sponsor)
+              (λ x e pending. awaited-ahead p s d k.deletion (settled.domains name d at) x (sym same.transfer ∙ e) pending)
+              (of ∙ ap (λ (roid : Roid). Some roid) (sym same.roid)) kind (been line.started started),
+          tt,
+        ),
+      )
     where
       been : (started : Option ℕ) → HasBeen s started → HasBeen (changed p (PutDomain new) counted) started
       been None h = tt
@@ -267,11 +263,19 @@ module _ (p : PolicyRules) (r : ℕ) (cl_trid : Option (List ℕ)) (s : Registry
     unfolding changes_of
     created =
         let t : Registry = changed_all p (PutDomain made ∷ Give r TakeSerial ∷ []) counted in
-        let given = has-given p r cl_trid s place is small kinds.Domain request in
-        (made-on, (tt, (own-charge p t r made.name made (charge_line lines.Create p s.clock made.roid request f) (put-is s.domains made.name made)
-        (λ n x there alike. ⊎_elim (λ put. put.0) (λ before. absurd (ungiven p r cl_trid s place is small kinds.Domain request kinds.Domain x.roid (is.domains n x before).roid alike)) (put-cases s.domains made.name made n x there))
-        (record { kind_is = given.kind_is; creator = given.creator; serial = given.serial })
-        refl (λ x e pending. absurd cc) refl refl (omega arith), tt)))
+        let given = has-given p r cl_trid s place is small kinds.Domain request in (
+          made-on,
+          (
+            tt,
+            (
+              own-charge p t r made.name made (charge_line lines.Create p s.clock made.roid request f) (put-is s.domains made.name made)
+                  (λ n x there alike. ⊎_elim (λ put. put.0) (λ before. absurd (ungiven p r cl_trid s place is small kinds.Domain request kinds.Domain x.roid (is.domains n x before).roid alike)) (put-cases s.domains made.name made n x there))
+                  (record { kind_is = given.kind_is; creator = given.creator; serial = given.serial })
+                  refl (λ x e pending. absurd cc) refl refl (omega arith),
+              tt,
+            ),
+          ),
+        )
 
   -- ---- each command
 

@@ -1,5 +1,5 @@
 -- What is so of the lines of an account stays so as time enters into it.
-use Rattle.std.proofs.Common.{◌≡◌, ◌≢◌, ℕ, ◌≤◌, ◌==◌, nat_lt, Bool, true, false, cond, not, ◌&&◌, List, [], ◌∷◌, ◌++◌, Option, Some, None, is_some, refl, sym, ap, subst, ◌∙◌, arith, eqb-true}
+use Rattle.std.proofs.Common.{◌≡◌, ℕ, ◌≤◌, nat_lt, Bool, true, false, cond, not, ◌&&◌, List, [], ◌∷◌, ◌++◌, Option, Some, None, is_some, refl, sym, ap, subst, ◌∙◌, arith}
 use Rattle.std.specs.Prelude.{fold}
 use Rattle.std.specs.Cmp.Lexicographic.{slice_cmp, nat_list_cmp_total}
 use Rattle.std.specs.FinMap.{FinMap, entries, get}
@@ -25,8 +25,8 @@ use Rattle.basis.proofs.MapLemmas.{names_apart}
 use Rattle.objects.specs.declared.roid.Roid.{Roid}
 use Rattle.policy.specs.Rules.{PolicyRules}
 use Rattle.model.specs.Registry.{Registry, account_of}
-use Rattle.model.specs.WellFormed.{HasBeen, IsLineOf, WasGiven, begins_after, is_begun_after}
-use Rattle.model.proofs.LineLemmas.{all-add, all-remade, count, count-add-none, count-none-remade, count-remade, none-add, none-remade}
+use Rattle.model.specs.WellFormed.{IsLineOf, WasGiven, begins_after, is_begun_after}
+use Rattle.model.proofs.LineLemmas.{all-add, all-remade, and-false, count, count-add-none, count-remade, none-add, none-remade}
 use Rattle.rules.specs.Changes.{with_account}
 use Rattle.rules.proofs.ViewLemmas.{account_of-with_account, same_number}
 
@@ -151,11 +151,7 @@ renewal-waits-not roid r = refl
 
 -- one that is charged by a moment
 pub renewal-by : (roid : Roid) (r : AutoRenewal) (last : ℕ) → r.moment ≤ last → begins_after roid (Some last) (renewal_line r) ≡ false
-renewal-by roid r last le = by (is_on roid (renewal_line r)) (nat_lt last r.moment) (grind (arith, nat_tests, le))
-  where
-    by : (a b : Bool) → b ≡ false → (a && b) ≡ false
-    by true b e = e
-    by false b e = refl
+renewal-by roid r last le = and-false (is_on roid (renewal_line r)) (nat_lt last r.moment) (grind (arith, nat_tests, le))
 
 -- a charge whose grace was begun waits no more
 pub started-waits-not : (x : TransferStart) (l : Line) → waits x.roid (transfer_started x l) ≡ false

@@ -1,9 +1,9 @@
 -- Each change keeps what a well-formed registry says of lines, where what it puts or charges fits.
-use Rattle.std.proofs.Common.{◌≡◌, ◌≢◌, ◌⊎◌, inl, inr, ⊎_elim, ℕ, ◌≤◌, ◌<◌, ◌+◌, ◌==◌, Bool, true, false, cond, not, nat_lt, ◌&&◌, List, [], ◌∷◌, Option, Some, None, is_some, refl, sym, ap, subst, ◌∙◌, arith}
-use Rattle.std.specs.Cmp.Lexicographic.{slice_cmp}
-use Rattle.std.specs.FinMap.{FinMap, get, insert, remove}
+use Rattle.std.proofs.Common.{◌≡◌, ◌⊎◌, ⊎_elim, ℕ, ◌≤◌, ◌+◌, ◌==◌, Bool, true, false, cond, not, List, [], ◌∷◌, Option, Some, None, is_some, refl, sym, ap, subst, ◌∙◌, arith}
+use Rattle.std.specs.FinMap.{get}
 use Rattle.std.specs.List.{All, AllByRecursion, list_any}
 use Rattle.std.specs.Ordering.{eq_by_cmp, nat_cmp}
+use Rattle.std.proofs.lemmas.Bool.Decides.{nat_tests}
 use Rattle.std.proofs.lemmas.List.Elements.{All-from_recursion, recursion_from_All}
 use Rattle.accounts.specs.declared.account.Account.{Account}
 use Rattle.accounts.specs.declared.line.Line.{Line}
@@ -15,7 +15,7 @@ use Rattle.lifecycle.specs.declared.change.AccountChange.{AccountChange}
 use Rattle.lifecycle.specs.declared.change.AccountChange.TheVariants.{Charge, RefundRunning, RefundTransfer, Lapse, Tell, Ack, CountCommand, TakeSerial}
 use Rattle.lifecycle.specs.declared.change.RunningRefund.{RunningRefund}
 use Rattle.lifecycle.specs.Changes.{changed as account_changed, refunded_by}
-use Rattle.lifecycle.specs.Graces.{period_of, runs, runs_from}
+use Rattle.lifecycle.specs.Graces.{runs}
 use Rattle.objects.specs.declared.domain.Domain.{Domain}
 use Rattle.objects.specs.declared.roid.Roid.{Roid}
 use Rattle.objects.specs.declared.transfer.Transfer.{Transfer}
@@ -29,8 +29,8 @@ use Rattle.rules.proofs.LineEntryLemmas.{begins-asks, waits-asks}
 use Rattle.rules.proofs.NamedLemmas.{drop-cases, put-cases, remade-cases}
 use Rattle.rules.proofs.ViewLemmas.{account_of-with_account, same_number}
 use Rattle.model.specs.Registry.{Registry, account_of}
-use Rattle.model.specs.WellFormed.{HasLines, HasLinesOn, IsAwaited, IsAwaitedIfPending, IsLineOf, WasGiven, begins_after, charges_waiting}
-use Rattle.model.proofs.LineLemmas.{all-add, all-remade, all-weaker, count, count-add-none, count-remade, none-add, none-remade}
+use Rattle.model.specs.WellFormed.{HasBeen, HasLines, HasLinesOn, IsAwaitedIfPending, IsLineOf, WasGiven, begins_after, charges_waiting, is_begun_after}
+use Rattle.model.proofs.LineLemmas.{all-add, all-remade, all-weaker, and-false, awaited-carried, count, count-add-none, count-remade, none-add, none-remade}
 
 -- ---- the clock and serials grow, and lines stay
 
@@ -48,22 +48,11 @@ module _ (p q : PolicyRules) (s t : Registry) (grows : Grows p q s t) where
         (All-from_recursion (IsLineOf q t) (account_of r s).lines (all-weaker (IsLineOf p s) (IsLineOf q t) line-grown (account_of r s).lines (recursion_from_All (IsLineOf p s) (account_of r s).lines (is.each r))))
 
 -- a domain under the lines of another registry's accounts
-awaited-same : (s t : Registry) → ((r : ℕ) → (account_of r t).lines ≡ (account_of r s).lines) → (d : Domain) (o : Option Transfer) → IsAwaitedIfPending s d o → IsAwaitedIfPending t d o
-awaited-same s t same d None h = tt
-awaited-same s t same d (Some x) h = λ pending. let w = h pending in record {
-  losing_registrar = w.losing_registrar;
-  requester = w.requester;
-  created = w.created;
-  transferred = w.transferred;
-  due = w.due;
-  lines = ap (list_any (begins_after d.roid (Some x.ac_date))) (same d.sponsor) ∙ w.lines;
-}
-
 pub on-same : (s t : Registry) → ((r : ℕ) → (account_of r t).lines ≡ (account_of r s).lines) → (d : Domain) → HasLinesOn s d → HasLinesOn t d
 on-same s t same d h = record {
   elsewhere = λ r other. ap (list_any (begins_after d.roid d.transferred)) (same r) ∙ h.elsewhere r other;
   waiting = λ r. ap (count (waits d.roid)) (same r) ∙ h.waiting r;
-  awaited = awaited-same s t same d d.transfer h.awaited;
+  awaited = awaited-carried s t d d.transfer (λ x at pending none. ap (list_any (begins_after d.roid (Some x.ac_date))) (same d.sponsor) ∙ none) h.awaited;
 }
 
 -- what is asked of the lines on a domain hangs on these of its parts
@@ -92,6 +81,13 @@ pub on-as-before : (s : Registry) (d e : Domain) → IsAsBefore d e → HasLines
 on-as-before s d e same h =
     let parts : HasLinesOn s (with_parts e d.roid d.sponsor d.created d.transferred d.transfer) = record { elsewhere = h.elsewhere; waiting = h.waiting; awaited = awaited-parts s d e d.transfer h.awaited } in
     subst (HasLinesOn s) (λ i. with_parts e (sym same.roid i) (sym same.sponsor i) (sym same.created i) (sym same.transferred i) (sym same.transfer i)) parts
+
+-- ---- what has begun
+
+-- has begun by any moment from the clock on
+pub begun-by : (s : Registry) (last : ℕ) (started : Option ℕ) → s.clock ≤ last → HasBeen s started → is_begun_after (Some last) started ≡ false
+begun-by s last None le been = refl
+begun-by s last (Some start) le been = grind (arith, nat_tests, le, been)
 
 -- ---- objects are put and taken away
 
@@ -167,37 +163,15 @@ module _ (p : PolicyRules) (s : Registry) (r : ℕ) where
   charged-off line d off h = record {
     elsewhere = λ q other. none-charged line (begins_after d.roid d.transferred) q (λ own. begins-asks d.roid d.transferred line off) (h.elsewhere q other);
     waiting = λ q. count-charged line (waits d.roid) q (charges_waiting q d.transfer) (waits-asks d.roid line off) (h.waiting q);
-    awaited = by d.transfer h.awaited;
+    awaited = awaited-carried s (with_line line) d d.transfer (λ x at pending none. none-charged line (begins_after d.roid (Some x.ac_date)) d.sponsor (λ own. begins-asks d.roid (Some x.ac_date) line off) none) h.awaited;
   }
-    where
-      by : (o : Option Transfer) → IsAwaitedIfPending s d o → IsAwaitedIfPending (with_line line) d o
-      by None h = tt
-      by (Some x) h = λ pending. let w = h pending in record {
-        losing_registrar = w.losing_registrar;
-        requester = w.requester;
-        created = w.created;
-        transferred = w.transferred;
-        due = w.due;
-        lines = none-charged line (begins_after d.roid (Some x.ac_date)) d.sponsor (λ own. begins-asks d.roid (Some x.ac_date) line off) w.lines;
-      }
 
   charged-own : (line : Line) (d : Domain) → IsCharged r line d → HasLinesOn s d → HasLinesOn (with_line line) d
   charged-own line d charged h = record {
     elsewhere = λ q other. none-charged line (begins_after d.roid d.transferred) q (λ own. absurd (other (sym own ∙ charged.sponsor))) (h.elsewhere q other);
     waiting = λ q. count-charged line (waits d.roid) q (charges_waiting q d.transfer) charged.waits (h.waiting q);
-    awaited = by d.transfer charged.awaited h.awaited;
+    awaited = awaited-carried s (with_line line) d d.transfer (λ x at pending none. none-charged line (begins_after d.roid (Some x.ac_date)) d.sponsor (λ own. charged.awaited x at pending) none) h.awaited;
   }
-    where
-      by : (o : Option Transfer) → ((x : Transfer) → o ≡ Some x → is_pending_state x.state ≡ true → begins_after d.roid (Some x.ac_date) line ≡ false) → IsAwaitedIfPending s d o → IsAwaitedIfPending (with_line line) d o
-      by None before h = tt
-      by (Some x) before h = λ pending. let w = h pending in record {
-        losing_registrar = w.losing_registrar;
-        requester = w.requester;
-        created = w.created;
-        transferred = w.transferred;
-        due = w.due;
-        lines = none-charged line (begins_after d.roid (Some x.ac_date)) d.sponsor (λ own. before x refl pending) w.lines;
-      }
 
   pub lines-charged : (line : Line) → IsChargeIn p s r line → HasLines p s → HasLines p (with_line line)
   lines-charged line charge is =
@@ -211,10 +185,6 @@ module _ (p : PolicyRules) (s : Registry) (r : ℕ) where
       }
 
 -- ---- what a deletion gives back
-
-and-false : (a b : Bool) → b ≡ false → (a && b) ≡ false
-and-false true b e = e
-and-false false b e = refl
 
 module _ (p : PolicyRules) (x : RunningRefund) where
   abbrev back : Line → Line
@@ -265,19 +235,8 @@ module _ (p : PolicyRules) (x : RunningRefund) where
     refunded-on d h = record {
       elsewhere = λ q other. none-refunded d.roid d.transferred q (h.elsewhere q other);
       waiting = λ q. count-refunded d.roid q (charges_waiting q d.transfer) (h.waiting q);
-      awaited = by d.transfer h.awaited;
+      awaited = awaited-carried s refunded d d.transfer (λ y at pending none. none-refunded d.roid (Some y.ac_date) d.sponsor none) h.awaited;
     }
-      where
-        by : (o : Option Transfer) → IsAwaitedIfPending s d o → IsAwaitedIfPending refunded d o
-        by None h = tt
-        by (Some y) h = λ pending. let w = h pending in record {
-          losing_registrar = w.losing_registrar;
-          requester = w.requester;
-          created = w.created;
-          transferred = w.transferred;
-          due = w.due;
-          lines = none-refunded d.roid (Some y.ac_date) d.sponsor w.lines;
-        }
 
     pub lines-refunded : HasLines p s → HasLines p (with_account r (with_lines (remade in_order (refunded_by p x))) s)
     lines-refunded is =

@@ -1,30 +1,25 @@
 -- What time alone makes of a registry keeps what a well-formed one says of lines.
-use Rattle.std.proofs.Common.{◌≡◌, ◌≢◌, ℕ, zero, suc, ◌+◌, ◌≤◌, ◌<◌, ◌==◌, max, Bool, true, false, cond, not, nat_lt, nat_le, ◌&&◌, ◌||◌, List, [], ◌∷◌, ◌++◌, length, Option, Some, None, refl, sym, ap, subst, ◌∙◌, arith, eqb-true}
+use Rattle.std.proofs.Common.{◌≡◌, ◌≢◌, ℕ, zero, suc, ◌+◌, ◌≤◌, ◌<◌, Bool, true, false, cond, nat_lt, nat_le, ◌&&◌, List, [], ◌∷◌, ◌++◌, Option, Some, None, refl, sym, ap, subst, ◌∙◌, arith}
 use Rattle.std.specs.Prelude.{fold}
 use Rattle.std.specs.Cmp.{eq_by_cmp_equiv, nat_cmp_total}
-use Rattle.std.specs.Cmp.Lexicographic.{slice_cmp}
-use Rattle.std.specs.FinMap.{FinMap, get}
-use Rattle.std.specs.List.{All, AllByRecursion, list_any}
+use Rattle.std.specs.FinMap.{FinMap}
+use Rattle.std.specs.List.{list_any}
 use Rattle.std.specs.Ordering.{eq_by_cmp, nat_cmp}
 use Rattle.std.proofs.lemmas.Bool.Decides.{nat_tests}
-use Rattle.std.proofs.lemmas.List.Elements.{All-from_recursion, recursion_from_All}
 use Rattle.accounts.specs.declared.account.Account.{Account}
 use Rattle.accounts.specs.declared.entries.AutoRenewal.{AutoRenewal}
 use Rattle.accounts.specs.declared.entries.LapseEntry.TheVariants.{Start}
 use Rattle.accounts.specs.declared.entries.Posting.{Posting}
 use Rattle.accounts.specs.declared.message.LapseNotice.TheVariants.{TransferApproved}
 use Rattle.accounts.specs.declared.line.Line.{Line}
-use Rattle.accounts.specs.declared.line.TransferStart.{TransferStart}
 use Rattle.accounts.specs.Entries.{entered, posted, renewal_line}
-use Rattle.accounts.specs.Lines.{in_order, is_same_roid, is_on, transfer_started, waits}
-use Rattle.accounts.proofs.LineLaws.{same-roids}
+use Rattle.accounts.specs.Lines.{in_order, is_on, transfer_started, waits}
 use Rattle.basis.proofs.SweepLaws.{fold_append}
 use Rattle.calendar.specs.Moment.{plus_years}
-use Rattle.lifecycle.specs.Lapse.{approved, completion, contact_completed, due_by, gained, lapse, lapse_by, lapse_contact, leaves, lived, moved, purged, raised, renewals, tell}
+use Rattle.lifecycle.specs.Lapse.{due_by, gained, lapse, lapse_by, leaves, lived, moved, purged, raised, renewals, tell}
 use Rattle.lifecycle.specs.Phases.{purge_at}
 use Rattle.lifecycle.specs.Turns.{turns}
 use Rattle.lifecycle.proofs.TurnLaws.{turns-are}
-use Rattle.objects.specs.declared.contact.Contact.{Contact}
 use Rattle.objects.specs.declared.domain.Deletion.{Deletion}
 use Rattle.objects.specs.declared.domain.Domain.{Domain}
 use Rattle.objects.specs.declared.roid.Roid.{Roid}
@@ -33,9 +28,9 @@ use Rattle.objects.specs.Transfers.{is_pending_state}
 use Rattle.policy.specs.Rules.{PolicyRules}
 use Rattle.model.specs.Registry.{Registry, account_of}
 use Rattle.model.specs.WellFormed.{HasLinesOn, IsAwaited, IsAwaitedIfPending, IsLater, begins_after, charges_waiting, is_begun_after}
-use Rattle.model.proofs.LineLemmas.{count, count-add-none, count-none-remade, none-add, none-weaker}
+use Rattle.model.proofs.LineLemmas.{count, count-add-none, count-none-remade, none-add, none-weaker, not-itself, one-or-other}
 use Rattle.rules.specs.Changes.{with_account}
-use Rattle.rules.proofs.LineEntryLemmas.{AllKeep, AllOff, Keeps, begins-asks, keep-both, keep-posted, none-kept-off, off-both, renewal-by, renewal-waits-not, started-waits-not}
+use Rattle.rules.proofs.LineEntryLemmas.{AllKeep, keep-both, keep-posted, renewal-by, renewal-waits-not, started-waits-not}
 use Rattle.rules.proofs.PostingLemmas.{due-is}
 use Rattle.rules.proofs.ViewLemmas.{account_of-with_account}
 
@@ -99,17 +94,6 @@ none_after roid last ls = list_any (begins_after roid last) ls ≡ false
 
 abbrev as_many : Roid → ℕ → List Line → Type 0
 as_many roid n ls = count (waits roid) ls ≡ n
-
--- a number is another, or isn't
-one-or-other : {A : Type 0} (a b : ℕ) → (a ≡ b → A) → (a ≢ b → A) → A
-one-or-other {A} a b same other = by (a == b) refl
-  where
-    by : (c : Bool) → (a == b) ≡ c → A
-    by true e = same (eqb-true a b e)
-    by false e = other (λ is. let never : true ≡ false = sym (itself a) ∙ ap (λ (n : ℕ). a == n) is ∙ e in absurd cc)
-      where
-        itself : (n : ℕ) → (n == n) ≡ true
-        itself n = grind (arith, nat_tests)
 
 -- the tests of a line by an earlier and by a later moment
 begun-later : (last started : Option ℕ) (u : ℕ) → IsLater (suc u) last → is_begun_after last started ≡ false → is_begun_after (Some u) started ≡ false
@@ -206,16 +190,9 @@ module _ (p : PolicyRules) (t : ℕ) (s : Registry) (d : Domain) (on : HasLinesO
     none-waits : (r : ℕ) → as_many d.roid 0 (account_of r (with (turned ++ (start ∷ rest)))).lines
     none-waits r = one-or-other r x.requester own-waits others-wait
       where
-        not-itself : (n : ℕ) → r ≢ x.requester → (x.requester == r) ≡ false
-        not-itself n other = by (x.requester == r) refl
-          where
-            by : (b : Bool) → (x.requester == r) ≡ b → b ≡ false
-            by true e = absurd (other (sym (eqb-true x.requester r e)))
-            by false e = refl
-
         others-wait : r ≢ x.requester → as_many d.roid 0 (account_of r (with (turned ++ (start ∷ rest)))).lines
         others-wait other =
-            let none : charges_waiting r d.transfer ≡ 0 = ap (charges_waiting r) is ∙ (λ i. cond (pending i && not-itself r other i) 1 0) in
+            let none : charges_waiting r d.transfer ≡ 0 = ap (charges_waiting r) is ∙ (λ i. cond (pending i && not-itself x.requester r (λ same. other (sym same)) i) 1 0) in
             keep-posted (as_many d.roid 0) r (turned ++ (start ∷ rest))
             (keep-both (as_many d.roid 0) r turned (start ∷ rest) (count-renewals p d.roid 0 r d (turns d x.ac_date)) (other-rest (as_many d.roid 0) r other)) s (on.waiting r ∙ none)
 

@@ -1,15 +1,14 @@
 -- A registry that lapses keeps what a well-formed one says of lines.
-use Rattle.std.proofs.Common.{◌≡◌, ◌≢◌, ⊎_elim, ℕ, zero, suc, ◌+◌, ◌≤◌, ◌<◌, max, Bool, true, false, cond, not, nat_lt, ◌||◌, List, [], ◌∷◌, ◌++◌, length, Option, Some, None, refl, sym, ap, subst, ◌∙◌, arith}
+use Rattle.std.proofs.Common.{◌≡◌, ◌≢◌, ⊎_elim, ℕ, zero, suc, ◌+◌, ◌≤◌, ◌<◌, Bool, true, false, cond, not, nat_lt, ◌||◌, List, [], ◌++◌, Option, Some, None, refl, sym, ap, subst, ◌∙◌, arith}
 use Rattle.std.specs.Prelude.{fold}
 use Rattle.std.specs.Cmp.{eq_by_cmp_equiv}
 use Rattle.std.specs.Cmp.Lexicographic.{slice_cmp, nat_list_cmp_total}
 use Rattle.std.specs.FinMap.{FinMap, get}
-use Rattle.std.specs.List.{All, AllByRecursion, list_any}
+use Rattle.std.specs.List.{AllByRecursion, list_any}
 use Rattle.std.specs.Ordering.{nat_cmp}
 use Rattle.std.proofs.lemmas.List.Elements.{All-from_recursion, recursion_from_All}
 use Rattle.accounts.specs.declared.account.Account.{Account}
 use Rattle.accounts.specs.declared.entries.LapseEntry.TheVariants.{Renewal, Start}
-use Rattle.accounts.specs.declared.entries.Posting.{Posting}
 use Rattle.accounts.specs.declared.line.Line.{Line}
 use Rattle.accounts.specs.declared.message.Subject.TheVariants as subjects
 use Rattle.accounts.specs.Entries.{posted}
@@ -29,14 +28,14 @@ use Rattle.objects.specs.declared.roid.ObjectKind.TheVariants as kinds
 use Rattle.objects.specs.declared.roid.Roid.{Roid}
 use Rattle.objects.specs.declared.transfer.Transfer.{Transfer}
 use Rattle.policy.specs.Rules.{PolicyRules}
-use Rattle.model.specs.Lapse.{Choice, accounts_at, at, contacts_at, domains_at, is_named, lapse as lapse_registry, lapse_if, lapse_one, lapse_some, lapsed, now, only, postings, put_or_drop, swept, with_domain_lapsed}
+use Rattle.model.specs.Lapse.{Choice, accounts_at, at, domains_at, is_named, lapse as lapse_registry, lapse_if, lapse_one, lapse_some, only, postings, put_or_drop, with_domain_lapsed}
 use Rattle.model.specs.Registry.{Registry, account_of}
-use Rattle.model.specs.WellFormed.{HasBeen, HasLines, HasLinesOn, HasRoid, IsAwaited, IsAwaitedIfPending, IsLineOf, HasObjects, WasGiven, begins_after, charges_waiting}
-use Rattle.model.proofs.LapseLaws.{lapses-on, left-of, some-lapse-together}
-use Rattle.model.proofs.LineLemmas.{all-weaker, count}
+use Rattle.model.specs.WellFormed.{HasBeen, HasLines, HasLinesOn, HasRoid, IsLineOf, HasObjects, WasGiven, begins_after, charges_waiting}
+use Rattle.model.proofs.LapseLaws.{left-of, some-lapse-together}
+use Rattle.model.proofs.LineLemmas.{all-weaker, awaited-carried, count}
 use Rattle.model.proofs.OneByOneLemmas.{one-lapses}
 use Rattle.model.proofs.SweepLemmas.{swept-alike}
-use Rattle.rules.proofs.LineEntryLemmas.{AllKeep, AllOff, IsKeptOff, IsOf, begins-asks, count-kept-off, keep-both, keep-given, keep-posted, lines-kept, none-kept-off, off-both, off-keep, waits-asks}
+use Rattle.rules.proofs.LineEntryLemmas.{AllKeep, AllOff, IsKeptOff, begins-asks, count-kept-off, keep-both, keep-given, keep-posted, lines-kept, none-kept-off, off-both, off-keep, waits-asks}
 use Rattle.rules.proofs.LapsedLemmas.{domain-left}
 use Rattle.rules.proofs.LineLapseLemmas.{lapsed-on, renewal_at}
 use Rattle.rules.proofs.NamedLemmas.{drop-cases, put-cases}
@@ -221,22 +220,9 @@ module _ (p : PolicyRules) (t : ℕ) (s : Registry) (le : s.clock ≤ t) (object
       record {
         elsewhere = λ r other. carry (λ ls. list_any (begins_after e.roid e.transferred) ls ≡ false) (none-kept-off e.roid (begins_after e.roid e.transferred) (begins-asks e.roid e.transferred)) r (k.elsewhere r other);
         waiting = λ r. carry (λ ls. count (waits e.roid) ls ≡ charges_waiting r e.transfer) (count-kept-off e.roid (waits e.roid) (waits-asks e.roid) (charges_waiting r e.transfer)) r (k.waiting r);
-        awaited = by e.transfer carry k.awaited;
+        awaited = awaited-carried (record s { accounts = fold posted s.accounts (lapse p t d).postings }) left e e.transfer
+            (λ x at pending none. carry (λ ls. list_any (begins_after e.roid (Some x.ac_date)) ls ≡ false) (none-kept-off e.roid (begins_after e.roid (Some x.ac_date)) (begins-asks e.roid (Some x.ac_date))) e.sponsor none) k.awaited;
       }
-    where
-      by : (o : Option Transfer) → ((P : List Line → Type 0) → IsKeptOff e.roid P → (r : ℕ) → P (account_of r (record s { accounts = fold posted s.accounts (lapse p t d).postings })).lines → P (account_of r left).lines)
-          → IsAwaitedIfPending (record s { accounts = fold posted s.accounts (lapse p t d).postings }) e o → IsAwaitedIfPending left e o
-      by None carry awaited = tt
-      by (Some x) carry awaited = λ pending.
-          let w = awaited pending in
-          record {
-            losing_registrar = w.losing_registrar;
-            requester = w.requester;
-            created = w.created;
-            transferred = w.transferred;
-            due = w.due;
-            lines = carry (λ ls. list_any (begins_after e.roid (Some x.ac_date)) ls ≡ false) (none-kept-off e.roid (begins_after e.roid (Some x.ac_date)) (begins-asks e.roid (Some x.ac_date))) e.sponsor w.lines;
-          }
 
   pub lines-lapse : HasLines p (lapse_registry p t s)
   unfolding domains_at

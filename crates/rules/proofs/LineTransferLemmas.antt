@@ -1,11 +1,9 @@
 -- What is asked for, approved, rejected or withdrawn of a domain's transfer keeps what a well-formed
 -- registry says of lines (RFC 5730, 2.9.3.4).
-use Rattle.std.proofs.Common.{◌≡◌, ◌≢◌, ◌⊎◌, ⊎_elim, ℕ, ◌≤◌, ◌<◌, ◌==◌, Bool, true, false, cond, not, ◌&&◌, List, Option, Some, None, is_some, refl, sym, ap, subst, ◌∙◌, arith, eqb-true}
+use Rattle.std.proofs.Common.{◌≡◌, ◌≢◌, ⊎_elim, ℕ, ◌≤◌, ◌<◌, ◌==◌, Bool, true, false, cond, not, ◌&&◌, List, Option, Some, None, is_some, refl, sym, ap, subst, ◌∙◌, arith}
 use Rattle.std.specs.Cmp.{eq_by_cmp_equiv, nat_cmp_total}
 use Rattle.std.specs.FinMap.{get}
 use Rattle.std.specs.List.{AllByRecursion, list_any}
-use Rattle.std.specs.Ordering.{eq_by_cmp, nat_cmp}
-use Rattle.std.proofs.lemmas.Bool.Decides.{nat_tests}
 use Rattle.std.proofs.lemmas.List.Elements.{All-from_recursion, recursion_from_All}
 use Rattle.std.proofs.lemmas.Option.{same_Some}
 use Rattle.accounts.specs.declared.account.Account.{Account}
@@ -16,7 +14,7 @@ use Rattle.accounts.specs.declared.line.TransferRefund.{TransferRefund}
 use Rattle.accounts.specs.declared.line.TransferStart.{TransferStart}
 use Rattle.accounts.specs.Entries.{with_lines}
 use Rattle.accounts.specs.LineChanges.{refund-elsewhere, refund-stays, start-elsewhere, start-stays}
-use Rattle.accounts.specs.Lines.{in_order, is_for_transfer, is_kind, is_of, is_on, is_same_roid, transfer_refunded, transfer_started, waits}
+use Rattle.accounts.specs.Lines.{in_order, is_kind, is_of, is_on, is_same_roid, transfer_refunded, transfer_started, waits}
 use Rattle.accounts.proofs.LineLaws.{same-roids}
 use Rattle.basis.specs.Bag.{add, remade}
 use Rattle.objects.specs.declared.domain.Domain.{Domain}
@@ -26,34 +24,17 @@ use Rattle.objects.specs.declared.transfer.Transfer.{Transfer}
 use Rattle.objects.specs.Transfers.{is_pending, is_pending_state}
 use Rattle.policy.specs.Rules.{PolicyRules}
 use Rattle.model.specs.Registry.{Registry, account_of}
-use Rattle.model.specs.WellFormed.{HasBeen, HasLines, HasLinesOn, HasObjects, HasRoid, IsAwaited, IsAwaitedIfPending, IsLater, IsLineOf, WasGiven, begins_after, charges_waiting, is_begun_after}
-use Rattle.model.proofs.LineLemmas.{all-add, all-remade, all-weaker, count, count-add, count-add-none, count-none-remade, count-remade, none-add, none-by, none-remade, one_if}
+use Rattle.model.specs.WellFormed.{HasBeen, HasLines, HasLinesOn, HasObjects, HasRoid, IsLater, IsLineOf, WasGiven, begins_after, charges_waiting, is_begun_after}
+use Rattle.model.proofs.LineLemmas.{and-false, all-add, all-remade, all-weaker, awaited-carried, count, count-add, count-add-none, count-none-remade, count-remade, itself, none-add, none-by, none-remade, not-itself, one-or-other, one_if}
 use Rattle.rules.specs.declared.change.Change.TheVariants.{PutDomain}
 use Rattle.rules.specs.Changes.{changed, with_account}
 use Rattle.rules.proofs.GrowthLemmas.{Grows}
 use Rattle.rules.proofs.LineEntryLemmas.{AsksFor, begins-asks, lines-kept, started-waits-not, test-elsewhere, waits-asks}
-use Rattle.rules.proofs.LineKeepingLemmas.{account-grows, line-grown, lines-keep}
+use Rattle.rules.proofs.LineKeepingLemmas.{account-grows, begun-by, line-grown, lines-keep}
 use Rattle.rules.proofs.NamedLemmas.{put-cases, put-is}
 use Rattle.rules.proofs.ViewLemmas.{account_of-with_account}
 
--- ---- a number is another, or isn't
-
-itself : (n : ℕ) → (n == n) ≡ true
-itself n = grind (arith, nat_tests)
-
-one-or-other : {A : Type 0} (a b : ℕ) → (a ≡ b → A) → (a ≢ b → A) → A
-one-or-other {A} a b same other = by (a == b) refl
-  where
-    by : (c : Bool) → (a == b) ≡ c → A
-    by true e = same (eqb-true a b e)
-    by false e = other (λ is. let never : true ≡ false = sym (itself a) ∙ ap (λ (n : ℕ). a == n) is ∙ e in absurd cc)
-
-not-itself : (a b : ℕ) → a ≢ b → (a == b) ≡ false
-not-itself a b other = by (a == b) refl
-  where
-    by : (c : Bool) → (a == b) ≡ c → c ≡ false
-    by true e = absurd (other (eqb-true a b e))
-    by false e = refl
+-- ---- accounts, and charges that wait
 
 own-account : (r : ℕ) (f : Account → Account) (s : Registry) → account_of r (with_account r f s) ≡ f (account_of r s)
 own-account r f s = account_of-with_account r r f s ∙ ap (λ (b : Bool). cond b (f (account_of r s)) (account_of r s)) ((eq_by_cmp_equiv nat_cmp_total).refl r)
@@ -94,19 +75,9 @@ module _ (p : PolicyRules) (s : Registry) (objects : HasObjects p s) (has : HasL
     others-on only x apart h = record {
       elsewhere = λ q other. none-changed (begins_after x.roid x.transferred) q (λ own. only.none x.roid (begins_after x.roid x.transferred) (begins-asks x.roid x.transferred) apart (account_of q s).lines) (h.elsewhere q other);
       waiting = λ q. count-changed (waits x.roid) q (charges_waiting q x.transfer) (λ own k. only.as_many x.roid (waits x.roid) (waits-asks x.roid) apart (account_of q s).lines ∙ k) (h.waiting q);
-      awaited = by x.transfer h.awaited;
+      awaited = awaited-carried s left x x.transfer
+          (λ y at pending none. none-changed (begins_after x.roid (Some y.ac_date)) x.sponsor (λ own. only.none x.roid (begins_after x.roid (Some y.ac_date)) (begins-asks x.roid (Some y.ac_date)) apart (account_of x.sponsor s).lines) none) h.awaited;
     }
-      where
-        by : (o : Option Transfer) → IsAwaitedIfPending s x o → IsAwaitedIfPending left x o
-        by None h = tt
-        by (Some y) h = λ pending. let w = h pending in record {
-          losing_registrar = w.losing_registrar;
-          requester = w.requester;
-          created = w.created;
-          transferred = w.transferred;
-          due = w.due;
-          lines = none-changed (begins_after x.roid (Some y.ac_date)) x.sponsor (λ own. only.none x.roid (begins_after x.roid (Some y.ac_date)) (begins-asks x.roid (Some y.ac_date)) apart (account_of x.sponsor s).lines) w.lines;
-        }
 
     pub lines-left : IsOnDomain d.roid g → ((ls : List Line) → AllByRecursion (IsLineOf p left) ls → AllByRecursion (IsLineOf p left) (g ls)) → HasLinesOn left e → HasLines p left
     lines-left only fits on = record {
@@ -125,15 +96,7 @@ module _ (p : PolicyRules) (s : Registry) (objects : HasObjects p s) (has : HasL
 
   -- no grace has begun ahead of the clock
   none-ahead : (roid : Roid) (last q : ℕ) → s.clock ≤ last → list_any (begins_after roid (Some last)) (account_of q s).lines ≡ false
-  none-ahead roid last q le = none-by (IsLineOf p s) (begins_after roid (Some last)) (λ l k. by l (is_on roid l) (begun l.started k.started)) (account_of q s).lines (recursion_from_All (IsLineOf p s) (account_of q s).lines (has.each q))
-    where
-      begun : (started : Option ℕ) → HasBeen s started → is_begun_after (Some last) started ≡ false
-      begun None been = refl
-      begun (Some start) been = grind (arith, nat_tests, le, been)
-
-      by : (l : Line) (b : Bool) → is_begun_after (Some last) l.started ≡ false → (b && is_begun_after (Some last) l.started) ≡ false
-      by l true e = e
-      by l false e = refl
+  none-ahead roid last q le = none-by (IsLineOf p s) (begins_after roid (Some last)) (λ l k. and-false (is_on roid l) _ (begun-by s last l.started le k.started)) (account_of q s).lines (recursion_from_All (IsLineOf p s) (account_of q s).lines (has.each q))
 
   -- ---- a transfer is asked for: its charge waits
 
@@ -155,11 +118,7 @@ module _ (p : PolicyRules) (s : Registry) (objects : HasObjects p s) (has : HasL
         off other apart = ap (is_of other) of ∙ apart
 
     begins-not : (last : Option ℕ) → begins_after d.roid last line ≡ false
-    begins-not last = ap (λ (started : Option ℕ). is_on d.roid line && is_begun_after last started) unbegun ∙ no-more (is_on d.roid line)
-      where
-        no-more : (b : Bool) → (b && false) ≡ false
-        no-more true = refl
-        no-more false = refl
+    begins-not last = ap (λ (started : Option ℕ). is_on d.roid line && is_begun_after last started) unbegun ∙ and-false (is_on d.roid line) false refl
 
     asked-on : x.losing_registrar ≡ d.sponsor → x.requester ≢ d.sponsor → d.created < x.requested → IsLater x.requested d.transferred → x.requested ≤ x.ac_date → s.clock ≤ x.ac_date → HasLinesOn (left asked refl x.requester charged) asked
     asked-on losing other created transferred due ahead =
