@@ -1,7 +1,7 @@
 -- A step of the rules leaves a well formed registry.
 use Rattle.std.proofs.Common.{◌≡◌, ℕ, Result, Ok, Err, IfOk, OnOk, sym, subst, arith}
 use Rattle.policy.specs.Rules.{PolicyRules, IsRegistrar}
-use Rattle.registry.specs.Execution.{IsGreetingStep, IsOrderStep, IsStep}
+use Rattle.registry.specs.Execution.{IsGreetingStep, IsOrderStep, IsSettlement, IsStep}
 use Rattle.registry.specs.WellFormed.{KeepsWellFormed, StaysWellFormed}
 use Rattle.rules.specs.Orders.{order_effect}
 use Rattle.rules.specs.Steps.{effect}
@@ -40,3 +40,8 @@ pub kept_greeting : {E : Type 0} (result : Result ℕ E) (clean : Type 0) (p : P
     → IfOk result (λ date. clean → IsGreetingStep p moment before after date) → OnOk result (clean → KeepsWellFormed p before after)
 kept_greeting (Ok date) clean p moment before after step = λ taken is. subst (IsRegistry p) (sym (step taken).left) (kept-now p (lapsed p moment before) (kept-lapsed p moment before is))
 kept_greeting (Err e) clean p moment before after step = tt
+
+pub kept_settlement : {E : Type 0} (result : Result ℕ E) (clean : Type 0) (p : PolicyRules) (moment at_most : ℕ) (before after : Registry)
+    → IfOk result (λ done. clean → IsSettlement p moment at_most before after done) → OnOk result (clean → KeepsWellFormed p before after)
+kept_settlement (Ok done) clean p moment at_most before after step = λ taken is. subst (IsRegistry p) (sym (step taken).unnoticed) (kept-lapsed p moment before is)
+kept_settlement (Err e) clean p moment at_most before after step = tt
