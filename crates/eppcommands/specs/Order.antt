@@ -11,7 +11,9 @@ use Rattle.objects.specs.StatusTexts.{status_named}
 use Rattle.protocol.specs.declared.form.FormFault.{FormFault}
 use Rattle.protocol.specs.declared.form.FormFault.TheVariants.{SyntaxError, UnknownCommand, ParameterRange}
 use Rattle.protocol.specs.declared.order.Order as the_order
-use Rattle.protocol.specs.declared.order.Order.TheVariants.{Status, Deposit, Settle}
+use Rattle.protocol.specs.declared.order.Order.TheVariants.{Status, Deposit}
+use Rattle.protocol.specs.declared.order.OperatorRequest.{OperatorRequest}
+use Rattle.protocol.specs.declared.order.OperatorRequest.TheVariants as requests
 use Rattle.eppforms.specs.declared.member.Member.{Member}
 use Rattle.eppforms.specs.declared.member.Member.TheVariants as members
 use Rattle.eppforms.specs.declared.member.Section.TheVariants.{Top}
@@ -75,26 +77,32 @@ deposit_order d = do
   cents ← ok_or (as_i64 number) ParameterRange
   Ok (Deposit registrar cents)
 
--- how much of what fell due is to be settled
-unfoldable pub settle_order : Data → Result the_order.Order FormFault
+-- how many of the objects that are due are to lapse, at most
+unfoldable pub settle_order : Data → Result OperatorRequest FormFault
 settle_order d = do
   _ ← refuse_unless (has_form SETTLE_ORDER_FORM.now d) SyntaxError
   number ← number_at members.AtMost d
   at_most ← ok_or (as_u64 number) ParameterRange
   _ ← refuse_unless (nat_lt at_most (2 ^ 32)) ParameterRange
-  Ok (Settle at_most)
+  Ok (requests.Settle at_most)
 
--- ---- the order
+-- ---- what the operator sends
 
--- the order that `order` says
-abbrev pub order_said : List ℕ → Data → Result the_order.Order FormFault
+-- an order to be carried out by the rules
+abbrev pub as_order : Result the_order.Order FormFault → Result OperatorRequest FormFault
+as_order told = do
+  order ← told
+  Ok (requests.Order order)
+
+-- what `order` says
+abbrev pub order_said : List ℕ → Data → Result OperatorRequest FormFault
 order_said order d =
-    if bytes_eq order (codes "status") then status_order d
-    else (if bytes_eq order (codes "deposit") then deposit_order d
+    if bytes_eq order (codes "status") then as_order (status_order d)
+    else (if bytes_eq order (codes "deposit") then as_order (deposit_order d)
     else (if bytes_eq order (codes "settle") then settle_order d
     else Err UnknownCommand))
 
-unfoldable pub order_told : Data → Result the_order.Order FormFault
+unfoldable pub order_told : Data → Result OperatorRequest FormFault
 order_told d = do
   order ← ok_or (word_at members.Order d) SyntaxError
   order_said order d
@@ -104,8 +112,8 @@ abbrev pub if_ok : {A : Type 0} → Result A FormFault → Option A
 if_ok (Ok x) = Some x
 if_ok (Err code) = None
 
-abbrev pub order_of_data : Data → Option the_order.Order
+abbrev pub order_of_data : Data → Option OperatorRequest
 order_of_data d = if_ok (order_told d)
 
-abbrev pub order_in : List ℕ → Option the_order.Order
+abbrev pub order_in : List ℕ → Option OperatorRequest
 order_in payload = option_and_then order_of_data (if is_utf8 payload then read payload else None)

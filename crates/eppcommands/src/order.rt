@@ -14,12 +14,12 @@ use eppforms::{
     member_of, object_named, word,
 };
 use objects::{ObjectKind, Status};
-use protocol::{FormFault, Order, StatusOrder};
+use protocol::{FormFault, OperatorRequest, Order, StatusOrder};
 use serde_json::{Number, Value};
 use std::alloc::{AllocError, Global};
 
 /// Reads an order. There is none where the payload is of another form.
-pub fn order_of(alloc: Global, payload: &[u8]) -> Result<Option<Order>, AllocError>
+pub fn order_of(alloc: Global, payload: &[u8]) -> Result<Option<OperatorRequest>, AllocError>
     ensures { IfOk result (λ order. order ≡ spec.order_in payload.now) }
 {
     match Value::from_slice(alloc, payload) {
@@ -29,7 +29,7 @@ pub fn order_of(alloc: Global, payload: &[u8]) -> Result<Option<Order>, AllocErr
     }
 }
 
-fn order_of_value(alloc: Global, value: &Value) -> Result<Option<Order>, AllocError>
+fn order_of_value(alloc: Global, value: &Value) -> Result<Option<OperatorRequest>, AllocError>
     ensures { IfOk result (λ order. order ≡ spec.order_of_data (view value.now)) }
 {
     match order_told(alloc, value) {
@@ -41,21 +41,21 @@ fn order_of_value(alloc: Global, value: &Value) -> Result<Option<Order>, AllocEr
 
 /// The order that `order` says.
 #[tactic(auto, unfolding(crate::specs::Order::order_told))]
-fn order_told(alloc: Global, value: &Value) -> Result<Order, Fault>
+fn order_told(alloc: Global, value: &Value) -> Result<OperatorRequest, Fault>
     ensures { Gives result (spec.order_told (view value.now)) }
 {
     let order = word(value, Member::Order).ok_or(FormFault::SyntaxError)?;
     order_said(alloc, order, value)
 }
 
-fn order_said(alloc: Global, order: &str, value: &Value) -> Result<Order, Fault>
+fn order_said(alloc: Global, order: &str, value: &Value) -> Result<OperatorRequest, Fault>
     ensures { Gives result (spec.order_said order.now (view value.now)) }
 {
     if order == "status" {
-        return status_order(alloc, value);
+        return Ok(OperatorRequest::Order(status_order(alloc, value)?));
     }
     if order == "deposit" {
-        return deposit_order(alloc, value);
+        return Ok(OperatorRequest::Order(deposit_order(alloc, value)?));
     }
     if order == "settle" {
         return Ok(settle_order(value)?);
@@ -106,9 +106,9 @@ fn deposit_order(alloc: Global, value: &Value) -> Result<Order, Fault>
     Ok(Order::Deposit { registrar, cents })
 }
 
-/// The order to settle what fell due.
+/// The order that some of what is due lapses.
 #[tactic(auto, unfolding(crate::specs::Order::settle_order))]
-fn settle_order(value: &Value) -> Result<Order, FormFault>
+fn settle_order(value: &Value) -> Result<OperatorRequest, FormFault>
     ensures { result ≡ spec.settle_order (view value.now) }
 {
     if !has_form(SETTLE_ORDER_FORM, value) {
@@ -119,7 +119,7 @@ fn settle_order(value: &Value) -> Result<Order, FormFault>
     if at_most > u64::from(u32::MAX) {
         return Err(FormFault::ParameterRange);
     }
-    Ok(Order::Settle {
+    Ok(OperatorRequest::Settle {
         at_most: at_most as u32,
     })
 }

@@ -1,6 +1,6 @@
 -- A transaction in which what is due lapses.
-use Rattle.std.proofs.Common.{◌≡◌, ◌<◌, ℕ, true, cond, max, ◌⊎◌, List, [], ◌∷◌, refl, sym, subst, ap, ◌∙◌, arith}
-use Rattle.model.specs.Lapse.{accounts_at}
+use Rattle.std.proofs.Common.{◌≡◌, ◌<◌, ℕ, true, cond, max, min, length, take, ◌⊎◌, List, [], ◌∷◌, refl, sym, subst, ap, ◌∙◌, arith}
+use Rattle.model.specs.Lapse.{accounts_at, at, lapse, now}
 use Rattle.model.specs.Registry.{Registry}
 use Rattle.policy.specs.Rules.{PolicyRules}
 use Rattle.rules.specs.declared.change.Change.TheVariants.{MoveClock}
@@ -8,11 +8,11 @@ use Rattle.rules.specs.Lapsing.{lapse_changes}
 use Rattle.model.specs.Objects.{object_at}
 use Rattle.registry.specs.declared.fault.Fault.{Fault}
 use Rattle.registry.specs.declared.fault.Fault.TheVariants as faults
-use Rattle.registry.specs.Execution.{GoesBack, at_moment}
-use Rattle.registry.specs.Lapsing.{with_dues_lapsed, with_lapsed}
-use Rattle.registry.proofs.LapsingLemmas.{all-lapsed}
+use Rattle.registry.specs.Execution.{GoesBack, Settles, at_moment}
+use Rattle.registry.specs.Lapsing.{dues_lapsed, with_dues_lapsed, with_lapsed}
+use Rattle.registry.proofs.LapsingLemmas.{all-lapsed, some-lapsed}
 use Rattle.store.specs.declared.due.Due.{Due}
-use Rattle.store.specs.Book.{BookState, Follows, IsBack, Moves, Stored, with_changes}
+use Rattle.store.specs.Book.{BookState, Commits, Follows, IsBack, IsSame, Moves, Stored, with_changes}
 use Rattle.store.specs.Due.{due_by}
 
 -- some of what is due has lapsed, and what is left leads to where all of it does
@@ -75,3 +75,55 @@ passed p moment now old mid new first told then second = record {
 
     all : with_lapsed p (max moment old.content.registry.clock) moved ≡ at_moment p moment old.content
     all = ap (λ (s : Registry). record old.content { registry = s }) (all-lapsed p (max moment old.content.registry.clock) moved.registry refl)
+
+-- ---- a settlement
+
+-- what a registry becomes doesn't hang on where its clock stood
+same-lapse : (p : PolicyRules) (u : ℕ) (s : Registry) → lapse p u (at u s) ≡ lapse p u s
+unfolding accounts_at
+same-lapse p u s = refl
+
+-- the clock has moved, and the first of what is due have lapsed and are kept
+pub settled : (p : PolicyRules) (moment at_most clock count : ℕ) (due part : List Due) (old moved listed mid new : BookState)
+    → Moves old moved (with_changes p (MoveClock moment ∷ []) old.content) → (moved.is_clean ≡ true → clock ≡ max moment old.content.registry.clock) → Follows moved listed
+    → IsSame moved listed → (listed.is_clean ≡ true → due ≡ due_by p clock moved.content.registry) → Follows listed mid
+    → part ≡ take at_most due → count ≡ min at_most (length due) → Moves listed mid (with_dues_lapsed p clock part listed.content) → Follows mid new → Commits mid new
+    → Settles p moment at_most count old new
+settled p moment at_most clock count due part old moved listed mid new first told listing same found lapsing cut counted second committing kept clean = record {
+  counted = counted ∙ ap (λ (ds : List Due). min at_most (length ds)) due-is;
+  left = left;
+  unnoticed = ap (now p) left ∙ some-lapsed p u (take at_most (due_by p u s)) (at u s) refl ∙ same-lapse p u s;
+}
+  where
+    s : Registry
+    s = old.content.registry
+
+    u : ℕ
+    u = max moment s.clock
+
+    clean-mid : mid.is_clean ≡ true
+    clean-mid = committing.clean clean
+
+    clean-listed : listed.is_clean ≡ true
+    clean-listed = lapsing.clean clean-mid
+
+    clean-moved : moved.is_clean ≡ true
+    clean-moved = listing.clean clean-listed
+
+    moved-is : moved.content.registry ≡ at u s
+    moved-is = ap (λ (held : Stored). held.registry) (first.content clean-moved)
+
+    clock-is : clock ≡ u
+    clock-is = told clean-moved
+
+    due-is : due ≡ due_by p u s
+    due-is = found clean-listed ∙ (λ i. due_by p (clock-is i) (moved-is i))
+
+    part-is : part ≡ take at_most (due_by p u s)
+    part-is = cut ∙ ap (take at_most) due-is
+
+    left : new.content.registry ≡ dues_lapsed p u (take at_most (due_by p u s)) (at u s)
+    left =
+        ap (λ (held : Stored). held.registry) (kept.content clean ∙ second.content clean-mid)
+        ∙ (λ i. dues_lapsed p (clock-is i) (part-is i) (same.content clean-listed i).registry)
+        ∙ ap (dues_lapsed p u (take at_most (due_by p u s))) moved-is

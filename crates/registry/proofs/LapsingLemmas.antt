@@ -1,5 +1,5 @@
 -- What is due lapses one after another as the whole registry does.
-use Rattle.std.proofs.Common.{◌≡◌, ◌≤◌, ◌<◌, ℕ, Bool, true, false, cond, not, ◌&&◌, ◌||◌, max, nat_le, nat_lt, map, List, [], ◌∷◌, Option, Some, None, refl, sym, subst, ap, ◌∙◌, arith}
+use Rattle.std.proofs.Common.{◌≡◌, ◌<◌, ℕ, Bool, true, false, cond, ◌&&◌, ◌||◌, nat_le, nat_lt, map, List, [], ◌∷◌, Option, Some, None, refl, sym, ap, ◌∙◌, arith}
 use Rattle.std.proofs.lemmas.Bool.Decides.{nat_tests}
 use Rattle.std.specs.Prelude.{fold, option_and_then, option_map}
 use Rattle.std.specs.BTreeSet.{insert_key}
@@ -15,13 +15,12 @@ use Rattle.accounts.specs.declared.message.Subject.TheVariants as subjects
 use Rattle.accounts.specs.Entries.{posted}
 use Rattle.lifecycle.specs.Lapse.{completes_at, due_at, due_by as transfer_due_by, lapse as lapse_domain, lapse_contact}
 use Rattle.lifecycle.specs.Periods.{passed}
-use Rattle.model.specs.declared.object.Object.{Object}
 use Rattle.model.specs.declared.object.Object.TheVariants as objects
-use Rattle.model.specs.Lapse.{Choice, among, at, is_named, lapse, lapse_each, lapse_one, lapsed, with_contact_lapsed, with_domain_lapsed}
+use Rattle.model.specs.Lapse.{Choice, among, at, is_named, lapse, lapse_each, lapse_one, now, with_contact_lapsed, with_domain_lapsed}
 use Rattle.model.specs.LapseLaws.{HasAllDue}
 use Rattle.model.specs.Objects.{object_at}
 use Rattle.model.specs.Registry.{Registry}
-use Rattle.model.proofs.OneByOneLemmas.{each-due-lapses-as-all}
+use Rattle.model.proofs.OneByOneLemmas.{each-due-lapses-as-all, lapses-on-from-each}
 use Rattle.objects.specs.declared.contact.Contact.{Contact}
 use Rattle.objects.specs.declared.domain.Domain.{Domain}
 use Rattle.objects.specs.declared.host.Host.{Host}
@@ -30,8 +29,7 @@ use Rattle.objects.specs.declared.roid.ObjectKind.TheVariants as kinds
 use Rattle.objects.specs.declared.transfer.Transfer.{Transfer}
 use Rattle.objects.specs.Transfers.{is_pending_state}
 use Rattle.policy.specs.Rules.{PolicyRules}
-use Rattle.rules.specs.declared.change.Change.{Change}
-use Rattle.rules.specs.declared.change.Change.TheVariants.{LapseContact, LapseDomain, MoveClock}
+use Rattle.rules.specs.declared.change.Change.TheVariants.{LapseContact, LapseDomain}
 use Rattle.rules.specs.Changes.{changed, changed_all}
 use Rattle.rules.specs.Lapsing.{gift, lapse_changes}
 use Rattle.store.specs.declared.due.Due.{Due}
@@ -272,3 +270,12 @@ all-lapsed p t s e =
     each p t (due_by p t s) s
     ∙ ap (λ u. at u (lapse_each p t (objects_of (due_by p t s)) s)) (same-clock p t (objects_of (due_by p t s)) s ∙ e)
     ∙ each-due-lapses-as-all p t (objects_of (due_by p t s)) s (has-all p t s)
+
+-- where some objects have lapsed, one after another, what is left lapses as the registry would have
+pub some-lapsed : (p : PolicyRules) (t : ℕ) (ds : List Due) (s : Registry) → s.clock ≡ t → now p (dues_lapsed p t ds s) ≡ lapse p t s
+some-lapsed p t ds s e =
+    let named : List (Subject × List ℕ) = objects_of ds in
+    let clock : (lapse_each p t named s).clock ≡ t = same-clock p t named s ∙ e in
+    ap (now p) (each p t ds s)
+    ∙ ap (λ (u : ℕ). lapse p u (at u (lapse_each p t named s))) clock
+    ∙ lapses-on-from-each p named t t t (omega arith) s

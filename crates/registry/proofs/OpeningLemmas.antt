@@ -1,7 +1,6 @@
 -- Accounts are opened one after another.
-use Rattle.std.proofs.Common.{◌≡◌, ℕ, suc, ◌+◌, List, [], ◌∷◌, ◌++◌, refl, arith}
+use Rattle.std.proofs.Common.{◌≡◌, ℕ, suc, ◌+◌, [], ◌∷◌, ◌++◌, refl, arith}
 use Rattle.registry.specs.Opening.{openings}
-use Rattle.rules.specs.declared.change.Change.{Change}
 use Rattle.rules.specs.declared.change.Change.TheVariants.{OpenAccount}
 
 pub openings-zero : openings 0 ≡ []

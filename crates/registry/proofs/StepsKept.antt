@@ -1,7 +1,7 @@
 -- A step of the rules leaves a well formed registry.
 use Rattle.std.proofs.Common.{◌≡◌, ℕ, ◌≤◌, max, Result, Ok, Err, IfOk, OnOk, sym, subst, arith}
-use Rattle.policy.specs.Rules.{PolicyRules, IsRegistrar}
-use Rattle.registry.specs.Execution.{IsGreetingStep, IsOrderStep, IsStep}
+use Rattle.policy.specs.Rules.{PolicyRules, IsRegistrar, IsSound}
+use Rattle.registry.specs.Execution.{IsGreetingStep, IsOrderStep, IsSettlement, IsStep}
 use Rattle.registry.specs.WellFormed.{KeepsWellFormed, StaysWellFormed}
 use Rattle.rules.specs.Orders.{order_effect}
 use Rattle.rules.specs.Steps.{effect}
@@ -16,15 +16,15 @@ use Rattle.model.specs.Registry.{Registry}
 use Rattle.model.proofs.LapseLaws.{lapsed-is-settled}
 use Rattle.model.specs.WellFormed.{IsRegistry, last_clock}
 
-stays : (p : PolicyRules) (r : ℕ) (c : Command) (moment : ℕ) → moment ≤ last_clock → (before after : Registry) → IsRegistrar p r → now p after ≡ now p (effect p r c (lapsed p moment before)) → StaysWellFormed p before after
-stays p r c moment early before after place left is small =
+stays : (p : PolicyRules) → IsSound p → (r : ℕ) (c : Command) (moment : ℕ) → moment ≤ last_clock → (before after : Registry) → IsRegistrar p r → now p after ≡ now p (effect p r c (lapsed p moment before)) → StaysWellFormed p before after
+stays p sound r c moment early before after place left is small =
     let passed : Registry = lapsed p moment before in
-    subst (IsRegistry p) (sym left) (registry-now p (effect p r c passed) (registry-effect p r c passed place (registry-lapsed p moment before early is) (lapsed-is-settled p (max moment before.clock) before) (omega (arith, (small r).serial, serial-lapsed p moment r before))))
+    subst (IsRegistry p) (sym left) (registry-now p (effect p r c passed) (registry-effect p sound r c passed place (registry-lapsed p moment before early is) (lapsed-is-settled p (max moment before.clock) before) (omega (arith, (small r).serial, serial-lapsed p moment r before))))
 
-pub kept_step : {E : Type 0} (result : Result Reply E) (clean : Type 0) (p : PolicyRules) (r : ℕ) (c : Command) (moment : ℕ) → moment ≤ last_clock → (before after : Registry) → IsRegistrar p r
+pub kept_step : {E : Type 0} (result : Result Reply E) (clean : Type 0) (p : PolicyRules) → IsSound p → (r : ℕ) (c : Command) (moment : ℕ) → moment ≤ last_clock → (before after : Registry) → IsRegistrar p r
     → IfOk result (λ reply. clean → IsStep p r c moment before after reply) → OnOk result (clean → StaysWellFormed p before after)
-kept_step (Ok reply) clean p r c moment early before after place step = λ taken. stays p r c moment early before after place (step taken).left
-kept_step (Err e) clean p r c moment early before after place step = tt
+kept_step (Ok reply) clean p sound r c moment early before after place step = λ taken. stays p sound r c moment early before after place (step taken).left
+kept_step (Err e) clean p sound r c moment early before after place step = tt
 
 kept-after-order : (p : PolicyRules) (order : Order) (moment : ℕ) → moment ≤ last_clock → (before after : Registry) → now p after ≡ now p (order_effect p order (lapsed p moment before)) → KeepsWellFormed p before after
 kept-after-order p order moment early before after left is =
@@ -40,3 +40,8 @@ pub kept_greeting : {E : Type 0} (result : Result ℕ E) (clean : Type 0) (p : P
     → IfOk result (λ date. clean → IsGreetingStep p moment before after date) → OnOk result (clean → KeepsWellFormed p before after)
 kept_greeting (Ok date) clean p moment early before after step = λ taken is. subst (IsRegistry p) (sym (step taken).left) (registry-now p (lapsed p moment before) (registry-lapsed p moment before early is))
 kept_greeting (Err e) clean p moment early before after step = tt
+
+pub kept_settlement : {E : Type 0} (result : Result ℕ E) (clean : Type 0) (p : PolicyRules) (moment at_most : ℕ) → moment ≤ last_clock → (before after : Registry)
+    → IfOk result (λ done. clean → IsSettlement p moment at_most before after done) → OnOk result (clean → KeepsWellFormed p before after)
+kept_settlement (Ok done) clean p moment at_most early before after step = λ taken is. subst (IsRegistry p) (sym (step taken).unnoticed) (registry-lapsed p moment before early is)
+kept_settlement (Err e) clean p moment at_most early before after step = tt

@@ -1,6 +1,7 @@
 -- What the calls of the registry leave.
-use Rattle.std.specs.Prelude.{◌≡◌, ℕ, max, Bool, true, false, Result, Ok, Err}
+use Rattle.std.specs.Prelude.{◌≡◌, ℕ, max, min, length, take, true, false}
 use Rattle.policy.specs.Rules.{PolicyRules}
+use Rattle.registry.specs.Lapsing.{dues_lapsed}
 use Rattle.registry.specs.declared.fault.Fault.{Fault}
 use Rattle.registry.specs.declared.fault.Fault.TheVariants as faults
 use Rattle.registry.specs.declared.registry.Prepared.{Prepared}
@@ -10,12 +11,13 @@ use Rattle.rules.specs.Orders.{order_answer, order_effect}
 use Rattle.rules.specs.Steps.{answer, effect, reply_of}
 use Rattle.rules.specs.Isolation.{IsIsolated}
 use Rattle.store.specs.Book.{BookState, HasRefused, IsBack, NoRefusal, Stored}
+use Rattle.store.specs.Due.{due_by}
 use Rattle.protocol.specs.declared.code.Code.{Code}
 use Rattle.protocol.specs.declared.command.Command.{Command}
 use Rattle.facts.specs.declared.facts.Facts.{Facts}
 use Rattle.protocol.specs.declared.order.Order.{Order}
 use Rattle.protocol.specs.declared.reply.Reply.{Reply}
-use Rattle.model.specs.Lapse.{lapsed, now}
+use Rattle.model.specs.Lapse.{at, lapsed, now}
 use Rattle.model.specs.Registry.{Registry}
 
 -- the last moment at which a call is taken: 2099-12-31T23:59:59Z
@@ -38,6 +40,13 @@ pub record IsGreetingStep (p : PolicyRules) (moment : ℕ) (before after : Regis
   pub dated : date ≡ max moment before.clock
   pub left : now p after ≡ now p (lapsed p moment before)
 
+-- Of all that is due by the moment, in its order, the first so many objects lapse, and the clock stands
+-- there; what the registry is now is its lapse, however many they are.
+pub record IsSettlement (p : PolicyRules) (moment at_most : ℕ) (before after : Registry) (done : ℕ) : Type 0 where
+  pub counted : done ≡ min at_most (length (due_by p (max moment before.clock) before))
+  pub left : after ≡ dues_lapsed p (max moment before.clock) (take at_most (due_by p (max moment before.clock) before)) (at (max moment before.clock) before)
+  pub unnoticed : now p after ≡ lapsed p moment before
+
 -- a book's registry takes the step, if nothing wrong was taken from what keeps it
 abbrev pub Steps : PolicyRules → ℕ → Command → ℕ → Reply → BookState → BookState → Type 0
 Steps p r c moment reply old new = new.is_clean ≡ true → IsStep p r c moment old.content.registry new.content.registry reply
@@ -47,6 +56,9 @@ OrderSteps p order moment code old new = new.is_clean ≡ true → IsOrderStep p
 
 abbrev pub Greets : PolicyRules → ℕ → ℕ → BookState → BookState → Type 0
 Greets p moment date old new = new.is_clean ≡ true → IsGreetingStep p moment old.content.registry new.content.registry date
+
+abbrev pub Settles : PolicyRules → ℕ → ℕ → ℕ → BookState → BookState → Type 0
+Settles p moment at_most done old new = new.is_clean ≡ true → IsSettlement p moment at_most old.content.registry new.content.registry done
 
 -- the step is isolated, if nothing wrong was taken from what keeps the book
 abbrev pub Isolates : PolicyRules → ℕ → Command → ℕ → Reply → BookState → BookState → Type 0

@@ -1,5 +1,5 @@
 pub mod Faults
-pub mod Execution
 pub mod Lapsing
+pub mod Execution
 pub mod Opening
 pub mod WellFormed

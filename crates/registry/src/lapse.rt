@@ -17,7 +17,7 @@ use std::alloc::Global;
 use store::{Book, Due};
 
 /// What is due by a moment, in an open transaction.
-fn due<B: Book>(book: &mut B, moment: Moment, policy: &Policy) -> Result<Seq<Due>, Fault>
+pub(crate) fn due<B: Book>(book: &mut B, moment: Moment, policy: &Policy) -> Result<Seq<Due>, Fault>
     requires { (B.state book.old).is_open ≡ true }
     ensures found { IfOk result (λ due. (B.state book.new).is_clean ≡ true → due ≡ due_by policy.now moment (B.state book.old).content.registry) }
     ensures same { OnOk result (IsSame (B.state book.old) (B.state book.new)) }
@@ -43,7 +43,8 @@ pub(crate) fn lapse_all<B: Book>(
     lapse_each(book, alloc, due, moment, policy)
 }
 
-fn lapse_each<B: Book>(
+/// Lets objects lapse up to a moment, one after another.
+pub(crate) fn lapse_each<B: Book>(
     book: &mut B,
     alloc: Global,
     due: Seq<Due>,

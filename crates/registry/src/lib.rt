@@ -9,6 +9,7 @@ mod lapse;
 mod opening;
 mod order;
 mod registry;
+mod settlement;
 mod transaction;
 
 pub use fault::{Fault, OpenFault};

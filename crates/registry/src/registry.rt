@@ -6,7 +6,7 @@ ghost use Rattle.accounts.specs.Account.{saturating_next};
 ghost use Rattle.basis.specs.Sets.{names_code};
 ghost use Rattle.policy.specs.Rules.{IsRegistrar, IsSound};
 ghost use Rattle.policy.specs.Terms.{terms_of};
-ghost use Rattle.registry.specs.Execution.{Fails, GoesBack, Greets, IsPrepared, Isolates, Keeps, OrderSteps, SameTerms, Steps, last_call};
+ghost use Rattle.registry.specs.Execution.{Fails, GoesBack, Greets, IsPrepared, Isolates, Keeps, OrderSteps, SameTerms, Settles, Steps, last_call};
 ghost use Rattle.registry.specs.Opening.{Opens, Refuses};
 ghost use Rattle.registry.specs.WellFormed.{BookCanBeReopened, BookKeepsWellFormed, BookStaysWellFormed, OpensWellFormed};
 ghost use Rattle.rules.specs.Steps.{reply_of};
@@ -19,6 +19,7 @@ use crate::fault::{Fault, OpenFault};
 use crate::greeting::greet_in;
 use crate::opening::open_in;
 use crate::order::execute_order_in;
+use crate::settlement::settle_in;
 use crate::transaction::{advance_clock, facts_for, keep, or_rollback};
 use basis::list::Seq;
 use basis::registrar::RegistrarNo;
@@ -153,6 +154,38 @@ impl<B: Book + Drop> Registry<B> {
             return Err(Fault::Moment);
         }
         self.greeting_step(moment)
+    }
+
+    /// Lets objects lapse that are due by a moment, the first so many by due moment, contacts first, by
+    /// name, and gives how many they were; one moment before the clock counts as the clock. No later
+    /// call can tell whether it was done, but this one. A well formed registry stays well formed.
+    pub fn settle(&mut self, moment: Moment, at_most: u32) -> Result<u32, Fault>
+        ensures step { IfOk result (λ done. Settles self.old.policy moment at_most done (B.state self.old.book) (B.state self.new.book)) }
+        ensures well_formed { OnOk result (BookKeepsWellFormed self.old.policy (B.state self.old.book) (B.state self.new.book)) }
+        ensures terms { OnOk result (SameTerms (B.state self.old.book) (B.state self.new.book)) }
+        ensures reopens { OnOk result (BookCanBeReopened self.old.policy (B.state self.new.book)) }
+        ensures fault { IfErr result (λ fault. Fails fault (B.state self.old.book) (B.state self.new.book)) }
+        ensures late { (result ≡ Err Fault.Moment) ↔ (last_call < moment) }
+        ensures follows { Follows (B.state self.old.book) (B.state self.new.book) }
+        ensures policy { self.new.policy ≡ self.old.policy }
+    {
+        if is_late(moment) {
+            return Err(Fault::Moment);
+        }
+        self.settlement(moment, at_most)
+    }
+
+    /// Settles some of what is due.
+    fn settlement(&mut self, moment: Moment, at_most: u32) -> Result<u32, Fault>
+        ensures step { IfOk result (λ done. Settles self.old.policy moment at_most done (B.state self.old.book) (B.state self.new.book)) }
+        ensures fault { IfErr result (λ fault. Fails fault (B.state self.old.book) (B.state self.new.book)) }
+        ensures terms { OnOk result (SameTerms (B.state self.old.book) (B.state self.new.book)) }
+        ensures early { result ≢ Err Fault.Moment }
+        ensures follows { Follows (B.state self.old.book) (B.state self.new.book) }
+        ensures policy { self.new.policy ≡ self.old.policy }
+    {
+        self.book.begin()?;
+        settle_in(&mut self.book, self.alloc, moment, at_most, &self.policy)
     }
 
     /// Answers hello by the rules.

@@ -159,7 +159,7 @@ pub(crate) fn advance_clock<B: Book>(
 }
 
 /// Moves the clock in an open transaction, and gives it.
-fn move_clock<B: Book>(
+pub(crate) fn move_clock<B: Book>(
     book: &mut B,
     alloc: Global,
     moment: Moment,

@@ -10,7 +10,7 @@ use Rattle.eppreplies.specs.Reply.{reply_text}
 use Rattle.policy.specs.declared.fault.PolicyFault.TheVariants as faults
 use Rattle.policy.specs.Reading.{policy_of}
 use Rattle.policy.specs.Rules.{PolicyRules}
-use Rattle.registry.specs.Execution.{IsGreetingStep, IsOrderStep, IsStep, last_call}
+use Rattle.registry.specs.Execution.{IsGreetingStep, IsOrderStep, IsSettlement, IsStep, last_call}
 use Rattle.registry.specs.Opening.{opened}
 use Rattle.script.specs.declared.exit.Exit.{Exit}
 use Rattle.script.specs.declared.exit.Exit.TheVariants as exits
@@ -21,7 +21,10 @@ use Rattle.store.specs.declared.plain.PlainBook.{PlainBook}
 use Rattle.store.specs.Book.{nothing}
 use Rattle.store.specs.Plain.{plain_state}
 use Rattle.protocol.specs.declared.code.Code.{Code}
+use Rattle.protocol.specs.declared.code.Code.TheVariants.{Completed}
 use Rattle.protocol.specs.declared.command.Command.{Command}
+use Rattle.protocol.specs.declared.order.OperatorRequest.{OperatorRequest}
+use Rattle.protocol.specs.declared.order.OperatorRequest.TheVariants as requests
 use Rattle.protocol.specs.declared.order.Order.{Order}
 use Rattle.protocol.specs.declared.reply.Reply.{Reply}
 use Rattle.protocol.specs.declared.session.InSession.{InSession}
@@ -64,6 +67,18 @@ pub record IsOrderedStep (p : PolicyRules) (order : Order) (moment : ℕ) (befor
   pub step : IsOrderStep p order moment before after code
   pub written : text ≡ answer_text code None
 
+-- some of what is due lapses, and the text says of how many objects
+pub record IsSettledStep (p : PolicyRules) (at_most moment : ℕ) (before after : Registry) (text : List ℕ) : Type 0 where
+  pub done : ℕ
+  pub early : moment ≤ last_call
+  pub step : IsSettlement p moment at_most before after done
+  pub written : text ≡ answer_text Completed (Some done)
+
+-- what the operator sends takes one registry to another
+abbrev pub OperatorSteps : PolicyRules → OperatorRequest → ℕ → Registry → Registry → List ℕ → Type 0
+OperatorSteps p (requests.Order order) moment before after text = IsOrderedStep p order moment before after text
+OperatorSteps p (requests.Settle at_most) moment before after text = IsSettledStep p at_most moment before after text
+
 -- what a registrar says takes one registry to another; it is taken as logged in
 abbrev pub SaidSteps : PolicyRules → ℕ → InSession → ℕ → Registry → Registry → List ℕ → Type 0
 SaidSteps p r Hello moment before after text = IsHelloStep p moment before after text
@@ -73,7 +88,7 @@ SaidSteps p r (Ordinary c) moment before after text = IsCommandStep p r c moment
 abbrev pub Steps : PolicyRules → Sender → List ℕ → ℕ → Registry → Registry → List ℕ → Type 0
 Steps p (Registrar r) payload moment before after text = SaidSteps p r (in_session p.zone payload) moment before after text
 Steps p Operator payload moment before after text =
-    (order : Order) × (order_in payload ≡ Some order) × IsOrderedStep p order moment before after text
+    (request : OperatorRequest) × (order_in payload ≡ Some request) × OperatorSteps p request moment before after text
 
 abbrev pub IsAnswered : PolicyRules → Sender → List ℕ → ℕ → Registry → Registry → List ℕ → Type 0
 IsAnswered p sender payload moment before after text =
@@ -93,6 +108,16 @@ abbrev pub IsAnsweredOrder : PolicyRules → Order → ℕ → Registry → Regi
 IsAnsweredOrder p order moment before after text =
     GivesUp before after text ⊎ IsOrderedStep p order moment before after text
 
+-- of a settlement
+abbrev pub IsAnsweredSettlement : PolicyRules → ℕ → ℕ → Registry → Registry → List ℕ → Type 0
+IsAnsweredSettlement p at_most moment before after text =
+    GivesUp before after text ⊎ IsSettledStep p at_most moment before after text
+
+-- of what the operator sends
+abbrev pub IsAnsweredOperator : PolicyRules → OperatorRequest → ℕ → Registry → Registry → List ℕ → Type 0
+IsAnsweredOperator p request moment before after text =
+    GivesUp before after text ⊎ OperatorSteps p request moment before after text
+
 -- the text, or the fixed one where there is none
 abbrev pub told_text : Option (List ℕ) → List ℕ
 told_text None = failed_text
@@ -104,7 +129,7 @@ pub record Answers (p : PolicyRules) (line : List ℕ) (before after : Registry)
   pub form : IsLine p line asked
   pub answered : IsAnswered p asked.sender asked.payload asked.moment before after text
 
--- what the operator sends has to be an order
+-- what the operator sends has to be an order, or a settlement
 abbrev pub Asks : Sender → List ℕ → Type 0
 Asks (Registrar r) payload = Unit {0}
 Asks Operator payload = IsSome (order_in payload)

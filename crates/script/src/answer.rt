@@ -1,10 +1,10 @@
 //! What a line is answered.
 ghost use Rattle.std.specs.Prelude.{◌≡◌, ◌≤◌, Some, None, option_map, IfOk, IfErr, IfSome, IfNone, OnSome, OnErr};
 ghost use Rattle.policy.specs.Rules.{IsRegistrar};
-ghost use Rattle.registry.specs.Execution.{IsGreetingStep, IsOrderStep, IsStep, last_call};
+ghost use Rattle.registry.specs.Execution.{IsGreetingStep, IsOrderStep, IsSettlement, IsStep, last_call};
 ghost use Rattle.script.specs.declared.line.Sender.TheVariants.{Registrar};
 ghost use Rattle.script.specs.Lines.{IsKnown};
-ghost use Rattle.script.specs.Runs.{Answers, IsAnswered, IsAnsweredCommand, IsAnsweredHello, IsAnsweredOrder, IsStopped, IsUnread, kept, told_text};
+ghost use Rattle.script.specs.Runs.{Answers, IsAnswered, IsAnsweredCommand, IsAnsweredHello, IsAnsweredOperator, IsAnsweredOrder, IsAnsweredSettlement, IsStopped, IsUnread, kept, told_text};
 
 use crate::exit::Exit;
 use crate::line::Line;
@@ -12,7 +12,7 @@ use basis::registrar::RegistrarNo;
 use calendar::Moment;
 use eppcommands::{in_session, order_of};
 use eppreplies::{greeting_bytes, order_bytes, reply_bytes};
-use protocol::{Code, Command, InSession, Order, Reply};
+use protocol::{Code, Command, InSession, OperatorRequest, Order, Reply};
 use registry::Registry;
 use std::alloc::{AllocError, Global};
 use store::PlainBook;
@@ -50,7 +50,7 @@ fn answer_asked(
     match line.sender.registrar() {
         Some(caller) => Ok(answer_registrar(alloc, registry, caller, payload, moment)?),
         None => match order_of(alloc, payload) {
-            Ok(Some(order)) => Ok(answer_order(alloc, registry, order, moment)?),
+            Ok(Some(request)) => Ok(answer_operator(alloc, registry, request, moment)?),
             Ok(None) => Err(Exit::Script(number)),
             Err(_) => Ok(None),
         },
@@ -141,6 +141,22 @@ fn reply_to(
     reply.ok()
 }
 
+/// What the operator is answered.
+fn answer_operator(
+    alloc: Global,
+    registry: &mut Registry<PlainBook>,
+    request: OperatorRequest,
+    moment: Moment,
+) -> Result<Option<Vec<u8>>, AllocError>
+    ensures answered { IfOk result (λ told. IsAnsweredOperator registry.old.policy request moment (kept registry.old.book) (kept registry.new.book) (told_text (option_map (λ text. text.items) told))) }
+    ensures policy { registry.new.policy ≡ registry.old.policy }
+{
+    match request {
+        OperatorRequest::Order(order) => answer_order(alloc, registry, order, moment),
+        OperatorRequest::Settle { at_most } => answer_settlement(alloc, registry, at_most, moment),
+    }
+}
+
 /// What the operator's order is answered.
 fn answer_order(
     alloc: Global,
@@ -167,4 +183,30 @@ fn code_of(registry: &mut Registry<PlainBook>, order: &Order, moment: Moment) ->
     ensures policy { registry.new.policy ≡ registry.old.policy }
 {
     registry.operator(order, moment).ok()
+}
+
+/// What a settlement is answered: how many objects lapsed.
+fn answer_settlement(
+    alloc: Global,
+    registry: &mut Registry<PlainBook>,
+    at_most: u32,
+    moment: Moment,
+) -> Result<Option<Vec<u8>>, AllocError>
+    ensures answered { IfOk result (λ told. IsAnsweredSettlement registry.old.policy at_most moment (kept registry.old.book) (kept registry.new.book) (told_text (option_map (λ text. text.items) told))) }
+    ensures policy { registry.new.policy ≡ registry.old.policy }
+{
+    let Some(done) = settled(registry, at_most, moment) else {
+        return Ok(None);
+    };
+    Ok(Some(order_bytes(alloc, Code::Completed, Some(done))?))
+}
+
+/// How many objects lapsed, of so many at most, unless the call gave up.
+fn settled(registry: &mut Registry<PlainBook>, at_most: u32, moment: Moment) -> Option<u32>
+    ensures step { IfSome result (IsSettlement registry.old.policy moment at_most (kept registry.old.book) (kept registry.new.book)) }
+    ensures early { OnSome result (moment ≤ last_call) }
+    ensures same { IfNone result (kept registry.new.book ≡ kept registry.old.book) }
+    ensures policy { registry.new.policy ≡ registry.old.policy }
+{
+    registry.settle(moment, at_most).ok()
 }

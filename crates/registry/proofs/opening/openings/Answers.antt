@@ -1,4 +1,4 @@
-use Rattle.std.proofs.Common.{sym, ap, ◌+◌, ◌∙◌, ◌++◌, ◌∷◌, [], List, ℕ}
+use Rattle.std.proofs.Common.{sym, ap, ◌∙◌, ◌++◌, ◌∷◌, [], List, ℕ}
 use Rattle.rules.specs.declared.change.Change.{Change}
 use Rattle.rules.specs.declared.change.Change.TheVariants.{OpenAccount}
 use Rattle.registry.specs.Opening.{openings}

@@ -1,0 +1,11 @@
+use Rattle.registry.proofs.CallLemmas.{taken}
+use Rattle.registry.proofs.Reopenings.{reopened_step}
+use Rattle.registry.proofs.StepsKept.{kept_settlement}
+use Rattle.registry.proofs.registry.Registry.settle.Goals as goal
+
+pub returns-clause-well_formed : goal.returns-clause-well_formed
+returns-clause-well_formed g c = kept_settlement c.settlement.result _ c.args.self.now.policy c.args.moment c.args.at_most (taken c.is_late.result c.args.moment c.is_late.ensures c.if-is_late.false) _ _ c.settlement.ensures.step
+
+pub returns-clause-reopens : goal.returns-clause-reopens
+returns-clause-reopens g c =
+    reopened_step c.settlement.result c.args.self.now.policy (g.B.Book.state c.args.self.now.book) (g.B.Book.state c.settlement.new.self.book) c.args.self.now.kept c.settlement.ensures.follows c.settlement.ensures.terms
