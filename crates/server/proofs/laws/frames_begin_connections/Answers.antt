@@ -2,4 +2,4 @@ use Rattle.server.proofs.ConnectionLemmas.{frames_begin}
 use Rattle.server.proofs.laws.frames_begin_connections.Goals as goal
 
 pub returns : goal.returns
-returns g c = frames_begin
+returns c = frames_begin
