@@ -26,6 +26,8 @@ Ends-written exits.Memory p before input bs a b c d ends q k = tt
 Ends-written exits.Usage p before input bs a b c d ends q k = absurd ends
 Ends-written (exits.Policy fault) p before input bs a b c d ends q k = absurd ends
 Ends-written (exits.Open fault) p before input bs a b c d ends q k = absurd ends
+Ends-written exits.Database p before input bs a b c d ends q k = absurd ends
+Ends-written exits.Network p before input bs a b c d ends q k = absurd ends
 
 all_written : (exit : Exit) (p : PolicyRules) (before : Registry) (o a b c d : Option (List ℕ)) (bs : List ℕ)
     → IfSome (prepend_known [] o) (λ input. Ends p before input (append_known a []) (append_known b bs) exit) → Appends b c bs → Keeps c d
@@ -56,6 +58,8 @@ ends_under exits.Memory p input old new ends = ends
 ends_under exits.Usage p input old new ends = ends
 ends_under (exits.Policy fault) p input old new ends = ends
 ends_under (exits.Open fault) p input old new ends = absurd ends
+ends_under exits.Database p input old new ends = absurd ends
+ends_under exits.Network p input old new ends = absurd ends
 
 pub EndsUnder-opened : (exit : Exit) (p q : PolicyRules) (before : Registry) (a old new : Option (List ℕ)) → q ≡ p → before ≡ start p
     → IfSome a (λ input. Ends q before input old new exit) → IfSome a (λ input. EndsUnder p input old new exit)
@@ -72,6 +76,8 @@ by_file exits.Memory policy p input old new read ends = (p, read, ends)
 by_file exits.Usage policy p input old new read ends = absurd ends
 by_file (exits.Policy fault) policy p input old new read ends = absurd ends
 by_file (exits.Open fault) policy p input old new read ends = (p, read, ends)
+by_file exits.Database policy p input old new read ends = absurd ends
+by_file exits.Network policy p input old new read ends = absurd ends
 
 pub EndsByFile-read : (exit : Exit) (policy : List ℕ) (p : PolicyRules) (a old new : Option (List ℕ)) → policy_of policy ≡ Ok p
     → IfSome a (λ input. EndsUnder p input old new exit) → IfSome a (λ input. EndsByFile policy input old new exit)

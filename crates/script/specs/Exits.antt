@@ -4,7 +4,7 @@ use Rattle.std.specs.declared.io.ErrorKind.{ErrorKind}
 use Rattle.std.specs.declared.io.ErrorKind.TheVariants.{OutOfMemory}
 use Rattle.policy.specs.declared.fault.PolicyFault.TheVariants as faults
 use Rattle.script.specs.declared.exit.Exit.{Exit}
-use Rattle.script.specs.declared.exit.Exit.TheVariants.{Done, Usage, Policy, Open, Script, File, Memory}
+use Rattle.script.specs.declared.exit.Exit.TheVariants.{Done, Usage, Policy, Open, Database, Network, Script, File, Memory}
 
 abbrev pub status_of : Exit → ℕ
 status_of Done = 0
@@ -22,6 +22,8 @@ text_of Usage = Some (codes "usage: tldreg run|serve|zone|deposit POLICY ...")
 text_of (Policy faults.Memory) = Some (codes "out of memory")
 text_of (Policy fault) = None
 text_of (Open fault) = None
+text_of Database = Some (codes "database: has to be :memory:")
+text_of Network = Some (codes "network fault")
 text_of (Script line) = Some (codes "script: line " ++ decimal line)
 text_of File = Some (codes "file fault")
 text_of Memory = Some (codes "out of memory")

@@ -20,6 +20,10 @@ pub enum Exit {
     Policy(PolicyFault),
     /// The book can't be opened.
     Open(OpenFault),
+    /// The database isn't `:memory:`, the one that there is.
+    Database,
+    /// No port, or no connection on it.
+    Network,
     /// A line of the script, counted from 1, that isn't of the form.
     Script(u64),
     /// The policy file, standard input or standard output.
@@ -60,6 +64,8 @@ impl fmt::Display for Exit {
             Exit::Policy(PolicyFault::Memory) => f.write_str("out of memory"),
             Exit::Policy(fault) => write!(f, "policy: {fault}"),
             Exit::Open(fault) => write!(f, "{fault}"),
+            Exit::Database => f.write_str("database: has to be :memory:"),
+            Exit::Network => f.write_str("network fault"),
             Exit::Script(line) => write!(f, "script: line {line}"),
             Exit::File => f.write_str("file fault"),
             Exit::Memory => f.write_str("out of memory"),

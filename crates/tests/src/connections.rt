@@ -114,7 +114,7 @@ const SESSIONS: &[(&[&str], &[&str])] = &[
 ];
 
 /// The frames of payloads.
-fn framed(alloc: Global, payloads: &[&str]) -> Result<Vec<u8>, Fail> {
+pub(crate) fn framed(alloc: Global, payloads: &[&str]) -> Result<Vec<u8>, Fail> {
     let mut bytes = Vec::new(alloc);
     for payload in payloads {
         let total = payload.len().saturating_add(4).min(65_540) as u32;

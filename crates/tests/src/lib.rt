@@ -21,6 +21,8 @@ mod replies;
 #[cfg(test)]
 mod scripts;
 #[cfg(test)]
+mod serving;
+#[cfg(test)]
 mod session_ends;
 #[cfg(test)]
 mod unicode;

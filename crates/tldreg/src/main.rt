@@ -1,38 +1,82 @@
 //! The program `tldreg`: the registry of a top-level domain.
 #![tactic(auto)]
 
+mod command_line;
+
+use command_line::{Task, read_task};
+use policy::Policy;
+use registry::Registry;
 use script::{Exit, run_script};
+use server::{MachineClock, serve_each};
 use std::alloc::Global;
+use std::net::{Ipv4Addr, Net, TcpListener, TcpStream};
 use std::process::ExitCode;
 use std::rt::{Env, Files};
-use std::{env, fs, io};
+use std::time::Clock;
+use std::{fs, io};
+use store::PlainBook;
 
-/// The policy file's path, of a command line `run POLICY`.
-fn policy_path(rt: &(impl Env + AllocGlobal)) -> Result<String, Exit> {
-    let mut args = env::args(rt)?.skip(1);
-    let Some(word) = args.next() else {
-        return Err(Exit::Usage);
+/// The one database that there is.
+const IN_MEMORY: &str = ":memory:";
+
+/// A registry in memory that was never used, under the policy of a file.
+fn registry_of(alloc: Global, policy: &[u8]) -> Result<Registry<PlainBook>, Exit> {
+    let policy = match Policy::read(alloc, policy) {
+        Ok(policy) => policy,
+        Err(fault) => return Err(Exit::Policy(fault)),
     };
-    if word.as_str() != "run" {
-        return Err(Exit::Usage);
+    match Registry::open(alloc, PlainBook::new(alloc), policy) {
+        Ok(registry) => Ok(registry),
+        Err((fault, _)) => Err(Exit::Open(fault)),
     }
-    let Some(path) = args.next() else {
-        return Err(Exit::Usage);
-    };
-    if args.next().is_some() {
-        return Err(Exit::Usage);
-    }
-    Ok(path)
 }
 
-fn run(rt: &(impl Env + Files + Input + Print + AllocGlobal)) -> Result<(), Exit> {
-    let path = policy_path(rt)?;
-    let policy = fs::read(rt, path.as_str())?;
+/// Answers the script that standard input is.
+fn run(rt: &(impl Files + Input + Print + AllocGlobal), policy: &str) -> Result<(), Exit> {
+    let policy = fs::read(rt, policy)?;
     run_script(rt.alloc(), &policy, rt.reader(), &mut io::writer(rt)).result()
 }
 
+/// Serves connections to a port of this machine.
+fn serve<R>(rt: &R, policy: &str, database: &str, port: u16) -> Result<(), Exit>
+where
+    R: Files + Clock + Net<Listener = TcpListener, Stream = TcpStream> + AllocGlobal,
+{
+    let alloc = rt.alloc();
+    let policy = fs::read(rt, policy)?;
+    let registry = registry_of(alloc, &policy)?;
+    if database != IN_MEMORY {
+        return Err(Exit::Database);
+    }
+    let Ok(listener) = TcpListener::bind(rt, (Ipv4Addr::LOCALHOST, port)) else {
+        return Err(Exit::Network);
+    };
+    serve_each(alloc, &listener, &mut MachineClock::new(rt), registry);
+    Err(Exit::Network)
+}
+
+fn perform<R>(rt: &R) -> Result<(), Exit>
+where
+    R: Env
+        + Files
+        + Input
+        + Print
+        + Clock
+        + Net<Listener = TcpListener, Stream = TcpStream>
+        + AllocGlobal,
+{
+    match read_task(rt)? {
+        Task::Run { policy } => run(rt, policy.as_str()),
+        Task::Serve {
+            policy,
+            database,
+            port,
+        } => serve(rt, policy.as_str(), database.as_str(), port),
+    }
+}
+
 fn main(rt: HostRuntime) -> ExitCode {
-    match run(&rt) {
+    match perform(&rt) {
         Ok(()) => ExitCode::from(0),
         Err(exit) => {
             let _ = eprintln!(rt; "{exit}");

@@ -1,0 +1,57 @@
+-- The first byte of a connection, which is read and given back; and its session.
+use Rattle.std.proofs.Common.{◌≡◌, ℕ, zero, suc, ◌+◌, ◌/◌, ◌<◌, Option, Some, None, List, [], ◌∷◌, ◌++◌, length, take, true, refl, sym, ap, ◌∙◌, subst, arith}
+use Rattle.std.specs.Prelude.{IfSome}
+use Rattle.std.specs.Fmt.{option_append}
+use Rattle.std.specs.Io.KnownBytes.{Consumes, IsAtEnd}
+use Rattle.policy.specs.Rules.{PolicyRules}
+use Rattle.sessions.specs.Outcomes.{Outcome}
+use Rattle.sessions.specs.Sessions.{Standing, Session, Writes}
+use Rattle.sessions.specs.declared.session.SessionEnd.{SessionEnd}
+use Rattle.eppframes.specs.Frames.{frame, IsPayload}
+use Rattle.server.specs.Connections.{Agrees, AnswersAt, Desk, FramesBeginConnections, IsServed, Serves, begins_frame}
+use Rattle.server.specs.declared.connection.ConnectionEnd.{ConnectionEnd}
+use Rattle.server.specs.declared.connection.ConnectionEnd.TheVariants as ends
+use Rattle.server.proofs.PeerLemmas.{session_taken, taken_for}
+use Rattle.store.specs.Book.{BookState}
+
+-- what was read and the rest are the input
+pub given_back : (input rest : Option (List ℕ)) (first : List ℕ) → Consumes input rest first → Agrees input (option_append (Some first) rest)
+given_back None rest first c = tt
+given_back (Some bytes) None first c = absurd c
+given_back (Some bytes) (Some rest) first c = ap Some (sym c)
+
+-- the one byte that is asked for decides, or the end
+pub decides : (input rest : Option (List ℕ)) (count : ℕ) (buffer : List ℕ) → length buffer ≡ 1 → Consumes input rest (take count buffer) → (count < length buffer → IsAtEnd rest)
+    → begins_frame (take count buffer) ≡ true → IfSome input (λ bytes. begins_frame bytes ≡ true)
+decides None rest count buffer one c end e = tt
+decides (Some bytes) None count buffer one c end e = absurd c
+decides (Some bytes) (Some rest) count [] one c end e = absurd cc
+decides (Some bytes) (Some rest) zero (byte ∷ more) one c end e = rw (c, end (omega arith)) refl
+decides (Some bytes) (Some rest) (suc count) (byte ∷ more) one c end e = rw c e
+
+-- a session of a peer that answers as a registry does, from when nobody is logged in
+pub served : {S : Type 0} (policy : S → PolicyRules) (desk : S → Desk) (answers : S → ℕ → List ℕ → Outcome → S → Type 0)
+    → ((old new : S) (moment : ℕ) (payload : List ℕ) (outcome : Outcome) → answers old moment payload outcome new → AnswersAt (policy old) (desk old) moment payload outcome (desk new) × (policy new ≡ policy old))
+    → (p : PolicyRules) (old new : BookState) (before : Standing S) (written : List ℕ) (after : Standing S) (end : SessionEnd) → policy before.peer ≡ p → desk before.peer ≡ record { caller = None; book = old }
+    → (desk after.peer).book ≡ new → Session answers before written after end → (policy after.peer ≡ p) × IsServed p before.input before.clock old written after.clock new end
+served {S} policy desk answers are p old new before written after end kept start left s =
+    let taken = session_taken desk (λ (x : S). policy x ≡ p) answers (AnswersAt p) (λ x y moment payload outcome k a. keeps x y moment payload outcome k (are x y moment payload outcome a)) before written after end kept s in
+    let from_start = subst (λ (d : Desk). Session (AnswersAt p) (record { input = before.input; clock = before.clock; peer = d }) written (taken_for desk after) end) start taken.1 in
+    let is : IsServed p before.input before.clock old written after.clock (desk after.peer).book end = record { rest = after.input; caller = (desk after.peer).caller; session = from_start } in
+    (taken.0, subst (λ (b : BookState). IsServed p before.input before.clock old written after.clock b end) left is)
+  where
+    keeps : (x y : S) (moment : ℕ) (payload : List ℕ) (outcome : Outcome) → policy x ≡ p → AnswersAt (policy x) (desk x) moment payload outcome (desk y) × (policy y ≡ policy x)
+        → (policy y ≡ p) × AnswersAt p (desk x) moment payload outcome (desk y)
+    keeps x y moment payload outcome k a = (a.1 ∙ k, subst (λ (q : PolicyRules). AnswersAt q (desk x) moment payload outcome (desk y)) k a.0)
+
+-- a connection whose input begins as a frame does
+pub serves_session : (p : PolicyRules) (input taken clock : Option (List ℕ)) (old : BookState) (before after later : Option (List ℕ)) (new : BookState) (end : ConnectionEnd) → IfSome input (λ bytes. begins_frame bytes ≡ true) → Agrees input taken
+    → (how : SessionEnd) × (end ≡ ends.Session how) × Writes before after (λ written. IsServed p taken clock old written later new how) → Serves p input clock old before after later new end
+serves_session p input taken clock old before after later new end begins agrees s = rw s.1 (begins, taken, agrees, s.2)
+
+-- ---- frames
+
+pub frames_begin : FramesBeginConnections
+frames_begin payload rest is =
+    let small : (length payload + 4) / 16777216 ≡ 0 = omega (arith, is.1) in
+    rw small refl

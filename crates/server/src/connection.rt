@@ -1,0 +1,94 @@
+//! One connection.
+ghost use Rattle.std.specs.Prelude.{◌≡◌};
+ghost use Rattle.sessions.specs.Sessions.{Writes};
+ghost use Rattle.server.specs.Connections as spec;
+ghost use Rattle.server.specs.Connections.{IsServed, Serves};
+ghost use Rattle.server.specs.declared.connection.ConnectionEnd.TheVariants as ends;
+ghost use Rattle.sessions.specs.declared.session.SessionEnd.{SessionEnd};
+
+use eppframes::Clock;
+use eppsessions::Connection;
+use registry::Registry;
+use sessions::{SessionEnd, serve_session};
+use std::alloc::Global;
+use std::io::{Read, Write};
+use store::Book;
+use streams::{ReadFault, read_to_fill};
+
+/// How a connection ended.
+#[derive(Clone, Copy, Debug, PartialEq, Eq)]
+pub enum ConnectionEnd {
+    /// It was one of EPP, and its session ended so.
+    Session(SessionEnd),
+    /// Its first byte begins no frame of EPP. Nothing was answered.
+    OtherProtocol,
+    /// Not even its first byte could be read. Nothing was answered.
+    Unread,
+}
+
+/// A registry behind a connection that ended.
+#[derive(Drop)]
+pub struct Served<B: Book> {
+    /// The registry, for the next connection.
+    pub registry: Registry<B>,
+    /// How the connection ended.
+    pub end: ConnectionEnd,
+}
+
+/// Serves one connection, on which nobody is logged in, up to its end. Its first byte tells the
+/// protocol: a frame of EPP begins with 0, and nothing else is answered.
+pub fn serve_one<R: Read, W: Write, C: Clock, B: Book + Drop>(
+    alloc: Global,
+    reader: &mut R,
+    writer: &mut W,
+    clock: &mut C,
+    registry: Registry<B>,
+) -> Served<B>
+    ensures served { Serves registry.policy (R.remaining reader.old) (C.moments clock.old) (B.state registry.book) (W.contents writer.old) (W.contents writer.new) (C.moments clock.new) (B.state result.registry.book) result.end }
+    ensures policy { result.registry.policy ≡ registry.policy }
+{
+    let mut first = [0u8; 1];
+    let Ok(count) = read_to_fill(reader, &mut first) else {
+        return Served {
+            registry,
+            end: ConnectionEnd::Unread,
+        };
+    };
+    let first = &first[..count];
+    if !begins_frame(first) {
+        return Served {
+            registry,
+            end: ConnectionEnd::OtherProtocol,
+        };
+    }
+    serve_epp(alloc, &mut first.chain(reader), writer, clock, registry)
+}
+
+/// Whether an input begins as a frame does.
+fn begins_frame(input: &[u8]) -> bool
+    ensures { result ≡ spec.begins_frame input.now }
+{
+    match input.first() {
+        Some(first) => *first == 0,
+        None => true,
+    }
+}
+
+/// Serves a connection of EPP.
+fn serve_epp<R: Read, W: Write, C: Clock, B: Book + Drop>(
+    alloc: Global,
+    reader: &mut R,
+    writer: &mut W,
+    clock: &mut C,
+    registry: Registry<B>,
+) -> Served<B>
+    ensures served { (end : SessionEnd) × (result.end ≡ ends.Session end) × Writes (W.contents writer.old) (W.contents writer.new) (λ written. IsServed registry.policy (R.remaining reader.old) (C.moments clock.old) (B.state registry.book) written (C.moments clock.new) (B.state result.registry.book) end) }
+    ensures policy { result.registry.policy ≡ registry.policy }
+{
+    let mut connection = Connection::new(alloc, registry);
+    let end = serve_session(alloc, reader, writer, clock, &mut connection);
+    Served {
+        registry: connection.into_registry(),
+        end: ConnectionEnd::Session(end),
+    }
+}

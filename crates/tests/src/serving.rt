@@ -1,0 +1,171 @@
+//! Connections to one registry, one after the other, over loopback sockets and in memory: the bytes
+//! that go out, and that what one of them did is there in the next.
+
+use crate::connections::framed;
+use crate::fixtures::{POLICY, policy_of};
+use crate::frames::whole;
+use calendar::Moment;
+use eppframes::ListClock;
+use registry::Registry;
+use server::{ConnectionEnd, MachineClock, Served, serve_one};
+use sessions::SessionEnd;
+use std::alloc::Global;
+use std::collections::VecDeque;
+use std::io::{Read, Write};
+use std::net::{Ipv4Addr, Net, Shutdown, TcpListener, TcpStream};
+use std::test::Fail;
+use store::PlainBook;
+
+/// A registry that is new.
+fn registry_of(alloc: Global) -> Result<Registry<PlainBook>, Fail> {
+    match Registry::open(alloc, PlainBook::new(alloc), policy_of(alloc, POLICY)?) {
+        Ok(registry) => Ok(registry),
+        Err(_) => Err(Fail::from("not opened")),
+    }
+}
+
+/// A clock that tells the same moment of 2029 for eight frames.
+fn clock_of(alloc: Global) -> Result<ListClock, Fail> {
+    let mut moments = VecDeque::new(alloc);
+    for _ in 0..8 {
+        if let Ok(moment) = Moment::of_secs(1_861_920_000) {
+            moments.push_back(moment)?;
+        }
+    }
+    Ok(ListClock::of_list(moments))
+}
+
+/// The payloads of each connection, and the payloads that answer them.
+const CONNECTIONS: &[(&[&str], &[&str], SessionEnd)] = &[
+    (
+        &[
+            "{\"cmd\":\"hello\"}",
+            "{\"cmd\":\"login\",\"id\":\"alfa\",\"pw\":\"pass-alfa\",\"version\":\"1.0\"}",
+            "{\"cmd\":\"create\",\"mail\":\"ann@alfa.example\",\"name\":\"c-alfa\",\"obj\":\"contact\",\"postal\":{\"cc\":\"DE\",\"city\":\"Town\",\"name\":\"Ann\",\"street\":[\"Road 1\"]},\"secret\":\"key-alfa\"}",
+            "{\"cmd\":\"poll\",\"op\":\"req\"}",
+            "{\"cmd\":\"logout\"}",
+        ],
+        &[
+            "{\"greeting\":{\"objects\":[\"contact\",\"domain\",\"host\"],\"server\":\"tldreg\",\"svDate\":\"2029-01-01T00:00:00Z\",\"version\":\"1.0\"}}",
+            "{\"code\":1000,\"msg\":\"Command completed successfully\",\"svTRID\":\"ANON\"}",
+            "{\"code\":1000,\"data\":{\"crDate\":\"2029-01-01T00:00:00Z\",\"name\":\"c-alfa\"},\"msg\":\"Command completed successfully\",\"svTRID\":\"alfa-1\"}",
+            "{\"code\":1300,\"msg\":\"Command completed successfully; no messages\",\"svTRID\":\"alfa-2\"}",
+            "{\"code\":1500,\"msg\":\"Command completed successfully; ending session\",\"svTRID\":\"alfa-3\"}",
+        ],
+        SessionEnd::Logout,
+    ),
+    (
+        &[
+            "{\"cmd\":\"balance\"}",
+            "{\"cmd\":\"login\",\"id\":\"alfa\",\"pw\":\"pass-alfa\",\"version\":\"1.0\"}",
+            "{\"cmd\":\"check\",\"names\":[\"c-alfa\"],\"obj\":\"contact\"}",
+        ],
+        &[
+            "{\"code\":2002,\"msg\":\"Command use error\",\"svTRID\":\"ANON\"}",
+            "{\"code\":1000,\"msg\":\"Command completed successfully\",\"svTRID\":\"ANON\"}",
+            "{\"code\":1000,\"data\":{\"results\":[{\"avail\":false,\"name\":\"c-alfa\",\"reason\":\"in use\"}]},\"msg\":\"Command completed successfully\",\"svTRID\":\"alfa-4\"}",
+        ],
+        SessionEnd::End,
+    ),
+];
+
+/// Sends bytes over a socket, serves the connection, and then reads what came back.
+fn over_a_socket<R>(
+    rt: &R,
+    listener: &TcpListener,
+    asked: &[u8],
+    registry: Registry<PlainBook>,
+) -> Result<(Vec<u8>, Served<PlainBook>), Fail>
+where
+    R: Net<Listener = TcpListener, Stream = TcpStream> + AllocGlobal,
+{
+    let alloc = rt.alloc();
+    let mut client = TcpStream::connect(rt, listener.local_addr()?)?;
+    client.write_all(asked)?;
+    client.shutdown(Shutdown::Write)?;
+    let (stream, _) = listener.accept()?;
+    let mut clock = clock_of(alloc)?;
+    let served = serve_one(alloc, &mut &stream, &mut &stream, &mut clock, registry);
+    drop(stream);
+    let mut told = Vec::new(alloc);
+    client.read_to_end(&mut told)?;
+    Ok((told, served))
+}
+
+#[test]
+fn loopback(rt: HostRuntime) -> Result<(), Fail> {
+    let alloc = rt.alloc();
+    let listener = TcpListener::bind(&rt, (Ipv4Addr::LOCALHOST, 0))?;
+    let mut registry = registry_of(alloc)?;
+    for (asked, wanted, end) in CONNECTIONS.iter().copied() {
+        let asked = framed(alloc, asked)?;
+        let (told, served) = over_a_socket(&rt, &listener, &asked, registry)?;
+        let wanted = framed(alloc, wanted)?;
+        assert!(rt; told.as_slice() == wanted.as_slice());
+        assert_eq!(rt; served.end, ConnectionEnd::Session(end));
+        registry = served.registry;
+    }
+    Ok(())
+}
+
+#[test]
+fn one_byte_a_read(rt: HostRuntime) -> Result<(), Fail> {
+    let alloc = rt.alloc();
+    let mut registry = registry_of(alloc)?;
+    for (asked, wanted, end) in CONNECTIONS.iter().copied() {
+        let asked = framed(alloc, asked)?;
+        let mut reader = whole(&asked);
+        reader.step = 1;
+        let mut told = Vec::new(alloc);
+        let mut clock = clock_of(alloc)?;
+        let served = serve_one(alloc, &mut reader, &mut told, &mut clock, registry);
+        let wanted = framed(alloc, wanted)?;
+        assert!(rt; told.as_slice() == wanted.as_slice());
+        assert_eq!(rt; served.end, ConnectionEnd::Session(end));
+        registry = served.registry;
+    }
+    Ok(())
+}
+
+const ENDS: &[(&[u8], usize, ConnectionEnd)] = &[
+    (b"GET / HTTP/1.1\r\n\r\n", 9, ConnectionEnd::OtherProtocol),
+    (b"\x01\0\0\x06{}", 9, ConnectionEnd::OtherProtocol),
+    (b"", 9, ConnectionEnd::Session(SessionEnd::End)),
+    (b"\0", 9, ConnectionEnd::Session(SessionEnd::Cut)),
+    (b"\0\0\0\x06{}", 0, ConnectionEnd::Unread),
+    (
+        b"\0\0\0\x06{}",
+        1,
+        ConnectionEnd::Session(SessionEnd::ReadFault),
+    ),
+];
+
+/// Nothing is answered where the first byte begins no frame, or no frame is whole.
+#[test]
+fn ends(rt: HostRuntime) -> Result<(), Fail> {
+    let alloc = rt.alloc();
+    for (input, reads, end) in ENDS.iter().copied() {
+        let mut reader = whole(input);
+        reader.reads = reads;
+        let mut told = Vec::new(alloc);
+        let mut clock = clock_of(alloc)?;
+        let served = serve_one(
+            alloc,
+            &mut reader,
+            &mut told,
+            &mut clock,
+            registry_of(alloc)?,
+        );
+        assert!(rt; told.is_empty());
+        assert_eq!(rt; served.end, end);
+    }
+    Ok(())
+}
+
+/// The machine's clock tells a moment between 2026 and the last one.
+#[test]
+fn machine(rt: HostRuntime) -> Result<(), Fail> {
+    let told = eppframes::Clock::moment(&mut MachineClock::new(&rt)).secs();
+    assert!(rt; told > 1_767_225_600 && told < 7_258_118_399);
+    Ok(())
+}
