@@ -1,2 +1,3 @@
 pub mod Answers
 pub mod StatusWords
+pub mod Heads

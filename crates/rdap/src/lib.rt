@@ -3,7 +3,9 @@
 #![tactic(auto)]
 
 mod answer;
+mod head;
 mod status;
 
 pub use answer::{Outcome, answer_without_object, response};
+pub use head::{Asked, MOST_BYTES, MOST_FIELDS, Reading, read_head};
 pub use status::{grace_word, status_word, status_words};
