@@ -1,1 +1,2 @@
 mod HeadLemmas
+mod RequestLemmas

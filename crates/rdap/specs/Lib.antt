@@ -1,3 +1,4 @@
 pub mod Answers
 pub mod StatusWords
 pub mod Heads
+pub mod Requests

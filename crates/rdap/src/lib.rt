@@ -4,8 +4,10 @@
 
 mod answer;
 mod head;
+mod request;
 mod status;
 
 pub use answer::{Outcome, answer_without_object, response};
 pub use head::{Asked, MOST_BYTES, MOST_FIELDS, Reading, read_head};
+pub use request::{Request, request_of};
 pub use status::{grace_word, status_word, status_words};
