@@ -2,3 +2,4 @@ pub mod Answers
 pub mod StatusWords
 pub mod Heads
 pub mod Requests
+pub mod Bodies

@@ -3,11 +3,16 @@
 #![tactic(auto)]
 
 mod answer;
+mod body;
+mod entity;
 mod head;
+mod nameserver;
 mod request;
 mod status;
 
 pub use answer::{Outcome, answer_without_object, response};
+pub use entity::contact_body;
 pub use head::{Asked, MOST_BYTES, MOST_FIELDS, Reading, read_head};
+pub use nameserver::nameserver_body;
 pub use request::{Request, request_of};
 pub use status::{grace_word, status_word, status_words};
