@@ -1,6 +1,6 @@
 -- The bodies of answers (RFC 9083, 4 and 5): compact JSON, the members of each object in the order of
 -- their names' bytes.
-use Rattle.std.specs.Prelude.{ℕ, Bool, not, List, [], ◌∷◌, ◌++◌, map, filter, length, Option, Some, None, option_map, if◌then◌else◌, ◌==◌, Result, Ok, Err, codes}
+use Rattle.std.specs.Prelude.{ℕ, Bool, false, not, List, [], ◌∷◌, ◌++◌, map, filter, Option, Some, None, Result, Ok, Err, codes}
 use Rattle.std.specs.List.{dedup}
 use Rattle.std.specs.Str.{bytes_eq}
 use Rattle.serde_json.specs.Data.{Data, string, array, object}
@@ -12,8 +12,17 @@ use Rattle.names.specs.Canonical.{unicode_of}
 use Rattle.names.specs.declared.fault.NameFault.{NameFault}
 use Rattle.names.specs.Reading.{or_syntax}
 use Rattle.objects.specs.declared.contact.ContactFace.{ContactFace}
+use Rattle.objects.specs.declared.domain.DomainFace.{DomainFace}
+use Rattle.objects.specs.declared.domain.Links.{Links}
 use Rattle.objects.specs.declared.host.HostFace.{HostFace}
+use Rattle.objects.specs.declared.grace.Standing.{Standing}
+use Rattle.objects.specs.declared.status.Status.{Status}
+use Rattle.objects.specs.Graces.{states_of}
+use Rattle.objects.specs.Links.{has_name, in_order}
 use Rattle.objects.specs.Roid.{roid_text}
+use Rattle.policy.specs.Rules.{PolicyRules, id_at}
+use Rattle.rdap.specs.declared.domain.Role.{Role}
+use Rattle.rdap.specs.declared.domain.Role.TheVariants.{Registrant, Administrative, Technical, Registrar}
 use Rattle.rdap.specs.StatusWords.{status_words}
 
 -- what every answer conforms to (RFC 9083, 4.1)
@@ -108,3 +117,75 @@ contact_value c = object (members_with (contact_members c))
 
 abbrev pub contact_text : ContactFace → List ℕ
 contact_text c = compact_text (contact_value c)
+
+-- ---- domains (RFC 9083, 5.3), told by their names
+
+abbrev pub role_text : Role → List ℕ
+role_text Registrant = codes "registrant"
+role_text Administrative = codes "administrative"
+role_text Technical = codes "technical"
+role_text Registrar = codes "registrar"
+
+-- the contact has the role (RFC 9083, 10.2.4)
+abbrev pub plays : Links → List ℕ → Role → Bool
+plays links name Registrant = bytes_eq links.registrant name
+plays links name Administrative = has_name links.admin name
+plays links name Technical = has_name links.tech name
+plays links name Registrar = false
+
+abbrev pub contact_roles : List Role
+contact_roles = Registrant ∷ Administrative ∷ Technical ∷ []
+
+abbrev pub roles_of : Links → List ℕ → List Role
+roles_of links name = filter (plays links name) contact_roles
+
+abbrev pub role_members : List ℕ → List Role → List (List ℕ × Option Data)
+role_members handle roles =
+    (codes "handle", Some (string handle))
+    ∷ (codes "objectClassName", Some (string (codes "entity")))
+    ∷ (codes "roles", Some (texts_value (map role_text roles))) ∷ []
+
+abbrev pub role_value : List ℕ → List Role → Data
+role_value handle roles = object (members_with (role_members handle roles))
+
+-- the contacts by name, each once
+abbrev pub contacts_of : Links → List (List ℕ)
+contacts_of links = dedup bytes_eq (in_order ((links.registrant ∷ links.admin) ++ links.tech))
+
+abbrev pub contact_entity : Links → List ℕ → Data
+contact_entity links name = role_value name (roles_of links name)
+
+-- the sponsor's id, if the policy has one
+abbrev pub registrar_entity : Option (List ℕ) → List Data
+registrar_entity None = []
+registrar_entity (Some id) = role_value id (Registrar ∷ []) ∷ []
+
+abbrev pub entities : Option (List ℕ) → Links → List Data
+entities sponsor links = map (contact_entity links) (contacts_of links) ++ registrar_entity sponsor
+
+abbrev pub host_members : List ℕ → List (List ℕ × Option Data)
+host_members name = (codes "ldhName", Some (string name)) ∷ (codes "objectClassName", Some (string (codes "nameserver"))) ∷ []
+
+abbrev pub host_value : List ℕ → Data
+host_value name = object (members_with (host_members name))
+
+abbrev pub standing_value : List Status → Standing → Data
+standing_value statuses standing = texts_value (status_words statuses (states_of standing))
+
+abbrev pub domain_members : PolicyRules → List ℕ → DomainFace → List (List ℕ × Option Data)
+domain_members p name d =
+    (codes "entities", Some (array (items_of (entities (id_at p d.sponsor) d.links))))
+    ∷ (codes "events", Some (events_value d.created (Some d.expires) d.updated d.transferred))
+    ∷ (codes "handle", Some (string (roid_text d.roid)))
+    ∷ (codes "ldhName", Some (string name))
+    ∷ (codes "nameservers", Some (array (items_of (map host_value d.links.hosts))))
+    ∷ (codes "objectClassName", Some (string (codes "domain")))
+    ∷ (codes "rdapConformance", Some conformance)
+    ∷ (codes "status", Some (standing_value d.statuses d.standing))
+    ∷ (codes "unicodeName", unicode_value name) ∷ []
+
+abbrev pub domain_value : PolicyRules → List ℕ → DomainFace → Data
+domain_value p name d = object (members_with (domain_members p name d))
+
+abbrev pub domain_text : PolicyRules → List ℕ → DomainFace → List ℕ
+domain_text p name d = compact_text (domain_value p name d)

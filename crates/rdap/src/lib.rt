@@ -4,6 +4,7 @@
 
 mod answer;
 mod body;
+mod domain;
 mod entity;
 mod head;
 mod nameserver;
@@ -11,6 +12,7 @@ mod request;
 mod status;
 
 pub use answer::{Outcome, answer_without_object, response};
+pub use domain::domain_body;
 pub use entity::contact_body;
 pub use head::{Asked, MOST_BYTES, MOST_FIELDS, Reading, read_head};
 pub use nameserver::nameserver_body;
