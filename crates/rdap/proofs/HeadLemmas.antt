@@ -1,8 +1,9 @@
 -- Which bytes begin with no head, whatever follows.
 use Rattle.std.proofs.Common.{◌≡◌, ℕ, zero, suc, ◌<◌, ◌≤◌, List, [], ◌∷◌, ◌++◌, length, take, refl, ap, arith, sym, subst, ◌∙◌}
-use Rattle.std.proofs.lemmas.List.{take-append-le, take_all}
-use Rattle.httparse.specs.Grammar.{HasNoRequest, MayBecomeRequest, ReadsRequest, RequestHead, print_request}
+use Rattle.std.proofs.lemmas.List.{append-nil, take-append-le, take_all}
+use Rattle.httparse.specs.Grammar.{HasNoRequest, MayBecomeRequest, RequestHead, print_request}
 use Rattle.httparse.specs.Spans.{RequestOverflows}
+use Rattle.httparse.proofs.GrammarLemmas.{request_unique}
 use Rattle.rdap.specs.Heads.{HasHead, IsCut, NeverHasHead, most_bytes, most_fields}
 
 -- what follows goes on where the bytes of a limit end
@@ -35,3 +36,16 @@ is_cut bytes front same short none more =
       no_head = subst (λ (b : List ℕ). HasNoRequest b) whole none;
       unfinished = subst (λ (b : List ℕ). MayBecomeRequest b) whole more;
     }
+
+-- what is cut has no head
+pub none_in_cut : (bytes : List ℕ) → IsCut bytes → (h : RequestHead) → ¬ (HasHead bytes h)
+none_in_cut bytes cut h (rest, reads, few) =
+    cut.no_head h rest (reads.0, sym (take_all most_bytes bytes (omega (arith, cut.short))) ∙ reads.1)
+
+-- nor has what never will have one
+pub none_in_bad : (bytes : List ℕ) → NeverHasHead bytes → (h : RequestHead) → ¬ (HasHead bytes h)
+none_in_bad bytes never h has = never [] h (subst (λ (b : List ℕ). HasHead b h) (sym (append-nil bytes)) has)
+
+-- bytes begin with at most one head
+pub one_head : (bytes : List ℕ) (h k : RequestHead) → HasHead bytes h → HasHead bytes k → h ≡ k
+one_head bytes h k (rest, reads, few) (more, others, few_others) = (request_unique (take most_bytes bytes) h k rest more reads others).0

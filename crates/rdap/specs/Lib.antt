@@ -3,3 +3,4 @@ pub mod StatusWords
 pub mod Heads
 pub mod Requests
 pub mod Bodies
+pub mod Answering

@@ -3,7 +3,7 @@ use Rattle.std.specs.Prelude.{ℕ, Bool, not, ◌&&◌, ◌||◌, ◌==◌, nat_
 use Rattle.std.specs.Char.{is_ascii_alphanumeric}
 use Rattle.std.specs.List.{list_all, list_any, position}
 use Rattle.std.specs.Str.{bytes_eq}
-use Rattle.rdap.specs.declared.answer.Outcome.TheVariants.{BadRequest, NotFound, MethodNotAllowed}
+use Rattle.rdap.specs.declared.wire.Outcome.TheVariants.{BadRequest, NotFound, MethodNotAllowed}
 use Rattle.rdap.specs.declared.request.Request.{Request}
 use Rattle.rdap.specs.declared.request.Request.TheVariants.{Domain, Nameserver, Entity, Help, Refused}
 

@@ -2,7 +2,7 @@
 ghost use Rattle.std.specs.Prelude.{◌≡◌, ◌<◌, MatchOption, IfOk, IfSome, length, true, false, option_copied};
 ghost use Rattle.rdap.specs.Requests as spec;
 
-use crate::answer::Outcome;
+use crate::wire::Outcome;
 use basis::text::Text;
 use std::alloc::{AllocError, Global};
 use std::str;
