@@ -16,5 +16,6 @@ mod session;
 
 pub use answer::order_bytes;
 pub use greeting::greeting_bytes;
+pub use item::{Item, Shown, object, texts};
 pub use reply::reply_bytes;
 pub use session::nobodys_bytes;

@@ -1,0 +1,4 @@
+mod HeadLemmas
+mod RequestLemmas
+mod Plain
+mod AnswerLemmas

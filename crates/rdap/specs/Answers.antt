@@ -1,7 +1,7 @@
 -- Answers on the wire (RFC 7480, 5).
 use Rattle.std.specs.Prelude.{ℕ, List, [], ◌∷◌, ◌++◌, codes, decimal, length}
-use Rattle.rdap.specs.declared.answer.Outcome.{Outcome}
-use Rattle.rdap.specs.declared.answer.Outcome.TheVariants.{Found, BadRequest, NotFound, MethodNotAllowed}
+use Rattle.rdap.specs.declared.wire.Outcome.{Outcome}
+use Rattle.rdap.specs.declared.wire.Outcome.TheVariants.{Found, BadRequest, NotFound, MethodNotAllowed}
 
 -- the pieces, one after the other
 abbrev pub joined : List (List ℕ) → List ℕ

@@ -1,2 +1,6 @@
 pub mod Answers
 pub mod StatusWords
+pub mod Heads
+pub mod Requests
+pub mod Bodies
+pub mod Answering

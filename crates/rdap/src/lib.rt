@@ -1,9 +1,32 @@
-//! Answers of RDAP (RFC 7480, RFC 9083): how one stands on the wire, those that need no object, and
-//! the words by which the statuses of an object are shown.
+//! Answers of RDAP (RFC 7480, RFC 9082, RFC 9083): to the head of an HTTP request, of the faces of
+//! domains, hosts and contacts.
+//!
+//! - `head`: the head that bytes begin with.
+//! - `request`: what its method and its target ask for.
+//! - `answering`: the answer, by a `source` of faces; `wire`: how it stands on the wire.
+//! - `domain`, `nameserver`, `entity`: the bodies, of `body` and the words of `status`.
+//! - `laws`: an answer is a function of the head, the policy and the faces.
 #![tactic(auto)]
 
-mod answer;
+mod answering;
+mod body;
+mod domain;
+mod entity;
+mod head;
+mod laws;
+mod nameserver;
+mod request;
+mod source;
 mod status;
+mod wire;
 
-pub use answer::{Outcome, answer_without_object, response};
+pub use answering::answer;
+pub use domain::{Role, domain_body};
+pub use entity::contact_body;
+pub use head::{Asked, MOST_BYTES, MOST_FIELDS, Reading, read_head};
+pub use laws::answers_agree;
+pub use nameserver::nameserver_body;
+pub use request::{Request, request_of};
+pub use source::FaceSource;
 pub use status::{grace_word, status_word, status_words};
+pub use wire::{Outcome, answer_without_object, response};

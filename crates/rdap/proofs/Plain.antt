@@ -1,0 +1,96 @@
+-- No body has a float.
+use Rattle.std.proofs.Common.{◌≡◌, ℕ, Bool, true, false, List, [], ◌∷◌, ◌++◌, Option, Some, None, refl, Result, Ok, Err, codes}
+use Rattle.std.specs.Prelude.{◌||◌, IfSome, map}
+use Rattle.serde_json.specs.Data.{Data, array}
+use Rattle.serde_json.specs.View.{items_of}
+use Rattle.serde_json.specs.Written.{has_float}
+use Rattle.eppreplies.proofs.Floats.{IsPlain, items_plain, members_plain, texts}
+use Rattle.names.specs.Canonical.{unicode_of}
+use Rattle.names.specs.declared.fault.NameFault.{NameFault}
+use Rattle.names.specs.Reading.{or_syntax}
+use Rattle.objects.specs.declared.contact.ContactFace.{ContactFace}
+use Rattle.objects.specs.declared.domain.DomainFace.{DomainFace}
+use Rattle.objects.specs.declared.domain.Links.{Links}
+use Rattle.objects.specs.declared.host.HostFace.{HostFace}
+use Rattle.objects.specs.Graces.{states_of}
+use Rattle.policy.specs.Rules.{PolicyRules, id_at}
+use Rattle.rdap.specs.declared.domain.Role.{Role}
+use Rattle.rdap.specs.declared.domain.Role.TheVariants.{Registrar}
+use Rattle.rdap.specs.Bodies.{address_members, addresses_value, contact_members, contact_value, dated, events_value, nameserver_members, nameserver_value, of_version_4, of_version_6, shown, some_texts, contact_entity, contacts_of, domain_members, domain_value, entities, host_members, host_value, registrar_entity, role_members, role_text, role_value, roles_of}
+use Rattle.rdap.specs.StatusWords.{status_words}
+
+or_first : (a b : Bool) → (a || b) ≡ false → a ≡ false
+or_first true b e = absurd cc
+or_first false b e = refl
+
+or_second : (a b : Bool) → (a || b) ≡ false → b ≡ false
+or_second true b e = absurd cc
+or_second false b e = e
+
+neither : (a b : Bool) → a ≡ false → b ≡ false → (a || b) ≡ false
+neither a b p q = rw (p, q) refl
+
+abbrev ArePlainItems : List Data → Type 0
+ArePlainItems items = IsPlain (array (items_of items))
+
+pub append_plain : (xs ys : List Data) → ArePlainItems xs → ArePlainItems ys → ArePlainItems (xs ++ ys)
+append_plain [] ys p q = q
+append_plain (x ∷ xs) ys p q = neither _ _ (or_first _ _ p) (append_plain xs ys (or_second (has_float x) _ p) q)
+
+dated_plain : (action : List ℕ) (date : Option ℕ) → ArePlainItems (dated action date)
+dated_plain action None = refl
+dated_plain action (Some date) = refl
+
+pub events_plain : (created : ℕ) (expires updated transferred : Option ℕ) → IsPlain (events_value created expires updated transferred)
+events_plain created expires updated transferred =
+    let first : List Data = dated (codes "registration") (Some created) in
+    let second : List Data = dated (codes "expiration") expires in
+    let third : List Data = dated (codes "last changed") updated in
+    let two = append_plain first second (dated_plain (codes "registration") (Some created)) (dated_plain (codes "expiration") expires) in
+    let three = append_plain (first ++ second) third two (dated_plain (codes "last changed") updated) in
+    append_plain ((first ++ second) ++ third) (dated (codes "transfer") transferred) three (dated_plain (codes "transfer") transferred)
+
+pub shown_plain : (read : Result (List ℕ) NameFault) → IfSome (shown read) IsPlain
+shown_plain (Ok text) = refl
+shown_plain (Err fault) = tt
+
+some_texts_plain : (ts : List (List ℕ)) → IfSome (some_texts ts) IsPlain
+some_texts_plain [] = tt
+some_texts_plain (t ∷ ts) = texts (t ∷ ts)
+
+addresses_plain : (addresses : List (List ℕ)) → IfSome (addresses_value addresses) IsPlain
+addresses_plain [] = tt
+addresses_plain (a ∷ addresses) = members_plain (address_members (a ∷ addresses)) (some_texts_plain (of_version_4 (a ∷ addresses)), (some_texts_plain (of_version_6 (a ∷ addresses)), tt))
+
+pub nameserver_plain : (name : List ℕ) (h : HostFace) → IsPlain (nameserver_value name h)
+nameserver_plain name h = members_plain (nameserver_members name h) (
+  events_plain h.created None h.updated None,
+  (refl, (addresses_plain h.addresses, (refl, (refl, (refl, (texts (status_words h.statuses []), (shown_plain (or_syntax (unicode_of name)), tt))))))),
+)
+
+pub contact_plain : (c : ContactFace) → IsPlain (contact_value c)
+contact_plain c = members_plain (contact_members c) (events_plain c.created None c.updated c.transferred, (refl, (refl, (refl, (texts (status_words c.statuses []), tt)))))
+
+role_plain : (handle : List ℕ) (roles : List Role) → IsPlain (role_value handle roles)
+role_plain handle roles = members_plain (role_members handle roles) (refl, (refl, (texts (map role_text roles), tt)))
+
+registrar_plain : (sponsor : Option (List ℕ)) → ArePlainItems (registrar_entity sponsor)
+registrar_plain None = refl
+registrar_plain (Some id) = neither _ _ (role_plain id (Registrar ∷ [])) refl
+
+entities_plain : (sponsor : Option (List ℕ)) (links : Links) → ArePlainItems (entities sponsor links)
+entities_plain sponsor links =
+    append_plain (map (contact_entity links) (contacts_of links)) (registrar_entity sponsor)
+    (items_plain (contact_entity links) (contacts_of links) (λ name. role_plain name (roles_of links name))) (registrar_plain sponsor)
+
+host_plain : (name : List ℕ) → IsPlain (host_value name)
+host_plain name = members_plain (host_members name) (refl, (refl, tt))
+
+pub domain_plain : (p : PolicyRules) (name : List ℕ) (d : DomainFace) → IsPlain (domain_value p name d)
+domain_plain p name d = members_plain (domain_members p name d) (
+  entities_plain (id_at p d.sponsor) d.links,
+  (
+    events_plain d.created (Some d.expires) d.updated d.transferred,
+    (refl, (refl, (items_plain host_value d.links.hosts host_plain, (refl, (refl, (texts (status_words d.statuses (states_of d.standing)), (shown_plain (or_syntax (unicode_of name)), tt))))))),
+  ),
+)

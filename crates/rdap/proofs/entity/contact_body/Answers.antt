@@ -1,0 +1,10 @@
+use Rattle.std.proofs.Common.{ap, ◌∙◌}
+use Rattle.std.proofs.lemmas.Result.{IfOk-weaker}
+use Rattle.serde_json.specs.Written.{compact_text, has_float}
+use Rattle.rdap.proofs.Plain.{contact_plain}
+use Rattle.rdap.proofs.entity.contact_body.Goals as goal
+
+pub returns : goal.returns
+returns c =
+    let value = c.in_ok-contact_value.ensures in
+    IfOk-weaker c.to_vec.result _ _ (λ bytes h. h (ap has_float value ∙ contact_plain c.args.face.now) ∙ ap compact_text value) c.to_vec.ensures.text
