@@ -112,6 +112,14 @@ impl Shown for Status {
     }
 }
 
+impl Shown for &'static str {
+    ghost shown = { λ word. word.now };
+
+    fn shown(&self) -> &str {
+        self
+    }
+}
+
 impl Shown for ObjectKind {
     ghost use Rattle.protocol.specs.Texts.{object_text};
 
