@@ -22,36 +22,33 @@ pub enum Task {
 /// The task of the words behind the program's name.
 pub fn read_task(rt: &(impl Env + AllocGlobal)) -> Result<Task, Exit> {
     let mut words = env::args(rt)?.skip(1);
-    let (Some(word), Some(policy)) = (words.next(), words.next()) else {
-        return Err(Exit::Usage);
+    let word = given(words.next())?;
+    let policy = given(words.next())?;
+    let task = match word.as_str() {
+        "run" => Task::Run { policy },
+        "serve" => {
+            let database = given(words.next())?;
+            let port = given(words.next())?;
+            Task::Serve {
+                policy,
+                database,
+                port: port_of(port.as_str())?,
+            }
+        }
+        _ => return Err(Exit::Usage),
     };
-    let others = (words.next(), words.next(), words.next());
-    match word.as_str() {
-        "run" => run_task(policy, others),
-        "serve" => serve_task(policy, others),
-        _ => Err(Exit::Usage),
+    match words.next() {
+        None => Ok(task),
+        Some(_) => Err(Exit::Usage),
     }
 }
 
-/// Up to three words behind the policy's.
-type Others = (Option<String>, Option<String>, Option<String>);
-
-fn run_task(policy: String, others: Others) -> Result<Task, Exit> {
-    match others {
-        (None, _, _) => Ok(Task::Run { policy }),
-        _ => Err(Exit::Usage),
+/// A word, where there is one.
+fn given(word: Option<String>) -> Result<String, Exit> {
+    match word {
+        Some(word) => Ok(word),
+        None => Err(Exit::Usage),
     }
-}
-
-fn serve_task(policy: String, others: Others) -> Result<Task, Exit> {
-    let (Some(database), Some(port), None) = others else {
-        return Err(Exit::Usage);
-    };
-    Ok(Task::Serve {
-        policy,
-        database,
-        port: port_of(port.as_str())?,
-    })
 }
 
 /// A port, from 1 to 65535.
