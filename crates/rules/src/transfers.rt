@@ -51,7 +51,14 @@ pub(crate) fn transfer_contact(
     let Some(Seen::Full(contact)) = seen else {
         return Ok(Vec::new(alloc));
     };
-    let after = transfer_after(op, caller, contact.sponsor, contact.transfer, moment, policy);
+    let after = transfer_after(
+        op,
+        caller,
+        contact.sponsor,
+        contact.transfer,
+        moment,
+        policy,
+    );
     match after {
         Some(after) => contact_transferred(alloc, op, after, contact, moment),
         None => Ok(Vec::new(alloc)),
