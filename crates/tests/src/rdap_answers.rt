@@ -251,7 +251,7 @@ fn contact(alloc: Global) -> Result<ContactFace, Fail> {
     })
 }
 
-fn faces(alloc: Global) -> Result<Faces, Fail> {
+fn some_faces(alloc: Global) -> Result<Faces, Fail> {
     let mut domains = NameMap::new(alloc);
     for row in [&DELETED, &FOREIGN] {
         domains.insert(Text::from_str(alloc, row.name)?, domain(alloc, row)?)?;
@@ -292,7 +292,7 @@ const BODIES: &[(&str, &str)] = &[
 #[test]
 fn bodies(rt: HostRuntime) -> Result<(), Fail> {
     let alloc = rt.alloc();
-    let mut faces = faces(alloc)?;
+    let mut faces = some_faces(alloc)?;
     for (target, body) in BODIES.iter().copied() {
         let head = format!(in alloc; "GET {target} HTTP/1.0\r\nHost: x\r\n\r\nwhat follows")?;
         let wanted = response(alloc, Outcome::Found, body.as_bytes())?;
@@ -351,7 +351,7 @@ const LINES: &[(&str, Outcome)] = &[
 #[test]
 fn lines(rt: HostRuntime) -> Result<(), Fail> {
     let alloc = rt.alloc();
-    let mut faces = faces(alloc)?;
+    let mut faces = some_faces(alloc)?;
     for (line, outcome) in LINES.iter().copied() {
         let head = format!(in alloc; "{line}\r\n\r\n")?;
         let wanted = answer_without_object(alloc, outcome)?;
@@ -367,7 +367,7 @@ const WHOLE: &[u8] = b"GET /help HTTP/1.1\r\nHost: x\r\n\r\n";
 #[test]
 fn every_cut(rt: HostRuntime) -> Result<(), Fail> {
     let alloc = rt.alloc();
-    let mut faces = faces(alloc)?;
+    let mut faces = some_faces(alloc)?;
     let wanted = answer_without_object(alloc, Outcome::BadRequest)?;
     for end in 0..WHOLE.len() {
         let front = &WHOLE[..end];
@@ -406,7 +406,7 @@ const LIMITS: &[(usize, usize, Outcome)] = &[
 #[test]
 fn limits(rt: HostRuntime) -> Result<(), Fail> {
     let alloc = rt.alloc();
-    let mut faces = faces(alloc)?;
+    let mut faces = some_faces(alloc)?;
     for (bytes, fields, outcome) in LIMITS.iter().copied() {
         let head = head_of(alloc, bytes, fields)?;
         assert_eq!(&rt; head.len(), bytes);
