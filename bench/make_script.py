@@ -1,14 +1,17 @@
 """Prints a script of N lines for `tldreg run`.
 
-usage: python3 make_script.py N [checks | renewals | lapse]
+usage: python3 make_script.py N [checks | renewals | lapse | transfers]
 
 The first line is the operator's deposit, which pays for all; the second creates the contact that the
-domains name. The other lines are alfa's, under examples/policy.toml, each a second after the one before:
+domains name. The other lines are alfa's but where another is named, under examples/policy.toml, each a
+second after the one before:
 
 checks    (what is printed where nothing else is asked) creates of domains and checks in turn; a check
           asks for the name before it and for one that is free
 renewals  for each domain its create, its renewal by a year, and the balance
 lapse     creates alone; the last line is a check two years later, by when each domain has expired
+transfers a third creates; a hundred days later, a third requests of beta's for one domain after the
+          other, and a third alfa's approvals; the third line is a deposit to beta
 """
 import json
 import sys
@@ -53,16 +56,31 @@ def lapse(line, lines):
     return create(line) if line + 1 < lines else check(line - 1)
 
 
-KINDS = {"checks": checks, "renewals": renewals, "lapse": lapse}
+def transfers(line, lines):
+    part, number = divmod(line - 3, (lines - 3) // 3)
+    if part == 0:
+        return create(number)
+    said = {"cmd": "transfer", "name": name(number), "obj": "domain", "op": "request", "secret": "foo-secret"}
+    return said if part == 1 else {"cmd": "transfer", "name": name(number), "obj": "domain", "op": "approve"}
+
+
+KINDS = {"checks": checks, "renewals": renewals, "lapse": lapse, "transfers": transfers}
 kind = KINDS.get(sys.argv[2] if len(sys.argv) > 2 else "checks")
 if len(sys.argv) not in (2, 3) or not sys.argv[1].isdecimal() or kind is None:
     sys.exit(__doc__)
 lines = int(sys.argv[1])
+if kind is transfers:
+    lines -= lines % 3
 for line in range(lines):
     moment = START + timedelta(seconds=line)
+    part = (line - 3) // ((lines - 3) // 3) if kind is transfers else 0
+    if part > 0:
+        moment += timedelta(days=100)
     if kind is lapse and line + 1 == lines:
         moment = datetime(2030, 1, 1)
-    caller = "operator" if line == 0 else "alfa"
     first = {0: {"order": "deposit", "registrar": "alfa", "cents": 1_000_000_000_000}, 1: CONTACT}
+    if kind is transfers:
+        first[2] = {"order": "deposit", "registrar": "beta", "cents": 1_000_000_000_000}
+    caller = "operator" if "order" in first.get(line, {}) else "beta" if part == 1 else "alfa"
     said = first[line] if line in first else kind(line, lines)
     print(f"{moment:%Y-%m-%dT%H:%M:%SZ} {caller} {json.dumps(said, separators=(',', ':'))}")
