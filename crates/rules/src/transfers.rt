@@ -241,13 +241,17 @@ fn domain_kept(
     ensures { IfOk result (λ changes. changes.items ≡ Change.PutDomain (spec.domain_with_transfer after domain.now) ∷ spec.give_back after.requester moment domain.now.roid ∷ spec.tell registrar moment notice domain.now.name Subject.Domain ∷ []) }
 {
     let told = tell(registrar, moment, notice, &domain.name, Subject::Domain)?;
-    let refund = TransferRefund {
-        roid: domain.roid,
-        moment,
-    };
-    let back = Change::Give(after.requester, AccountChange::RefundTransfer(refund));
     let put = with_transfer(after, domain)?;
+    let back = give_back(after.requester, domain.roid, moment);
     Ok(vec![in alloc; put, back, told]?)
+}
+
+/// A registrar gets the charge of a transfer back.
+fn give_back(registrar: RegistrarNo, roid: Roid, moment: Moment) -> Change
+    ensures { result ≡ spec.give_back registrar moment roid }
+{
+    let refund = TransferRefund { roid, moment };
+    Change::Give(registrar, AccountChange::RefundTransfer(refund))
 }
 
 /// The domain, with this as its last transfer.
