@@ -14,24 +14,44 @@ use std::io::Read;
 use std::test::Fail;
 use store::PlainBook;
 
-/// What a connection to a registry that is new is told, at a moment of 2029.
-fn told<R: Read>(alloc: Global, reader: &mut R) -> Result<(Vec<u8>, SessionEnd), Fail> {
+/// A moment of 2029, in seconds since 1970-01-01T00:00:00Z.
+const IN_2029: i64 = 1_861_920_000;
+
+/// The first second of 2100, at which nothing is taken any more.
+const IN_2100: i64 = 4_102_444_800;
+
+/// A clock that tells these moments.
+fn clock_of(alloc: Global, moments: &[i64]) -> Result<ListClock, Fail> {
+    let mut list = VecDeque::new(alloc);
+    for secs in moments.iter().copied() {
+        if let Ok(moment) = Moment::of_secs(secs) {
+            list.push_back(moment)?;
+        }
+    }
+    Ok(ListClock::of_list(list))
+}
+
+/// What a connection to a registry that is new is told, its frames at these moments.
+fn told_at<R: Read>(
+    alloc: Global,
+    reader: &mut R,
+    moments: &[i64],
+) -> Result<(Vec<u8>, SessionEnd), Fail> {
+    let mut clock = clock_of(alloc, moments)?;
     let Ok(registry) = Registry::open(alloc, PlainBook::new(alloc), policy_of(alloc, POLICY)?)
     else {
         return Err(Fail::from("not opened"));
     };
     let mut connection = Connection::new(alloc, registry);
-    let mut moments = VecDeque::new(alloc);
-    for _ in 0..8 {
-        if let Ok(moment) = Moment::of_secs(1_861_920_000) {
-            moments.push_back(moment)?;
-        }
-    }
-    let mut clock = ListClock::of_list(moments);
     let mut out = Vec::new(alloc);
     let end = serve_session(alloc, reader, &mut out, &mut clock, &mut connection);
     drop(connection.into_registry());
     Ok((out, end))
+}
+
+/// What a connection to a registry that is new is told, at a moment of 2029.
+fn told<R: Read>(alloc: Global, reader: &mut R) -> Result<(Vec<u8>, SessionEnd), Fail> {
+    told_at(alloc, reader, &[IN_2029; 8])
 }
 
 const ASKED: &[u8] =
@@ -40,14 +60,23 @@ const ASKED: &[u8] =
 const TOLD: &[u8] =
     b"\0\0\0\x48{\"code\":1000,\"msg\":\"Command completed successfully\",\"svTRID\":\"ANON\"}\0\0\0\x5a{\"code\":1500,\"msg\":\"Command completed successfully; ending session\",\"svTRID\":\"alfa-1\"}";
 
+/// Whether the bytes above are answered as they should be, cut at two places.
+fn is_told_in_pieces(alloc: Global, first: usize, second: usize) -> Result<bool, Fail> {
+    let mut reader = whole(ASKED);
+    reader.cuts = (first, second);
+    let (found, end) = told(alloc, &mut reader)?;
+    Ok(found.as_slice() == TOLD && end == SessionEnd::Logout)
+}
+
+/// Two pieces where both cuts are one, and else three.
 #[test]
 fn login_and_logout_in_every_cut(rt: HostRuntime) -> Result<(), Fail> {
-    for cut in 0..ASKED.len() {
-        let mut reader = whole(ASKED);
-        reader.cuts = (cut, cut);
-        let (found, end) = told(rt.alloc(), &mut reader)?;
-        assert!(rt; found.as_slice() == TOLD, "cut at {cut}");
-        assert_eq!(rt; end, SessionEnd::Logout);
+    let alloc = rt.alloc();
+    for first in 0..ASKED.len() {
+        for second in first..ASKED.len() {
+            let told = is_told_in_pieces(alloc, first, second)?;
+            assert!(rt; told, "cut at {first} and {second}");
+        }
     }
     Ok(())
 }
@@ -133,5 +162,63 @@ fn payloads_of_sessions(rt: HostRuntime) -> Result<(), Fail> {
         let (found, _) = told(alloc, &mut whole(&asked))?;
         assert!(rt; found.as_slice() == wanted.as_slice());
     }
+    Ok(())
+}
+
+/// Each frame, its moment, and the payload that answers it. A login isn't a step of the registry, so
+/// it has no last moment; a logout is one.
+const LATE: &[(&str, i64, &str)] = &[
+    (
+        "{\"cmd\":\"login\",\"id\":\"alfa\",\"pw\":\"pass-alfa\",\"version\":\"1.0\"}",
+        IN_2100,
+        "{\"code\":1000,\"msg\":\"Command completed successfully\",\"svTRID\":\"ANON\"}",
+    ),
+    (
+        "{\"cmd\":\"balance\"}",
+        IN_2100,
+        "{\"code\":2400,\"msg\":\"Command failed\",\"svTRID\":\"ANON\"}",
+    ),
+    (
+        "{\"cmd\":\"balance\"}",
+        IN_2029,
+        "{\"code\":1000,\"data\":{\"balance\":\"0\"},\"msg\":\"Command completed successfully\",\"svTRID\":\"alfa-1\"}",
+    ),
+    (
+        "{\"cmd\":\"hello\"}",
+        IN_2100,
+        "{\"code\":2400,\"msg\":\"Command failed\",\"svTRID\":\"ANON\"}",
+    ),
+    (
+        "{\"cmd\":\"hello\"}",
+        IN_2100 - 1,
+        "{\"greeting\":{\"objects\":[\"contact\",\"domain\",\"host\"],\"server\":\"tldreg\",\"svDate\":\"2099-12-31T23:59:59Z\",\"version\":\"1.0\"}}",
+    ),
+    (
+        "{\"cmd\":\"logout\"}",
+        IN_2100,
+        "{\"code\":2400,\"msg\":\"Command failed\",\"svTRID\":\"ANON\"}",
+    ),
+    (
+        "{\"cmd\":\"logout\"}",
+        IN_2029,
+        "{\"code\":1500,\"msg\":\"Command completed successfully; ending session\",\"svTRID\":\"alfa-2\"}",
+    ),
+];
+
+/// After 2099 nothing is answered but logins, and the session goes on.
+#[test]
+fn late_frames(rt: HostRuntime) -> Result<(), Fail> {
+    let alloc = rt.alloc();
+    let mut asked = Vec::new(alloc);
+    let mut moments = Vec::new(alloc);
+    let mut wanted = Vec::new(alloc);
+    for (payload, moment, answer) in LATE.iter().copied() {
+        asked.extend_from_slice(&framed(alloc, &[payload])?)?;
+        moments.push(moment)?;
+        wanted.extend_from_slice(&framed(alloc, &[answer])?)?;
+    }
+    let (found, end) = told_at(alloc, &mut whole(&asked), &moments)?;
+    assert!(rt; found.as_slice() == wanted.as_slice());
+    assert_eq!(rt; end, SessionEnd::Logout);
     Ok(())
 }
