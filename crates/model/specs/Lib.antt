@@ -5,3 +5,5 @@ pub mod Objects
 pub mod Standing
 pub mod View
 pub mod WellFormed
+pub mod Money
+pub mod MoneyLaws

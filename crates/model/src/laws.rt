@@ -1,5 +1,6 @@
-//! What the definition of the lapse of a registry comes to.
+//! What the definitions of the lapse of a registry, and of its money, come to.
 ghost use Rattle.model.specs.LapseLaws as spec;
+ghost use Rattle.model.specs.MoneyLaws.{MoneyFollowsOver};
 
 /// Time may pass in any steps, and some objects may lapse before the others do.
 pub fn time_passes_in_any_steps()
@@ -22,4 +23,9 @@ pub fn objects_lapse_in_any_order()
 pub fn lapse_leaves_nothing_due()
     ensures settles { spec.LapsedIsSettled }
     ensures stays { spec.SettledIsNow }
+{}
+
+/// What follows of money in each call follows over any calls, one after another.
+pub fn money_follows_over_calls()
+    ensures { MoneyFollowsOver }
 {}

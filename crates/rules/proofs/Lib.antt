@@ -32,3 +32,7 @@ pub mod TransferCases
 pub mod TransferKeepingLemmas
 pub mod PutLemmas
 pub mod TransferLineLemmas
+pub mod MoneyTimeLemmas
+pub mod MoneyChangesLemmas
+pub mod MoneyCommandLemmas
+pub mod MoneyLaws

@@ -1,0 +1,168 @@
+-- How lines follow from others, one change after another.
+use Rattle.std.proofs.Common.{◌≡◌, ◌⊎◌, inl, inr, ℕ, ◌+◌, ◌≤◌, Bool, true, false, cond, List, [], ◌∷◌, ◌++◌, map, Option, Some, None, is_some, refl, sym, ap, subst, ◌∙◌, arith, ◌≤ℤ◌}
+use Rattle.std.specs.List.{AllByRecursion, sum_by}
+use Rattle.std.proofs.lemmas.Int.{ints}
+use Rattle.std.proofs.lemmas.List.{append_assoc, map-append, map-id}
+use Rattle.std.proofs.lemmas.List.Sums.{sum_by-append, sum_by-cons}
+use Rattle.accounts.specs.declared.line.Line.{Line}
+use Rattle.accounts.specs.declared.line.LineKind.{LineKind}
+use Rattle.accounts.specs.declared.line.LineKind.TheVariants as kinds
+use Rattle.accounts.specs.Lines.{amount, amount_of, balance, in_order, is_kind}
+use Rattle.accounts.proofs.LineLaws.{balance-bag_of, lines_in_order}
+use Rattle.basis.specs.Bag.{add, bag_of, remade}
+use Rattle.basis.proofs.BagLaws.{remade-add, remade-bag_of}
+use Rattle.model.specs.Money.{HasBegun, HasSameGrace, IsRecorded, IsSameCharge, LineFollows, LinesFollow, renewal_cents}
+
+-- ---- bags
+
+abbrev bag : List Line → List Line
+bag = bag_of in_order
+
+bag-after : (xs ys zs : List Line) → bag ys ≡ bag zs → bag (xs ++ ys) ≡ bag (xs ++ zs)
+unfolding bag_of
+bag-after [] ys zs e = e
+bag-after (x ∷ xs) ys zs e = ap (add in_order x) (bag-after xs ys zs e)
+
+bag-map : (f : Line → Line) (xs ys : List Line) → bag xs ≡ bag ys → bag (map f xs) ≡ bag (map f ys)
+bag-map f xs ys e = sym (remade-bag_of in_order lines_in_order f xs) ∙ ap (remade in_order f) e ∙ remade-bag_of in_order lines_in_order f ys
+
+bag-cons : (x : Line) (xs : List Line) → bag (x ∷ xs) ≡ add in_order x (bag xs)
+unfolding bag_of
+bag-cons x xs = refl
+
+abbrev as_is : Line → Line
+as_is l = l
+
+bag-add : (x : Line) (xs : List Line) → bag (add in_order x xs) ≡ add in_order x (bag xs)
+bag-add x xs =
+    ap bag (sym (map-id (add in_order x xs))) ∙ remade-add in_order lines_in_order as_is x xs ∙ ap (λ (ls : List Line). add in_order x (bag ls)) (map-id xs)
+
+bag-bag : (xs : List Line) → bag (bag xs) ≡ bag xs
+bag-bag xs = ap bag (sym (map-id (bag xs))) ∙ remade-bag_of in_order lines_in_order as_is xs ∙ ap bag (map-id xs)
+
+map-map : (f g : Line → Line) (xs : List Line) → map f (map g xs) ≡ map (λ (l : Line). f (g l)) xs
+map-map f g [] = refl
+map-map f g (x ∷ xs) = ap (λ (ls : List Line). f (g x) ∷ ls) (map-map f g xs)
+
+-- ---- a line
+
+same-charge : (l : Line) → IsSameCharge l l
+same-charge l = record { kind = refl; roid = refl; recorded = refl; cents = refl }
+
+pub line-itself : (L : ℕ → Line → Type 0) (u : ℕ) (l : Line) → LineFollows L u l l
+line-itself L u l = record {
+  charge = same-charge l;
+  grace = inl (record { started = refl; years = refl });
+  lawful = λ t none given. absurd (let never : (let o : Option ℕ = None in o) ≡ Some t = sym none ∙ given in cc);
+  once = λ t given. refl;
+}
+
+-- what is lawful in one step is in both
+module _ (K L M : ℕ → Line → Type 0) (first : (t : ℕ) (l : Line) → K t l → M t l) (second : (t : ℕ) (l : Line) → L t l → M t l) (u v : ℕ) (le : u ≤ v) where
+  pub line-then : (l m n : Line) → LineFollows K u l m → LineFollows L v m n → LineFollows M v l n
+  line-then l m n a b = record {
+    charge = record { kind = b.charge.kind ∙ a.charge.kind; roid = b.charge.roid ∙ a.charge.roid; recorded = b.charge.recorded ∙ a.charge.recorded; cents = b.charge.cents ∙ a.charge.cents };
+    grace = by-grace b.grace a.grace;
+    lawful = λ t none given. by-refund t none given m.refunded refl;
+    once = λ t given. let kept : m ≡ l = a.once t given in b.once t (ap (λ (x : Line). x.refunded) kept ∙ given) ∙ kept;
+  }
+    where
+      begun-later : HasBegun u m → m.started ≡ n.started → HasBegun v n
+      begun-later h e = record {
+        transfer = ap (λ (k : LineKind). is_kind k kinds.Transfer) b.charge.kind ∙ h.transfer;
+        start = (h.start.0, sym e ∙ h.start.1, omega (arith, h.start.2, le));
+      }
+
+      by-grace : (HasSameGrace m n ⊎ HasBegun v n) → (HasSameGrace l m ⊎ HasBegun u m) → HasSameGrace l n ⊎ HasBegun v n
+      by-grace (inr begun) before = inr begun
+      by-grace (inl same) (inl before) = inl (record { started = same.started ∙ before.started; years = same.years ∙ before.years })
+      by-grace (inl same) (inr before) = inr (begun-later before (sym same.started))
+
+      by-refund : (t : ℕ) → l.refunded ≡ None → n.refunded ≡ Some t → (o : Option ℕ) → m.refunded ≡ o → M t n
+      by-refund t none given None e = second t n (b.lawful t e given)
+      by-refund t none given (Some s) e =
+          let kept : n ≡ m = b.once s e in
+          subst (M t) (sym kept) (first t m (a.lawful t none (ap (λ (x : Line). x.refunded) (sym kept) ∙ given)))
+
+  -- ---- lines
+
+  all-both : (P : Line → Type 0) (xs ys : List Line) → AllByRecursion P xs → AllByRecursion P ys → AllByRecursion P (xs ++ ys)
+  all-both P [] ys h j = j
+  all-both P (x ∷ xs) ys h j = (h.0, all-both P xs ys h.1 j)
+
+  recorded-later : (ls : List Line) → AllByRecursion (IsRecorded L v) ls → AllByRecursion (IsRecorded M v) ls
+  recorded-later [] all = tt
+  recorded-later (l ∷ ls) all =
+      let before = all.0 in
+      ((before.0, before.1, line-weaker before.0 l before.2), recorded-later ls all.1)
+    where
+      line-weaker : (k m : Line) → LineFollows L v k m → LineFollows M v k m
+      line-weaker k m h = record { charge = h.charge; grace = h.grace; lawful = λ t none given. second t m (h.lawful t none given); once = h.once }
+
+  recorded-changed : (f : Line → Line) → ((l : Line) → LineFollows L v l (f l)) → (ls : List Line) → AllByRecursion (IsRecorded K u) ls → AllByRecursion (IsRecorded M v) (map f ls)
+  recorded-changed f each [] all = tt
+  recorded-changed f each (l ∷ ls) all =
+      let before = all.0 in
+      ((before.0, before.1, line-then before.0 l (f l) before.2 (each l)), recorded-changed f each ls all.1)
+
+  pub lines-then : (a b c : List Line) (g f : Line → Line) (n1 n2 : List Line) → LinesFollow K u a b g n1 → LinesFollow L v b c f n2
+      → LinesFollow M v a c (λ (l : Line). f (g l)) (n2 ++ map f n1)
+  lines-then a b c g f n1 n2 h j = record {
+    lines = j.lines ∙ bag-after n2 (map f b) (map f (n1 ++ map g a)) (bag-map f b (n1 ++ map g a) h.lines)
+        ∙ ap (λ (ls : List Line). bag (n2 ++ ls)) (map-append f n1 (map g a) ∙ ap (λ (ls : List Line). map f n1 ++ ls) (map-map f g a))
+        ∙ ap bag (sym (append_assoc n2 (map f n1) (map (λ (l : Line). f (g l)) a)));
+    each = λ l. line-then l (g l) (f (g l)) (h.each l) (j.each (g l));
+    recorded = all-both (IsRecorded M v) n2 (map f n1) (recorded-later n2 j.recorded) (recorded-changed f j.each n1 h.recorded);
+  }
+
+-- ---- one change
+
+pub lines-same : (L : ℕ → Line → Type 0) (u : ℕ) (ls : List Line) → LinesFollow L u ls ls (λ (l : Line). l) []
+lines-same L u ls = record { lines = ap bag (sym (map-id ls)); each = line-itself L u; recorded = tt }
+
+pub lines-added : (L : ℕ → Line → Type 0) (u : ℕ) (x : Line) (ls : List Line) → x.refunded ≡ None → LinesFollow L u ls (add in_order x ls) (λ (l : Line). l) (x ∷ [])
+lines-added L u x ls none = record {
+  lines = bag-add x ls ∙ sym (bag-cons x ls) ∙ ap (λ (ks : List Line). bag (x ∷ ks)) (sym (map-id ls));
+  each = line-itself L u;
+  recorded = ((x, none, line-itself L u x), tt);
+}
+
+pub lines-remade : (L : ℕ → Line → Type 0) (u : ℕ) (f : Line → Line) (ls : List Line) → ((l : Line) → LineFollows L u l (f l)) → LinesFollow L u ls (remade in_order f ls) f []
+lines-remade L u f ls each = record { lines = bag-bag (map f ls); each = each; recorded = tt }
+
+-- ---- balances
+
+amount-given-back : (deposit given : Bool) (cents : ℕ) → amount_of deposit false cents ≤ℤ amount_of deposit given cents
+amount-given-back true given cents = omega (arith, ints)
+amount-given-back false true cents = omega (arith, ints)
+amount-given-back false false cents = omega (arith, ints)
+
+-- what becomes of a line lowers no balance
+amount-rises : (L : ℕ → Line → Type 0) (u : ℕ) (l m : Line) → LineFollows L u l m → amount l ≤ℤ amount m
+amount-rises L u l m h = by l.refunded refl
+  where
+    by : (o : Option ℕ) → l.refunded ≡ o → amount l ≤ℤ amount m
+    by (Some t) e = subst (λ (x : Line). amount l ≤ℤ amount x) (sym (h.once t e)) (omega (arith, ints))
+    by None e =
+        let now : amount_of (is_kind l.kind kinds.Deposit) false l.cents ≡ amount l = ap (λ (o : Option ℕ). amount_of (is_kind l.kind kinds.Deposit) (is_some o) l.cents) (sym e) in
+        let later : amount_of (is_kind l.kind kinds.Deposit) (is_some m.refunded) l.cents ≡ amount m = λ i. amount_of (is_kind (sym h.charge.kind i) kinds.Deposit) (is_some m.refunded) (sym h.charge.cents i) in
+        omega (arith, ints, now, later, amount-given-back (is_kind l.kind kinds.Deposit) (is_some m.refunded) l.cents)
+
+balance-map : (L : ℕ → Line → Type 0) (u : ℕ) (f : Line → Line) → ((l : Line) → LineFollows L u l (f l)) → (ls : List Line) → balance ls ≤ℤ balance (map f ls)
+unfolding balance
+balance-map L u f each [] = omega (arith, ints)
+balance-map L u f each (l ∷ ls) = omega (arith, ints, amount-rises L u l (f l) (each l), balance-map L u f each ls)
+
+pub balance-remade : (L : ℕ → Line → Type 0) (u : ℕ) (f : Line → Line) (ls : List Line) → ((l : Line) → LineFollows L u l (f l)) → balance ls ≤ℤ balance (remade in_order f ls)
+balance-remade L u f ls each = omega (arith, ints, balance-map L u f each ls, balance-bag_of (map f ls))
+
+-- ---- the cents of automatic renewals
+
+cents-kept : (L : ℕ → Line → Type 0) (u : ℕ) (f : Line → Line) → ((l : Line) → LineFollows L u l (f l)) → (ls : List Line) → sum_by renewal_cents (map f ls) ≡ sum_by renewal_cents ls
+cents-kept L u f each [] = refl
+cents-kept L u f each (l ∷ ls) =
+    let same : renewal_cents (f l) ≡ renewal_cents l = λ i. cond (is_kind ((each l).charge.kind i) kinds.AutoRenew) ((each l).charge.cents i) 0 in
+    sum_by-cons renewal_cents (f l) (map f ls) ∙ omega (arith, same, cents-kept L u f each ls, sum_by-cons renewal_cents l ls)
+
+pub cents-then : (L : ℕ → Line → Type 0) (u : ℕ) (f : Line → Line) → ((l : Line) → LineFollows L u l (f l)) → (new before : List Line) → sum_by renewal_cents (new ++ map f before) ≡ sum_by renewal_cents new + sum_by renewal_cents before
+cents-then L u f each new before = sum_by-append renewal_cents new (map f before) ∙ ap (λ (n : ℕ). sum_by renewal_cents new + n) (cents-kept L u f each before)

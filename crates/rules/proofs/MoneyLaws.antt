@@ -1,0 +1,72 @@
+-- What becomes of the money of every account in a step of the rules, and as time passes.
+use Rattle.std.proofs.Common.{◌≡◌, ℕ, ◌≤◌, max, sym, subst, ◌∙◌, arith, List}
+use Rattle.accounts.specs.declared.line.Line.{Line}
+use Rattle.accounts.specs.Account.{with_command}
+use Rattle.policy.specs.Rules.{PolicyRules, IsSound}
+use Rattle.protocol.specs.declared.command.Command.{Command}
+use Rattle.protocol.specs.declared.order.Order.{Order}
+use Rattle.model.specs.Lapse.{lapse, lapsed, now}
+use Rattle.model.specs.Money.{IsRefundable, MoneyFollows}
+use Rattle.model.specs.Registry.{Registry, account_of}
+use Rattle.model.specs.WellFormed.{IsRegistry, last_clock}
+use Rattle.model.proofs.LapseLaws.{lapsed-is-settled, lapses-on, settled-is-now}
+use Rattle.model.proofs.MoneyChangeLemmas.{Ages, Follows, ages-follow}
+use Rattle.rules.specs.declared.change.Change.TheVariants.{Give}
+use Rattle.lifecycle.specs.declared.change.AccountChange.TheVariants.{CountCommand}
+use Rattle.rules.specs.Orders.{order_decision, order_effect}
+use Rattle.rules.specs.Steps.{decision, effect}
+use Rattle.rules.proofs.MoneyChangesLemmas.{changes-follow}
+use Rattle.rules.proofs.MoneyCommandLemmas.{command-lawful, order-lawful}
+use Rattle.rules.proofs.MoneyTimeLemmas.{lapse-ages}
+use Rattle.rules.proofs.RegistryLemmas.{registry-lapsed}
+use Rattle.rules.proofs.SettledLemmas.{settled-effect, settled-order}
+
+module _ (p : PolicyRules) (moment : ℕ) (before : Registry) where
+  -- the registry as a call finds it
+  abbrev found : Registry
+  found = lapsed p moment before
+
+  found-now : lapsed p moment (now p before) ≡ found
+  found-now = lapses-on p before.clock (max moment before.clock) (omega arith) before
+
+  aged : (L : ℕ → Line → Type 0) (r : ℕ) → Ages L found.clock (account_of r (now p before)).lines (account_of r found).lines
+  aged L r = subst (λ (s : Registry). Ages L found.clock (account_of r (now p before)).lines (account_of r s).lines) found-now (lapse-ages L p found.clock r (now p before))
+
+  -- what follows in the lines of each account, in the registry as it is found
+  abbrev Leaves : Registry → Type 0
+  Leaves after = (r : ℕ) → Follows (IsRefundable p r found after) found.clock (account_of r (now p before)).lines (account_of r after).lines
+
+  money-of : (after : Registry) → Leaves after → MoneyFollows p moment (now p before) after
+  money-of after leaves r = subst (λ (s : Registry). Follows (IsRefundable p r s after) s.clock (account_of r (now p before)).lines (account_of r after).lines) (sym found-now) (leaves r)
+
+  -- time passes
+  pub money-lapsed : MoneyFollows p moment (now p before) found
+  money-lapsed = money-of found (λ r. ages-follow (IsRefundable p r found found) found.clock _ _ (aged (IsRefundable p r found found) r))
+
+  -- a registrar's command
+  pub money-effect : (r : ℕ) (c : Command) → MoneyFollows p moment (now p before) (effect p r c found)
+  money-effect r c = money-of (effect p r c found) (λ q.
+      let L : ℕ → Line → Type 0 = IsRefundable p q found (effect p r c found) in
+      changes-follow (λ k. IsRefundable p k found (effect p r c found)) found.clock p q (account_of q (now p before)).lines (decision p r c found).changes found
+      (tt, command-lawful p r c found) (ages-follow L found.clock _ _ (aged L q)))
+
+  -- an order of the operator
+  pub money-order : (order : Order) → MoneyFollows p moment (now p before) (order_effect p order found)
+  money-order order = money-of (order_effect p order found) (λ q.
+      let L : ℕ → Line → Type 0 = IsRefundable p q found (order_effect p order found) in
+      changes-follow (λ k. IsRefundable p k found (order_effect p order found)) found.clock p q (account_of q (now p before)).lines (order_decision p order found).changes found
+      (order-lawful p order found) (ages-follow L found.clock _ _ (aged L q)))
+
+  -- what they leave has nothing due
+  pub money-lapsed-now : MoneyFollows p moment (now p before) (now p found)
+  money-lapsed-now = subst (λ (s : Registry). MoneyFollows p moment (now p before) s) (sym (settled-is-now p found (lapsed-is-settled p found.clock before))) money-lapsed
+
+  pub money-order-now : (order : Order) → MoneyFollows p moment (now p before) (now p (order_effect p order found))
+  money-order-now order = subst (λ (s : Registry). MoneyFollows p moment (now p before) s)
+      (sym (settled-is-now p (order_effect p order found) (settled-order p order found (lapsed-is-settled p found.clock before)))) (money-order order)
+
+  pub money-effect-now : IsSound p → moment ≤ last_clock → IsRegistry p (now p before) → (r : ℕ) (c : Command) → MoneyFollows p moment (now p before) (now p (effect p r c found))
+  money-effect-now sound early is r c =
+      let well : IsRegistry p found = registry-lapsed p moment before early is in
+      subst (λ (s : Registry). MoneyFollows p moment (now p before) s)
+      (sym (settled-is-now p (effect p r c found) (settled-effect p sound r c found well.clock well.objects (lapsed-is-settled p found.clock before)))) (money-effect r c)
