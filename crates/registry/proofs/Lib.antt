@@ -1,6 +1,7 @@
 pub mod Isolations
 pub mod OpeningLemmas
 pub mod StepsKept
+pub mod MoneyKept
 pub mod OpenedLemmas
 pub mod Reopenings
 pub mod LapsingLemmas

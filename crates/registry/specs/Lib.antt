@@ -3,3 +3,4 @@ pub mod Lapsing
 pub mod Execution
 pub mod Opening
 pub mod WellFormed
+pub mod Money

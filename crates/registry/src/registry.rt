@@ -7,6 +7,7 @@ ghost use Rattle.basis.specs.Sets.{names_code};
 ghost use Rattle.policy.specs.Rules.{IsRegistrar, IsSound};
 ghost use Rattle.policy.specs.Terms.{terms_of};
 ghost use Rattle.registry.specs.Execution.{Fails, GoesBack, Greets, IsPrepared, Isolates, Keeps, OrderSteps, SameTerms, Settles, Steps, last_call};
+ghost use Rattle.registry.specs.Money.{BookKeepsMoney, BookSpendsMoney};
 ghost use Rattle.registry.specs.Opening.{Opens, Refuses};
 ghost use Rattle.registry.specs.WellFormed.{BookCanBeReopened, BookKeepsWellFormed, BookStaysWellFormed, OpensWellFormed};
 ghost use Rattle.rules.specs.Steps.{reply_of};
@@ -103,6 +104,7 @@ impl<B: Book + Drop> Registry<B> {
         ensures step { IfOk result (λ reply. Steps self.old.policy caller command.now moment reply (B.state self.old.book) (B.state self.new.book)) }
         ensures isolation { IfOk result (λ reply. Isolates self.old.policy caller command.now moment reply (B.state self.old.book) (B.state self.new.book)) }
         ensures well_formed { OnOk result (BookStaysWellFormed self.old.policy (B.state self.old.book) (B.state self.new.book)) }
+        ensures money { OnOk result (BookSpendsMoney self.old.policy moment (B.state self.old.book) (B.state self.new.book)) }
         ensures terms { OnOk result (SameTerms (B.state self.old.book) (B.state self.new.book)) }
         ensures reopens { OnOk result (BookCanBeReopened self.old.policy (B.state self.new.book)) }
         ensures fault { IfErr result (λ fault. Fails fault (B.state self.old.book) (B.state self.new.book)) }
@@ -124,6 +126,7 @@ impl<B: Book + Drop> Registry<B> {
     pub fn operator(&mut self, order: &Order, moment: Moment) -> Result<Code, Fault>
         ensures step { IfOk result (λ code. OrderSteps self.old.policy order.now moment code (B.state self.old.book) (B.state self.new.book)) }
         ensures well_formed { OnOk result (BookKeepsWellFormed self.old.policy (B.state self.old.book) (B.state self.new.book)) }
+        ensures money { OnOk result (BookKeepsMoney self.old.policy moment (B.state self.old.book) (B.state self.new.book)) }
         ensures terms { OnOk result (SameTerms (B.state self.old.book) (B.state self.new.book)) }
         ensures reopens { OnOk result (BookCanBeReopened self.old.policy (B.state self.new.book)) }
         ensures fault { IfErr result (λ fault. Fails fault (B.state self.old.book) (B.state self.new.book)) }
@@ -143,6 +146,7 @@ impl<B: Book + Drop> Registry<B> {
     pub fn greet(&mut self, moment: Moment) -> Result<Moment, Fault>
         ensures step { IfOk result (λ date. Greets self.old.policy moment date (B.state self.old.book) (B.state self.new.book)) }
         ensures well_formed { OnOk result (BookKeepsWellFormed self.old.policy (B.state self.old.book) (B.state self.new.book)) }
+        ensures money { OnOk result (BookKeepsMoney self.old.policy moment (B.state self.old.book) (B.state self.new.book)) }
         ensures terms { OnOk result (SameTerms (B.state self.old.book) (B.state self.new.book)) }
         ensures reopens { OnOk result (BookCanBeReopened self.old.policy (B.state self.new.book)) }
         ensures fault { IfErr result (λ fault. Fails fault (B.state self.old.book) (B.state self.new.book)) }
@@ -162,6 +166,7 @@ impl<B: Book + Drop> Registry<B> {
     pub fn settle(&mut self, moment: Moment, at_most: u32) -> Result<u32, Fault>
         ensures step { IfOk result (λ done. Settles self.old.policy moment at_most done (B.state self.old.book) (B.state self.new.book)) }
         ensures well_formed { OnOk result (BookKeepsWellFormed self.old.policy (B.state self.old.book) (B.state self.new.book)) }
+        ensures money { OnOk result (BookKeepsMoney self.old.policy moment (B.state self.old.book) (B.state self.new.book)) }
         ensures terms { OnOk result (SameTerms (B.state self.old.book) (B.state self.new.book)) }
         ensures reopens { OnOk result (BookCanBeReopened self.old.policy (B.state self.new.book)) }
         ensures fault { IfErr result (λ fault. Fails fault (B.state self.old.book) (B.state self.new.book)) }

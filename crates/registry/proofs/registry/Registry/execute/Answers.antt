@@ -1,4 +1,5 @@
 use Rattle.registry.proofs.CallLemmas.{taken}
+use Rattle.registry.proofs.MoneyKept.{money_step}
 use Rattle.registry.proofs.Reopenings.{reopened_step}
 use Rattle.registry.proofs.Isolations.{isolated_step}
 use Rattle.registry.proofs.StepsKept.{kept_step}
@@ -13,3 +14,6 @@ returns-clause-well_formed g c = kept_step c.step.result _ c.args.self.now.polic
 pub returns-clause-reopens : goal.returns-clause-reopens
 returns-clause-reopens g c =
     reopened_step c.step.result c.args.self.now.policy (g.B.Book.state c.args.self.now.book) (g.B.Book.state c.step.new.self.book) c.args.self.now.kept c.step.ensures.follows c.step.ensures.terms
+
+pub returns-clause-money : goal.returns-clause-money
+returns-clause-money g c = money_step c.step.result _ c.args.self.now.policy c.args.self.now.sound c.args.caller c.args.command.now c.args.moment (taken c.is_late.result c.args.moment c.is_late.ensures c.if-is_late.false) _ _ c.step.ensures.step

@@ -1,4 +1,5 @@
 use Rattle.registry.proofs.CallLemmas.{taken}
+use Rattle.registry.proofs.MoneyKept.{money_greeting}
 use Rattle.registry.proofs.Reopenings.{reopened_step}
 use Rattle.registry.proofs.StepsKept.{kept_greeting}
 use Rattle.registry.proofs.registry.Registry.greet.Goals as goal
@@ -9,3 +10,6 @@ returns-clause-well_formed g c = kept_greeting c.greeting_step.result _ c.args.s
 pub returns-clause-reopens : goal.returns-clause-reopens
 returns-clause-reopens g c =
     reopened_step c.greeting_step.result c.args.self.now.policy (g.B.Book.state c.args.self.now.book) (g.B.Book.state c.greeting_step.new.self.book) c.args.self.now.kept c.greeting_step.ensures.follows c.greeting_step.ensures.terms
+
+pub returns-clause-money : goal.returns-clause-money
+returns-clause-money g c = money_greeting c.greeting_step.result _ c.args.self.now.policy c.args.moment _ _ c.greeting_step.ensures.step

@@ -1,4 +1,5 @@
 use Rattle.registry.proofs.CallLemmas.{taken}
+use Rattle.registry.proofs.MoneyKept.{money_order_step}
 use Rattle.registry.proofs.Reopenings.{reopened_step}
 use Rattle.registry.proofs.StepsKept.{kept_order_step}
 use Rattle.registry.proofs.registry.Registry.operator.Goals as goal
@@ -9,3 +10,6 @@ returns-clause-well_formed g c = kept_order_step c.order_step.result _ c.args.se
 pub returns-clause-reopens : goal.returns-clause-reopens
 returns-clause-reopens g c =
     reopened_step c.order_step.result c.args.self.now.policy (g.B.Book.state c.args.self.now.book) (g.B.Book.state c.order_step.new.self.book) c.args.self.now.kept c.order_step.ensures.follows c.order_step.ensures.terms
+
+pub returns-clause-money : goal.returns-clause-money
+returns-clause-money g c = money_order_step c.order_step.result _ c.args.self.now.policy c.args.order.now c.args.moment _ _ c.order_step.ensures.step

@@ -1,4 +1,5 @@
 use Rattle.registry.proofs.CallLemmas.{taken}
+use Rattle.registry.proofs.MoneyKept.{money_settlement}
 use Rattle.registry.proofs.Reopenings.{reopened_step}
 use Rattle.registry.proofs.StepsKept.{kept_settlement}
 use Rattle.registry.proofs.registry.Registry.settle.Goals as goal
@@ -9,3 +10,6 @@ returns-clause-well_formed g c = kept_settlement c.settlement.result _ c.args.se
 pub returns-clause-reopens : goal.returns-clause-reopens
 returns-clause-reopens g c =
     reopened_step c.settlement.result c.args.self.now.policy (g.B.Book.state c.args.self.now.book) (g.B.Book.state c.settlement.new.self.book) c.args.self.now.kept c.settlement.ensures.follows c.settlement.ensures.terms
+
+pub returns-clause-money : goal.returns-clause-money
+returns-clause-money g c = money_settlement c.settlement.result _ c.args.self.now.policy c.args.moment c.args.at_most _ _ c.settlement.ensures.step
