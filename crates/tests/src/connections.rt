@@ -68,14 +68,15 @@ fn is_told_in_pieces(alloc: Global, first: usize, second: usize) -> Result<bool,
     Ok(found.as_slice() == TOLD && end == SessionEnd::Logout)
 }
 
-/// Two pieces where both cuts are one, and else three.
+/// Two pieces where both cuts are one, and else three: the second of one byte, or of a frame's length.
+/// Every two cuts are tried in `session_ends`, over a peer that costs less.
 #[test]
 fn login_and_logout_in_every_cut(rt: HostRuntime) -> Result<(), Fail> {
     let alloc = rt.alloc();
     for first in 0..ASKED.len() {
-        for second in first..ASKED.len() {
-            let told = is_told_in_pieces(alloc, first, second)?;
-            assert!(rt; told, "cut at {first} and {second}");
+        for length in [0usize, 1, 64] {
+            let told = is_told_in_pieces(alloc, first, first.saturating_add(length))?;
+            assert!(rt; told, "cut at {first}, and {length} bytes behind it");
         }
     }
     Ok(())
