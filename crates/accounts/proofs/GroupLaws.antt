@@ -1,5 +1,5 @@
 -- The bag of lines that are kept by their domains.
-use Rattle.std.proofs.Common.{◌≡◌, ℕ, ◌+◌, ◌<◌, ◌≤◌, ◌==◌, suc, Bool, true, false, cond, ◌&&◌, ◌||◌, List, [], ◌∷◌, ◌++◌, map, length, length-append, Option, Some, None, Result, Ok, Err, refl, sym, ap, subst, ◌∙◌, arith, ℤ, ◌+ℤ◌, ◌-ℤ◌}
+use Rattle.std.proofs.Common.{◌≡◌, ℕ, ◌+◌, ◌<◌, ◌≤◌, ◌==◌, suc, Bool, true, false, cond, not, ◌&&◌, ◌||◌, List, [], ◌∷◌, ◌++◌, map, length, length-append, Option, Some, None, Result, Ok, Err, refl, sym, ap, subst, ◌∙◌, arith, ℤ, ◌+ℤ◌, ◌-ℤ◌}
 use Rattle.std.specs.Prelude.{unwrap_or}
 use Rattle.std.proofs.lemmas.Bool.Decides.{nat_tests}
 use Rattle.std.proofs.lemmas.Cmp.{nat_list_cmp_total}
@@ -24,12 +24,13 @@ use Rattle.std.specs.Ordering.{eq_by_cmp, is_eq, nat_cmp, ordering_then}
 use Rattle.std.specs.declared.cmp.Ordering.{Ordering}
 use Rattle.std.specs.declared.cmp.Ordering.TheVariants.{Less, Equal, Greater}
 use Rattle.basis.specs.Bag.{add, bag_of, remade, same, taken}
-use Rattle.basis.proofs.BagLaws.{add-add, filter-bag_of, remade-bag_of, taken-absent, taken-bag_of, taken-before, taken-behind, taken-present}
+use Rattle.basis.proofs.BagLaws.{add-add, filter-bag_of, remade-bag_of, taken-absent, taken-add, taken-bag_of, taken-before, taken-behind, taken-present}
 use Rattle.objects.specs.declared.roid.Roid.{Roid}
 use Rattle.accounts.specs.declared.line.Line.{Line}
 use Rattle.accounts.specs.Groups.{IsBounded, IsGroup, IsGrouped, IsSmall, IsUnder, all_lines}
-use Rattle.accounts.specs.Lines.{balance, in_order, is_of, is_on, object_rank, roid_numbers}
-use Rattle.accounts.proofs.LineLaws.{balance-append, balance-bag_of, bounded-cons, bounded-small, fits, lines_in_order, same-in_order}
+use Rattle.accounts.specs.declared.line.LineSwap.{LineSwap}
+use Rattle.accounts.specs.Lines.{balance, in_order, is_line, is_of, is_on, object_rank, roid_numbers, swapped_all, swaps_of}
+use Rattle.accounts.proofs.LineLaws.{balance-append, balance-bag_of, bounded-cons, bounded-small, fits, line-told, lines_in_order, same-in_order}
 
 abbrev by_numbers : List ℕ → List ℕ → Ordering
 by_numbers = slice_cmp nat_cmp
@@ -236,6 +237,66 @@ module _ (roid : Roid) (f : Line → Line) (elsewhere : (l : Line) → is_on roi
   remade-none key gs h k e =
       ap (bag_of in_order) (sym (map-none gs h.under (none_passes_from_lookup (at (key_of roid)) gs (ap (λ (q : List ℕ). lookup (at q) gs) (sym k) ∙ sym e))))
       ∙ sym (remade-bag_of in_order lines_in_order f (all_lines gs))
+
+-- ---- one line for another
+
+-- the bag with these lines more
+adds : List Line → List Line → List Line
+adds [] lines = lines
+adds (l ∷ ls) lines = add in_order l (adds ls lines)
+
+bag-adds : (xs ys : List Line) → bag (xs ++ ys) ≡ adds xs (bag ys)
+unfolding bag_of adds
+bag-adds [] ys = refl
+bag-adds (x ∷ xs) ys = ap (add in_order x) (bag-adds xs ys)
+
+add-adds : (x : Line) (ls lines : List Line) → add in_order x (adds ls lines) ≡ adds ls (add in_order x lines)
+unfolding adds
+add-adds x [] lines = refl
+add-adds x (l ∷ ls) lines = add-add in_order lines_in_order x l (adds ls lines) ∙ ap (add in_order l) (add-adds x ls lines)
+
+adds-adds : (xs ys lines : List Line) → adds xs (adds ys lines) ≡ adds ys (adds xs lines)
+unfolding adds
+adds-adds [] ys lines = refl
+adds-adds (x ∷ xs) ys lines = ap (add in_order x) (adds-adds xs ys lines) ∙ add-adds x ys (adds xs lines)
+
+swaps-made : (f : Line → Line) (ls lines : List Line) → swapped_all (swaps_of f ls) (adds ls lines) ≡ adds (map f ls) lines
+unfolding adds
+swaps-made f [] lines = refl
+swaps-made f (l ∷ ls) lines = by (is_line (f l) l) refl (swaps-made f ls)
+  where
+    by : (b : Bool) → is_line (f l) l ≡ b → ((rest : List Line) → swapped_all (swaps_of f ls) (adds ls rest) ≡ adds (map f ls) rest)
+        → swapped_all (map (λ (m : Line). let x : LineSwap = record { from = m; to = f m } in x) (cond (not b) (l ∷ filter (λ (m : Line). not (is_line (f m) m)) ls) (filter (λ (m : Line). not (is_line (f m) m)) ls))) (add in_order l (adds ls lines))
+        ≡ add in_order (f l) (adds (map f ls) lines)
+    by true e made =
+        ap (swapped_all (swaps_of f ls)) (add-adds l ls lines) ∙ made (add in_order l lines) ∙ sym (add-adds l (map f ls) lines)
+        ∙ ap (λ (x : Line). add in_order x (adds (map f ls) lines)) (sym (same-in_order (f l) l (sym (line-told (f l) l) ∙ e)))
+    by false e made =
+        ap (λ (ms : List Line). swapped_all (swaps_of f ls) (add in_order (f l) ms)) (taken-add in_order lines_in_order l (adds ls lines))
+        ∙ ap (swapped_all (swaps_of f ls)) (add-adds (f l) ls lines) ∙ made (add in_order (f l) lines) ∙ sym (add-adds (f l) (map f ls) lines)
+
+-- the lines of a group, and all others
+apart-at : (key : List ℕ) (ms : List Line) (g : List ℕ × List Line) (gs : List (List ℕ × List Line)) (ls : List Line) (b : Bool) → cond b (Some g.1) (lookup (at key) gs) ≡ Some ls
+    → (lookup (at key) gs ≡ Some ls → bag (all_lines (set_value (at key) gs ms)) ≡ adds ms (bag (all_lines (set_value (at key) gs []))))
+    → bag (all_lines (cond b ((g.0, ms) ∷ gs) (g ∷ set_value (at key) gs ms))) ≡ adds ms (bag (all_lines (cond b ((g.0, []) ∷ gs) (g ∷ set_value (at key) gs []))))
+apart-at key ms g gs ls true e ih = bag-adds ms (all_lines gs)
+apart-at key ms g gs ls false e ih =
+    bag-adds g.1 (all_lines (set_value (at key) gs ms)) ∙ ap (adds g.1) (ih e) ∙ adds-adds g.1 ms (bag (all_lines (set_value (at key) gs [])))
+    ∙ ap (adds ms) (sym (bag-adds g.1 (all_lines (set_value (at key) gs []))))
+
+set-apart : (key : List ℕ) (ms : List Line) (gs : List (List ℕ × List Line)) (ls : List Line) → lookup (at key) gs ≡ Some ls
+    → bag (all_lines (set_value (at key) gs ms)) ≡ adds ms (bag (all_lines (set_value (at key) gs [])))
+set-apart key ms [] ls e = cc
+set-apart key ms (g ∷ gs) ls e = apart-at key ms g gs ls (at key g.0) e (set-apart key ms gs ls)
+
+-- to put one line for another, for each of a domain's that a change changes, is to make the change
+pub swaps-found : (roid : Roid) (f : Line → Line) → ((l : Line) → is_on roid l ≡ false → f l ≡ l) → (key : List ℕ) (gs : List (List ℕ × List Line)) (ls : List Line) (swaps : List LineSwap)
+    → IsGrouped gs → key ≡ key_of roid → Some ls ≡ lookup (at key) gs → swaps ≡ swaps_of f ls → swapped_all swaps (bag (all_lines gs)) ≡ remade in_order f (bag (all_lines gs))
+swaps-found roid f elsewhere key gs ls swaps h k e made =
+    ap (λ (xs : List LineSwap). swapped_all xs (bag (all_lines gs))) made
+    ∙ ap (swapped_all (swaps_of f ls)) (ap (λ (m : List (List ℕ × List Line)). bag (all_lines m)) (sym (set_value_same (at key) gs ls (sym e))) ∙ set-apart key ls gs ls (sym e))
+    ∙ swaps-made f ls (bag (all_lines (set_value (at key) gs []))) ∙ sym (set-apart key (map f ls) gs ls (sym e))
+    ∙ remade-found roid f elsewhere key gs (set_value (at key) gs (map f ls)) ls (map f ls) h k e refl refl
 
 -- ---- what a group adds to the balance
 
@@ -444,6 +505,10 @@ module _ (x : Line) where
     pub taken-nowhere : None ≡ lookup (at key) gs → bag (all_lines gs) ≡ taken in_order x (bag (all_lines gs))
     taken-nowhere e = sym (bag-absent (all_lines gs) (any-none x gs h.under (none_passes_from_lookup (at own) gs (by_key None e))))
 
+    -- where it has that line
+    pub put-back : (ls : List Line) (b : Bool) → Some ls ≡ lookup (at key) gs → b ≡ any x ls → b ≡ true → add in_order x (taken in_order x (bag (all_lines gs))) ≡ bag (all_lines gs)
+    put-back ls b e there is = sym (bag-present (all_lines gs) (any-found gs ls h.under apart (by_key (Some ls) e) ∙ sym there ∙ is))
+
     -- where it has lines
     module _ (ns : List (List ℕ × List Line)) (ls ms : List Line) (e : Some ls ≡ lookup (at key) gs) (n : ns ≡ set_value (at key) gs ms) (t : ms ≡ taken in_order x ls) where
       pub taken-grouped : IsStrictlySortedBy by_numbers (keys_of ns) → IsGrouped ns
@@ -457,8 +522,7 @@ module _ (x : Line) where
           ∙ ap (bag_of in_order) (taken-all gs ls h.under apart (by_key (Some ls) e)) ∙ sym (taken-bag_of in_order lines_in_order x (all_lines gs))
 
       pub taken-found : (b : Bool) → b ≡ any x ls → b ≡ true → bag (all_lines gs) ≡ add in_order x (bag (all_lines ns))
-      taken-found b there is =
-          bag-present (all_lines gs) (any-found gs ls h.under apart (by_key (Some ls) e) ∙ sym there ∙ is) ∙ ap (add in_order x) (sym taken-there)
+      taken-found b there is = sym (put-back ls b e there is) ∙ ap (add in_order x) (sym taken-there)
 
       pub taken-missed : (b : Bool) → b ≡ any x ls → b ≡ false → bag (all_lines ns) ≡ bag (all_lines gs)
       taken-missed b there is =

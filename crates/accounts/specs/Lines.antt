@@ -1,13 +1,15 @@
 -- Lines of an account.
-use Rattle.std.specs.Prelude.{ℕ, suc, ◌==◌, nat_le, nat_lt, Bool, true, false, not, ◌&&◌, ◌||◌, if◌then◌else◌, List, [], ◌∷◌, ◌++◌, Option, Some, None, is_some, ℤ, pos, ◌+ℤ◌, ◌-ℤ◌}
+use Rattle.std.specs.Prelude.{ℕ, suc, map, fold, ◌==◌, nat_le, nat_lt, Bool, true, false, not, ◌&&◌, ◌||◌, if◌then◌else◌, List, [], ◌∷◌, ◌++◌, Option, Some, None, is_some, ℤ, pos, ◌+ℤ◌, ◌-ℤ◌}
 use Rattle.std.specs.Cmp.Lexicographic.{slice_cmp}
 use Rattle.std.specs.Ordering.{nat_cmp}
-use Rattle.basis.specs.Bag.{precedes}
+use Rattle.std.specs.List.{filter}
+use Rattle.basis.specs.Bag.{add, precedes, taken}
 use Rattle.objects.specs.declared.roid.ObjectKind.{ObjectKind}
 use Rattle.objects.specs.declared.roid.ObjectKind.TheVariants as objects
 use Rattle.objects.specs.declared.roid.Roid.{Roid}
 use Rattle.accounts.specs.declared.line.Line.{Line}
 use Rattle.accounts.specs.declared.line.LineKind.{LineKind}
+use Rattle.accounts.specs.declared.line.LineSwap.{LineSwap}
 use Rattle.accounts.specs.declared.line.LineKind.TheVariants as kinds
 use Rattle.accounts.specs.declared.line.TransferRefund.{TransferRefund}
 use Rattle.accounts.specs.declared.line.TransferStart.{TransferStart}
@@ -119,3 +121,17 @@ numbers l = kind_rank l.kind ∷ roid_numbers l.roid ++ l.recorded ∷ l.years �
 -- the order of lines in a bag
 unfoldable pub in_order : Line → Line → Bool
 in_order a b = precedes (slice_cmp nat_cmp) (numbers a) (numbers b)
+
+-- ---- one line for another
+
+-- the lines that a change makes others of, each with what it makes of it
+abbrev pub swaps_of : (Line → Line) → List Line → List LineSwap
+swaps_of f lines = map (λ l. record { from = l; to = f l }) (filter (λ l. not (is_line (f l) l)) lines)
+
+-- the bag with one line for another
+abbrev pub swapped : List Line → LineSwap → List Line
+swapped bag x = add in_order x.to (taken in_order x.from bag)
+
+-- the first swap first
+abbrev pub swapped_all : List LineSwap → List Line → List Line
+swapped_all swaps bag = fold swapped bag swaps

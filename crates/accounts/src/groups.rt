@@ -6,7 +6,7 @@ ghost use Rattle.accounts.specs.Groups.{IsBounded, IsSmall};
 ghost use Rattle.accounts.specs.Lines as spec;
 ghost use Rattle.accounts.specs.Lines.{in_order};
 
-use crate::line::{Line, LineChange, object_rank};
+use crate::line::{Line, LineChange, LineSwap, object_rank};
 use objects::Roid;
 use std::alloc::{AllocError, Global};
 use std::collections::BTreeMap;
@@ -74,6 +74,12 @@ impl Group {
         }
     }
 
+    fn has(&self, line: &Line) -> bool
+        ensures { result ≡ list_any (same in_order line.now) self.now }
+    {
+        place_of(&self.lines, line).is_some()
+    }
+
     /// Makes each line what the change makes of it, and gives what that adds to their sum.
     fn remake<C: LineChange>(&mut self, change: &C) -> i128
         ensures value { self.new ≡ map (C.changed change.now) self.old }
@@ -112,6 +118,24 @@ fn sum(lines: &[Line]) -> i128
         all = all.saturating_add(line.amount());
     }
     all
+}
+
+/// The lines that a change makes others of, each with what it makes of it.
+fn swaps_of<C: LineChange>(
+    alloc: Global,
+    lines: &[Line],
+    change: &C,
+) -> Result<Vec<LineSwap>, AllocError>
+    ensures { IfOk result (λ swaps. swaps.items ≡ spec.swaps_of (C.changed change.now) lines.now) }
+{
+    let mut swaps = Vec::new(alloc);
+    for line in lines {
+        let to = change.changed(*line);
+        if !to.is(line) {
+            swaps.push(LineSwap { from: *line, to })?;
+        }
+    }
+    Ok(swaps)
 }
 
 /// The key of a domain's lines, and of those of none.
@@ -177,6 +201,27 @@ impl Groups {
         match self.groups.get(&key_of(&Some(*roid))) {
             Some(group) => &group.lines,
             None => &[],
+        }
+    }
+
+    /// Whether a line is there, so that it can be taken out and put back.
+    pub(crate) fn has(&self, line: &Line) -> bool
+        ensures { result ≡ true → add in_order line.now (taken in_order line.now self.now) ≡ self.now }
+    {
+        match self.groups.get(&key_of(&line.roid)) {
+            None => false,
+            Some(group) => group.has(line),
+        }
+    }
+
+    /// One line for another, as often as the change makes another of one. It looks at the lines of the
+    /// change's domain alone.
+    pub(crate) fn swaps<C: LineChange>(&self, change: &C) -> Result<Vec<LineSwap>, AllocError>
+        ensures { IfOk result (λ swaps. spec.swapped_all swaps.items self.now ≡ remade in_order (C.changed change.now) self.now) }
+    {
+        match self.groups.get(&key_of(&Some(change.domain()))) {
+            None => Ok(Vec::new(self.alloc)),
+            Some(group) => swaps_of(self.alloc, &group.lines, change),
         }
     }
 

@@ -15,7 +15,7 @@ mod queue;
 
 pub use account::{Account, saturating_next};
 pub use entries::{AutoRenewal, LapseEntry, Posting};
-pub use line::{Line, LineChange, LineKind, TransferRefund, TransferStart};
+pub use line::{Line, LineChange, LineKind, LineSwap, TransferRefund, TransferStart};
 pub use lines::Lines;
 pub use message::{CommandNotice, LapseNotice, Message, Origin, Subject};
 pub use queue::Queue;

@@ -32,6 +32,13 @@ pub struct Line {
     pub refunded: Option<Moment>,
 }
 
+/// A line that stands for another from now on.
+#[derive(Clone, Copy, Drop)]
+pub struct LineSwap {
+    pub from: Line,
+    pub to: Line,
+}
+
 impl LineKind {
     fn rank(self) -> u8
         ensures { result ≡ spec.kind_rank self }

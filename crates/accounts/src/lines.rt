@@ -1,12 +1,12 @@
 //! The lines of an account as contracts see them: a bag, whatever the order in which they came.
-ghost use Rattle.std.specs.Prelude.{◌≡◌, [], OnOk, OnErr};
+ghost use Rattle.std.specs.Prelude.{◌≡◌, [], true, IfOk, OnOk, OnErr};
 ghost use Rattle.std.specs.List.{filter};
 ghost use Rattle.basis.specs.Bag.{add, bag_of, remade, taken};
 ghost use Rattle.accounts.specs.Lines as spec;
 ghost use Rattle.accounts.specs.Lines.{in_order};
 
 use crate::groups::Groups;
-use crate::line::{Line, LineChange};
+use crate::line::{Line, LineChange, LineSwap};
 use objects::Roid;
 use std::alloc::{AllocError, Global};
 use std::marker::Model;
@@ -51,6 +51,21 @@ impl Lines {
         ensures { bag_of in_order result.now ≡ filter (spec.is_on roid.now) self.now }
     {
         self.groups.on(roid)
+    }
+
+    /// Whether a line is there, so that it can be taken out and put back.
+    pub fn has(&self, line: &Line) -> bool
+        ensures { result ≡ true → add in_order line.now (taken in_order line.now self.now) ≡ self.now }
+    {
+        self.groups.has(line)
+    }
+
+    /// What makes of the lines what the change makes of them, one line for another. It looks at those of
+    /// the change's domain alone.
+    pub fn swaps<C: LineChange>(&self, change: &C) -> Result<Vec<LineSwap>, AllocError>
+        ensures { IfOk result (λ swaps. spec.swapped_all swaps.items self.now ≡ remade in_order (C.changed change.now) self.now) }
+    {
+        self.groups.swaps(change)
     }
 
     /// Adds a deposit or a charge.

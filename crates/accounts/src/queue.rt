@@ -1,5 +1,5 @@
 //! A registrar's queue of messages (RFC 5730, 2.9.2.3) as contracts see it: a list in their order.
-ghost use Rattle.std.specs.Prelude.{◌≡◌, ◌==◌, [], length, slice_get, IfOk, OnOk, OnErr};
+ghost use Rattle.std.specs.Prelude.{◌≡◌, ◌==◌, [], true, length, slice_get, IfOk, OnOk, OnErr};
 ghost use Rattle.std.specs.Option.{option_copied};
 ghost use Rattle.accounts.specs.Queue as spec;
 
@@ -57,10 +57,12 @@ impl Queue {
         Ok(())
     }
 
+    /// Whether a message is there, so that it can be taken out and put back.
     pub fn has(&self, message: &Message) -> bool
-        ensures { result ≡ spec.has message.now self.now }
+        ensures there { result ≡ spec.has message.now self.now }
+        ensures back { result ≡ true → spec.put message.now (spec.dropped message.now self.now) ≡ self.now }
     {
-        self.messages.contains(message)
+        self.messages.len() > 0 && self.messages.contains(message)
     }
 
     /// Takes a message back that was put in.

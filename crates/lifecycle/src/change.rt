@@ -46,11 +46,25 @@ pub enum AccountChange {
     TakeSerial,
 }
 
+impl Notification {
+    /// The message, with the recipient's number for it.
+    pub fn numbered(self, number: u64) -> Message
+        ensures { result ≡ spec.numbered number self }
+    {
+        Message {
+            moment: self.moment,
+            origin: Origin::Command(number, self.notice),
+            name: self.name,
+            subject: self.subject,
+        }
+    }
+}
+
 /// A refund, under the policy that says which graces run.
 #[derive(Drop)]
-struct RefundUnder<'a> {
-    refund: RunningRefund,
-    policy: &'a Policy,
+pub struct RefundUnder<'a> {
+    pub refund: RunningRefund,
+    pub policy: &'a Policy,
 }
 
 impl LineChange for RefundUnder<'_> {
@@ -91,13 +105,7 @@ fn tell(notification: Notification, account: &mut Account) -> Result<(), AllocEr
     ensures err { OnErr result (account.new ≡ account.old) }
 {
     let number = saturating_next(account.messages);
-    let origin = Origin::Command(number, notification.notice);
-    account.queue.push(Message {
-        moment: notification.moment,
-        origin,
-        name: notification.name,
-        subject: notification.subject,
-    })?;
+    account.queue.push(notification.numbered(number))?;
     account.messages = number;
     Ok(())
 }

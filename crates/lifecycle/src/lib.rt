@@ -18,7 +18,7 @@ mod renewal;
 mod restoration;
 mod transfer;
 
-pub use change::{AccountChange, Notification, RunningRefund, change_account};
+pub use change::{AccountChange, Notification, RefundUnder, RunningRefund, change_account};
 pub use contact::lapse_contact;
 pub use deletion::phase;
 pub use domain::lapse;

@@ -2,6 +2,7 @@
 use Rattle.std.proofs.Common.{◌≡◌, ℕ, Bool, true, false, cond, not, Bor, Option, Some, None, Result, Ok, Err, List, OnOk, OnErr, refl, sym, ap, ◌∙◌}
 use Rattle.std.specs.Prelude.{is_some, option_map, unwrap_or}
 use Rattle.std.specs.Option.{OnSome, option_copied}
+use Rattle.std.specs.Result.{IfOk}
 use Rattle.std.specs.Cmp.{nat_cmp_total, Equal-is}
 use Rattle.std.specs.FinMap.{FinMap, empty, get, get-empty, insert, remove, get-insert, get-remove, same_map, nat_cmp-IsAntisymmetric}
 use Rattle.std.specs.Ordering.{eq_by_cmp, nat_cmp}
@@ -9,11 +10,14 @@ use Rattle.accounts.specs.declared.account.Account.{Account}
 use Rattle.accounts.specs.declared.line.Line.{Line}
 use Rattle.accounts.specs.declared.message.Message.{Message}
 use Rattle.accounts.specs.Entries.{with_lines, with_queue}
-use Rattle.accounts.specs.Queue.{has}
+use Rattle.accounts.specs.Queue as queue
+use Rattle.accounts.specs.Lines.{in_order}
+use Rattle.basis.specs.Bag.{add, taken}
 use Rattle.accounts.specs.Account.{empty_account}
 use Rattle.basis.proofs.MapLemmas.{get-map_values}
 use Rattle.store.specs.declared.ledgers.Counters.{Counters}
-use Rattle.store.specs.Ledgers.{accounts_of, changed_if_there, counted, counters_of, lacks, lines_of, put, with_changed, with_counted, with_counters}
+use Rattle.store.specs.Ledgers.{accounts_of, changed_if_there, counted, counters_of, lacks, lines_of, put, queue_of, with_changed, with_counted, with_counters, with_line, with_notice, without_line, without_notice}
+use Rattle.store.proofs.EditLemmas.{put-again}
 
 abbrev Accounts : Type 0
 Accounts = FinMap nat_cmp Account
@@ -119,22 +123,51 @@ pub on-err : {A E : Type 0} {P Q : Type 0} (r : Result A E) → (P → Q) → On
 on-err (Ok x) f p = tt
 on-err (Err g) f p = f p
 
+-- lines and messages are those of the account that is kept, whatever the counters are
+lines-kept : (c : Option Counters) (a : Account) → (counted c a).lines ≡ a.lines
+lines-kept None a = refl
+lines-kept (Some y) a = refl
+
+queue-kept : (c : Option Counters) (a : Account) → (counted c a).queue ≡ a.queue
+queue-kept None a = refl
+queue-kept (Some y) a = refl
+
+as-read : {X : Type 0} (read : Account → X) → ((c : Option Counters) (a : Account) → read (counted c a) ≡ read a) → (c : Option Counters) (o : Option Account)
+    → read (unwrap_or (option_map (counted c) o) empty_account) ≡ read (unwrap_or o empty_account)
+as-read read kept c None = refl
+as-read read kept c (Some a) = kept c a
+
+-- what follows of a value where it went well
+pub if-ok : {A E : Type 0} {P Q : A → Type 0} (r : Result A E) → ((x : A) → P x → Q x) → IfOk r P → IfOk r Q
+if-ok (Ok x) f p = f x p
+if-ok (Err g) f p = tt
+
 -- ---- by the fields of the accounts
 
 module _ (m : Accounts) (x : FinMap nat_cmp Counters) (now : Accounts) (view : accounts_of m x ≡ now) (r : ℕ) where
   pub found : (o : Option Account) → o ≡ get m r → option_map (counted (get x r)) o ≡ get now r
   found o e = ap (option_map (counted (get x r))) e ∙ sym (get-accounts m x r) ∙ ap (λ (a : Accounts). get a r) view
 
-  lines-kept : (c : Option Counters) (a : Account) → (counted c a).lines ≡ a.lines
-  lines-kept None a = refl
-  lines-kept (Some y) a = refl
-
-  lines-of-counted : (c : Option Counters) (o : Option Account) → lines_of (option_map (counted c) o) ≡ lines_of o
-  lines-of-counted c None = refl
-  lines-of-counted c (Some a) = lines-kept c a
-
   pub lines-found : (o : Option Account) → o ≡ get m r → lines_of o ≡ lines_of (get now r)
-  lines-found o e = sym (lines-of-counted (get x r) o) ∙ ap (λ (p : Option Account). lines_of p) (found o e)
+  lines-found o e = sym (as-read (λ (a : Account). a.lines) lines-kept (get x r) o) ∙ ap (λ (p : Option Account). lines_of p) (found o e)
+
+  pub queue-found : (o : Option Account) → o ≡ get m r → queue_of o ≡ queue_of (get now r)
+  queue-found o e = sym (as-read (λ (a : Account). a.queue) queue-kept (get x r) o) ∙ ap (λ (p : Option Account). queue_of p) (found o e)
+
+  -- a line or a message of an account that is there can be taken out and put back
+  pub line-again : (line : Line) (a : Account) → Some a ≡ get m r → add in_order line (taken in_order line a.lines) ≡ a.lines → with_line (without_line now r line) r line ≡ now
+  line-again line a e is =
+      let b = counted (get x r) a in
+      let kept : b.lines ≡ a.lines = lines-kept (get x r) a in
+      put-again r now b (sym (found (Some a) e)) (with_lines (add in_order line)) (with_lines (taken in_order line))
+      (ap (λ (ls : List Line). let c : Account = record b { lines = ls } in c) (ap (λ (ls : List Line). add in_order line (taken in_order line ls)) kept ∙ is ∙ sym kept))
+
+  pub notice-again : (message : Message) (a : Account) → Some a ≡ get m r → queue.put message (queue.dropped message a.queue) ≡ a.queue → with_notice (without_notice now r message) r message ≡ now
+  notice-again message a e is =
+      let b = counted (get x r) a in
+      let kept : b.queue ≡ a.queue = queue-kept (get x r) a in
+      put-again r now b (sym (found (Some a) e)) (with_queue (queue.put message)) (with_queue (queue.dropped message))
+      (ap (λ (ms : List Message). let c : Account = record b { queue = ms } in c) (ap (λ (ms : List Message). queue.put message (queue.dropped message ms)) kept ∙ is ∙ sym kept))
 
   some-copied : {A B : Type 0} (f : A → B) (o : Option (Bor A)) → is_some o ≡ is_some (option_map f (option_copied o))
   some-copied f None = refl
@@ -204,13 +237,9 @@ module _ (m : Accounts) (x : FinMap nat_cmp Counters) (now : Accounts) (view : a
   pub lacks-found : (message : Message) (o : Option Account) → o ≡ get m r → lacks message o ≡ lacks message (get now r)
   lacks-found message o e = sym (by (get x r) o) ∙ ap (λ (p : Option Account). lacks message p) (found o e)
     where
-      kept : (c : Option Counters) (a : Account) → (counted c a).queue ≡ a.queue
-      kept None a = refl
-      kept (Some y) a = refl
-
       by : (c : Option Counters) (o : Option Account) → lacks message (option_map (counted c) o) ≡ lacks message o
       by c None = refl
-      by c (Some a) = ap (λ (queue : List Message). not (has message queue)) (kept c a)
+      by c (Some a) = ap (λ (ms : List Message). not (queue.has message ms)) (queue-kept c a)
 
 -- the counters that an account has now are its own
 pub given-counters : (c : Option Counters) (a : Account) → with_counters (counters_of (counted c a)) a ≡ counted c a

@@ -1,5 +1,5 @@
 -- Until when nothing is due.
-use Rattle.std.proofs.Common.{◌≡◌, ◌⊎◌, ⊎_elim, ℕ, ◌<◌, ◌≤◌, min, max, Bool, true, false, cond, nat_lt, List, [], ◌∷◌, Option, Some, None, option_and_then, option_map, refl, sym, subst, ap, ◌∙◌, arith}
+use Rattle.std.proofs.Common.{◌≡◌, ◌⊎◌, ⊎_elim, ℕ, ◌<◌, ◌≤◌, max, Bool, true, false, cond, nat_lt, List, [], ◌∷◌, Option, Some, None, option_and_then, refl, sym, subst, ap, ◌∙◌, arith}
 use Rattle.std.proofs.lemmas.Bool.Decides.{nat_tests}
 use Rattle.std.specs.Prelude.{fold, unwrap_or}
 use Rattle.std.specs.Cmp.Lexicographic.{nat_list_cmp_total, slice_cmp}
@@ -8,14 +8,13 @@ use Rattle.std.specs.Ordering.{eq_by_cmp, nat_cmp}
 use Rattle.basis.proofs.EntryLaws.{Each, each_entry}
 use Rattle.basis.proofs.MapLemmas.{names_apart}
 use Rattle.calendar.specs.Moment.{plus_days}
-use Rattle.lifecycle.specs.Lapse.{completes_at, due_at, due_of, earlier}
+use Rattle.lifecycle.specs.Lapse.{completes_at, due_at, due_of}
 use Rattle.lifecycle.specs.Periods.{passed}
 use Rattle.lifecycle.specs.Phases.{purge_at}
 use Rattle.model.specs.Registry.{Registry}
 use Rattle.objects.specs.declared.contact.Contact.{Contact}
 use Rattle.objects.specs.declared.domain.Deletion.{Deletion}
 use Rattle.objects.specs.declared.domain.Domain.{Domain}
-use Rattle.objects.specs.Domains.{expiry}
 use Rattle.policy.specs.Rules.{PolicyRules}
 use Rattle.rules.specs.declared.change.Change.{Change}
 use Rattle.rules.specs.declared.change.Change.TheVariants.{MoveClock, OpenAccount, PutContact, DropContact, PutDomain, DropDomain, PutHost, DropHost, RenameHost, LapseContact, LapseDomain, Give}

@@ -1,26 +1,23 @@
 -- How a book in memory makes a change, and takes it back: values at keys.
-use Rattle.std.specs.Prelude.{ℕ, if◌then◌else◌, List, [], ◌∷◌, map, max, filter, fold, Option, Some, None, option_map}
+use Rattle.std.specs.Prelude.{◌≡◌, ℕ, true, if◌then◌else◌, List, [], ◌∷◌, map, filter, fold, Option, Some, None, is_some, option_map}
 use Rattle.std.specs.FinMap.{entries, get}
 use Rattle.accounts.specs.declared.account.Account.{Account}
-use Rattle.accounts.specs.declared.entries.LapseEntry.{LapseEntry}
-use Rattle.accounts.specs.declared.entries.LapseEntry.TheVariants.{Renewal, Start, Notice}
+use Rattle.std.specs.Str.{bytes_eq}
 use Rattle.accounts.specs.declared.line.Line.{Line}
+use Rattle.accounts.specs.declared.line.LineSwap.{LineSwap}
 use Rattle.accounts.specs.declared.message.Message.{Message}
-use Rattle.accounts.specs.Entries.{renewal_line}
-use Rattle.lifecycle.specs.Changes.{changed as account_changed}
-use Rattle.lifecycle.specs.declared.change.AccountChange.{AccountChange}
-use Rattle.lifecycle.specs.declared.change.AccountChange.TheVariants.{Charge, RefundRunning, RefundTransfer, Lapse, Tell, Ack, CountCommand, TakeSerial}
+use Rattle.accounts.specs.Account.{saturating_next}
+use Rattle.accounts.specs.Messages.{message_id}
+use Rattle.lifecycle.specs.Changes.{numbered}
+use Rattle.lifecycle.specs.declared.change.Notification.{Notification}
 use Rattle.objects.specs.Links.{names_host}
-use Rattle.policy.specs.Rules.{PolicyRules}
-use Rattle.rules.specs.declared.change.Change.{Change}
-use Rattle.rules.specs.declared.change.Change.TheVariants.{MoveClock, OpenAccount, PutContact, DropContact, PutDomain, DropDomain, PutHost, DropHost, RenameHost, LapseContact, LapseDomain, Give}
-use Rattle.rules.specs.Changes.{with_host_renamed}
+use Rattle.rules.specs.Changes.{with_account, with_host_renamed}
 use Rattle.store.specs.declared.edit.Edit.{Edit}
 use Rattle.store.specs.declared.edit.Edit.TheVariants as edit
 use Rattle.store.specs.Book.{Stored}
 use Rattle.store.specs.declared.ledgers.Counters.{Counters}
-use Rattle.store.specs.Ledgers.{counters_of, lacks, next_command, next_serial, put, with_counted, with_line, with_notice, without_line, without_notice}
-use Rattle.model.specs.Registry.{Registry, account_of}
+use Rattle.store.specs.Ledgers.{counters_of, lacks, next_message, put, with_counted, with_line, with_notice, without_line, without_notice}
+use Rattle.model.specs.Registry.{Registry}
 
 abbrev pub edited : Edit → Stored → Stored
 edited (edit.Clock t) s = record s { registry = record s.registry { clock = t } }
@@ -72,76 +69,28 @@ abbrev pub undone_all : List Edit → Stored → Stored
 undone_all [] s = s
 undone_all (e ∷ es) s = edited e (undone_all es s)
 
--- the counters of an account after a change of these alone
-abbrev pub counted_by : AccountChange → Account → Option Counters
-counted_by CountCommand a = Some (next_command (counters_of a))
-counted_by TakeSerial a = Some (next_serial (counters_of a))
-counted_by (Charge line) a = None
-counted_by (RefundRunning r) a = None
-counted_by (RefundTransfer r) a = None
-counted_by (Lapse what) a = None
-counted_by (Tell n) a = None
-counted_by (Ack id) a = None
+-- one registrar's account is changed
+abbrev pub given_to : ℕ → (Account → Account) → Stored → Stored
+given_to r f s = record s { registry = with_account r f s.registry }
 
--- the line that time enters, if it enters one
-abbrev pub entered_line : LapseEntry → Option Line
-entered_line (Renewal x) = Some (renewal_line x)
-entered_line (Start x) = None
-entered_line (Notice m) = None
+-- these edits change a registrar's account, where it is there
+abbrev pub GiveIt : ℕ → (Account → Account) → Stored → List Edit → Type 0
+GiveIt r f s edits = is_some (get s.registry.accounts r) ≡ true → edited_all edits s ≡ given_to r f s
 
--- the line that a change adds, if it adds one and does nothing else
-abbrev pub line_of : AccountChange → Option Line
-line_of (Charge line) = Some line
-line_of (Lapse what) = entered_line what
-line_of (RefundRunning r) = None
-line_of (RefundTransfer r) = None
-line_of (Tell n) = None
-line_of (Ack id) = None
-line_of CountCommand = None
-line_of TakeSerial = None
+-- for one line for another, one is taken out and the other put in
+abbrev pub swap_edits : ℕ → List LineSwap → List Edit
+swap_edits r [] = []
+swap_edits r (x ∷ xs) = edit.Unline r x.from ∷ edit.Line r x.to ∷ swap_edits r xs
 
--- the message that time brings, if it brings one
-abbrev pub entered_notice : LapseEntry → Option Message
-entered_notice (Renewal x) = None
-entered_notice (Start x) = None
-entered_notice (Notice m) = Some m
+-- for a message of a command, it is put in with the recipient's next number, and counted
+abbrev pub told_edits : ℕ → Notification → Account → List Edit
+told_edits r n a = edit.Notice r (numbered (saturating_next a.messages) n) ∷ edit.Counters r (next_message (counters_of a)) ∷ []
 
--- the message that a change brings, if it brings one and does nothing else
-abbrev pub notice_of : AccountChange → Option Message
-notice_of (Charge line) = None
-notice_of (Lapse what) = entered_notice what
-notice_of (RefundRunning r) = None
-notice_of (RefundTransfer r) = None
-notice_of (Tell n) = None
-notice_of (Ack id) = None
-notice_of CountCommand = None
-notice_of TakeSerial = None
-
--- for a registrar's account, one edit: of its counters, of a line, of a message, or of the whole
-abbrev pub gift_by : PolicyRules → ℕ → AccountChange → Account → Option Counters → Option Line → Option Message → Edit
-gift_by p r what a (Some x) line m = edit.Counters r x
-gift_by p r what a None (Some line) m = edit.Line r line
-gift_by p r what a None None (Some m) = edit.Notice r m
-gift_by p r what a None None None = edit.Account r (Some (account_changed p what a))
-
-abbrev pub gift_edit : PolicyRules → ℕ → AccountChange → Account → Edit
-gift_edit p r what a = gift_by p r what a (counted_by what a) (line_of what) (notice_of what)
+-- for an acknowledgement, the oldest message is taken out, where it has the identifier
+abbrev pub ack_edits : ℕ → List ℕ → Option Message → List Edit
+ack_edits r id None = []
+ack_edits r id (Some oldest) = if bytes_eq (message_id oldest) id then edit.Unnotice r oldest ∷ [] else []
 
 -- for a host's new name, an edit for each domain that names the host
 abbrev pub renames : List ℕ → List ℕ → Registry → List Edit
 renames old new s = map (λ e. edit.Domain e.0 (Some (with_host_renamed old new e.1))) (filter (λ e. names_host old e.1.links) (entries s.domains))
-
--- the edits that make a change
-abbrev pub edits_of : PolicyRules → Change → Registry → List Edit
-edits_of p (MoveClock t) s = edit.Clock (max t s.clock) ∷ []
-edits_of p (OpenAccount r) s = edit.Account r (Some (account_of r s)) ∷ []
-edits_of p (PutContact c) s = edit.Contact c.name (Some c) ∷ []
-edits_of p (DropContact name) s = edit.Contact name None ∷ []
-edits_of p (PutDomain d) s = edit.Domain d.name (Some d) ∷ []
-edits_of p (DropDomain name) s = edit.Domain name None ∷ []
-edits_of p (PutHost h) s = edit.Host h.name (Some h) ∷ []
-edits_of p (DropHost name) s = edit.Host name None ∷ []
-edits_of p (RenameHost old new) s = renames old new s
-edits_of p (LapseContact name left) s = edit.Contact name left ∷ []
-edits_of p (LapseDomain name left) s = edit.Domain name left ∷ []
-edits_of p (Give r what) s = gift_edit p r what (account_of r s) ∷ []

@@ -37,9 +37,15 @@ accounts_of accounts counters = map_values (λ r a. counted (get counters r) a) 
 abbrev pub lines_of : Option Account → List Line
 lines_of account = (unwrap_or account empty_account).lines
 
--- one command more, and one object more
+abbrev pub queue_of : Option Account → List Message
+queue_of account = (unwrap_or account empty_account).queue
+
+-- one command, one message and one object more
 abbrev pub next_command : Counters → Counters
 next_command x = record x { commands = saturating_next x.commands }
+
+abbrev pub next_message : Counters → Counters
+next_message x = record x { messages = saturating_next x.messages }
 
 abbrev pub next_serial : Counters → Counters
 next_serial x = record x { serial = saturating_next x.serial }

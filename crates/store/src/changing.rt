@@ -1,78 +1,24 @@
 //! How a registry in ordered maps is changed.
-ghost use Rattle.std.specs.Prelude.{◌≡◌, ◌∷◌, [], None, option_map, IfOk, OnOk, OnErr};
+ghost use Rattle.std.specs.Prelude.{◌≡◌, ◌∷◌, [], option_map, IfOk, IfSome, OnOk, OnErr};
 ghost use Rattle.std.specs.FinMap as finmap;
-ghost use Rattle.std.specs.Option.{option_copied};
+ghost use Rattle.store.specs.Book.{with_changes};
 ghost use Rattle.store.specs.Edits as spec;
+ghost use Rattle.store.specs.Edits.{edited, edited_all};
 ghost use Rattle.store.specs.Ledgers.{counters_of};
 ghost use Rattle.store.specs.Plain.{content_of, registry_in};
-ghost use Rattle.lifecycle.specs.Changes.{changed as account_changed};
 ghost use Rattle.model.specs.Registry.{account_of};
 
 use crate::content::Content;
 use crate::edit::{
     Edit, copy_contact, copy_domain, copy_host, copy_terms, message_clone, put_named,
 };
-use crate::ledgers::Counters;
 use crate::renamed::with_host_renamed;
-use accounts::{Account, LapseEntry, Line, Message};
+use accounts::{Account, Line, Message};
 use basis::registrar::RegistrarNo;
 use basis::text::Text;
-use lifecycle::{AccountChange, change_account};
 use policy::Policy;
 use rules::Change;
 use std::alloc::AllocError;
-
-/// The line that time enters, if it enters one.
-fn entered_line(what: &LapseEntry) -> Option<Line>
-    ensures { result ≡ spec.entered_line what.now }
-{
-    match what {
-        LapseEntry::Renewal(renewal) => Some(renewal.line()),
-        LapseEntry::Start(_) | LapseEntry::Notice(_) => None,
-    }
-}
-
-/// The line that a change adds, if it adds one and does nothing else.
-fn line_of(what: &AccountChange) -> Option<Line>
-    ensures { result ≡ spec.line_of what.now }
-{
-    match what {
-        AccountChange::Charge(line) => Some(*line),
-        AccountChange::Lapse(what) => entered_line(what),
-        AccountChange::RefundRunning(_)
-        | AccountChange::RefundTransfer(_)
-        | AccountChange::Tell(_)
-        | AccountChange::Ack(_)
-        | AccountChange::CountCommand
-        | AccountChange::TakeSerial => None,
-    }
-}
-
-/// The message that time brings, if it brings one.
-fn entered_notice(what: &LapseEntry) -> Option<&Message>
-    ensures { option_copied result ≡ spec.entered_notice what.now }
-{
-    match what {
-        LapseEntry::Notice(message) => Some(message),
-        LapseEntry::Renewal(_) | LapseEntry::Start(_) => None,
-    }
-}
-
-/// The message that a change brings, if it brings one and does nothing else.
-fn notice_of(what: &AccountChange) -> Option<&Message>
-    ensures { option_copied result ≡ spec.notice_of what.now }
-{
-    match what {
-        AccountChange::Lapse(what) => entered_notice(what),
-        AccountChange::Charge(_)
-        | AccountChange::RefundRunning(_)
-        | AccountChange::RefundTransfer(_)
-        | AccountChange::Tell(_)
-        | AccountChange::Ack(_)
-        | AccountChange::CountCommand
-        | AccountChange::TakeSerial => None,
-    }
-}
 
 impl Content {
     /// A copy of a registrar's account, which is empty where it was never opened.
@@ -82,22 +28,6 @@ impl Content {
         match self.accounts.copy(registrar)? {
             Some(account) => Ok(account),
             None => Ok(Account::empty(self.alloc)),
-        }
-    }
-
-    /// What a registrar's account counts after a change of its counters alone.
-    fn counters_after(&self, registrar: RegistrarNo, what: &AccountChange) -> Option<Counters>
-        ensures { result ≡ spec.counted_by what.now (account_of registrar (registry_in self.now)) }
-    {
-        match what {
-            AccountChange::CountCommand => Some(self.accounts.counters(registrar).next_command()),
-            AccountChange::TakeSerial => Some(self.accounts.counters(registrar).next_serial()),
-            AccountChange::Charge(_)
-            | AccountChange::RefundRunning(_)
-            | AccountChange::RefundTransfer(_)
-            | AccountChange::Lapse(_)
-            | AccountChange::Tell(_)
-            | AccountChange::Ack(_) => None,
         }
     }
 
@@ -122,46 +52,9 @@ impl Content {
         Ok(Edit::Account(registrar, self.accounts.copy(registrar)?))
     }
 
-    /// A registrar's account after a change.
-    fn account_after(
-        &self,
-        registrar: RegistrarNo,
-        what: AccountChange,
-        policy: &Policy,
-    ) -> Result<Account, AllocError>
-        ensures { IfOk result (λ account. account ≡ account_changed policy.now what (account_of registrar (registry_in self.now))) }
-    {
-        let mut account = self.account(registrar)?;
-        change_account(self.alloc, &mut account, what, policy)?;
-        Ok(account)
-    }
-
-    /// The edit that changes a registrar's account. What counts alone, or adds a line or a
-    /// message of time, copies none.
-    fn gift(
-        &self,
-        registrar: RegistrarNo,
-        what: AccountChange,
-        policy: &Policy,
-    ) -> Result<Edit, AllocError>
-        ensures { IfOk result (λ edit. edit ≡ spec.gift_edit policy.now registrar what (account_of registrar (registry_in self.now))) }
-    {
-        if let Some(counters) = self.counters_after(registrar, &what) {
-            return Ok(Edit::Counters(registrar, counters));
-        }
-        if let Some(line) = line_of(&what) {
-            return Ok(Edit::Line(registrar, line));
-        }
-        if let Some(message) = notice_of(&what) {
-            return Ok(Edit::Notice(registrar, message_clone(message)?));
-        }
-        let account = self.account_after(registrar, what, policy)?;
-        Ok(Edit::Account(registrar, Some(account)))
-    }
-
     /// The edits that make a change.
     pub fn edits_of(&self, change: Change, policy: &Policy) -> Result<Vec<Edit>, AllocError>
-        ensures { IfOk result (λ edits. edits.items ≡ spec.edits_of policy.now change (registry_in self.now)) }
+        ensures { IfOk result (λ edits. edited_all edits.items (content_of self.now) ≡ with_changes policy.now (change ∷ []) (content_of self.now)) }
     {
         match change {
             Change::MoveClock(moment) => self.one(Edit::Clock(moment.later(self.clock))),
@@ -169,10 +62,7 @@ impl Content {
                 let account = self.account(registrar)?;
                 self.one(Edit::Account(registrar, Some(account)))
             }
-            Change::Give(registrar, what) => {
-                let edit = self.gift(registrar, what, policy)?;
-                self.one(edit)
-            }
+            Change::Give(registrar, what) => self.gift(registrar, what, policy),
             Change::PutContact(contact) => {
                 let name = contact.name.clone()?;
                 self.one(Edit::Contact(name, Some(contact)))
@@ -194,7 +84,7 @@ impl Content {
         }
     }
 
-    fn one(&self, edit: Edit) -> Result<Vec<Edit>, AllocError>
+    pub fn one(&self, edit: Edit) -> Result<Vec<Edit>, AllocError>
         ensures { IfOk result (λ edits. edits.items ≡ edit ∷ []) }
     {
         Ok(vec![in self.alloc; edit]?)
@@ -224,8 +114,33 @@ impl Content {
         }
     }
 
-    /// What takes an edit back.
+    /// What takes an edit back: once the edit is made, it leads back.
     pub fn inverse(&self, edit: &Edit) -> Result<Edit, AllocError>
+        ensures { IfOk result (λ inverse. edited inverse (edited edit.now (content_of self.now)) ≡ content_of self.now) }
+    {
+        if let Some(back) = self.put_back(edit)? {
+            return Ok(back);
+        }
+        self.as_it_was(edit)
+    }
+
+    /// What puts a line or a message back that an edit takes out, where it is there.
+    fn put_back(&self, edit: &Edit) -> Result<Option<Edit>, AllocError>
+        ensures { IfOk result (λ back. IfSome back (λ it. edited it (edited edit.now (content_of self.now)) ≡ content_of self.now)) }
+    {
+        match edit {
+            Edit::Unline(registrar, line) if self.accounts.has_line(*registrar, line) => {
+                Ok(Some(Edit::Line(*registrar, *line)))
+            }
+            Edit::Unnotice(registrar, message) if self.accounts.has_notice(*registrar, message) => {
+                Ok(Some(Edit::Notice(*registrar, message_clone(message)?)))
+            }
+            _ => Ok(None),
+        }
+    }
+
+    /// What puts back what stands at the key of an edit.
+    fn as_it_was(&self, edit: &Edit) -> Result<Edit, AllocError>
         ensures { IfOk result (λ inverse. inverse ≡ spec.inverse edit.now (content_of self.now)) }
     {
         match edit {

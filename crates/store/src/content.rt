@@ -108,9 +108,9 @@ impl Content {
         if !command.reads_oldest_message() {
             return Ok(QueueFacts::none());
         }
-        match self.accounts.copy(caller)? {
+        match self.accounts.queue(caller) {
             None => Ok(QueueFacts::none()),
-            Some(account) => QueueFacts::of(self.alloc, &account.queue),
+            Some(queue) => QueueFacts::of(self.alloc, queue),
         }
     }
 
@@ -202,8 +202,8 @@ impl Content {
         })
     }
 
-    /// What the caller gets back for a domain that it sees in full, where the command asks. All lines
-    /// of its account are gone through then.
+    /// What the caller gets back for a domain that it sees in full, where the command asks. The lines
+    /// on the domain are gone through then.
     fn given_back(
         &self,
         caller: RegistrarNo,

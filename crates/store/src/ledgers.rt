@@ -1,14 +1,16 @@
-//! The accounts of a book in memory: counters apart from lines and messages, so that a command that
-//! adds no line copies none.
-ghost use Rattle.std.specs.Prelude.{◌≡◌, IfOk, OnOk, OnErr, is_some, option_map, unwrap_or};
+//! The accounts of a book in memory: counters apart from lines and messages, and each line and each
+//! message put in and taken out where the account stands, so that no command copies what it leaves.
+ghost use Rattle.std.specs.Prelude.{◌≡◌, true, [], IfOk, OnOk, OnErr, is_some, option_map, unwrap_or};
 ghost use Rattle.std.specs.FinMap as map;
 ghost use Rattle.std.specs.Option.{option_copied};
 ghost use Rattle.accounts.specs.Account.{empty_account};
+ghost use Rattle.accounts.specs.Lines.{in_order, swapped_all};
+ghost use Rattle.basis.specs.Bag.{remade};
 ghost use Rattle.store.specs.Ledgers as spec;
 ghost use Rattle.store.specs.Ledgers.{put};
 
 use crate::edit::account_clone;
-use accounts::{Account, Line, Message, saturating_next};
+use accounts::{Account, Line, LineChange, LineSwap, Message, Queue, saturating_next};
 use basis::maps::RegistrarMap;
 use basis::registrar::RegistrarNo;
 use std::alloc::{AllocError, Global};
@@ -52,6 +54,17 @@ impl Counters {
         Counters {
             commands: saturating_next(self.commands),
             messages: self.messages,
+            serial: self.serial,
+        }
+    }
+
+    /// With one message more.
+    pub fn next_message(self) -> Counters
+        ensures { result ≡ spec.next_message self }
+    {
+        Counters {
+            commands: self.commands,
+            messages: saturating_next(self.messages),
             serial: self.serial,
         }
     }
@@ -117,6 +130,51 @@ impl Ledgers {
         ensures { spec.lines_of (option_copied result) ≡ spec.lines_of (map.get self.now registrar) }
     {
         self.accounts.get(registrar)
+    }
+
+    /// The messages that wait for a registrar, if it has an account.
+    pub fn queue(&self, registrar: RegistrarNo) -> Option<&Queue>
+        ensures { unwrap_or (option_copied result) [] ≡ spec.queue_of (map.get self.now registrar) }
+    {
+        match self.accounts.get(registrar) {
+            None => None,
+            Some(account) => Some(&account.queue),
+        }
+    }
+
+    /// What makes of a registrar's lines what a change makes of them, one line for another.
+    pub fn swaps<C: LineChange>(
+        &self,
+        alloc: Global,
+        registrar: RegistrarNo,
+        change: &C,
+    ) -> Result<Vec<LineSwap>, AllocError>
+        ensures { IfOk result (λ swaps. swapped_all swaps.items (spec.lines_of (map.get self.now registrar)) ≡ remade in_order (C.changed change.now) (spec.lines_of (map.get self.now registrar))) }
+    {
+        match self.accounts.get(registrar) {
+            None => Ok(Vec::new(alloc)),
+            Some(account) => account.lines.swaps(change),
+        }
+    }
+
+    /// Whether a registrar has a line, so that it can be taken out and put back.
+    pub fn has_line(&self, registrar: RegistrarNo, line: &Line) -> bool
+        ensures { result ≡ true → spec.with_line (spec.without_line self.now registrar line.now) registrar line.now ≡ self.now }
+    {
+        match self.accounts.get(registrar) {
+            None => false,
+            Some(account) => account.lines.has(line),
+        }
+    }
+
+    /// Whether a message waits for a registrar, so that it can be taken out and put back.
+    pub fn has_notice(&self, registrar: RegistrarNo, message: &Message) -> bool
+        ensures { result ≡ true → spec.with_notice (spec.without_notice self.now registrar message.now) registrar message.now ≡ self.now }
+    {
+        match self.accounts.get(registrar) {
+            None => false,
+            Some(account) => account.queue.has(message),
+        }
     }
 
     /// The counters of a registrar's account, which are 0 where it was never opened.

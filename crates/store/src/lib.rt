@@ -7,6 +7,7 @@ mod content;
 mod due;
 mod edit;
 mod fault;
+mod gifts;
 mod lapsing;
 mod ledgers;
 mod plain;

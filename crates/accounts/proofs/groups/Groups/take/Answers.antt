@@ -1,6 +1,5 @@
-use Rattle.std.proofs.Common.{◌≡◌, ◌∙◌, ◌||◌, ℕ, List, ap, sym}
-use Rattle.basis.specs.Bag.{add, taken}
-use Rattle.accounts.specs.declared.line.Line.{Line}
+use Rattle.std.proofs.Common.{◌∙◌, ap, sym}
+use Rattle.basis.specs.Bag.{taken}
 use Rattle.accounts.specs.Lines.{in_order}
 use Rattle.accounts.proofs.GroupLaws.{bounded, taken-found, taken-grouped, taken-missed, taken-nowhere, taken-there}
 use Rattle.accounts.proofs.groups.Groups.take.Goals as goal

@@ -1,4 +1,4 @@
-use Rattle.std.proofs.Common.{ap, sym, ◌∙◌}
+use Rattle.std.proofs.Common.{ap, ◌∙◌}
 use Rattle.std.specs.FinMap.{entries}
 use Rattle.store.specs.Contents.{registry_in}
 use Rattle.store.specs.Quiet.{until_domains}

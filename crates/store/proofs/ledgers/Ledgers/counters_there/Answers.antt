@@ -1,4 +1,4 @@
-use Rattle.std.proofs.Common.{◌≡◌, ◌∙◌, Option, Some, sym, ap}
+use Rattle.std.proofs.Common.{◌∙◌, Some, sym, ap}
 use Rattle.std.specs.FinMap.{get}
 use Rattle.store.specs.declared.ledgers.Counters.{Counters}
 use Rattle.store.proofs.LedgerLemmas.{counters-none, counters-some}

@@ -9,5 +9,5 @@ returns-in-None c =
 
 pub returns-in-Some : goal.returns-in-Some
 returns-in-Some c =
-    ap (λ (b : Bool). not b) c.has.ensures
+    ap (λ (b : Bool). not b) c.has.ensures.there
     ∙ lacks-found c.self.inside.accounts c.self.inside.counters c.args.self.now c.self.view_is c.args.registrar c.args.message.now (Some c.in-Some.account.now) (sym (ap (λ o. option_copied o) c.in-Some.is) ∙ c.get.ensures)

@@ -1,4 +1,3 @@
-use Rattle.std.proofs.Common.{sym}
 use Rattle.store.specs.Contents.{registry_in}
 use Rattle.store.proofs.QuietLemmas.{quiet-none}
 use Rattle.store.proofs.plain.PlainBook.is_quiet.Goals as goal

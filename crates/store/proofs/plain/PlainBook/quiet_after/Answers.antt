@@ -1,4 +1,4 @@
-use Rattle.std.proofs.Common.{ap, sym, Some, ◌∙◌}
+use Rattle.std.proofs.Common.{ap, Some, ◌∙◌}
 use Rattle.store.specs.Contents.{registry_in}
 use Rattle.store.specs.Quiet.{quiet_with}
 use Rattle.store.proofs.QuietLemmas.{quiet-after}

@@ -1,7 +1,5 @@
-use Rattle.std.proofs.Common.{ap, ◌∙◌, ◌++◌, ◌∷◌, [], sym}
 use Rattle.store.specs.Plain.{content_of}
-use Rattle.store.specs.Edits.{undone_all}
-use Rattle.store.proofs.EditLemmas.{take-push, undone_all-made}
+use Rattle.store.proofs.EditLemmas.{undone_all-made}
 use Rattle.store.proofs.plain.PlainBook.set.Goals as goal
 
 pub returns-in-Ok-clause-at_begin : goal.returns-in-Ok-clause-at_begin
