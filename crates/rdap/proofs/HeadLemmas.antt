@@ -1,5 +1,5 @@
 -- Which bytes begin with no head, whatever follows.
-use Rattle.std.proofs.Common.{◌≡◌, ℕ, zero, suc, ◌<◌, ◌≤◌, List, [], ◌∷◌, ◌++◌, length, take, refl, ap, arith, sym, subst, ◌∙◌}
+use Rattle.std.proofs.Common.{◌≡◌, ℕ, zero, suc, ◌<◌, ◌≤◌, List, [], ◌∷◌, ◌++◌, length, take, refl, ap, arith, sym, subst, ◌∙◌, append_assoc}
 use Rattle.std.proofs.lemmas.List.{append-nil, take-append-le, take_all}
 use Rattle.httparse.specs.Grammar.{HasNoRequest, MayBecomeRequest, RequestHead, print_request}
 use Rattle.httparse.specs.Spans.{RequestOverflows}
@@ -49,3 +49,9 @@ none_in_bad bytes never h has = never [] h (subst (λ (b : List ℕ). HasHead b 
 -- bytes begin with at most one head
 pub one_head : (bytes : List ℕ) (h k : RequestHead) → HasHead bytes h → HasHead bytes k → h ≡ k
 one_head bytes h k (rest, reads, few) (more, others, few_others) = (request_unique (take most_bytes bytes) h k rest more reads others).0
+
+-- whatever follows, a head stays one
+pub stays : (bytes more : List ℕ) (h : RequestHead) → HasHead bytes h → HasHead (bytes ++ more) h
+stays bytes more h (rest, reads, few) =
+    let on = take_goes_on most_bytes bytes more in
+    (rest ++ on.0, (reads.0, sym on.1 ∙ ap (λ (l : List ℕ). l ++ on.0) reads.1 ∙ append_assoc (print_request h) rest on.0), few)

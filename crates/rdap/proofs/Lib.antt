@@ -1,4 +1,4 @@
 mod HeadLemmas
 mod RequestLemmas
 mod Plain
-mod AnswerLemmas
+pub mod AnswerLemmas

@@ -1,5 +1,5 @@
 -- The head of a request (RFC 9112, 2.1): its start line, its fields, and the empty line at its end.
-use Rattle.std.specs.Prelude.{◌≡◌, ℕ, ◌<◌, ◌≤◌, List, ◌++◌, length, take}
+use Rattle.std.specs.Prelude.{◌≡◌, ◌⊎◌, ℕ, ◌<◌, ◌≤◌, List, ◌++◌, length, take}
 use Rattle.httparse.specs.Grammar.{HasNoRequest, MayBecomeRequest, ReadsRequest, RequestHead}
 use Rattle.httparse.specs.Spans.{RequestOverflows}
 use Rattle.rdap.specs.declared.head.Asked.{Asked}
@@ -20,6 +20,10 @@ HasHead bytes h = (rest : List ℕ) × ReadsRequest (take most_bytes bytes) h re
 -- they begin with no head that keeps the limits, whatever follows
 abbrev pub NeverHasHead : List ℕ → Type 0
 NeverHasHead bytes = (more : List ℕ) (h : RequestHead) → ¬ (HasHead (bytes ++ more) h)
+
+-- whatever follows, they begin with this head, or with none
+abbrev pub IsDecided : List ℕ → Type 0
+IsDecided bytes = ((h : RequestHead) × HasHead bytes h) ⊎ NeverHasHead bytes
 
 -- they hold no whole head yet, and are within the limit of bytes
 pub record IsCut (bytes : List ℕ) : Type 0 where

@@ -1,6 +1,6 @@
 //! Answers to heads of requests (RFC 7480, 5).
 ghost use Rattle.std.specs.Prelude.{◌≡◌, IfOk, option_map};
-ghost use Rattle.rdap.specs.Answering.{Faces, IsAnswer, answer_text, domain_answer, nameserver_answer, told, without_object};
+ghost use Rattle.rdap.specs.Answering.{Faces, IsAnswer, MayLeave, answer_text, domain_answer, nameserver_answer, told, without_object};
 ghost use Rattle.rdap.specs.Bodies.{contact_text, domain_text, nameserver_text};
 ghost use Rattle.names.specs.Names.{domain_of, host_of};
 
@@ -18,13 +18,14 @@ use policy::Policy;
 use std::alloc::{AllocError, Global};
 
 /// Answers the head that the bytes begin with. Bytes that begin with none are a bad request, also
-/// where they are cut.
+/// where they are cut. At most one look-up is made.
 pub fn answer<F: FaceSource>(
     alloc: Global,
     head: &[u8],
     source: &mut F,
 ) -> Result<Vec<u8>, F::Fault>
-    ensures { IfOk result (λ bytes. (faces : Faces) → F.shows source.new faces → IsAnswer (F.rules source.old) faces head.now bytes.items) }
+    ensures answer { IfOk result (λ bytes. (faces : Faces) → F.shows source.new faces → IsAnswer (F.rules source.old) faces head.now bytes.items) }
+    ensures left { MayLeave F.leaves source.old source.new }
 {
     match read_head(head) {
         Reading::Whole(asked) => {
@@ -41,7 +42,8 @@ fn answer_request<F: FaceSource>(
     request: Request,
     source: &mut F,
 ) -> Result<Vec<u8>, F::Fault>
-    ensures { IfOk result (λ bytes. (faces : Faces) → F.shows source.new faces → bytes.items ≡ answer_text (F.rules source.old) faces request) }
+    ensures answer { IfOk result (λ bytes. (faces : Faces) → F.shows source.new faces → bytes.items ≡ answer_text (F.rules source.old) faces request) }
+    ensures left { MayLeave F.leaves source.old source.new }
 {
     match request {
         Request::Domain(name) => answer_domain(alloc, &name, source),
@@ -57,7 +59,8 @@ fn answer_domain<F: FaceSource>(
     name: &Text,
     source: &mut F,
 ) -> Result<Vec<u8>, F::Fault>
-    ensures { IfOk result (λ bytes. (faces : Faces) → F.shows source.new faces → bytes.items ≡ domain_answer (F.rules source.old) faces (domain_of (F.rules source.old).zone name.now)) }
+    ensures answer { IfOk result (λ bytes. (faces : Faces) → F.shows source.new faces → bytes.items ≡ domain_answer (F.rules source.old) faces (domain_of (F.rules source.old).zone name.now)) }
+    ensures left { MayLeave F.leaves source.old source.new }
 {
     match DomainName::read(alloc, name.as_str(), source.policy().zone()) {
         Ok(name) => {
@@ -99,7 +102,8 @@ fn answer_nameserver<F: FaceSource>(
     name: &Text,
     source: &mut F,
 ) -> Result<Vec<u8>, F::Fault>
-    ensures { IfOk result (λ bytes. (faces : Faces) → F.shows source.new faces → bytes.items ≡ nameserver_answer faces (host_of (F.rules source.old).zone name.now)) }
+    ensures answer { IfOk result (λ bytes. (faces : Faces) → F.shows source.new faces → bytes.items ≡ nameserver_answer faces (host_of (F.rules source.old).zone name.now)) }
+    ensures left { MayLeave F.leaves source.old source.new }
 {
     match HostName::read(alloc, name.as_str(), source.policy().zone()) {
         Ok(name) => {
@@ -129,7 +133,8 @@ fn answer_contact<F: FaceSource>(
     name: &Text,
     source: &mut F,
 ) -> Result<Vec<u8>, F::Fault>
-    ensures { IfOk result (λ bytes. (faces : Faces) → F.shows source.new faces → bytes.items ≡ told (option_map contact_text (faces.contact name.now))) }
+    ensures answer { IfOk result (λ bytes. (faces : Faces) → F.shows source.new faces → bytes.items ≡ told (option_map contact_text (faces.contact name.now))) }
+    ensures left { MayLeave F.leaves source.old source.new }
 {
     let face = source.contact(name)?;
     Ok(contact_told(alloc, &face)?)

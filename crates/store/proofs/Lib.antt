@@ -2,3 +2,4 @@ pub mod LedgerLemmas
 pub mod EditLemmas
 pub mod HeldLemmas
 pub mod QuietLemmas
+mod FaceLemmas

@@ -4,6 +4,7 @@ pub mod DueOrder
 pub mod Ledgers
 pub mod Edits
 pub mod Lookups
+pub mod Faces
 pub mod Contents
 pub mod Plain
 pub mod Quiet

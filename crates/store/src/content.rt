@@ -151,7 +151,7 @@ impl Content {
     }
 
     /// Whether a domain names the contact.
-    fn is_linked_contact(&self, name: &Text) -> bool
+    pub fn is_linked_contact(&self, name: &Text) -> bool
         ensures { result ≡ facts.is_linked_contact (registry_in self.now) name.now }
     {
         self.domains
@@ -243,7 +243,7 @@ impl Content {
     }
 
     /// The graces that run for a domain, and the phase of its deletion.
-    fn standing(&self, policy: &Policy, domain: &Domain) -> Standing
+    pub fn standing(&self, policy: &Policy, domain: &Domain) -> Standing
         ensures { result ≡ standing_of policy.now (registry_in self.now) domain.now }
     {
         let sponsor = self.accounts.ledger(domain.sponsor);
@@ -307,7 +307,7 @@ impl Content {
     }
 
     /// What the domain is of a host's last two labels, as far as its hosts hang on it.
-    fn superordinate(&self, host: &Text) -> Result<Option<Superordinate>, AllocError>
+    pub fn superordinate(&self, host: &Text) -> Result<Option<Superordinate>, AllocError>
         ensures { IfOk result (λ above. above ≡ lookups.superordinate_in (registry_in self.now) host.now) }
     {
         match last_two_labels(self.alloc, host)? {
@@ -329,7 +329,7 @@ impl Content {
     }
 
     /// Whether a domain names the host.
-    fn is_linked_host(&self, name: &Text) -> bool
+    pub fn is_linked_host(&self, name: &Text) -> bool
         ensures { result ≡ facts.is_linked_host (registry_in self.now) name.now }
     {
         self.domains

@@ -6,6 +6,7 @@ mod changing;
 mod content;
 mod due;
 mod edit;
+mod faces;
 mod fault;
 mod gifts;
 mod lapsing;

@@ -23,7 +23,7 @@ use basis::text::Text;
 use calendar::Moment;
 use facts::Facts;
 use model::Object;
-use objects::ObjectKind;
+use objects::{ContactFace, DomainFace, HostFace, ObjectKind};
 use policy::{Policy, Terms};
 use protocol::Command;
 use rules::Change;
@@ -241,6 +241,50 @@ impl Book for PlainBook {
         self.finish_rollback()?;
         match self.content.object_at(kind, name) {
             Ok(object) => Ok(object),
+            Err(error) => self.fail(error),
+        }
+    }
+
+    fn domain_face(
+        &mut self,
+        name: &Text,
+        policy: &Policy,
+    ) -> Result<Option<DomainFace>, BookFault> {
+        self.finish_rollback()?;
+        match self.content.domain_face(name, policy) {
+            Ok(found) => Ok(found),
+            Err(error) => self.fail(error),
+        }
+    }
+
+    fn host_face(&mut self, name: &Text, policy: &Policy) -> Result<Option<HostFace>, BookFault> {
+        self.finish_rollback()?;
+        match self.content.host_face(name, policy) {
+            Ok(found) => Ok(found),
+            Err(error) => self.fail(error),
+        }
+    }
+
+    fn contact_face(&mut self, name: &Text) -> Result<Option<ContactFace>, BookFault> {
+        self.finish_rollback()?;
+        match self.content.contact_face(name) {
+            Ok(found) => Ok(found),
+            Err(error) => self.fail(error),
+        }
+    }
+
+    fn domain_faces(&mut self, policy: &Policy) -> Result<NameMap<DomainFace>, BookFault> {
+        self.finish_rollback()?;
+        match self.content.domain_faces(policy) {
+            Ok(found) => Ok(found),
+            Err(error) => self.fail(error),
+        }
+    }
+
+    fn host_faces(&mut self, policy: &Policy) -> Result<NameMap<HostFace>, BookFault> {
+        self.finish_rollback()?;
+        match self.content.host_faces(policy) {
+            Ok(found) => Ok(found),
             Err(error) => self.fail(error),
         }
     }
