@@ -1,13 +1,11 @@
 -- What becomes of money over many calls.
-use Rattle.std.proofs.Common.{◌≡◌, ◌⊎◌, inl, inr, ℕ, ◌≤◌, List, [], ◌∷◌, ◌++◌, ◌+◌, map, refl, sym, subst, arith, pos, ◌+ℤ◌, ◌≤ℤ◌}
+use Rattle.std.proofs.Common.{◌≡◌, inl, inr, ℕ, ◌≤◌, List, [], ◌∷◌, ◌++◌, ◌+◌, map, sym, subst, arith}
 use Rattle.std.specs.List.{sum_by}
 use Rattle.std.proofs.lemmas.Int.{ints}
 use Rattle.accounts.specs.declared.line.Line.{Line}
-use Rattle.accounts.specs.Lines.{balance}
-use Rattle.policy.specs.Rules.{PolicyRules}
 use Rattle.model.specs.Lapse.{lapsed}
 use Rattle.model.specs.Money.{AccountFollows, IsCovered, IsRefundable, LinesFollow, renewal_cents}
-use Rattle.model.specs.MoneyLaws.{AreCalls, IsCoveredOver, IsRefundableIn, MoneyFollowsOver}
+use Rattle.model.specs.MoneyLaws.{IsCoveredOver, IsRefundableIn, MoneyFollowsOver}
 use Rattle.model.specs.Registry.{Registry, account_of}
 use Rattle.model.proofs.MoneyLemmas.{cents-then, lines-same, lines-then}
 
@@ -26,10 +24,11 @@ module _ (K L M : ℕ → Line → Type 0) (first : (t : ℕ) (l : Line) → K t
 
 pub money-follows-over : MoneyFollowsOver
 money-follows-over p last [] before after same r = (
-    (λ (l : Line). l), [],
-    subst (λ (s : Registry). LinesFollow (IsRefundableIn p r [] before) last (account_of r before).lines (account_of r s).lines (λ (l : Line). l) []) (sym same) (lines-same (IsRefundableIn p r [] before) last (account_of r before).lines),
-    subst (λ (s : Registry). IsCoveredOver (account_of r before).lines (account_of r s).lines []) (sym same) (inr (omega (arith, ints))),
-  )
+  (λ (l : Line). l),
+  [],
+  subst (λ (s : Registry). LinesFollow (IsRefundableIn p r [] before) last (account_of r before).lines (account_of r s).lines (λ (l : Line). l) []) (sym same) (lines-same (IsRefundableIn p r [] before) last (account_of r before).lines),
+  subst (λ (s : Registry). IsCoveredOver (account_of r before).lines (account_of r s).lines []) (sym same) (inr (omega (arith, ints))),
+)
 money-follows-over p last (call ∷ calls) before after are r =
     let one : AccountFollows p r (lapsed p call.0 before) before call.1 = are.1 r in
     let more = money-follows-over p last calls call.1 after are.2 r in

@@ -1,5 +1,5 @@
 -- What becomes of the money of every account follows from the step of a call.
-use Rattle.std.proofs.Common.{◌≡◌, ℕ, ◌≤◌, Result, Ok, Err, IfOk, OnOk, sym, subst}
+use Rattle.std.proofs.Common.{ℕ, ◌≤◌, Result, Ok, Err, IfOk, OnOk, sym, subst}
 use Rattle.policy.specs.Rules.{PolicyRules, IsSound}
 use Rattle.protocol.specs.declared.code.Code.{Code}
 use Rattle.protocol.specs.declared.command.Command.{Command}

@@ -1,18 +1,16 @@
 -- What commands and orders charge and give back.
-use Rattle.std.proofs.Common.{◌≡◌, ◌⊎◌, inl, inr, ℕ, ◌<◌, ◌==◌, nat_lt, Bool, true, false, ◌&&◌, cond, List, [], ◌∷◌, Option, Some, None, option_and_then, option_map, refl, sym, ap, subst, ◌∙◌, arith, eqb-true, ℤ, pos, int_lt, ◌+ℤ◌, ◌-ℤ◌, ◌≤ℤ◌}
+use Rattle.std.proofs.Common.{◌≡◌, ◌⊎◌, inl, inr, ℕ, ◌==◌, nat_lt, Bool, true, false, ◌&&◌, cond, List, [], Option, Some, None, option_and_then, option_map, refl, sym, ap, subst, ◌∙◌, arith, eqb-true, ℤ, pos, int_lt, ◌+ℤ◌, ◌-ℤ◌, ◌≤ℤ◌}
 use Rattle.std.specs.FinMap.{get}
 use Rattle.std.proofs.lemmas.Bool.{and_cases, not-false, or_parts}
 use Rattle.std.proofs.lemmas.Bool.Decides.{nat_tests}
 use Rattle.std.proofs.lemmas.Int.{ints}
 use Rattle.accounts.specs.Account.{with_command, with_serial}
 use Rattle.accounts.specs.declared.line.Line.{Line}
-use Rattle.accounts.specs.declared.line.LineKind.TheVariants as lines
 use Rattle.accounts.specs.Lines.{balance, waits}
 use Rattle.facts.specs.declared.facts.DomainFacts.{DomainFacts}
 use Rattle.facts.specs.declared.facts.Facts.{Facts}
 use Rattle.facts.specs.Facts.{contact_seen, domain_facts, domain_seen, facts, host_seen, lookups}
-use Rattle.lifecycle.specs.Graces.{runs}
-use Rattle.lifecycle.specs.Transfers.{ended, requested}
+use Rattle.lifecycle.specs.Transfers.{ended}
 use Rattle.names.specs.declared.given.GivenName.{GivenName}
 use Rattle.names.specs.GivenName.{name_of}
 use Rattle.objects.specs.declared.contact.Contact.{Contact}
@@ -21,12 +19,11 @@ use Rattle.objects.specs.declared.domain.Domain.{Domain}
 use Rattle.objects.specs.declared.domain.DomainFace.{DomainFace}
 use Rattle.objects.specs.declared.domain.FullDomain.{FullDomain}
 use Rattle.objects.specs.declared.host.Host.{Host}
-use Rattle.objects.specs.declared.roid.ObjectKind.TheVariants as kinds
 use Rattle.objects.specs.declared.sight.Seen.{Seen}
 use Rattle.objects.specs.declared.sight.Seen.TheVariants.{Full, TransferParty, Public}
 use Rattle.objects.specs.declared.transfer.Transfer.{Transfer}
 use Rattle.objects.specs.declared.transfer.TransferState.{TransferState}
-use Rattle.objects.specs.declared.transfer.TransferState.TheVariants.{ClientApproved, ClientRejected, ClientCancelled}
+use Rattle.objects.specs.declared.transfer.TransferState.TheVariants.{ClientRejected, ClientCancelled}
 use Rattle.policy.specs.Rules.{PolicyRules, place_of}
 use Rattle.protocol.specs.declared.command.Command.{Command}
 use Rattle.protocol.specs.declared.command.Command.TheVariants.{Asked, Bad}
@@ -42,7 +39,6 @@ use Rattle.protocol.specs.declared.order.StatusOrder.{StatusOrder}
 use Rattle.protocol.specs.declared.transfer.TransferOp.{TransferOp}
 use Rattle.protocol.specs.declared.transfer.TransferOp.TheVariants as ops
 use Rattle.protocol.specs.Codes.{is_accepted}
-use Rattle.protocol.specs.Requests.{asks_of}
 use Rattle.verdict.specs.declared.rules.Condition.TheVariants as conditions
 use Rattle.verdict.specs.Charges.{charge_of}
 use Rattle.verdict.specs.Conditions.{domain_sponsor, is_anothers}
@@ -59,12 +55,11 @@ use Rattle.model.specs.Registry.{Registry, account_of}
 use Rattle.model.specs.View.{domain_sight}
 use Rattle.model.proofs.MoneyChangeLemmas.{in-grace, turned-down}
 use Rattle.rules.specs.declared.change.Change.{Change}
-use Rattle.rules.specs.declared.change.Change.TheVariants.{PutDomain, Give}
-use Rattle.rules.specs.Changes.{changed, changed_all, with_account}
+use Rattle.rules.specs.Changes.{changed_all, with_account}
 use Rattle.rules.specs.Decisions.{changes_after, changes_of, contact_changes, deletion_at, deletion_changes, domain_changes, ending, host_changes, renaming, renewal_changes, report_changes, restore_changes, updated_host}
 use Rattle.rules.specs.Orders.{cents_of, deposited, deposited_to, order_changes, order_decision, put_ordered}
 use Rattle.rules.specs.Steps.{decision}
-use Rattle.rules.specs.Transfers.{contact_transfer_changes, domain_transfer_changes, domain_transferred_if, domain_with_transfer}
+use Rattle.rules.specs.Transfers.{domain_transfer_changes, domain_transferred_if, domain_with_transfer}
 use Rattle.rules.proofs.AcceptedLemmas.{where-accepted}
 use Rattle.rules.proofs.CommandLemmas.{at-itself, domain-full}
 use Rattle.rules.proofs.LineKeepingLemmas.{lines-stay}

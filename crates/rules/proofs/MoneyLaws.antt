@@ -1,18 +1,15 @@
 -- What becomes of the money of every account in a step of the rules, and as time passes.
-use Rattle.std.proofs.Common.{◌≡◌, ℕ, ◌≤◌, max, sym, subst, ◌∙◌, arith, List}
+use Rattle.std.proofs.Common.{◌≡◌, ℕ, ◌≤◌, max, sym, subst, arith}
 use Rattle.accounts.specs.declared.line.Line.{Line}
-use Rattle.accounts.specs.Account.{with_command}
 use Rattle.policy.specs.Rules.{PolicyRules, IsSound}
 use Rattle.protocol.specs.declared.command.Command.{Command}
 use Rattle.protocol.specs.declared.order.Order.{Order}
-use Rattle.model.specs.Lapse.{lapse, lapsed, now}
+use Rattle.model.specs.Lapse.{lapsed, now}
 use Rattle.model.specs.Money.{IsRefundable, MoneyFollows}
 use Rattle.model.specs.Registry.{Registry, account_of}
 use Rattle.model.specs.WellFormed.{IsRegistry, last_clock}
 use Rattle.model.proofs.LapseLaws.{lapsed-is-settled, lapses-on, settled-is-now}
 use Rattle.model.proofs.MoneyChangeLemmas.{Ages, Follows, ages-follow}
-use Rattle.rules.specs.declared.change.Change.TheVariants.{Give}
-use Rattle.lifecycle.specs.declared.change.AccountChange.TheVariants.{CountCommand}
 use Rattle.rules.specs.Orders.{order_decision, order_effect}
 use Rattle.rules.specs.Steps.{decision, effect}
 use Rattle.rules.proofs.MoneyChangesLemmas.{changes-follow}

@@ -1,5 +1,5 @@
 -- Time alone charges an account for automatic renewals, and begins the graces of its transfers.
-use Rattle.std.proofs.Common.{◌≡◌, ℕ, zero, suc, nat_lt, Bool, true, false, cond, List, [], ◌∷◌, ◌++◌, Option, Some, None, refl}
+use Rattle.std.proofs.Common.{◌≡◌, ℕ, zero, suc, nat_lt, Bool, true, false, cond, List, [], ◌++◌, Option, Some, None, refl}
 use Rattle.accounts.specs.declared.line.Line.{Line}
 use Rattle.accounts.specs.declared.line.TransferStart.{TransferStart}
 use Rattle.accounts.specs.Lines.{transfer_started}
