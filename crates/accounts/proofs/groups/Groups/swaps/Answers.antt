@@ -26,8 +26,8 @@ returns-in-Some g c =
     let key = c.key_of.ensures ∙ ap (λ (roid : Roid). roid_numbers (Some roid)) c.domain.ensures in
     if-ok c.swaps_of.result
     (λ swaps made.
-        ap (swapped_all swaps.items) (sym c.self.view_is)
-        ∙ swaps-found (g.C.LineChange.domain c.args.change.now) change (g.met.C.LineChange.elsewhere c.args.change.now) c.key_of.result c.self.inside.groups.entries c.in-Some.group.now swaps.items
-        c.self.invariant key c.in-Some.ensures.value (made ∙ ap (swaps_of change) (c.deref.ensures.value ∙ c.group.view_is))
-        ∙ ap (remade in_order change) c.self.view_is)
+    ap (swapped_all swaps.items) (sym c.self.view_is)
+    ∙ swaps-found (g.C.LineChange.domain c.args.change.now) change (g.met.C.LineChange.elsewhere c.args.change.now) c.key_of.result c.self.inside.groups.entries c.in-Some.group.now swaps.items
+    c.self.invariant key c.in-Some.ensures.value (made ∙ ap (swaps_of change) (c.deref.ensures.value ∙ c.group.view_is))
+    ∙ ap (remade in_order change) c.self.view_is)
     c.swaps_of.ensures
