@@ -1,5 +1,6 @@
 pub mod Faults
 pub mod Lapsing
 pub mod Execution
+pub mod Faces
 pub mod Opening
 pub mod WellFormed
