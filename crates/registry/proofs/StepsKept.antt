@@ -2,6 +2,7 @@
 use Rattle.std.proofs.Common.{◌≡◌, ℕ, ◌≤◌, max, Result, Ok, Err, IfOk, OnOk, sym, subst, arith}
 use Rattle.policy.specs.Rules.{PolicyRules, IsRegistrar, IsSound}
 use Rattle.registry.specs.Execution.{IsGreetingStep, IsOrderStep, IsSettlement, IsStep}
+use Rattle.registry.specs.Faces.{IsLookUp}
 use Rattle.registry.specs.WellFormed.{KeepsWellFormed, StaysWellFormed}
 use Rattle.rules.specs.Orders.{order_effect}
 use Rattle.rules.specs.Steps.{effect}
@@ -45,3 +46,8 @@ pub kept_settlement : {E : Type 0} (result : Result ℕ E) (clean : Type 0) (p :
     → IfOk result (λ done. clean → IsSettlement p moment at_most before after done) → OnOk result (clean → KeepsWellFormed p before after)
 kept_settlement (Ok done) clean p moment at_most early before after step = λ taken is. subst (IsRegistry p) (sym (step taken).unnoticed) (registry-lapsed p moment before early is)
 kept_settlement (Err e) clean p moment at_most early before after step = tt
+
+pub kept_look_up : {X E : Type 0} (result : Result X E) (clean : Type 0) (find : Registry → X) (p : PolicyRules) (moment : ℕ) → moment ≤ last_clock → (before after : Registry)
+    → IfOk result (λ found. clean → IsLookUp p find moment before after found) → OnOk result (clean → KeepsWellFormed p before after)
+kept_look_up (Ok found) clean find p moment early before after step = λ taken is. subst (IsRegistry p) (sym (step taken).left) (registry-now p (lapsed p moment before) (registry-lapsed p moment before early is))
+kept_look_up (Err e) clean find p moment early before after step = tt

@@ -1,6 +1,7 @@
 pub mod Faults
 pub mod Lapsing
 pub mod Execution
+pub mod Faces
 pub mod Opening
 pub mod WellFormed
 pub mod Money

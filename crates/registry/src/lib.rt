@@ -3,6 +3,7 @@
 //! clause `isolation` of [`Registry::execute`].
 #![tactic(auto)]
 
+mod faces;
 mod fault;
 mod greeting;
 mod lapse;
@@ -12,5 +13,6 @@ mod registry;
 mod settlement;
 mod transaction;
 
+pub use faces::ZoneFaces;
 pub use fault::{Fault, OpenFault};
 pub use registry::Registry;

@@ -7,15 +7,18 @@ ghost use Rattle.basis.specs.Sets.{names_code};
 ghost use Rattle.policy.specs.Rules.{IsRegistrar, IsSound};
 ghost use Rattle.policy.specs.Terms.{terms_of};
 ghost use Rattle.registry.specs.Execution.{Fails, GoesBack, Greets, IsPrepared, Isolates, Keeps, OrderSteps, SameTerms, Settles, Steps, last_call};
+ghost use Rattle.registry.specs.Faces.{LooksUp, zone_faces_of};
 ghost use Rattle.registry.specs.Money.{BookKeepsMoney, BookSpendsMoney};
 ghost use Rattle.registry.specs.Opening.{Opens, Refuses};
 ghost use Rattle.registry.specs.WellFormed.{BookCanBeReopened, BookKeepsWellFormed, BookStaysWellFormed, OpensWellFormed};
 ghost use Rattle.rules.specs.Steps.{reply_of};
 ghost use Rattle.store.specs.Book.{Follows, IsSame, with_changes};
+ghost use Rattle.store.specs.Faces.{contact_face_at, domain_face_at, host_face_at};
 ghost use Rattle.facts.specs.Facts.{facts};
 ghost use Rattle.verdict.specs.ResponseData.{id_of};
 ghost use Rattle.protocol.specs.Requests.{cl_trid_of};
 
+use crate::faces::{ContactAt, DomainAt, HostAt, LookUp, WholeZone, ZoneFaces, look_up_in};
 use crate::fault::{Fault, OpenFault};
 use crate::greeting::greet_in;
 use crate::opening::open_in;
@@ -27,6 +30,8 @@ use basis::registrar::RegistrarNo;
 use basis::text::{Text, copied};
 use calendar::Moment;
 use facts::Facts;
+use names::{DomainName, HostName};
+use objects::{ContactFace, DomainFace, HostFace};
 use policy::Policy;
 use protocol::{Code, Command, Order, Reply, SvTrid};
 use rules::{Change, decide};
@@ -178,6 +183,102 @@ impl<B: Book + Drop> Registry<B> {
             return Err(Fault::Moment);
         }
         self.settlement(moment, at_most)
+    }
+
+    /// What everyone may know of the domain under a name at a moment; a moment before the clock counts
+    /// as the clock. Time passes as in every call, and nothing else is done.
+    pub fn domain_face(
+        &mut self,
+        name: &DomainName,
+        moment: Moment,
+    ) -> Result<Option<DomainFace>, Fault>
+        ensures step { IfOk result (λ found. LooksUp self.old.policy (λ s. domain_face_at self.old.policy s name.now) moment found (B.state self.old.book) (B.state self.new.book)) }
+        ensures well_formed { OnOk result (BookKeepsWellFormed self.old.policy (B.state self.old.book) (B.state self.new.book)) }
+        ensures terms { OnOk result (SameTerms (B.state self.old.book) (B.state self.new.book)) }
+        ensures reopens { OnOk result (BookCanBeReopened self.old.policy (B.state self.new.book)) }
+        ensures fault { IfErr result (λ fault. Fails fault (B.state self.old.book) (B.state self.new.book)) }
+        ensures late { (result ≡ Err Fault.Moment) ↔ (last_call < moment) }
+        ensures follows { Follows (B.state self.old.book) (B.state self.new.book) }
+        ensures policy { self.new.policy ≡ self.old.policy }
+    {
+        self.look_up(&DomainAt(name.text()), moment)
+    }
+
+    /// The same of the host under a name.
+    pub fn host_face(&mut self, name: &HostName, moment: Moment) -> Result<Option<HostFace>, Fault>
+        ensures step { IfOk result (λ found. LooksUp self.old.policy (λ s. host_face_at self.old.policy s name.now) moment found (B.state self.old.book) (B.state self.new.book)) }
+        ensures well_formed { OnOk result (BookKeepsWellFormed self.old.policy (B.state self.old.book) (B.state self.new.book)) }
+        ensures terms { OnOk result (SameTerms (B.state self.old.book) (B.state self.new.book)) }
+        ensures reopens { OnOk result (BookCanBeReopened self.old.policy (B.state self.new.book)) }
+        ensures fault { IfErr result (λ fault. Fails fault (B.state self.old.book) (B.state self.new.book)) }
+        ensures late { (result ≡ Err Fault.Moment) ↔ (last_call < moment) }
+        ensures follows { Follows (B.state self.old.book) (B.state self.new.book) }
+        ensures policy { self.new.policy ≡ self.old.policy }
+    {
+        self.look_up(&HostAt(name.text()), moment)
+    }
+
+    /// The same of the contact under a name, which shows whether it is linked.
+    pub fn contact_face(
+        &mut self,
+        name: &Text,
+        moment: Moment,
+    ) -> Result<Option<ContactFace>, Fault>
+        ensures step { IfOk result (λ found. LooksUp self.old.policy (λ s. contact_face_at s name.now) moment found (B.state self.old.book) (B.state self.new.book)) }
+        ensures well_formed { OnOk result (BookKeepsWellFormed self.old.policy (B.state self.old.book) (B.state self.new.book)) }
+        ensures terms { OnOk result (SameTerms (B.state self.old.book) (B.state self.new.book)) }
+        ensures reopens { OnOk result (BookCanBeReopened self.old.policy (B.state self.new.book)) }
+        ensures fault { IfErr result (λ fault. Fails fault (B.state self.old.book) (B.state self.new.book)) }
+        ensures late { (result ≡ Err Fault.Moment) ↔ (last_call < moment) }
+        ensures follows { Follows (B.state self.old.book) (B.state self.new.book) }
+        ensures policy { self.new.policy ≡ self.old.policy }
+    {
+        self.look_up(&ContactAt(name), moment)
+    }
+
+    /// The same of all hosts and all domains, with the moment at which they stand so, which is the
+    /// clock.
+    pub fn zone_faces(&mut self, moment: Moment) -> Result<ZoneFaces, Fault>
+        ensures step { IfOk result (λ found. LooksUp self.old.policy (zone_faces_of self.old.policy) moment found (B.state self.old.book) (B.state self.new.book)) }
+        ensures well_formed { OnOk result (BookKeepsWellFormed self.old.policy (B.state self.old.book) (B.state self.new.book)) }
+        ensures terms { OnOk result (SameTerms (B.state self.old.book) (B.state self.new.book)) }
+        ensures reopens { OnOk result (BookCanBeReopened self.old.policy (B.state self.new.book)) }
+        ensures fault { IfErr result (λ fault. Fails fault (B.state self.old.book) (B.state self.new.book)) }
+        ensures late { (result ≡ Err Fault.Moment) ↔ (last_call < moment) }
+        ensures follows { Follows (B.state self.old.book) (B.state self.new.book) }
+        ensures policy { self.new.policy ≡ self.old.policy }
+    {
+        self.look_up(&WholeZone, moment)
+    }
+
+    /// Looks something up at a moment, which every call may do that tells what everyone may know.
+    fn look_up<L: LookUp>(&mut self, what: &L, moment: Moment) -> Result<L::Found, Fault>
+        ensures step { IfOk result (λ found. LooksUp self.old.policy (L.finds what.now self.old.policy) moment found (B.state self.old.book) (B.state self.new.book)) }
+        ensures well_formed { OnOk result (BookKeepsWellFormed self.old.policy (B.state self.old.book) (B.state self.new.book)) }
+        ensures terms { OnOk result (SameTerms (B.state self.old.book) (B.state self.new.book)) }
+        ensures reopens { OnOk result (BookCanBeReopened self.old.policy (B.state self.new.book)) }
+        ensures fault { IfErr result (λ fault. Fails fault (B.state self.old.book) (B.state self.new.book)) }
+        ensures late { (result ≡ Err Fault.Moment) ↔ (last_call < moment) }
+        ensures follows { Follows (B.state self.old.book) (B.state self.new.book) }
+        ensures policy { self.new.policy ≡ self.old.policy }
+    {
+        if is_late(moment) {
+            return Err(Fault::Moment);
+        }
+        self.look_up_step(what, moment)
+    }
+
+    /// Looks something up at a moment, in a transaction.
+    fn look_up_step<L: LookUp>(&mut self, what: &L, moment: Moment) -> Result<L::Found, Fault>
+        ensures step { IfOk result (λ found. LooksUp self.old.policy (L.finds what.now self.old.policy) moment found (B.state self.old.book) (B.state self.new.book)) }
+        ensures fault { IfErr result (λ fault. Fails fault (B.state self.old.book) (B.state self.new.book)) }
+        ensures terms { OnOk result (SameTerms (B.state self.old.book) (B.state self.new.book)) }
+        ensures early { result ≢ Err Fault.Moment }
+        ensures follows { Follows (B.state self.old.book) (B.state self.new.book) }
+        ensures policy { self.new.policy ≡ self.old.policy }
+    {
+        self.book.begin()?;
+        look_up_in(&mut self.book, self.alloc, what, moment, &self.policy)
     }
 
     /// Settles some of what is due.

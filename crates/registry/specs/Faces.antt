@@ -1,0 +1,21 @@
+-- What everyone may know of a registry at a moment.
+use Rattle.std.specs.Prelude.{◌≡◌, ℕ, true}
+use Rattle.model.specs.Lapse.{lapsed, now}
+use Rattle.model.specs.Registry.{Registry}
+use Rattle.policy.specs.Rules.{PolicyRules}
+use Rattle.registry.specs.declared.faces.ZoneFaces.{ZoneFaces}
+use Rattle.store.specs.Book.{BookState}
+use Rattle.store.specs.Faces.{domain_faces, host_faces}
+
+-- of all hosts and all domains, at the registry's clock
+abbrev pub zone_faces_of : PolicyRules → Registry → ZoneFaces
+zone_faces_of p s = record { moment = s.clock; hosts = host_faces p s; domains = domain_faces p s }
+
+-- What is told is what is found in the registry at that moment, and nothing else is done.
+pub record IsLookUp {X : Type 0} (p : PolicyRules) (find : Registry → X) (moment : ℕ) (before after : Registry) (found : X) : Type 0 where
+  pub told : found ≡ find (lapsed p moment before)
+  pub left : now p after ≡ now p (lapsed p moment before)
+
+-- so it is in a book's registry, if nothing wrong was taken from what keeps it
+abbrev pub LooksUp : {X : Type 0} → PolicyRules → (Registry → X) → ℕ → X → BookState → BookState → Type 0
+LooksUp p find moment found old new = new.is_clean ≡ true → IsLookUp p find moment old.content.registry new.content.registry found
