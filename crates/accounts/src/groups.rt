@@ -12,7 +12,7 @@ use std::alloc::{AllocError, Global};
 use std::collections::BTreeMap;
 use std::marker::Model;
 
-/// Lines in the order in which they came.
+/// Lines in an order that says nothing: one that stands for another comes last.
 #[derive(Drop)]
 struct Group {
     lines: Vec<Line>,
@@ -194,7 +194,7 @@ impl Groups {
         }
     }
 
-    /// The lines on a domain, in the order in which they came.
+    /// The lines on a domain, in no order that says anything.
     pub(crate) fn on(&self, roid: &Roid) -> &[Line]
         ensures { bag_of in_order result.now ≡ filter (spec.is_on roid.now) self.now }
     {

@@ -46,7 +46,7 @@ impl Lines {
         }
     }
 
-    /// The lines on a domain, in the order in which they came.
+    /// The lines on a domain, in no order that says anything.
     pub fn on(&self, roid: &Roid) -> &[Line]
         ensures { bag_of in_order result.now ≡ filter (spec.is_on roid.now) self.now }
     {
