@@ -17,7 +17,7 @@ use std::test::Fail;
 use store::PlainBook;
 
 /// A registry that is new.
-fn registry_of(alloc: Global) -> Result<Registry<PlainBook>, Fail> {
+pub(crate) fn registry_of(alloc: Global) -> Result<Registry<PlainBook>, Fail> {
     match Registry::open(alloc, PlainBook::new(alloc), policy_of(alloc, POLICY)?) {
         Ok(registry) => Ok(registry),
         Err(_) => Err(Fail::from("not opened")),

@@ -1,0 +1,70 @@
+//! What everyone may know of a registry, for what no contract says: that look-ups succeed where memory
+//! is ample.
+
+use crate::serving::registry_of;
+use basis::text::Text;
+use calendar::Moment;
+use names::{DomainName, HostName};
+use registry::Registry;
+use std::alloc::Global;
+use std::test::Fail;
+use store::PlainBook;
+
+fn moment() -> Result<Moment, Fail> {
+    let moment = Moment::of_secs(1_861_920_000).map_err(|_| "range")?;
+    Ok(moment)
+}
+
+/// Whether the look-up of a domain that isn't there succeeds.
+fn has_no_domain(alloc: Global, registry: &mut Registry<PlainBook>) -> Result<bool, Fail> {
+    let moment = moment()?;
+    let Ok(name) = DomainName::read(alloc, "foo.test", registry.policy().zone()) else {
+        return Err(Fail::from("no name"));
+    };
+    match registry.domain_face(&name, moment) {
+        Ok(face) => Ok(face.is_none()),
+        Err(_) => Ok(false),
+    }
+}
+
+/// Whether the look-up of a host that isn't there succeeds.
+fn has_no_host(alloc: Global, registry: &mut Registry<PlainBook>) -> Result<bool, Fail> {
+    let moment = moment()?;
+    let Ok(name) = HostName::read(alloc, "ns1.example.net", registry.policy().zone()) else {
+        return Err(Fail::from("no name"));
+    };
+    match registry.host_face(&name, moment) {
+        Ok(face) => Ok(face.is_none()),
+        Err(_) => Ok(false),
+    }
+}
+
+/// Whether the look-up of a contact that isn't there succeeds.
+fn has_no_contact(alloc: Global, registry: &mut Registry<PlainBook>) -> Result<bool, Fail> {
+    let moment = moment()?;
+    let name = Text::from_str(alloc, "c-alfa")?;
+    match registry.contact_face(&name, moment) {
+        Ok(face) => Ok(face.is_none()),
+        Err(_) => Ok(false),
+    }
+}
+
+/// Whether the faces of all hosts and domains are told, as at the moment.
+fn has_an_empty_zone(registry: &mut Registry<PlainBook>) -> Result<bool, Fail> {
+    let moment = moment()?;
+    match registry.zone_faces(moment) {
+        Ok(faces) => Ok(faces.moment.secs() == 1_861_920_000),
+        Err(_) => Ok(false),
+    }
+}
+
+#[test]
+fn of_a_new_registry(rt: HostRuntime) -> Result<(), Fail> {
+    let alloc = rt.alloc();
+    let mut registry = registry_of(alloc)?;
+    assert!(rt; has_no_domain(alloc, &mut registry)?);
+    assert!(rt; has_no_host(alloc, &mut registry)?);
+    assert!(rt; has_no_contact(alloc, &mut registry)?);
+    assert!(rt; has_an_empty_zone(&mut registry)?);
+    Ok(())
+}
