@@ -1,6 +1,6 @@
 """Prints a script of N lines for `tldreg run`.
 
-usage: python3 make_script.py N [checks | renewals | lapse | transfers]
+usage: python3 make_script.py N [checks | renewals | refunds | lapse | transfers]
 
 The first line is the operator's deposit, which pays for all; the second creates the contact that the
 domains name. The other lines are alfa's but where another is named, under examples/policy.toml, each a
@@ -9,6 +9,7 @@ second after the one before:
 checks    (what is printed where nothing else is asked) creates of domains and checks in turn; a check
           asks for the name before it and for one that is free
 renewals  for each domain its create, its renewal by a year, and the balance
+refunds   creates of domains, and then the deletion of each in its add grace, which gives the charge back
 lapse     creates alone; the last line is a check two years later, by when each domain has expired
 transfers a third creates; a hundred days later, a third requests of beta's for one domain after the
           other, and a third alfa's approvals; the third line is a deposit to beta
@@ -52,6 +53,11 @@ def renewals(line, lines):
             {"cmd": "balance"})[(line - 2) % 3]
 
 
+def refunds(line, lines):
+    part, number = divmod(line - 2, (lines - 2) // 2)
+    return create(number) if part == 0 else {"cmd": "delete", "name": name(number), "obj": "domain"}
+
+
 def lapse(line, lines):
     return create(line) if line + 1 < lines else check(line - 1)
 
@@ -64,13 +70,15 @@ def transfers(line, lines):
     return said if part == 1 else {"cmd": "transfer", "name": name(number), "obj": "domain", "op": "approve"}
 
 
-KINDS = {"checks": checks, "renewals": renewals, "lapse": lapse, "transfers": transfers}
+KINDS = {"checks": checks, "renewals": renewals, "refunds": refunds, "lapse": lapse, "transfers": transfers}
 kind = KINDS.get(sys.argv[2] if len(sys.argv) > 2 else "checks")
 if len(sys.argv) not in (2, 3) or not sys.argv[1].isdecimal() or kind is None:
     sys.exit(__doc__)
 lines = int(sys.argv[1])
 if kind is transfers:
     lines -= lines % 3
+if kind is refunds:
+    lines -= lines % 2
 for line in range(lines):
     moment = START + timedelta(seconds=line)
     part = (line - 3) // ((lines - 3) // 3) if kind is transfers else 0

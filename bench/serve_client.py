@@ -1,10 +1,10 @@
-"""Frames a second of `tldreg serve` over loopback, by one client.
+"""Frames and look-ups a second of `tldreg serve` over loopback, by one client.
 
 usage: python3 serve_client.py PORT N
 
 The policy's prices have to be 0, since no deposit can be sent over a connection. Logs in as alfa, creates the contact
 `c-alfa` and N domains, and checks each, once by waiting for each reply and once by writing 1,000 frames before it
-reads their replies. Every command has to be accepted.
+reads their replies. Every command has to be accepted. Then it asks for each domain over HTTP, a connection each.
 """
 import json
 import socket
@@ -46,6 +46,17 @@ def timed(connection, stream, word, payloads, at_once):
     print(f"{word}, {at_once} at once: {len(frames)} frames in {seconds:.3f} s, {len(frames) / seconds:.0f} a second")
 
 
+def look_up(port, names):
+    start = time.perf_counter()
+    for name in names:
+        with socket.create_connection(("127.0.0.1", port)) as connection:
+            connection.sendall(f"GET /domain/{name} HTTP/1.1\r\nHost: x\r\n\r\n".encode())
+            answer = connection.makefile("rb").read()
+        assert answer.startswith(b"HTTP/1.1 200 "), answer
+    seconds = time.perf_counter() - start
+    print(f"domain over HTTP: {len(names)} look-ups in {seconds:.3f} s, {len(names) / seconds:.0f} a second")
+
+
 def main():
     port, count = int(sys.argv[1]), int(sys.argv[2])
     with socket.create_connection(("127.0.0.1", port)) as connection:
@@ -57,6 +68,7 @@ def main():
             names = [f"{word}{number:06}.test" for number in range(count)]
             timed(connection, stream, "create", [create(name) for name in names], at_once)
             timed(connection, stream, "check", [check(name) for name in names], at_once)
+    look_up(port, [f"a{number:06}.test" for number in range(count)])
 
 
 main()

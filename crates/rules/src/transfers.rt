@@ -23,18 +23,35 @@ fn tell(
     registrar: RegistrarNo,
     moment: Moment,
     notice: CommandNotice,
-    name: &Text,
+    name: Text,
     subject: Subject,
-) -> Result<Change, AllocError>
-    ensures { IfOk result (λ change. change ≡ spec.tell registrar moment notice name.now subject) }
+) -> Change
+    ensures { result ≡ spec.tell registrar moment notice name subject }
 {
     let notification = Notification {
         moment,
         notice,
-        name: name.clone()?,
+        name,
         subject,
     };
-    Ok(Change::Give(registrar, AccountChange::Tell(notification)))
+    Change::Give(registrar, AccountChange::Tell(notification))
+}
+
+fn two(alloc: Global, first: Change, second: Change) -> Result<Vec<Change>, AllocError>
+    ensures { IfOk result (λ changes. changes.items ≡ first ∷ second ∷ []) }
+{
+    Ok(vec![in alloc; first, second]?)
+}
+
+fn three(
+    alloc: Global,
+    first: Change,
+    second: Change,
+    third: Change,
+) -> Result<Vec<Change>, AllocError>
+    ensures { IfOk result (λ changes. changes.items ≡ first ∷ second ∷ third ∷ []) }
+{
+    Ok(vec![in alloc; first, second, third]?)
 }
 
 /// The contact's transfer is carried on.
@@ -82,9 +99,10 @@ fn contact_transferred(
         TransferOp::Reject => (after.requester, CommandNotice::TransferRejected),
         TransferOp::Cancel => (after.losing_registrar, CommandNotice::TransferCancelled),
     };
-    let told = tell(registrar, moment, notice, &contact.name, Subject::Contact)?;
+    let name = contact.name.clone()?;
     let contact = contact_after(op, after, contact)?;
-    Ok(vec![in alloc; Change::PutContact(contact), told]?)
+    let told = tell(registrar, moment, notice, name, Subject::Contact);
+    two(alloc, Change::PutContact(contact), told)
 }
 
 fn contact_after(op: TransferOp, after: Transfer, contact: &Contact) -> Result<Contact, AllocError>
@@ -188,16 +206,18 @@ fn domain_requested(
 ) -> Result<Vec<Change>, AllocError>
     ensures { IfOk result (λ changes. changes.items ≡ Change.PutDomain (spec.domain_with_transfer after domain.now) ∷ Change.Give caller (AccountChange.Charge line) ∷ spec.tell after.losing_registrar moment CommandNotice.TransferRequested domain.now.name Subject.Domain ∷ []) }
 {
+    let sponsor = after.losing_registrar;
+    let name = domain.name.clone()?;
+    let put = with_transfer(after, domain.clone()?);
+    let charge = Change::Give(caller, AccountChange::Charge(line));
     let told = tell(
-        after.losing_registrar,
+        sponsor,
         moment,
         CommandNotice::TransferRequested,
-        &domain.name,
+        name,
         Subject::Domain,
-    )?;
-    let put = with_transfer(after, domain)?;
-    let charge = Change::Give(caller, AccountChange::Charge(line));
-    Ok(vec![in alloc; put, charge, told]?)
+    );
+    three(alloc, put, charge, told)
 }
 
 /// The sponsor lets the domain go. Its subordinate hosts have its sponsor.
@@ -209,24 +229,25 @@ fn domain_approved(
 ) -> Result<Vec<Change>, AllocError>
     ensures { IfOk result (λ changes. changes.items ≡ gift (lapses.transfer_start after (lapses.gained domain.now after.ac_date) domain.now) ∷ Change.PutDomain (lapses.handed_over after (lapses.gained domain.now after.ac_date) domain.now) ∷ spec.tell after.requester moment CommandNotice.TransferApproved domain.now.name Subject.Domain ∷ []) }
 {
-    let told = tell(
-        after.requester,
-        moment,
-        CommandNotice::TransferApproved,
-        &domain.name,
-        Subject::Domain,
-    )?;
+    let requester = after.requester;
+    let completed = after.ac_date;
     let start = TransferStart {
         roid: domain.roid,
-        moment: after.ac_date,
-        years: gained(domain, after.ac_date),
+        moment: completed,
+        years: gained(domain, completed),
     };
-    let begun = Change::Give(
-        after.requester,
-        AccountChange::Lapse(LapseEntry::Start(start)),
+    let name = domain.name.clone()?;
+    let domain = domain.clone()?;
+    let begun = Change::Give(requester, AccountChange::Lapse(LapseEntry::Start(start)));
+    let put = Change::PutDomain(hand_over(domain, after));
+    let told = tell(
+        requester,
+        moment,
+        CommandNotice::TransferApproved,
+        name,
+        Subject::Domain,
     );
-    let domain = hand_over(domain.clone()?, after);
-    Ok(vec![in alloc; begun, Change::PutDomain(domain), told]?)
+    three(alloc, begun, put, told)
 }
 
 /// The domain stays, its requester gets its charge back, and a registrar is told.
@@ -240,10 +261,13 @@ fn domain_kept(
 ) -> Result<Vec<Change>, AllocError>
     ensures { IfOk result (λ changes. changes.items ≡ Change.PutDomain (spec.domain_with_transfer after domain.now) ∷ spec.give_back after.requester moment domain.now.roid ∷ spec.tell registrar moment notice domain.now.name Subject.Domain ∷ []) }
 {
-    let told = tell(registrar, moment, notice, &domain.name, Subject::Domain)?;
-    let put = with_transfer(after, domain)?;
-    let back = give_back(after.requester, domain.roid, moment);
-    Ok(vec![in alloc; put, back, told]?)
+    let requester = after.requester;
+    let roid = domain.roid;
+    let name = domain.name.clone()?;
+    let put = with_transfer(after, domain.clone()?);
+    let back = give_back(requester, roid, moment);
+    let told = tell(registrar, moment, notice, name, Subject::Domain);
+    three(alloc, put, back, told)
 }
 
 /// A registrar gets the charge of a transfer back.
@@ -255,10 +279,10 @@ fn give_back(registrar: RegistrarNo, roid: Roid, moment: Moment) -> Change
 }
 
 /// The domain, with this as its last transfer.
-fn with_transfer(after: Transfer, domain: &Domain) -> Result<Change, AllocError>
-    ensures { IfOk result (λ change. change ≡ Change.PutDomain (spec.domain_with_transfer after domain.now)) }
+fn with_transfer(after: Transfer, domain: Domain) -> Change
+    ensures { result ≡ Change.PutDomain (spec.domain_with_transfer after domain) }
 {
-    let mut domain = domain.clone()?;
+    let mut domain = domain;
     domain.transfer = Some(after);
-    Ok(Change::PutDomain(domain))
+    Change::PutDomain(domain)
 }

@@ -26,6 +26,7 @@ Ends-written exits.Memory p before input bs a b c d ends q k = tt
 Ends-written exits.Usage p before input bs a b c d ends q k = absurd ends
 Ends-written (exits.Policy fault) p before input bs a b c d ends q k = absurd ends
 Ends-written (exits.Open fault) p before input bs a b c d ends q k = absurd ends
+Ends-written (exits.Registry fault) p before input bs a b c d ends q k = absurd ends
 Ends-written exits.Database p before input bs a b c d ends q k = absurd ends
 Ends-written exits.Network p before input bs a b c d ends q k = absurd ends
 
@@ -58,6 +59,7 @@ ends_under exits.Memory p input old new ends = ends
 ends_under exits.Usage p input old new ends = ends
 ends_under (exits.Policy fault) p input old new ends = ends
 ends_under (exits.Open fault) p input old new ends = absurd ends
+ends_under (exits.Registry fault) p input old new ends = ends
 ends_under exits.Database p input old new ends = absurd ends
 ends_under exits.Network p input old new ends = absurd ends
 
@@ -76,6 +78,7 @@ by_file exits.Memory policy p input old new read ends = (p, read, ends)
 by_file exits.Usage policy p input old new read ends = absurd ends
 by_file (exits.Policy fault) policy p input old new read ends = absurd ends
 by_file (exits.Open fault) policy p input old new read ends = (p, read, ends)
+by_file (exits.Registry fault) policy p input old new read ends = absurd ends
 by_file exits.Database policy p input old new read ends = absurd ends
 by_file exits.Network policy p input old new read ends = absurd ends
 

@@ -137,6 +137,7 @@ Ends-line exits.Done p lines replies text number before after (Some input) (Some
 Ends-line exits.Usage p lines replies text number before after (Some input) (Some xs) old between new r t h count prints wrote halts = absurd halts
 Ends-line (exits.Policy fault) p lines replies text number before after (Some input) (Some xs) old between new r t h count prints wrote halts = absurd halts
 Ends-line (exits.Open fault) p lines replies text number before after (Some input) (Some xs) old between new r t h count prints wrote halts = absurd halts
+Ends-line (exits.Registry fault) p lines replies text number before after (Some input) (Some xs) old between new r t h count prints wrote halts = absurd halts
 Ends-line exits.Database p lines replies text number before after (Some input) (Some xs) old between new r t h count prints wrote halts = absurd halts
 Ends-line exits.Network p lines replies text number before after (Some input) (Some xs) old between new r t h count prints wrote halts = absurd halts
 Ends-line exits.File p lines replies text number before after (Some input) (Some xs) old between new r t h count prints wrote halts = tt

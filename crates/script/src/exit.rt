@@ -5,7 +5,7 @@ ghost use Rattle.script.specs.declared.exit.Exit.TheVariants as exits;
 ghost use Rattle.script.specs.Exits.{exit_of, result_of, status_of, text_of};
 
 use policy::PolicyFault;
-use registry::OpenFault;
+use registry::{Fault, OpenFault};
 use std::alloc::{AllocError, AllocFailed};
 use std::fmt;
 use std::io::{self, ErrorKind};
@@ -20,6 +20,8 @@ pub enum Exit {
     Policy(PolicyFault),
     /// The book can't be opened.
     Open(OpenFault),
+    /// A call of the registry gave up.
+    Registry(Fault),
     /// The database isn't `:memory:`, the one that there is.
     Database,
     /// No port, or no connection on it.
@@ -64,6 +66,7 @@ impl fmt::Display for Exit {
             Exit::Policy(PolicyFault::Memory) => f.write_str("out of memory"),
             Exit::Policy(fault) => write!(f, "policy: {fault}"),
             Exit::Open(fault) => write!(f, "{fault}"),
+            Exit::Registry(fault) => write!(f, "{fault}"),
             Exit::Database => f.write_str("database: has to be :memory:"),
             Exit::Network => f.write_str("network fault"),
             Exit::Script(line) => write!(f, "script: line {line}"),

@@ -1,5 +1,5 @@
 -- The first byte of a connection, which is read and given back; and its session.
-use Rattle.std.proofs.Common.{◌≡◌, ℕ, zero, suc, ◌+◌, ◌/◌, ◌<◌, Option, Some, None, List, [], ◌∷◌, ◌++◌, length, take, true, refl, sym, ap, ◌∙◌, subst, arith}
+use Rattle.std.proofs.Common.{◌≡◌, ℕ, zero, suc, ◌+◌, ◌/◌, ◌<◌, Option, Some, None, List, [], ◌∷◌, ◌++◌, length, take, Bool, true, false, refl, sym, ap, ◌∙◌, subst, arith}
 use Rattle.std.specs.Prelude.{IfSome}
 use Rattle.std.specs.Fmt.{option_append}
 use Rattle.std.specs.Io.KnownBytes.{Consumes, IsAtEnd}
@@ -9,8 +9,10 @@ use Rattle.sessions.specs.Sessions.{Standing, Session, Writes}
 use Rattle.sessions.specs.declared.session.SessionEnd.{SessionEnd}
 use Rattle.eppframes.specs.Frames.{frame, IsPayload}
 use Rattle.server.specs.Connections.{Agrees, AnswersAt, Desk, FramesBeginConnections, IsServed, Serves, begins_frame}
+use Rattle.server.specs.Http.{AnswersHttp}
 use Rattle.server.specs.declared.connection.ConnectionEnd.{ConnectionEnd}
 use Rattle.server.specs.declared.connection.ConnectionEnd.TheVariants as ends
+use Rattle.server.specs.declared.http.HttpEnd.{HttpEnd}
 use Rattle.server.proofs.PeerLemmas.{session_taken, taken_for}
 use Rattle.store.specs.Book.{BookState}
 
@@ -21,13 +23,13 @@ given_back (Some bytes) None first c = absurd c
 given_back (Some bytes) (Some rest) first c = ap Some (sym c)
 
 -- the one byte that is asked for decides, or the end
-pub decides : (input rest : Option (List ℕ)) (count : ℕ) (buffer : List ℕ) → length buffer ≡ 1 → Consumes input rest (take count buffer) → (count < length buffer → IsAtEnd rest)
-    → begins_frame (take count buffer) ≡ true → IfSome input (λ bytes. begins_frame bytes ≡ true)
-decides None rest count buffer one c end e = tt
-decides (Some bytes) None count buffer one c end e = absurd c
-decides (Some bytes) (Some rest) count [] one c end e = absurd cc
-decides (Some bytes) (Some rest) zero (byte ∷ more) one c end e = rw (c, end (omega arith)) refl
-decides (Some bytes) (Some rest) (suc count) (byte ∷ more) one c end e = rw c e
+pub decides : (is : Bool) (input rest : Option (List ℕ)) (count : ℕ) (buffer : List ℕ) → length buffer ≡ 1 → Consumes input rest (take count buffer) → (count < length buffer → IsAtEnd rest)
+    → begins_frame (take count buffer) ≡ is → IfSome input (λ bytes. begins_frame bytes ≡ is)
+decides is None rest count buffer one c end e = tt
+decides is (Some bytes) None count buffer one c end e = absurd c
+decides is (Some bytes) (Some rest) count [] one c end e = absurd cc
+decides is (Some bytes) (Some rest) zero (byte ∷ more) one c end e = rw (c, end (omega arith)) e
+decides is (Some bytes) (Some rest) (suc count) (byte ∷ more) one c end e = rw c e
 
 -- a session of a peer that answers as a registry does, from when nobody is logged in
 pub served : {S : Type 0} (policy : S → PolicyRules) (desk : S → Desk) (answers : S → ℕ → List ℕ → Outcome → S → Type 0)
@@ -48,6 +50,11 @@ served {S} policy desk answers are p old new before written after end kept start
 pub serves_session : (p : PolicyRules) (input taken clock : Option (List ℕ)) (old : BookState) (before after later : Option (List ℕ)) (new : BookState) (end : ConnectionEnd) → IfSome input (λ bytes. begins_frame bytes ≡ true) → Agrees input taken
     → (how : SessionEnd) × (end ≡ ends.Session how) × Writes before after (λ written. IsServed p taken clock old written later new how) → Serves p input clock old before after later new end
 serves_session p input taken clock old before after later new end begins agrees s = rw s.1 (begins, taken, agrees, s.2)
+
+-- one whose input doesn't
+pub serves_request : (p : PolicyRules) (input taken clock : Option (List ℕ)) (old : BookState) (before after later : Option (List ℕ)) (new : BookState) (end : ConnectionEnd) → IfSome input (λ bytes. begins_frame bytes ≡ false) → Agrees input taken
+    → (how : HttpEnd) × (end ≡ ends.Http how) × AnswersHttp p taken clock old before after later new how → Serves p input clock old before after later new end
+serves_request p input taken clock old before after later new end begins agrees s = rw s.1 (begins, taken, agrees, s.2)
 
 -- ---- frames
 

@@ -1,2 +1,4 @@
 mod ConnectionLemmas
 mod PeerLemmas
+mod HttpLemmas
+mod PublicLemmas

@@ -7,6 +7,7 @@ use Rattle.policy.specs.Rules.{PolicyRules}
 use Rattle.sessions.specs.Outcomes.{Outcome}
 use Rattle.sessions.specs.Sessions.{Session, Writes}
 use Rattle.sessions.specs.declared.session.SessionEnd.{SessionEnd}
+use Rattle.server.specs.Http.{AnswersHttp}
 use Rattle.server.specs.declared.connection.ConnectionEnd.{ConnectionEnd}
 use Rattle.server.specs.declared.connection.ConnectionEnd.TheVariants as ends
 use Rattle.store.specs.Book.{BookState}
@@ -46,10 +47,12 @@ Agrees known input = IfSome known (λ bytes. input ≡ known)
 abbrev pub IsLeft : (before after clock later : Option (List ℕ)) → BookState → BookState → Type 0
 IsLeft before after clock later old new = Appends before after [] × (later ≡ clock) × (new ≡ old)
 
--- A connection: a session of EPP where its input begins as a frame does, and else nothing.
+-- A connection: a session of EPP where its input begins as a frame does, and else a request of HTTP.
 abbrev pub Serves : PolicyRules → (input clock : Option (List ℕ)) → BookState → (before after later : Option (List ℕ)) → BookState → ConnectionEnd → Type 0
 Serves p input clock old before after later new (ends.Session end) =
     IfSome input (λ bytes. begins_frame bytes ≡ true)
     × (taken : Option (List ℕ)) × Agrees input taken × Writes before after (λ written. IsServed p taken clock old written later new end)
-Serves p input clock old before after later new ends.OtherProtocol = IfSome input (λ bytes. begins_frame bytes ≡ false) × IsLeft before after clock later old new
+Serves p input clock old before after later new (ends.Http end) =
+    IfSome input (λ bytes. begins_frame bytes ≡ false)
+    × (taken : Option (List ℕ)) × Agrees input taken × AnswersHttp p taken clock old before after later new end
 Serves p input clock old before after later new ends.Unread = IsLeft before after clock later old new

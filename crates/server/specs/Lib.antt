@@ -1,2 +1,5 @@
 pub mod Clocks
+pub mod Http
 pub mod Connections
+pub mod HandOver
+pub mod Public

@@ -3,9 +3,12 @@ ghost use Rattle.std.specs.Prelude.{◌≡◌};
 ghost use Rattle.sessions.specs.Sessions.{Writes};
 ghost use Rattle.server.specs.Connections as spec;
 ghost use Rattle.server.specs.Connections.{IsServed, Serves};
+ghost use Rattle.server.specs.Http.{AnswersHttp};
 ghost use Rattle.server.specs.declared.connection.ConnectionEnd.TheVariants as ends;
+ghost use Rattle.server.specs.declared.http.HttpEnd.{HttpEnd};
 ghost use Rattle.sessions.specs.declared.session.SessionEnd.{SessionEnd};
 
+use crate::http::{HttpEnd, serve_http};
 use eppframes::Clock;
 use eppsessions::Connection;
 use registry::Registry;
@@ -20,8 +23,8 @@ use streams::{ReadFault, read_to_fill};
 pub enum ConnectionEnd {
     /// It was one of EPP, and its session ended so.
     Session(SessionEnd),
-    /// Its first byte begins no frame of EPP. Nothing was answered.
-    OtherProtocol,
+    /// It was one of HTTP, and ended so.
+    Http(HttpEnd),
     /// Not even its first byte could be read. Nothing was answered.
     Unread,
 }
@@ -36,7 +39,8 @@ pub struct Served<B: Book> {
 }
 
 /// Serves one connection, on which nobody is logged in, up to its end. Its first byte tells the
-/// protocol: a frame of EPP begins with 0, and nothing else is answered.
+/// protocol: a frame of EPP begins with 0, and what begins otherwise is a request of HTTP, which is
+/// answered by what everyone may know of the registry at the clock's moment.
 pub fn serve_one<R: Read, W: Write, C: Clock, B: Book + Drop>(
     alloc: Global,
     reader: &mut R,
@@ -56,10 +60,7 @@ pub fn serve_one<R: Read, W: Write, C: Clock, B: Book + Drop>(
     };
     let first = &first[..count];
     if !begins_frame(first) {
-        return Served {
-            registry,
-            end: ConnectionEnd::OtherProtocol,
-        };
+        return serve_other(alloc, &mut first.chain(reader), writer, clock, registry);
     }
     serve_epp(alloc, &mut first.chain(reader), writer, clock, registry)
 }
@@ -90,5 +91,23 @@ fn serve_epp<R: Read, W: Write, C: Clock, B: Book + Drop>(
     Served {
         registry: connection.into_registry(),
         end: ConnectionEnd::Session(end),
+    }
+}
+
+/// Serves a connection of HTTP.
+fn serve_other<R: Read, W: Write, C: Clock, B: Book + Drop>(
+    alloc: Global,
+    reader: &mut R,
+    writer: &mut W,
+    clock: &mut C,
+    registry: Registry<B>,
+) -> Served<B>
+    ensures served { (end : HttpEnd) × (result.end ≡ ends.Http end) × AnswersHttp registry.policy (R.remaining reader.old) (C.moments clock.old) (B.state registry.book) (W.contents writer.old) (W.contents writer.new) (C.moments clock.new) (B.state result.registry.book) end }
+    ensures policy { result.registry.policy ≡ registry.policy }
+{
+    let served = serve_http(alloc, reader, writer, clock, registry);
+    Served {
+        registry: served.registry,
+        end: ConnectionEnd::Http(served.end),
     }
 }

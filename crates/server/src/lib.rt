@@ -2,15 +2,22 @@
 //! byte tells.
 //!
 //! [`serve_one`] serves one connection, by any reader, writer and clock, and hands the registry back
-//! for the next one. [`serve_each`] serves the connections of a listener, one after the other.
+//! for the next one: a session of EPP, or one request of HTTP. [`serve_each`] serves the connections of
+//! a listener, one after the other. [`zone_on`] writes the zone of a registry.
 #![tactic(auto)]
 
+mod at_moment;
 mod clock;
 mod connection;
+mod http;
 mod laws;
 mod listener;
+mod zone;
 
+pub use at_moment::AtMoment;
 pub use clock::MachineClock;
 pub use connection::{ConnectionEnd, Served, serve_one};
-pub use laws::frames_begin_connections;
+pub use http::HttpEnd;
+pub use laws::{frames_begin_connections, public_texts_agree};
 pub use listener::serve_each;
+pub use zone::{HandOverFault, zone_on};

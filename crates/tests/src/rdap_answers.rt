@@ -1,7 +1,7 @@
-//! Answers and words, by the bytes that are asked for.
+//! Answers and words, by the bytes that are asked for, and heads in every cut.
 
 use objects::{Rgp, Status};
-use rdap::{Outcome, answer_without_object, response, status_words};
+use rdap::{Outcome, Reading, answer_without_object, read_head, response, status_words};
 use std::test::Fail;
 
 const ANSWERS: &[(Outcome, &[u8])] = &[
@@ -66,5 +66,18 @@ fn words(rt: HostRuntime) -> Result<(), Fail> {
             assert!(rt; word.as_str() == *wanted);
         }
     }
+    Ok(())
+}
+
+const WHOLE: &[u8] = b"GET /help HTTP/1.1\r\nHost: x\r\n\r\n";
+
+/// A head that is cut anywhere is told apart from a whole one and from none.
+#[test]
+fn every_cut(rt: HostRuntime) -> Result<(), Fail> {
+    for end in 0..WHOLE.len() {
+        assert!(rt; matches!(read_head(&WHOLE[..end]), Reading::Cut));
+    }
+    assert!(rt; matches!(read_head(WHOLE), Reading::Whole(_)));
+    assert!(rt; matches!(read_head(b"GET /help HTTP/2"), Reading::Bad));
     Ok(())
 }

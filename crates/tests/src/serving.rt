@@ -7,7 +7,7 @@ use crate::frames::whole;
 use calendar::Moment;
 use eppframes::ListClock;
 use registry::Registry;
-use server::{ConnectionEnd, MachineClock, Served, serve_one};
+use server::{ConnectionEnd, HttpEnd, MachineClock, Served, serve_one};
 use sessions::SessionEnd;
 use std::alloc::Global;
 use std::collections::VecDeque;
@@ -128,8 +128,11 @@ fn one_byte_a_read(rt: HostRuntime) -> Result<(), Fail> {
 }
 
 const ENDS: &[(&[u8], usize, ConnectionEnd)] = &[
-    (b"GET / HTTP/1.1\r\n\r\n", 9, ConnectionEnd::OtherProtocol),
-    (b"\x01\0\0\x06{}", 9, ConnectionEnd::OtherProtocol),
+    (
+        b"GET /help HTTP/1.1\r\n\r\n",
+        1,
+        ConnectionEnd::Http(HttpEnd::Unanswered),
+    ),
     (b"", 9, ConnectionEnd::Session(SessionEnd::End)),
     (b"\0", 9, ConnectionEnd::Session(SessionEnd::Cut)),
     (b"\0\0\0\x06{}", 0, ConnectionEnd::Unread),
@@ -140,7 +143,7 @@ const ENDS: &[(&[u8], usize, ConnectionEnd)] = &[
     ),
 ];
 
-/// Nothing is answered where the first byte begins no frame, or no frame is whole.
+/// Nothing is answered where no frame is whole, or a read fails.
 #[test]
 fn ends(rt: HostRuntime) -> Result<(), Fail> {
     let alloc = rt.alloc();

@@ -1,5 +1,6 @@
 //! The command line.
 
+use calendar::Moment;
 use script::Exit;
 use std::env;
 use std::rt::Env;
@@ -17,6 +18,12 @@ pub enum Task {
         database: String,
         port: u16,
     },
+    /// `zone POLICY DB MOMENT`
+    Zone {
+        policy: String,
+        database: String,
+        moment: Moment,
+    },
 }
 
 /// The task of the words behind the program's name.
@@ -33,6 +40,15 @@ pub fn read_task(rt: &(impl Env + AllocGlobal)) -> Result<Task, Exit> {
                 policy,
                 database,
                 port: port_of(port.as_str())?,
+            }
+        }
+        "zone" => {
+            let database = given(words.next())?;
+            let moment = given(words.next())?;
+            Task::Zone {
+                policy,
+                database,
+                moment: moment_of(moment.as_str())?,
             }
         }
         _ => return Err(Exit::Usage),
@@ -56,5 +72,13 @@ fn port_of(word: &str) -> Result<u16, Exit> {
     match word.parse() {
         Ok(0) | Err(_) => Err(Exit::Usage),
         Ok(port) => Ok(port),
+    }
+}
+
+/// A moment's text.
+fn moment_of(word: &str) -> Result<Moment, Exit> {
+    match Moment::read(word) {
+        Some(moment) => Ok(moment),
+        None => Err(Exit::Usage),
     }
 }

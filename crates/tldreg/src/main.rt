@@ -3,11 +3,12 @@
 
 mod command_line;
 
+use calendar::Moment;
 use command_line::{Task, read_task};
 use policy::Policy;
 use registry::Registry;
 use script::{Exit, run_script};
-use server::{MachineClock, serve_each};
+use server::{HandOverFault, MachineClock, serve_each, zone_on};
 use std::alloc::Global;
 use std::net::{Ipv4Addr, Net, TcpListener, TcpStream};
 use std::process::ExitCode;
@@ -15,6 +16,7 @@ use std::rt::{Env, Files};
 use std::time::Clock;
 use std::{fs, io};
 use store::PlainBook;
+use zonefile::ZoneFault;
 
 /// The one database that there is.
 const IN_MEMORY: &str = ":memory:";
@@ -31,6 +33,20 @@ fn registry_of(alloc: Global, policy: &[u8]) -> Result<Registry<PlainBook>, Exit
     }
 }
 
+/// The registry of a database, under the policy of a file.
+fn registry_in(
+    rt: &(impl Files + AllocGlobal),
+    policy: &str,
+    database: &str,
+) -> Result<Registry<PlainBook>, Exit> {
+    let policy = fs::read(rt, policy)?;
+    let registry = registry_of(rt.alloc(), &policy)?;
+    if database != IN_MEMORY {
+        return Err(Exit::Database);
+    }
+    Ok(registry)
+}
+
 /// Answers the script that standard input is.
 fn run(rt: &(impl Files + Input + Print + AllocGlobal), policy: &str) -> Result<(), Exit> {
     let policy = fs::read(rt, policy)?;
@@ -43,16 +59,28 @@ where
     R: Files + Clock + Net<Listener = TcpListener, Stream = TcpStream> + AllocGlobal,
 {
     let alloc = rt.alloc();
-    let policy = fs::read(rt, policy)?;
-    let registry = registry_of(alloc, &policy)?;
-    if database != IN_MEMORY {
-        return Err(Exit::Database);
-    }
+    let registry = registry_in(rt, policy, database)?;
     let Ok(listener) = TcpListener::bind(rt, (Ipv4Addr::LOCALHOST, port)) else {
         return Err(Exit::Network);
     };
     serve_each(alloc, &listener, &mut MachineClock::new(rt), registry);
     Err(Exit::Network)
+}
+
+/// Prints the zone of a database at a moment.
+fn zone(
+    rt: &(impl Files + Print + AllocGlobal),
+    policy: &str,
+    database: &str,
+    moment: Moment,
+) -> Result<(), Exit> {
+    let mut registry = registry_in(rt, policy, database)?;
+    match zone_on(rt.alloc(), &mut registry, moment, &mut io::writer(rt)) {
+        Ok(()) => Ok(()),
+        Err(HandOverFault::Registry(fault)) => Err(Exit::Registry(fault)),
+        Err(HandOverFault::Zone(ZoneFault::Memory)) => Err(Exit::Memory),
+        Err(HandOverFault::Zone(ZoneFault::Write)) => Err(Exit::File),
+    }
 }
 
 fn perform<R>(rt: &R) -> Result<(), Exit>
@@ -72,6 +100,11 @@ where
             database,
             port,
         } => serve(rt, policy.as_str(), database.as_str(), port),
+        Task::Zone {
+            policy,
+            database,
+            moment,
+        } => zone(rt, policy.as_str(), database.as_str(), moment),
     }
 }
 

@@ -1,7 +1,17 @@
-use Rattle.std.proofs.Common.{◌≡◌, Option, List, ℕ, length, take, true, sym, subst, rules}
+use Rattle.std.proofs.Common.{◌≡◌, Option, List, ℕ, length, take, true, false, sym, subst, rules}
 use Rattle.server.specs.Connections.{Agrees, begins_frame}
-use Rattle.server.proofs.ConnectionLemmas.{decides, given_back, serves_session}
+use Rattle.server.proofs.ConnectionLemmas.{decides, given_back, serves_request, serves_session}
 use Rattle.server.proofs.connection.serve_one.Goals as goal
+
+pub returns-then-not-begins_frame-clause-served : goal.returns-then-not-begins_frame-clause-served
+returns-then-not-begins_frame-clause-served g c =
+    let input = g.R.Read.remaining c.args.reader.now in
+    let rest = g.R.Read.remaining c.read_to_fill.new.reader in
+    let buffer = c.read_to_fill.new.buffer in
+    let one : length buffer ≡ 1 = search rules in
+    let is : begins_frame (take c.in-Ok.count buffer) ≡ false = search rules in
+    serves_request _ input _ _ _ _ _ _ _ _ (decides false input rest c.in-Ok.count buffer one c.in-Ok.ensures.bytes c.in-Ok.ensures.end is)
+    (subst (λ (o : Option (List ℕ)). Agrees input o) (sym c.chain.ensures.bytes) (given_back input rest (take c.in-Ok.count buffer) c.in-Ok.ensures.bytes)) c.serve_other.ensures.served
 
 pub returns-clause-served : goal.returns-clause-served
 returns-clause-served g c =
@@ -10,5 +20,5 @@ returns-clause-served g c =
     let buffer = c.read_to_fill.new.buffer in
     let one : length buffer ≡ 1 = search rules in
     let is : begins_frame (take c.in-Ok.count buffer) ≡ true = search rules in
-    serves_session _ input _ _ _ _ _ _ _ _ (decides input rest c.in-Ok.count buffer one c.in-Ok.ensures.bytes c.in-Ok.ensures.end is)
-    (subst (λ (o : Option (List ℕ)). Agrees input o) (sym c.chain.ensures.bytes) (given_back input rest (take c.in-Ok.count buffer) c.in-Ok.ensures.bytes)) c.serve_epp.ensures.served
+    serves_session _ input _ _ _ _ _ _ _ _ (decides true input rest c.in-Ok.count buffer one c.in-Ok.ensures.bytes c.in-Ok.ensures.end is)
+    (subst (λ (o : Option (List ℕ)). Agrees input o) (sym c.chain-2.ensures.bytes) (given_back input rest (take c.in-Ok.count buffer) c.in-Ok.ensures.bytes)) c.serve_epp.ensures.served

@@ -1,0 +1,152 @@
+-- What a look-up leaves of a registry, and what is written to a connection of HTTP.
+use Rattle.std.proofs.Common.{◌≡◌, ◌≤◌, ℕ, max, true, inl, inr, ◌⊎◌, Option, Some, None, List, [], length, take, ◌++◌, Result, Ok, Err, refl, sym, ap, subst, ◌∙◌, le_refl, append-nil, take-take, arith}
+use Rattle.std.proofs.lemmas.List.{take-append-le}
+use Rattle.std.specs.Prelude.{IfOk, IfErr, IfSome, OnOk}
+use Rattle.std.specs.Io.KnownBytes.{Consumes, IsAtEnd}
+use Rattle.eppframes.specs.Clocks.{Tells}
+use Rattle.model.specs.Lapse.{lapse, lapsed, now}
+use Rattle.model.specs.Registry.{Registry}
+use Rattle.model.proofs.LapseLaws.{lapses-on}
+use Rattle.policy.specs.Rules.{PolicyRules}
+use Rattle.rdap.specs.Answering.{Faces, IsAnswer}
+use Rattle.rdap.specs.Heads.{IsDecided}
+use Rattle.rdap.proofs.AnswerLemmas.{stands}
+use Rattle.registry.specs.declared.fault.Fault.{Fault}
+use Rattle.registry.specs.declared.fault.Fault.TheVariants as faults
+use Rattle.registry.specs.Execution.{Fails, IsUnchanged, SameTerms}
+use Rattle.registry.specs.Faces.{LooksUp}
+use Rattle.server.specs.Http.{AnswersHttp, IsAnswered, IsRead, IsWritten, Passes, faces_at, faces_of}
+use Rattle.server.specs.declared.http.HttpEnd.{HttpEnd}
+use Rattle.server.specs.declared.http.HttpEnd.TheVariants as ends
+use Rattle.store.specs.Book.{BookState, Follows, Stored}
+
+-- ---- what a look-up leaves
+
+later : (moment before after : ℕ) → after ≡ max moment before → max moment after ≡ after
+later moment before after e = omega (arith, e)
+
+-- a registry that is now what another was at a moment is at that moment what the other is
+same_then : (p : PolicyRules) (moment : ℕ) (before after : Registry) → now p after ≡ now p (lapsed p moment before) → lapsed p moment after ≡ lapsed p moment before
+same_then p moment before after left =
+    let t : ℕ = max moment before.clock in
+    let clock : after.clock ≡ t = ap (λ (s : Registry). s.clock) left in
+    ap (λ (u : ℕ). lapse p u after) (later moment before.clock after.clock clock) ∙ left ∙ lapses-on p t t (le_refl t) before
+
+-- time that passes up to a moment changes nothing of that moment
+pub at_that_moment : (p : PolicyRules) (moment : ℕ) (old new : BookState) → Passes p moment old new → new.is_clean ≡ true → lapsed p moment new.content.registry ≡ lapsed p moment old.content.registry
+at_that_moment p moment old new passes clean = elim (passes.registry clean) [
+  | inl same ↦ ap (λ (s : Registry). lapsed p moment s) same
+  | inr left ↦ same_then p moment old.content.registry new.content.registry left
+]
+
+unchanged : (fault : Fault) (old new : BookState) → Fails fault old new → IsUnchanged old new
+unchanged faults.Memory old new fails = fails.0
+unchanged faults.Store old new fails = fails.0
+unchanged faults.Moment old new fails = fails.0
+
+pub passes_by : {X : Type 0} (p : PolicyRules) (moment : ℕ) (find : Registry → X) (result : Result X Fault) (old new : BookState) → IfOk result (λ found. LooksUp p find moment found old new) → OnOk result (SameTerms old new)
+    → IfErr result (λ fault. Fails fault old new) → Follows old new → Passes p moment old new
+passes_by p moment find (Ok found) old new step same fails follows = record {
+  registry = λ clean. inr (step clean).left;
+  terms = same;
+  follows = follows;
+}
+passes_by p moment find (Err fault) old new step same fails follows =
+    let kept : IsUnchanged old new = unchanged fault old new fails in
+    record {
+      registry = λ clean. inl (ap (λ (held : Stored). held.registry) (kept.content clean));
+      terms = λ clean. ap (λ (held : Stored). held.terms) (kept.content clean);
+      follows = follows;
+    }
+
+-- where nothing is looked up, nothing passes
+pub stays : (p : PolicyRules) (moment : ℕ) (state : BookState) → Passes p moment state state
+stays p moment state = record {
+  registry = λ clean. inl refl;
+  terms = λ clean. refl;
+  follows = record { clean = λ clean. clean; counted = omega arith };
+}
+
+-- a source that may have been asked once
+pub left_of : {S : Type 0} (policy : S → PolicyRules) (moment : S → ℕ) (state : S → BookState) (old new : S)
+    → (new ≡ old) ⊎ (Passes (policy old) (moment old) (state old) (state new) × (policy new ≡ policy old) × (moment new ≡ moment old))
+    → Passes (policy old) (moment old) (state old) (state new) × (policy new ≡ policy old) × (moment new ≡ moment old)
+left_of policy moment state old new (inl same) =
+    subst (λ s. Passes (policy old) (moment old) (state old) (state s) × (policy s ≡ policy old) × (moment s ≡ moment old)) (sym same) (stays (policy old) (moment old) (state old), refl, refl)
+left_of policy moment state old new (inr left) = left
+
+-- what is found is what the source shows then
+pub shown_by : {X : Type 0} (p q : PolicyRules) (moment : ℕ) (find : PolicyRules → Registry → X) (of : Faces → X) → ((p : PolicyRules) (s : Registry) → of (faces_of p s) ≡ find p s) → (result : Result X Fault) (old new : BookState) → q ≡ p
+    → IfOk result (λ found. LooksUp p (find p) moment found old new)
+    → IfOk result (λ found. (faces : Faces) → (new.is_clean ≡ true) × (faces ≡ faces_at q moment new.content.registry) → found ≡ of faces)
+shown_by p q moment find of is (Ok found) old new same step = λ faces shown.
+    let looked = step shown.0 in
+    looked.told
+    ∙ ap (find p) (sym (same_then p moment old.content.registry new.content.registry looked.left))
+    ∙ ap (λ (r : PolicyRules). find r (lapsed r moment new.content.registry)) (sym same)
+    ∙ sym (is q (lapsed q moment new.content.registry))
+    ∙ ap of (sym shown.1)
+shown_by p q moment find of is (Err fault) old new same step = tt
+
+-- an answer by what the source shows then is one by the faces of the moment
+pub answer_then : (p q : PolicyRules) (moment later : ℕ) (old new : BookState) (head bytes : List ℕ) → q ≡ p → later ≡ moment → Passes p moment old new
+    → ((faces : Faces) → (new.is_clean ≡ true) × (faces ≡ faces_at q later new.content.registry) → IsAnswer p faces head bytes)
+    → new.is_clean ≡ true → IsAnswer p (faces_at p moment old.content.registry) head bytes
+answer_then p q moment later old new head bytes same told passes all clean =
+    let path : faces_at q later new.content.registry ≡ faces_at p moment old.content.registry =
+    (λ i. faces_at (same i) (told i) new.content.registry) ∙ ap (faces_of p) (at_that_moment p moment old new passes clean) in
+    subst (λ (faces : Faces). IsAnswer p faces head bytes) path (all (faces_at q later new.content.registry) (clean, refl))
+
+pub answer_by : {V E : Type 0} (items : V → List ℕ) (p q : PolicyRules) (moment later : ℕ) (old new end : BookState) (head : List ℕ) (result : Result V E) → end ≡ new → q ≡ p → later ≡ moment → Passes p moment old new
+    → IfOk result (λ bytes. (faces : Faces) → (new.is_clean ≡ true) × (faces ≡ faces_at q later new.content.registry) → IsAnswer p faces head (items bytes))
+    → IfOk result (λ bytes. end.is_clean ≡ true → IsAnswer p (faces_at p moment old.content.registry) head (items bytes))
+answer_by items p q moment later old new end head (Ok bytes) left same told passes all = λ clean. answer_then p q moment later old new head (items bytes) same told passes all (subst (λ (b : BookState). b.is_clean ≡ true) left clean)
+answer_by items p q moment later old new end head (Err fault) left same told passes all = tt
+
+-- ---- what was read of an input
+
+-- so much of what a buffer holds
+pub head_of : (n room : ℕ) (read rest : List ℕ) → n ≤ length read → n ≤ room → take n (take room (read ++ rest)) ≡ take n read
+head_of n room read rest fits small = take-take n room (read ++ rest) small ∙ take-append-le n read rest fits
+
+module _ (p : PolicyRules) (clock : Option (List ℕ)) (old : BookState) (later : Option (List ℕ)) (new : BookState) where
+  answered_input : (input rest : Option (List ℕ)) (read answer : List ℕ) → IsRead input rest read → IsAnswered p (Some read) clock old answer later new → IsAnswered p input clock old answer later new
+  answered_input None rest read answer r is = record { moment = is.moment; told = is.told; passes = is.passes; head = is.head; agrees = tt; answer = is.answer }
+  answered_input (Some bytes) None read answer r is = absurd r.bytes
+  answered_input (Some bytes) (Some rest) read answer r is = record {
+    moment = is.moment;
+    told = is.told;
+    passes = is.passes;
+    head = bytes;
+    agrees = refl;
+    answer = λ clean. by (subst (λ (head : List ℕ). IsAnswer p faces head answer) is.agrees (is.answer clean));
+  }
+    where
+      faces : Faces
+      faces = faces_at p is.moment old.content.registry
+
+      by : IsAnswer p faces read answer → IsAnswer p faces bytes answer
+      by told = subst (λ (head : List ℕ). IsAnswer p faces head answer) (sym r.bytes) (elim (r.enough) [
+        | inl decided ↦ stands p faces read rest answer decided told
+        | inr end ↦ subst (λ (head : List ℕ). IsAnswer p faces head answer) (sym (ap (λ (l : List ℕ). read ++ l) end ∙ append-nil read)) told
+      ])
+
+  pub of_input : (input rest : Option (List ℕ)) (read : List ℕ) (before after : Option (List ℕ)) (end : HttpEnd) → IsRead input rest read
+      → AnswersHttp p (Some read) clock old before after later new end → AnswersHttp p input clock old before after later new end
+  of_input input rest read before after ends.Answered r (written, appends, is) = (written, appends, answered_input input rest read written r is)
+  of_input input rest read before after ends.Unanswered r answers = answers
+  of_input input rest read before after ends.WriteFault r (written, appends, (answer, is, n, cut)) = (written, appends, (answer, answered_input input rest read answer r is, n, cut))
+
+-- ---- what is written
+
+-- an answer at one moment of the clock, of which so much is written
+pub answered : {V E : Type 0} (items : V → List ℕ) (p : PolicyRules) (head : List ℕ) (clock : Option (List ℕ)) (old : BookState) (before after next : Option (List ℕ)) (new : BookState) (moment : ℕ) (answer : Result V E) (end : HttpEnd)
+    → Tells clock next moment → Passes p moment old new → IfOk answer (λ bytes. new.is_clean ≡ true → IsAnswer p (faces_at p moment old.content.registry) head (items bytes))
+    → IsWritten items answer before after end → AnswersHttp p (Some head) clock old before after next new end
+answered items p head clock old before after next new moment (Ok bytes) end told passes is (inl whole) =
+    let answer : IsAnswered p (Some head) clock old (items bytes) next new = record { moment = moment; told = told; passes = passes; head = head; agrees = refl; answer = is } in
+    rw whole.0 (items bytes, whole.1, answer)
+answered items p head clock old before after next new moment (Ok bytes) end told passes is (inr begun) =
+    let answer : IsAnswered p (Some head) clock old (items bytes) next new = record { moment = moment; told = told; passes = passes; head = head; agrees = refl; answer = is } in
+    rw begun.0 (take begun.1 (items bytes), begun.2, (items bytes, answer, begun.1, refl))
+answered items p head clock old before after next new moment (Err fault) end told passes is nothing = rw nothing.0 (nothing.1, inr (moment, told, passes))

@@ -1,0 +1,94 @@
+//! The zone of a registry, as an office hands it to its name servers.
+ghost use Rattle.std.specs.Prelude.{◌≡◌, true, OnOk, OnErr};
+ghost use Rattle.std.specs.Io.KnownBytes.{Appends};
+ghost use Rattle.server.specs.HandOver.{serial_of, text_of, zone_at};
+ghost use Rattle.server.specs.Http.{Passes};
+ghost use Rattle.server.specs.declared.zone.HandOverFault.TheVariants as faults;
+ghost use Rattle.zonefile.specs.ZoneText.{AppendsBeginning};
+
+use calendar::Moment;
+use registry::{Fault, Registry, ZoneFaces};
+use std::alloc::Global;
+use std::io::Write;
+use store::Book;
+use thiserror::Error;
+use zonefile::{ZoneFault, write_zone};
+
+/// Why a zone wasn't written to its end.
+#[derive(Clone, Copy, Debug, PartialEq, Eq, Drop, Error)]
+pub enum HandOverFault {
+    /// The registry gave up, and nothing was written.
+    #[error("{0}")]
+    Registry(Fault),
+    /// A beginning was written.
+    #[error("{0}")]
+    Zone(ZoneFault),
+}
+
+impl From<Fault> for HandOverFault {
+    ghost from_gives = { λ fault it. it ≡ faults.Registry fault };
+
+    fn from(fault: Fault) -> HandOverFault {
+        HandOverFault::Registry(fault)
+    }
+}
+
+impl From<ZoneFault> for HandOverFault {
+    ghost from_gives = { λ fault it. it ≡ faults.Zone fault };
+
+    fn from(fault: ZoneFault) -> HandOverFault {
+        HandOverFault::Zone(fault)
+    }
+}
+
+/// Writes the zone of a registry at a moment; a moment before the clock counts as the clock. Its serial
+/// number is the clock then. Nothing is changed but that time passes.
+pub fn zone_on<B: Book + Drop, W: Write>(
+    alloc: Global,
+    registry: &mut Registry<B>,
+    moment: Moment,
+    writer: &mut W,
+) -> Result<(), HandOverFault>
+    ensures written { OnOk result ((B.state registry.new.book).is_clean ≡ true
+        → Appends (W.contents writer.old) (W.contents writer.new) (zone_at registry.old.policy moment (B.state registry.old.book).content.registry)) }
+    ensures begun { OnErr result ((B.state registry.new.book).is_clean ≡ true
+        → AppendsBeginning (W.contents writer.old) (W.contents writer.new) (zone_at registry.old.policy moment (B.state registry.old.book).content.registry)) }
+    ensures passes { Passes registry.old.policy moment (B.state registry.old.book) (B.state registry.new.book) }
+    ensures policy { registry.new.policy ≡ registry.old.policy }
+{
+    let faces = registry.zone_faces(moment)?;
+    write_faces(alloc, &faces, registry, writer)?;
+    Ok(())
+}
+
+/// Writes the zone that these faces make.
+fn write_faces<B: Book + Drop, W: Write>(
+    alloc: Global,
+    faces: &ZoneFaces,
+    registry: &Registry<B>,
+    writer: &mut W,
+) -> Result<(), ZoneFault>
+    ensures ok { OnOk result (Appends (W.contents writer.old) (W.contents writer.new) (text_of registry.now.policy faces.now)) }
+    ensures err { OnErr result (AppendsBeginning (W.contents writer.old) (W.contents writer.new) (text_of registry.now.policy faces.now)) }
+{
+    let serial = serial_of(faces.moment);
+    write_zone(
+        alloc,
+        &faces.hosts,
+        &faces.domains,
+        registry.policy(),
+        serial,
+        writer,
+    )
+}
+
+/// How many serial numbers there are (RFC 1982, 3).
+const SERIALS: u64 = 0x1_0000_0000;
+
+/// The serial number of a zone as it stands at a moment.
+fn serial_of(moment: Moment) -> u32
+    ensures { result ≡ serial_of moment }
+{
+    let secs = moment.secs() as u64;
+    (secs % SERIALS) as u32
+}
