@@ -61,13 +61,13 @@ def main():
     port, count = int(sys.argv[1]), int(sys.argv[2])
     with socket.create_connection(("127.0.0.1", port)) as connection:
         connection.setsockopt(socket.IPPROTO_TCP, socket.TCP_NODELAY, 1)
-        stream = connection.makefile("rb")
-        first = [{"cmd": "login", "id": "alfa", "pw": "pass-alfa", "version": "1.0"}, CONTACT]
-        timed(connection, stream, "login and contact", first, 1)
-        for word, at_once in (("a", 1), ("b", 1000)):
-            names = [f"{word}{number:06}.test" for number in range(count)]
-            timed(connection, stream, "create", [create(name) for name in names], at_once)
-            timed(connection, stream, "check", [check(name) for name in names], at_once)
+        with connection.makefile("rb") as stream:
+            first = [{"cmd": "login", "id": "alfa", "pw": "pass-alfa", "version": "1.0"}, CONTACT]
+            timed(connection, stream, "login and contact", first, 1)
+            for word, at_once in (("a", 1), ("b", 1000)):
+                names = [f"{word}{number:06}.test" for number in range(count)]
+                timed(connection, stream, "create", [create(name) for name in names], at_once)
+                timed(connection, stream, "check", [check(name) for name in names], at_once)
     look_up(port, [f"a{number:06}.test" for number in range(count)])
 
 
