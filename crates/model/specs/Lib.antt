@@ -2,6 +2,7 @@ pub mod Registry
 pub mod Lapse
 pub mod LapseLaws
 pub mod Objects
+pub mod Shapes
 pub mod Standing
 pub mod View
 pub mod WellFormed

@@ -19,6 +19,7 @@ use Rattle.objects.specs.Links.{names_contact, names_host}
 use Rattle.objects.specs.Transfers.{is_pending, is_pending_state}
 use Rattle.policy.specs.Rules.{PolicyRules, IsRegistrar}
 use Rattle.model.specs.Registry.{Registry, account_of}
+use Rattle.model.specs.Shapes.{HasShapes}
 
 -- the ROID of an object of this kind: its creator's own number for it (RFC 5730, 2.8)
 pub record HasRoid (p : PolicyRules) (s : Registry) (kind : ObjectKind) (roid : Roid) : Type 0 where
@@ -175,6 +176,7 @@ pub record IsRegistry (p : PolicyRules) (s : Registry) : Type 0 where
   pub clock : s.clock ≤ last_clock
   pub objects : HasObjects p s
   pub lines : HasLines p s
+  pub shapes : HasShapes s
 
 -- Counters stay at their greatest value, and two objects would then share a ROID: each counter and
 -- list of an account is far below it.

@@ -34,6 +34,7 @@ use Rattle.store.specs.Book.{BookState, Stored}
 use Rattle.model.specs.Lapse.{accounts_at, now, postings}
 use Rattle.model.specs.Registry.{Registry, account_of, blank}
 use Rattle.model.proofs.TermsLemmas.{same-lapse}
+use Rattle.model.specs.Shapes.{HasShapes}
 use Rattle.model.specs.WellFormed.{HasLines, HasObjects, IsLineOf, IsRegistry}
 
 -- ---- the accounts, once those of the first n registrars are open
@@ -121,6 +122,7 @@ kept-opened p q s zone more is =
       clock = is.clock;
       objects = kept-grown q p s (accounts-after n s) s.clock grows places is.objects;
       lines = lines-domains q p s t grows (λ r. ap (λ (a : Account). a.lines) (same-account n r s)) is.lines.domains is.lines;
+      shapes = record { domains = is.shapes.domains; hosts = is.shapes.hosts };
     })
 
 -- ---- what was never opened is the registry of a policy without registrars
@@ -152,8 +154,12 @@ no-lines p = record {
   domains = λ name d at. absurd (nothing-at (slice_cmp nat_cmp) name d at);
 }
 
+-- no object, and so no shape
+no-shapes : HasShapes blank
+no-shapes = record { domains = λ name d at. absurd (nothing-at (slice_cmp nat_cmp) name d at); hosts = λ name h at. absurd (nothing-at (slice_cmp nat_cmp) name h at) }
+
 blank-is : (p : PolicyRules) → IsRegistry (without_registrars p) blank
-blank-is p = record { clock = omega arith; objects = no-objects p; lines = no-lines p }
+blank-is p = record { clock = omega arith; objects = no-objects p; lines = no-lines p; shapes = no-shapes }
 
 -- ---- a book is opened
 

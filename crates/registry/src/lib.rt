@@ -12,6 +12,7 @@ mod order;
 mod registry;
 mod settlement;
 mod transaction;
+mod years;
 
 pub use faces::ZoneFaces;
 pub use fault::{Fault, OpenFault};

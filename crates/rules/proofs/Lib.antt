@@ -1,6 +1,8 @@
 pub mod SightLemmas
 pub mod ViewLemmas
 pub mod NameListLemmas
+pub mod OrderedSetLemmas
+pub mod ExpiryLemmas
 pub mod NamedLemmas
 pub mod GrowthLemmas
 pub mod KeepingLemmas
@@ -23,6 +25,8 @@ pub mod LineTimeLemmas
 pub mod LineKeepingLemmas
 pub mod LineCommandLemmas
 pub mod ClockLemmas
+pub mod ShapeKeepingLemmas
+pub mod ShapeCommandLemmas
 pub mod RegistryLemmas
 pub mod IsolationLemmas
 pub mod LineTransferLemmas

@@ -1,4 +1,4 @@
--- Each step of the rules, and time alone, keep a registry well formed, with its clock, its objects and its lines.
+-- Each step of the rules, and time alone, keep a registry well formed, with its clock, its objects, its lines and its shapes.
 use Rattle.std.proofs.Common.{ℕ, ◌≤◌, ◌<◌, max, subst, arith}
 use Rattle.policy.specs.Rules.{PolicyRules, IsRegistrar, IsSound}
 use Rattle.protocol.specs.declared.command.Command.{Command}
@@ -10,15 +10,18 @@ use Rattle.model.specs.WellFormed.{IsRegistry, last_clock}
 use Rattle.model.proofs.LapseLaws.{lapses-on}
 use Rattle.rules.specs.Orders.{order_effect}
 use Rattle.rules.specs.Steps.{effect}
+use Rattle.rules.specs.Years.{AsksTenYears}
 use Rattle.rules.proofs.ClockLemmas.{clock-effect, clock-order}
 use Rattle.rules.proofs.LapsedLemmas.{kept-lapse}
 use Rattle.rules.proofs.LineCommandLemmas.{lines-effect, lines-order}
 use Rattle.rules.proofs.LineTimeLemmas.{lines-lapse}
 use Rattle.rules.proofs.OrderLemmas.{kept-order}
+use Rattle.rules.proofs.ShapeCommandLemmas.{shapes-effect, shapes-order}
+use Rattle.rules.proofs.ShapeKeepingLemmas.{shapes-lapse}
 use Rattle.rules.proofs.WellFormedLemmas.{kept-effect}
 
 pub registry-lapse : (p : PolicyRules) (t : ℕ) (s : Registry) → s.clock ≤ t → t ≤ last_clock → IsRegistry p s → IsRegistry p (lapse p t s)
-registry-lapse p t s le early is = record { clock = early; objects = kept-lapse p t s le is.objects; lines = lines-lapse p t s le is.objects is.lines }
+registry-lapse p t s le early is = record { clock = early; objects = kept-lapse p t s le is.objects; lines = lines-lapse p t s le is.objects is.lines; shapes = shapes-lapse p t s early is.shapes }
 
 -- what is due by its own clock is done
 pub registry-now : (p : PolicyRules) (s : Registry) → IsRegistry p s → IsRegistry p (now p s)
@@ -30,12 +33,14 @@ registry-lapsed p moment s early is =
     let t : ℕ = max moment s.clock in
     subst (IsRegistry p) (lapses-on p s.clock t (omega arith) s) (registry-lapse p t (now p s) (omega arith) (omega (arith, early, is.clock)) is)
 
--- A registrar's command, where nothing is due, but that a serial at its greatest would be given twice.
-pub registry-effect : (p : PolicyRules) → IsSound p → (r : ℕ) (c : Command) (s : Registry) → IsRegistrar p r → IsRegistry p s → IsSettled p s → (account_of r s).serial < 4_611_686_018_427_387_904 → IsRegistry p (effect p r c s)
-registry-effect p sound r c s place is settled small = record {
+-- A registrar's command, where nothing is due, but that a serial at its greatest would be given twice. It
+-- asks for ten years at most, as its type keeps it.
+pub registry-effect : (p : PolicyRules) → IsSound p → (r : ℕ) (c : Command) (s : Registry) → IsRegistrar p r → IsRegistry p s → IsSettled p s → (account_of r s).serial < 4_611_686_018_427_387_904 → AsksTenYears c → IsRegistry p (effect p r c s)
+registry-effect p sound r c s place is settled small few = record {
   clock = omega (arith, is.clock, clock-effect p sound r c s is);
   objects = kept-effect p r c s place is.objects small;
   lines = lines-effect p sound r c s place is settled small;
+  shapes = shapes-effect p r c s is few;
 }
 
 -- an order of the operator
@@ -44,4 +49,5 @@ registry-order p order s is = record {
   clock = omega (arith, is.clock, clock-order p order s is.lines);
   objects = kept-order p order s is.objects;
   lines = lines-order p order s is.lines;
+  shapes = shapes-order p order s is.shapes;
 }

@@ -1,0 +1,345 @@
+-- Each command and each order keep the shapes of objects.
+use Rattle.std.proofs.Common.{◌≡◌, inl, inr, ℕ, ◌-◌, ◌≤◌, max, nat_lt, Bool, true, false, cond, ◌||◌, List, [], Option, Some, None, IsSome, is_some, option_and_then, option_map, refl, sym, ap, subst, ◌∙◌, arith}
+use Rattle.std.specs.FinMap.{get}
+use Rattle.std.proofs.lemmas.Bool.{or_parts}
+use Rattle.accounts.specs.Account.{with_command}
+use Rattle.calendar.specs.Moment.{plus_years}
+use Rattle.facts.specs.declared.facts.DomainFacts.{DomainFacts}
+use Rattle.facts.specs.declared.facts.Facts.{Facts}
+use Rattle.facts.specs.declared.facts.HostFacts.{HostFacts}
+use Rattle.facts.specs.Facts.{contact_seen, domain_facts, domain_seen, facts, host_facts, host_seen, lookups}
+use Rattle.facts.specs.Lists.{adds_what_is_there, has_twice, itself}
+use Rattle.names.specs.declared.given.GivenName.{GivenName}
+use Rattle.names.specs.GivenName.{name_of}
+use Rattle.objects.specs.declared.contact.Contact.{Contact}
+use Rattle.objects.specs.declared.contact.ContactFace.{ContactFace}
+use Rattle.objects.specs.declared.domain.Domain.{Domain}
+use Rattle.objects.specs.declared.domain.DomainFace.{DomainFace}
+use Rattle.objects.specs.declared.domain.FullDomain.{FullDomain}
+use Rattle.objects.specs.declared.host.Host.{Host}
+use Rattle.objects.specs.declared.roid.ObjectKind.{ObjectKind}
+use Rattle.objects.specs.declared.roid.ObjectKind.TheVariants as kinds
+use Rattle.objects.specs.declared.sight.Seen.{Seen}
+use Rattle.objects.specs.declared.sight.Seen.TheVariants.{Full, TransferParty, Public}
+use Rattle.objects.specs.Links.{has_name}
+use Rattle.policy.specs.Rules.{PolicyRules, place_of}
+use Rattle.protocol.specs.declared.command.Command.{Command}
+use Rattle.protocol.specs.declared.command.Command.TheVariants.{Asked, Bad}
+use Rattle.protocol.specs.declared.command.ContactUpdate.{ContactUpdate}
+use Rattle.protocol.specs.declared.command.DomainUpdate.{DomainUpdate}
+use Rattle.protocol.specs.declared.command.HostUpdate.{HostUpdate}
+use Rattle.protocol.specs.declared.command.NewDomain.{NewDomain}
+use Rattle.protocol.specs.declared.command.NewHost.{NewHost}
+use Rattle.protocol.specs.declared.command.Request.{Request}
+use Rattle.protocol.specs.declared.command.Request.TheVariants as requests
+use Rattle.protocol.specs.declared.order.Order.{Order}
+use Rattle.protocol.specs.declared.order.Order.TheVariants as orders
+use Rattle.protocol.specs.declared.order.StatusOrder.{StatusOrder}
+use Rattle.protocol.specs.declared.transfer.TransferOp.{TransferOp}
+use Rattle.protocol.specs.Codes.{is_accepted}
+use Rattle.protocol.specs.Orders.{name_ordered}
+use Rattle.protocol.specs.Requests.{asks_of, holds_of, of_domain, of_host}
+use Rattle.model.specs.declared.object.Object.TheVariants as objects
+use Rattle.model.specs.Objects.{object_at, object_ordered}
+use Rattle.model.specs.Registry.{Registry}
+use Rattle.model.specs.Shapes.{HasShapes, IsOrderedSet, IsShaped}
+use Rattle.model.specs.View.{domain_sight}
+use Rattle.model.specs.WellFormed.{HasObjects, IsRegistry, last_clock}
+use Rattle.rules.specs.declared.change.Change.{Change}
+use Rattle.rules.specs.Changes.{changed_all, with_account}
+use Rattle.rules.specs.Decisions.{changes_after, changes_of, contact_changes, deletion_at, deletion_changes, domain_changes, ending, host_changes, new_domain, renaming, renewal_changes, report_changes, restore_changes, updated_domain, updated_host}
+use Rattle.rules.specs.Orders.{cents_of, deposited, deposited_to, order_changes, order_decision, order_effect}
+use Rattle.rules.specs.Steps.{effect}
+use Rattle.rules.specs.Transfers.{contact_transfer_changes, domain_transfer_changes}
+use Rattle.rules.specs.Years.{AsksTenYears}
+use Rattle.rules.proofs.AcceptedLemmas.{where-accepted}
+use Rattle.rules.proofs.CommandLemmas.{at-itself, domain-full}
+use Rattle.rules.proofs.ExpiryLemmas.{fewer-end, gained-end, renewed-end, ten-end, turns-end}
+use Rattle.rules.proofs.OrderedSetLemmas.{set-amended, set-in_order, set-texts}
+use Rattle.rules.proofs.ShapeKeepingLemmas.{AllFitShapes, FitsShapes, shapes-changed_all}
+use Rattle.rules.proofs.TransferCases.{contact-cases, domain-cases}
+use Rattle.verdict.specs.declared.rules.Condition.TheVariants as conditions
+use Rattle.verdict.specs.Conditions.{domain_has, domain_in_full, host_has, list_repeats, renewed_expiry}
+use Rattle.verdict.specs.Deletion.{goes_at_once}
+use Rattle.verdict.specs.Orders.{order_code}
+use Rattle.verdict.specs.Rules.{refusal_of}
+use Rattle.verdict.proofs.RowLemmas.{unrefused}
+
+abbrev Sight : Type 0
+Sight = Option (Seen FullDomain DomainFace)
+
+-- ---- objects after an update
+
+-- the lists of an update name nothing twice, and add what isn't there
+shape-updated : (t : ℕ) (u : DomainUpdate) (d : Domain) → list_repeats (of_domain u.add) ≡ false → domain_has (of_domain u.add) d ≡ false → IsShaped d → IsShaped (updated_domain t u d)
+shape-updated t u d once new h =
+    let hosts = or_parts (has_twice name_of u.add.hosts) _ once in
+    let admin = or_parts (has_twice itself u.add.admin) _ hosts.1 in
+    let tech = or_parts (has_twice itself u.add.tech) _ admin.1 in
+    let new_hosts = or_parts (adds_what_is_there name_of d.links.hosts u.add.hosts) _ new in
+    let new_admin = or_parts (adds_what_is_there itself d.links.admin u.add.admin) _ new_hosts.1 in
+    let new_tech = or_parts (adds_what_is_there itself d.links.tech u.add.tech) _ new_admin.1 in
+    record {
+      links = record {
+        admin = set-amended itself d.links.admin u.rem.admin u.add.admin admin.0 new_admin.0 h.links.admin;
+        tech = set-amended itself d.links.tech u.rem.tech u.add.tech tech.0 new_tech.0 h.links.tech;
+        hosts = set-amended name_of d.links.hosts u.rem.hosts u.add.hosts hosts.0 new_hosts.0 h.links.hosts;
+      };
+      expires = h.expires;
+    }
+
+addresses-updated : (u : HostUpdate) (h : Host) → list_repeats (of_host u.add) ≡ false → host_has (of_host u.add) h ≡ false → IsOrderedSet h.addresses → (p : PolicyRules) (r t : ℕ) → IsOrderedSet (updated_host p.zone r t u h).addresses
+addresses-updated u h once new is p r t =
+    let addresses = or_parts (has_twice itself u.add.addresses) _ once in
+    let new_addresses = or_parts (adds_what_is_there itself h.addresses u.add.addresses) _ new in
+    set-amended itself h.addresses u.rem.addresses u.add.addresses addresses.0 new_addresses.0 is
+
+module _ (p : PolicyRules) (r : ℕ) (cl_trid : Option (List ℕ)) (s : Registry) (is : HasObjects p s) (has : HasShapes s) (early : s.clock ≤ last_clock) where
+  -- the registry once the command is counted
+  abbrev counted : Registry
+  counted = with_account r with_command s
+
+  has-counted : HasShapes counted
+  has-counted = record { domains = has.domains; hosts = has.hosts }
+
+  abbrev asking : Request → Command
+  asking q = Asked cl_trid q
+
+  abbrev known : Request → Facts
+  known q = facts p r (asking q) s
+
+  -- what is seen of the domain at a name
+  abbrev IsSeen : List ℕ → Sight → Type 0
+  IsSeen name seen = seen ≡ option_map (domain_sight p r s None) (get s.domains name)
+
+  shape-seen : (name : List ℕ) (full : FullDomain) → IsSeen name (Some (Full full)) → IsShaped full.domain
+  shape-seen name full e = has.domains name full.domain (domain-full p r s None (get s.domains name) full (sym e))
+
+  updated : (u : DomainUpdate) (seen : Sight) → IsSeen (name_of u.name) seen → list_repeats (of_domain u.add) ≡ false → holds_of (domain_has (of_domain u.add)) (option_and_then domain_in_full seen) ≡ false
+      → AllFitShapes p (domain_changes s.clock u seen) counted
+  updated u None e once new = tt
+  updated u (Some (Full full)) e once new = (shape-updated s.clock u full.domain once new (shape-seen (name_of u.name) full e), tt)
+  updated u (Some (TransferParty face transfer)) e once new = tt
+  updated u (Some (Public face)) e once new = tt
+
+  renewed : (q : Request) (f : Facts) (name : List ℕ) (seen : Sight) → IsSeen name seen
+      → holds_of (λ (d : Domain). nat_lt (plus_years s.clock 10) (renewed_expiry (asks_of q).years d)) (option_and_then domain_in_full seen) ≡ false → AllFitShapes p (renewal_changes p r s.clock q f seen) counted
+  renewed q f name None e fits = tt
+  renewed q f name (Some (Full full)) e fits =
+      let d : Domain = full.domain in
+      let h : IsShaped d = shape-seen name full e in
+      (record { links = record { admin = h.links.admin; tech = h.links.tech; hosts = h.links.hosts }; expires = renewed-end s.clock d.created d.years (asks_of q).years early fits h.expires }, (tt, tt))
+  renewed q f name (Some (TransferParty face transfer)) e fits = tt
+  renewed q f name (Some (Public face)) e fits = tt
+
+  restoring : (name : List ℕ) (seen : Sight) → IsSeen name seen → AllFitShapes p (restore_changes s.clock seen) counted
+  restoring name None e = tt
+  restoring name (Some (Full full)) e =
+      let h : IsShaped full.domain = shape-seen name full e in
+      (record { links = record { admin = h.links.admin; tech = h.links.tech; hosts = h.links.hosts }; expires = h.expires }, tt)
+  restoring name (Some (TransferParty face transfer)) e = tt
+  restoring name (Some (Public face)) e = tt
+
+  restored : (q : Request) (f : Facts) (name : List ℕ) (seen : Sight) → IsSeen name seen → AllFitShapes p (report_changes p r s.clock q f seen) counted
+  restored q f name None e = tt
+  restored q f name (Some (Full full)) e =
+      let h : IsShaped full.domain = shape-seen name full e in
+      (record { links = record { admin = h.links.admin; tech = h.links.tech; hosts = h.links.hosts }; expires = turns-end full.domain s.clock early h.expires }, (tt, tt))
+  restored q f name (Some (TransferParty face transfer)) e = tt
+  restored q f name (Some (Public face)) e = tt
+
+  ended : (facts_of : DomainFacts) (d : Domain) → IsShaped d → (at_once : Bool) → FitsShapes (ending at_once s.clock facts_of d) counted
+  ended facts_of d h true = tt
+  ended facts_of d h false = record {
+    links = record { admin = h.links.admin; tech = h.links.tech; hosts = h.links.hosts };
+    expires = fewer-end d.created (d.years - facts_of.given_back.years) d.years (omega arith) h.expires;
+  }
+
+  deleted : (name : List ℕ) (facts_of : DomainFacts) (seen : Sight) → IsSeen name seen → AllFitShapes p (deletion_changes r s.clock facts_of seen) counted
+  deleted name facts_of None e = tt
+  deleted name facts_of (Some (Full full)) e = (ended facts_of full.domain (shape-seen name full e) (goes_at_once (Some (Full full))), (tt, tt))
+  deleted name facts_of (Some (TransferParty face transfer)) e = tt
+  deleted name facts_of (Some (Public face)) e = tt
+
+  contact-updated : (u : ContactUpdate) (seen : Option (Seen Contact ContactFace)) → AllFitShapes p (contact_changes s.clock u seen) counted
+  contact-updated u None = tt
+  contact-updated u (Some (Full c)) = (tt, tt)
+  contact-updated u (Some (TransferParty face transfer)) = tt
+  contact-updated u (Some (Public face)) = tt
+
+  -- ---- hosts
+
+  -- a host at the new name, if there is one
+  abbrev at_new : HostUpdate → Option GivenName → Option Host
+  at_new u given = option_and_then (λ (known : HostFacts). known.host) (option_map (λ (name : GivenName). host_facts (lookups p r (asking (requests.UpdateHost u)) s) (asking (requests.UpdateHost u)) (name_of name)) given)
+
+  -- a name at which no host is, no domain names
+  unnamed : (name : List ℕ) → is_some (get s.hosts name) ≡ false → (n : List ℕ) (d : Domain) → get s.domains n ≡ Some d → has_name d.links.hosts name ≡ false
+  unnamed name free n d at = by (has_name d.links.hosts name) refl
+    where
+      by : (b : Bool) → has_name d.links.hosts name ≡ b → b ≡ false
+      by false e = refl
+      by true e =
+          let there : IsSome (get s.hosts name) = (is.domains n d at).hosts name e in
+          absurd (let never : true ≡ false = sym there ∙ free in cc)
+
+  renamed : (u : HostUpdate) (old : List ℕ) (h : Host) (given : Option GivenName) → is_some (at_new u given) ≡ false → IsOrderedSet h.addresses → AllFitShapes p (renaming old h given) counted
+  renamed u old h None free addresses = (addresses, tt)
+  renamed u old h (Some name) free addresses = (tt, (addresses, (unnamed (name_of name) free, tt)))
+
+  host-updated : (u : HostUpdate) (seen : Option Host) → seen ≡ get s.hosts (name_of u.name) → is_some (at_new u u.new_name) ≡ false → list_repeats (of_host u.add) ≡ false → holds_of (host_has (of_host u.add)) seen ≡ false
+      → AllFitShapes p (host_changes p.zone r s.clock u seen) counted
+  host-updated u None e free once new = tt
+  host-updated u (Some h) e free once new = renamed u (name_of u.name) (updated_host p.zone r s.clock u h) u.new_name free (addresses-updated u h once new (has.hosts (name_of u.name) h (sym e)) p r s.clock)
+
+  -- ---- transfers
+
+  contact-transferred : (name : List ℕ) (op : TransferOp) (secret : Option (List ℕ)) → AllFitShapes p (contact_transfer_changes p r s.clock op (contact_seen (known (requests.TransferContact name op secret)) name)) counted
+  contact-transferred name op secret = contact-cases p r cl_trid s (λ changes. AllFitShapes p changes counted) tt
+      (λ n c at. (tt, (tt, tt)))
+      (λ n c at y e. (tt, (tt, tt)))
+      (λ n c at y e. (tt, (tt, tt)))
+      (λ n c at y e. (tt, (tt, tt)))
+      name secret op
+
+  domain-transferred : (name : GivenName) (op : TransferOp) (secret : Option (List ℕ)) → let q : Request = requests.TransferDomain name op secret in refusal_of p r s.clock q (known q) ≡ None
+      → AllFitShapes p (domain_transfer_changes p r s.clock op q (known q) (domain_seen (known q) (name_of name))) counted
+  domain-transferred name op secret taken = domain-cases p r cl_trid s (λ changes. AllFitShapes p changes counted) tt
+      (λ q f n d at askable. let h = has.domains n d at in (record { links = record { admin = h.links.admin; tech = h.links.tech; hosts = h.links.hosts }; expires = h.expires }, (tt, (tt, tt))))
+      (λ q f n d at y e pending own. let h = has.domains n d at in (tt, (record { links = record { admin = h.links.admin; tech = h.links.tech; hosts = h.links.hosts }; expires = gained-end d s.clock early h.expires }, (tt, tt))))
+      (λ q f n d at y e pending. let h = has.domains n d at in (record { links = record { admin = h.links.admin; tech = h.links.tech; hosts = h.links.hosts }; expires = h.expires }, (tt, (tt, tt))))
+      (λ q f n d at y e pending. let h = has.domains n d at in (record { links = record { admin = h.links.admin; tech = h.links.tech; hosts = h.links.hosts }; expires = h.expires }, (tt, (tt, tt))))
+      name secret op taken
+
+  -- ---- new objects
+
+  -- the lists of a new domain name nothing twice
+  shape-new : (new : NewDomain) (f : Facts) → new.years ≤ 10 → list_repeats (asks_of (requests.CreateDomain new)).adds ≡ false → IsShaped (new_domain r s.clock f new)
+  shape-new new f few once =
+      let hosts = or_parts (has_twice name_of new.hosts) _ once in
+      let admin = or_parts (has_twice itself new.admin) _ hosts.1 in
+      let tech = or_parts (has_twice itself new.tech) _ admin.1 in
+      record {
+        links = record { admin = set-in_order new.admin admin.0; tech = set-in_order new.tech tech.0; hosts = set-texts name_of new.hosts hosts.0 };
+        expires = ten-end s.clock (max 1 new.years) early (omega (arith, few));
+      }
+
+  addresses-new : (new : NewHost) → list_repeats (asks_of (requests.CreateHost new)).adds ≡ false → has_twice itself new.addresses ≡ false
+  addresses-new new once = (or_parts (has_twice itself new.addresses) false once).0
+
+  -- ---- each command
+
+  abbrev IsTaken : Request → Type 0
+  IsTaken q = refusal_of p r s.clock q (known q) ≡ None
+
+  abbrev Fit : Request → Type 0
+  Fit q = AllFitShapes p (changes_of p r s.clock q (known q)) counted
+
+  -- a request whose added lists name nothing twice
+  unrepeated : (q : Request) → (list_repeats (asks_of q).adds || list_repeats (asks_of q).removes) ≡ false → list_repeats (asks_of q).adds ≡ false
+  unrepeated q e = (or_parts (list_repeats (asks_of q).adds) (list_repeats (asks_of q).removes) e).0
+
+  fit-accepted : (q : Request) → (asks_of q).years ≤ 10 → IsTaken q → Fit q
+  unfolding changes_of
+  fit-accepted requests.Logout few taken = tt
+  fit-accepted requests.Balance few taken = tt
+  fit-accepted (requests.CreateContact new) few taken = (tt, (tt, tt))
+  fit-accepted (requests.CreateDomain new) few taken =
+      let q : Request = requests.CreateDomain new in
+      (shape-new new (known q) few (unrepeated q (unrefused p r s.clock q (known q) taken conditions.ListRepeats (search (inl, inr) depth 20))), (tt, (tt, tt)))
+  fit-accepted (requests.CreateHost new) few taken =
+      let q : Request = requests.CreateHost new in
+      (set-in_order new.addresses (addresses-new new (unrepeated q (unrefused p r s.clock q (known q) taken conditions.ListRepeats (search (inl, inr) depth 20)))), (tt, tt))
+  fit-accepted (requests.DeleteContact name) few taken = (tt, tt)
+  fit-accepted (requests.DeleteDomain name) few taken =
+      let c : Command = asking (requests.DeleteDomain name) in
+      let k : DomainFacts = domain_facts (lookups p r c s) c (name_of name) in
+      subst (λ (o : Option DomainFacts). AllFitShapes p (deletion_at r s.clock o) counted) (sym (at-itself (name_of name) k)) (deleted (name_of name) k k.seen refl)
+  fit-accepted (requests.DeleteHost name) few taken = (tt, tt)
+  fit-accepted (requests.UpdateContact u) few taken = contact-updated u (contact_seen (known (requests.UpdateContact u)) u.name)
+  fit-accepted (requests.UpdateDomain u) few taken =
+      let q : Request = requests.UpdateDomain u in
+      updated u (domain_seen (known q) (name_of u.name)) (ap (option_and_then (λ known. known.seen)) (at-itself (name_of u.name) (domain_facts (lookups p r (asking q) s) (asking q) (name_of u.name))))
+      (unrepeated q (unrefused p r s.clock q (known q) taken conditions.ListRepeats (search (inl, inr) depth 20)))
+      (or_parts (holds_of (domain_has (of_domain u.add)) (option_and_then domain_in_full (domain_seen (known q) (name_of u.name)))) false (unrefused p r s.clock q (known q) taken conditions.AddsWhatIsThere (search (inl, inr) depth 20))).0
+  fit-accepted (requests.UpdateHost u) few taken =
+      let q : Request = requests.UpdateHost u in
+      host-updated u (host_seen (known q) (name_of u.name)) (ap (option_and_then (λ known. known.host)) (at-itself (name_of u.name) (host_facts (lookups p r (asking q) s) (asking q) (name_of u.name))))
+      (unrefused p r s.clock q (known q) taken conditions.NewNameIsTaken (search (inl, inr) depth 20))
+      (unrepeated q (unrefused p r s.clock q (known q) taken conditions.ListRepeats (search (inl, inr) depth 20)))
+      (unrefused p r s.clock q (known q) taken conditions.AddsWhatIsThere (search (inl, inr) depth 20))
+  fit-accepted (requests.RenewDomain name expires years) few taken =
+      let q : Request = requests.RenewDomain name expires years in
+      renewed q (known q) (name_of name) (domain_seen (known q) (name_of name)) (ap (option_and_then (λ known. known.seen)) (at-itself (name_of name) (domain_facts (lookups p r (asking q) s) (asking q) (name_of name))))
+      (unrefused p r s.clock q (known q) taken conditions.PassesTenYears (search (inl, inr) depth 20))
+  fit-accepted (requests.RequestRestore name) few taken =
+      let q : Request = requests.RequestRestore name in
+      restoring (name_of name) (domain_seen (known q) (name_of name)) (ap (option_and_then (λ known. known.seen)) (at-itself (name_of name) (domain_facts (lookups p r (asking q) s) (asking q) (name_of name))))
+  fit-accepted (requests.ReportRestore name del_time res_time) few taken =
+      let q : Request = requests.ReportRestore name del_time res_time in
+      restored q (known q) (name_of name) (domain_seen (known q) (name_of name)) (ap (option_and_then (λ known. known.seen)) (at-itself (name_of name) (domain_facts (lookups p r (asking q) s) (asking q) (name_of name))))
+  fit-accepted (requests.TransferContact name op secret) few taken = contact-transferred name op secret
+  fit-accepted (requests.TransferDomain name op secret) few taken = domain-transferred name op secret taken
+  fit-accepted requests.PollRequest few taken = tt
+  fit-accepted (requests.PollAck id) few taken = (tt, tt)
+  fit-accepted (requests.CheckContact names) few taken = tt
+  fit-accepted (requests.CheckDomain names) few taken = tt
+  fit-accepted (requests.CheckHost names) few taken = tt
+  fit-accepted (requests.InfoContact name secret) few taken = tt
+  fit-accepted (requests.InfoDomain name secret) few taken = tt
+  fit-accepted (requests.InfoHost name) few taken = tt
+
+  -- together with the count of the command
+  pub shapes-taken : (q : Request) → (asks_of q).years ≤ 10 → IsTaken q → HasShapes (changed_all p (changes_of p r s.clock q (known q)) counted)
+  shapes-taken q few taken = shapes-changed_all p (changes_of p r s.clock q (known q)) counted (fit-accepted q few taken) has-counted
+
+-- A registrar's command keeps the shapes of objects.
+pub shapes-effect : (p : PolicyRules) (r : ℕ) (c : Command) (s : Registry) → IsRegistry p s → AsksTenYears c → HasShapes (effect p r c s)
+unfolding changes_after
+shapes-effect p r (Bad cl_trid fault) s is few = has-counted p r cl_trid s is.objects is.shapes is.clock
+shapes-effect p r (Asked cl_trid q) s is few =
+    where-accepted p r s.clock q (facts p r (Asked cl_trid q) s) (λ changes. HasShapes (changed_all p changes (with_account r with_command s)))
+    (has-counted p r cl_trid s is.objects is.shapes is.clock) (shapes-taken p r cl_trid s is.objects is.shapes is.clock q few) cl_trid
+
+-- ---- orders
+
+fit-where : (p : PolicyRules) (changes : List Change) (s : Registry) (b : Bool) → AllFitShapes p changes s → AllFitShapes p (cond b changes []) s
+fit-where p changes s true h = h
+fit-where p changes s false h = tt
+
+module _ (p : PolicyRules) (s : Registry) (has : HasShapes s) (o : StatusOrder) where
+  ordered-domain : (name : List ℕ) (found : Option Domain) → get s.domains name ≡ found → AllFitShapes p (order_changes o (option_map objects.Domain found)) s
+  ordered-domain name None at = tt
+  ordered-domain name (Some d) at =
+      let h = has.domains name d at in
+      (record { links = record { admin = h.links.admin; tech = h.links.tech; hosts = h.links.hosts }; expires = h.expires }, tt)
+
+  ordered-contact : (found : Option Contact) → AllFitShapes p (order_changes o (option_map objects.Contact found)) s
+  ordered-contact None = tt
+  ordered-contact (Some c) = (tt, tt)
+
+  ordered-host : (name : List ℕ) (found : Option Host) → get s.hosts name ≡ found → AllFitShapes p (order_changes o (option_map objects.Host found)) s
+  ordered-host name None at = tt
+  ordered-host name (Some h) at = (has.hosts name h at, tt)
+
+  ordered-at : (kind : ObjectKind) (name : Option (List ℕ)) → AllFitShapes p (order_changes o (option_and_then (object_at s kind) name)) s
+  ordered-at kind None = tt
+  ordered-at kinds.Contact (Some name) = ordered-contact (get s.contacts name)
+  ordered-at kinds.Domain (Some name) = ordered-domain name (get s.domains name) refl
+  ordered-at kinds.Host (Some name) = ordered-host name (get s.hosts name) refl
+
+deposited-place : (p : PolicyRules) (s : Registry) (cents : ℕ) (place : Option ℕ) → AllFitShapes p (deposited_to s.clock cents place).changes s
+deposited-place p s cents None = tt
+deposited-place p s cents (Some r) = (tt, tt)
+
+deposited-cents : (p : PolicyRules) (s : Registry) (id : List ℕ) (cents : Option ℕ) → AllFitShapes p (deposited p s.clock id cents).changes s
+deposited-cents p s id None = tt
+deposited-cents p s id (Some cents) = deposited-place p s cents (place_of id p)
+
+fits-order : (p : PolicyRules) (order : Order) (s : Registry) → HasShapes s → AllFitShapes p (order_decision p order s).changes s
+fits-order p (orders.Status o) s has = fit-where p (order_changes o (object_ordered p.zone o s)) s (is_accepted (order_code o (object_ordered p.zone o s))) (ordered-at p s has o o.kind (name_ordered p.zone o))
+fits-order p (orders.Deposit id cents) s has = deposited-cents p s id (cents_of cents)
+
+-- An order of the operator keeps them.
+pub shapes-order : (p : PolicyRules) (order : Order) (s : Registry) → HasShapes s → HasShapes (order_effect p order s)
+shapes-order p order s has = shapes-changed_all p (order_decision p order s).changes s (fits-order p order s has) has
