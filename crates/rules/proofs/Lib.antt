@@ -2,6 +2,7 @@ pub mod SightLemmas
 pub mod ViewLemmas
 pub mod NameListLemmas
 pub mod OrderedSetLemmas
+pub mod LimitLemmas
 pub mod ExpiryLemmas
 pub mod NamedLemmas
 pub mod GrowthLemmas

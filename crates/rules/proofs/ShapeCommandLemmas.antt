@@ -1,5 +1,5 @@
 -- Each command and each order keep the shapes of objects.
-use Rattle.std.proofs.Common.{◌≡◌, inl, inr, ℕ, ◌-◌, ◌≤◌, max, nat_lt, Bool, true, false, cond, ◌||◌, List, [], Option, Some, None, IsSome, is_some, option_and_then, option_map, refl, sym, ap, subst, ◌∙◌, arith}
+use Rattle.std.proofs.Common.{◌≡◌, inl, inr, ℕ, ◌-◌, ◌≤◌, max, nat_lt, Bool, true, false, cond, ◌||◌, List, [], length, Option, Some, None, IsSome, is_some, option_and_then, option_map, refl, sym, ap, subst, ◌∙◌, arith}
 use Rattle.std.specs.FinMap.{get}
 use Rattle.std.proofs.lemmas.Bool.{or_parts}
 use Rattle.accounts.specs.Account.{with_command}
@@ -8,7 +8,7 @@ use Rattle.facts.specs.declared.facts.DomainFacts.{DomainFacts}
 use Rattle.facts.specs.declared.facts.Facts.{Facts}
 use Rattle.facts.specs.declared.facts.HostFacts.{HostFacts}
 use Rattle.facts.specs.Facts.{contact_seen, domain_facts, domain_seen, facts, host_facts, host_seen, lookups}
-use Rattle.facts.specs.Lists.{adds_what_is_there, has_twice, itself}
+use Rattle.facts.specs.Lists.{adds_what_is_there, has_twice, is_over, itself}
 use Rattle.names.specs.declared.given.GivenName.{GivenName}
 use Rattle.names.specs.GivenName.{name_of}
 use Rattle.objects.specs.declared.contact.Contact.{Contact}
@@ -21,7 +21,7 @@ use Rattle.objects.specs.declared.roid.ObjectKind.{ObjectKind}
 use Rattle.objects.specs.declared.roid.ObjectKind.TheVariants as kinds
 use Rattle.objects.specs.declared.sight.Seen.{Seen}
 use Rattle.objects.specs.declared.sight.Seen.TheVariants.{Full, TransferParty, Public}
-use Rattle.objects.specs.Links.{has_name}
+use Rattle.objects.specs.Links.{has_name, in_order}
 use Rattle.policy.specs.Rules.{PolicyRules, place_of}
 use Rattle.protocol.specs.declared.command.Command.{Command}
 use Rattle.protocol.specs.declared.command.Command.TheVariants.{Asked, Bad}
@@ -36,13 +36,14 @@ use Rattle.protocol.specs.declared.order.Order.{Order}
 use Rattle.protocol.specs.declared.order.Order.TheVariants as orders
 use Rattle.protocol.specs.declared.order.StatusOrder.{StatusOrder}
 use Rattle.protocol.specs.declared.transfer.TransferOp.{TransferOp}
+use Rattle.protocol.specs.declared.lists.TheConstants.{MOST_ADDRESSES, MOST_CONTACTS, MOST_HOSTS}
 use Rattle.protocol.specs.Codes.{is_accepted}
 use Rattle.protocol.specs.Orders.{name_ordered}
 use Rattle.protocol.specs.Requests.{asks_of, holds_of, of_domain, of_host}
 use Rattle.model.specs.declared.object.Object.TheVariants as objects
 use Rattle.model.specs.Objects.{object_at, object_ordered}
 use Rattle.model.specs.Registry.{Registry}
-use Rattle.model.specs.Shapes.{HasShapes, IsOrderedSet, IsShaped}
+use Rattle.model.specs.Shapes.{HasShapes, IsSetWithin, IsShaped}
 use Rattle.model.specs.View.{domain_sight}
 use Rattle.model.specs.WellFormed.{HasObjects, IsRegistry, last_clock}
 use Rattle.rules.specs.declared.change.Change.{Change}
@@ -55,11 +56,12 @@ use Rattle.rules.specs.Years.{AsksTenYears}
 use Rattle.rules.proofs.AcceptedLemmas.{where-accepted}
 use Rattle.rules.proofs.CommandLemmas.{at-itself, domain-full}
 use Rattle.rules.proofs.ExpiryLemmas.{fewer-end, gained-end, renewed-end, ten-end, turns-end}
+use Rattle.rules.proofs.LimitLemmas.{within-amended, within-items, within-texts}
 use Rattle.rules.proofs.OrderedSetLemmas.{set-amended, set-in_order, set-texts}
 use Rattle.rules.proofs.ShapeKeepingLemmas.{AllFitShapes, FitsShapes, shapes-changed_all}
 use Rattle.rules.proofs.TransferCases.{contact-cases, domain-cases}
 use Rattle.verdict.specs.declared.rules.Condition.TheVariants as conditions
-use Rattle.verdict.specs.Conditions.{domain_has, domain_in_full, host_has, list_repeats, renewed_expiry}
+use Rattle.verdict.specs.Conditions.{are_too_long, domain_has, domain_in_full, domain_is_over, host_has, host_is_over, leaves_too_many, list_repeats, renewed_expiry}
 use Rattle.verdict.specs.Deletion.{goes_at_once}
 use Rattle.verdict.specs.Orders.{order_code}
 use Rattle.verdict.specs.Rules.{refusal_of}
@@ -70,29 +72,43 @@ Sight = Option (Seen FullDomain DomainFace)
 
 -- ---- objects after an update
 
--- the lists of an update name nothing twice, and add what isn't there
-shape-updated : (t : ℕ) (u : DomainUpdate) (d : Domain) → list_repeats (of_domain u.add) ≡ false → domain_has (of_domain u.add) d ≡ false → IsShaped d → IsShaped (updated_domain t u d)
-shape-updated t u d once new h =
+-- the lists of an update name nothing twice, add what isn't there, and leave no more than may be
+shape-updated : (t : ℕ) (u : DomainUpdate) (d : Domain) → list_repeats (of_domain u.add) ≡ false → domain_has (of_domain u.add) d ≡ false
+    → domain_is_over (of_domain u.rem) (of_domain u.add) d ≡ false → IsShaped d → IsShaped (updated_domain t u d)
+shape-updated t u d once new few h =
     let hosts = or_parts (has_twice name_of u.add.hosts) _ once in
     let admin = or_parts (has_twice itself u.add.admin) _ hosts.1 in
     let tech = or_parts (has_twice itself u.add.tech) _ admin.1 in
     let new_hosts = or_parts (adds_what_is_there name_of d.links.hosts u.add.hosts) _ new in
     let new_admin = or_parts (adds_what_is_there itself d.links.admin u.add.admin) _ new_hosts.1 in
     let new_tech = or_parts (adds_what_is_there itself d.links.tech u.add.tech) _ new_admin.1 in
+    let few_hosts = or_parts (is_over name_of MOST_HOSTS d.links.hosts u.rem.hosts u.add.hosts) _ few in
+    let few_contacts = or_parts (is_over itself MOST_CONTACTS d.links.admin u.rem.admin u.add.admin) _ few_hosts.1 in
     record {
       links = record {
-        admin = set-amended itself d.links.admin u.rem.admin u.add.admin admin.0 new_admin.0 h.links.admin;
-        tech = set-amended itself d.links.tech u.rem.tech u.add.tech tech.0 new_tech.0 h.links.tech;
-        hosts = set-amended name_of d.links.hosts u.rem.hosts u.add.hosts hosts.0 new_hosts.0 h.links.hosts;
+        admin = (set-amended itself d.links.admin u.rem.admin u.add.admin admin.0 new_admin.0 h.links.admin.0, within-amended itself MOST_CONTACTS d.links.admin u.rem.admin u.add.admin few_contacts.0);
+        tech = (set-amended itself d.links.tech u.rem.tech u.add.tech tech.0 new_tech.0 h.links.tech.0, within-amended itself MOST_CONTACTS d.links.tech u.rem.tech u.add.tech few_contacts.1);
+        hosts = (set-amended name_of d.links.hosts u.rem.hosts u.add.hosts hosts.0 new_hosts.0 h.links.hosts.0, within-amended name_of MOST_HOSTS d.links.hosts u.rem.hosts u.add.hosts few_hosts.0);
       };
       expires = h.expires;
     }
 
-addresses-updated : (u : HostUpdate) (h : Host) → list_repeats (of_host u.add) ≡ false → host_has (of_host u.add) h ≡ false → IsOrderedSet h.addresses → (p : PolicyRules) (r t : ℕ) → IsOrderedSet (updated_host p.zone r t u h).addresses
-addresses-updated u h once new is p r t =
+addresses-updated : (u : HostUpdate) (h : Host) → list_repeats (of_host u.add) ≡ false → host_has (of_host u.add) h ≡ false → host_is_over (of_host u.rem) (of_host u.add) h ≡ false
+    → IsSetWithin MOST_ADDRESSES h.addresses → (p : PolicyRules) (r t : ℕ) → IsSetWithin MOST_ADDRESSES (updated_host p.zone r t u h).addresses
+addresses-updated u h once new few is p r t =
     let addresses = or_parts (has_twice itself u.add.addresses) _ once in
     let new_addresses = or_parts (adds_what_is_there itself h.addresses u.add.addresses) _ new in
-    set-amended itself h.addresses u.rem.addresses u.add.addresses addresses.0 new_addresses.0 is
+    (set-amended itself h.addresses u.rem.addresses u.add.addresses addresses.0 new_addresses.0 is.0, within-amended itself MOST_ADDRESSES h.addresses u.rem.addresses u.add.addresses few)
+
+-- what an update leaves of a domain's lists, and of a host's
+domain-fits : (u : DomainUpdate) (seen : Sight) → (are_too_long (of_domain u.add) || (holds_of (domain_is_over (of_domain u.rem) (of_domain u.add)) (option_and_then domain_in_full seen) || false)) ≡ false
+    → holds_of (domain_is_over (of_domain u.rem) (of_domain u.add)) (option_and_then domain_in_full seen) ≡ false
+domain-fits u seen e =
+    let rest = or_parts (are_too_long (of_domain u.add)) _ e in
+    (or_parts (holds_of (domain_is_over (of_domain u.rem) (of_domain u.add)) (option_and_then domain_in_full seen)) false rest.1).0
+
+host-fits : (u : HostUpdate) (seen : Option Host) → (are_too_long (of_host u.add) || holds_of (host_is_over (of_host u.rem) (of_host u.add)) seen) ≡ false → holds_of (host_is_over (of_host u.rem) (of_host u.add)) seen ≡ false
+host-fits u seen e = (or_parts (are_too_long (of_host u.add)) _ e).1
 
 module _ (p : PolicyRules) (r : ℕ) (cl_trid : Option (List ℕ)) (s : Registry) (is : HasObjects p s) (has : HasShapes s) (early : s.clock ≤ last_clock) where
   -- the registry once the command is counted
@@ -116,11 +132,11 @@ module _ (p : PolicyRules) (r : ℕ) (cl_trid : Option (List ℕ)) (s : Registry
   shape-seen name full e = has.domains name full.domain (domain-full p r s None (get s.domains name) full (sym e))
 
   updated : (u : DomainUpdate) (seen : Sight) → IsSeen (name_of u.name) seen → list_repeats (of_domain u.add) ≡ false → holds_of (domain_has (of_domain u.add)) (option_and_then domain_in_full seen) ≡ false
-      → AllFitShapes p (domain_changes s.clock u seen) counted
-  updated u None e once new = tt
-  updated u (Some (Full full)) e once new = (shape-updated s.clock u full.domain once new (shape-seen (name_of u.name) full e), tt)
-  updated u (Some (TransferParty face transfer)) e once new = tt
-  updated u (Some (Public face)) e once new = tt
+      → holds_of (domain_is_over (of_domain u.rem) (of_domain u.add)) (option_and_then domain_in_full seen) ≡ false → AllFitShapes p (domain_changes s.clock u seen) counted
+  updated u None e once new few = tt
+  updated u (Some (Full full)) e once new few = (shape-updated s.clock u full.domain once new few (shape-seen (name_of u.name) full e), tt)
+  updated u (Some (TransferParty face transfer)) e once new few = tt
+  updated u (Some (Public face)) e once new few = tt
 
   renewed : (q : Request) (f : Facts) (name : List ℕ) (seen : Sight) → IsSeen name seen
       → holds_of (λ (d : Domain). nat_lt (plus_years s.clock 10) (renewed_expiry (asks_of q).years d)) (option_and_then domain_in_full seen) ≡ false → AllFitShapes p (renewal_changes p r s.clock q f seen) counted
@@ -183,14 +199,14 @@ module _ (p : PolicyRules) (r : ℕ) (cl_trid : Option (List ℕ)) (s : Registry
           let there : IsSome (get s.hosts name) = (is.domains n d at).hosts name e in
           absurd (let never : true ≡ false = sym there ∙ free in cc)
 
-  renamed : (u : HostUpdate) (old : List ℕ) (h : Host) (given : Option GivenName) → is_some (at_new u given) ≡ false → IsOrderedSet h.addresses → AllFitShapes p (renaming old h given) counted
+  renamed : (u : HostUpdate) (old : List ℕ) (h : Host) (given : Option GivenName) → is_some (at_new u given) ≡ false → IsSetWithin MOST_ADDRESSES h.addresses → AllFitShapes p (renaming old h given) counted
   renamed u old h None free addresses = (addresses, tt)
   renamed u old h (Some name) free addresses = (tt, (addresses, (unnamed (name_of name) free, tt)))
 
   host-updated : (u : HostUpdate) (seen : Option Host) → seen ≡ get s.hosts (name_of u.name) → is_some (at_new u u.new_name) ≡ false → list_repeats (of_host u.add) ≡ false → holds_of (host_has (of_host u.add)) seen ≡ false
-      → AllFitShapes p (host_changes p.zone r s.clock u seen) counted
-  host-updated u None e free once new = tt
-  host-updated u (Some h) e free once new = renamed u (name_of u.name) (updated_host p.zone r s.clock u h) u.new_name free (addresses-updated u h once new (has.hosts (name_of u.name) h (sym e)) p r s.clock)
+      → holds_of (host_is_over (of_host u.rem) (of_host u.add)) seen ≡ false → AllFitShapes p (host_changes p.zone r s.clock u seen) counted
+  host-updated u None e free once new few = tt
+  host-updated u (Some h) e free once new few = renamed u (name_of u.name) (updated_host p.zone r s.clock u h) u.new_name free (addresses-updated u h once new few (has.hosts (name_of u.name) h (sym e)) p r s.clock)
 
   -- ---- transfers
 
@@ -213,19 +229,30 @@ module _ (p : PolicyRules) (r : ℕ) (cl_trid : Option (List ℕ)) (s : Registry
 
   -- ---- new objects
 
-  -- the lists of a new domain name nothing twice
-  shape-new : (new : NewDomain) (f : Facts) → new.years ≤ 10 → list_repeats (asks_of (requests.CreateDomain new)).adds ≡ false → IsShaped (new_domain r s.clock f new)
-  shape-new new f few once =
+  -- the lists of a new domain name nothing twice, and no more than may be
+  shape-new : (new : NewDomain) (f : Facts) → new.years ≤ 10 → list_repeats (asks_of (requests.CreateDomain new)).adds ≡ false → are_too_long (asks_of (requests.CreateDomain new)).adds ≡ false → IsShaped (new_domain r s.clock f new)
+  shape-new new f few once short =
       let hosts = or_parts (has_twice name_of new.hosts) _ once in
       let admin = or_parts (has_twice itself new.admin) _ hosts.1 in
       let tech = or_parts (has_twice itself new.tech) _ admin.1 in
+      let short_hosts = or_parts (nat_lt MOST_HOSTS (length new.hosts)) _ short in
+      let short_admin = or_parts (nat_lt MOST_CONTACTS (length new.admin)) _ short_hosts.1 in
+      let short_tech = or_parts (nat_lt MOST_CONTACTS (length new.tech)) _ short_admin.1 in
       record {
-        links = record { admin = set-in_order new.admin admin.0; tech = set-in_order new.tech tech.0; hosts = set-texts name_of new.hosts hosts.0 };
+        links = record {
+          admin = (set-in_order new.admin admin.0, within-items MOST_CONTACTS new.admin short_admin.0);
+          tech = (set-in_order new.tech tech.0, within-items MOST_CONTACTS new.tech short_tech.0);
+          hosts = (set-texts name_of new.hosts hosts.0, within-texts name_of MOST_HOSTS new.hosts short_hosts.0);
+        };
         expires = ten-end s.clock (max 1 new.years) early (omega (arith, few));
       }
 
-  addresses-new : (new : NewHost) → list_repeats (asks_of (requests.CreateHost new)).adds ≡ false → has_twice itself new.addresses ≡ false
-  addresses-new new once = (or_parts (has_twice itself new.addresses) false once).0
+  addresses-new : (new : NewHost) → list_repeats (asks_of (requests.CreateHost new)).adds ≡ false → are_too_long (asks_of (requests.CreateHost new)).adds ≡ false → IsSetWithin MOST_ADDRESSES (in_order new.addresses)
+  addresses-new new once short = (set-in_order new.addresses (or_parts (has_twice itself new.addresses) false once).0, within-items MOST_ADDRESSES new.addresses short)
+
+  -- a request that is taken leaves no more than may be: neither of what it adds, nor with what is there
+  short : (q : Request) → leaves_too_many q (known q) ≡ false → are_too_long (asks_of q).adds ≡ false
+  short q e = (or_parts (are_too_long (asks_of q).adds) _ e).0
 
   -- ---- each command
 
@@ -246,10 +273,12 @@ module _ (p : PolicyRules) (r : ℕ) (cl_trid : Option (List ℕ)) (s : Registry
   fit-accepted (requests.CreateContact new) few taken = (tt, (tt, tt))
   fit-accepted (requests.CreateDomain new) few taken =
       let q : Request = requests.CreateDomain new in
-      (shape-new new (known q) few (unrepeated q (unrefused p r s.clock q (known q) taken conditions.ListRepeats (search (inl, inr) depth 20))), (tt, (tt, tt)))
+      (shape-new new (known q) few (unrepeated q (unrefused p r s.clock q (known q) taken conditions.ListRepeats (search (inl, inr) depth 20)))
+      (short q (unrefused p r s.clock q (known q) taken conditions.LeavesTooMany (search (inl, inr) depth 20))), (tt, (tt, tt)))
   fit-accepted (requests.CreateHost new) few taken =
       let q : Request = requests.CreateHost new in
-      (set-in_order new.addresses (addresses-new new (unrepeated q (unrefused p r s.clock q (known q) taken conditions.ListRepeats (search (inl, inr) depth 20)))), (tt, tt))
+      (addresses-new new (unrepeated q (unrefused p r s.clock q (known q) taken conditions.ListRepeats (search (inl, inr) depth 20)))
+      (short q (unrefused p r s.clock q (known q) taken conditions.LeavesTooMany (search (inl, inr) depth 20))), (tt, tt))
   fit-accepted (requests.DeleteContact name) few taken = (tt, tt)
   fit-accepted (requests.DeleteDomain name) few taken =
       let c : Command = asking (requests.DeleteDomain name) in
@@ -262,12 +291,14 @@ module _ (p : PolicyRules) (r : ℕ) (cl_trid : Option (List ℕ)) (s : Registry
       updated u (domain_seen (known q) (name_of u.name)) (ap (option_and_then (λ known. known.seen)) (at-itself (name_of u.name) (domain_facts (lookups p r (asking q) s) (asking q) (name_of u.name))))
       (unrepeated q (unrefused p r s.clock q (known q) taken conditions.ListRepeats (search (inl, inr) depth 20)))
       (or_parts (holds_of (domain_has (of_domain u.add)) (option_and_then domain_in_full (domain_seen (known q) (name_of u.name)))) false (unrefused p r s.clock q (known q) taken conditions.AddsWhatIsThere (search (inl, inr) depth 20))).0
+      (domain-fits u (domain_seen (known q) (name_of u.name)) (unrefused p r s.clock q (known q) taken conditions.LeavesTooMany (search (inl, inr) depth 20)))
   fit-accepted (requests.UpdateHost u) few taken =
       let q : Request = requests.UpdateHost u in
       host-updated u (host_seen (known q) (name_of u.name)) (ap (option_and_then (λ known. known.host)) (at-itself (name_of u.name) (host_facts (lookups p r (asking q) s) (asking q) (name_of u.name))))
       (unrefused p r s.clock q (known q) taken conditions.NewNameIsTaken (search (inl, inr) depth 20))
       (unrepeated q (unrefused p r s.clock q (known q) taken conditions.ListRepeats (search (inl, inr) depth 20)))
       (unrefused p r s.clock q (known q) taken conditions.AddsWhatIsThere (search (inl, inr) depth 20))
+      (host-fits u (host_seen (known q) (name_of u.name)) (unrefused p r s.clock q (known q) taken conditions.LeavesTooMany (search (inl, inr) depth 20)))
   fit-accepted (requests.RenewDomain name expires years) few taken =
       let q : Request = requests.RenewDomain name expires years in
       renewed q (known q) (name_of name) (domain_seen (known q) (name_of name)) (ap (option_and_then (λ known. known.seen)) (at-itself (name_of name) (domain_facts (lookups p r (asking q) s) (asking q) (name_of name))))

@@ -9,15 +9,17 @@ use Rattle.objects.specs.declared.domain.Domain.{Domain}
 use Rattle.objects.specs.declared.transfer.Transfer.{Transfer}
 use Rattle.objects.specs.Links.{has_name}
 use Rattle.policy.specs.Rules.{PolicyRules}
+use Rattle.protocol.specs.declared.lists.TheConstants.{MOST_ADDRESSES, MOST_HOSTS}
 use Rattle.model.specs.Lapse.{domains_at, lapse as lapse_registry}
 use Rattle.model.specs.Registry.{Registry}
-use Rattle.model.specs.Shapes.{HasShapes, IsOrderedSet, IsShaped}
+use Rattle.model.specs.Shapes.{HasShapes, IsSetWithin, IsShaped}
 use Rattle.model.specs.WellFormed.{last_clock}
 use Rattle.model.proofs.LapseLaws.{left-of}
 use Rattle.rules.specs.declared.change.Change.{Change}
 use Rattle.rules.specs.declared.change.Change.TheVariants.{MoveClock, OpenAccount, PutContact, DropContact, PutDomain, DropDomain, PutHost, DropHost, RenameHost, LapseContact, LapseDomain, Give}
 use Rattle.rules.specs.Changes.{changed, changed_all, with_host_renamed}
 use Rattle.rules.proofs.ExpiryLemmas.{gained-end, turns-end}
+use Rattle.rules.proofs.LimitLemmas.{within-renamed}
 use Rattle.rules.proofs.NamedLemmas.{drop-cases, put-cases, remade-cases}
 use Rattle.rules.proofs.OrderedSetLemmas.{set-renamed}
 use Rattle.rules.proofs.PostingLemmas.{due-is}
@@ -32,7 +34,7 @@ FitsShapes (PutContact c) s = Unit {0}
 FitsShapes (DropContact name) s = Unit {0}
 FitsShapes (PutDomain d) s = IsShaped d
 FitsShapes (DropDomain name) s = Unit {0}
-FitsShapes (PutHost h) s = IsOrderedSet h.addresses
+FitsShapes (PutHost h) s = IsSetWithin MOST_ADDRESSES h.addresses
 FitsShapes (DropHost name) s = Unit {0}
 FitsShapes (RenameHost old new) s = (name : List ℕ) (d : Domain) → get s.domains name ≡ Some d → has_name d.links.hosts new ≡ false
 FitsShapes (LapseContact name left) s = Unit {0}
@@ -41,7 +43,7 @@ FitsShapes (Give r what) s = Unit {0}
 
 shape-renamed : (old new : List ℕ) (d : Domain) → has_name d.links.hosts new ≡ false → IsShaped d → IsShaped (with_host_renamed old new d)
 shape-renamed old new d absent h = record {
-  links = record { admin = h.links.admin; tech = h.links.tech; hosts = set-renamed old new d.links.hosts absent h.links.hosts };
+  links = record { admin = h.links.admin; tech = h.links.tech; hosts = (set-renamed old new d.links.hosts absent h.links.hosts.0, within-renamed old new d.links.hosts MOST_HOSTS h.links.hosts.1) };
   expires = h.expires;
 }
 
@@ -57,7 +59,7 @@ shapes-changed p (PutDomain d) s fits is = record {
 shapes-changed p (DropDomain dropped) s fits is = record { domains = λ name e at. is.domains name e (drop-cases s.domains dropped name e at).1; hosts = is.hosts }
 shapes-changed p (PutHost h) s fits is = record {
   domains = is.domains;
-  hosts = λ name g at. ⊎_elim (λ put. subst (λ g. IsOrderedSet g.addresses) put.1 fits) (λ before. is.hosts name g before) (put-cases s.hosts h.name h name g at);
+  hosts = λ name g at. ⊎_elim (λ put. subst (λ g. IsSetWithin MOST_ADDRESSES g.addresses) put.1 fits) (λ before. is.hosts name g before) (put-cases s.hosts h.name h name g at);
 }
 shapes-changed p (DropHost dropped) s fits is = record { domains = is.domains; hosts = λ name g at. is.hosts name g (drop-cases s.hosts dropped name g at).1 }
 shapes-changed p (RenameHost old new) s fits is = record {

@@ -279,11 +279,20 @@ domain_is_over removed added d =
 abbrev pub host_is_over : GivenLists → GivenLists → Host → Bool
 host_is_over removed added h = is_over itself MOST_ADDRESSES h.addresses removed.addresses added.addresses
 
+-- one of the lists alone is longer than an object's may be
+abbrev pub are_too_long : GivenLists → Bool
+are_too_long lists =
+    nat_lt MOST_HOSTS (length lists.hosts)
+    || (nat_lt MOST_CONTACTS (length lists.admin)
+    || (nat_lt MOST_CONTACTS (length lists.tech)
+    || nat_lt MOST_ADDRESSES (length lists.addresses)))
+
 -- a list has more than its limit afterwards
 abbrev pub leaves_too_many : Request → Facts → Bool
 leaves_too_many q f =
-    holds_of (domain_is_over (asks_of q).removes (asks_of q).adds) (full_domain q f)
-    || holds_of (host_is_over (asks_of q).removes (asks_of q).adds) (the_host q f)
+    are_too_long (asks_of q).adds
+    || (holds_of (domain_is_over (asks_of q).removes (asks_of q).adds) (full_domain q f)
+    || holds_of (host_is_over (asks_of q).removes (asks_of q).adds) (the_host q f))
 
 -- ---- addresses (RFC 5732, 2.5)
 

@@ -28,6 +28,16 @@ pub(crate) fn list_repeats(lists: Lists<'_>) -> bool
         || has_status_twice(lists.statuses)
 }
 
+/// Whether one of the lists alone is longer than an object's may be.
+pub(crate) fn are_too_long(lists: Lists<'_>) -> bool
+    ensures { result ≡ spec.are_too_long (lists_of lists.entry) }
+{
+    lists.hosts.len() > MOST_HOSTS
+        || lists.admin.len() > MOST_CONTACTS
+        || lists.tech.len() > MOST_CONTACTS
+        || lists.addresses.len() > MOST_ADDRESSES
+}
+
 /// Whether the domain has something of the lists.
 fn the_domain_has(lists: Lists<'_>, domain: &Domain) -> bool
     ensures { result ≡ spec.domain_has (lists_of lists.entry) domain.now }

@@ -9,8 +9,8 @@ ghost use Rattle.verdict.specs.Conditions as spec;
 ghost use Rattle.verdict.specs.Rules.{refusal_of};
 
 use crate::amended::{
-    any_refused, contact_has, contact_lacks, domain_has, domain_is_over, domain_lacks, host_has,
-    host_is_over, host_lacks, list_repeats,
+    any_refused, are_too_long, contact_has, contact_lacks, domain_has, domain_is_over,
+    domain_lacks, host_has, host_is_over, host_lacks, list_repeats,
 };
 use crate::charge::charge_of;
 use crate::conditions::{
@@ -248,7 +248,8 @@ impl Case<'_> {
         ensures { result ≡ spec.leaves_too_many self.now.request.now self.now.facts.now }
     {
         let (removed, added) = (self.request.removed(), self.request.added());
-        domain_is_over(removed, added, full_domain(self.domain()))
+        are_too_long(added)
+            || domain_is_over(removed, added, full_domain(self.domain()))
             || host_is_over(removed, added, self.host())
     }
 

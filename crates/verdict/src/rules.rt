@@ -134,6 +134,7 @@ pub const DOMAIN_CREATION: &[Row] = &[
     (BadNames, ListRepeats), // RFC 5730, 3, code 2306
     (Exists, IsThere), // RFC 5730, 3, code 2302
     (Missing, ReferenceIsMissing), // RFC 5731, 3.2.1
+    (DoesNotFit, LeavesTooMany), // RFC 5731, 3.2.1
     (LimitReached, HoldsTheMost), // RFC 5730, 3, code 2308
     (NoMoney, LacksMoney), // RFC 5730, 3, code 2104
 ];
@@ -146,6 +147,7 @@ pub const HOST_CREATION: &[Row] = &[
     (Missing, SuperordinateIsMissing), // RFC 5732, 3.2.1
     (NotSponsor, SuperordinateIsAnothers), // RFC 5732, 3.2.1
     (StatusProhibits, SuperordinateIsDeleted), // RFC 5731, 2.3
+    (DoesNotFit, LeavesTooMany), // RFC 5732, 3.2.1
     (DoesNotFit, LeavesAddressesOutside), // RFC 5732, 2.5
 ];
 
