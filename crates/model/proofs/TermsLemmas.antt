@@ -1,11 +1,10 @@
 -- What time makes of a registry depends on the policy's days and prices alone.
-use Rattle.std.proofs.Common.{◌≡◌, ℕ, zero, suc, List, [], ◌∷◌, ◌++◌, Option, Some, None, refl, ap}
+use Rattle.std.proofs.Common.{◌≡◌, ℕ, zero, suc, List, ◌++◌, Option, Some, None, refl, ap}
 use Rattle.std.specs.Prelude.{fold}
 use Rattle.accounts.specs.declared.entries.Posting.{Posting}
 use Rattle.accounts.specs.Entries.{posted}
 use Rattle.basis.specs.Sweeps.{kept}
-use Rattle.lifecycle.specs.declared.lapsed.Lapsed.{Lapsed}
-use Rattle.lifecycle.specs.Lapse.{completion, due_by, gained, lapse, lapse_by, lapse_contact, leaves, lived, moved, raised, renewals, turn}
+use Rattle.lifecycle.specs.Lapse.{completion, due_by, gained, lapse_by, lapse_contact, leaves, lived, moved, raised, renewals, turn}
 use Rattle.lifecycle.specs.Turns.{turns}
 use Rattle.objects.specs.declared.domain.Deletion.{Deletion}
 use Rattle.objects.specs.declared.domain.Domain.{Domain}

@@ -1,5 +1,6 @@
 -- How many items lists have: put in order, amended, and with one item under another name.
-use Rattle.std.proofs.Common.{◌≡◌, ℕ, ◌+◌, ◌≤◌, nat_lt, Bool, true, false, cond, not, ◌||◌, List, [], ◌∷◌, ◌++◌, map, filter, fold, length, length-append, refl, ap, ◌∙◌, arith}
+use Rattle.std.proofs.Common.{◌≡◌, ℕ, ◌+◌, ◌≤◌, nat_lt, Bool, true, false, cond, not, ◌||◌, List, [], ◌∷◌, ◌++◌, map, filter, fold, length, length-append, refl, ◌∙◌, arith}
+use Rattle.std.proofs.lemmas.Bool.Decides.{nat_tests}
 use Rattle.std.proofs.lemmas.List.{length-map}
 use Rattle.std.specs.Cmp.Lexicographic.{slice_cmp}
 use Rattle.std.specs.Ordering.{nat_cmp}
@@ -27,7 +28,7 @@ length-add x [] = refl
 length-add x (y ∷ ys) = length-where (le x y) x y ys (add le x ys) (length-add x ys)
 
 length-fold : (items bag : List Text) → length (fold (λ bag item. add le item bag) bag items) ≡ length items + length bag
-length-fold [] bag = refl
+length-fold [] bag = omega arith
 length-fold (x ∷ xs) bag = length-fold xs (add le x bag) ∙ omega (arith, length-add x bag)
 
 pub length-in_order : (items : List Text) → length (in_order items) ≡ length items
@@ -64,11 +65,12 @@ filter-le test (x ∷ xs) = let rest : length (cond (test x) (x ∷ filter test 
 -- without an item that is there, there is one fewer at least
 one-fewer : (old : Text) (xs : List Text) → has_name xs old ≡ true → length (filter (λ x. not (bytes_eq x old)) xs) + 1 ≤ length xs
 one-fewer old [] there = absurd (let never : false ≡ true = there in cc)
-one-fewer old (x ∷ xs) there = by (bytes_eq x old) there
+one-fewer old (x ∷ xs) there = by (bytes_eq x old) (one-fewer old xs) there
   where
-    by : (b : Bool) → (b || has_name xs old) ≡ true → length (cond (not b) (x ∷ filter (λ x. not (bytes_eq x old)) xs) (filter (λ x. not (bytes_eq x old)) xs)) + 1 ≤ length (x ∷ xs)
-    by true e = omega (arith, filter-le (λ x. not (bytes_eq x old)) xs)
-    by false e = omega (arith, one-fewer old xs e)
+    by : (b : Bool) → (has_name xs old ≡ true → length (filter (λ x. not (bytes_eq x old)) xs) + 1 ≤ length xs) → (b || has_name xs old) ≡ true
+        → length (cond (not b) (x ∷ filter (λ x. not (bytes_eq x old)) xs) (filter (λ x. not (bytes_eq x old)) xs)) + 1 ≤ length (x ∷ xs)
+    by true others e = omega (arith, filter-le (λ x. not (bytes_eq x old)) xs)
+    by false others e = omega (arith, others e)
 
 pub within-renamed : (old new : Text) (hosts : List Text) (most : ℕ) → length hosts ≤ most → length (renamed old new hosts) ≤ most
 within-renamed old new hosts most few = by (has_name hosts old) refl

@@ -56,9 +56,7 @@ use Rattle.verdict.specs.Conditions.{domain_sponsor, is_anothers}
 use Rattle.verdict.specs.Deletion.{goes_at_once}
 use Rattle.verdict.specs.Orders.{order_code}
 use Rattle.verdict.specs.Rules.{refusal_of}
-use Rattle.verdict.specs.Verdicts.{granted, judged, unless_refused}
-use Rattle.verdict.proofs.RowLemmas.{refusing, unrefused}
-use Rattle.protocol.specs.declared.code.Code.{Code}
+use Rattle.verdict.proofs.RowLemmas.{unrefused}
 use Rattle.model.specs.declared.object.Object.TheVariants as objects
 use Rattle.model.specs.LapseLaws.{IsSettled}
 use Rattle.model.specs.Objects.{object_at, object_ordered}

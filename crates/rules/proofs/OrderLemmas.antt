@@ -10,7 +10,6 @@ use Rattle.objects.specs.declared.host.Host.{Host}
 use Rattle.objects.specs.declared.roid.ObjectKind.{ObjectKind}
 use Rattle.objects.specs.declared.roid.ObjectKind.TheVariants as kinds
 use Rattle.policy.specs.Rules.{PolicyRules, IsRegistrar, has_id, place_of}
-use Rattle.accounts.specs.declared.line.Line.{Line}
 use Rattle.accounts.specs.Entries.{with_lines}
 use Rattle.accounts.specs.Lines.{in_order}
 use Rattle.basis.specs.Bag.{add}

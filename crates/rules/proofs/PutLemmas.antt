@@ -1,48 +1,19 @@
 -- The graces of a domain that is put can be told from what is seen.
-use Rattle.std.proofs.Common.{◌≡◌, inl, ℕ, Bool, true, false, cond, List, [], Option, Some, None, option_and_then, option_map, refl, sym, ap, subst, ◌∙◌}
+use Rattle.std.proofs.Common.{◌≡◌, ℕ, Bool, true, false, cond, List, Some, None, option_map, refl, sym, ap, ◌∙◌}
 use Rattle.std.specs.Cmp.{nat_cmp_total, eq_by_cmp_equiv}
 use Rattle.std.specs.Cmp.Lexicographic.{slice_cmp, nat_list_cmp_total}
 use Rattle.std.specs.FinMap.{get}
 use Rattle.std.specs.Ordering.{eq_by_cmp, nat_cmp}
-use Rattle.accounts.specs.Account.{with_command}
 use Rattle.basis.proofs.MapLemmas.{names_apart, get-map_values}
-use Rattle.names.specs.declared.given.GivenName.{GivenName}
-use Rattle.names.specs.GivenName.{name_of}
-use Rattle.objects.specs.declared.contact.Contact.{Contact}
-use Rattle.objects.specs.declared.contact.ContactFace.{ContactFace}
 use Rattle.objects.specs.declared.domain.Domain.{Domain}
-use Rattle.objects.specs.declared.domain.DomainFace.{DomainFace}
-use Rattle.objects.specs.declared.domain.FullDomain.{FullDomain}
-use Rattle.objects.specs.declared.host.Host.{Host}
-use Rattle.objects.specs.declared.sight.Seen.{Seen}
-use Rattle.objects.specs.declared.sight.Seen.TheVariants.{Full, TransferParty, Public}
 use Rattle.policy.specs.Rules.{PolicyRules}
-use Rattle.rules.specs.declared.change.Change.{Change}
-use Rattle.rules.specs.declared.change.Change.TheVariants.{PutDomain}
-use Rattle.rules.specs.Changes.{with_account}
-use Rattle.rules.specs.Decisions.{changes_after, changes_of, contact_changes, deleted_domain, deletion_at, deletion_changes, domain_changes, ending, host_changes, new_domain, renaming, renewal_changes, renewed_domain, report_changes, restore_changes, restored_domain, restoring_domain, updated_domain, updated_host}
-use Rattle.rules.specs.Steps.{decision}
 use Rattle.rules.proofs.HandedOver.{transfer_alone}
-use Rattle.rules.proofs.CommandLemmas.{at-itself, domain-full}
 use Rattle.rules.proofs.SightLemmas.{graces-seen, sponsor-seen}
-use Rattle.rules.proofs.ViewLemmas.{AllMeet, Meets, graces_kept, graces_put, same_number}
-use Rattle.protocol.specs.declared.command.Command.{Command}
-use Rattle.protocol.specs.declared.command.Command.TheVariants.{Bad, Asked}
-use Rattle.protocol.specs.declared.command.ContactUpdate.{ContactUpdate}
-use Rattle.protocol.specs.declared.command.DomainUpdate.{DomainUpdate}
-use Rattle.protocol.specs.declared.command.HostUpdate.{HostUpdate}
-use Rattle.protocol.specs.declared.command.Request.{Request}
-use Rattle.protocol.specs.declared.command.Request.TheVariants as requests
-use Rattle.protocol.specs.Codes.{is_accepted}
-use Rattle.facts.specs.declared.facts.DomainFacts.{DomainFacts}
-use Rattle.facts.specs.declared.facts.Facts.{Facts}
-use Rattle.facts.specs.Facts.{contact_seen, domain_at, domain_facts, domain_seen, facts, host_seen, lookups}
+use Rattle.rules.proofs.ViewLemmas.{graces_kept, graces_put, same_number}
 use Rattle.model.specs.Registry.{Registry, account_of}
 use Rattle.lifecycle.specs.Graces.{graces}
 use Rattle.model.specs.Standing.{graces_of, standing_of}
 use Rattle.model.specs.View.{domain_sight, view}
-use Rattle.model.specs.WellFormed.{HasObjects, IsRegistry}
-use Rattle.verdict.specs.Deletion.{goes_at_once}
 
 pub eq-self : (a : ℕ) → eq_by_cmp nat_cmp a a ≡ true
 eq-self a = (eq_by_cmp_equiv nat_cmp_total).refl a

@@ -272,13 +272,17 @@ module _ (p : PolicyRules) (r : ℕ) (cl_trid : Option (List ℕ)) (s : Registry
   fit-accepted requests.Balance few taken = tt
   fit-accepted (requests.CreateContact new) few taken = (tt, (tt, tt))
   fit-accepted (requests.CreateDomain new) few taken =
-      let q : Request = requests.CreateDomain new in
-      (shape-new new (known q) few (unrepeated q (unrefused p r s.clock q (known q) taken conditions.ListRepeats (search (inl, inr) depth 20)))
-      (short q (unrefused p r s.clock q (known q) taken conditions.LeavesTooMany (search (inl, inr) depth 20))), (tt, (tt, tt)))
+      let q : Request = requests.CreateDomain new in (
+        shape-new new (known q) few (unrepeated q (unrefused p r s.clock q (known q) taken conditions.ListRepeats (search (inl, inr) depth 20)))
+            (short q (unrefused p r s.clock q (known q) taken conditions.LeavesTooMany (search (inl, inr) depth 20))),
+        (tt, (tt, tt)),
+      )
   fit-accepted (requests.CreateHost new) few taken =
-      let q : Request = requests.CreateHost new in
-      (addresses-new new (unrepeated q (unrefused p r s.clock q (known q) taken conditions.ListRepeats (search (inl, inr) depth 20)))
-      (short q (unrefused p r s.clock q (known q) taken conditions.LeavesTooMany (search (inl, inr) depth 20))), (tt, tt))
+      let q : Request = requests.CreateHost new in (
+        addresses-new new (unrepeated q (unrefused p r s.clock q (known q) taken conditions.ListRepeats (search (inl, inr) depth 20)))
+            (short q (unrefused p r s.clock q (known q) taken conditions.LeavesTooMany (search (inl, inr) depth 20))),
+        (tt, tt),
+      )
   fit-accepted (requests.DeleteContact name) few taken = (tt, tt)
   fit-accepted (requests.DeleteDomain name) few taken =
       let c : Command = asking (requests.DeleteDomain name) in

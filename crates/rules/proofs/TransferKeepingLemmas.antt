@@ -1,5 +1,5 @@
 -- What is done to transfers keeps a registry well formed, in its objects.
-use Rattle.std.proofs.Common.{◌≡◌, ℕ, ◌≤◌, Bool, true, false, List, [], ◌∷◌, Option, Some, None, refl, sym, ap, subst, ◌∙◌, arith}
+use Rattle.std.proofs.Common.{◌≡◌, ℕ, ◌≤◌, Bool, true, false, List, Option, Some, None, refl, sym, ap, subst, ◌∙◌, arith}
 use Rattle.std.specs.FinMap.{get}
 use Rattle.accounts.specs.Account.{with_command}
 use Rattle.accounts.specs.Entries.{entered, with_lines}
@@ -35,7 +35,7 @@ use Rattle.rules.specs.Transfers.{contact_transfer_changes, contact_with_transfe
 use Rattle.rules.proofs.CommandLemmas.{kept-charged, kept-counted}
 use Rattle.rules.proofs.KeepingLemmas.{kept-account}
 use Rattle.rules.proofs.StandInLemmas.{kept-put-contact, kept-put-domain}
-use Rattle.rules.proofs.TransferCases.{contact-cases, domain-cases, IsAskable}
+use Rattle.rules.proofs.TransferCases.{contact-cases, domain-cases}
 use Rattle.verdict.specs.Rules.{refusal_of}
 
 -- ---- an object with another transfer, or in other hands

@@ -1,10 +1,8 @@
 -- What the changes of transfers leave: graces that no one else sees, and a face that can be told by who
 -- hands a domain over.
-use Rattle.std.proofs.Common.{◌≡◌, ◌≢◌, ◌⊎◌, inl, inr, ℕ, ◌<◌, ◌≤◌, Bool, true, false, cond, not, ◌&&◌, ◌||◌, nat_lt, nat_le, map, List, [], ◌∷◌, Option, Some, None, is_some, option_and_then, option_map, refl, sym, ap, subst, ◌∙◌, arith}
-use Rattle.std.proofs.lemmas.Bool.Decides.{nat_tests}
+use Rattle.std.proofs.Common.{◌≡◌, ◌≢◌, inl, inr, ℕ, Bool, true, false, cond, not, ◌&&◌, ◌||◌, map, List, [], ◌∷◌, Option, Some, None, is_some, refl, sym, ap, ◌∙◌}
 use Rattle.std.proofs.lemmas.Bool.{and_parts}
 use Rattle.std.specs.List.{list_any}
-use Rattle.std.specs.Cmp.{Equal-is}
 use Rattle.std.specs.FinMap.{get}
 use Rattle.std.specs.Ordering.{eq_by_cmp, nat_cmp}
 use Rattle.accounts.specs.declared.account.Account.{Account}
@@ -21,11 +19,10 @@ use Rattle.accounts.specs.Lines.{in_order, is_for_transfer, is_kind, is_on, is_s
 use Rattle.accounts.proofs.LineLaws.{same-roids}
 use Rattle.basis.specs.Bag.{remade}
 use Rattle.basis.proofs.BagLaws.{any-bag_of}
-use Rattle.lifecycle.specs.declared.change.AccountChange.TheVariants.{Lapse, RefundTransfer, Tell}
-use Rattle.lifecycle.specs.declared.change.Notification.{Notification}
-use Rattle.lifecycle.specs.Changes.{changed as account_changed, told_by_command}
-use Rattle.lifecycle.specs.Graces.{gives, graces, period_of, runs, runs_from}
-use Rattle.lifecycle.specs.Lapse.{contact_handed_over, gained, handed_over}
+use Rattle.lifecycle.specs.declared.change.AccountChange.TheVariants.{Lapse, RefundTransfer}
+use Rattle.lifecycle.specs.Changes.{changed as account_changed}
+use Rattle.lifecycle.specs.Graces.{gives, graces, period_of, runs_from}
+use Rattle.lifecycle.specs.Lapse.{gained, handed_over}
 use Rattle.lifecycle.specs.Transfers.{ended, requested}
 use Rattle.facts.specs.declared.facts.Facts.{Facts}
 use Rattle.facts.specs.Facts.{contact_seen, domain_seen, facts}
@@ -37,29 +34,21 @@ use Rattle.protocol.specs.declared.command.Request.TheVariants.{TransferContact,
 use Rattle.protocol.specs.declared.transfer.TransferOp.{TransferOp}
 use Rattle.rules.specs.declared.change.Change.{Change}
 use Rattle.verdict.specs.Rules.{refusal_of}
-use Rattle.objects.specs.declared.contact.Contact.{Contact}
-use Rattle.objects.specs.declared.domain.Deletion.{Deletion}
 use Rattle.objects.specs.declared.domain.Domain.{Domain}
-use Rattle.objects.specs.declared.grace.Graces.{Graces}
 use Rattle.objects.specs.declared.roid.Roid.{Roid}
 use Rattle.objects.specs.declared.transfer.Transfer.{Transfer}
-use Rattle.objects.specs.declared.transfer.TransferState.{TransferState}
 use Rattle.objects.specs.declared.transfer.TransferState.TheVariants.{ClientApproved, ClientCancelled, ClientRejected}
-use Rattle.objects.specs.Transfers.{is_pending, is_pending_state}
-use Rattle.policy.specs.Rules.{PolicyRules, IsRegistrar, IsSound}
+use Rattle.objects.specs.Transfers.{is_pending_state}
+use Rattle.policy.specs.Rules.{PolicyRules, IsSound}
 use Rattle.model.specs.Registry.{Registry, account_of}
 use Rattle.model.specs.Standing.{graces_of}
-use Rattle.model.specs.View.{view}
-use Rattle.model.specs.WellFormed.{HasBeen, HasLines, IsAfter, IsDeletion, IsLastTransfer, HasObjects, IsTransfer}
-use Rattle.rules.specs.declared.change.Change.TheVariants.{PutContact, PutDomain, Give}
+use Rattle.model.specs.WellFormed.{HasLines, HasObjects}
+use Rattle.rules.specs.declared.change.Change.TheVariants.{PutDomain, Give}
 use Rattle.rules.specs.Changes.{changed, with_account}
-use Rattle.rules.specs.Lapsing.{gift}
 use Rattle.rules.specs.Transfers.{contact_transfer_changes, domain_transfer_changes, domain_with_transfer}
 use Rattle.rules.proofs.HandedOver.{graces-handed-over, requester-elsewhere, transfer_alone}
-use Rattle.rules.proofs.KeepingLemmas.{kept-account}
 use Rattle.rules.proofs.LineEntryLemmas.{AsksFor, test-elsewhere}
-use Rattle.rules.proofs.StandInLemmas.{kept-put-contact, kept-put-domain}
-use Rattle.rules.proofs.ViewLemmas.{AllMeet, KeepsGraces, Meets, account_of-with_account, graces_kept, graces_put, lines-kept, own, same_number}
+use Rattle.rules.proofs.ViewLemmas.{AllMeet, KeepsGraces, Meets, account_of-with_account, lines-kept, own, same_number}
 use Rattle.rules.proofs.PutLemmas.{eq-self, kept-at, put-again, put-by}
 use Rattle.rules.proofs.TransferCases.{contact-cases, domain-cases}
 

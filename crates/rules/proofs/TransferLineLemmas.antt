@@ -17,7 +17,6 @@ use Rattle.lifecycle.specs.Transfers.{ended, locked_since, requested}
 use Rattle.names.specs.declared.given.GivenName.{GivenName}
 use Rattle.names.specs.GivenName.{name_of}
 use Rattle.objects.specs.declared.domain.Domain.{Domain}
-use Rattle.objects.specs.declared.transfer.Transfer.{Transfer}
 use Rattle.objects.specs.declared.transfer.TransferState.TheVariants.{ClientApproved, ClientRejected, ClientCancelled}
 use Rattle.policy.specs.declared.days.Period.TheVariants as periods
 use Rattle.policy.specs.Rules.{PolicyRules, IsRegistrar, IsSound}

@@ -1,10 +1,9 @@
 -- Each step of the rules keeps a registry well formed.
-use Rattle.std.proofs.Common.{◌≡◌, ℕ, ◌<◌, List, Option, None, inl, inr, refl, sym, subst, arith}
+use Rattle.std.proofs.Common.{◌≡◌, ℕ, ◌<◌, List, Option, None, inl, inr, arith}
 use Rattle.accounts.specs.Account.{with_command}
 use Rattle.lifecycle.specs.Changes.{with_acked}
 use Rattle.rules.proofs.KeepingLemmas.{kept-account}
 use Rattle.policy.specs.Rules.{PolicyRules, IsRegistrar}
-use Rattle.rules.specs.declared.change.Change.{Change}
 use Rattle.rules.specs.Changes.{changed_all, with_account}
 use Rattle.rules.specs.Decisions.{changes_after, changes_of}
 use Rattle.rules.specs.Steps.{effect}
@@ -17,7 +16,6 @@ use Rattle.protocol.specs.declared.command.Command.TheVariants.{Asked, Bad}
 use Rattle.protocol.specs.declared.command.Request.{Request}
 use Rattle.protocol.specs.declared.command.Request.TheVariants.{Balance, CheckContact, CheckDomain, CheckHost, InfoContact, InfoDomain, InfoHost, CreateContact, CreateDomain, CreateHost, DeleteContact, DeleteDomain, DeleteHost, UpdateContact, UpdateDomain, UpdateHost, RenewDomain, RequestRestore, ReportRestore, TransferContact, TransferDomain, PollRequest, PollAck, Logout}
 use Rattle.verdict.specs.declared.rules.Condition.TheVariants.{ReferenceIsMissing}
-use Rattle.facts.specs.declared.facts.Facts.{Facts}
 use Rattle.facts.specs.Facts.{facts}
 use Rattle.model.specs.Registry.{Registry, account_of}
 use Rattle.verdict.specs.Rules.{refusal_of}

@@ -1,5 +1,5 @@
 -- How a poll is answered (RFC 5730, 2.9.2.3).
-use Rattle.std.specs.Prelude.{ℕ, ◌-◌, Option, Some, None, option_map}
+use Rattle.std.specs.Prelude.{ℕ, ◌-◌, Option, Some, None}
 use Rattle.accounts.specs.declared.message.CommandNotice.TheVariants as commands
 use Rattle.accounts.specs.declared.message.LapseNotice.TheVariants as lapses
 use Rattle.accounts.specs.declared.message.Origin.{Origin}
