@@ -3,7 +3,6 @@ use Rattle.std.specs.Prelude.{ℕ, ◌&&◌, List, Option, Some, None, if◌then
 use Rattle.std.specs.Str.{is_utf8}
 use Rattle.serde_json.specs.Data.{Data}
 use Rattle.serde_json.specs.Read.{read}
-use Rattle.names.specs.Zone.{ZoneRules}
 use Rattle.protocol.specs.declared.form.FormFault.{FormFault}
 use Rattle.protocol.specs.declared.form.FormFault.TheVariants.{SyntaxError}
 use Rattle.protocol.specs.declared.command.Request.{Request}
@@ -23,17 +22,17 @@ abbrev pub command_with : Option (List ℕ) → Result Request FormFault → Com
 command_with cl_trid (Ok request) = Asked cl_trid request
 command_with cl_trid (Err code) = Bad cl_trid code
 
-abbrev pub command_of_data : ZoneRules → Data → Command
-command_of_data zone d = command_with (cl_trid_in d) (request_in zone d)
+abbrev pub command_of_data : Data → Command
+command_of_data d = command_with (cl_trid_in d) (request_in d)
 
-abbrev pub command_of_json : ZoneRules → Option Data → Command
-command_of_json zone None = Bad None SyntaxError
-command_of_json zone (Some d) = command_of_data zone d
+abbrev pub command_of_json : Option Data → Command
+command_of_json None = Bad None SyntaxError
+command_of_json (Some d) = command_of_data d
 
 -- the JSON value that a payload is, if it is one
 abbrev pub value_in : List ℕ → Option Data
 value_in payload = if is_utf8 payload then read payload else None
 
 -- which command a payload is
-abbrev pub command_in : ZoneRules → List ℕ → Command
-command_in zone payload = command_of_json zone (value_in payload)
+abbrev pub command_in : List ℕ → Command
+command_in payload = command_of_json (value_in payload)

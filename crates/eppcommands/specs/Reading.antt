@@ -4,9 +4,8 @@ use Rattle.serde_json.specs.Data.{Data}
 use Rattle.serde_json.specs.Find.{as_str, as_array, as_number, as_u64}
 use Rattle.names.specs.declared.fault.NameFault as name_fault
 use Rattle.names.specs.declared.fault.NameFault.TheVariants as name_faults
-use Rattle.names.specs.declared.given.GivenName.{GivenName}
-use Rattle.names.specs.Zone.{ZoneRules}
-use Rattle.names.specs.Names.{given_domain, given_host}
+use Rattle.names.specs.GivenName.{GivenName}
+use Rattle.names.specs.Canonical.{canonical}
 use Rattle.names.specs.Addresses.{address_of}
 use Rattle.objects.specs.declared.roid.ObjectKind.{ObjectKind}
 use Rattle.objects.specs.declared.status.Status.{Status}
@@ -18,8 +17,6 @@ use Rattle.eppforms.specs.declared.member.Member.{Member}
 use Rattle.eppforms.specs.declared.member.Section.{Section}
 use Rattle.eppcommands.specs.declared.reading.Fault.{Fault}
 use Rattle.eppcommands.specs.declared.reading.Fault.TheVariants.{Refused, Memory}
-use Rattle.eppcommands.specs.declared.reading.NameOf.{NameOf}
-use Rattle.eppcommands.specs.declared.reading.NameOf.TheVariants.{Domain, Host}
 use Rattle.protocol.specs.Years.{years_of}
 use Rattle.eppforms.specs.Kind.{items_list}
 use Rattle.eppforms.specs.Form.{◌>>=◌, refuse_unless}
@@ -44,14 +41,10 @@ abbrev pub or_shape : {A : Type 0} → Result A name_fault.NameFault → Result 
 or_shape (Ok x) = Ok x
 or_shape (Err fault) = Err ParameterSyntax
 
-abbrev pub given : NameOf → ZoneRules → List ℕ → Result GivenName name_fault.NameFault
-given Domain zone text = given_domain zone text
-given Host zone text = given_host zone text
-
-unfoldable pub name_in : NameOf → ZoneRules → Data → Result GivenName FormFault
-name_in kind zone d = do
+unfoldable pub name_in : Data → Result GivenName FormFault
+name_in d = do
   text ← ok_or (as_str d) SyntaxError
-  or_shape (given kind zone text)
+  or_shape (canonical text)
 
 abbrev pub text_in : Data → Result (List ℕ) FormFault
 text_in d = ok_or (as_str d) SyntaxError
@@ -112,14 +105,14 @@ required read o = do
 
 -- ---- a member in a section
 
-abbrev pub name_at : NameOf → Section → Member → ZoneRules → Data → Result GivenName FormFault
-name_at kind section m zone d = required (name_in kind zone) (value_at section m d)
+abbrev pub name_at : Section → Member → Data → Result GivenName FormFault
+name_at section m d = required (name_in) (value_at section m d)
 
-abbrev pub maybe_name_at : NameOf → Section → Member → ZoneRules → Data → Result (Option GivenName) FormFault
-maybe_name_at kind section m zone d = maybe_in (name_in kind zone) (value_at section m d)
+abbrev pub maybe_name_at : Section → Member → Data → Result (Option GivenName) FormFault
+maybe_name_at section m d = maybe_in (name_in) (value_at section m d)
 
-abbrev pub names_at : NameOf → Section → Member → ZoneRules → Data → Result (List GivenName) FormFault
-names_at kind section m zone d = list_in (name_in kind zone) (value_at section m d)
+abbrev pub names_at : Section → Member → Data → Result (List GivenName) FormFault
+names_at section m d = list_in (name_in) (value_at section m d)
 
 abbrev pub text_at : Section → Member → Data → Result (List ℕ) FormFault
 text_at section m d = required text_in (value_at section m d)

@@ -1,7 +1,6 @@
 -- What a well formed command asks for.
 use Rattle.std.specs.Prelude.{Result, Ok, Err}
 use Rattle.serde_json.specs.Data.{Data}
-use Rattle.names.specs.Zone.{ZoneRules}
 use Rattle.protocol.specs.declared.form.FormFault.{FormFault}
 use Rattle.protocol.specs.declared.form.FormFault.TheVariants.{UseError}
 use Rattle.protocol.specs.declared.command.Request.{Request}
@@ -23,36 +22,36 @@ poll_ack d = do
   Ok (PollAck id)
 
 -- hello and login are nothing that a registry is asked
-abbrev pub request_of : CommandKind → ZoneRules → Data → Result Request FormFault
-request_of kinds.Hello zone d = Err UseError
-request_of kinds.Login zone d = Err UseError
-request_of kinds.Logout zone d = Ok Logout
-request_of kinds.Balance zone d = Ok Balance
-request_of kinds.CheckContact zone d = check_contact d
-request_of kinds.CheckDomain zone d = check_domain zone d
-request_of kinds.CheckHost zone d = check_host zone d
-request_of kinds.InfoContact zone d = info_contact d
-request_of kinds.InfoDomain zone d = info_domain zone d
-request_of kinds.InfoHost zone d = info_host zone d
-request_of kinds.CreateContact zone d = create_contact d
-request_of kinds.CreateDomain zone d = create_domain zone d
-request_of kinds.CreateHost zone d = create_host zone d
-request_of kinds.DeleteContact zone d = delete_contact d
-request_of kinds.DeleteDomain zone d = delete_domain zone d
-request_of kinds.DeleteHost zone d = delete_host zone d
-request_of kinds.UpdateContact zone d = update_contact d
-request_of kinds.UpdateDomain zone d = update_domain zone d
-request_of kinds.UpdateHost zone d = update_host zone d
-request_of kinds.RenewDomain zone d = renew_domain zone d
-request_of kinds.RequestRestore zone d = request_restore zone d
-request_of kinds.ReportRestore zone d = report_restore zone d
-request_of (kinds.TransferContact op) zone d = transfer_contact op d
-request_of (kinds.TransferDomain op) zone d = transfer_domain op zone d
-request_of kinds.PollRequest zone d = Ok PollRequest
-request_of kinds.PollAck zone d = poll_ack d
+abbrev pub request_of : CommandKind → Data → Result Request FormFault
+request_of kinds.Hello d = Err UseError
+request_of kinds.Login d = Err UseError
+request_of kinds.Logout d = Ok Logout
+request_of kinds.Balance d = Ok Balance
+request_of kinds.CheckContact d = check_contact d
+request_of kinds.CheckDomain d = check_domain d
+request_of kinds.CheckHost d = check_host d
+request_of kinds.InfoContact d = info_contact d
+request_of kinds.InfoDomain d = info_domain d
+request_of kinds.InfoHost d = info_host d
+request_of kinds.CreateContact d = create_contact d
+request_of kinds.CreateDomain d = create_domain d
+request_of kinds.CreateHost d = create_host d
+request_of kinds.DeleteContact d = delete_contact d
+request_of kinds.DeleteDomain d = delete_domain d
+request_of kinds.DeleteHost d = delete_host d
+request_of kinds.UpdateContact d = update_contact d
+request_of kinds.UpdateDomain d = update_domain d
+request_of kinds.UpdateHost d = update_host d
+request_of kinds.RenewDomain d = renew_domain d
+request_of kinds.RequestRestore d = request_restore d
+request_of kinds.ReportRestore d = report_restore d
+request_of (kinds.TransferContact op) d = transfer_contact op d
+request_of (kinds.TransferDomain op) d = transfer_domain op d
+request_of kinds.PollRequest d = Ok PollRequest
+request_of kinds.PollAck d = poll_ack d
 
 -- the request of a payload's JSON, or the first fault of its form
-unfoldable pub request_in : ZoneRules → Data → Result Request FormFault
-request_in zone d = do
+unfoldable pub request_in : Data → Result Request FormFault
+request_in d = do
   command ← checked_command d
-  request_of command zone d
+  request_of command d

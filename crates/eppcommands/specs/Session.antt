@@ -1,7 +1,6 @@
 -- What a payload says in a session, and before a registrar is logged in (RFC 5730, 2.4, 2.9.1).
 use Rattle.std.specs.Prelude.{ℕ, ◌&&◌, ◌||◌, Bool, List, Option, Some, None, if◌then◌else◌, Result, Ok, Err, is_ok, bytes_eq}
 use Rattle.serde_json.specs.Data.{Data}
-use Rattle.names.specs.Zone.{ZoneRules}
 use Rattle.protocol.specs.declared.form.FormFault.{FormFault}
 use Rattle.protocol.specs.declared.form.FormFault.TheVariants.{SyntaxError, UseError}
 use Rattle.protocol.specs.declared.command.Command.TheVariants.{Bad}
@@ -32,19 +31,19 @@ is_hello d = says Hello d && is_ok (checked_command d)
 -- ---- in a session
 
 -- a login has no place there, whatever its form
-abbrev pub said_in_session : ZoneRules → Data → InSession
-said_in_session zone d =
+abbrev pub said_in_session : Data → InSession
+said_in_session d =
     if is_hello d then within.Hello else
     (if says Login d then within.Ordinary (Bad (cl_trid_in d) UseError) else
-    within.Ordinary (command_of_data zone d))
+    within.Ordinary (command_of_data d))
 
-abbrev pub in_session_of : ZoneRules → Option Data → InSession
-in_session_of zone None = within.Ordinary (Bad None SyntaxError)
-in_session_of zone (Some d) = said_in_session zone d
+abbrev pub in_session_of : Option Data → InSession
+in_session_of None = within.Ordinary (Bad None SyntaxError)
+in_session_of (Some d) = said_in_session d
 
 -- what a payload says in a session
-abbrev pub in_session : ZoneRules → List ℕ → InSession
-in_session zone payload = in_session_of zone (value_in payload)
+abbrev pub in_session : List ℕ → InSession
+in_session payload = in_session_of (value_in payload)
 
 -- ---- before a registrar is logged in
 

@@ -7,17 +7,16 @@ use crate::reading::Fault;
 use crate::request::request_in;
 use basis::text::Text;
 use eppforms::{CL_TRID, Member, member_of, word};
-use names::Zone;
 use protocol::{Command, FormFault};
 use serde_json::Value;
 use std::alloc::{AllocError, Global};
 
 /// Reads a command. Where its form is refused, it says by which code.
-pub fn command_of(alloc: Global, payload: &[u8], zone: &Zone) -> Result<Command, AllocError>
-    ensures { IfOk result (λ command. command ≡ spec.command_in zone.now payload.now) }
+pub fn command_of(alloc: Global, payload: &[u8]) -> Result<Command, AllocError>
+    ensures { IfOk result (λ command. command ≡ spec.command_in payload.now) }
 {
     match value_in(alloc, payload)? {
-        Some(value) => command_of_value(alloc, &value, zone),
+        Some(value) => command_of_value(alloc, &value),
         None => Ok(Command::Bad {
             cl_trid: None,
             fault: FormFault::SyntaxError,
@@ -39,12 +38,11 @@ pub(crate) fn value_in(alloc: Global, payload: &[u8]) -> Result<Option<Value>, A
 pub(crate) fn command_of_value(
     alloc: Global,
     value: &Value,
-    zone: &Zone,
 ) -> Result<Command, AllocError>
-    ensures { IfOk result (λ command. command ≡ spec.command_of_data zone.now (view value.now)) }
+    ensures { IfOk result (λ command. command ≡ spec.command_of_data (view value.now)) }
 {
     let cl_trid = cl_trid_of(alloc, value)?;
-    match request_in(alloc, value, zone) {
+    match request_in(alloc, value) {
         Ok(request) => Ok(Command::Asked { cl_trid, request }),
         Err(Fault::Refused(fault)) => Ok(Command::Bad { cl_trid, fault }),
         Err(Fault::Memory) => Err(AllocError),

@@ -4,44 +4,43 @@ ghost use Rattle.eppcommands.specs.Reading.{Gives};
 ghost use Rattle.eppcommands.specs.Domain as spec;
 
 use crate::reading::{
-    Fault, NameOf, date_at, maybe_text_at, moment_at, name_at, names_at, statuses_at, text_at,
+    Fault, date_at, maybe_text_at, moment_at, name_at, names_at, statuses_at, text_at,
     texts_at, years_at,
 };
 use eppforms::Member;
 use eppforms::Section::{self, Add, Chg, Rem, Top};
-use names::Zone;
 use objects::ObjectKind;
 use protocol::{DomainLists, DomainUpdate, NewDomain, Request, TransferOp};
 use serde_json::Value;
 use std::alloc::Global;
 
 #[tactic(auto, unfolding(crate::specs::Domain::check_domain))]
-pub fn check_domain(alloc: Global, value: &Value, zone: &Zone) -> Result<Request, Fault>
-    ensures { Gives result (spec.check_domain zone.now (view value.now)) }
+pub fn check_domain(alloc: Global, value: &Value) -> Result<Request, Fault>
+    ensures { Gives result (spec.check_domain (view value.now)) }
 {
-    let names = names_at(alloc, NameOf::Domain, Top, Member::Names, value, zone)?;
+    let names = names_at(alloc, Top, Member::Names, value)?;
     Ok(Request::CheckDomain { names })
 }
 
 #[tactic(auto, unfolding(crate::specs::Domain::info_domain))]
-pub fn info_domain(alloc: Global, value: &Value, zone: &Zone) -> Result<Request, Fault>
-    ensures { Gives result (spec.info_domain zone.now (view value.now)) }
+pub fn info_domain(alloc: Global, value: &Value) -> Result<Request, Fault>
+    ensures { Gives result (spec.info_domain (view value.now)) }
 {
-    let name = name_at(alloc, NameOf::Domain, Top, Member::Name, value, zone)?;
+    let name = name_at(alloc, Top, Member::Name, value)?;
     let secret = maybe_text_at(alloc, Top, Member::Secret, value)?;
     Ok(Request::InfoDomain { name, secret })
 }
 
 #[tactic(auto, unfolding(crate::specs::Domain::create_domain))]
-pub fn create_domain(alloc: Global, value: &Value, zone: &Zone) -> Result<Request, Fault>
-    ensures { Gives result (spec.create_domain zone.now (view value.now)) }
+pub fn create_domain(alloc: Global, value: &Value) -> Result<Request, Fault>
+    ensures { Gives result (spec.create_domain (view value.now)) }
 {
-    let name = name_at(alloc, NameOf::Domain, Top, Member::Name, value, zone)?;
+    let name = name_at(alloc, Top, Member::Name, value)?;
     let years = years_at(Top, Member::Years, value)?;
     let registrant = text_at(alloc, Top, Member::Registrant, value)?;
     let admin = texts_at(alloc, Top, Member::Admin, value)?;
     let tech = texts_at(alloc, Top, Member::Tech, value)?;
-    let hosts = names_at(alloc, NameOf::Host, Top, Member::Hosts, value, zone)?;
+    let hosts = names_at(alloc, Top, Member::Hosts, value)?;
     let secret = text_at(alloc, Top, Member::Secret, value)?;
     Ok(Request::CreateDomain(NewDomain {
         name,
@@ -55,20 +54,20 @@ pub fn create_domain(alloc: Global, value: &Value, zone: &Zone) -> Result<Reques
 }
 
 #[tactic(auto, unfolding(crate::specs::Domain::delete_domain))]
-pub fn delete_domain(alloc: Global, value: &Value, zone: &Zone) -> Result<Request, Fault>
-    ensures { Gives result (spec.delete_domain zone.now (view value.now)) }
+pub fn delete_domain(alloc: Global, value: &Value) -> Result<Request, Fault>
+    ensures { Gives result (spec.delete_domain (view value.now)) }
 {
-    let name = name_at(alloc, NameOf::Domain, Top, Member::Name, value, zone)?;
+    let name = name_at(alloc, Top, Member::Name, value)?;
     Ok(Request::DeleteDomain { name })
 }
 
 #[tactic(auto, unfolding(crate::specs::Domain::update_domain))]
-pub fn update_domain(alloc: Global, value: &Value, zone: &Zone) -> Result<Request, Fault>
-    ensures { Gives result (spec.update_domain zone.now (view value.now)) }
+pub fn update_domain(alloc: Global, value: &Value) -> Result<Request, Fault>
+    ensures { Gives result (spec.update_domain (view value.now)) }
 {
-    let name = name_at(alloc, NameOf::Domain, Top, Member::Name, value, zone)?;
-    let add = lists_of_domain(alloc, Add, value, zone)?;
-    let rem = lists_of_domain(alloc, Rem, value, zone)?;
+    let name = name_at(alloc, Top, Member::Name, value)?;
+    let add = lists_of_domain(alloc, Add, value)?;
+    let rem = lists_of_domain(alloc, Rem, value)?;
     let registrant = maybe_text_at(alloc, Chg, Member::Registrant, value)?;
     let secret = maybe_text_at(alloc, Chg, Member::Secret, value)?;
     Ok(Request::UpdateDomain(DomainUpdate {
@@ -86,11 +85,10 @@ fn lists_of_domain(
     alloc: Global,
     section: Section,
     value: &Value,
-    zone: &Zone,
 ) -> Result<DomainLists, Fault>
-    ensures { Gives result (spec.lists_of_domain section zone.now (view value.now)) }
+    ensures { Gives result (spec.lists_of_domain section (view value.now)) }
 {
-    let hosts = names_at(alloc, NameOf::Host, section, Member::Hosts, value, zone)?;
+    let hosts = names_at(alloc, section, Member::Hosts, value)?;
     let admin = texts_at(alloc, section, Member::Admin, value)?;
     let tech = texts_at(alloc, section, Member::Tech, value)?;
     let statuses = statuses_at(alloc, ObjectKind::Domain, section, Member::Statuses, value)?;
@@ -103,10 +101,10 @@ fn lists_of_domain(
 }
 
 #[tactic(auto, unfolding(crate::specs::Domain::renew_domain))]
-pub fn renew_domain(alloc: Global, value: &Value, zone: &Zone) -> Result<Request, Fault>
-    ensures { Gives result (spec.renew_domain zone.now (view value.now)) }
+pub fn renew_domain(alloc: Global, value: &Value) -> Result<Request, Fault>
+    ensures { Gives result (spec.renew_domain (view value.now)) }
 {
-    let name = name_at(alloc, NameOf::Domain, Top, Member::Name, value, zone)?;
+    let name = name_at(alloc, Top, Member::Name, value)?;
     let expires = date_at(alloc, Top, Member::Expires, value)?;
     let years = years_at(Top, Member::Years, value)?;
     Ok(Request::RenewDomain {
@@ -117,18 +115,18 @@ pub fn renew_domain(alloc: Global, value: &Value, zone: &Zone) -> Result<Request
 }
 
 #[tactic(auto, unfolding(crate::specs::Domain::request_restore))]
-pub fn request_restore(alloc: Global, value: &Value, zone: &Zone) -> Result<Request, Fault>
-    ensures { Gives result (spec.request_restore zone.now (view value.now)) }
+pub fn request_restore(alloc: Global, value: &Value) -> Result<Request, Fault>
+    ensures { Gives result (spec.request_restore (view value.now)) }
 {
-    let name = name_at(alloc, NameOf::Domain, Top, Member::Name, value, zone)?;
+    let name = name_at(alloc, Top, Member::Name, value)?;
     Ok(Request::RequestRestore { name })
 }
 
 #[tactic(auto, unfolding(crate::specs::Domain::report_restore))]
-pub fn report_restore(alloc: Global, value: &Value, zone: &Zone) -> Result<Request, Fault>
-    ensures { Gives result (spec.report_restore zone.now (view value.now)) }
+pub fn report_restore(alloc: Global, value: &Value) -> Result<Request, Fault>
+    ensures { Gives result (spec.report_restore (view value.now)) }
 {
-    let name = name_at(alloc, NameOf::Domain, Top, Member::Name, value, zone)?;
+    let name = name_at(alloc, Top, Member::Name, value)?;
     let del_time = moment_at(Top, Member::DelTime, value)?;
     let res_time = moment_at(Top, Member::ResTime, value)?;
     Ok(Request::ReportRestore {
@@ -143,11 +141,10 @@ pub fn transfer_domain(
     alloc: Global,
     op: TransferOp,
     value: &Value,
-    zone: &Zone,
 ) -> Result<Request, Fault>
-    ensures { Gives result (spec.transfer_domain op zone.now (view value.now)) }
+    ensures { Gives result (spec.transfer_domain op (view value.now)) }
 {
-    let name = name_at(alloc, NameOf::Domain, Top, Member::Name, value, zone)?;
+    let name = name_at(alloc, Top, Member::Name, value)?;
     let secret = maybe_text_at(alloc, Top, Member::Secret, value)?;
     Ok(Request::TransferDomain { name, op, secret })
 }

@@ -3,56 +3,55 @@ ghost use Rattle.serde_json.specs.View.{view};
 ghost use Rattle.eppcommands.specs.Reading.{Gives};
 ghost use Rattle.eppcommands.specs.Host as spec;
 
-use crate::reading::{Fault, NameOf, addresses_at, maybe_name_at, name_at, names_at, statuses_at};
+use crate::reading::{Fault, addresses_at, maybe_name_at, name_at, names_at, statuses_at};
 use eppforms::Member;
 use eppforms::Section::{self, Add, Chg, Rem, Top};
-use names::Zone;
 use objects::ObjectKind;
 use protocol::{HostLists, HostUpdate, NewHost, Request};
 use serde_json::Value;
 use std::alloc::Global;
 
 #[tactic(auto, unfolding(crate::specs::Host::check_host))]
-pub fn check_host(alloc: Global, value: &Value, zone: &Zone) -> Result<Request, Fault>
-    ensures { Gives result (spec.check_host zone.now (view value.now)) }
+pub fn check_host(alloc: Global, value: &Value) -> Result<Request, Fault>
+    ensures { Gives result (spec.check_host (view value.now)) }
 {
-    let names = names_at(alloc, NameOf::Host, Top, Member::Names, value, zone)?;
+    let names = names_at(alloc, Top, Member::Names, value)?;
     Ok(Request::CheckHost { names })
 }
 
 #[tactic(auto, unfolding(crate::specs::Host::info_host))]
-pub fn info_host(alloc: Global, value: &Value, zone: &Zone) -> Result<Request, Fault>
-    ensures { Gives result (spec.info_host zone.now (view value.now)) }
+pub fn info_host(alloc: Global, value: &Value) -> Result<Request, Fault>
+    ensures { Gives result (spec.info_host (view value.now)) }
 {
-    let name = name_at(alloc, NameOf::Host, Top, Member::Name, value, zone)?;
+    let name = name_at(alloc, Top, Member::Name, value)?;
     Ok(Request::InfoHost { name })
 }
 
 #[tactic(auto, unfolding(crate::specs::Host::create_host))]
-pub fn create_host(alloc: Global, value: &Value, zone: &Zone) -> Result<Request, Fault>
-    ensures { Gives result (spec.create_host zone.now (view value.now)) }
+pub fn create_host(alloc: Global, value: &Value) -> Result<Request, Fault>
+    ensures { Gives result (spec.create_host (view value.now)) }
 {
-    let name = name_at(alloc, NameOf::Host, Top, Member::Name, value, zone)?;
+    let name = name_at(alloc, Top, Member::Name, value)?;
     let addresses = addresses_at(alloc, Top, Member::Addrs, value)?;
     Ok(Request::CreateHost(NewHost { name, addresses }))
 }
 
 #[tactic(auto, unfolding(crate::specs::Host::delete_host))]
-pub fn delete_host(alloc: Global, value: &Value, zone: &Zone) -> Result<Request, Fault>
-    ensures { Gives result (spec.delete_host zone.now (view value.now)) }
+pub fn delete_host(alloc: Global, value: &Value) -> Result<Request, Fault>
+    ensures { Gives result (spec.delete_host (view value.now)) }
 {
-    let name = name_at(alloc, NameOf::Host, Top, Member::Name, value, zone)?;
+    let name = name_at(alloc, Top, Member::Name, value)?;
     Ok(Request::DeleteHost { name })
 }
 
 #[tactic(auto, unfolding(crate::specs::Host::update_host))]
-pub fn update_host(alloc: Global, value: &Value, zone: &Zone) -> Result<Request, Fault>
-    ensures { Gives result (spec.update_host zone.now (view value.now)) }
+pub fn update_host(alloc: Global, value: &Value) -> Result<Request, Fault>
+    ensures { Gives result (spec.update_host (view value.now)) }
 {
-    let name = name_at(alloc, NameOf::Host, Top, Member::Name, value, zone)?;
+    let name = name_at(alloc, Top, Member::Name, value)?;
     let add = lists_of_host(alloc, Add, value)?;
     let rem = lists_of_host(alloc, Rem, value)?;
-    let new_name = maybe_name_at(alloc, NameOf::Host, Chg, Member::Name, value, zone)?;
+    let new_name = maybe_name_at(alloc, Chg, Member::Name, value)?;
     Ok(Request::UpdateHost(HostUpdate {
         name,
         add,

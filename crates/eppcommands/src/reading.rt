@@ -11,7 +11,7 @@ use basis::list::Seq;
 use basis::text::Text;
 use calendar::Moment;
 use eppforms::{Member, Section, value_at};
-use names::{Address, DomainName, GivenName, HostName, NameFault, Zone};
+use names::{Address, GivenName, NameFault};
 use objects::{ObjectKind, Status};
 use protocol::{FormFault, Years};
 use serde_json::Value;
@@ -53,53 +53,39 @@ impl From<NameFault> for Fault {
     }
 }
 
-/// What a name is of.
-#[derive(Clone, Copy)]
-pub enum NameOf {
-    Domain,
-    Host,
-}
-
 #[tactic(auto, unfolding(crate::specs::Reading::name_in))]
-fn name_in(alloc: Global, kind: NameOf, value: &Value, zone: &Zone) -> Result<GivenName, Fault>
-    ensures { spec.Gives result (spec.name_in kind zone.now (view value.now)) }
+fn name_in(alloc: Global, kind: value: &Value) -> Result<GivenName, Fault>
+    ensures { spec.Gives result (spec.name_in (view value.now)) }
 {
     let text = value.as_str().ok_or(FormFault::SyntaxError)?;
-    Ok(match kind {
-        NameOf::Domain => DomainName::given(alloc, text, zone)?,
-        NameOf::Host => HostName::given(alloc, text, zone)?,
-    })
+    Ok(GivenName::read(alloc, text)?)
 }
 
 pub fn name_at(
     alloc: Global,
-    kind: NameOf,
     section: Section,
     at: Member,
     value: &Value,
-    zone: &Zone,
 ) -> Result<GivenName, Fault>
-    ensures { spec.Gives result (spec.name_at kind section at zone.now (view value.now)) }
+    ensures { spec.Gives result (spec.name_at section at (view value.now)) }
 {
     let found = value_at(value, section, at).ok_or(FormFault::ParameterMissing)?;
-    name_in(alloc, kind, found, zone)
+    name_in(alloc, found)
 }
 
 /// The name of a member that may be missing.
 pub fn maybe_name_at(
     alloc: Global,
-    kind: NameOf,
     section: Section,
     at: Member,
     value: &Value,
-    zone: &Zone,
 ) -> Result<Option<GivenName>, Fault>
-    ensures { spec.Gives result (spec.maybe_name_at kind section at zone.now (view value.now)) }
+    ensures { spec.Gives result (spec.maybe_name_at section at (view value.now)) }
 {
     let Some(found) = value_at(value, section, at) else {
         return Ok(None);
     };
-    Ok(Some(name_in(alloc, kind, found, zone)?))
+    Ok(Some(name_in(alloc, found)?))
 }
 
 /// The items of a list.
@@ -112,32 +98,28 @@ pub fn items_in(value: &Value) -> Result<&Vec<Value>, FormFault>
 /// The names of a list, none where there is no list.
 pub fn names_at(
     alloc: Global,
-    kind: NameOf,
     section: Section,
     at: Member,
     value: &Value,
-    zone: &Zone,
 ) -> Result<Seq<GivenName>, Fault>
-    ensures { spec.Gives result (spec.names_at kind section at zone.now (view value.now)) }
+    ensures { spec.Gives result (spec.names_at section at (view value.now)) }
 {
     let Some(found) = value_at(value, section, at) else {
         return Ok(Seq::new(alloc));
     };
     let items = items_in(found)?;
-    all_names(alloc, kind, items, zone)
+    all_names(alloc, items)
 }
 
 fn all_names(
     alloc: Global,
-    kind: NameOf,
     items: &[Value],
-    zone: &Zone,
 ) -> Result<Seq<GivenName>, Fault>
-    ensures { spec.Gives result (spec.all_in (spec.name_in kind zone.now) (map view items.now)) }
+    ensures { spec.Gives result (spec.all_in (spec.name_in) (map view items.now)) }
 {
     let mut names = Seq::new(alloc);
     for item in items {
-        names.push(name_in(alloc, kind, item, zone)?)?;
+        names.push(name_in(alloc, item)?)?;
     }
     Ok(names)
 }

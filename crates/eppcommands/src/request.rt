@@ -13,40 +13,39 @@ use crate::domain::{
 use crate::host::{check_host, create_host, delete_host, info_host, update_host};
 use crate::reading::{Fault, text_at};
 use eppforms::{CommandKind, Member, Section, checked_command};
-use names::Zone;
 use protocol::{FormFault, Request};
 use serde_json::Value;
 use std::alloc::Global;
 
 /// The request of a payload, or the first fault of its form.
 #[tactic(auto, unfolding(crate::specs::Request::request_in))]
-pub fn request_in(alloc: Global, value: &Value, zone: &Zone) -> Result<Request, Fault>
-    ensures { Gives result (spec.request_in zone.now (view value.now)) }
+pub fn request_in(alloc: Global, value: &Value) -> Result<Request, Fault>
+    ensures { Gives result (spec.request_in (view value.now)) }
 {
     match checked_command(value)? {
         CommandKind::Hello | CommandKind::Login => Err(Fault::Refused(FormFault::UseError)),
         CommandKind::Logout => Ok(Request::Logout),
         CommandKind::Balance => Ok(Request::Balance),
         CommandKind::CheckContact => check_contact(alloc, value),
-        CommandKind::CheckDomain => check_domain(alloc, value, zone),
-        CommandKind::CheckHost => check_host(alloc, value, zone),
+        CommandKind::CheckDomain => check_domain(alloc, value),
+        CommandKind::CheckHost => check_host(alloc, value),
         CommandKind::InfoContact => info_contact(alloc, value),
-        CommandKind::InfoDomain => info_domain(alloc, value, zone),
-        CommandKind::InfoHost => info_host(alloc, value, zone),
+        CommandKind::InfoDomain => info_domain(alloc, value),
+        CommandKind::InfoHost => info_host(alloc, value),
         CommandKind::CreateContact => create_contact(alloc, value),
-        CommandKind::CreateDomain => create_domain(alloc, value, zone),
-        CommandKind::CreateHost => create_host(alloc, value, zone),
+        CommandKind::CreateDomain => create_domain(alloc, value),
+        CommandKind::CreateHost => create_host(alloc, value),
         CommandKind::DeleteContact => delete_contact(alloc, value),
-        CommandKind::DeleteDomain => delete_domain(alloc, value, zone),
-        CommandKind::DeleteHost => delete_host(alloc, value, zone),
+        CommandKind::DeleteDomain => delete_domain(alloc, value),
+        CommandKind::DeleteHost => delete_host(alloc, value),
         CommandKind::UpdateContact => update_contact(alloc, value),
-        CommandKind::UpdateDomain => update_domain(alloc, value, zone),
-        CommandKind::UpdateHost => update_host(alloc, value, zone),
-        CommandKind::RenewDomain => renew_domain(alloc, value, zone),
-        CommandKind::RequestRestore => request_restore(alloc, value, zone),
-        CommandKind::ReportRestore => report_restore(alloc, value, zone),
+        CommandKind::UpdateDomain => update_domain(alloc, value),
+        CommandKind::UpdateHost => update_host(alloc, value),
+        CommandKind::RenewDomain => renew_domain(alloc, value),
+        CommandKind::RequestRestore => request_restore(alloc, value),
+        CommandKind::ReportRestore => report_restore(alloc, value),
         CommandKind::TransferContact(op) => transfer_contact(alloc, op, value),
-        CommandKind::TransferDomain(op) => transfer_domain(alloc, op, value, zone),
+        CommandKind::TransferDomain(op) => transfer_domain(alloc, op, value),
         CommandKind::PollRequest => Ok(Request::PollRequest),
         CommandKind::PollAck => poll_ack(alloc, value),
     }

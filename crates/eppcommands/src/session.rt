@@ -8,18 +8,17 @@ use crate::command::{cl_trid_of, command_of_value, value_in};
 use crate::reading::{Fault, text_at};
 use eppforms::Section::Top;
 use eppforms::{Member, Verb, checked_command, word};
-use names::Zone;
 use protocol::{BeforeLogin, Command, Credentials, FormFault, InSession};
 use serde_json::Value;
 use std::alloc::{AllocError, Global};
 
 /// Reads what a payload says in a session: a well formed hello, or a command. A login is refused,
 /// whatever its form.
-pub fn in_session(alloc: Global, payload: &[u8], zone: &Zone) -> Result<InSession, AllocError>
-    ensures { IfOk result (λ said. said ≡ spec.in_session zone.now payload.now) }
+pub fn in_session(alloc: Global, payload: &[u8]) -> Result<InSession, AllocError>
+    ensures { IfOk result (λ said. said ≡ spec.in_session payload.now) }
 {
     match value_in(alloc, payload)? {
-        Some(value) => said_in_session(alloc, &value, zone),
+        Some(value) => said_in_session(alloc, &value),
         None => Ok(InSession::Ordinary(Command::Bad {
             cl_trid: None,
             fault: FormFault::SyntaxError,
@@ -27,8 +26,8 @@ pub fn in_session(alloc: Global, payload: &[u8], zone: &Zone) -> Result<InSessio
     }
 }
 
-fn said_in_session(alloc: Global, value: &Value, zone: &Zone) -> Result<InSession, AllocError>
-    ensures { IfOk result (λ said. said ≡ spec.said_in_session zone.now (view value.now)) }
+fn said_in_session(alloc: Global, value: &Value) -> Result<InSession, AllocError>
+    ensures { IfOk result (λ said. said ≡ spec.said_in_session (view value.now)) }
 {
     if is_hello(value) {
         return Ok(InSession::Hello);
@@ -40,7 +39,7 @@ fn said_in_session(alloc: Global, value: &Value, zone: &Zone) -> Result<InSessio
             fault: FormFault::UseError,
         }));
     }
-    let command = command_of_value(alloc, value, zone)?;
+    let command = command_of_value(alloc, value)?;
     Ok(InSession::Ordinary(command))
 }
 

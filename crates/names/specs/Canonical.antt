@@ -1,5 +1,5 @@
 -- The canonical text of a name.
-use Rattle.std.specs.Prelude.{◌≡◌, ℕ, Bool, false, ◌&&◌, if◌then◌else◌, List, length, Option, Some, Result, Ok, Err}
+use Rattle.std.specs.Prelude.{◌≡◌, ℕ, Bool, true, false, ◌&&◌, if◌then◌else◌, List, length, Option, Some, Result, Ok, Err}
 use Rattle.std.specs.Int.{is_in_range}
 use Rattle.std.specs.Str.{bytes_eq}
 use Rattle.idna.specs.declared.deny_list.TheConstants.AsciiDenyList.{STD3}
@@ -22,6 +22,11 @@ unicode_of name = to_unicode STD3 Allow name
 -- ToASCII gives the name itself
 abbrev pub IsStable : List ℕ → Type 0
 IsStable name = ascii_of name ≡ Some name
+
+-- a canonical text: ToASCII gives it itself, and it keeps the rule of names
+pub record IsCanonical (name : List ℕ) : Type 0 where
+  pub stable : IsStable name
+  pub is_name : is_name name ≡ true
 
 -- the canonical text of a name: of 1 to 1000 bytes, in ASCII, by the rule of names
 unfoldable pub canonical : List ℕ → Result (List ℕ) NameFault

@@ -3,6 +3,7 @@ ghost use Rattle.std.specs.Prelude.{◌≡◌, true, IfOk, IfErr, string_bytes};
 ghost use Rattle.names.specs.Canonical.{IsStable, canonical, unicode_of};
 ghost use Rattle.names.specs.Canonical as spec;
 ghost use Rattle.names.specs.Labels.{is_label};
+ghost use Rattle.names.specs.Labels as labels;
 ghost use Rattle.names.specs.Reading.{Gives, or_syntax};
 
 use crate::NameFault;
@@ -21,6 +22,7 @@ const LONGEST_TEXT: usize = 1000;
 pub(crate) fn canonical_text(alloc: Global, text: &str) -> Result<Text, NameFault>
     ensures read { Gives (λ name. name) result (canonical text.now) }
     ensures stable { IfOk result IsStable }
+    ensures kept { IfOk result (λ name. labels.is_name name ≡ true) }
 {
     if text.is_empty() || text.len() > LONGEST_TEXT {
         return Err(NameFault::Syntax);

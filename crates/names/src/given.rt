@@ -1,44 +1,60 @@
 //! A name as a command gives it.
 ghost use Rattle.std.specs.Prelude.{◌≡◌};
+ghost use Rattle.names.specs.Canonical.{IsCanonical, canonical};
 ghost use Rattle.names.specs.GivenName as spec;
+ghost use Rattle.names.specs.Reading.{Gives};
 
+use crate::NameFault;
+use crate::canonical::canonical_text;
 use basis::text::Text;
+use std::alloc::Global;
+use std::marker::Model;
 
-/// A name as a command gives it, in its canonical form: one that the zone keeps, or one that it
-/// refuses. What a command does with a refused name depends on the command.
+/// The name of a domain or a host as a command gives it, whether or not the zone keeps such names.
+/// It's made by reading alone. Contracts see its canonical text.
 #[derive(Clone, Drop)]
-pub enum GivenName {
-    /// The zone keeps such names.
-    Allowed(Text),
-    /// The zone doesn't keep such names.
-    Refused(Text),
+pub struct GivenName {
+    text: Text,
+}
+
+impl Model for GivenName {
+    ghost use Rattle.names.specs.Canonical.{IsCanonical};
+    ghost use Rattle.names.specs.GivenName as spec;
+
+    ghost Value = { spec.GivenName };
+
+    ghost view = { λ name. name.text };
+
+    ghost invariant = { λ name. IsCanonical name.text };
 }
 
 impl GivenName {
+    /// The name that a text stands for.
+    pub fn read(alloc: Global, text: &str) -> Result<GivenName, NameFault>
+        ensures { Gives (λ name. name) result (canonical text.now) }
+    {
+        let text = canonical_text(alloc, text)?;
+        Ok(GivenName { text })
+    }
+
     /// The canonical text.
     pub fn text(&self) -> &Text
         ensures { result.now ≡ spec.name_of self.now }
     {
-        match self {
-            GivenName::Allowed(text) => text,
-            GivenName::Refused(text) => text,
-        }
+        &self.text
     }
 
     /// The canonical text.
     pub fn into_text(self) -> Text
         ensures { result ≡ spec.name_of self }
     {
-        match self {
-            GivenName::Allowed(text) => text,
-            GivenName::Refused(text) => text,
-        }
+        self.text
     }
 
-    /// Whether the zone refuses the name.
-    pub fn is_refused(&self) -> bool
-        ensures { result ≡ spec.is_refused self.now }
+    /// Tells the prover what each such name is, and does nothing.
+    pub fn is_canonical(&self)
+        ensures { IsCanonical (spec.name_of self.now) }
     {
-        matches!(self, GivenName::Refused(_))
+        let _text = &self.text;
     }
 }

@@ -1,12 +1,12 @@
 //! Host names.
 ghost use Rattle.std.specs.Prelude.{◌≡◌, string_bytes, IfOk, IfErr};
 ghost use Rattle.names.specs.Canonical.{unicode_of};
-ghost use Rattle.names.specs.Names.{given_host, host_of};
+ghost use Rattle.names.specs.Names.{host_of};
 ghost use Rattle.names.specs.Reading.{Gives, or_syntax};
 ghost use Rattle.names.specs.Zone.{superordinate_of};
 
 use crate::canonical::{canonical_text, unicode_text};
-use crate::{DomainName, GivenName, NameFault, Zone, superordinate_text};
+use crate::{DomainName, NameFault, Zone, superordinate_text};
 use basis::text::Text;
 use std::alloc::Global;
 use std::marker::Model;
@@ -40,19 +40,6 @@ impl HostName {
             return Err(NameFault::Policy);
         }
         Ok(HostName { text })
-    }
-
-    /// What a command gives as a host name. It's never refused for `NameFault::Policy`.
-    #[tactic(auto, unfolding(crate::specs::Names::given_host))]
-    pub fn given(alloc: Global, text: &str, zone: &Zone) -> Result<GivenName, NameFault>
-        ensures { Gives (λ name. name) result (given_host zone.now text.now) }
-    {
-        let text = canonical_text(alloc, text)?;
-        if zone.keeps_host(text.as_str()) {
-            Ok(GivenName::Allowed(text))
-        } else {
-            Ok(GivenName::Refused(text))
-        }
     }
 
     /// The superordinate domain, or `None` of an external host. Only memory can be missing.

@@ -3,8 +3,7 @@
 use Rattle.std.specs.Prelude.{ℕ, Bool, true, false, not, ◌||◌, List, [], ◌∷◌, Option, Some, None, if◌then◌else◌}
 use Rattle.std.specs.List.{list_any, slice_get}
 use Rattle.std.specs.Str.{bytes_eq}
-use Rattle.names.specs.declared.given.GivenName.{GivenName}
-use Rattle.names.specs.GivenName.{name_of}
+use Rattle.names.specs.GivenName.{GivenName, name_of}
 use Rattle.objects.specs.declared.status.Status.{Status}
 use Rattle.protocol.specs.declared.lists.Lists.{Lists}
 use Rattle.protocol.specs.declared.command.Action.{Action}

@@ -7,8 +7,7 @@ use Rattle.std.specs.Str.{bytes_eq}
 use Rattle.std.proofs.lemmas.Bool.{or_parts}
 use Rattle.accounts.specs.declared.account.Account.{Account}
 use Rattle.accounts.specs.Account.{with_command, with_serial, saturating_next}
-use Rattle.names.specs.declared.given.GivenName.{GivenName}
-use Rattle.names.specs.GivenName.{name_of}
+use Rattle.names.specs.GivenName.{GivenName, name_of}
 use Rattle.names.specs.Zone.{last_two_of, superordinate_of}
 use Rattle.names.proofs.LastTwoLemmas.{last_two-superordinate}
 use Rattle.objects.specs.declared.contact.Contact.{Contact}

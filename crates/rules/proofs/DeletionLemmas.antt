@@ -6,8 +6,7 @@ use Rattle.accounts.specs.Account.{with_command}
 use Rattle.lifecycle.specs.declared.change.RunningRefund.{RunningRefund}
 use Rattle.lifecycle.specs.Changes.{with_running_refunded}
 use Rattle.lifecycle.specs.Refunds.{refund_at}
-use Rattle.names.specs.declared.given.GivenName.{GivenName}
-use Rattle.names.specs.GivenName.{name_of}
+use Rattle.names.specs.GivenName.{GivenName, name_of}
 use Rattle.names.specs.Zone.{superordinate_of}
 use Rattle.objects.specs.declared.domain.Domain.{Domain}
 use Rattle.objects.specs.declared.domain.DomainFace.{DomainFace}

@@ -17,8 +17,7 @@ use Rattle.facts.specs.declared.facts.Facts.{Facts}
 use Rattle.facts.specs.Facts.{contact_seen, domain_facts, domain_seen, facts, host_seen, lookups}
 use Rattle.lifecycle.specs.Lapse.{completes_at, due_at, due_of, earlier}
 use Rattle.lifecycle.specs.declared.change.AccountChange.TheVariants.{Charge, TakeSerial}
-use Rattle.names.specs.declared.given.GivenName.{GivenName}
-use Rattle.names.specs.GivenName.{name_of}
+use Rattle.names.specs.GivenName.{GivenName, name_of}
 use Rattle.objects.specs.declared.contact.Contact.{Contact}
 use Rattle.objects.specs.declared.contact.ContactFace.{ContactFace}
 use Rattle.objects.specs.declared.domain.Deletion.{Deletion}

@@ -9,8 +9,7 @@ use Rattle.lifecycle.specs.Lapse.{completes_at, due_at, due_by, due_of, earlier,
 use Rattle.lifecycle.specs.Phases.{purge_at}
 use Rattle.lifecycle.specs.Turns.{turns}
 use Rattle.lifecycle.proofs.TurnLaws.{turns-are}
-use Rattle.names.specs.declared.given.GivenName.{GivenName}
-use Rattle.names.specs.GivenName.{name_of}
+use Rattle.names.specs.GivenName.{GivenName, name_of}
 use Rattle.objects.specs.declared.contact.Contact.{Contact}
 use Rattle.objects.specs.declared.contact.ContactFace.{ContactFace}
 use Rattle.objects.specs.declared.domain.Deletion.{Deletion}

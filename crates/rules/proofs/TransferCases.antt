@@ -8,8 +8,7 @@ use Rattle.facts.specs.Facts.{contact_facts, contact_seen, domain_facts, domain_
 use Rattle.lifecycle.specs.Transfers.{ended, is_locked, requested}
 use Rattle.model.specs.Registry.{Registry}
 use Rattle.model.specs.View.{domain_sight}
-use Rattle.names.specs.declared.given.GivenName.{GivenName}
-use Rattle.names.specs.GivenName.{name_of}
+use Rattle.names.specs.GivenName.{GivenName, name_of}
 use Rattle.objects.specs.declared.contact.Contact.{Contact}
 use Rattle.objects.specs.declared.contact.ContactFace.{ContactFace}
 use Rattle.objects.specs.declared.domain.Deletion.{Deletion}

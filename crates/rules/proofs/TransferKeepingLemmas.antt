@@ -12,8 +12,7 @@ use Rattle.lifecycle.specs.declared.change.Notification.{Notification}
 use Rattle.lifecycle.specs.Changes.{told_by_command}
 use Rattle.lifecycle.specs.Lapse.{contact_handed_over, gained, handed_over}
 use Rattle.lifecycle.specs.Transfers.{ended, requested}
-use Rattle.names.specs.declared.given.GivenName.{GivenName}
-use Rattle.names.specs.GivenName.{name_of}
+use Rattle.names.specs.GivenName.{GivenName, name_of}
 use Rattle.objects.specs.declared.contact.Contact.{Contact}
 use Rattle.objects.specs.declared.domain.Deletion.{Deletion}
 use Rattle.objects.specs.declared.domain.Domain.{Domain}

@@ -26,8 +26,7 @@ use Rattle.lifecycle.specs.Lapse.{gained, handed_over}
 use Rattle.lifecycle.specs.Transfers.{ended, requested}
 use Rattle.facts.specs.declared.facts.Facts.{Facts}
 use Rattle.facts.specs.Facts.{contact_seen, domain_seen, facts}
-use Rattle.names.specs.declared.given.GivenName.{GivenName}
-use Rattle.names.specs.GivenName.{name_of}
+use Rattle.names.specs.GivenName.{GivenName, name_of}
 use Rattle.protocol.specs.declared.command.Command.TheVariants.{Asked}
 use Rattle.protocol.specs.declared.command.Request.{Request}
 use Rattle.protocol.specs.declared.command.Request.TheVariants.{TransferContact, TransferDomain}

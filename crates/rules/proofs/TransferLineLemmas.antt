@@ -14,8 +14,7 @@ use Rattle.lifecycle.specs.Changes.{told_by_command}
 use Rattle.lifecycle.specs.Lapse.{gained}
 use Rattle.lifecycle.specs.Periods.{end}
 use Rattle.lifecycle.specs.Transfers.{ended, locked_since, requested}
-use Rattle.names.specs.declared.given.GivenName.{GivenName}
-use Rattle.names.specs.GivenName.{name_of}
+use Rattle.names.specs.GivenName.{GivenName, name_of}
 use Rattle.objects.specs.declared.domain.Domain.{Domain}
 use Rattle.objects.specs.declared.transfer.TransferState.TheVariants.{ClientApproved, ClientRejected, ClientCancelled}
 use Rattle.policy.specs.declared.days.Period.TheVariants as periods

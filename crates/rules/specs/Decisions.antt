@@ -8,8 +8,7 @@ use Rattle.lifecycle.specs.declared.change.AccountChange.TheVariants.{Ack, Charg
 use Rattle.lifecycle.specs.Graces.{period_of}
 use Rattle.lifecycle.specs.Refunds.{refund_at}
 use Rattle.lifecycle.specs.Turns.{turns}
-use Rattle.names.specs.declared.given.GivenName.{GivenName}
-use Rattle.names.specs.GivenName.{name_of}
+use Rattle.names.specs.GivenName.{GivenName, name_of}
 use Rattle.names.specs.Zone.{ZoneRules}
 use Rattle.objects.specs.declared.contact.Contact.{Contact}
 use Rattle.objects.specs.declared.contact.ContactFace.{ContactFace}

@@ -7,8 +7,7 @@ use Rattle.facts.specs.declared.facts.Facts.{Facts}
 use Rattle.facts.specs.Facts.{domain_seen}
 use Rattle.lifecycle.specs.Turns.{turns}
 use Rattle.lifecycle.proofs.TurnLaws.{AreTurns, turns-are}
-use Rattle.names.specs.declared.given.GivenName.{GivenName}
-use Rattle.names.specs.GivenName.{name_of}
+use Rattle.names.specs.GivenName.{GivenName, name_of}
 use Rattle.objects.specs.declared.domain.Domain.{Domain}
 use Rattle.objects.specs.declared.domain.DomainFace.{DomainFace}
 use Rattle.objects.specs.declared.domain.FullDomain.{FullDomain}

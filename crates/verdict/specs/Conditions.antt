@@ -10,8 +10,7 @@ use Rattle.facts.specs.declared.facts.DomainFacts.{DomainFacts}
 use Rattle.facts.specs.declared.facts.HostFacts.{HostFacts}
 use Rattle.facts.specs.Facts.{contact_at, contact_seen, domain_at, domain_seen, host_at, host_sponsor, is_inside, new_name_seen, or_else}
 use Rattle.facts.specs.Lists.{adds_what_is_there, has_twice, is_over, itself, kept, removes_what_is_not}
-use Rattle.names.specs.declared.given.GivenName.{GivenName}
-use Rattle.names.specs.GivenName.{name_of, is_refused}
+use Rattle.names.specs.GivenName.{GivenName, is_refused, name_of}
 use Rattle.names.specs.Zone.{ZoneRules}
 use Rattle.objects.specs.declared.contact.Contact.{Contact}
 use Rattle.objects.specs.declared.contact.ContactFace.{ContactFace}

@@ -1,7 +1,7 @@
 -- What the tables keep, in the words of the standards (RFC 5730 to 5733).
 use Rattle.std.specs.Prelude.{◌≡◌, ℕ, ◌<◌, ◌≤◌, pos, ◌≤ℤ◌, ◌||◌, true, false, List, Option, Some, None, is_some}
 use Rattle.facts.specs.declared.facts.Facts.{Facts}
-use Rattle.names.specs.declared.given.GivenName.{GivenName}
+use Rattle.names.specs.GivenName.{GivenName}
 use Rattle.objects.specs.declared.domain.Domain.{Domain}
 use Rattle.objects.specs.declared.grace.Phase.TheVariants.{Redemption, Restoring}
 use Rattle.objects.specs.declared.status.Status.TheVariants.{ClientDeleteProhibited, ClientRenewProhibited, ClientTransferProhibited, ClientUpdateProhibited, PendingDelete, PendingTransfer, ServerDeleteProhibited, ServerRenewProhibited, ServerTransferProhibited, ServerUpdateProhibited}

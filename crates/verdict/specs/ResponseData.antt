@@ -1,8 +1,7 @@
 -- What an accepted command is told (RFC 5731 to 5733, 3.1 and 3.2).
 use Rattle.std.specs.Prelude.{ℕ, Bool, List, [], map, Option, Some, None, is_some, option_map, option_and_then, unwrap_or, if◌then◌else◌, ◌==◌}
 use Rattle.calendar.specs.Moment.{plus_years, capped}
-use Rattle.names.specs.declared.given.GivenName.{GivenName}
-use Rattle.names.specs.GivenName.{name_of, is_refused}
+use Rattle.names.specs.GivenName.{GivenName, is_refused, name_of}
 use Rattle.objects.specs.declared.contact.Contact.{Contact}
 use Rattle.objects.specs.declared.contact.ContactFace.{ContactFace}
 use Rattle.objects.specs.declared.domain.Domain.{Domain}

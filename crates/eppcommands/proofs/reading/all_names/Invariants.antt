@@ -6,4 +6,4 @@ use Rattle.eppcommands.proofs.reading.all_names.Given as goal
 
 abbrev pub invariant-loop-item : goal.invariant-loop-item
 invariant-loop-item l =
-    all_in (name_in l.kind l.zone) (map view l.items) ≡ after l.names (all_in (name_in l.kind l.zone) (map view (drop l.item-index l.items)))
+    all_in name_in (map view l.items) ≡ after l.names (all_in name_in (map view (drop l.item-index l.items)))
