@@ -54,7 +54,7 @@ impl From<NameFault> for Fault {
 }
 
 #[tactic(auto, unfolding(crate::specs::Reading::name_in))]
-fn name_in(alloc: Global, kind: value: &Value) -> Result<GivenName, Fault>
+fn name_in(alloc: Global, value: &Value) -> Result<GivenName, Fault>
     ensures { spec.Gives result (spec.name_in (view value.now)) }
 {
     let text = value.as_str().ok_or(FormFault::SyntaxError)?;

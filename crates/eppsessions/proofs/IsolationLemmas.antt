@@ -48,4 +48,4 @@ said_isolated p r (Ordinary c) moment old new outcome (inr served) clean other s
 
 pub isolated_frames : FramesAreIsolated
 isolated_frames p r payload moment old new outcome (inl gives) clean other same = inl (inl (ap sent gives.0))
-isolated_frames p r payload moment old new outcome (inr said) clean other same = said_isolated p r (in_session p.zone payload) moment old new outcome said clean other same
+isolated_frames p r payload moment old new outcome (inr said) clean other same = said_isolated p r (in_session payload) moment old new outcome said clean other same

@@ -80,7 +80,7 @@ AnswersSaid p r within.Hello moment old outcome new = AnswersHello p moment old 
 AnswersSaid p r (within.Ordinary c) moment old outcome new = AnswersCommand p r c moment old outcome new
 
 abbrev pub AnswersRegistrar : PolicyRules → ℕ → List ℕ → ℕ → BookState → Outcome → BookState → Type 0
-AnswersRegistrar p r payload moment old outcome new = GivesUp old outcome new ⊎ AnswersSaid p r (in_session p.zone payload) moment old outcome new
+AnswersRegistrar p r payload moment old outcome new = GivesUp old outcome new ⊎ AnswersSaid p r (in_session payload) moment old outcome new
 
 -- ---- before a registrar is logged in
 

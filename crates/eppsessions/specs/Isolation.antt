@@ -34,5 +34,5 @@ view_saying p r (Ordinary c) s = view_for p r c s
 abbrev pub FramesAreIsolated : Type 0
 FramesAreIsolated = (p : PolicyRules) (r : ℕ) (payload : List ℕ) (moment : ℕ) (old new : BookState) (outcome : Outcome)
     → AnswersRegistrar p r payload moment old outcome new → new.is_clean ≡ true → (other : Registry)
-    → view_saying p r (in_session p.zone payload) (lapsed p moment other) ≡ view_saying p r (in_session p.zone payload) (lapsed p moment old.content.registry)
-    → IsFixed (sent outcome) ⊎ (sent outcome ≡ text_told p r (in_session p.zone payload) (lapsed p moment other))
+    → view_saying p r (in_session payload) (lapsed p moment other) ≡ view_saying p r (in_session payload) (lapsed p moment old.content.registry)
+    → IsFixed (sent outcome) ⊎ (sent outcome ≡ text_told p r (in_session payload) (lapsed p moment other))

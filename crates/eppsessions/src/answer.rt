@@ -32,7 +32,7 @@ pub(crate) fn answer_registrar<B: Book + Drop>(
     ensures answered { AnswersRegistrar registry.old.policy caller payload.now moment (B.state registry.old.book) (outcome_of result) (B.state registry.new.book) }
     ensures policy { registry.new.policy ≡ registry.old.policy }
 {
-    match in_session(alloc, payload, registry.policy().zone()) {
+    match in_session(alloc, payload) {
         Ok(InSession::Hello) => answer_hello(alloc, registry, moment),
         Ok(InSession::Ordinary(command)) => {
             answer_command(alloc, registry, caller, &command, moment)

@@ -1,15 +1,27 @@
--- The shape of each object: of what its lists are made, and how far its years go.
-use Rattle.std.specs.Prelude.{◌≡◌, ℕ, ◌≤◌, ◌<◌, List, length, Some}
+-- The shape of each object: what its name is, of what its lists are made, and how far its years go.
+use Rattle.std.specs.Prelude.{◌≡◌, ℕ, ◌≤◌, ◌<◌, true, List, length, Some}
 use Rattle.std.specs.Cmp.Lexicographic.{slice_cmp}
 use Rattle.std.specs.FinMap.{get}
 use Rattle.std.specs.List.Sorted.{IsStrictlySortedBy}
 use Rattle.std.specs.Ordering.{nat_cmp}
+use Rattle.names.specs.Canonical.{IsCanonical}
+use Rattle.names.specs.Zone.{ZoneRules, keeps_domain, keeps_host}
 use Rattle.objects.specs.declared.domain.Domain.{Domain}
 use Rattle.objects.specs.declared.domain.Links.{Links}
 use Rattle.objects.specs.declared.host.Host.{Host}
 use Rattle.objects.specs.Domains.{expiry}
 use Rattle.protocol.specs.declared.lists.TheConstants.{MOST_ADDRESSES, MOST_CONTACTS, MOST_HOSTS}
 use Rattle.model.specs.Registry.{Registry}
+
+-- the name of a domain is canonical, and the zone keeps it
+pub record IsDomainName (zone : ZoneRules) (name : List ℕ) : Type 0 where
+  pub canonical : IsCanonical name
+  pub kept : keeps_domain zone name ≡ true
+
+-- and so is the name of a host
+pub record IsHostName (zone : ZoneRules) (name : List ℕ) : Type 0 where
+  pub canonical : IsCanonical name
+  pub kept : keeps_host zone name ≡ true
 
 -- texts in the order of their bytes, of which none stands twice
 abbrev pub IsOrderedSet : List (List ℕ) → Type 0
@@ -30,11 +42,17 @@ abbrev pub end_of_expiries : ℕ
 end_of_expiries = 4_733_510_400
 
 -- a domain expires before 2120, by the calendar's own sum of its years
-pub record IsShaped (d : Domain) : Type 0 where
+pub record IsShaped (zone : ZoneRules) (d : Domain) : Type 0 where
+  pub name : IsDomainName zone d.name
   pub links : AreSetsWithin d.links
   pub expires : expiry d < end_of_expiries
 
--- the shapes of all objects; a host has each of its addresses once, and no more than it may (RFC 5732, 1.1)
-pub record HasShapes (s : Registry) : Type 0 where
-  pub domains : (name : List ℕ) (d : Domain) → get s.domains name ≡ Some d → IsShaped d
-  pub hosts : (name : List ℕ) (h : Host) → get s.hosts name ≡ Some h → IsSetWithin MOST_ADDRESSES h.addresses
+-- a host has each of its addresses once, and no more than it may (RFC 5732, 1.1)
+pub record IsShapedHost (zone : ZoneRules) (h : Host) : Type 0 where
+  pub name : IsHostName zone h.name
+  pub addresses : IsSetWithin MOST_ADDRESSES h.addresses
+
+-- the shapes of all objects
+pub record HasShapes (zone : ZoneRules) (s : Registry) : Type 0 where
+  pub domains : (name : List ℕ) (d : Domain) → get s.domains name ≡ Some d → IsShaped zone d
+  pub hosts : (name : List ℕ) (h : Host) → get s.hosts name ≡ Some h → IsShapedHost zone h

@@ -176,7 +176,7 @@ pub record IsRegistry (p : PolicyRules) (s : Registry) : Type 0 where
   pub clock : s.clock ≤ last_clock
   pub objects : HasObjects p s
   pub lines : HasLines p s
-  pub shapes : HasShapes s
+  pub shapes : HasShapes p.zone s
 
 -- Counters stay at their greatest value, and two objects would then share a ROID: each counter and
 -- list of an account is far below it.

@@ -31,6 +31,7 @@ use Rattle.rules.proofs.LineKeepingLemmas.{lines-domains}
 use Rattle.rules.proofs.RegistryLemmas.{registry-now}
 use Rattle.rules.proofs.ViewLemmas.{account_of-with_account}
 use Rattle.store.specs.Book.{BookState, Stored}
+use Rattle.names.specs.Zone.{ZoneRules}
 use Rattle.model.specs.Lapse.{accounts_at, now, postings}
 use Rattle.model.specs.Registry.{Registry, account_of, blank}
 use Rattle.model.proofs.TermsLemmas.{same-lapse}
@@ -155,11 +156,11 @@ no-lines p = record {
 }
 
 -- no object, and so no shape
-no-shapes : HasShapes blank
-no-shapes = record { domains = λ name d at. absurd (nothing-at (slice_cmp nat_cmp) name d at); hosts = λ name h at. absurd (nothing-at (slice_cmp nat_cmp) name h at) }
+no-shapes : (zone : ZoneRules) → HasShapes zone blank
+no-shapes zone = record { domains = λ name d at. absurd (nothing-at (slice_cmp nat_cmp) name d at); hosts = λ name h at. absurd (nothing-at (slice_cmp nat_cmp) name h at) }
 
 blank-is : (p : PolicyRules) → IsRegistry (without_registrars p) blank
-blank-is p = record { clock = omega arith; objects = no-objects p; lines = no-lines p; shapes = no-shapes }
+blank-is p = record { clock = omega arith; objects = no-objects p; lines = no-lines p; shapes = no-shapes p.zone }
 
 -- ---- a book is opened
 

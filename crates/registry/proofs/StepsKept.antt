@@ -6,7 +6,7 @@ use Rattle.registry.specs.Faces.{IsLookUp}
 use Rattle.registry.specs.WellFormed.{KeepsWellFormed, StaysWellFormed}
 use Rattle.rules.specs.Orders.{order_effect}
 use Rattle.rules.specs.Steps.{effect}
-use Rattle.rules.specs.Years.{AsksTenYears}
+use Rattle.rules.specs.Askable.{CanBeAsked}
 use Rattle.rules.proofs.LapsedLemmas.{serial-lapsed}
 use Rattle.rules.proofs.RegistryLemmas.{registry-effect, registry-lapsed, registry-now, registry-order}
 use Rattle.protocol.specs.declared.code.Code.{Code}
@@ -18,12 +18,12 @@ use Rattle.model.specs.Registry.{Registry}
 use Rattle.model.proofs.LapseLaws.{lapsed-is-settled}
 use Rattle.model.specs.WellFormed.{IsRegistry, last_clock}
 
-stays : (p : PolicyRules) → IsSound p → (r : ℕ) (c : Command) (moment : ℕ) → moment ≤ last_clock → (before after : Registry) → IsRegistrar p r → AsksTenYears c → now p after ≡ now p (effect p r c (lapsed p moment before)) → StaysWellFormed p before after
+stays : (p : PolicyRules) → IsSound p → (r : ℕ) (c : Command) (moment : ℕ) → moment ≤ last_clock → (before after : Registry) → IsRegistrar p r → CanBeAsked c → now p after ≡ now p (effect p r c (lapsed p moment before)) → StaysWellFormed p before after
 stays p sound r c moment early before after place few left is small =
     let passed : Registry = lapsed p moment before in
     subst (IsRegistry p) (sym left) (registry-now p (effect p r c passed) (registry-effect p sound r c passed place (registry-lapsed p moment before early is) (lapsed-is-settled p (max moment before.clock) before) (omega (arith, (small r).serial, serial-lapsed p moment r before)) few))
 
-pub kept_step : {E : Type 0} (result : Result Reply E) (clean : Type 0) (p : PolicyRules) → IsSound p → (r : ℕ) (c : Command) (moment : ℕ) → moment ≤ last_clock → (before after : Registry) → IsRegistrar p r → AsksTenYears c
+pub kept_step : {E : Type 0} (result : Result Reply E) (clean : Type 0) (p : PolicyRules) → IsSound p → (r : ℕ) (c : Command) (moment : ℕ) → moment ≤ last_clock → (before after : Registry) → IsRegistrar p r → CanBeAsked c
     → IfOk result (λ reply. clean → IsStep p r c moment before after reply) → OnOk result (clean → StaysWellFormed p before after)
 kept_step (Ok reply) clean p sound r c moment early before after place few step = λ taken. stays p sound r c moment early before after place few (step taken).left
 kept_step (Err e) clean p sound r c moment early before after place few step = tt

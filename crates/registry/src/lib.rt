@@ -3,6 +3,7 @@
 //! clause `isolation` of [`Registry::execute`].
 #![tactic(auto)]
 
+mod askable;
 mod faces;
 mod fault;
 mod greeting;
@@ -12,7 +13,6 @@ mod order;
 mod registry;
 mod settlement;
 mod transaction;
-mod years;
 
 pub use faces::ZoneFaces;
 pub use fault::{Fault, OpenFault};

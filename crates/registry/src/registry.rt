@@ -25,7 +25,7 @@ use crate::opening::open_in;
 use crate::order::execute_order_in;
 use crate::settlement::settle_in;
 use crate::transaction::{advance_clock, facts_for, keep, or_rollback};
-use crate::years::asks_ten_years;
+use crate::askable::can_be_asked;
 use basis::list::Seq;
 use basis::registrar::RegistrarNo;
 use basis::text::{Text, copied};
@@ -121,7 +121,7 @@ impl<B: Book + Drop> Registry<B> {
         if is_late(moment) {
             return Err(Fault::Moment);
         }
-        asks_ten_years(command);
+        can_be_asked(command);
         self.step(caller, command, moment)
     }
 

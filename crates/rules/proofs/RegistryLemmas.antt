@@ -10,7 +10,7 @@ use Rattle.model.specs.WellFormed.{IsRegistry, last_clock}
 use Rattle.model.proofs.LapseLaws.{lapses-on}
 use Rattle.rules.specs.Orders.{order_effect}
 use Rattle.rules.specs.Steps.{effect}
-use Rattle.rules.specs.Years.{AsksTenYears}
+use Rattle.rules.specs.Askable.{CanBeAsked}
 use Rattle.rules.proofs.ClockLemmas.{clock-effect, clock-order}
 use Rattle.rules.proofs.LapsedLemmas.{kept-lapse}
 use Rattle.rules.proofs.LineCommandLemmas.{lines-effect, lines-order}
@@ -35,7 +35,7 @@ registry-lapsed p moment s early is =
 
 -- A registrar's command, where nothing is due, but that a serial at its greatest would be given twice. It
 -- asks for ten years at most, as its type keeps it.
-pub registry-effect : (p : PolicyRules) → IsSound p → (r : ℕ) (c : Command) (s : Registry) → IsRegistrar p r → IsRegistry p s → IsSettled p s → (account_of r s).serial < 4_611_686_018_427_387_904 → AsksTenYears c → IsRegistry p (effect p r c s)
+pub registry-effect : (p : PolicyRules) → IsSound p → (r : ℕ) (c : Command) (s : Registry) → IsRegistrar p r → IsRegistry p s → IsSettled p s → (account_of r s).serial < 4_611_686_018_427_387_904 → CanBeAsked c → IsRegistry p (effect p r c s)
 registry-effect p sound r c s place is settled small few = record {
   clock = omega (arith, is.clock, clock-effect p sound r c s is);
   objects = kept-effect p r c s place is.objects small;

@@ -5,4 +5,4 @@ pub mod Decisions
 pub mod Steps
 pub mod Orders
 pub mod Isolation
-pub mod Years
+pub mod Askable

@@ -86,7 +86,7 @@ SaidSteps p r (Ordinary c) moment before after text = IsCommandStep p r c moment
 
 -- what somebody sends at a moment takes one registry to another, and is answered by a text
 abbrev pub Steps : PolicyRules → Sender → List ℕ → ℕ → Registry → Registry → List ℕ → Type 0
-Steps p (Registrar r) payload moment before after text = SaidSteps p r (in_session p.zone payload) moment before after text
+Steps p (Registrar r) payload moment before after text = SaidSteps p r (in_session payload) moment before after text
 Steps p Operator payload moment before after text =
     (request : OperatorRequest) × (order_in payload ≡ Some request) × OperatorSteps p request moment before after text
 

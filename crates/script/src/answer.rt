@@ -69,7 +69,7 @@ fn answer_registrar(
     ensures answered { IfOk result (λ told. IsAnswered registry.old.policy (Registrar caller) payload.now moment (kept registry.old.book) (kept registry.new.book) (told_text (option_map (λ text. text.items) told))) }
     ensures policy { registry.new.policy ≡ registry.old.policy }
 {
-    match in_session(alloc, payload, registry.policy().zone()) {
+    match in_session(alloc, payload) {
         Ok(InSession::Hello) => answer_hello(alloc, registry, moment),
         Ok(InSession::Ordinary(command)) => {
             answer_command(alloc, registry, caller, command, moment)

@@ -10,8 +10,8 @@ use Rattle.facts.specs.declared.facts.DomainFacts.{DomainFacts}
 use Rattle.facts.specs.declared.facts.HostFacts.{HostFacts}
 use Rattle.facts.specs.Facts.{contact_at, contact_seen, domain_at, domain_seen, host_at, host_sponsor, is_inside, new_name_seen, or_else}
 use Rattle.facts.specs.Lists.{adds_what_is_there, has_twice, is_over, itself, kept, removes_what_is_not}
-use Rattle.names.specs.GivenName.{GivenName, is_refused, name_of}
-use Rattle.names.specs.Zone.{ZoneRules}
+use Rattle.names.specs.GivenName.{GivenName, name_of}
+use Rattle.names.specs.Zone.{ZoneRules, keeps_domain, keeps_host}
 use Rattle.objects.specs.declared.contact.Contact.{Contact}
 use Rattle.objects.specs.declared.contact.ContactFace.{ContactFace}
 use Rattle.objects.specs.declared.domain.Domain.{Domain}
@@ -76,14 +76,22 @@ full_domain q f = option_and_then domain_in_full (the_domain q f)
 
 -- ---- the names and lists of a request
 
-abbrev pub any_refused : List GivenName → Bool
-any_refused names = list_any is_refused names
+-- the zone doesn't keep such domains, or such hosts
+abbrev pub domain_is_refused : ZoneRules → GivenName → Bool
+domain_is_refused zone name = not (keeps_domain zone (name_of name))
+
+abbrev pub host_is_refused : ZoneRules → GivenName → Bool
+host_is_refused zone name = not (keeps_host zone (name_of name))
+
+abbrev pub any_host_refused : ZoneRules → List GivenName → Bool
+any_host_refused zone hosts = list_any (host_is_refused zone) hosts
 
 -- the zone refuses a name that is given
-abbrev pub name_is_refused : Request → Bool
-name_is_refused q =
-    any_refused (domains_asked q) || (any_refused (hosts_asked q) || (holds_of is_refused (asks_of q).new_host
-    || (any_refused (asks_of q).adds.hosts || any_refused (asks_of q).removes.hosts)))
+abbrev pub name_is_refused : ZoneRules → Request → Bool
+name_is_refused zone q =
+    list_any (domain_is_refused zone) (domains_asked q)
+    || (any_host_refused zone (hosts_asked q) || (holds_of (host_is_refused zone) (asks_of q).new_host
+    || (any_host_refused zone (asks_of q).adds.hosts || any_host_refused zone (asks_of q).removes.hosts)))
 
 -- one of the lists names one thing twice
 abbrev pub list_repeats : GivenLists → Bool
@@ -423,7 +431,7 @@ lacks_money p t q f = nat_lt 0 (charge_of p t q f) && int_lt f.account.balance (
 
 -- a condition holds of a registrar's request at a moment, by the facts
 abbrev pub holds : PolicyRules → ℕ → ℕ → Request → Facts → Condition → Bool
-holds p r t q f NameIsRefused = name_is_refused q
+holds p r t q f NameIsRefused = name_is_refused p.zone q
 holds p r t q f ListRepeats = list_repeats (asks_of q).adds || list_repeats (asks_of q).removes
 holds p r t q f IsThere = is_there q f
 holds p r t q f IsMissing = not (is_there q f)

@@ -1,7 +1,8 @@
 -- What an accepted command is told (RFC 5731 to 5733, 3.1 and 3.2).
 use Rattle.std.specs.Prelude.{ℕ, Bool, List, [], map, Option, Some, None, is_some, option_map, option_and_then, unwrap_or, if◌then◌else◌, ◌==◌}
 use Rattle.calendar.specs.Moment.{plus_years, capped}
-use Rattle.names.specs.GivenName.{GivenName, is_refused, name_of}
+use Rattle.names.specs.GivenName.{GivenName, name_of}
+use Rattle.names.specs.Zone.{ZoneRules}
 use Rattle.objects.specs.declared.contact.Contact.{Contact}
 use Rattle.objects.specs.declared.contact.ContactFace.{ContactFace}
 use Rattle.objects.specs.declared.domain.Domain.{Domain}
@@ -41,7 +42,7 @@ use Rattle.protocol.specs.declared.reply.Transferred.{Transferred}
 use Rattle.facts.specs.Facts.{host_sponsor}
 use Rattle.facts.specs.Facts.{contact_at, contact_seen, domain_at, domain_seen, host_at, host_seen}
 use Rattle.verdict.specs.Charges.{charge_of, years_charged}
-use Rattle.verdict.specs.Conditions.{domain_in_full, renewed_expiry}
+use Rattle.verdict.specs.Conditions.{domain_in_full, domain_is_refused, host_is_refused, renewed_expiry}
 use Rattle.verdict.specs.Deletion.{deleted}
 use Rattle.verdict.specs.Transfers.{charge_told, contact_after, domain_after}
 use Rattle.verdict.specs.Poll.{left, polled}
@@ -55,21 +56,24 @@ id_of p r = unwrap_or (id_at p r) []
 abbrev pub in_use : Bool → Option Reason
 in_use taken = if taken then Some InUse else None
 
--- why a name can't be created
-abbrev pub reason_of : (List ℕ → Bool) → GivenName → Option Reason
-reason_of is_taken name = if is_refused name then Some Policy else in_use (is_taken (name_of name))
-
-abbrev pub result_of : (List ℕ → Bool) → GivenName → CheckResult
-result_of is_taken name = record { name = name_of name; reason = reason_of is_taken name }
+-- why a name can't be created, told whether the zone refuses it, and whether it is taken
+abbrev pub reason_of : Bool → Bool → Option Reason
+reason_of refused taken = if refused then Some Policy else in_use taken
 
 abbrev pub contact_result : Facts → List ℕ → CheckResult
 contact_result f name = record { name = name; reason = in_use (is_some (contact_seen f name)) }
 
-abbrev pub domain_result : Facts → GivenName → CheckResult
-domain_result f name = result_of (λ text. is_some (domain_seen f text)) name
+abbrev pub domain_result : ZoneRules → Facts → GivenName → CheckResult
+domain_result zone f name = record {
+  name = name_of name;
+  reason = reason_of (domain_is_refused zone name) (is_some (domain_seen f (name_of name)));
+}
 
-abbrev pub host_result : Facts → GivenName → CheckResult
-host_result f name = result_of (λ text. is_some (host_seen f text)) name
+abbrev pub host_result : ZoneRules → Facts → GivenName → CheckResult
+host_result zone f name = record {
+  name = name_of name;
+  reason = reason_of (host_is_refused zone name) (is_some (host_seen f (name_of name)));
+}
 
 -- ---- create
 
@@ -172,8 +176,8 @@ abbrev pub response_data : PolicyRules → ℕ → ℕ → Request → Facts →
 response_data p r t requests.Logout f = None
 response_data p r t requests.Balance f = Some (told.Balance f.account.balance)
 response_data p r t (requests.CheckContact names) f = Some (told.Checked (map (contact_result f) names))
-response_data p r t (requests.CheckDomain names) f = Some (told.Checked (map (domain_result f) names))
-response_data p r t (requests.CheckHost names) f = Some (told.Checked (map (host_result f) names))
+response_data p r t (requests.CheckDomain names) f = Some (told.Checked (map (domain_result p.zone f) names))
+response_data p r t (requests.CheckHost names) f = Some (told.Checked (map (host_result p.zone f) names))
 response_data p r t (requests.InfoContact name secret) f = option_map told.Contact (option_and_then (contact_info_at p r secret) (contact_at f name))
 response_data p r t (requests.InfoDomain name secret) f = option_map told.Domain (option_and_then (domain_info_at p r secret) (domain_at f (name_of name)))
 response_data p r t (requests.InfoHost name) f = option_map told.Host (option_and_then (host_info_at p) (host_at f (name_of name)))

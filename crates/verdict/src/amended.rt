@@ -1,20 +1,42 @@
 //! The conditions on the names and lists of a command, and on what they would make of its object.
 ghost use Rattle.std.specs.Prelude.{◌≡◌};
+ghost use Rattle.std.specs.List.{list_any};
 ghost use Rattle.std.specs.Option.{option_copied};
 ghost use Rattle.protocol.specs.Requests.{holds_of, lists_of};
 ghost use Rattle.verdict.specs.Conditions as spec;
 
 use crate::conditions::{any_set, any_unset};
 use facts::{adds_what_is_there, has_status_twice, has_twice, is_over, removes_what_is_not};
-use names::GivenName;
+use names::{GivenName, Zone};
 use objects::{Contact, Domain, Host};
 use protocol::{Lists, MOST_ADDRESSES, MOST_CONTACTS, MOST_HOSTS};
 
-/// Whether the zone refuses one of the names.
-pub(crate) fn any_refused(names: &[GivenName]) -> bool
-    ensures { result ≡ spec.any_refused names.now }
+/// Whether the zone doesn't keep such domains.
+pub(crate) fn domain_is_refused(zone: &Zone, name: &GivenName) -> bool
+    ensures { result ≡ spec.domain_is_refused zone.now name.now }
 {
-    names.iter().any(|name| name.is_refused())
+    !zone.keeps_domain(name.text().as_str())
+}
+
+/// Whether the zone doesn't keep such hosts.
+pub(crate) fn host_is_refused(zone: &Zone, name: &GivenName) -> bool
+    ensures { result ≡ spec.host_is_refused zone.now name.now }
+{
+    !zone.keeps_host(name.text().as_str())
+}
+
+/// Whether the zone refuses one of the domains.
+pub(crate) fn any_domain_refused(zone: &Zone, domains: &[GivenName]) -> bool
+    ensures { result ≡ list_any (spec.domain_is_refused zone.now) domains.now }
+{
+    domains.iter().any(|name| domain_is_refused(zone, name))
+}
+
+/// Whether the zone refuses one of the hosts.
+pub(crate) fn any_host_refused(zone: &Zone, hosts: &[GivenName]) -> bool
+    ensures { result ≡ spec.any_host_refused zone.now hosts.now }
+{
+    hosts.iter().any(|name| host_is_refused(zone, name))
 }
 
 /// Whether one of the lists names one thing twice.

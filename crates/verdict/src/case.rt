@@ -3,14 +3,14 @@ ghost use Rattle.std.specs.Prelude.{◌≡◌, find, option_and_then};
 ghost use Rattle.std.specs.List.{slice_get};
 ghost use Rattle.std.specs.Option.{option_copied};
 ghost use Rattle.facts.specs.Facts as facts_spec;
-ghost use Rattle.names.specs.GivenName.{is_refused};
 ghost use Rattle.protocol.specs.Requests as requests;
 ghost use Rattle.verdict.specs.Conditions as spec;
 ghost use Rattle.verdict.specs.Rules.{refusal_of};
 
 use crate::amended::{
-    any_refused, are_too_long, contact_has, contact_lacks, domain_has, domain_is_over,
-    domain_lacks, host_has, host_is_over, host_lacks, list_repeats,
+    any_domain_refused, any_host_refused, are_too_long, contact_has, contact_lacks, domain_has,
+    domain_is_over, domain_lacks, host_has, host_is_over, host_is_refused, host_lacks,
+    list_repeats,
 };
 use crate::charge::charge_of;
 use crate::conditions::{
@@ -152,21 +152,22 @@ impl<'a> Case<'a> {
 
 impl Case<'_> {
     fn name_is_refused(&self) -> bool
-        ensures { result ≡ spec.name_is_refused self.now.request.now }
+        ensures { result ≡ spec.name_is_refused self.now.policy.now.zone self.now.request.now }
     {
-        any_refused(self.request.domains())
-            || any_refused(self.request.hosts())
+        let zone = self.policy.zone();
+        any_domain_refused(zone, self.request.domains())
+            || any_host_refused(zone, self.request.hosts())
             || self.new_host_is_refused()
-            || any_refused(self.request.added().hosts)
-            || any_refused(self.request.removed().hosts)
+            || any_host_refused(zone, self.request.added().hosts)
+            || any_host_refused(zone, self.request.removed().hosts)
     }
 
     fn new_host_is_refused(&self) -> bool
-        ensures { result ≡ requests.holds_of is_refused (requests.asks_of self.now.request.now).new_host }
+        ensures { result ≡ requests.holds_of (spec.host_is_refused self.now.policy.now.zone) (requests.asks_of self.now.request.now).new_host }
     {
         match self.request.new_host() {
             None => false,
-            Some(name) => name.is_refused(),
+            Some(name) => host_is_refused(self.policy.zone(), name),
         }
     }
 

@@ -4,6 +4,7 @@ ghost use Rattle.std.specs.Option.{option_copied};
 ghost use Rattle.verdict.specs.Conditions.{domain_in_full};
 ghost use Rattle.verdict.specs.ResponseData as spec;
 
+use crate::amended::{domain_is_refused, host_is_refused};
 use crate::case::full_domain;
 use crate::charge::{charge_of, years_charged};
 use crate::deletion::deleted_data;
@@ -15,7 +16,7 @@ use basis::registrar::RegistrarNo;
 use basis::text::{Text, copied};
 use calendar::Moment;
 use facts::{ContactFacts, DomainFacts, Facts, HostFacts};
-use names::GivenName;
+use names::{GivenName, Zone};
 use objects::{
     Contact, ContactFace, Domain, DomainFace, FullDomain, Host, Seen, Transfer, with_linked,
 };
@@ -45,11 +46,11 @@ pub(crate) fn response_data(
             Ok(Some(Data::Checked(Seq::from_vec(results))))
         }
         Request::CheckDomain { names } => {
-            let results = check_domains(alloc, facts, names.as_slice())?;
+            let results = check_domains(alloc, policy.zone(), facts, names.as_slice())?;
             Ok(Some(Data::Checked(Seq::from_vec(results))))
         }
         Request::CheckHost { names } => {
-            let results = check_hosts(alloc, facts, names.as_slice())?;
+            let results = check_hosts(alloc, policy.zone(), facts, names.as_slice())?;
             Ok(Some(Data::Checked(Seq::from_vec(results))))
         }
         Request::InfoContact { name, secret } => {
@@ -104,11 +105,11 @@ fn in_use(taken: bool) -> Option<Reason>
     if taken { Some(Reason::InUse) } else { None }
 }
 
-/// Why a name can't be created, told whether it is taken.
-fn reason_against(name: &GivenName, taken: bool) -> Option<Reason>
-    ensures { result ≡ spec.reason_of (λ text. taken) name.now }
+/// Why a name can't be created, told whether the zone refuses it, and whether it is taken.
+fn reason_against(refused: bool, taken: bool) -> Option<Reason>
+    ensures { result ≡ spec.reason_of refused taken }
 {
-    if name.is_refused() {
+    if refused {
         Some(Reason::Policy)
     } else {
         in_use(taken)
@@ -134,16 +135,20 @@ fn check_contacts(
 
 fn check_domains(
     alloc: Global,
+    zone: &Zone,
     facts: &Facts,
     names: &[GivenName],
 ) -> Result<Vec<CheckResult>, AllocError>
-    ensures { IfOk result (λ results. results.items ≡ map (spec.domain_result facts.now) names.now) }
+    ensures { IfOk result (λ results. results.items ≡ map (spec.domain_result zone.now facts.now) names.now) }
 {
     let mut results = Vec::new(alloc);
     for name in names {
         results.push(CheckResult {
             name: name.text().clone()?,
-            reason: reason_against(name, facts.domain_seen(name.text()).is_some()),
+            reason: reason_against(
+                domain_is_refused(zone, name),
+                facts.domain_seen(name.text()).is_some(),
+            ),
         })?;
     }
     Ok(results)
@@ -151,16 +156,20 @@ fn check_domains(
 
 fn check_hosts(
     alloc: Global,
+    zone: &Zone,
     facts: &Facts,
     names: &[GivenName],
 ) -> Result<Vec<CheckResult>, AllocError>
-    ensures { IfOk result (λ results. results.items ≡ map (spec.host_result facts.now) names.now) }
+    ensures { IfOk result (λ results. results.items ≡ map (spec.host_result zone.now facts.now) names.now) }
 {
     let mut results = Vec::new(alloc);
     for name in names {
         results.push(CheckResult {
             name: name.text().clone()?,
-            reason: reason_against(name, facts.host_seen(name.text()).is_some()),
+            reason: reason_against(
+                host_is_refused(zone, name),
+                facts.host_seen(name.text()).is_some(),
+            ),
         })?;
     }
     Ok(results)

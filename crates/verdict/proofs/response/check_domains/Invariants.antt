@@ -3,4 +3,4 @@ use Rattle.verdict.specs.ResponseData.{domain_result}
 use Rattle.verdict.proofs.response.check_domains.Given as goal
 
 abbrev pub invariant-loop-name : goal.invariant-loop-name
-invariant-loop-name l = l.results.items ≡ map (domain_result l.facts) (take l.name-index l.names)
+invariant-loop-name l = l.results.items ≡ map (domain_result l.zone l.facts) (take l.name-index l.names)

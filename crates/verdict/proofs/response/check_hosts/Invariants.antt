@@ -3,4 +3,4 @@ use Rattle.verdict.specs.ResponseData.{host_result}
 use Rattle.verdict.proofs.response.check_hosts.Given as goal
 
 abbrev pub invariant-loop-name : goal.invariant-loop-name
-invariant-loop-name l = l.results.items ≡ map (host_result l.facts) (take l.name-index l.names)
+invariant-loop-name l = l.results.items ≡ map (host_result l.zone l.facts) (take l.name-index l.names)

@@ -9,7 +9,7 @@ pub returns-clause-isolation : goal.returns-clause-isolation
 returns-clause-isolation g c = isolated_step c.step.result _ c.args.self.now.policy c.args.self.now.sound c.args.caller c.args.command.now c.args.moment (taken c.is_late.result c.args.moment c.is_late.ensures c.if-is_late.false) _ _ c.step.ensures.step
 
 pub returns-clause-well_formed : goal.returns-clause-well_formed
-returns-clause-well_formed g c = kept_step c.step.result _ c.args.self.now.policy c.args.self.now.sound c.args.caller c.args.command.now c.args.moment (taken c.is_late.result c.args.moment c.is_late.ensures c.if-is_late.false) _ _ c.requires c.asks_ten_years.ensures c.step.ensures.step
+returns-clause-well_formed g c = kept_step c.step.result _ c.args.self.now.policy c.args.self.now.sound c.args.caller c.args.command.now c.args.moment (taken c.is_late.result c.args.moment c.is_late.ensures c.if-is_late.false) _ _ c.requires c.can_be_asked.ensures c.step.ensures.step
 
 pub returns-clause-reopens : goal.returns-clause-reopens
 returns-clause-reopens g c =

@@ -1,0 +1,77 @@
+//! What holds of each command that comes, since the types of its values keep it.
+ghost use Rattle.std.specs.Prelude.{◌≤◌};
+ghost use Rattle.std.specs.List.{slice_get};
+ghost use Rattle.std.specs.Option.{IfSome};
+ghost use Rattle.names.specs.Canonical.{IsCanonical};
+ghost use Rattle.protocol.specs.Requests.{asks_of, domains_asked, transfer_years};
+ghost use Rattle.rules.specs.Askable.{CanBeAsked, IsAskable};
+ghost use Rattle.verdict.specs.Conditions.{host_name_after};
+
+use protocol::{Command, Request, TransferOp};
+
+/// A command asks for ten years at most, and its names were read.
+pub(crate) fn can_be_asked(command: &Command)
+    ensures { CanBeAsked command.now }
+{
+    match command {
+        Command::Bad { .. } => {}
+        Command::Asked { request, .. } => is_askable(request),
+    }
+}
+
+fn is_askable(request: &Request)
+    ensures { IsAskable request.now }
+{
+    asks_ten_years(request);
+    domain_is_canonical(request);
+    host_is_canonical(request);
+}
+
+fn asks_ten_years(request: &Request)
+    ensures { (asks_of request.now).years ≤ 10 }
+{
+    match request {
+        Request::CreateDomain(new) => {
+            new.years.number();
+        }
+        Request::RenewDomain { years, .. } => {
+            years.number();
+        }
+        Request::TransferDomain { op, .. } => transfer_asks_ten_years(*op),
+        _ => {}
+    }
+}
+
+fn transfer_asks_ten_years(op: TransferOp)
+    ensures { transfer_years op ≤ 10 }
+{
+    match op {
+        TransferOp::Request => {}
+        TransferOp::Query => {}
+        TransferOp::Approve => {}
+        TransferOp::Reject => {}
+        TransferOp::Cancel => {}
+    }
+}
+
+/// The name of the domain was read.
+fn domain_is_canonical(request: &Request)
+    ensures { IfSome (slice_get (domains_asked request.now) 0) IsCanonical }
+{
+    if let Some(name) = request.domains().first() {
+        name.is_canonical();
+    }
+}
+
+/// The name that the host has afterwards was read.
+fn host_is_canonical(request: &Request)
+    ensures { IfSome (host_name_after request.now) IsCanonical }
+{
+    let name = match request.new_host() {
+        Some(name) => Some(name),
+        None => request.hosts().first(),
+    };
+    if let Some(name) = name {
+        name.is_canonical();
+    }
+}
