@@ -1,7 +1,7 @@
 -- Each command and each order keep the shapes of objects.
 use Rattle.std.proofs.Common.{◌≡◌, inl, inr, ℕ, ◌-◌, ◌≤◌, max, nat_lt, Bool, true, false, cond, not, ◌||◌, List, [], ◌∷◌, length, Option, Some, None, IsSome, is_some, option_and_then, option_map, refl, sym, ap, subst, ◌∙◌, arith}
 use Rattle.std.specs.FinMap.{get}
-use Rattle.std.specs.List.{list_any, slice_get}
+use Rattle.std.specs.List.{list_any}
 use Rattle.std.specs.Option.{IfSome}
 use Rattle.std.proofs.lemmas.Bool.{or_parts}
 use Rattle.accounts.specs.Account.{with_command}
@@ -42,7 +42,7 @@ use Rattle.protocol.specs.declared.transfer.TransferOp.{TransferOp}
 use Rattle.protocol.specs.declared.lists.TheConstants.{MOST_ADDRESSES, MOST_CONTACTS, MOST_HOSTS}
 use Rattle.protocol.specs.Codes.{is_accepted}
 use Rattle.protocol.specs.Orders.{name_ordered}
-use Rattle.protocol.specs.Requests.{asks_of, domains_asked, holds_of, hosts_asked, of_domain, of_host}
+use Rattle.protocol.specs.Requests.{asks_of, domains_asked, final_name, holds_of, hosts_asked, of_domain, of_host}
 use Rattle.model.specs.declared.object.Object.TheVariants as objects
 use Rattle.model.specs.Objects.{object_at, object_ordered}
 use Rattle.model.specs.Registry.{Registry}
@@ -103,12 +103,12 @@ shape-updated zone t u d once new few h =
 
 -- so do those of a host
 shape-host-updated : (u : HostUpdate) (h : Host) → list_repeats (of_host u.add) ≡ false → host_has (of_host u.add) h ≡ false → host_is_over (of_host u.rem) (of_host u.add) h ≡ false
-    → (p : PolicyRules) (r t : ℕ) → IsShapedHost p.zone h → IsShapedHost p.zone (updated_host p.zone r t u h)
-shape-host-updated u h once new few p r t is =
+    → (p : PolicyRules) (r t : ℕ) → IsHostName p.zone (final_name u u.new_name) → IsShapedHost p.zone h → IsShapedHost p.zone (updated_host p.zone r t u h)
+shape-host-updated u h once new few p r t named is =
     let addresses = or_parts (has_twice itself u.add.addresses) _ once in
     let new_addresses = or_parts (adds_what_is_there itself h.addresses u.add.addresses) _ new in
     record {
-      name = is.name;
+      name = named;
       addresses = (set-amended itself h.addresses u.rem.addresses u.add.addresses addresses.0 new_addresses.0 is.addresses.0, within-amended itself MOST_ADDRESSES h.addresses u.rem.addresses u.add.addresses few);
     }
 
@@ -212,15 +212,15 @@ module _ (p : PolicyRules) (r : ℕ) (cl_trid : Option (List ℕ)) (s : Registry
           let there : IsSome (get s.hosts name) = (is.domains n d at).hosts name e in
           absurd (let never : true ≡ false = sym there ∙ free in cc)
 
-  renamed : (u : HostUpdate) (old : List ℕ) (h : Host) (given : Option GivenName) → is_some (at_new u given) ≡ false → IsShapedHost p.zone h → IfSome given (IsHostName p.zone) → AllFitShapes p (renaming old h given) counted
-  renamed u old h None free shaped kept = (shaped, tt)
-  renamed u old h (Some name) free shaped kept = (tt, (record { name = kept; addresses = shaped.addresses }, (unnamed (name_of name) free, tt)))
+  renamed : (u : HostUpdate) (old : List ℕ) (h : Host) (given : Option GivenName) → is_some (at_new u given) ≡ false → IsShapedHost p.zone h → AllFitShapes p (renaming old h given) counted
+  renamed u old h None free shaped = (shaped, tt)
+  renamed u old h (Some name) free shaped = (tt, (record { name = shaped.name; addresses = shaped.addresses }, (unnamed (name_of name) free, tt)))
 
   host-updated : (u : HostUpdate) (seen : Option Host) → seen ≡ get s.hosts (name_of u.name) → is_some (at_new u u.new_name) ≡ false → list_repeats (of_host u.add) ≡ false → holds_of (host_has (of_host u.add)) seen ≡ false
-      → holds_of (host_is_over (of_host u.rem) (of_host u.add)) seen ≡ false → IfSome u.new_name (IsHostName p.zone) → AllFitShapes p (host_changes p.zone r s.clock u seen) counted
-  host-updated u None e free once new few kept = tt
-  host-updated u (Some h) e free once new few kept =
-      renamed u (name_of u.name) (updated_host p.zone r s.clock u h) u.new_name free (shape-host-updated u h once new few p r s.clock (has.hosts (name_of u.name) h (sym e))) kept
+      → holds_of (host_is_over (of_host u.rem) (of_host u.add)) seen ≡ false → IsHostName p.zone (final_name u u.new_name) → AllFitShapes p (host_changes p.zone r s.clock u seen) counted
+  host-updated u None e free once new few named = tt
+  host-updated u (Some h) e free once new few named =
+      renamed u (name_of u.name) (updated_host p.zone r s.clock u h) u.new_name free (shape-host-updated u h once new few p r s.clock named (has.hosts (name_of u.name) h (sym e)))
 
   -- ---- transfers
 
@@ -282,7 +282,7 @@ module _ (p : PolicyRules) (r : ℕ) (cl_trid : Option (List ℕ)) (s : Registry
   unrepeated : (q : Request) → (list_repeats (asks_of q).adds || list_repeats (asks_of q).removes) ≡ false → list_repeats (asks_of q).adds ≡ false
   unrepeated q e = (or_parts (list_repeats (asks_of q).adds) (list_repeats (asks_of q).removes) e).0
 
-  -- the zone keeps the name of a new domain, of a new host, and the new name of a host
+  -- the zone keeps the name of a new domain, of a new host, and the name that a host has after an update
   new-domain-named : (new : NewDomain) → IsAskable (requests.CreateDomain new) → IsTaken (requests.CreateDomain new) → IsDomainName p.zone (name_of new.name)
   new-domain-named new askable taken =
       let q : Request = requests.CreateDomain new in
@@ -296,16 +296,17 @@ module _ (p : PolicyRules) (r : ℕ) (cl_trid : Option (List ℕ)) (s : Registry
       let hosts = or_parts (any_host_refused p.zone (hosts_asked q)) _ all.1 in
       record { canonical = askable.host; kept = unless-not _ (or_parts (host_is_refused p.zone new.name) false hosts.0).0 }
 
-  given-named : (first given : Option GivenName) → IfSome (or_else given first) IsCanonical → holds_of (host_is_refused p.zone) given ≡ false → IfSome given (IsHostName p.zone)
-  given-named first None canonical kept = tt
-  given-named first (Some name) canonical kept = record { canonical = canonical; kept = unless-not _ kept }
+  named-after : (u : HostUpdate) (given : Option GivenName) → IfSome (or_else given (Some u.name)) IsCanonical → host_is_refused p.zone u.name ≡ false → holds_of (host_is_refused p.zone) given ≡ false
+      → IsHostName p.zone (final_name u given)
+  named-after u None canonical old_kept kept = record { canonical = canonical; kept = unless-not _ old_kept }
+  named-after u (Some name) canonical old_kept kept = record { canonical = canonical; kept = unless-not _ kept }
 
-  new-name-named : (u : HostUpdate) → IsAskable (requests.UpdateHost u) → IsTaken (requests.UpdateHost u) → IfSome u.new_name (IsHostName p.zone)
-  new-name-named u askable taken =
+  updated-host-named : (u : HostUpdate) → IsAskable (requests.UpdateHost u) → IsTaken (requests.UpdateHost u) → IsHostName p.zone (final_name u u.new_name)
+  updated-host-named u askable taken =
       let q : Request = requests.UpdateHost u in
       let all = or_parts (list_any (domain_is_refused p.zone) (domains_asked q)) _ (unrefused p r s.clock q (known q) taken conditions.NameIsRefused (search (inl, inr) depth 20)) in
       let hosts = or_parts (any_host_refused p.zone (hosts_asked q)) _ all.1 in
-      given-named (slice_get (hosts_asked q) 0) u.new_name askable.host (or_parts (holds_of (host_is_refused p.zone) u.new_name) _ hosts.1).0
+      named-after u u.new_name askable.host (or_parts (host_is_refused p.zone u.name) false hosts.0).0 (or_parts (holds_of (host_is_refused p.zone) u.new_name) _ hosts.1).0
 
   fit-accepted : (q : Request) → IsAskable q → IsTaken q → Fit q
   unfolding changes_of
@@ -347,7 +348,7 @@ module _ (p : PolicyRules) (r : ℕ) (cl_trid : Option (List ℕ)) (s : Registry
       (unrepeated q (unrefused p r s.clock q (known q) taken conditions.ListRepeats (search (inl, inr) depth 20)))
       (unrefused p r s.clock q (known q) taken conditions.AddsWhatIsThere (search (inl, inr) depth 20))
       (host-fits u (host_seen (known q) (name_of u.name)) (unrefused p r s.clock q (known q) taken conditions.LeavesTooMany (search (inl, inr) depth 20)))
-      (new-name-named u askable taken)
+      (updated-host-named u askable taken)
   fit-accepted (requests.RenewDomain name expires years) askable taken =
       let q : Request = requests.RenewDomain name expires years in
       renewed q (known q) (name_of name) (domain_seen (known q) (name_of name)) (ap (option_and_then (λ known. known.seen)) (at-itself (name_of name) (domain_facts (lookups p r (asking q) s) (asking q) (name_of name))))
@@ -400,7 +401,7 @@ module _ (p : PolicyRules) (s : Registry) (has : HasShapes p.zone s) (o : Status
 
   ordered-host : (name : List ℕ) (found : Option Host) → get s.hosts name ≡ found → AllFitShapes p (order_changes o (option_map objects.Host found)) s
   ordered-host name None at = tt
-  ordered-host name (Some h) at = (has.hosts name h at, tt)
+  ordered-host name (Some h) at = let is = has.hosts name h at in (record { name = is.name; addresses = is.addresses }, tt)
 
   ordered-at : (kind : ObjectKind) (name : Option (List ℕ)) → AllFitShapes p (order_changes o (option_and_then (object_at s kind) name)) s
   ordered-at kind None = tt
