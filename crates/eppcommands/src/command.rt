@@ -35,10 +35,7 @@ pub(crate) fn value_in(alloc: Global, payload: &[u8]) -> Result<Option<Value>, A
     }
 }
 
-pub(crate) fn command_of_value(
-    alloc: Global,
-    value: &Value,
-) -> Result<Command, AllocError>
+pub(crate) fn command_of_value(alloc: Global, value: &Value) -> Result<Command, AllocError>
     ensures { IfOk result (λ command. command ≡ spec.command_of_data (view value.now)) }
 {
     let cl_trid = cl_trid_of(alloc, value)?;

@@ -4,8 +4,8 @@ ghost use Rattle.eppcommands.specs.Reading.{Gives};
 ghost use Rattle.eppcommands.specs.Domain as spec;
 
 use crate::reading::{
-    Fault, date_at, maybe_text_at, moment_at, name_at, names_at, statuses_at, text_at,
-    texts_at, years_at,
+    Fault, date_at, maybe_text_at, moment_at, name_at, names_at, statuses_at, text_at, texts_at,
+    years_at,
 };
 use eppforms::Member;
 use eppforms::Section::{self, Add, Chg, Rem, Top};
@@ -81,11 +81,7 @@ pub fn update_domain(alloc: Global, value: &Value) -> Result<Request, Fault>
 
 /// What an update adds or removes.
 #[tactic(auto, unfolding(crate::specs::Domain::lists_of_domain))]
-fn lists_of_domain(
-    alloc: Global,
-    section: Section,
-    value: &Value,
-) -> Result<DomainLists, Fault>
+fn lists_of_domain(alloc: Global, section: Section, value: &Value) -> Result<DomainLists, Fault>
     ensures { Gives result (spec.lists_of_domain section (view value.now)) }
 {
     let hosts = names_at(alloc, section, Member::Hosts, value)?;
@@ -137,11 +133,7 @@ pub fn report_restore(alloc: Global, value: &Value) -> Result<Request, Fault>
 }
 
 #[tactic(auto, unfolding(crate::specs::Domain::transfer_domain))]
-pub fn transfer_domain(
-    alloc: Global,
-    op: TransferOp,
-    value: &Value,
-) -> Result<Request, Fault>
+pub fn transfer_domain(alloc: Global, op: TransferOp, value: &Value) -> Result<Request, Fault>
     ensures { Gives result (spec.transfer_domain op (view value.now)) }
 {
     let name = name_at(alloc, Top, Member::Name, value)?;

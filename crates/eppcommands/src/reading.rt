@@ -111,10 +111,7 @@ pub fn names_at(
     all_names(alloc, items)
 }
 
-fn all_names(
-    alloc: Global,
-    items: &[Value],
-) -> Result<Seq<GivenName>, Fault>
+fn all_names(alloc: Global, items: &[Value]) -> Result<Seq<GivenName>, Fault>
     ensures { spec.Gives result (spec.all_in (spec.name_in) (map view items.now)) }
 {
     let mut names = Seq::new(alloc);

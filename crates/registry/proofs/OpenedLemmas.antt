@@ -119,11 +119,12 @@ kept-opened p q s zone more is =
     let places : (r : ℕ) → IsSome (get (accounts-after n s) r) ↔ IsRegistrar p r = λ r.
     (λ there. ⊎_elim (λ was. grows.place r ((is.objects.accounts r).0 was)) (λ place. place) ((places-after n r s).0 there), λ place. (places-after n r s).1 (inr place)) in
     let t : Registry = record s { accounts = accounts-after n s } in
+    let of_q : HasShapes q.zone t = record { domains = is.shapes.domains; hosts = is.shapes.hosts } in
     subst (IsRegistry p) (sym (changed-openings p n s)) (record {
       clock = is.clock;
       objects = kept-grown q p s (accounts-after n s) s.clock grows places is.objects;
       lines = lines-domains q p s t grows (λ r. ap (λ (a : Account). a.lines) (same-account n r s)) is.lines.domains is.lines;
-      shapes = record { domains = is.shapes.domains; hosts = is.shapes.hosts };
+      shapes = subst (λ (z : ZoneRules). HasShapes z t) zone of_q;
     })
 
 -- ---- what was never opened is the registry of a policy without registrars

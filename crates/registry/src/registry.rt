@@ -18,6 +18,7 @@ ghost use Rattle.facts.specs.Facts.{facts};
 ghost use Rattle.verdict.specs.ResponseData.{id_of};
 ghost use Rattle.protocol.specs.Requests.{cl_trid_of};
 
+use crate::askable::can_be_asked;
 use crate::faces::{ContactAt, DomainAt, HostAt, LookUp, WholeZone, ZoneFaces, look_up_in};
 use crate::fault::{Fault, OpenFault};
 use crate::greeting::greet_in;
@@ -25,7 +26,6 @@ use crate::opening::open_in;
 use crate::order::execute_order_in;
 use crate::settlement::settle_in;
 use crate::transaction::{advance_clock, facts_for, keep, or_rollback};
-use crate::askable::can_be_asked;
 use basis::list::Seq;
 use basis::registrar::RegistrarNo;
 use basis::text::{Text, copied};
