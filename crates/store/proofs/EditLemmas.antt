@@ -217,11 +217,11 @@ pub undone_all-made : (us vs : List Edit) (u e : Edit) (s t : Stored) → vs ≡
 undone_all-made us vs u e s t pushed back made =
     ap (λ (ws : List Edit). undone_all ws t) pushed ∙ undone_all-push us u t ∙ ap (undone_all us) (ap (edited u) made ∙ back)
 
--- one that wasn't made leaves no trace
-pub take-push : (us vs ws : List Edit) (u : Edit) → vs ≡ us ++ u ∷ [] → ws ≡ take (length vs - 1) vs → ws ≡ us
-take-push us vs ws u pushed taken =
+-- what stands before the latest undoes what was made before it
+pub undone_all-unmade : (us vs : List Edit) (u : Edit) (s : Stored) → vs ≡ us ++ u ∷ [] → undone_all (take (length vs - 1) vs) s ≡ undone_all us s
+undone_all-unmade us vs u s pushed =
     let many : length (us ++ u ∷ []) - 1 ≡ length us = omega (arith, length-append us (u ∷ [])) in
-    taken ∙ ap (λ (xs : List Edit). take (length xs - 1) xs) pushed ∙ ap (λ n. take n (us ++ u ∷ [])) many ∙ take-append_seam us (u ∷ [])
+    ap (λ (ws : List Edit). undone_all ws s) (ap (λ (xs : List Edit). take (length xs - 1) xs) pushed ∙ ap (λ n. take n (us ++ u ∷ [])) many ∙ take-append_seam us (u ∷ []))
 
 -- ---- the latest edit
 

@@ -123,6 +123,11 @@ pub on-err : {A E : Type 0} {P Q : Type 0} (r : Result A E) → (P → Q) → On
 on-err (Ok x) f p = tt
 on-err (Err g) f p = f p
 
+-- what follows in either case
+pub whichever : {A E : Type 0} {P Q R : Type 0} (r : Result A E) → (P → R) → (Q → R) → OnOk r P → OnErr r Q → R
+whichever (Ok x) f g p q = f p
+whichever (Err e) f g p q = g q
+
 -- lines and messages are those of the account that is kept, whatever the counters are
 lines-kept : (c : Option Counters) (a : Account) → (counted c a).lines ≡ a.lines
 lines-kept None a = refl

@@ -1,12 +1,13 @@
 -- What a `PlainBook` holds.
-use Rattle.std.specs.Prelude.{◌≡◌, true, if◌then◌else◌, [], Option, Some, None}
+use Rattle.std.specs.Prelude.{◌≡◌, ◌-◌, length, take, List, true, if◌then◌else◌, [], Option, Some, None}
 use Rattle.policy.specs.declared.terms.Terms.{Terms}
 use Rattle.store.specs.declared.book.Ready.{Ready}
 use Rattle.store.specs.declared.book.Ready.TheVariants.{Empty, Used}
 use Rattle.store.specs.declared.plain.PlainBook.{PlainBook}
 use Rattle.store.specs.Book.{BookState, Stored}
 pub use Rattle.store.specs.Contents.{content_of, registry_in}
-use Rattle.store.specs.Edits.{undone_all}
+use Rattle.store.specs.Edits.{edited, undone_all}
+use Rattle.store.specs.declared.edit.Edit.{Edit}
 
 -- what was held when the transaction began
 abbrev pub at_begin : PlainBook → Stored
@@ -36,3 +37,13 @@ plain_state b = record {
 pub record IsSettled (old : BookState) (new : PlainBook) : Type 0 where
   pub same : plain_state new ≡ old
   pub content : content_of new.content ≡ old.content
+
+-- what undoes all changes but the latest
+abbrev pub without_latest : List Edit → List Edit
+without_latest undo = take (length undo - 1) undo
+
+-- once the edit is made, the latest undoes it and the others what was changed before, and as long as
+-- it isn't, the others lead back alone
+pub record LatestUndoes (e : Edit) (old new : PlainBook) : Type 0 where
+  pub made : undone_all new.undo (edited e (content_of new.content)) ≡ at_begin old
+  pub unmade : undone_all (without_latest new.undo) (content_of new.content) ≡ at_begin old

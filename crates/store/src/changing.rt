@@ -157,16 +157,16 @@ impl Content {
             }
             Edit::Notice(registrar, message) => self.notice_back(*registrar, message),
             Edit::Contact(name, _) => {
-                let old = copy_contact(self.contacts.get(name))?;
-                Ok(Edit::Contact(name.clone()?, old))
+                let key = name.clone()?;
+                Ok(Edit::Contact(key, copy_contact(self.contacts.get(name))?))
             }
             Edit::Domain(name, _) => {
-                let old = copy_domain(self.domains.get(name))?;
-                Ok(Edit::Domain(name.clone()?, old))
+                let key = name.clone()?;
+                Ok(Edit::Domain(key, copy_domain(self.domains.get(name))?))
             }
             Edit::Host(name, _) => {
-                let old = copy_host(self.hosts.get(name))?;
-                Ok(Edit::Host(name.clone()?, old))
+                let key = name.clone()?;
+                Ok(Edit::Host(key, copy_host(self.hosts.get(name))?))
             }
             Edit::Terms(_) => Ok(Edit::Terms(copy_terms(&self.terms)?)),
         }

@@ -139,12 +139,13 @@ impl Content {
         ensures { IfOk result (λ known. known ≡ facts.contact_facts (facts.lookups policy.now caller command.now (registry_in self.now)) command.now name.now) }
     {
         let presented = command.presented_for_contact(name);
+        let key = name.clone()?;
         let seen = match self.contacts.get(name) {
             None => None,
             Some(contact) => Some(contact.seen_by(self.alloc, caller, presented)?),
         };
         Ok(ContactFacts {
-            name: name.clone()?,
+            name: key,
             seen,
             linked: command.reads_associations() && self.is_linked_contact(name),
         })
@@ -184,6 +185,8 @@ impl Content {
     ) -> Result<DomainFacts, AllocError>
         ensures { IfOk result (λ known. known ≡ facts.domain_facts (facts.lookups policy.now caller command.now (registry_in self.now)) command.now name.now) }
     {
+        let key = name.clone()?;
+        let subordinate = Seq::from_vec(self.hosts_around(command, name)?);
         let seen = match self.domains.get(name) {
             None => None,
             Some(domain) => Some(self.seen_domain(
@@ -195,9 +198,9 @@ impl Content {
         };
         let given_back = self.given_back(caller, command, policy, seen.as_ref());
         Ok(DomainFacts {
-            name: name.clone()?,
+            name: key,
             seen,
-            subordinate: Seq::from_vec(self.hosts_around(command, name)?),
+            subordinate,
             given_back,
         })
     }
@@ -298,10 +301,11 @@ impl Content {
     fn host_facts(&self, command: &Command, name: &Text) -> Result<HostFacts, AllocError>
         ensures { IfOk result (λ known. known ≡ lookups.host_facts_in command.now (registry_in self.now) name.now) }
     {
+        let superordinate = self.superordinate(name)?;
         Ok(HostFacts {
             name: name.clone()?,
             host: copy_host(self.hosts.get(name))?,
-            superordinate: self.superordinate(name)?,
+            superordinate,
             linked: command.reads_associations() && self.is_linked_host(name),
         })
     }

@@ -1,10 +1,10 @@
 //! The transactions of a book in memory.
-ghost use Rattle.std.specs.Prelude.{◌≡◌, true, ◌<◌, ◌∷◌, [], length, OnOk, Err};
+ghost use Rattle.std.specs.Prelude.{◌≡◌, true, ◌<◌, ◌∷◌, [], length, OnOk, OnErr, Err};
 ghost use Rattle.store.specs.Book.{FaultLeaves, IsBack, unused, with_changes, with_terms};
-ghost use Rattle.store.specs.Edits.{edited, edited_all};
+ghost use Rattle.store.specs.Edits.{edited, edited_all, undone_all};
 ghost use Rattle.rules.specs.Changes.{changed};
 ghost use Rattle.store.specs.Due.{due_by};
-ghost use Rattle.store.specs.Plain.{IsSettled, content_of, at_begin, plain_state, registry_in};
+ghost use Rattle.store.specs.Plain.{IsSettled, LatestUndoes, content_of, at_begin, plain_state, registry_in, without_latest};
 ghost use Rattle.store.specs.Quiet.{IsQuiet};
 
 use crate::book::Book;
@@ -78,19 +78,45 @@ impl PlainBook {
         Ok(())
     }
 
+    /// Keeps what undoes an edit that is to be made.
+    fn keep_inverse(&mut self, edit: &Edit) -> Result<(), AllocError>
+        ensures content { content_of self.new.content ≡ content_of self.old.content }
+        ensures open { self.new.is_open ≡ self.old.is_open }
+        ensures ok { OnOk result (LatestUndoes edit.now self.old self.new) }
+        ensures err { OnErr result (at_begin self.new ≡ at_begin self.old) }
+    {
+        let inverse = self.content.inverse(edit)?;
+        self.undo.push(inverse)?;
+        Ok(())
+    }
+
+    /// Makes an edit that the latest undoes. Where there is no memory for it, the latest is dropped.
+    fn set_kept(&mut self, edit: Edit) -> Result<(), AllocError>
+        ensures open { self.new.is_open ≡ self.old.is_open }
+        ensures ok { OnOk result (content_of self.new.content ≡ edited edit (content_of self.old.content)) }
+        ensures kept { OnOk result (at_begin self.new ≡ undone_all self.old.undo (edited edit (content_of self.old.content))) }
+        ensures err { OnErr result (at_begin self.new ≡ undone_all (without_latest self.old.undo) (content_of self.old.content)) }
+    {
+        self.quiet = None;
+        match self.content.set(edit) {
+            Ok(()) => Ok(()),
+            Err(error) => {
+                self.undo.drop_last();
+                Err(error)
+            }
+        }
+    }
+
     /// Makes an edit that can be undone.
     fn set(&mut self, edit: Edit) -> Result<(), AllocError>
         ensures at_begin { at_begin self.new ≡ at_begin self.old }
         ensures open { self.new.is_open ≡ self.old.is_open }
         ensures ok { OnOk result (content_of self.new.content ≡ edited edit (content_of self.old.content)) }
     {
-        let inverse = self.content.inverse(&edit)?;
-        self.undo.push(inverse)?;
-        self.quiet = None;
-        match self.content.set(edit) {
-            Ok(()) => Ok(()),
+        match self.keep_inverse(&edit) {
+            Ok(()) => self.set_kept(edit),
             Err(error) => {
-                self.undo.drop_last();
+                drop(edit);
                 Err(error)
             }
         }
