@@ -1,13 +1,23 @@
 -- What everyone may know of a registry at a moment.
 use Rattle.std.specs.Prelude.{◌≡◌, ℕ, true}
+use Rattle.std.specs.Cmp.Lexicographic.{slice_cmp}
+use Rattle.std.specs.FinMap.{FinMap}
+use Rattle.std.specs.Ordering.{nat_cmp}
 use Rattle.model.specs.Lapse.{lapsed, now}
 use Rattle.model.specs.Registry.{Registry}
+use Rattle.objects.specs.declared.domain.DomainFace.{DomainFace}
+use Rattle.objects.specs.declared.host.HostFace.{HostFace}
 use Rattle.policy.specs.Rules.{PolicyRules}
-use Rattle.registry.specs.declared.faces.ZoneFaces.{ZoneFaces}
 use Rattle.store.specs.Book.{BookState}
 use Rattle.store.specs.Faces.{domain_faces, host_faces}
 
--- of all hosts and all domains, at the registry's clock
+-- of all hosts and all domains, and the moment at which they stand so
+pub record ZoneFaces : Type 0 where
+  pub moment : ℕ
+  pub hosts : FinMap (slice_cmp nat_cmp) HostFace
+  pub domains : FinMap (slice_cmp nat_cmp) DomainFace
+
+-- at the registry's clock
 abbrev pub zone_faces_of : PolicyRules → Registry → ZoneFaces
 zone_faces_of p s = record { moment = s.clock; hosts = host_faces p s; domains = domain_faces p s }
 

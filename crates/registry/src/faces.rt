@@ -1,28 +1,19 @@
 //! What everyone may know of a registry at a moment.
 ghost use Rattle.std.specs.Prelude.{◌≡◌, true, false, IfOk, IfErr, OnOk};
 ghost use Rattle.registry.specs.Execution.{GoesBack, SameTerms};
-ghost use Rattle.registry.specs.Faces.{LooksUp, zone_faces_of};
+ghost use Rattle.registry.specs.Faces.{LooksUp};
 ghost use Rattle.store.specs.Book.{Commits, Follows, IsSame};
-ghost use Rattle.store.specs.Faces.{contact_face_at, domain_face_at, domain_faces, host_face_at, host_faces};
+ghost use Rattle.store.specs.Faces.{contact_face_at, domain_face_at, domain_names, host_addresses_at, host_face_at};
 
 use crate::fault::Fault;
-use crate::transaction::{advance_clock, clock, commit};
-use basis::maps::NameMap;
+use crate::transaction::{advance_clock, commit};
+use basis::list::Seq;
 use basis::text::Text;
 use calendar::Moment;
 use objects::{ContactFace, DomainFace, HostFace};
 use policy::Policy;
 use std::alloc::Global;
 use store::Book;
-
-/// What everyone may know of all hosts and all domains.
-#[derive(Drop)]
-pub struct ZoneFaces {
-    /// The moment at which they stand so.
-    pub moment: Moment,
-    pub hosts: NameMap<HostFace>,
-    pub domains: NameMap<DomainFace>,
-}
 
 /// What can be looked up in a book, whoever asks.
 pub(crate) trait LookUp {
@@ -89,29 +80,31 @@ impl LookUp for ContactAt<'_> {
     }
 }
 
-/// All hosts and all domains.
+/// The names of all domains.
 #[derive(Clone, Copy, Drop)]
-pub(crate) struct WholeZone;
+pub(crate) struct DomainNames;
 
-impl LookUp for WholeZone {
-    type Found = ZoneFaces;
+impl LookUp for DomainNames {
+    type Found = Seq<Text>;
 
-    ghost finds = { λ _ p s. zone_faces_of p s };
+    ghost finds = { λ _ p s. domain_names s };
 
-    fn look<B: Book>(&self, book: &mut B, policy: &Policy) -> Result<ZoneFaces, Fault> {
-        let moment = clock(book)?;
-        let hosts = book.host_faces(policy)?;
-        match book.domain_faces(policy) {
-            Ok(domains) => Ok(ZoneFaces {
-                moment,
-                hosts,
-                domains,
-            }),
-            Err(fault) => {
-                drop(hosts);
-                Err(Fault::from(fault))
-            }
-        }
+    fn look<B: Book>(&self, book: &mut B, _: &Policy) -> Result<Seq<Text>, Fault> {
+        Ok(book.domain_names()?)
+    }
+}
+
+/// The addresses of the host under a name.
+#[derive(Clone, Copy, Drop)]
+pub(crate) struct AddressesAt<'n>(pub &'n Text);
+
+impl LookUp for AddressesAt<'_> {
+    type Found = Option<Seq<Text>>;
+
+    ghost finds = { λ it p s. host_addresses_at s it.0.now };
+
+    fn look<B: Book>(&self, book: &mut B, _: &Policy) -> Result<Option<Seq<Text>>, Fault> {
+        Ok(book.host_addresses(self.0)?)
     }
 }
 

@@ -14,6 +14,5 @@ mod registry;
 mod settlement;
 mod transaction;
 
-pub use faces::ZoneFaces;
 pub use fault::{Fault, OpenFault};
 pub use registry::Registry;

@@ -7,19 +7,19 @@ ghost use Rattle.basis.specs.Sets.{names_code};
 ghost use Rattle.policy.specs.Rules.{IsRegistrar, IsSound};
 ghost use Rattle.policy.specs.Terms.{terms_of};
 ghost use Rattle.registry.specs.Execution.{Fails, GoesBack, Greets, IsPrepared, Isolates, Keeps, OrderSteps, SameTerms, Settles, Steps, last_call};
-ghost use Rattle.registry.specs.Faces.{LooksUp, zone_faces_of};
+ghost use Rattle.registry.specs.Faces.{LooksUp};
 ghost use Rattle.registry.specs.Money.{BookKeepsMoney, BookSpendsMoney};
 ghost use Rattle.registry.specs.Opening.{Opens, Refuses};
 ghost use Rattle.registry.specs.WellFormed.{BookCanBeReopened, BookKeepsWellFormed, BookStaysWellFormed, OpensWellFormed};
 ghost use Rattle.rules.specs.Steps.{reply_of};
 ghost use Rattle.store.specs.Book.{Follows, IsSame, with_changes};
-ghost use Rattle.store.specs.Faces.{contact_face_at, domain_face_at, host_face_at};
+ghost use Rattle.store.specs.Faces.{contact_face_at, domain_face_at, domain_names, host_addresses_at, host_face_at};
 ghost use Rattle.facts.specs.Facts.{facts};
 ghost use Rattle.verdict.specs.ResponseData.{id_of};
 ghost use Rattle.protocol.specs.Requests.{cl_trid_of};
 
 use crate::askable::can_be_asked;
-use crate::faces::{ContactAt, DomainAt, HostAt, LookUp, WholeZone, ZoneFaces, look_up_in};
+use crate::faces::{AddressesAt, ContactAt, DomainAt, DomainNames, HostAt, LookUp, look_up_in};
 use crate::fault::{Fault, OpenFault};
 use crate::greeting::greet_in;
 use crate::opening::open_in;
@@ -238,10 +238,9 @@ impl<B: Book + Drop> Registry<B> {
         self.look_up(&ContactAt(name), moment)
     }
 
-    /// The same of all hosts and all domains, with the moment at which they stand so, which is the
-    /// clock.
-    pub fn zone_faces(&mut self, moment: Moment) -> Result<ZoneFaces, Fault>
-        ensures step { IfOk result (λ found. LooksUp self.old.policy (zone_faces_of self.old.policy) moment found (B.state self.old.book) (B.state self.new.book)) }
+    /// The names of all domains at a moment, in their order.
+    pub fn domain_names(&mut self, moment: Moment) -> Result<Seq<Text>, Fault>
+        ensures step { IfOk result (λ found. LooksUp self.old.policy (domain_names) moment found (B.state self.old.book) (B.state self.new.book)) }
         ensures well_formed { OnOk result (BookKeepsWellFormed self.old.policy (B.state self.old.book) (B.state self.new.book)) }
         ensures terms { OnOk result (SameTerms (B.state self.old.book) (B.state self.new.book)) }
         ensures reopens { OnOk result (BookCanBeReopened self.old.policy (B.state self.new.book)) }
@@ -250,7 +249,43 @@ impl<B: Book + Drop> Registry<B> {
         ensures follows { Follows (B.state self.old.book) (B.state self.new.book) }
         ensures policy { self.new.policy ≡ self.old.policy }
     {
-        self.look_up(&WholeZone, moment)
+        self.look_up(&DomainNames, moment)
+    }
+
+    /// What everyone may know of the domain under one of these names.
+    pub fn listed_domain(
+        &mut self,
+        name: &Text,
+        moment: Moment,
+    ) -> Result<Option<DomainFace>, Fault>
+        ensures step { IfOk result (λ found. LooksUp self.old.policy (λ s. domain_face_at self.old.policy s name.now) moment found (B.state self.old.book) (B.state self.new.book)) }
+        ensures well_formed { OnOk result (BookKeepsWellFormed self.old.policy (B.state self.old.book) (B.state self.new.book)) }
+        ensures terms { OnOk result (SameTerms (B.state self.old.book) (B.state self.new.book)) }
+        ensures reopens { OnOk result (BookCanBeReopened self.old.policy (B.state self.new.book)) }
+        ensures fault { IfErr result (λ fault. Fails fault (B.state self.old.book) (B.state self.new.book)) }
+        ensures late { (result ≡ Err Fault.Moment) ↔ (last_call < moment) }
+        ensures follows { Follows (B.state self.old.book) (B.state self.new.book) }
+        ensures policy { self.new.policy ≡ self.old.policy }
+    {
+        self.look_up(&DomainAt(name), moment)
+    }
+
+    /// The addresses of the host under a name.
+    pub fn host_addresses(
+        &mut self,
+        name: &Text,
+        moment: Moment,
+    ) -> Result<Option<Seq<Text>>, Fault>
+        ensures step { IfOk result (λ found. LooksUp self.old.policy (λ s. host_addresses_at s name.now) moment found (B.state self.old.book) (B.state self.new.book)) }
+        ensures well_formed { OnOk result (BookKeepsWellFormed self.old.policy (B.state self.old.book) (B.state self.new.book)) }
+        ensures terms { OnOk result (SameTerms (B.state self.old.book) (B.state self.new.book)) }
+        ensures reopens { OnOk result (BookCanBeReopened self.old.policy (B.state self.new.book)) }
+        ensures fault { IfErr result (λ fault. Fails fault (B.state self.old.book) (B.state self.new.book)) }
+        ensures late { (result ≡ Err Fault.Moment) ↔ (last_call < moment) }
+        ensures follows { Follows (B.state self.old.book) (B.state self.new.book) }
+        ensures policy { self.new.policy ≡ self.old.policy }
+    {
+        self.look_up(&AddressesAt(name), moment)
     }
 
     /// Looks something up at a moment, which every call may do that tells what everyone may know.

@@ -1,5 +1,5 @@
 -- The first byte of a connection, which is read and given back; and its session.
-use Rattle.std.proofs.Common.{◌≡◌, ℕ, zero, suc, ◌+◌, ◌/◌, ◌<◌, Option, Some, None, List, [], ◌∷◌, ◌++◌, length, take, Bool, true, false, refl, sym, ap, ◌∙◌, subst, arith}
+use Rattle.std.proofs.Common.{◌≡◌, ℕ, zero, suc, ◌+◌, ◌/◌, ◌<◌, Option, Some, None, List, [], ◌∷◌, length, take, Bool, true, false, refl, sym, ap, ◌∙◌, subst, arith}
 use Rattle.std.specs.Prelude.{IfSome}
 use Rattle.std.specs.Fmt.{option_append}
 use Rattle.std.specs.Io.KnownBytes.{Consumes, IsAtEnd}
@@ -7,7 +7,6 @@ use Rattle.policy.specs.Rules.{PolicyRules}
 use Rattle.sessions.specs.Outcomes.{Outcome}
 use Rattle.sessions.specs.Sessions.{Standing, Session, Writes}
 use Rattle.sessions.specs.declared.session.SessionEnd.{SessionEnd}
-use Rattle.eppframes.specs.Frames.{frame, IsPayload}
 use Rattle.server.specs.Connections.{Agrees, AnswersAt, Desk, FramesBeginConnections, IsServed, Serves, begins_frame}
 use Rattle.server.specs.Http.{AnswersHttp}
 use Rattle.server.specs.declared.connection.ConnectionEnd.{ConnectionEnd}

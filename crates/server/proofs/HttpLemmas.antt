@@ -1,15 +1,13 @@
 -- What a look-up leaves of a registry, and what is written to a connection of HTTP.
-use Rattle.std.proofs.Common.{◌≡◌, ◌≤◌, ℕ, max, true, inl, inr, ◌⊎◌, Option, Some, None, List, [], length, take, ◌++◌, Result, Ok, Err, refl, sym, ap, subst, ◌∙◌, le_refl, append-nil, take-take, arith}
+use Rattle.std.proofs.Common.{◌≡◌, ◌≤◌, ℕ, max, true, inl, inr, ◌⊎◌, Option, Some, None, List, length, take, ◌++◌, Result, Ok, Err, refl, sym, ap, subst, ◌∙◌, le_refl, append-nil, take-take, arith}
 use Rattle.std.proofs.lemmas.List.{take-append-le}
-use Rattle.std.specs.Prelude.{IfOk, IfErr, IfSome, OnOk}
-use Rattle.std.specs.Io.KnownBytes.{Consumes, IsAtEnd}
+use Rattle.std.specs.Prelude.{IfOk, IfErr, OnOk}
 use Rattle.eppframes.specs.Clocks.{Tells}
 use Rattle.model.specs.Lapse.{lapse, lapsed, now}
 use Rattle.model.specs.Registry.{Registry}
 use Rattle.model.proofs.LapseLaws.{lapses-on}
 use Rattle.policy.specs.Rules.{PolicyRules}
 use Rattle.rdap.specs.Answering.{Faces, IsAnswer}
-use Rattle.rdap.specs.Heads.{IsDecided}
 use Rattle.rdap.proofs.AnswerLemmas.{stands}
 use Rattle.registry.specs.declared.fault.Fault.{Fault}
 use Rattle.registry.specs.declared.fault.Fault.TheVariants as faults
@@ -26,7 +24,7 @@ later : (moment before after : ℕ) → after ≡ max moment before → max mome
 later moment before after e = omega (arith, e)
 
 -- a registry that is now what another was at a moment is at that moment what the other is
-same_then : (p : PolicyRules) (moment : ℕ) (before after : Registry) → now p after ≡ now p (lapsed p moment before) → lapsed p moment after ≡ lapsed p moment before
+pub same_then : (p : PolicyRules) (moment : ℕ) (before after : Registry) → now p after ≡ now p (lapsed p moment before) → lapsed p moment after ≡ lapsed p moment before
 same_then p moment before after left =
     let t : ℕ = max moment before.clock in
     let clock : after.clock ≡ t = ap (λ (s : Registry). s.clock) left in

@@ -1,4 +1,5 @@
 mod ConnectionLemmas
 mod PeerLemmas
 mod HttpLemmas
+mod LentLemmas
 mod PublicLemmas

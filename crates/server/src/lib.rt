@@ -11,6 +11,7 @@ mod clock;
 mod connection;
 mod http;
 mod laws;
+mod lent;
 mod listener;
 mod zone;
 

@@ -1,26 +1,27 @@
 //! The zone of a registry, as an office hands it to its name servers.
 ghost use Rattle.std.specs.Prelude.{◌≡◌, true, OnOk, OnErr};
 ghost use Rattle.std.specs.Io.KnownBytes.{Appends};
-ghost use Rattle.server.specs.HandOver.{serial_of, text_of, zone_at};
+ghost use Rattle.server.specs.HandOver.{serial_of, zone_at, zone_with};
 ghost use Rattle.server.specs.Http.{Passes};
 ghost use Rattle.server.specs.declared.zone.HandOverFault.TheVariants as faults;
 ghost use Rattle.zonefile.specs.ZoneText.{AppendsBeginning};
 
+use crate::lent::LentAtMoment;
 use calendar::Moment;
-use registry::{Fault, Registry, ZoneFaces};
+use registry::{Fault, Registry};
 use std::alloc::Global;
 use std::io::Write;
 use store::Book;
 use thiserror::Error;
 use zonefile::{ZoneFault, write_zone};
 
-/// Why a zone wasn't written to its end.
+/// Why a zone wasn't written to its end. A beginning of it was written.
 #[derive(Clone, Copy, Debug, PartialEq, Eq, Drop, Error)]
 pub enum HandOverFault {
-    /// The registry gave up, and nothing was written.
+    /// The registry gave up.
     #[error("{0}")]
     Registry(Fault),
-    /// A beginning was written.
+    /// Memory ran out, or a write failed.
     #[error("{0}")]
     Zone(ZoneFault),
 }
@@ -56,30 +57,27 @@ pub fn zone_on<B: Book + Drop, W: Write>(
     ensures passes { Passes registry.old.policy moment (B.state registry.old.book) (B.state registry.new.book) }
     ensures policy { registry.new.policy ≡ registry.old.policy }
 {
-    let faces = registry.zone_faces(moment)?;
-    write_faces(alloc, &faces, registry, writer)?;
-    Ok(())
+    let clock = registry.greet(moment)?;
+    write_at(alloc, registry, moment, serial_of(clock), writer)
 }
 
-/// Writes the zone that these faces make.
-fn write_faces<B: Book + Drop, W: Write>(
+/// Writes the zone of a registry at a moment, with a serial number.
+fn write_at<B: Book + Drop, W: Write>(
     alloc: Global,
-    faces: &ZoneFaces,
-    registry: &Registry<B>,
+    registry: &mut Registry<B>,
+    moment: Moment,
+    serial: u32,
     writer: &mut W,
-) -> Result<(), ZoneFault>
-    ensures ok { OnOk result (Appends (W.contents writer.old) (W.contents writer.new) (text_of registry.now.policy faces.now)) }
-    ensures err { OnErr result (AppendsBeginning (W.contents writer.old) (W.contents writer.new) (text_of registry.now.policy faces.now)) }
+) -> Result<(), HandOverFault>
+    ensures written { OnOk result ((B.state registry.new.book).is_clean ≡ true
+        → Appends (W.contents writer.old) (W.contents writer.new) (zone_with registry.old.policy moment serial (B.state registry.old.book).content.registry)) }
+    ensures begun { OnErr result ((B.state registry.new.book).is_clean ≡ true
+        → AppendsBeginning (W.contents writer.old) (W.contents writer.new) (zone_with registry.old.policy moment serial (B.state registry.old.book).content.registry)) }
+    ensures passes { Passes registry.old.policy moment (B.state registry.old.book) (B.state registry.new.book) }
+    ensures policy { registry.new.policy ≡ registry.old.policy }
 {
-    let serial = serial_of(faces.moment);
-    write_zone(
-        alloc,
-        &faces.hosts,
-        &faces.domains,
-        registry.policy(),
-        serial,
-        writer,
-    )
+    let mut source = LentAtMoment { registry, moment };
+    write_zone(alloc, &mut source, serial, writer)
 }
 
 /// How many serial numbers there are (RFC 1982, 3).

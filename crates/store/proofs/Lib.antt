@@ -2,4 +2,3 @@ pub mod LedgerLemmas
 pub mod EditLemmas
 pub mod HeldLemmas
 pub mod QuietLemmas
-mod FaceLemmas

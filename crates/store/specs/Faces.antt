@@ -1,12 +1,9 @@
 -- What everyone may know of the objects of a registry, whoever asks.
 use Rattle.std.specs.Prelude.{ℕ, Bool, false, List, Option, option_map}
 use Rattle.std.specs.Cmp.Lexicographic.{slice_cmp}
-use Rattle.std.specs.FinMap.{FinMap, get, values}
-use Rattle.std.specs.FinSet.{contains, from_list}
-use Rattle.std.specs.List.{flat_map}
+use Rattle.std.specs.FinMap.{FinMap, get, keys}
 use Rattle.std.specs.Ordering.{nat_cmp}
 use Rattle.basis.specs.Maps.{map_values}
-use Rattle.basis.specs.Sets.{Names}
 use Rattle.facts.specs.declared.facts.HostFacts.{HostFacts}
 use Rattle.facts.specs.Facts.{host_sponsor, is_linked_contact, is_linked_host}
 use Rattle.model.specs.Registry.{Registry}
@@ -65,10 +62,10 @@ domain_faces p s = map_values (λ name. domain_face p s) s.domains
 abbrev pub host_faces : PolicyRules → Registry → FinMap (slice_cmp nat_cmp) HostFace
 host_faces p s = map_values (host_face p s) s.hosts
 
--- the hosts that domains name
-abbrev pub linked_hosts : Registry → Names
-linked_hosts s = from_list (flat_map (λ d. d.links.hosts) (values s.domains))
+-- ---- what a zone is made of, piece by piece
 
--- the faces of hosts, where these are linked
-abbrev pub host_faces_among : PolicyRules → Names → Registry → FinMap (slice_cmp nat_cmp) HostFace
-host_faces_among p linked s = map_values (λ name. host_face_told p s (contains linked name) name) s.hosts
+abbrev pub domain_names : Registry → List (List ℕ)
+domain_names s = keys s.domains
+
+abbrev pub host_addresses_at : Registry → List ℕ → Option (List (List ℕ))
+host_addresses_at s name = option_map (λ h. h.addresses) (get s.hosts name)

@@ -1,12 +1,11 @@
 //! What everyone may know of the objects of a registry in ordered maps.
-ghost use Rattle.std.specs.Prelude.{◌≡◌, ◌++◌, IfOk, OnOk};
+ghost use Rattle.std.specs.Prelude.{◌≡◌, IfOk};
 ghost use Rattle.store.specs.Faces as spec;
 ghost use Rattle.store.specs.Plain.{registry_in};
 
 use crate::content::Content;
-use basis::maps::NameMap;
+use basis::list::Seq;
 use basis::registrar::RegistrarNo;
-use basis::sets::NameSet;
 use basis::text::Text;
 use names::Zone;
 use objects::{Contact, ContactFace, Domain, DomainFace, Host, HostFace, with_linked};
@@ -103,66 +102,26 @@ impl Content {
     }
 }
 
-// ---- all faces
+// ---- what a zone is made of
 
 impl Content {
-    /// The faces of all domains, in one walk through them.
-    #[tactic(auto, using(crate::proofs::FaceLemmas::all_seen))]
-    pub fn domain_faces(&self, policy: &Policy) -> Result<NameMap<DomainFace>, AllocError>
-        ensures { IfOk result (λ faces. faces ≡ spec.domain_faces policy.now (registry_in self.now)) }
+    /// The names of all domains.
+    pub fn domain_names(&self) -> Result<Seq<Text>, AllocError>
+        ensures { IfOk result (λ names. names ≡ spec.domain_names (registry_in self.now)) }
     {
-        let mut faces = NameMap::new(self.alloc);
-        for (name, domain) in self.domains.iter() {
-            let name = name.clone()?;
-            faces.insert(name, self.face_of_domain(domain, policy)?)?;
+        let mut names = Seq::new(self.alloc);
+        for name in self.domains.keys() {
+            names.push(name.clone()?)?;
         }
-        Ok(faces)
+        Ok(names)
     }
 
-    /// The faces of all hosts, in one walk through the domains and one through the hosts.
-    pub fn host_faces(&self, policy: &Policy) -> Result<NameMap<HostFace>, AllocError>
-        ensures { IfOk result (λ faces. faces ≡ spec.host_faces policy.now (registry_in self.now)) }
+    pub fn host_addresses(&self, name: &Text) -> Result<Option<Seq<Text>>, AllocError>
+        ensures { IfOk result (λ addresses. addresses ≡ spec.host_addresses_at (registry_in self.now) name.now) }
     {
-        let linked = self.linked_hosts()?;
-        self.host_faces_among(&linked, policy)
-    }
-
-    /// The faces of all hosts, told which of them domains name.
-    #[tactic(auto, using(crate::proofs::FaceLemmas::all_seen))]
-    fn host_faces_among(
-        &self,
-        linked: &NameSet,
-        policy: &Policy,
-    ) -> Result<NameMap<HostFace>, AllocError>
-        ensures { IfOk result (λ faces. faces ≡ spec.host_faces_among policy.now linked.now (registry_in self.now)) }
-    {
-        let mut faces = NameMap::new(self.alloc);
-        for (name, host) in self.hosts.iter() {
-            let is_linked = linked.contains(name.as_str());
-            let name = name.clone()?;
-            let face = self.face_of_host(&name, host, is_linked, policy)?;
-            faces.insert(name, face)?;
+        match self.hosts.get(name) {
+            None => Ok(None),
+            Some(host) => Ok(Some(host.addresses.clone()?)),
         }
-        Ok(faces)
     }
-
-    /// The hosts that domains name.
-    fn linked_hosts(&self) -> Result<NameSet, AllocError>
-        ensures { IfOk result (λ names. names ≡ spec.linked_hosts (registry_in self.now)) }
-    {
-        let mut names = Vec::new(self.alloc);
-        for domain in self.domains.values() {
-            add_copies(domain.links.hosts.as_slice(), &mut names)?;
-        }
-        Ok(NameSet::of_list(names))
-    }
-}
-
-fn add_copies(names: &[Text], copies: &mut Vec<Text>) -> Result<(), AllocError>
-    ensures { OnOk result (copies.new.items ≡ copies.old.items ++ names.now) }
-{
-    for name in names {
-        copies.push(name.clone()?)?;
-    }
-    Ok(())
 }

@@ -299,17 +299,17 @@ impl Book for PlainBook {
         }
     }
 
-    fn domain_faces(&mut self, policy: &Policy) -> Result<NameMap<DomainFace>, BookFault> {
+    fn domain_names(&mut self) -> Result<Seq<Text>, BookFault> {
         self.finish_rollback()?;
-        match self.content.domain_faces(policy) {
-            Ok(found) => Ok(found),
+        match self.content.domain_names() {
+            Ok(names) => Ok(names),
             Err(error) => self.fail(error),
         }
     }
 
-    fn host_faces(&mut self, policy: &Policy) -> Result<NameMap<HostFace>, BookFault> {
+    fn host_addresses(&mut self, name: &Text) -> Result<Option<Seq<Text>>, BookFault> {
         self.finish_rollback()?;
-        match self.content.host_faces(policy) {
+        match self.content.host_addresses(name) {
             Ok(found) => Ok(found),
             Err(error) => self.fail(error),
         }

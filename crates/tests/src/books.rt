@@ -6,28 +6,44 @@ use crate::fixtures::{POLICY, policy_of};
 use basis::list::Seq;
 use basis::registrar::RegistrarNo;
 use calendar::Moment;
+use policy::Terms;
 use registry::{OpenFault, Registry};
 use rules::Change;
 use std::alloc::Global;
 use std::test::Fail;
 use store::{Book, PlainBook};
 
+/// The terms of a policy's text.
+fn terms_of(alloc: Global, text: &str) -> Result<Terms, Fail> {
+    let policy = policy_of(alloc, text)?;
+    Ok(policy.terms(alloc)?)
+}
+
+/// Puts terms down in a book.
+fn put_down(book: &mut PlainBook, terms: Terms) -> Result<(), Fail>
+    ensures { OnOk result ((plain_state book.new).is_open ≡ false) }
+{
+    book.begin()?;
+    book.keep_terms(terms)?;
+    book.commit()?;
+    Ok(())
+}
+
 /// A book that was used under a policy.
 fn used_under(alloc: Global, text: &str) -> Result<PlainBook, Fail>
     ensures { IfOk result (λ book. (plain_state book).is_open ≡ false) }
 {
-    let terms = policy_of(alloc, text)?.terms(alloc)?;
+    let terms = terms_of(alloc, text)?;
     let mut book = PlainBook::new(alloc);
-    book.begin()?;
-    book.keep_terms(terms)?;
-    book.commit()?;
+    put_down(&mut book, terms)?;
     Ok(book)
 }
 
 /// What stops a book that was used under one policy from being opened under another.
 fn fault_of(alloc: Global, earlier: &str, later: &str) -> Result<Option<OpenFault>, Fail> {
+    let policy = policy_of(alloc, later)?;
     let book = used_under(alloc, earlier)?;
-    match Registry::open(alloc, book, policy_of(alloc, later)?) {
+    match Registry::open(alloc, book, policy) {
         Ok(_) => Ok(None),
         Err((fault, _)) => Ok(Some(fault)),
     }
@@ -42,9 +58,17 @@ fn used_books(rt: HostRuntime) -> Result<(), Fail> {
     Ok(())
 }
 
+/// A moment after the first.
+fn later() -> Result<Moment, Fail> {
+    match Moment::of_secs(1_830_297_600) {
+        Ok(moment) => Ok(moment),
+        Err(_) => Err(Fail::from("range")),
+    }
+}
+
 /// An account and a later clock.
 fn changes(alloc: Global) -> Result<Seq<Change>, Fail> {
-    let later = Moment::of_secs(1_830_297_600).map_err(|_| "range")?;
+    let later = later()?;
     let mut changes = Seq::new(alloc);
     changes.push(Change::OpenAccount(RegistrarNo::of_place(1)))?;
     changes.push(Change::MoveClock(later))?;
@@ -56,12 +80,9 @@ fn change(alloc: Global, book: &mut PlainBook) -> Result<(), Fail>
     requires { (plain_state book.old).is_open ≡ true }
     ensures { OnOk result ((plain_state book.new).is_open ≡ true) }
 {
-    let made = changes(alloc)?;
-    let done = match policy_of(alloc, POLICY) {
-        Ok(policy) => book.apply(made, &policy).is_ok(),
-        Err(fail) => return Err(fail),
-    };
-    if done {
+    let policy = policy_of(alloc, POLICY)?;
+    let changes = changes(alloc)?;
+    if book.apply(changes, &policy).is_ok() {
         Ok(())
     } else {
         Err(Fail::from("not applied"))

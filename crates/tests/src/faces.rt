@@ -49,13 +49,20 @@ fn has_no_contact(alloc: Global, registry: &mut Registry<PlainBook>) -> Result<b
     }
 }
 
-/// Whether the faces of all hosts and domains are told, as at the moment.
-fn has_an_empty_zone(registry: &mut Registry<PlainBook>) -> Result<bool, Fail> {
+/// Whether the pieces of a zone are told, of which there are none.
+fn has_an_empty_zone(alloc: Global, registry: &mut Registry<PlainBook>) -> Result<bool, Fail> {
     let moment = moment()?;
-    match registry.zone_faces(moment) {
-        Ok(faces) => Ok(faces.moment.secs() == 1_861_920_000),
-        Err(_) => Ok(false),
-    }
+    let name = Text::from_str(alloc, "foo.test")?;
+    let Ok(names) = registry.domain_names(moment) else {
+        return Ok(false);
+    };
+    let Ok(domain) = registry.listed_domain(&name, moment) else {
+        return Ok(false);
+    };
+    let Ok(addresses) = registry.host_addresses(&name, moment) else {
+        return Ok(false);
+    };
+    Ok(names.is_empty() && domain.is_none() && addresses.is_none())
 }
 
 #[test]
@@ -65,6 +72,6 @@ fn of_a_new_registry(rt: HostRuntime) -> Result<(), Fail> {
     assert!(rt; has_no_domain(alloc, &mut registry)?);
     assert!(rt; has_no_host(alloc, &mut registry)?);
     assert!(rt; has_no_contact(alloc, &mut registry)?);
-    assert!(rt; has_an_empty_zone(&mut registry)?);
+    assert!(rt; has_an_empty_zone(alloc, &mut registry)?);
     Ok(())
 }

@@ -11,14 +11,16 @@ use server::{ConnectionEnd, HttpEnd, MachineClock, Served, serve_one};
 use sessions::SessionEnd;
 use std::alloc::Global;
 use std::collections::VecDeque;
-use std::io::{Read, Write};
+use std::io::{self, Read, Write};
 use std::net::{Ipv4Addr, Net, Shutdown, TcpListener, TcpStream};
+use std::process::Abort;
 use std::test::Fail;
 use store::PlainBook;
 
 /// A registry that is new.
 pub(crate) fn registry_of(alloc: Global) -> Result<Registry<PlainBook>, Fail> {
-    match Registry::open(alloc, PlainBook::new(alloc), policy_of(alloc, POLICY)?) {
+    let policy = policy_of(alloc, POLICY)?;
+    match Registry::open(alloc, PlainBook::new(alloc), policy) {
         Ok(registry) => Ok(registry),
         Err(_) => Err(Fail::from("not opened")),
     }
@@ -69,60 +71,103 @@ const CONNECTIONS: &[(&[&str], &[&str], SessionEnd)] = &[
     ),
 ];
 
-/// Sends bytes over a socket, serves the connection, and then reads what came back.
-fn over_a_socket<R>(
+/// A connection that is to be served: the frames that are sent, those that answer them, the moments
+/// of the frames, and its end. What can fail for want of memory is made before there is a registry, so
+/// that none is let go on the way.
+#[derive(Drop)]
+struct Exchange {
+    asked: Vec<u8>,
+    wanted: Vec<u8>,
+    clock: ListClock,
+    end: SessionEnd,
+}
+
+fn exchanges(alloc: Global) -> Result<Vec<Exchange>, Fail> {
+    let mut exchanges = Vec::new(alloc);
+    for (asked, wanted, end) in CONNECTIONS.iter().copied() {
+        exchanges.push(Exchange {
+            asked: framed(alloc, asked)?,
+            wanted: framed(alloc, wanted)?,
+            clock: clock_of(alloc)?,
+            end,
+        })?;
+    }
+    Ok(exchanges)
+}
+
+/// Sends bytes over a socket: the client's end, and the server's.
+fn sent_over_a_socket<R>(
     rt: &R,
     listener: &TcpListener,
     asked: &[u8],
-    registry: Registry<PlainBook>,
-) -> Result<(Vec<u8>, Served<PlainBook>), Fail>
+) -> io::Result<(TcpStream, TcpStream)>
 where
-    R: Net<Listener = TcpListener, Stream = TcpStream> + AllocGlobal,
+    R: Net<Listener = TcpListener, Stream = TcpStream>,
 {
-    let alloc = rt.alloc();
     let mut client = TcpStream::connect(rt, listener.local_addr()?)?;
     client.write_all(asked)?;
     client.shutdown(Shutdown::Write)?;
     let (stream, _) = listener.accept()?;
-    let mut clock = clock_of(alloc)?;
-    let served = serve_one(alloc, &mut &stream, &mut &stream, &mut clock, registry);
+    Ok((client, stream))
+}
+
+/// Serves a connection over a socket, and then reads what came back.
+fn over_a_socket<R>(
+    rt: &R,
+    listener: &TcpListener,
+    exchange: Exchange,
+    registry: Registry<PlainBook>,
+) -> Registry<PlainBook>
+where
+    R: Net<Listener = TcpListener, Stream = TcpStream> + Abort + AllocGlobal,
+{
+    let Ok((client, stream)) = sent_over_a_socket(rt, listener, &exchange.asked) else {
+        panic!(rt; "not sent");
+    };
+    let mut client = client;
+    let mut clock = exchange.clock;
+    let served = serve_one(rt.alloc(), &mut &stream, &mut &stream, &mut clock, registry);
     drop(stream);
-    let mut told = Vec::new(alloc);
-    client.read_to_end(&mut told)?;
-    Ok((told, served))
+    let mut told = Vec::new(rt.alloc());
+    assert!(rt; client.read_to_end(&mut told).is_ok());
+    assert!(rt; told.as_slice() == exchange.wanted.as_slice());
+    assert_eq!(rt; served.end, ConnectionEnd::Session(exchange.end));
+    served.registry
 }
 
 #[test]
 fn loopback(rt: HostRuntime) -> Result<(), Fail> {
-    let alloc = rt.alloc();
     let listener = TcpListener::bind(&rt, (Ipv4Addr::LOCALHOST, 0))?;
-    let mut registry = registry_of(alloc)?;
-    for (asked, wanted, end) in CONNECTIONS.iter().copied() {
-        let asked = framed(alloc, asked)?;
-        let (told, served) = over_a_socket(&rt, &listener, &asked, registry)?;
-        let wanted = framed(alloc, wanted)?;
-        assert!(rt; told.as_slice() == wanted.as_slice());
-        assert_eq!(rt; served.end, ConnectionEnd::Session(end));
-        registry = served.registry;
+    let exchanges = exchanges(rt.alloc())?;
+    let mut registry = registry_of(rt.alloc())?;
+    for exchange in exchanges {
+        registry = over_a_socket(&rt, &listener, exchange, registry);
     }
     Ok(())
 }
 
+/// Serves a connection whose bytes come one a read.
+fn in_pieces<R: Abort + AllocGlobal>(
+    rt: &R,
+    exchange: Exchange,
+    registry: Registry<PlainBook>,
+) -> Registry<PlainBook> {
+    let mut reader = whole(&exchange.asked);
+    reader.step = 1;
+    let mut told = Vec::new(rt.alloc());
+    let mut clock = exchange.clock;
+    let served = serve_one(rt.alloc(), &mut reader, &mut told, &mut clock, registry);
+    assert!(rt; told.as_slice() == exchange.wanted.as_slice());
+    assert_eq!(rt; served.end, ConnectionEnd::Session(exchange.end));
+    served.registry
+}
+
 #[test]
 fn one_byte_a_read(rt: HostRuntime) -> Result<(), Fail> {
-    let alloc = rt.alloc();
-    let mut registry = registry_of(alloc)?;
-    for (asked, wanted, end) in CONNECTIONS.iter().copied() {
-        let asked = framed(alloc, asked)?;
-        let mut reader = whole(&asked);
-        reader.step = 1;
-        let mut told = Vec::new(alloc);
-        let mut clock = clock_of(alloc)?;
-        let served = serve_one(alloc, &mut reader, &mut told, &mut clock, registry);
-        let wanted = framed(alloc, wanted)?;
-        assert!(rt; told.as_slice() == wanted.as_slice());
-        assert_eq!(rt; served.end, ConnectionEnd::Session(end));
-        registry = served.registry;
+    let exchanges = exchanges(rt.alloc())?;
+    let mut registry = registry_of(rt.alloc())?;
+    for exchange in exchanges {
+        registry = in_pieces(&rt, exchange, registry);
     }
     Ok(())
 }
@@ -152,13 +197,8 @@ fn ends(rt: HostRuntime) -> Result<(), Fail> {
         reader.reads = reads;
         let mut told = Vec::new(alloc);
         let mut clock = clock_of(alloc)?;
-        let served = serve_one(
-            alloc,
-            &mut reader,
-            &mut told,
-            &mut clock,
-            registry_of(alloc)?,
-        );
+        let registry = registry_of(alloc)?;
+        let served = serve_one(alloc, &mut reader, &mut told, &mut clock, registry);
         assert!(rt; told.is_empty());
         assert_eq!(rt; served.end, end);
     }

@@ -6,13 +6,13 @@ use basis::maps::NameMap;
 use basis::registrar::RegistrarNo;
 use basis::text::Text;
 use calendar::Moment;
-use objects::{DomainFace, Graces, HostFace, Links, ObjectKind, Phase, Roid, Standing, Status};
+use objects::{DomainFace, Graces, Links, ObjectKind, Phase, Roid, Standing, Status};
 use policy::Policy;
 use std::alloc::{AllocError, Global};
 use std::io;
 use std::io::{ErrorKind, Write};
 use std::test::Fail;
-use zonefile::{ZoneFault, write_zone};
+use zonefile::{ZoneFault, ZoneSource, write_zone};
 
 fn texts(alloc: Global, texts: &[&str]) -> Result<Seq<Text>, AllocError> {
     let mut list = Seq::new(alloc);
@@ -71,42 +71,74 @@ fn domain(alloc: Global, row: &DomainRow) -> Result<DomainFace, AllocError> {
     })
 }
 
-fn host(alloc: Global, row: &HostRow) -> Result<HostFace, AllocError> {
-    let (name, addresses) = *row;
-    let name = Text::from_str(alloc, name)?;
-    Ok(HostFace {
-        name,
-        roid: roid(ObjectKind::Host),
-        sponsor: RegistrarNo::of_place(1),
-        created: Moment::first(),
-        updated: None,
-        statuses: Seq::new(alloc),
-        addresses: texts(alloc, addresses)?,
-    })
-}
-
 /// A domain's name, a status of it, and its hosts.
 type DomainRow = (&'static str, Status, &'static [&'static str]);
 
 /// A host's name and its addresses.
 type HostRow = (&'static str, &'static [&'static str]);
 
-fn domains_of(alloc: Global, rows: &[DomainRow]) -> Result<NameMap<DomainFace>, AllocError> {
-    let mut domains = NameMap::new(alloc);
-    for row in rows {
-        let name = Text::from_str(alloc, row.0)?;
-        domains.insert(name, domain(alloc, row)?)?;
-    }
-    Ok(domains)
+/// Rows as the source of a zone. What it shows is left to the tests.
+#[derive(Drop)]
+struct Given<'p> {
+    alloc: Global,
+    policy: &'p Policy,
+    hosts: &'static [HostRow],
+    domains: &'static [DomainRow],
 }
 
-fn hosts_of(alloc: Global, rows: &[HostRow]) -> Result<NameMap<HostFace>, AllocError> {
-    let mut hosts = NameMap::new(alloc);
-    for row in rows {
-        let name = Text::from_str(alloc, row.0)?;
-        hosts.insert(name, host(alloc, row)?)?;
+impl ZoneSource for Given<'_> {
+    ghost use Rattle.std.specs.Prelude.{◌≡◌, refl};
+    ghost use Rattle.std.proofs.Common.{◌∙◌};
+
+    type Fault = ZoneFault;
+
+    ghost shows = { λ it faces. ⊥ };
+
+    ghost rules = { λ it. it.policy.now };
+
+    ghost leaves = { λ old new. new.policy.now ≡ old.policy.now };
+
+    fn policy(&self) -> &Policy {
+        self.policy
     }
-    Ok(hosts)
+
+    fn domain_names(&mut self) -> Result<Seq<Text>, ZoneFault> {
+        let mut names = NameMap::new(self.alloc);
+        for row in self.domains {
+            names.insert(Text::from_str(self.alloc, row.0)?, ())?;
+        }
+        let mut list = Seq::new(self.alloc);
+        for name in names.keys() {
+            list.push(name.clone()?)?;
+        }
+        Ok(list)
+    }
+
+    fn domain(&mut self, name: &Text) -> Result<Option<DomainFace>, ZoneFault> {
+        for row in self.domains {
+            if row.0 == name.as_str() {
+                return Ok(Some(domain(self.alloc, row)?));
+            }
+        }
+        Ok(None)
+    }
+
+    fn addresses(&mut self, host: &Text) -> Result<Option<Seq<Text>>, ZoneFault> {
+        for row in self.hosts {
+            if row.0 == host.as_str() {
+                return Ok(Some(texts(self.alloc, row.1)?));
+            }
+        }
+        Ok(None)
+    }
+
+    ghost stays = { λ it. refl };
+
+    ghost goes_on = { λ old between new first second. second ∙ first };
+
+    ghost keeps = { λ old new left faces none. none };
+
+    ghost keeps_rules = { λ old new left. left };
 }
 
 /// Hosts and domains.
@@ -199,10 +231,14 @@ fn write_rows(
     policy: &Policy,
     (hosts, domains): Rows,
     writer: &mut Full,
-) -> Result<Result<(), ZoneFault>, AllocError> {
-    let hosts = hosts_of(alloc, hosts)?;
-    let domains = domains_of(alloc, domains)?;
-    Ok(write_zone(alloc, &hosts, &domains, policy, SERIAL, writer))
+) -> Result<(), ZoneFault> {
+    let mut source = Given {
+        alloc,
+        policy,
+        hosts,
+        domains,
+    };
+    write_zone(alloc, &mut source, SERIAL, writer)
 }
 
 #[test]
@@ -215,7 +251,7 @@ fn zones(rt: HostRuntime) -> Result<(), Fail> {
             room: 10_000,
         };
         assert_eq!(&rt;
-            write_rows(alloc, &policy, (hosts, domains), &mut writer)?,
+            write_rows(alloc, &policy, (hosts, domains), &mut writer),
             Ok(())
         );
         assert!(&rt; writer.taken.starts_with(SOA));
@@ -243,7 +279,7 @@ fn every_write_that_fails(rt: HostRuntime) -> Result<(), Fail> {
             taken: Vec::new(alloc),
             room,
         };
-        let wrote = write_rows(alloc, &policy, SMALL, &mut writer)?;
+        let wrote = write_rows(alloc, &policy, SMALL, &mut writer);
         assert_eq!(&rt; wrote, Err(ZoneFault::Write));
         assert!(&rt; writer.taken.starts_with(SOA));
         assert!(&rt; SMALL_LINES.starts_with(&writer.taken[SOA.len().min(writer.taken.len())..]));

@@ -1,13 +1,12 @@
 -- The text of a zone, of the faces of its hosts and domains. Each face has its hosts, or its
 -- addresses, in the order of their texts.
-use Rattle.std.specs.Prelude.{ℕ, Bool, not, ◌&&◌, List, [], ◌∷◌, ◌++◌, filter, is_some, if◌then◌else◌, Option, take}
+use Rattle.std.specs.Prelude.{ℕ, Bool, not, ◌&&◌, List, [], ◌∷◌, ◌++◌, filter, fold, is_some, if◌then◌else◌, Option, option_map, take}
 use Rattle.std.specs.Cmp.Lexicographic.{slice_cmp}
-use Rattle.std.specs.FinMap.{FinMap, values}
-use Rattle.std.specs.FinSet.{contains, from_list}
+use Rattle.std.specs.FinMap.{FinMap, empty, get, insert, keys, values}
 use Rattle.std.specs.Io.KnownBytes.{Appends}
 use Rattle.std.specs.List.{flat_map}
+use Rattle.std.specs.Option.{option_map_or}
 use Rattle.std.specs.Ordering.{nat_cmp}
-use Rattle.basis.specs.Sets.{Names}
 use Rattle.names.specs.Zone.{ZoneRules, superordinate_of}
 use Rattle.objects.specs.declared.domain.DomainFace.{DomainFace}
 use Rattle.objects.specs.declared.host.HostFace.{HostFace}
@@ -34,17 +33,24 @@ is_in_zone zone host = is_some (superordinate_of zone host)
 abbrev pub own_hosts : ZoneRules → DomainFace → List (List ℕ)
 own_hosts zone d = if is_served d then filter (is_in_zone zone) d.links.hosts else []
 
+-- names in their order, each once
+abbrev pub HostNames : Type 0
+HostNames = FinMap (slice_cmp nat_cmp) (Unit {0})
+
+abbrev pub with_name : HostNames → List ℕ → HostNames
+with_name names name = insert names name tt
+
 -- the hosts in the zone that domains name which are served
-abbrev pub glue_names : ZoneRules → List DomainFace → Names
-glue_names zone domains = from_list (flat_map (own_hosts zone) domains)
+abbrev pub glue_names : ZoneRules → List DomainFace → HostNames
+glue_names zone domains = fold with_name empty (flat_map (own_hosts zone) domains)
 
--- the addresses of a host that are of one type
-abbrev pub address_lines : ℕ → AddressType → HostFace → List ℕ
-address_lines ttl kind h = flat_map (address_line h.name ttl kind) (filter (is_type_of kind) h.addresses)
+-- those addresses of a host that are of one type
+abbrev pub address_lines : ℕ → AddressType → List ℕ → List (List ℕ) → List ℕ
+address_lines ttl kind host addresses = flat_map (address_line host ttl kind) (filter (is_type_of kind) addresses)
 
--- the addresses of a host that is among the names: those of version 4, then those of version 6
-abbrev pub glue_of : ℕ → Names → HostFace → List ℕ
-glue_of ttl names h = if contains names h.name then address_lines ttl A h ++ address_lines ttl Aaaa h else []
+-- the addresses of a host: those of version 4, then those of version 6
+abbrev pub glue_of : ℕ → List ℕ → List (List ℕ) → List ℕ
+glue_of ttl host addresses = address_lines ttl A host addresses ++ address_lines ttl Aaaa host addresses
 
 abbrev pub Hosts : Type 0
 Hosts = FinMap (slice_cmp nat_cmp) HostFace
@@ -52,11 +58,18 @@ Hosts = FinMap (slice_cmp nat_cmp) HostFace
 abbrev pub Domains : Type 0
 Domains = FinMap (slice_cmp nat_cmp) DomainFace
 
+abbrev pub addresses_of : Hosts → List ℕ → Option (List (List ℕ))
+addresses_of hosts name = option_map (λ h. h.addresses) (get hosts name)
+
+-- the glue of the host under a name
+abbrev pub glue_at : ℕ → Hosts → List ℕ → List ℕ
+glue_at ttl hosts name = option_map_or (glue_of ttl name) (addresses_of hosts name) []
+
 abbrev pub delegations : ℕ → Domains → List ℕ
 delegations ttl domains = flat_map (delegation_of ttl) (values domains)
 
-abbrev pub glue : ℕ → Names → Hosts → List ℕ
-glue ttl names hosts = flat_map (glue_of ttl names) (values hosts)
+abbrev pub glue : ℕ → HostNames → Hosts → List ℕ
+glue ttl names hosts = flat_map (glue_at ttl hosts) (keys names)
 
 -- the start of authority, then the name servers by domain and host, then the glue by host
 unfoldable pub zone_text : PolicyRules → ℕ → Hosts → Domains → List ℕ
@@ -66,6 +79,20 @@ zone_text p serial hosts domains = joined (
     ∷ glue p.soa.ttl (glue_names p.zone (values domains)) hosts
     ∷ []
     )
+
+-- ---- name by name
+
+-- the faces of a zone at one moment
+pub record Faces : Type 0 where
+  pub hosts : Hosts
+  pub domains : Domains
+
+-- what the domain under a name adds
+abbrev pub delegation_at : ℕ → Domains → List ℕ → List ℕ
+delegation_at ttl domains name = option_map_or (delegation_of ttl) (get domains name) []
+
+abbrev pub own_hosts_at : ZoneRules → Domains → List ℕ → List (List ℕ)
+own_hosts_at zone domains name = option_map_or (own_hosts zone) (get domains name) []
 
 -- the known bytes grew by a beginning of the text
 abbrev pub AppendsBeginning : Option (List ℕ) → Option (List ℕ) → List ℕ → Type 0

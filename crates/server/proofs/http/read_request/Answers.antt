@@ -1,6 +1,5 @@
-use Rattle.std.proofs.Common.{◌≡◌, ℕ, ◌≤◌, List, length, take, arith, ap, ◌∙◌, subst, sym, rules, take-take}
+use Rattle.std.proofs.Common.{ℕ, ◌≤◌, List, length, rules}
 use Rattle.server.proofs.HttpLemmas.{head_of}
-use Rattle.server.specs.Http.{IsRead}
 use Rattle.server.proofs.http.read_request.Goals as goal
 
 pub returns : goal.returns

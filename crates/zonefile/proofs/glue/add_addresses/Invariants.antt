@@ -7,5 +7,5 @@ use Rattle.zonefile.proofs.glue.add_addresses.Given as goal
 -- the records so far and those of the addresses that are left
 abbrev pub invariant-loop-address : goal.invariant-loop-address
 invariant-loop-address l =
-    l.text.items ++ flat_map (address_line l.face.name l.ttl l.kind) (filter (is_type_of l.kind) (drop l.address-index l.address-items))
-    ≡ l.fn.text.items ++ address_lines l.ttl l.kind l.face
+    l.text.items ++ flat_map (address_line l.host l.ttl l.kind) (filter (is_type_of l.kind) (drop l.address-index l.addresses))
+    ≡ l.fn.text.items ++ address_lines l.ttl l.kind l.host l.addresses

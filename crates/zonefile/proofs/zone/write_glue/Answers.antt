@@ -1,20 +1,23 @@
-use Rattle.std.proofs.Common.{◌≡◌, ◌∷◌, ◌∙◌, rules}
+use Rattle.std.proofs.Common.{◌≡◌, ◌∷◌, rules}
 use Rattle.streams.proofs.MoveLemmas.{OnErr-from}
-use Rattle.zonefile.specs.ZoneText.{glue_of}
-use Rattle.zonefile.proofs.WriteLemmas.{one_more, stopped, stopped_at}
+use Rattle.zonefile.specs.ZoneText.{glue_at}
+use Rattle.zonefile.proofs.WriteLemmas.{one_more, stopped_at}
 use Rattle.zonefile.proofs.zone.write_glue.Goals as goal
 
-pub returns-in_err-text-clause-err : goal.returns-in_err-text-clause-err
-returns-in_err-text-clause-err g c = OnErr-from c.from_residual.result (stopped _ _ _ _ c.loop-face.invariant.2)
+pub returns-in_err-write_host-clause-begun : goal.returns-in_err-write_host-clause-begun
+returns-in_err-write_host-clause-begun g c = OnErr-from c.from_residual.result (λ faces shown.
+    let next : c.loop-host.host-iterator ≡ c.in-Some.host.now ∷ c.next.new.self = search rules in
+    let before = g.met.S.ZoneSource.keeps c.loop-host.source c.write_host.new.source c.in_err-write_host.ensures.left faces shown in
+    stopped_at (glue_at c.args.ttl faces.hosts) _ _ _ _ c.next.new.self c.in-Some.host.now _ next (c.loop-host.invariant.3 faces before) (c.in_err-write_host.ensures.begun faces shown))
 
-pub returns-in_err-write_whole-clause-err : goal.returns-in_err-write_whole-clause-err
-returns-in_err-write_whole-clause-err g c =
-    let next : c.loop-face.face-iterator ≡ c.in-Some.face.now ∷ c.next.new.self = search rules in
-    let is : c.deref.result.now ≡ glue_of c.args.ttl c.args.names.now c.in-Some.face.now = c.deref.ensures.value ∙ c.in_ok-text.ensures in
-    OnErr-from c.from_residual-in_err-write_whole.result (stopped_at (glue_of c.args.ttl c.args.names.now) _ _ _ _ c.next.new.self c.in-Some.face.now _ _ next is c.loop-face.invariant.2 c.in_err-write_whole.ensures.err)
-
-pub loop-face-preserved : goal.loop-face-preserved
-loop-face-preserved g c =
-    let next : c.loop-face.face-iterator ≡ c.in-Some.face.now ∷ c.next.new.self = search rules in
-    let is : c.deref.result.now ≡ glue_of c.args.ttl c.args.names.now c.in-Some.face.now = c.deref.ensures.value ∙ c.in_ok-text.ensures in
-    (tt, tt, one_more (glue_of c.args.ttl c.args.names.now) _ _ _ _ c.next.new.self c.in-Some.face.now _ _ next is c.loop-face.invariant.2 c.in_ok-write_whole.ensures.ok)
+pub loop-host-preserved : goal.loop-host-preserved
+loop-host-preserved g c =
+    let next : c.loop-host.host-iterator ≡ c.in-Some.host.now ∷ c.next.new.self = search rules in
+    let left = c.in_ok-write_host.ensures.left in (
+      tt,
+      tt,
+      g.met.S.ZoneSource.goes_on _ _ _ c.loop-host.invariant.2 left,
+      λ faces shown.
+          let before = g.met.S.ZoneSource.keeps c.loop-host.source c.write_host.new.source left faces shown in
+          one_more (glue_at c.args.ttl faces.hosts) _ _ _ _ c.next.new.self c.in-Some.host.now _ next (c.loop-host.invariant.3 faces before) (c.in_ok-write_host.ensures.written faces shown),
+    )

@@ -1,0 +1,8 @@
+use Rattle.std.proofs.Common.{◌≡◌, filter, drop}
+use Rattle.std.specs.Prelude.{fold}
+use Rattle.zonefile.specs.ZoneText.{is_in_zone, with_name}
+use Rattle.zonefile.proofs.glue.add_hosts_within.Given as goal
+
+-- the hosts that are left lead to where all of them do
+abbrev pub invariant-loop-host : goal.invariant-loop-host
+invariant-loop-host l = fold with_name l.names (filter (is_in_zone l.zone) (drop l.host-index l.hosts)) ≡ fold with_name l.fn.names (filter (is_in_zone l.zone) l.hosts)
