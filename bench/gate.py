@@ -1,7 +1,7 @@
 #!/usr/bin/env python3
 """What the merge gate costs, crate by crate, in processor minutes.
 
-    python3 bench/gate.py                    runs rt ci and writes the table of bench/GATE.md; ends as rt ci ends
+    python3 bench/gate.py                    runs rt ci --anew and writes the table of bench/GATE.md; ends as rt ci ends
     python3 bench/gate.py functions CRATE..  which functions cost the prover most, without tests and with them
     python3 bench/gate.py plants CRATE..     the counts of rt plant
 
@@ -33,7 +33,7 @@ def module(name, path):
 
 
 def gate():
-    """Runs rt ci in this process, with each child's processor time put down under its crate."""
+    """Runs rt ci --anew in this process, with each child's processor time put down under its crate."""
     rt = module("rt_gate", RT)
     spent, edits, names, lock = {}, {}, {}, threading.Lock()
     started, waits = subprocess.Popen.__init__, os.waitpid
@@ -53,15 +53,15 @@ def gate():
                 spent[key] = spent.get(key, 0) + used.ru_utime + used.ru_stime
         return found, status
 
-    tried = rt.must_fail_all
+    added = rt.add_edits
 
-    def all_edits(crate, good, flags):
-        edits[crate.name] = len(good)
-        return tried(crate, good, flags)
+    def count_edits(tasks, crate, found, *given, **named):
+        edits[crate.name] = len(found)
+        return added(tasks, crate, found, *given, **named)
 
-    subprocess.Popen.__init__, os.waitpid, rt.must_fail_all = start, wait, all_edits
+    subprocess.Popen.__init__, os.waitpid, rt.add_edits = start, wait, count_edits
     began = time.time()
-    status = rt.ci()
+    status = rt.ci(anew=True)
     subprocess.Popen.__init__, os.waitpid = started, waits
     write_table(spent, edits, time.time() - began)
     return status
