@@ -1,0 +1,2 @@
+pub mod SettlementLemmas
+pub mod MoneyLemmas

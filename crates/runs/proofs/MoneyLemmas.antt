@@ -1,0 +1,65 @@
+-- Runs leave well formed registries, and their money follows.
+use Rattle.std.proofs.Common.{◌≡◌, ◌≤◌, ℕ, max, List, [], ◌∷◌, Ok, refl, sym, ap, subst, arith}
+use Rattle.model.specs.Lapse.{lapsed, now}
+use Rattle.model.specs.Money.{MoneyFollows}
+use Rattle.model.specs.MoneyLaws.{AreCalls}
+use Rattle.model.specs.Registry.{Registry}
+use Rattle.model.specs.WellFormed.{IsRegistry, last_clock}
+use Rattle.model.proofs.MoneyLaws.{money-follows-over}
+use Rattle.policy.specs.Rules.{PolicyRules, IsSound}
+use Rattle.registry.proofs.StepsKept.{kept_order_step, kept_step}
+use Rattle.rules.proofs.MoneyLaws.{money-effect-now, money-lapsed, money-lapsed-now, money-order-now}
+use Rattle.rules.proofs.RegistryLemmas.{registry-lapsed, registry-now}
+use Rattle.rules.specs.Orders.{order_answer}
+use Rattle.rules.specs.Steps.{answer}
+use Rattle.runs.specs.Runs.{Answer, Question, Turn, AreTurns, IsAskedIn, IsCall, IsTurn, call, command, date, look_up, order, settlement}
+use Rattle.runs.specs.RunLaws.{RunsKeepMoney, RunsKeepRegistries}
+
+call-keeps : (p : PolicyRules) → IsSound p → (moment : ℕ) → moment ≤ last_clock → (q : Question) (a : Answer) (before after : Registry) → IsAskedIn p q before → IsCall p moment q before after a → IsRegistry p (now p before) → IsRegistry p (now p after)
+call-keeps p sound moment early (command r c) a before after asked called is =
+    kept_step {Unit {0}} (Ok (answer p r c (lapsed p moment before))) (Unit {0}) p sound r c moment early before after asked.0 asked.1 (λ _. record { answered = refl; left = called.left }) tt is asked.2
+call-keeps p sound moment early (order o) a before after asked called is =
+    kept_order_step {Unit {0}} (Ok (order_answer p o (lapsed p moment before))) (Unit {0}) p o moment early before after (λ _. record { answered = refl; left = called.left }) tt is
+call-keeps p sound moment early date a before after asked called is = subst (IsRegistry p) (sym called.left) (registry-now p (lapsed p moment before) (registry-lapsed p moment before early is))
+call-keeps p sound moment early look_up a before after asked called is = subst (IsRegistry p) (sym called.left) (registry-now p (lapsed p moment before) (registry-lapsed p moment before early is))
+
+turn-keeps : (p : PolicyRules) → IsSound p → (turn : Turn) (before after : Registry) → IsTurn p turn before after → IsRegistry p (now p before) → IsRegistry p (now p after)
+turn-keeps p sound (call moment q a) before after taken is = call-keeps p sound moment taken.0 q a before after taken.1 taken.2 is
+turn-keeps p sound (settlement moment at_most done) before after taken is = subst (IsRegistry p) (sym taken.1.unnoticed) (registry-lapsed p moment before taken.0 is)
+
+pub runs-keep-registries : RunsKeepRegistries
+runs-keep-registries p sound [] before after turns is = subst (λ s. IsRegistry p (now p s)) (sym turns) is
+runs-keep-registries p sound (turn ∷ others) before after turns is =
+    runs-keep-registries p sound others turns.0 after turns.2 (turn-keeps p sound turn before turns.0 turns.1 is)
+
+-- ---- money
+
+call-follows : (p : PolicyRules) → IsSound p → (moment : ℕ) → moment ≤ last_clock → (q : Question) (a : Answer) (before after : Registry) → IsCall p moment q before after a → IsRegistry p (now p before) → MoneyFollows p moment (now p before) (now p after)
+call-follows p sound moment early (command r c) a before after called is = subst (MoneyFollows p moment (now p before)) (sym called.left) (money-effect-now p moment before sound early is r c)
+call-follows p sound moment early (order o) a before after called is = subst (MoneyFollows p moment (now p before)) (sym called.left) (money-order-now p moment before o)
+call-follows p sound moment early date a before after called is = subst (MoneyFollows p moment (now p before)) (sym called.left) (money-lapsed-now p moment before)
+call-follows p sound moment early look_up a before after called is = subst (MoneyFollows p moment (now p before)) (sym called.left) (money-lapsed-now p moment before)
+
+moment_of : Turn → ℕ
+moment_of (call moment q a) = moment
+moment_of (settlement moment at_most done) = moment
+
+turn-early : (p : PolicyRules) (turn : Turn) (before after : Registry) → IsTurn p turn before after → moment_of turn ≤ last_clock
+turn-early p (call moment q a) before after taken = taken.0
+turn-early p (settlement moment at_most done) before after taken = taken.0
+
+turn-follows : (p : PolicyRules) → IsSound p → (turn : Turn) (before after : Registry) → IsTurn p turn before after → IsRegistry p (now p before) → MoneyFollows p (moment_of turn) (now p before) (now p after)
+turn-follows p sound (call moment q a) before after taken is = call-follows p sound moment taken.0 q a before after taken.2 is
+turn-follows p sound (settlement moment at_most done) before after taken is = subst (MoneyFollows p moment (now p before)) (sym taken.1.unnoticed) (money-lapsed p moment before)
+
+pub run-calls : (p : PolicyRules) → IsSound p → (turns : List Turn) (before after : Registry) → AreTurns p turns before after → IsRegistry p (now p before) → (calls : List (ℕ × Registry)) × AreCalls p last_clock calls (now p before) (now p after)
+run-calls p sound [] before after turns is = ([], ap (now p) turns)
+run-calls p sound (turn ∷ others) before after turns is =
+    let between : Registry = turns.0 in
+    let more : (calls : List (ℕ × Registry)) × AreCalls p last_clock calls (now p between) (now p after) = run-calls p sound others between after turns.2 (turn-keeps p sound turn before between turns.1 is) in
+    ((moment_of turn, now p between) ∷ more.0, omega (arith, turn-early p turn before between turns.1, is.clock), turn-follows p sound turn before between turns.1 is, more.1)
+
+pub runs-keep-money : RunsKeepMoney
+runs-keep-money p sound turns before after taken is =
+    let are : (calls : List (ℕ × Registry)) × AreCalls p last_clock calls (now p before) (now p after) = run-calls p sound turns before after taken is in
+    (are.0, are.1, money-follows-over p last_clock are.0 (now p before) (now p after) are.1)

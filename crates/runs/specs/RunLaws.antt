@@ -1,0 +1,75 @@
+-- The laws of runs.
+use Rattle.std.specs.Prelude.{◌≡◌, ◌≤◌, ℕ, false, List}
+use Rattle.accounts.specs.declared.line.Line.{Line}
+use Rattle.model.specs.Lapse.{lapse, lapsed, now}
+use Rattle.model.specs.Money.{LinesFollow}
+use Rattle.model.specs.MoneyLaws.{AreCalls, IsCoveredOver, IsRefundableIn}
+use Rattle.model.specs.Registry.{Registry, account_of}
+use Rattle.model.specs.WellFormed.{IsRegistry, last_clock}
+use Rattle.policy.specs.Rules.{PolicyRules, IsSound}
+use Rattle.protocol.specs.declared.code.Code.{Code}
+use Rattle.protocol.specs.declared.command.Command.{Command}
+use Rattle.protocol.specs.declared.order.Order.{Order}
+use Rattle.protocol.specs.declared.reply.Reply.{Reply}
+use Rattle.registry.specs.Execution.{IsGreetingStep, IsOrderStep, IsStep}
+use Rattle.runs.specs.Runs.{Answer, Question, Turn, AreTurns, IsCall, IsLater, IsRun, IsSettledRun, answers_of, code, command, date, dated, look_up, order, questions_of, reply, settles_last, shown}
+
+-- ---- the steps of the registry's calls are calls of a run
+
+abbrev pub CommandsAreCalls : Type 0
+CommandsAreCalls = (p : PolicyRules) (r : ℕ) (c : Command) (moment : ℕ) (before after : Registry) (a : Reply)
+    → IsStep p r c moment before after a → IsCall p moment (command r c) before after (reply a)
+
+abbrev pub OrdersAreCalls : Type 0
+OrdersAreCalls = (p : PolicyRules) (o : Order) (moment : ℕ) (before after : Registry) (a : Code)
+    → IsOrderStep p o moment before after a → IsCall p moment (order o) before after (code a)
+
+abbrev pub GreetingsAreCalls : Type 0
+GreetingsAreCalls = (p : PolicyRules) (moment : ℕ) (before after : Registry) (a : ℕ)
+    → IsGreetingStep p moment before after a → IsCall p moment date before after (dated a)
+
+-- A look-up finds what it looks for in the registry at its moment, and leaves that one.
+abbrev pub LookUpsAreCalls : Type 0
+LookUpsAreCalls = (p : PolicyRules) (moment : ℕ) (before after : Registry)
+    → now p after ≡ now p (lapsed p moment before) → IsCall p moment look_up before after (shown (lapsed p moment before))
+
+-- ---- settlements
+
+-- Without its settlements a run has the same answers. After a call it left the very same registry, and
+-- after a settlement one that is later.
+abbrev pub SettlementsMayBeLeftOut : Type 0
+SettlementsMayBeLeftOut = (p : PolicyRules) (turns : List Turn) (before after : Registry) → IsSettledRun p turns before after
+    → (left : Registry) × IsRun p (questions_of turns) (answers_of turns) before left
+    × IsLater p left after × (settles_last false turns ≡ false → left ≡ after)
+
+-- the same questions in registries that are the same now have the same answers, and leave such
+abbrev pub AnswersAreDetermined : Type 0
+AnswersAreDetermined = (p : PolicyRules) (questions : List (ℕ × Question)) (xs ys : List Answer) (s t x y : Registry)
+    → now p s ≡ now p t → IsRun p questions xs s x → IsRun p questions ys t y → (xs ≡ ys) × (now p x ≡ now p y)
+
+-- So whatever settlements there are in two runs with the same questions, the answers are the same, and
+-- so are both registries from the later of their clocks on, or now, where a call was last in both.
+abbrev pub SettlementsGoUnnoticed : Type 0
+SettlementsGoUnnoticed = (p : PolicyRules) (xs ys : List Turn) (s t x y : Registry)
+    → now p s ≡ now p t → IsSettledRun p xs s x → IsSettledRun p ys t y → questions_of xs ≡ questions_of ys
+    → (answers_of xs ≡ answers_of ys)
+    × ((u : ℕ) → x.clock ≤ u → y.clock ≤ u → lapse p u x ≡ lapse p u y)
+    × (settles_last false xs ≡ false → settles_last false ys ≡ false → now p x ≡ now p y)
+
+-- ---- money
+
+-- a run on a well formed registry leaves one
+abbrev pub RunsKeepRegistries : Type 0
+RunsKeepRegistries = (p : PolicyRules) → IsSound p → (turns : List Turn) (before after : Registry) → AreTurns p turns before after
+    → IsRegistry p (now p before) → IsRegistry p (now p after)
+
+-- Each turn is a call by its moment and the registry that it left. In every account no line vanishes,
+-- each is given back once at most, lawfully in one of them, and automatic renewals alone take the
+-- balance below zero.
+abbrev pub RunsKeepMoney : Type 0
+RunsKeepMoney = (p : PolicyRules) → IsSound p → (turns : List Turn) (before after : Registry) → AreTurns p turns before after
+    → IsRegistry p (now p before)
+    → (calls : List (ℕ × Registry)) × AreCalls p last_clock calls (now p before) (now p after)
+    × ((r : ℕ) → (change : Line → Line) × (new : List Line)
+      × LinesFollow (IsRefundableIn p r calls (now p before)) last_clock (account_of r (now p before)).lines (account_of r (now p after)).lines change new
+      × IsCoveredOver (account_of r (now p before)).lines (account_of r (now p after)).lines new)

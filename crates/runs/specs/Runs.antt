@@ -1,0 +1,120 @@
+-- Runs: what a registry is asked, one thing after another, and what it answers.
+use Rattle.std.specs.Prelude.{◌≡◌, ◌≤◌, ℕ, max, Bool, true, false, List, [], ◌∷◌}
+use Rattle.model.specs.Lapse.{lapse, lapsed, now}
+use Rattle.model.specs.Registry.{Registry}
+use Rattle.model.specs.WellFormed.{AreSmall, last_clock}
+use Rattle.policy.specs.Rules.{PolicyRules, IsRegistrar}
+use Rattle.protocol.specs.declared.code.Code.{Code}
+use Rattle.protocol.specs.declared.command.Command.{Command}
+use Rattle.protocol.specs.declared.order.Order.{Order}
+use Rattle.protocol.specs.declared.reply.Reply.{Reply}
+use Rattle.registry.specs.Execution.{IsSettlement}
+use Rattle.rules.specs.Askable.{CanBeAsked}
+use Rattle.rules.specs.Orders.{order_answer, order_effect}
+use Rattle.rules.specs.Steps.{answer, effect}
+
+-- ---- one call
+
+-- A registrar's command (RFC 5730, 2.5), an order of the operator, the date of a greeting (RFC 5730,
+-- 2.4), or a look-up of what everyone may know.
+pub data Question : Type 0 where
+  command : ℕ → Command → Question
+  order : Order → Question
+  date : Question
+  look_up : Question
+
+-- A look-up is answered by the registry that it is shown, whatever it looks for there.
+pub data Answer : Type 0 where
+  reply : Reply → Answer
+  code : Code → Answer
+  dated : ℕ → Answer
+  shown : Registry → Answer
+
+-- what is answered in a registry as the call finds it
+abbrev pub answer_to : PolicyRules → Question → Registry → Answer
+answer_to p (command r c) s = reply (answer p r c s)
+answer_to p (order o) s = code (order_answer p o s)
+answer_to p date s = dated s.clock
+answer_to p look_up s = shown s
+
+-- what the call leaves of it
+abbrev pub effect_of : PolicyRules → Question → Registry → Registry
+effect_of p (command r c) s = effect p r c s
+effect_of p (order o) s = order_effect p o s
+effect_of p date s = s
+effect_of p look_up s = s
+
+-- The answer is that of the registry at the moment of the call, and what is left is the effect there.
+pub record IsCall (p : PolicyRules) (moment : ℕ) (q : Question) (before after : Registry) (a : Answer) : Type 0 where
+  pub answered : a ≡ answer_to p q (lapsed p moment before)
+  pub left : now p after ≡ now p (effect_of p q (lapsed p moment before))
+
+-- ---- calls one after another
+
+-- Each question is asked at a moment, and the answers come in the order of the questions.
+abbrev pub IsRun : PolicyRules → List (ℕ × Question) → List Answer → Registry → Registry → Type 0
+IsRun p [] answers before after = (answers ≡ []) × (after ≡ before)
+IsRun p (asked ∷ others) answers before after =
+    (first : Answer) × (rest : List Answer) × (between : Registry)
+    × (answers ≡ first ∷ rest) × IsCall p asked.0 asked.1 before between first × IsRun p others rest between after
+
+-- ---- with settlements between them
+
+-- A call by its moment, its question and its answer; or a settlement by its moment, how many objects
+-- may lapse, and how many did.
+pub data Turn : Type 0 where
+  call : ℕ → Question → Answer → Turn
+  settlement : ℕ → ℕ → ℕ → Turn
+
+abbrev pub questions_of : List Turn → List (ℕ × Question)
+questions_of [] = []
+questions_of (call moment q a ∷ turns) = (moment, q) ∷ questions_of turns
+questions_of (settlement moment at_most done ∷ turns) = questions_of turns
+
+abbrev pub answers_of : List Turn → List Answer
+answers_of [] = []
+answers_of (call moment q a ∷ turns) = a ∷ answers_of turns
+answers_of (settlement moment at_most done ∷ turns) = answers_of turns
+
+-- Turns one after another. `left` is the registry that the last call left, and `latest` the latest
+-- moment of a settlement since: none is later than the moment that the next call counts as, had there
+-- been no settlement.
+abbrev pub Follow : PolicyRules → Registry → ℕ → List Turn → Registry → Registry → Type 0
+Follow p left latest [] before after = after ≡ before
+Follow p left latest (call moment q a ∷ turns) before after =
+    (latest ≤ max moment left.clock) × (between : Registry) × IsCall p moment q before between a × Follow p between 0 turns between after
+Follow p left latest (settlement moment at_most done ∷ turns) before after =
+    (between : Registry) × IsSettlement p moment at_most before between done × Follow p left (max moment latest) turns between after
+
+abbrev pub IsSettledRun : PolicyRules → List Turn → Registry → Registry → Type 0
+IsSettledRun p turns before after = Follow p before 0 turns before after
+
+-- whether a settlement is the last turn, where those before these ended with one or not
+abbrev pub settles_last : Bool → List Turn → Bool
+settles_last last [] = last
+settles_last last (call moment q a ∷ turns) = settles_last false turns
+settles_last last (settlement moment at_most done ∷ turns) = settles_last true turns
+
+-- The clock may be later, and from then on both are one registry.
+pub record IsLater (p : PolicyRules) (earlier later : Registry) : Type 0 where
+  pub clock : earlier.clock ≤ later.clock
+  pub future : (t : ℕ) → later.clock ≤ t → lapse p t later ≡ lapse p t earlier
+
+-- ---- of which the contracts of the calls speak
+
+-- the caller is a registrar, its command was read, and its counters are far from their greatest
+abbrev pub IsAskedIn : PolicyRules → Question → Registry → Type 0
+IsAskedIn p (command r c) before = IsRegistrar p r × CanBeAsked c × AreSmall before
+IsAskedIn p (order o) before = Unit {0}
+IsAskedIn p date before = Unit {0}
+IsAskedIn p look_up before = Unit {0}
+
+-- no call is later than the last moment
+abbrev pub IsTurn : PolicyRules → Turn → Registry → Registry → Type 0
+IsTurn p (call moment q a) before after = (moment ≤ last_clock) × IsAskedIn p q before × IsCall p moment q before after a
+IsTurn p (settlement moment at_most done) before after = (moment ≤ last_clock) × IsSettlement p moment at_most before after done
+
+-- turns one after another, with settlements at any moments
+abbrev pub AreTurns : PolicyRules → List Turn → Registry → Registry → Type 0
+AreTurns p [] before after = after ≡ before
+AreTurns p (turn ∷ turns) before after = (between : Registry) × IsTurn p turn before between × AreTurns p turns between after

@@ -1,0 +1,25 @@
+//! What runs come to.
+ghost use Rattle.runs.specs.RunLaws as spec;
+
+/// Each step that a call of a registry takes is a call of a run.
+pub fn calls_make_runs()
+    ensures commands { spec.CommandsAreCalls }
+    ensures orders { spec.OrdersAreCalls }
+    ensures greetings { spec.GreetingsAreCalls }
+    ensures look_ups { spec.LookUpsAreCalls }
+{}
+
+/// Settlements in a run, none of them later than the call that follows, change no answer and nothing
+/// that is there after a call: they may be put in and left out. The same questions are answered alike.
+pub fn settlements_go_unnoticed()
+    ensures left_out { spec.SettlementsMayBeLeftOut }
+    ensures determined { spec.AnswersAreDetermined }
+    ensures unnoticed { spec.SettlementsGoUnnoticed }
+{}
+
+/// A run leaves a well formed registry, and its money follows in every account: no line vanishes, each
+/// is given back once at most and lawfully, and automatic renewals alone take a balance below zero.
+pub fn runs_keep_money()
+    ensures registries { spec.RunsKeepRegistries }
+    ensures money { spec.RunsKeepMoney }
+{}

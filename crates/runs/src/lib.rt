@@ -1,0 +1,7 @@
+//! Runs: a registry is asked one thing after another, with settlements between. What the contracts of
+//! its calls say of one step is said here of as many as there are. Nothing here is run.
+#![tactic(auto)]
+
+mod laws;
+
+pub use laws::{calls_make_runs, runs_keep_money, settlements_go_unnoticed};
