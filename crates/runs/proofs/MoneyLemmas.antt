@@ -17,9 +17,9 @@ use Rattle.runs.specs.RunLaws.{RunsKeepMoney, RunsKeepRegistries}
 
 call-keeps : (p : PolicyRules) → IsSound p → (moment : ℕ) → moment ≤ last_clock → (q : Question) (a : Answer) (before after : Registry) → IsAskedIn p q before → IsCall p moment q before after a → IsRegistry p (now p before) → IsRegistry p (now p after)
 call-keeps p sound moment early (command r c) a before after asked called is =
-    kept_step {Unit {0}} (Ok (answer p r c (lapsed p moment before))) (Unit {0}) p sound r c moment early before after asked.0 asked.1 (λ _. record { answered = refl; left = called.left }) tt is asked.2
+    kept_step {E = Unit {0}} (Ok (answer p r c (lapsed p moment before))) (Unit {0}) p sound r c moment early before after asked.0 asked.1 (λ _. record { answered = refl; left = called.left }) tt is asked.2
 call-keeps p sound moment early (order o) a before after asked called is =
-    kept_order_step {Unit {0}} (Ok (order_answer p o (lapsed p moment before))) (Unit {0}) p o moment early before after (λ _. record { answered = refl; left = called.left }) tt is
+    kept_order_step {E = Unit {0}} (Ok (order_answer p o (lapsed p moment before))) (Unit {0}) p o moment early before after (λ _. record { answered = refl; left = called.left }) tt is
 call-keeps p sound moment early date a before after asked called is = subst (IsRegistry p) (sym called.left) (registry-now p (lapsed p moment before) (registry-lapsed p moment before early is))
 call-keeps p sound moment early look_up a before after asked called is = subst (IsRegistry p) (sym called.left) (registry-now p (lapsed p moment before) (registry-lapsed p moment before early is))
 
@@ -40,7 +40,7 @@ call-follows p sound moment early (order o) a before after called is = subst (Mo
 call-follows p sound moment early date a before after called is = subst (MoneyFollows p moment (now p before)) (sym called.left) (money-lapsed-now p moment before)
 call-follows p sound moment early look_up a before after called is = subst (MoneyFollows p moment (now p before)) (sym called.left) (money-lapsed-now p moment before)
 
-moment_of : Turn → ℕ
+abbrev moment_of : Turn → ℕ
 moment_of (call moment q a) = moment
 moment_of (settlement moment at_most done) = moment
 
@@ -57,7 +57,7 @@ run-calls p sound [] before after turns is = ([], ap (now p) turns)
 run-calls p sound (turn ∷ others) before after turns is =
     let between : Registry = turns.0 in
     let more : (calls : List (ℕ × Registry)) × AreCalls p last_clock calls (now p between) (now p after) = run-calls p sound others between after turns.2 (turn-keeps p sound turn before between turns.1 is) in
-    ((moment_of turn, now p between) ∷ more.0, omega (arith, turn-early p turn before between turns.1, is.clock), turn-follows p sound turn before between turns.1 is, more.1)
+    ((moment_of turn, now p between) ∷ more.0, (omega (arith, turn-early p turn before between turns.1, is.clock), turn-follows p sound turn before between turns.1 is, more.1))
 
 pub runs-keep-money : RunsKeepMoney
 runs-keep-money p sound turns before after taken is =

@@ -71,10 +71,8 @@ left-out p last (call moment q a ∷ turns) left latest before after later bound
 left-out p last (settlement moment at_most done ∷ turns) left latest before after later bound same follow =
     let between : Registry = follow.0 in
     let next : IsLater p left between × (between.clock ≡ max moment before.clock) = settled-later p moment at_most done left before between later follow.1 in
-    left-out p true turns left (max moment latest) between after next.0 (omega (arith, next.1, bound)) (λ e. absurd e) follow.2
-  where
-    absurd : true ≡ false → left ≡ follow.0
-    absurd ()
+    let rest : LeftOut p true turns left after = left-out p true turns left (max moment latest) between after next.0 (omega (arith, next.1, bound)) (λ e. let never : true ≡ false = e in cc) follow.2 in
+    record { left = rest.left; run = rest.run; later = rest.later; same = rest.same }
 
 pub settlements-may-be-left-out : SettlementsMayBeLeftOut
 settlements-may-be-left-out p turns before after follow =
@@ -97,9 +95,9 @@ left-alike p moment q a b s t x y same one other =
 
 pub answers-are-determined : AnswersAreDetermined
 answers-are-determined p [] xs ys s t x y same one other = (one.0 ∙ sym other.0, ap (now p) one.1 ∙ same ∙ sym (ap (now p) other.1))
-answers-are-determined p (asked ∷ others) xs ys s t x y same (a, as, u, first, called, rest) (b, bs, v, second, called2, rest2) =
+answers-are-determined p (asked ∷ others) xs ys s t x y same (a, more, u, first, called, rest) (b, others2, v, second, called2, rest2) =
     let here : (a ≡ b) × (now p u ≡ now p v) = left-alike p asked.0 asked.1 a b s t u v same called called2 in
-    let there : (as ≡ bs) × (now p x ≡ now p y) = answers-are-determined p others as bs u v x y here.1 rest rest2 in
+    let there : (more ≡ others2) × (now p x ≡ now p y) = answers-are-determined p others more others2 u v x y here.1 rest rest2 in
     (first ∙ (λ i. here.0 i ∷ there.0 i) ∙ sym second, there.1)
 
 pub settlements-go-unnoticed : SettlementsGoUnnoticed
