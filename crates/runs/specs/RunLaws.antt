@@ -71,5 +71,5 @@ RunsKeepMoney = (p : PolicyRules) → IsSound p → (turns : List Turn) (before 
     → IsRegistry p (now p before)
     → (calls : List (ℕ × Registry)) × AreCalls p last_clock calls (now p before) (now p after)
     × ((r : ℕ) → (change : Line → Line) × (new : List Line)
-      × LinesFollow (IsRefundableIn p r calls (now p before)) last_clock (account_of r (now p before)).lines (account_of r (now p after)).lines change new
-      × IsCoveredOver (account_of r (now p before)).lines (account_of r (now p after)).lines new)
+    × LinesFollow (IsRefundableIn p r calls (now p before)) last_clock (account_of r (now p before)).lines (account_of r (now p after)).lines change new
+    × IsCoveredOver (account_of r (now p before)).lines (account_of r (now p after)).lines new)
