@@ -1,0 +1,43 @@
+-- The last transfer of each object that had one, and how they lie in their table.
+use Rattle.std.specs.Prelude.{◌&&◌, Bool, false, int_le, ℕ, ℤ, List, [], ◌∷◌, Option, Some, refl}
+use Rattle.std.specs.Ordering.{int_eq}
+use Rattle.sqlite_value.specs.declared.value.Value.TheVariants.{Int, Null}
+use Rattle.sqlite_value.specs.Order.{Row}
+use Rattle.sqlite_keyed.specs.Rules.{points_to}
+use Rattle.sqlite_typed.specs.Columns.{or_null}
+use Rattle.sqlite_typed.specs.Tests.{bytes_eq, if_both}
+use Rattle.rows.specs.Layouts.{Layout}
+
+pub record Transfer : Type 0 where
+  pub id : ℤ
+  pub contact : Option ℤ
+  pub domain : Option ℤ
+  pub requester : ℤ
+  pub losing : ℤ
+  pub requested : ℤ
+  pub ac_date : ℤ
+  pub state : ℤ
+  pub due : Option ℤ
+
+-- as it is stored: its key, NULL in the key's column, and then the others
+abbrev pub transfer_row : Transfer → Row
+transfer_row x = Int x.id ∷ Null ∷ or_null Int x.contact ∷ or_null Int x.domain ∷ Int x.requester ∷ Int x.losing ∷ Int x.requested ∷ Int x.ac_date ∷ Int x.state ∷ or_null Int x.due ∷ []
+
+-- as a query shows it, and as parameters
+abbrev pub transfer_shown : Transfer → Row
+transfer_shown x = Int x.id ∷ or_null Int x.contact ∷ or_null Int x.domain ∷ Int x.requester ∷ Int x.losing ∷ Int x.requested ∷ Int x.ac_date ∷ Int x.state ∷ or_null Int x.due ∷ []
+
+abbrev pub transfers : Layout Transfer
+transfers = record { tree = 13; key = λ x. x.id; to_row = transfer_row; keyed = λ x. refl }
+
+abbrev pub transfer_with_contact : ℤ → Transfer → Bool
+transfer_with_contact v x = points_to x.contact v
+
+abbrev pub transfer_with_domain : ℤ → Transfer → Bool
+transfer_with_domain v x = points_to x.domain v
+
+abbrev pub transfer_with_id : ℤ → Transfer → Bool
+transfer_with_id v x = int_eq x.id v
+
+abbrev pub transfer_of_requester_within_due : ℤ → ℤ → Transfer → Bool
+transfer_of_requester_within_due requester due x = int_eq x.requester requester && if_both false int_le x.due (Some due)
