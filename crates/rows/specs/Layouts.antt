@@ -1,5 +1,7 @@
 -- The four shapes of statement, over typed rows of one table.
 use Rattle.std.specs.Prelude.{◌/◌, ◌++◌, length, drop, ◌≢◌, slice_get, true, ◌≡◌, ℕ, ℤ, pos, negsuc, Bool, false, List, [], ◌∷◌, map, Some, None, Result, Ok, Err}
+use Rattle.std.specs.declared.cmp.Ordering.{Ordering}
+use Rattle.std.specs.Ordering.{int_cmp, on, then_cmp}
 use Rattle.sqlite_value.specs.declared.value.Value.TheVariants.{Int}
 use Rattle.sqlite_value.specs.declared.keys.Collation.TheVariants.{Binary}
 use Rattle.sqlite_value.specs.Keys.{ascending}
@@ -59,6 +61,18 @@ select_query tree filter project = record {
   limit = lit (Int (negsuc 0));
   offset = lit (Int (pos 0));
 }
+
+-- the rows that pass, in the order of some columns and then by key, and no more than the limit, if that isn't below 0
+abbrev pub sorted_query : ℕ → List Term → List Term → List Term → ℤ → Query
+sorted_query tree filter project columns limit = record (select_query tree filter project) {
+  order = map (λ t. (t, ascending Binary)) (columns ++ col 1 0 ∷ []);
+  limit = lit (Int limit);
+}
+
+-- by each of these in turn, and then by key
+abbrev pub by_then_key : {X : Type 0} → Layout X → List (X → X → Ordering) → X → X → Ordering
+by_then_key L [] = on L.key int_cmp
+by_then_key L (cmp ∷ more) = then_cmp cmp (by_then_key L more)
 
 -- the text is one query, with this meaning
 pub record IsSelect (schema : Schema) (sql : List ℕ) (q : Query) : Type 0 where
