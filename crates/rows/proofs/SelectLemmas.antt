@@ -1,9 +1,9 @@
 -- Rows by a test.
-use Rattle.std.proofs.Common.{◌≡◌, ◌^◌, ◌-◌, Err, ℕ, Bool, true, false, List, [], ◌∷◌, map, filter, unwrap_or, cond, nat_le, slice_get, None, Result, Ok, refl, sym, ap₂, ◌∙◌, int_cmp, map-id, ℤ, Ordering, Less}
+use Rattle.std.proofs.Common.{◌≡◌, ◌^◌, ◌-◌, Err, ℕ, Bool, true, false, List, [], ◌∷◌, map, filter, unwrap_or, cond, nat_le, slice_get, None, Result, Ok, refl, sym, ap₂, ◌∙◌, int_cmp, map-id, ℤ, Option, Ordering, Less}
 use Rattle.std.specs.List.{list_all}
-use Rattle.sqlite_value.specs.declared.value.Value.TheVariants.{Null}
+use Rattle.sqlite_value.specs.declared.value.Value.TheVariants.{Null, Int}
 use Rattle.sqlite_value.specs.Order.{Row, value_cmp}
-use Rattle.sqlite_value.proofs.OrderLemmas.{value_cmp-Int, then-Equal}
+use Rattle.sqlite_value.proofs.OrderLemmas.{value_cmp-Int, value_cmp-Null, then-Equal}
 use Rattle.sqlite_trees.specs.Tree.{Trees}
 use Rattle.sqlite_sql.specs.Query.{IsAnswer, output, output_cmp, page}
 use Rattle.sqlite_sql.specs.Program.{overlay}
@@ -11,6 +11,9 @@ use Rattle.sqlite_sql.specs.Term.{Term, eval_all, holds}
 use Rattle.sqlite_schema.specs.declared.schema.Schema.{Schema}
 use Rattle.sqlite_schema.specs.declared.command.Command.TheVariants.{Select}
 use Rattle.sqlite_typed.proofs.AnswerLemmas.{at_end, last_table, answer_by_keys, answer_sorted, IsNoTie, no_tie, no_tie_after}
+use Rattle.sqlite_typed.proofs.TestLemmas.{value_cmp-or_null}
+use Rattle.sqlite_typed.specs.Columns.{or_null}
+use Rattle.sqlite_typed.specs.Tests.{nulls_first}
 use Rattle.sqlite_keyed.specs.Lists.{sort_by}
 use Rattle.sqlite.specs.State.{State, Shown}
 use Rattle.sqlite.proofs.Callers.{reads_as}
@@ -46,6 +49,10 @@ module _ {X : Type 0} (L : Layout X) (filters project : List Term) (params : Row
       let q = select_query L.tree filters project in
       let read = reads_as sql params old new schema has (Select (record { lets = []; body = q }) is.names) (same_command (understood schema sql) ∙ is.command) is.plain is.unlisted rows seen in
       answers old.now.trees xs rows h (read.answer Null)
+
+-- a key of ORDER BY that may be NULL
+pub value_cmp-maybe_int : (a b : Option ℤ) → value_cmp (or_null Int a) (or_null Int b) ≡ nulls_first int_cmp a b
+value_cmp-maybe_int = value_cmp-or_null Int int_cmp (λ a. value_cmp-Null (Int a)) value_cmp-Int
 
 -- two rows with different keys are no tie
 untied : {X : Type 0} (L : Layout X) (by : List (X → X → Ordering)) (x y : X) → int_cmp (L.key x) (L.key y) ≡ Less → IsNoTie (by_then_key L by x y)

@@ -1,30 +1,36 @@
 -- What the statements on the table `domain` mean.
-use Rattle.std.proofs.Common.{int_eq, int_le, ◌≡◌, ap, map, ◌∙◌, Ok, refl, List, [], ◌∷◌, ℕ, ℤ, filter, codes, true, false, Option, Some}
+use Rattle.std.proofs.Common.{int_eq, int_le, negsuc, Equal, ◌≡◌, ap, map, ◌∙◌, Ok, refl, List, [], ◌∷◌, ℕ, ℤ, filter, codes, true, false, Option, Some}
 use Rattle.sqlite_value.specs.declared.value.Value.TheVariants.{Null, Int, Text}
 use Rattle.sqlite_value.specs.declared.keys.Collation.TheVariants.{Binary}
+use Rattle.std.specs.Ordering.{ordering_then}
+use Rattle.sqlite_value.specs.Order.{value_cmp}
+use Rattle.sqlite_value.proofs.OrderLemmas.{value_cmp-Int}
 use Rattle.sqlite_sql.specs.declared.ops.CompareOp.TheVariants.{Eq, Le}
 use Rattle.sqlite_sql.specs.declared.ops.BinaryOp.TheVariants.{Compare}
 use Rattle.sqlite_sql.specs.Term.{Term, lit, col, op2}
 use Rattle.sqlite_schema.specs.declared.schema.Table.{Table}
-use Rattle.sqlite_typed.proofs.TestLemmas.{at_ints, at_texts, at_points_to, at_nullable, then_term, last_term}
+use Rattle.sqlite_typed.proofs.TestLemmas.{at_ints, at_texts, at_points_to, at_nullable, then_term, last_term, then_key, last_key}
 use Rattle.sqlite_keyed.specs.Keyed.{insert_by}
 use Rattle.sqlite_keyed.specs.Lists.{delete_where}
 use Rattle.sqlite_keyed.proofs.ListLemmas.{filter_all, all_of}
 use Rattle.sqlite.specs.Listing.{understood}
 use Rattle.sqlite.specs.State.{State, Executes}
 use Rattle.sqlite_tied.specs.Compute.{everything}
-use Rattle.rows.specs.Layouts.{Holds, Sets, Listed, Gives, IsSelect, IsPut, IsDelete, select_query}
+use Rattle.rows.specs.Layouts.{Holds, Sets, Listed, Gives, IsSelect, IsPut, IsDelete, select_query, sorted_query, by_then_key}
 use Rattle.rows.specs.Calls.{Answers}
-use Rattle.rows.proofs.SelectLemmas.{selects}
+use Rattle.rows.proofs.SelectLemmas.{selects, sorts}
 use Rattle.rows.proofs.WriteLemmas.{deletes}
 use Rattle.rows.proofs.PutLemmas.{puts}
 use Rattle.rows.proofs.CastLemmas.{cast_int, cast_null, cast_text, cast_maybe_int, cast_maybe_text}
 use Rattle.rows.proofs.QuietLemmas.{quiet_if_idle}
 use Rattle.tables.specs.Tables.{domain, registry, domain_by_sponsor_until_due, domain_all, domain_by_id, domain_by_name, domain_by_registrant, domain_until_due, domain_put, domain_remove_id}
-use Rattle.tables.specs.Domain.{Domain, domains, domain_shown, domain_of_sponsor_within_due, domain_with_id, domain_with_name, domain_with_registrant, domain_within_due}
+use Rattle.tables.specs.Domain.{Domain, by_due, domains, domains_by_due, domain_shown, domain_of_sponsor_within_due, domain_with_id, domain_with_name, domain_with_registrant, domain_within_due}
 
 abbrev columns : List Term
 columns = col 1 0 ∷ col 1 2 ∷ col 1 3 ∷ col 1 4 ∷ col 1 5 ∷ col 1 6 ∷ col 1 7 ∷ col 1 8 ∷ col 1 9 ∷ col 1 10 ∷ col 1 11 ∷ col 1 12 ∷ col 1 13 ∷ col 1 14 ∷ col 1 15 ∷ []
+
+abbrev due_columns : List Term
+due_columns = col 1 15 ∷ []
 
 abbrev table : Table
 table = record domain { tree = 5 }
@@ -61,21 +67,24 @@ pub by_registrant_answers : (old new : State) (v : ℤ) (xs : List Domain) → o
 by_registrant_answers old new v xs has h rows seen =
     selects domains _ _ (Int v ∷ []) (domain_with_registrant v) domain_shown (λ x. last_term (at_ints false Eq x.registrant v)) (λ x. refl) registry domain_by_registrant old new xs rows by_registrant_is has h seen
 
-pub until_due_is : IsSelect registry domain_until_due (select_query 5 (op2 (Compare Le Binary) (col 1 15) (col 0 0) ∷ []) columns)
+due_order : (x y : Domain) → ordering_then (value_cmp (Int x.due) (Int y.due)) (ordering_then (value_cmp (Int x.id) (Int y.id)) Equal) ≡ by_then_key domains by_due x y
+due_order x y = then_key (value_cmp-Int x.due y.due) (last_key (value_cmp-Int x.id y.id))
+
+pub until_due_is : IsSelect registry domain_until_due (sorted_query 5 (op2 (Compare Le Binary) (col 1 15) (col 0 0) ∷ []) columns due_columns (negsuc 0))
 unfolding understood everything
 until_due_is = record { names = codes "id" ∷ codes "name" ∷ codes "creator" ∷ codes "serial" ∷ codes "sponsor" ∷ codes "created" ∷ codes "years" ∷ codes "transferred" ∷ codes "updated" ∷ codes "statuses" ∷ codes "secret" ∷ codes "registrant" ∷ codes "deleted" ∷ codes "restore_requested" ∷ codes "due" ∷ []; command = refl; plain = (refl, refl); unlisted = refl }
 
-pub until_due_answers : (old new : State) (v : ℤ) (xs : List Domain) → old.now.schema ≡ registry → Holds domains old.now.trees xs → Answers domain_shown domain_until_due (Int v ∷ []) old new (filter (domain_within_due v) xs)
+pub until_due_answers : (old new : State) (v : ℤ) (xs : List Domain) → old.now.schema ≡ registry → Holds domains old.now.trees xs → Answers domain_shown domain_until_due (Int v ∷ []) old new (domains_by_due (filter (domain_within_due v) xs))
 until_due_answers old new v xs has h rows seen =
-    selects domains _ _ (Int v ∷ []) (domain_within_due v) domain_shown (λ x. last_term (at_ints false Le x.due v)) (λ x. refl) registry domain_until_due old new xs rows until_due_is has h seen
+    sorts domains _ columns due_columns (negsuc 0) (Int v ∷ []) (domain_within_due v) domain_shown by_due (λ x. last_term (at_ints false Le x.due v)) (λ x. refl) due_order registry domain_until_due old new xs rows until_due_is has h seen
 
-pub by_sponsor_until_due_is : IsSelect registry domain_by_sponsor_until_due (select_query 5 (op2 (Compare Eq Binary) (col 1 5) (col 0 0) ∷ op2 (Compare Le Binary) (col 1 15) (col 0 1) ∷ []) columns)
+pub by_sponsor_until_due_is : IsSelect registry domain_by_sponsor_until_due (sorted_query 5 (op2 (Compare Eq Binary) (col 1 5) (col 0 0) ∷ op2 (Compare Le Binary) (col 1 15) (col 0 1) ∷ []) columns due_columns (negsuc 0))
 unfolding understood everything
 by_sponsor_until_due_is = record { names = codes "id" ∷ codes "name" ∷ codes "creator" ∷ codes "serial" ∷ codes "sponsor" ∷ codes "created" ∷ codes "years" ∷ codes "transferred" ∷ codes "updated" ∷ codes "statuses" ∷ codes "secret" ∷ codes "registrant" ∷ codes "deleted" ∷ codes "restore_requested" ∷ codes "due" ∷ []; command = refl; plain = (refl, refl); unlisted = refl }
 
-pub by_sponsor_until_due_answers : (old new : State) (sponsor due : ℤ) (xs : List Domain) → old.now.schema ≡ registry → Holds domains old.now.trees xs → Answers domain_shown domain_by_sponsor_until_due (Int sponsor ∷ Int due ∷ []) old new (filter (domain_of_sponsor_within_due sponsor due) xs)
+pub by_sponsor_until_due_answers : (old new : State) (sponsor due : ℤ) (xs : List Domain) → old.now.schema ≡ registry → Holds domains old.now.trees xs → Answers domain_shown domain_by_sponsor_until_due (Int sponsor ∷ Int due ∷ []) old new (domains_by_due (filter (domain_of_sponsor_within_due sponsor due) xs))
 by_sponsor_until_due_answers old new sponsor due xs has h rows seen =
-    selects domains _ _ (Int sponsor ∷ Int due ∷ []) (domain_of_sponsor_within_due sponsor due) domain_shown (λ x. then_term (at_ints false Eq x.sponsor sponsor) (last_term (at_ints false Le x.due due))) (λ x. refl) registry domain_by_sponsor_until_due old new xs rows by_sponsor_until_due_is has h seen
+    sorts domains _ columns due_columns (negsuc 0) (Int sponsor ∷ Int due ∷ []) (domain_of_sponsor_within_due sponsor due) domain_shown by_due (λ x. then_term (at_ints false Eq x.sponsor sponsor) (last_term (at_ints false Le x.due due))) (λ x. refl) due_order registry domain_by_sponsor_until_due old new xs rows by_sponsor_until_due_is has h seen
 
 listed : Listed domains registry 3 table
 listed = record { is = refl; tree = refl; quiet = quiet_if_idle registry refl; uncounted = refl; unstamped = refl; casts = λ x. simp (cast_int, cast_null, cast_text, cast_maybe_int, cast_maybe_text) }

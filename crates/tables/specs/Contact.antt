@@ -1,12 +1,14 @@
 -- Contacts, and how they lie in their table.
 use Rattle.std.specs.Prelude.{◌&&◌, Bool, false, int_le, ℕ, ℤ, List, [], ◌∷◌, Option, Some, refl}
-use Rattle.std.specs.Ordering.{int_eq}
+use Rattle.std.specs.declared.cmp.Ordering.{Ordering}
+use Rattle.std.specs.Ordering.{int_cmp, int_eq, on}
 use Rattle.sqlite_value.specs.declared.value.Value.TheVariants.{Int, Null, Text}
 use Rattle.sqlite_value.specs.Order.{Row}
 use Rattle.sqlite_keyed.specs.Rules.{points_to}
 use Rattle.sqlite_typed.specs.Columns.{or_null}
-use Rattle.sqlite_typed.specs.Tests.{bytes_eq, if_both}
-use Rattle.rows.specs.Layouts.{Layout}
+use Rattle.sqlite_typed.specs.Tests.{bytes_eq, if_both, nulls_first}
+use Rattle.sqlite_keyed.specs.Lists.{sort_by}
+use Rattle.rows.specs.Layouts.{Layout, by_then_key}
 
 pub record Postal : Type 0 where
   pub name : List ℕ
@@ -55,3 +57,10 @@ contact_within_due due x = if_both false int_le x.due (Some due)
 
 abbrev pub contact_of_sponsor_within_due : ℤ → ℤ → Contact → Bool
 contact_of_sponsor_within_due sponsor due x = int_eq x.sponsor sponsor && if_both false int_le x.due (Some due)
+
+abbrev pub by_due : List (Contact → Contact → Ordering)
+by_due = on (λ (x : Contact). x.due) (nulls_first int_cmp) ∷ []
+
+-- in the order in which they are due
+abbrev pub contacts_by_due : List Contact → List Contact
+contacts_by_due = sort_by (by_then_key contacts by_due)

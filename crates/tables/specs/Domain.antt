@@ -1,12 +1,14 @@
 -- Domains, and how they lie in their table.
 use Rattle.std.specs.Prelude.{◌&&◌, Bool, false, int_le, ℕ, ℤ, List, [], ◌∷◌, Option, Some, refl}
-use Rattle.std.specs.Ordering.{int_eq}
+use Rattle.std.specs.declared.cmp.Ordering.{Ordering}
+use Rattle.std.specs.Ordering.{int_cmp, int_eq, on}
 use Rattle.sqlite_value.specs.declared.value.Value.TheVariants.{Int, Null, Text}
 use Rattle.sqlite_value.specs.Order.{Row}
 use Rattle.sqlite_keyed.specs.Rules.{points_to}
 use Rattle.sqlite_typed.specs.Columns.{or_null}
 use Rattle.sqlite_typed.specs.Tests.{bytes_eq, if_both}
-use Rattle.rows.specs.Layouts.{Layout}
+use Rattle.sqlite_keyed.specs.Lists.{sort_by}
+use Rattle.rows.specs.Layouts.{Layout, by_then_key}
 
 pub record Domain : Type 0 where
   pub id : ℤ
@@ -50,3 +52,10 @@ domain_within_due v x = int_le x.due v
 
 abbrev pub domain_of_sponsor_within_due : ℤ → ℤ → Domain → Bool
 domain_of_sponsor_within_due sponsor due x = int_eq x.sponsor sponsor && int_le x.due due
+
+abbrev pub by_due : List (Domain → Domain → Ordering)
+by_due = on (λ (x : Domain). x.due) int_cmp ∷ []
+
+-- in the order in which they are due
+abbrev pub domains_by_due : List Domain → List Domain
+domains_by_due = sort_by (by_then_key domains by_due)

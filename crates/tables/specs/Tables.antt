@@ -59,10 +59,10 @@ abbrev pub contact_by_name : List ℕ
 contact_by_name = codes "SELECT id, name, creator, serial, sponsor, created, transferred, updated, statuses, secret, postal_name, org, street, city, state, postal_code, country, voice, mail, due FROM contact WHERE name = ?1 ORDER BY id"
 
 abbrev pub contact_until_due : List ℕ
-contact_until_due = codes "SELECT id, name, creator, serial, sponsor, created, transferred, updated, statuses, secret, postal_name, org, street, city, state, postal_code, country, voice, mail, due FROM contact WHERE due <= ?1 ORDER BY id"
+contact_until_due = codes "SELECT id, name, creator, serial, sponsor, created, transferred, updated, statuses, secret, postal_name, org, street, city, state, postal_code, country, voice, mail, due FROM contact WHERE due <= ?1 ORDER BY due, id"
 
 abbrev pub contact_by_sponsor_until_due : List ℕ
-contact_by_sponsor_until_due = codes "SELECT id, name, creator, serial, sponsor, created, transferred, updated, statuses, secret, postal_name, org, street, city, state, postal_code, country, voice, mail, due FROM contact WHERE sponsor = ?1 AND due <= ?2 ORDER BY id"
+contact_by_sponsor_until_due = codes "SELECT id, name, creator, serial, sponsor, created, transferred, updated, statuses, secret, postal_name, org, street, city, state, postal_code, country, voice, mail, due FROM contact WHERE sponsor = ?1 AND due <= ?2 ORDER BY due, id"
 
 abbrev pub contact_put : List ℕ
 contact_put = codes "INSERT INTO contact (id, name, creator, serial, sponsor, created, transferred, updated, statuses, secret, postal_name, org, street, city, state, postal_code, country, voice, mail, due) VALUES (?1, ?2, ?3, ?4, ?5, ?6, ?7, ?8, ?9, ?10, ?11, ?12, ?13, ?14, ?15, ?16, ?17, ?18, ?19, ?20) ON CONFLICT (id) DO UPDATE SET name = excluded.name, creator = excluded.creator, serial = excluded.serial, sponsor = excluded.sponsor, created = excluded.created, transferred = excluded.transferred, updated = excluded.updated, statuses = excluded.statuses, secret = excluded.secret, postal_name = excluded.postal_name, org = excluded.org, street = excluded.street, city = excluded.city, state = excluded.state, postal_code = excluded.postal_code, country = excluded.country, voice = excluded.voice, mail = excluded.mail, due = excluded.due"
@@ -91,10 +91,10 @@ abbrev pub domain_by_registrant : List ℕ
 domain_by_registrant = codes "SELECT id, name, creator, serial, sponsor, created, years, transferred, updated, statuses, secret, registrant, deleted, restore_requested, due FROM domain WHERE registrant = ?1 ORDER BY id"
 
 abbrev pub domain_until_due : List ℕ
-domain_until_due = codes "SELECT id, name, creator, serial, sponsor, created, years, transferred, updated, statuses, secret, registrant, deleted, restore_requested, due FROM domain WHERE due <= ?1 ORDER BY id"
+domain_until_due = codes "SELECT id, name, creator, serial, sponsor, created, years, transferred, updated, statuses, secret, registrant, deleted, restore_requested, due FROM domain WHERE due <= ?1 ORDER BY due, id"
 
 abbrev pub domain_by_sponsor_until_due : List ℕ
-domain_by_sponsor_until_due = codes "SELECT id, name, creator, serial, sponsor, created, years, transferred, updated, statuses, secret, registrant, deleted, restore_requested, due FROM domain WHERE sponsor = ?1 AND due <= ?2 ORDER BY id"
+domain_by_sponsor_until_due = codes "SELECT id, name, creator, serial, sponsor, created, years, transferred, updated, statuses, secret, registrant, deleted, restore_requested, due FROM domain WHERE sponsor = ?1 AND due <= ?2 ORDER BY due, id"
 
 abbrev pub domain_put : List ℕ
 domain_put = codes "INSERT INTO domain (id, name, creator, serial, sponsor, created, years, transferred, updated, statuses, secret, registrant, deleted, restore_requested, due) VALUES (?1, ?2, ?3, ?4, ?5, ?6, ?7, ?8, ?9, ?10, ?11, ?12, ?13, ?14, ?15) ON CONFLICT (id) DO UPDATE SET name = excluded.name, creator = excluded.creator, serial = excluded.serial, sponsor = excluded.sponsor, created = excluded.created, years = excluded.years, transferred = excluded.transferred, updated = excluded.updated, statuses = excluded.statuses, secret = excluded.secret, registrant = excluded.registrant, deleted = excluded.deleted, restore_requested = excluded.restore_requested, due = excluded.due"
@@ -188,16 +188,19 @@ line_put = codes "INSERT INTO line (id, account, kind, creator, serial, recorded
 -- ---- message
 
 abbrev pub message : Table
-message = keyed_table (codes "message") (filled (codes "account") Integer ∷ filled (codes "moment") Integer ∷ filled (codes "notice") Integer ∷ nullable (codes "number") Integer ∷ filled (codes "name") Text ∷ filled (codes "subject") Integer ∷ []) ([]) (reference_to (codes "account") 2 ∷ [])
+message = keyed_table (codes "message") (filled (codes "account") Integer ∷ filled (codes "moment") Integer ∷ filled (codes "class") Integer ∷ filled (codes "number") Integer ∷ filled (codes "name") Text ∷ filled (codes "subject") Integer ∷ filled (codes "notice") Integer ∷ []) ([]) (reference_to (codes "account") 2 ∷ [])
 
 abbrev pub message_create : List ℕ
-message_create = codes "CREATE TABLE message (id INTEGER PRIMARY KEY, account INTEGER NOT NULL REFERENCES account (id), moment INTEGER NOT NULL, notice INTEGER NOT NULL, number INTEGER, name TEXT NOT NULL, subject INTEGER NOT NULL) STRICT"
+message_create = codes "CREATE TABLE message (id INTEGER PRIMARY KEY, account INTEGER NOT NULL REFERENCES account (id), moment INTEGER NOT NULL, class INTEGER NOT NULL, number INTEGER NOT NULL, name TEXT NOT NULL, subject INTEGER NOT NULL, notice INTEGER NOT NULL) STRICT"
 
 abbrev pub message_by_account : List ℕ
-message_by_account = codes "SELECT id, account, moment, notice, number, name, subject FROM message WHERE account = ?1 ORDER BY id"
+message_by_account = codes "SELECT id, account, moment, class, number, name, subject, notice FROM message WHERE account = ?1 ORDER BY moment, class, number, name, subject, notice, id"
+
+abbrev pub message_first_by_account : List ℕ
+message_first_by_account = codes "SELECT id, account, moment, class, number, name, subject, notice FROM message WHERE account = ?1 ORDER BY moment, class, number, name, subject, notice, id LIMIT 1"
 
 abbrev pub message_put : List ℕ
-message_put = codes "INSERT INTO message (id, account, moment, notice, number, name, subject) VALUES (?1, ?2, ?3, ?4, ?5, ?6, ?7) ON CONFLICT (id) DO UPDATE SET account = excluded.account, moment = excluded.moment, notice = excluded.notice, number = excluded.number, name = excluded.name, subject = excluded.subject"
+message_put = codes "INSERT INTO message (id, account, moment, class, number, name, subject, notice) VALUES (?1, ?2, ?3, ?4, ?5, ?6, ?7, ?8) ON CONFLICT (id) DO UPDATE SET account = excluded.account, moment = excluded.moment, class = excluded.class, number = excluded.number, name = excluded.name, subject = excluded.subject, notice = excluded.notice"
 
 abbrev pub message_remove_id : List ℕ
 message_remove_id = codes "DELETE FROM message WHERE id = ?1"
@@ -217,7 +220,7 @@ abbrev pub transfer_by_domain : List ℕ
 transfer_by_domain = codes "SELECT id, contact, domain, requester, losing, requested, ac_date, state, due FROM transfer WHERE domain = ?1 ORDER BY id"
 
 abbrev pub transfer_by_requester_until_due : List ℕ
-transfer_by_requester_until_due = codes "SELECT id, contact, domain, requester, losing, requested, ac_date, state, due FROM transfer WHERE requester = ?1 AND due <= ?2 ORDER BY id"
+transfer_by_requester_until_due = codes "SELECT id, contact, domain, requester, losing, requested, ac_date, state, due FROM transfer WHERE requester = ?1 AND due <= ?2 ORDER BY due, id"
 
 abbrev pub transfer_put : List ℕ
 transfer_put = codes "INSERT INTO transfer (id, contact, domain, requester, losing, requested, ac_date, state, due) VALUES (?1, ?2, ?3, ?4, ?5, ?6, ?7, ?8, ?9) ON CONFLICT (id) DO UPDATE SET contact = excluded.contact, domain = excluded.domain, requester = excluded.requester, losing = excluded.losing, requested = excluded.requested, ac_date = excluded.ac_date, state = excluded.state, due = excluded.due"
@@ -325,11 +328,11 @@ line_object = index_on 11 (codes "line_object") (2 ∷ 4 ∷ 5 ∷ [])
 abbrev pub line_object_create : List ℕ
 line_object_create = codes "CREATE INDEX line_object ON line (account, creator, serial)"
 
-abbrev pub message_account : Index
-message_account = index_on 12 (codes "message_account") (2 ∷ [])
+abbrev pub message_queue : Index
+message_queue = index_on 12 (codes "message_queue") (2 ∷ 3 ∷ 4 ∷ 5 ∷ 6 ∷ 7 ∷ 8 ∷ [])
 
-abbrev pub message_account_create : List ℕ
-message_account_create = codes "CREATE INDEX message_account ON message (account)"
+abbrev pub message_queue_create : List ℕ
+message_queue_create = codes "CREATE INDEX message_queue ON message (account, moment, class, number, name, subject, notice)"
 
 abbrev pub transfer_contact : Index
 transfer_contact = index_on 13 (codes "transfer_contact") (2 ∷ [])
@@ -384,11 +387,11 @@ with_link_host = indexed with_link_contact (record link { tree = 10 }) link_host
 abbrev pub with_line_object : Schema
 with_line_object = indexed with_link_host (record line { tree = 11 }) line_object
 
-abbrev pub with_message_account : Schema
-with_message_account = indexed with_line_object (record message { tree = 12 }) message_account
+abbrev pub with_message_queue : Schema
+with_message_queue = indexed with_line_object (record message { tree = 12 }) message_queue
 
 abbrev pub with_transfer_contact : Schema
-with_transfer_contact = indexed with_message_account (record transfer { tree = 13 }) transfer_contact
+with_transfer_contact = indexed with_message_queue (record transfer { tree = 13 }) transfer_contact
 
 abbrev pub with_transfer_domain : Schema
 with_transfer_domain = indexed with_transfer_contact (record transfer { tree = 13 }) transfer_domain
@@ -401,7 +404,7 @@ registry = with_transfer_requester_due
 
 -- the texts that make it, in their order
 abbrev pub creation : List (List ℕ)
-creation = meta_create ∷ account_create ∷ contact_create ∷ domain_create ∷ host_create ∷ address_create ∷ link_create ∷ line_create ∷ message_create ∷ transfer_create ∷ contact_due_create ∷ contact_sponsor_due_create ∷ domain_registrant_create ∷ domain_due_create ∷ domain_sponsor_due_create ∷ host_superordinate_create ∷ address_host_create ∷ link_domain_create ∷ link_contact_create ∷ link_host_create ∷ line_object_create ∷ message_account_create ∷ transfer_contact_create ∷ transfer_domain_create ∷ transfer_requester_due_create ∷ []
+creation = meta_create ∷ account_create ∷ contact_create ∷ domain_create ∷ host_create ∷ address_create ∷ link_create ∷ line_create ∷ message_create ∷ transfer_create ∷ contact_due_create ∷ contact_sponsor_due_create ∷ domain_registrant_create ∷ domain_due_create ∷ domain_sponsor_due_create ∷ host_superordinate_create ∷ address_host_create ∷ link_domain_create ∷ link_contact_create ∷ link_host_create ∷ line_object_create ∷ message_queue_create ∷ transfer_contact_create ∷ transfer_domain_create ∷ transfer_requester_due_create ∷ []
 
 -- the number of this schema, which the table `meta` keeps
 abbrev pub schema_number : ℤ

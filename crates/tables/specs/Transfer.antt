@@ -1,12 +1,14 @@
 -- The last transfer of each object that had one, and how they lie in their table.
 use Rattle.std.specs.Prelude.{◌&&◌, Bool, false, int_le, ℕ, ℤ, List, [], ◌∷◌, Option, Some, refl}
-use Rattle.std.specs.Ordering.{int_eq}
+use Rattle.std.specs.declared.cmp.Ordering.{Ordering}
+use Rattle.std.specs.Ordering.{int_cmp, int_eq, on}
 use Rattle.sqlite_value.specs.declared.value.Value.TheVariants.{Int, Null}
 use Rattle.sqlite_value.specs.Order.{Row}
 use Rattle.sqlite_keyed.specs.Rules.{points_to}
 use Rattle.sqlite_typed.specs.Columns.{or_null}
-use Rattle.sqlite_typed.specs.Tests.{bytes_eq, if_both}
-use Rattle.rows.specs.Layouts.{Layout}
+use Rattle.sqlite_typed.specs.Tests.{bytes_eq, if_both, nulls_first}
+use Rattle.sqlite_keyed.specs.Lists.{sort_by}
+use Rattle.rows.specs.Layouts.{Layout, by_then_key}
 
 pub record Transfer : Type 0 where
   pub id : ℤ
@@ -41,3 +43,10 @@ transfer_with_id v x = int_eq x.id v
 
 abbrev pub transfer_of_requester_within_due : ℤ → ℤ → Transfer → Bool
 transfer_of_requester_within_due requester due x = int_eq x.requester requester && if_both false int_le x.due (Some due)
+
+abbrev pub by_due : List (Transfer → Transfer → Ordering)
+by_due = on (λ (x : Transfer). x.due) (nulls_first int_cmp) ∷ []
+
+-- in the order in which they are due
+abbrev pub transfers_by_due : List Transfer → List Transfer
+transfers_by_due = sort_by (by_then_key transfers by_due)

@@ -5,7 +5,7 @@ ghost use Rattle.sqlite_keyed.specs.Keyed.{insert_by};
 ghost use Rattle.sqlite_keyed.specs.Lists.{delete_where};
 ghost use Rattle.rows.specs.Calls.{Changes, Finds, IsSteady};
 ghost use Rattle.tables.specs.Tables.{registry};
-ghost use Rattle.tables.specs.Contact.{Contact, contacts, contact_of_sponsor_within_due, contact_within_due, contact_with_id, contact_with_name, contact_shown};
+ghost use Rattle.tables.specs.Contact.{Contact, contacts, contacts_by_due, contact_of_sponsor_within_due, contact_within_due, contact_with_id, contact_with_name, contact_shown};
 
 use rows::{Number, Record, maybe_number, maybe_text, select, write};
 use sqlite::types::{ToSql, ValueRef};
@@ -23,10 +23,10 @@ const BY_NAME: &str =
     "SELECT id, name, creator, serial, sponsor, created, transferred, updated, statuses, secret, postal_name, org, street, city, state, postal_code, country, voice, mail, due FROM contact WHERE name = ?1 ORDER BY id";
 
 const UNTIL_DUE: &str =
-    "SELECT id, name, creator, serial, sponsor, created, transferred, updated, statuses, secret, postal_name, org, street, city, state, postal_code, country, voice, mail, due FROM contact WHERE due <= ?1 ORDER BY id";
+    "SELECT id, name, creator, serial, sponsor, created, transferred, updated, statuses, secret, postal_name, org, street, city, state, postal_code, country, voice, mail, due FROM contact WHERE due <= ?1 ORDER BY due, id";
 
 const BY_SPONSOR_UNTIL_DUE: &str =
-    "SELECT id, name, creator, serial, sponsor, created, transferred, updated, statuses, secret, postal_name, org, street, city, state, postal_code, country, voice, mail, due FROM contact WHERE sponsor = ?1 AND due <= ?2 ORDER BY id";
+    "SELECT id, name, creator, serial, sponsor, created, transferred, updated, statuses, secret, postal_name, org, street, city, state, postal_code, country, voice, mail, due FROM contact WHERE sponsor = ?1 AND due <= ?2 ORDER BY due, id";
 
 const PUT: &str =
     "INSERT INTO contact (id, name, creator, serial, sponsor, created, transferred, updated, statuses, secret, postal_name, org, street, city, state, postal_code, country, voice, mail, due) VALUES (?1, ?2, ?3, ?4, ?5, ?6, ?7, ?8, ?9, ?10, ?11, ?12, ?13, ?14, ?15, ?16, ?17, ?18, ?19, ?20) ON CONFLICT (id) DO UPDATE SET name = excluded.name, creator = excluded.creator, serial = excluded.serial, sponsor = excluded.sponsor, created = excluded.created, transferred = excluded.transferred, updated = excluded.updated, statuses = excluded.statuses, secret = excluded.secret, postal_name = excluded.postal_name, org = excluded.org, street = excluded.street, city = excluded.city, state = excluded.state, postal_code = excluded.postal_code, country = excluded.country, voice = excluded.voice, mail = excluded.mail, due = excluded.due";
@@ -240,7 +240,7 @@ pub fn contacts_until_due<S: Alter>(
     alloc: Global,
     due: Number,
 ) -> Result<Vec<ContactRow>, Error>
-    ensures does { conn.old.schema ≡ registry → Finds contacts (filter (contact_within_due due)) (state S.Store conn.old) (state S.Store conn.new) result }
+    ensures does { conn.old.schema ≡ registry → Finds contacts (λ xs. contacts_by_due (filter (contact_within_due due) xs)) (state S.Store conn.old) (state S.Store conn.new) result }
     ensures steady { IsSteady (state S.Store conn.old) (state S.Store conn.new) }
 {
     select(conn, alloc, UNTIL_DUE, params![due])
@@ -253,7 +253,7 @@ pub fn contacts_by_sponsor_until_due<S: Alter>(
     sponsor: Number,
     due: Number,
 ) -> Result<Vec<ContactRow>, Error>
-    ensures does { conn.old.schema ≡ registry → Finds contacts (filter (contact_of_sponsor_within_due sponsor due)) (state S.Store conn.old) (state S.Store conn.new) result }
+    ensures does { conn.old.schema ≡ registry → Finds contacts (λ xs. contacts_by_due (filter (contact_of_sponsor_within_due sponsor due) xs)) (state S.Store conn.old) (state S.Store conn.new) result }
     ensures steady { IsSteady (state S.Store conn.old) (state S.Store conn.new) }
 {
     select(conn, alloc, BY_SPONSOR_UNTIL_DUE, params![sponsor, due])

@@ -5,7 +5,7 @@ ghost use Rattle.sqlite_keyed.specs.Keyed.{insert_by};
 ghost use Rattle.sqlite_keyed.specs.Lists.{delete_where};
 ghost use Rattle.rows.specs.Calls.{Changes, Finds, IsSteady};
 ghost use Rattle.tables.specs.Tables.{registry};
-ghost use Rattle.tables.specs.Domain.{Domain, domains, domain_of_sponsor_within_due, domain_with_id, domain_with_name, domain_with_registrant, domain_within_due};
+ghost use Rattle.tables.specs.Domain.{Domain, domains, domains_by_due, domain_of_sponsor_within_due, domain_with_id, domain_with_name, domain_with_registrant, domain_within_due};
 
 use rows::{Number, Record, maybe_number, select, write};
 use sqlite::types::{ToSql, ValueRef};
@@ -26,10 +26,10 @@ const BY_REGISTRANT: &str =
     "SELECT id, name, creator, serial, sponsor, created, years, transferred, updated, statuses, secret, registrant, deleted, restore_requested, due FROM domain WHERE registrant = ?1 ORDER BY id";
 
 const UNTIL_DUE: &str =
-    "SELECT id, name, creator, serial, sponsor, created, years, transferred, updated, statuses, secret, registrant, deleted, restore_requested, due FROM domain WHERE due <= ?1 ORDER BY id";
+    "SELECT id, name, creator, serial, sponsor, created, years, transferred, updated, statuses, secret, registrant, deleted, restore_requested, due FROM domain WHERE due <= ?1 ORDER BY due, id";
 
 const BY_SPONSOR_UNTIL_DUE: &str =
-    "SELECT id, name, creator, serial, sponsor, created, years, transferred, updated, statuses, secret, registrant, deleted, restore_requested, due FROM domain WHERE sponsor = ?1 AND due <= ?2 ORDER BY id";
+    "SELECT id, name, creator, serial, sponsor, created, years, transferred, updated, statuses, secret, registrant, deleted, restore_requested, due FROM domain WHERE sponsor = ?1 AND due <= ?2 ORDER BY due, id";
 
 const PUT: &str =
     "INSERT INTO domain (id, name, creator, serial, sponsor, created, years, transferred, updated, statuses, secret, registrant, deleted, restore_requested, due) VALUES (?1, ?2, ?3, ?4, ?5, ?6, ?7, ?8, ?9, ?10, ?11, ?12, ?13, ?14, ?15) ON CONFLICT (id) DO UPDATE SET name = excluded.name, creator = excluded.creator, serial = excluded.serial, sponsor = excluded.sponsor, created = excluded.created, years = excluded.years, transferred = excluded.transferred, updated = excluded.updated, statuses = excluded.statuses, secret = excluded.secret, registrant = excluded.registrant, deleted = excluded.deleted, restore_requested = excluded.restore_requested, due = excluded.due";
@@ -188,7 +188,7 @@ pub fn domains_until_due<S: Alter>(
     alloc: Global,
     due: Number,
 ) -> Result<Vec<DomainRow>, Error>
-    ensures does { conn.old.schema ≡ registry → Finds domains (filter (domain_within_due due)) (state S.Store conn.old) (state S.Store conn.new) result }
+    ensures does { conn.old.schema ≡ registry → Finds domains (λ xs. domains_by_due (filter (domain_within_due due) xs)) (state S.Store conn.old) (state S.Store conn.new) result }
     ensures steady { IsSteady (state S.Store conn.old) (state S.Store conn.new) }
 {
     select(conn, alloc, UNTIL_DUE, params![due])
@@ -201,7 +201,7 @@ pub fn domains_by_sponsor_until_due<S: Alter>(
     sponsor: Number,
     due: Number,
 ) -> Result<Vec<DomainRow>, Error>
-    ensures does { conn.old.schema ≡ registry → Finds domains (filter (domain_of_sponsor_within_due sponsor due)) (state S.Store conn.old) (state S.Store conn.new) result }
+    ensures does { conn.old.schema ≡ registry → Finds domains (λ xs. domains_by_due (filter (domain_of_sponsor_within_due sponsor due) xs)) (state S.Store conn.old) (state S.Store conn.new) result }
     ensures steady { IsSteady (state S.Store conn.old) (state S.Store conn.new) }
 {
     select(conn, alloc, BY_SPONSOR_UNTIL_DUE, params![sponsor, due])

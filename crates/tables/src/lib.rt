@@ -36,7 +36,9 @@ pub use line::{LineRow, lines_by_account, lines_by_object, put_line};
 pub use link::{
     LinkRow, links_by_contact, links_by_domain, links_by_host, put_link, remove_links_by_domain,
 };
-pub use message::{MessageRow, messages_by_account, put_message, remove_messages_by_id};
+pub use message::{
+    MessageRow, first_messages_by_account, messages_by_account, put_message, remove_messages_by_id,
+};
 pub use meta::{MetaRow, all_metas, put_meta};
 pub use readiness::{Ready, SCHEMA_NUMBER, readiness_of};
 pub use schema::create;

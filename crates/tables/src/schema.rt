@@ -36,7 +36,7 @@ const LINE: &str =
     "CREATE TABLE line (id INTEGER PRIMARY KEY, account INTEGER NOT NULL REFERENCES account (id), kind INTEGER NOT NULL, creator INTEGER, serial INTEGER, recorded INTEGER NOT NULL, years INTEGER NOT NULL, cents INTEGER NOT NULL, started INTEGER, refunded INTEGER) STRICT";
 
 const MESSAGE: &str =
-    "CREATE TABLE message (id INTEGER PRIMARY KEY, account INTEGER NOT NULL REFERENCES account (id), moment INTEGER NOT NULL, notice INTEGER NOT NULL, number INTEGER, name TEXT NOT NULL, subject INTEGER NOT NULL) STRICT";
+    "CREATE TABLE message (id INTEGER PRIMARY KEY, account INTEGER NOT NULL REFERENCES account (id), moment INTEGER NOT NULL, class INTEGER NOT NULL, number INTEGER NOT NULL, name TEXT NOT NULL, subject INTEGER NOT NULL, notice INTEGER NOT NULL) STRICT";
 
 const TRANSFER: &str =
     "CREATE TABLE transfer (id INTEGER PRIMARY KEY, contact INTEGER REFERENCES contact (id), domain INTEGER REFERENCES domain (id), requester INTEGER NOT NULL REFERENCES account (id), losing INTEGER NOT NULL REFERENCES account (id), requested INTEGER NOT NULL, ac_date INTEGER NOT NULL, state INTEGER NOT NULL, due INTEGER) STRICT";
@@ -63,7 +63,8 @@ const LINK_HOST: &str = "CREATE INDEX link_host ON link (host)";
 
 const LINE_OBJECT: &str = "CREATE INDEX line_object ON line (account, creator, serial)";
 
-const MESSAGE_ACCOUNT: &str = "CREATE INDEX message_account ON message (account)";
+const MESSAGE_QUEUE: &str =
+    "CREATE INDEX message_queue ON message (account, moment, class, number, name, subject, notice)";
 
 const TRANSFER_CONTACT: &str = "CREATE INDEX transfer_contact ON transfer (contact)";
 
@@ -102,7 +103,7 @@ pub fn create<S: Alter>(conn: &mut Connection<S>) -> Result<(), Error>
             LINK_CONTACT,
             LINK_HOST,
             LINE_OBJECT,
-            MESSAGE_ACCOUNT,
+            MESSAGE_QUEUE,
             TRANSFER_CONTACT,
             TRANSFER_DOMAIN,
             TRANSFER_REQUESTER_DUE,

@@ -5,7 +5,7 @@ ghost use Rattle.sqlite_keyed.specs.Keyed.{insert_by};
 ghost use Rattle.sqlite_keyed.specs.Lists.{delete_where};
 ghost use Rattle.rows.specs.Calls.{Changes, Finds, IsSteady};
 ghost use Rattle.tables.specs.Tables.{registry};
-ghost use Rattle.tables.specs.Transfer.{Transfer, transfers, transfer_of_requester_within_due, transfer_with_contact, transfer_with_domain, transfer_with_id};
+ghost use Rattle.tables.specs.Transfer.{Transfer, transfers, transfers_by_due, transfer_of_requester_within_due, transfer_with_contact, transfer_with_domain, transfer_with_id};
 
 use rows::{Number, Record, maybe_number, select, write};
 use sqlite::types::{ToSql, ValueRef};
@@ -20,7 +20,7 @@ const BY_DOMAIN: &str =
     "SELECT id, contact, domain, requester, losing, requested, ac_date, state, due FROM transfer WHERE domain = ?1 ORDER BY id";
 
 const BY_REQUESTER_UNTIL_DUE: &str =
-    "SELECT id, contact, domain, requester, losing, requested, ac_date, state, due FROM transfer WHERE requester = ?1 AND due <= ?2 ORDER BY id";
+    "SELECT id, contact, domain, requester, losing, requested, ac_date, state, due FROM transfer WHERE requester = ?1 AND due <= ?2 ORDER BY due, id";
 
 const PUT: &str =
     "INSERT INTO transfer (id, contact, domain, requester, losing, requested, ac_date, state, due) VALUES (?1, ?2, ?3, ?4, ?5, ?6, ?7, ?8, ?9) ON CONFLICT (id) DO UPDATE SET contact = excluded.contact, domain = excluded.domain, requester = excluded.requester, losing = excluded.losing, requested = excluded.requested, ac_date = excluded.ac_date, state = excluded.state, due = excluded.due";
@@ -133,7 +133,7 @@ pub fn transfers_by_requester_until_due<S: Alter>(
     requester: Number,
     due: Number,
 ) -> Result<Vec<TransferRow>, Error>
-    ensures does { conn.old.schema ≡ registry → Finds transfers (filter (transfer_of_requester_within_due requester due)) (state S.Store conn.old) (state S.Store conn.new) result }
+    ensures does { conn.old.schema ≡ registry → Finds transfers (λ xs. transfers_by_due (filter (transfer_of_requester_within_due requester due) xs)) (state S.Store conn.old) (state S.Store conn.new) result }
     ensures steady { IsSteady (state S.Store conn.old) (state S.Store conn.new) }
 {
     select(conn, alloc, BY_REQUESTER_UNTIL_DUE, params![requester, due])
