@@ -1,11 +1,11 @@
 -- What the statements on the table `contact` mean.
-use Rattle.std.proofs.Common.{int_eq, int_le, negsuc, Equal, ◌≡◌, ap, map, ◌∙◌, Ok, refl, List, [], ◌∷◌, ℕ, ℤ, filter, codes, true, false, Option, Some}
+use Rattle.std.proofs.Common.{int_eq, int_le, pos, negsuc, Equal, ◌≡◌, ap, map, ◌∙◌, Ok, refl, List, [], ◌∷◌, ℕ, ℤ, filter, codes, true, false, Option, Some}
 use Rattle.sqlite_value.specs.declared.value.Value.TheVariants.{Null, Int, Text}
 use Rattle.sqlite_value.specs.declared.keys.Collation.TheVariants.{Binary}
 use Rattle.std.specs.Ordering.{ordering_then}
 use Rattle.sqlite_value.specs.Order.{value_cmp}
 use Rattle.sqlite_value.proofs.OrderLemmas.{value_cmp-Int}
-use Rattle.sqlite_sql.specs.declared.ops.CompareOp.TheVariants.{Eq, Le}
+use Rattle.sqlite_sql.specs.declared.ops.CompareOp.TheVariants.{Eq, Ge, Le}
 use Rattle.sqlite_sql.specs.declared.ops.BinaryOp.TheVariants.{Compare}
 use Rattle.sqlite_sql.specs.Term.{Term, lit, col, op2}
 use Rattle.sqlite_schema.specs.declared.schema.Table.{Table}
@@ -24,6 +24,7 @@ use Rattle.rows.proofs.WriteLemmas.{deletes}
 use Rattle.rows.proofs.PutLemmas.{puts}
 use Rattle.rows.proofs.CastLemmas.{cast_int, cast_null, cast_text, cast_maybe_int, cast_maybe_text}
 use Rattle.rows.proofs.QuietLemmas.{quiet_if_idle}
+use Rattle.tables.proofs.DueLemmas.{at_due}
 use Rattle.tables.specs.Tables.{contact, registry, contact_by_sponsor_until_due, contact_until_due, contact_all, contact_by_id, contact_by_name, contact_put, contact_remove_id}
 use Rattle.tables.specs.Contact.{Contact, by_due, contacts, contacts_by_due, contact_shown, contact_of_sponsor_within_due, contact_within_due, contact_with_id, contact_with_name}
 
@@ -63,21 +64,21 @@ by_name_answers old new v xs has h rows seen =
 due_order : (x y : Contact) → ordering_then (value_cmp (or_null Int x.due) (or_null Int y.due)) (ordering_then (value_cmp (Int x.id) (Int y.id)) Equal) ≡ by_then_key contacts by_due x y
 due_order x y = then_key (value_cmp-maybe_int x.due y.due) (last_key (value_cmp-Int x.id y.id))
 
-pub until_due_is : IsSelect registry contact_until_due (sorted_query 3 (op2 (Compare Le Binary) (col 1 20) (col 0 0) ∷ []) columns due_columns (negsuc 0))
+pub until_due_is : IsSelect registry contact_until_due (sorted_query 3 (op2 (Compare Ge Binary) (col 1 20) (lit (Int (pos 0))) ∷ op2 (Compare Le Binary) (col 1 20) (col 0 0) ∷ []) columns due_columns (negsuc 0))
 unfolding understood everything
 until_due_is = record { names = codes "id" ∷ codes "name" ∷ codes "creator" ∷ codes "serial" ∷ codes "sponsor" ∷ codes "created" ∷ codes "transferred" ∷ codes "updated" ∷ codes "statuses" ∷ codes "secret" ∷ codes "postal_name" ∷ codes "org" ∷ codes "street" ∷ codes "city" ∷ codes "state" ∷ codes "postal_code" ∷ codes "country" ∷ codes "voice" ∷ codes "mail" ∷ codes "due" ∷ []; command = refl; plain = (refl, refl); unlisted = refl }
 
 pub until_due_answers : (old new : State) (due : ℤ) (xs : List Contact) → old.now.schema ≡ registry → Holds contacts old.now.trees xs → Answers contact_shown contact_until_due (Int due ∷ []) old new (contacts_by_due (filter (contact_within_due due) xs))
 until_due_answers old new due xs has h rows seen =
-    sorts contacts _ columns due_columns (negsuc 0) (Int due ∷ []) (contact_within_due due) contact_shown by_due (λ x. last_term (at_nullable Int false Le int_le (at_ints false Le) x.due (Some due))) (λ x. refl) due_order registry contact_until_due old new xs rows until_due_is has h seen
+    sorts contacts _ columns due_columns (negsuc 0) (Int due ∷ []) (contact_within_due due) contact_shown by_due (λ x. at_due x.due due) (λ x. refl) due_order registry contact_until_due old new xs rows until_due_is has h seen
 
-pub by_sponsor_until_due_is : IsSelect registry contact_by_sponsor_until_due (sorted_query 3 (op2 (Compare Eq Binary) (col 1 5) (col 0 0) ∷ op2 (Compare Le Binary) (col 1 20) (col 0 1) ∷ []) columns due_columns (negsuc 0))
+pub by_sponsor_until_due_is : IsSelect registry contact_by_sponsor_until_due (sorted_query 3 (op2 (Compare Eq Binary) (col 1 5) (col 0 0) ∷ op2 (Compare Ge Binary) (col 1 20) (lit (Int (pos 0))) ∷ op2 (Compare Le Binary) (col 1 20) (col 0 1) ∷ []) columns due_columns (negsuc 0))
 unfolding understood everything
 by_sponsor_until_due_is = record { names = codes "id" ∷ codes "name" ∷ codes "creator" ∷ codes "serial" ∷ codes "sponsor" ∷ codes "created" ∷ codes "transferred" ∷ codes "updated" ∷ codes "statuses" ∷ codes "secret" ∷ codes "postal_name" ∷ codes "org" ∷ codes "street" ∷ codes "city" ∷ codes "state" ∷ codes "postal_code" ∷ codes "country" ∷ codes "voice" ∷ codes "mail" ∷ codes "due" ∷ []; command = refl; plain = (refl, refl); unlisted = refl }
 
 pub by_sponsor_until_due_answers : (old new : State) (sponsor due : ℤ) (xs : List Contact) → old.now.schema ≡ registry → Holds contacts old.now.trees xs → Answers contact_shown contact_by_sponsor_until_due (Int sponsor ∷ Int due ∷ []) old new (contacts_by_due (filter (contact_of_sponsor_within_due sponsor due) xs))
 by_sponsor_until_due_answers old new sponsor due xs has h rows seen =
-    sorts contacts _ columns due_columns (negsuc 0) (Int sponsor ∷ Int due ∷ []) (contact_of_sponsor_within_due sponsor due) contact_shown by_due (λ x. then_term (at_ints false Eq x.sponsor sponsor) (last_term (at_nullable Int false Le int_le (at_ints false Le) x.due (Some due)))) (λ x. refl) due_order registry contact_by_sponsor_until_due old new xs rows by_sponsor_until_due_is has h seen
+    sorts contacts _ columns due_columns (negsuc 0) (Int sponsor ∷ Int due ∷ []) (contact_of_sponsor_within_due sponsor due) contact_shown by_due (λ x. then_term (at_ints false Eq x.sponsor sponsor) (at_due x.due due)) (λ x. refl) due_order registry contact_by_sponsor_until_due old new xs rows by_sponsor_until_due_is has h seen
 
 listed : Listed contacts registry 2 table
 listed = record { is = refl; tree = refl; quiet = quiet_if_idle registry refl; uncounted = refl; unstamped = refl; casts = λ x. simp (cast_int, cast_null, cast_text, cast_maybe_int, cast_maybe_text) }

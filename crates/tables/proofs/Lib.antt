@@ -1,5 +1,6 @@
 pub mod MetaLemmas
 pub mod AccountLemmas
+pub mod DueLemmas
 pub mod ContactLemmas
 pub mod DomainLemmas
 pub mod HostLemmas

@@ -1,11 +1,11 @@
 -- What the statements on the table `transfer` mean.
-use Rattle.std.proofs.Common.{int_eq, int_le, negsuc, Equal, ◌≡◌, ap, map, ◌∙◌, Ok, refl, List, [], ◌∷◌, ℕ, ℤ, filter, codes, true, false, Option, Some}
+use Rattle.std.proofs.Common.{int_eq, int_le, pos, negsuc, Equal, ◌≡◌, ap, map, ◌∙◌, Ok, refl, List, [], ◌∷◌, ℕ, ℤ, filter, codes, true, false, Option, Some}
 use Rattle.sqlite_value.specs.declared.value.Value.TheVariants.{Null, Int, Text}
 use Rattle.sqlite_value.specs.declared.keys.Collation.TheVariants.{Binary}
 use Rattle.std.specs.Ordering.{ordering_then}
 use Rattle.sqlite_value.specs.Order.{value_cmp}
 use Rattle.sqlite_value.proofs.OrderLemmas.{value_cmp-Int}
-use Rattle.sqlite_sql.specs.declared.ops.CompareOp.TheVariants.{Eq, Le}
+use Rattle.sqlite_sql.specs.declared.ops.CompareOp.TheVariants.{Eq, Ge, Le}
 use Rattle.sqlite_sql.specs.declared.ops.BinaryOp.TheVariants.{Compare}
 use Rattle.sqlite_sql.specs.Term.{Term, lit, col, op2}
 use Rattle.sqlite_schema.specs.declared.schema.Table.{Table}
@@ -24,6 +24,7 @@ use Rattle.rows.proofs.WriteLemmas.{deletes}
 use Rattle.rows.proofs.PutLemmas.{puts}
 use Rattle.rows.proofs.CastLemmas.{cast_int, cast_null, cast_text, cast_maybe_int, cast_maybe_text}
 use Rattle.rows.proofs.QuietLemmas.{quiet_if_idle}
+use Rattle.tables.proofs.DueLemmas.{at_due}
 use Rattle.tables.specs.Tables.{transfer, registry, transfer_by_requester_until_due, transfer_by_contact, transfer_by_domain, transfer_put, transfer_remove_id}
 use Rattle.tables.specs.Transfer.{Transfer, by_due, transfers, transfers_by_due, transfer_shown, transfer_of_requester_within_due, transfer_with_contact, transfer_with_domain, transfer_with_id}
 
@@ -55,13 +56,13 @@ by_domain_answers old new v xs has h rows seen =
 due_order : (x y : Transfer) → ordering_then (value_cmp (or_null Int x.due) (or_null Int y.due)) (ordering_then (value_cmp (Int x.id) (Int y.id)) Equal) ≡ by_then_key transfers by_due x y
 due_order x y = then_key (value_cmp-maybe_int x.due y.due) (last_key (value_cmp-Int x.id y.id))
 
-pub by_requester_until_due_is : IsSelect registry transfer_by_requester_until_due (sorted_query 13 (op2 (Compare Eq Binary) (col 1 4) (col 0 0) ∷ op2 (Compare Le Binary) (col 1 9) (col 0 1) ∷ []) columns due_columns (negsuc 0))
+pub by_requester_until_due_is : IsSelect registry transfer_by_requester_until_due (sorted_query 13 (op2 (Compare Eq Binary) (col 1 4) (col 0 0) ∷ op2 (Compare Ge Binary) (col 1 9) (lit (Int (pos 0))) ∷ op2 (Compare Le Binary) (col 1 9) (col 0 1) ∷ []) columns due_columns (negsuc 0))
 unfolding understood everything
 by_requester_until_due_is = record { names = codes "id" ∷ codes "contact" ∷ codes "domain" ∷ codes "requester" ∷ codes "losing" ∷ codes "requested" ∷ codes "ac_date" ∷ codes "state" ∷ codes "due" ∷ []; command = refl; plain = (refl, refl); unlisted = refl }
 
 pub by_requester_until_due_answers : (old new : State) (requester due : ℤ) (xs : List Transfer) → old.now.schema ≡ registry → Holds transfers old.now.trees xs → Answers transfer_shown transfer_by_requester_until_due (Int requester ∷ Int due ∷ []) old new (transfers_by_due (filter (transfer_of_requester_within_due requester due) xs))
 by_requester_until_due_answers old new requester due xs has h rows seen =
-    sorts transfers _ columns due_columns (negsuc 0) (Int requester ∷ Int due ∷ []) (transfer_of_requester_within_due requester due) transfer_shown by_due (λ x. then_term (at_ints false Eq x.requester requester) (last_term (at_nullable Int false Le int_le (at_ints false Le) x.due (Some due)))) (λ x. refl) due_order registry transfer_by_requester_until_due old new xs rows by_requester_until_due_is has h seen
+    sorts transfers _ columns due_columns (negsuc 0) (Int requester ∷ Int due ∷ []) (transfer_of_requester_within_due requester due) transfer_shown by_due (λ x. then_term (at_ints false Eq x.requester requester) (at_due x.due due)) (λ x. refl) due_order registry transfer_by_requester_until_due old new xs rows by_requester_until_due_is has h seen
 
 listed : Listed transfers registry 9 table
 listed = record { is = refl; tree = refl; quiet = quiet_if_idle registry refl; uncounted = refl; unstamped = refl; casts = λ x. simp (cast_int, cast_null, cast_text, cast_maybe_int, cast_maybe_text) }

@@ -6,9 +6,10 @@ use Rattle.sqlite_value.specs.declared.value.Value.TheVariants.{Int, Null, Text}
 use Rattle.sqlite_value.specs.Order.{Row}
 use Rattle.sqlite_keyed.specs.Rules.{points_to}
 use Rattle.sqlite_typed.specs.Columns.{or_null}
-use Rattle.sqlite_typed.specs.Tests.{bytes_eq, if_both, nulls_first}
+use Rattle.sqlite_typed.specs.Tests.{bytes_eq, nulls_first}
 use Rattle.sqlite_keyed.specs.Lists.{sort_by}
 use Rattle.rows.specs.Layouts.{Layout, by_then_key}
+use Rattle.tables.specs.Due.{is_due_by}
 
 pub record Postal : Type 0 where
   pub name : List ℕ
@@ -53,10 +54,10 @@ abbrev pub contact_with_name : List ℕ → Contact → Bool
 contact_with_name v x = bytes_eq x.name v
 
 abbrev pub contact_within_due : ℤ → Contact → Bool
-contact_within_due due x = if_both false int_le x.due (Some due)
+contact_within_due due x = is_due_by due x.due
 
 abbrev pub contact_of_sponsor_within_due : ℤ → ℤ → Contact → Bool
-contact_of_sponsor_within_due sponsor due x = int_eq x.sponsor sponsor && if_both false int_le x.due (Some due)
+contact_of_sponsor_within_due sponsor due x = int_eq x.sponsor sponsor && is_due_by due x.due
 
 abbrev pub by_due : List (Contact → Contact → Ordering)
 by_due = on (λ (x : Contact). x.due) (nulls_first int_cmp) ∷ []

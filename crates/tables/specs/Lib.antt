@@ -1,4 +1,5 @@
 pub mod Tables
+pub mod Due
 pub mod Meta
 pub mod Account
 pub mod Contact

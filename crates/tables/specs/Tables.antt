@@ -59,10 +59,10 @@ abbrev pub contact_by_name : List ℕ
 contact_by_name = codes "SELECT id, name, creator, serial, sponsor, created, transferred, updated, statuses, secret, postal_name, org, street, city, state, postal_code, country, voice, mail, due FROM contact WHERE name = ?1 ORDER BY id"
 
 abbrev pub contact_until_due : List ℕ
-contact_until_due = codes "SELECT id, name, creator, serial, sponsor, created, transferred, updated, statuses, secret, postal_name, org, street, city, state, postal_code, country, voice, mail, due FROM contact WHERE due <= ?1 ORDER BY due, id"
+contact_until_due = codes "SELECT id, name, creator, serial, sponsor, created, transferred, updated, statuses, secret, postal_name, org, street, city, state, postal_code, country, voice, mail, due FROM contact WHERE due >= 0 AND due <= ?1 ORDER BY due, id"
 
 abbrev pub contact_by_sponsor_until_due : List ℕ
-contact_by_sponsor_until_due = codes "SELECT id, name, creator, serial, sponsor, created, transferred, updated, statuses, secret, postal_name, org, street, city, state, postal_code, country, voice, mail, due FROM contact WHERE sponsor = ?1 AND due <= ?2 ORDER BY due, id"
+contact_by_sponsor_until_due = codes "SELECT id, name, creator, serial, sponsor, created, transferred, updated, statuses, secret, postal_name, org, street, city, state, postal_code, country, voice, mail, due FROM contact WHERE sponsor = ?1 AND due >= 0 AND due <= ?2 ORDER BY due, id"
 
 abbrev pub contact_put : List ℕ
 contact_put = codes "INSERT INTO contact (id, name, creator, serial, sponsor, created, transferred, updated, statuses, secret, postal_name, org, street, city, state, postal_code, country, voice, mail, due) VALUES (?1, ?2, ?3, ?4, ?5, ?6, ?7, ?8, ?9, ?10, ?11, ?12, ?13, ?14, ?15, ?16, ?17, ?18, ?19, ?20) ON CONFLICT (id) DO UPDATE SET name = excluded.name, creator = excluded.creator, serial = excluded.serial, sponsor = excluded.sponsor, created = excluded.created, transferred = excluded.transferred, updated = excluded.updated, statuses = excluded.statuses, secret = excluded.secret, postal_name = excluded.postal_name, org = excluded.org, street = excluded.street, city = excluded.city, state = excluded.state, postal_code = excluded.postal_code, country = excluded.country, voice = excluded.voice, mail = excluded.mail, due = excluded.due"
@@ -220,7 +220,7 @@ abbrev pub transfer_by_domain : List ℕ
 transfer_by_domain = codes "SELECT id, contact, domain, requester, losing, requested, ac_date, state, due FROM transfer WHERE domain = ?1 ORDER BY id"
 
 abbrev pub transfer_by_requester_until_due : List ℕ
-transfer_by_requester_until_due = codes "SELECT id, contact, domain, requester, losing, requested, ac_date, state, due FROM transfer WHERE requester = ?1 AND due <= ?2 ORDER BY due, id"
+transfer_by_requester_until_due = codes "SELECT id, contact, domain, requester, losing, requested, ac_date, state, due FROM transfer WHERE requester = ?1 AND due >= 0 AND due <= ?2 ORDER BY due, id"
 
 abbrev pub transfer_put : List ℕ
 transfer_put = codes "INSERT INTO transfer (id, contact, domain, requester, losing, requested, ac_date, state, due) VALUES (?1, ?2, ?3, ?4, ?5, ?6, ?7, ?8, ?9) ON CONFLICT (id) DO UPDATE SET contact = excluded.contact, domain = excluded.domain, requester = excluded.requester, losing = excluded.losing, requested = excluded.requested, ac_date = excluded.ac_date, state = excluded.state, due = excluded.due"

@@ -6,9 +6,10 @@ use Rattle.sqlite_value.specs.declared.value.Value.TheVariants.{Int, Null}
 use Rattle.sqlite_value.specs.Order.{Row}
 use Rattle.sqlite_keyed.specs.Rules.{points_to}
 use Rattle.sqlite_typed.specs.Columns.{or_null}
-use Rattle.sqlite_typed.specs.Tests.{bytes_eq, if_both, nulls_first}
+use Rattle.sqlite_typed.specs.Tests.{bytes_eq, nulls_first}
 use Rattle.sqlite_keyed.specs.Lists.{sort_by}
 use Rattle.rows.specs.Layouts.{Layout, by_then_key}
+use Rattle.tables.specs.Due.{is_due_by}
 
 pub record Transfer : Type 0 where
   pub id : ℤ
@@ -42,7 +43,7 @@ abbrev pub transfer_with_id : ℤ → Transfer → Bool
 transfer_with_id v x = int_eq x.id v
 
 abbrev pub transfer_of_requester_within_due : ℤ → ℤ → Transfer → Bool
-transfer_of_requester_within_due requester due x = int_eq x.requester requester && if_both false int_le x.due (Some due)
+transfer_of_requester_within_due requester due x = int_eq x.requester requester && is_due_by due x.due
 
 abbrev pub by_due : List (Transfer → Transfer → Ordering)
 by_due = on (λ (x : Transfer). x.due) (nulls_first int_cmp) ∷ []

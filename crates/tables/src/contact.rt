@@ -23,10 +23,10 @@ const BY_NAME: &str =
     "SELECT id, name, creator, serial, sponsor, created, transferred, updated, statuses, secret, postal_name, org, street, city, state, postal_code, country, voice, mail, due FROM contact WHERE name = ?1 ORDER BY id";
 
 const UNTIL_DUE: &str =
-    "SELECT id, name, creator, serial, sponsor, created, transferred, updated, statuses, secret, postal_name, org, street, city, state, postal_code, country, voice, mail, due FROM contact WHERE due <= ?1 ORDER BY due, id";
+    "SELECT id, name, creator, serial, sponsor, created, transferred, updated, statuses, secret, postal_name, org, street, city, state, postal_code, country, voice, mail, due FROM contact WHERE due >= 0 AND due <= ?1 ORDER BY due, id";
 
 const BY_SPONSOR_UNTIL_DUE: &str =
-    "SELECT id, name, creator, serial, sponsor, created, transferred, updated, statuses, secret, postal_name, org, street, city, state, postal_code, country, voice, mail, due FROM contact WHERE sponsor = ?1 AND due <= ?2 ORDER BY due, id";
+    "SELECT id, name, creator, serial, sponsor, created, transferred, updated, statuses, secret, postal_name, org, street, city, state, postal_code, country, voice, mail, due FROM contact WHERE sponsor = ?1 AND due >= 0 AND due <= ?2 ORDER BY due, id";
 
 const PUT: &str =
     "INSERT INTO contact (id, name, creator, serial, sponsor, created, transferred, updated, statuses, secret, postal_name, org, street, city, state, postal_code, country, voice, mail, due) VALUES (?1, ?2, ?3, ?4, ?5, ?6, ?7, ?8, ?9, ?10, ?11, ?12, ?13, ?14, ?15, ?16, ?17, ?18, ?19, ?20) ON CONFLICT (id) DO UPDATE SET name = excluded.name, creator = excluded.creator, serial = excluded.serial, sponsor = excluded.sponsor, created = excluded.created, transferred = excluded.transferred, updated = excluded.updated, statuses = excluded.statuses, secret = excluded.secret, postal_name = excluded.postal_name, org = excluded.org, street = excluded.street, city = excluded.city, state = excluded.state, postal_code = excluded.postal_code, country = excluded.country, voice = excluded.voice, mail = excluded.mail, due = excluded.due";
@@ -234,7 +234,8 @@ pub fn contacts_by_name<S: Alter>(
     select(conn, alloc, BY_NAME, params![name])
 }
 
-/// Those whose `due` is this moment or one before.
+/// Those whose `due` is this moment or one before, in the order in which they are due. No moment is
+/// before 1970.
 pub fn contacts_until_due<S: Alter>(
     conn: &mut Connection<S>,
     alloc: Global,
@@ -246,7 +247,7 @@ pub fn contacts_until_due<S: Alter>(
     select(conn, alloc, UNTIL_DUE, params![due])
 }
 
-/// Those of this sponsor whose `due` is this moment or one before.
+/// Those of this sponsor whose `due` is this moment or one before, in the order in which they are due.
 pub fn contacts_by_sponsor_until_due<S: Alter>(
     conn: &mut Connection<S>,
     alloc: Global,

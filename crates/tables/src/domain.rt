@@ -182,7 +182,7 @@ pub fn domains_by_registrant<S: Alter>(
     select(conn, alloc, BY_REGISTRANT, params![registrant])
 }
 
-/// Those whose `due` is this moment or one before.
+/// Those whose `due` is this moment or one before, in the order in which they are due.
 pub fn domains_until_due<S: Alter>(
     conn: &mut Connection<S>,
     alloc: Global,
@@ -194,7 +194,7 @@ pub fn domains_until_due<S: Alter>(
     select(conn, alloc, UNTIL_DUE, params![due])
 }
 
-/// Those of this sponsor whose `due` is this moment or one before.
+/// Those of this sponsor whose `due` is this moment or one before, in the order in which they are due.
 pub fn domains_by_sponsor_until_due<S: Alter>(
     conn: &mut Connection<S>,
     alloc: Global,

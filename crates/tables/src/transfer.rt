@@ -20,7 +20,7 @@ const BY_DOMAIN: &str =
     "SELECT id, contact, domain, requester, losing, requested, ac_date, state, due FROM transfer WHERE domain = ?1 ORDER BY id";
 
 const BY_REQUESTER_UNTIL_DUE: &str =
-    "SELECT id, contact, domain, requester, losing, requested, ac_date, state, due FROM transfer WHERE requester = ?1 AND due <= ?2 ORDER BY due, id";
+    "SELECT id, contact, domain, requester, losing, requested, ac_date, state, due FROM transfer WHERE requester = ?1 AND due >= 0 AND due <= ?2 ORDER BY due, id";
 
 const PUT: &str =
     "INSERT INTO transfer (id, contact, domain, requester, losing, requested, ac_date, state, due) VALUES (?1, ?2, ?3, ?4, ?5, ?6, ?7, ?8, ?9) ON CONFLICT (id) DO UPDATE SET contact = excluded.contact, domain = excluded.domain, requester = excluded.requester, losing = excluded.losing, requested = excluded.requested, ac_date = excluded.ac_date, state = excluded.state, due = excluded.due";
@@ -126,7 +126,8 @@ pub fn transfers_by_domain<S: Alter>(
     select(conn, alloc, BY_DOMAIN, params![domain])
 }
 
-/// Those that this registrar asked for whose `due` is this moment or one before.
+/// Those that this registrar asked for whose `due` is this moment or one before, in the order in
+/// which they are due.
 pub fn transfers_by_requester_until_due<S: Alter>(
     conn: &mut Connection<S>,
     alloc: Global,
