@@ -18,7 +18,7 @@ pub record Message : Type 0 where
   pub number : ℤ
   pub name : List ℕ
   pub subject : ℤ
-  -- what the command was, and 0 for what time brought
+  -- what a command's message says of a transfer, and 0 of time's
   pub notice : ℤ
 
 -- as it is stored: its key, NULL in the key's column, and then the others

@@ -36,7 +36,7 @@ pub struct MessageRow {
     pub number: i64,
     pub name: String,
     pub subject: i64,
-    /// What the command was, and 0 for what time brought.
+    /// What a command's message says of a transfer, and 0 of time's.
     pub notice: i64,
 }
 
