@@ -2,7 +2,6 @@
 ghost use Rattle.std.specs.Prelude.{◌≡◌, ◌⊎◌, true, false};
 ghost use Rattle.sqlite.specs.Held.{state};
 ghost use Rattle.sqlite.specs.State.{HasCleanDisk, IsRolledBack, Survives};
-ghost use Rattle.rows.specs.Calls.{IsSteady};
 ghost use Rattle.rows.specs.Transactions.{Begins, Commits};
 
 use sqlite::{Alter, Connection, Error};

@@ -1,5 +1,5 @@
 -- Sixteen bytes as a number and back.
-use Rattle.std.proofs.Common.{◌≡◌, ℕ, ℤ, List, pos, negsuc, to_z-of_z, ◌+◌, ◌*◌, ◌/◌, ◌%◌, ◌^◌, ◌<◌, arith, sym, ◌∙◌, refl, ap, FitsSigned}
+use Rattle.std.proofs.Common.{◌≡◌, ℕ, ℤ, List, pos, negsuc, to_z-of_z, ◌+◌, ◌*◌, ◌/◌, ◌%◌, ◌^◌, ◌<◌, arith, ◌∙◌, ap, FitsSigned}
 use Rattle.std.specs.Int.{w128, to_be_bytes, from_be_bytes, cast_signed, cast_unsigned}
 use Rattle.tables.specs.Balance.{balance_bytes}
 use Rattle.std.proofs.lemmas.Int.{ints}

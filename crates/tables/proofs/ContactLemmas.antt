@@ -1,5 +1,5 @@
 -- What the statements on the table `contact` mean.
-use Rattle.std.proofs.Common.{int_eq, int_le, pos, negsuc, Equal, ◌≡◌, ap, map, ◌∙◌, Ok, refl, List, [], ◌∷◌, ℕ, ℤ, filter, codes, true, false, Option, Some}
+use Rattle.std.proofs.Common.{pos, negsuc, Equal, ◌≡◌, ap, map, ◌∙◌, Ok, refl, List, [], ◌∷◌, ℕ, ℤ, filter, codes, true, false}
 use Rattle.sqlite_value.specs.declared.value.Value.TheVariants.{Null, Int, Text}
 use Rattle.sqlite_value.specs.declared.keys.Collation.TheVariants.{Binary}
 use Rattle.std.specs.Ordering.{ordering_then}
@@ -10,7 +10,7 @@ use Rattle.sqlite_sql.specs.declared.ops.BinaryOp.TheVariants.{Compare}
 use Rattle.sqlite_sql.specs.Term.{Term, lit, col, op2}
 use Rattle.sqlite_schema.specs.declared.schema.Table.{Table}
 use Rattle.sqlite_typed.specs.Columns.{or_null}
-use Rattle.sqlite_typed.proofs.TestLemmas.{at_ints, at_texts, at_points_to, at_nullable, then_term, last_term, then_key, last_key}
+use Rattle.sqlite_typed.proofs.TestLemmas.{at_ints, at_texts, then_term, last_term, then_key, last_key}
 use Rattle.sqlite_keyed.specs.Keyed.{insert_by}
 use Rattle.sqlite_keyed.specs.Lists.{delete_where}
 use Rattle.sqlite_keyed.proofs.ListLemmas.{filter_all, all_of}

@@ -1,5 +1,5 @@
 -- What falls due, as WHERE asks for it.
-use Rattle.std.proofs.Common.{◌≡◌, ◌&&◌, ◌∙◌, refl, false, true, pos, int_le, ℤ, Bool, Option, Some, None}
+use Rattle.std.proofs.Common.{◌≡◌, ◌&&◌, ◌∙◌, refl, false, true, pos, int_le, ℤ, Option, Some, None}
 use Rattle.sqlite_value.specs.declared.value.Value.TheVariants.{Int}
 use Rattle.sqlite_value.specs.declared.keys.Collation.TheVariants.{Binary}
 use Rattle.sqlite_sql.specs.declared.ops.CompareOp.TheVariants.{Ge, Le}

@@ -4,10 +4,9 @@ use Rattle.sqlite.specs.declared.error.Error.{Error}
 use Rattle.sqlite.specs.Listing.{understood}
 use Rattle.sqlite_tied.specs.Compute.{everything}
 use Rattle.rows.specs.Columns.{no_schema}
-use Rattle.rows.specs.Definitions.{IsTable, IsIndex, Defines, DefinesAll, IsBlank}
+use Rattle.rows.specs.Definitions.{IsTable, IsIndex, DefinesAll, IsBlank}
 use Rattle.sqlite.specs.Effect.{Database}
 use Rattle.tables.specs.Tables.{registry, creation, meta, account, contact, domain, host, address, link, line, message, transfer, meta_create, account_create, contact_create, domain_create, host_create, address_create, link_create, line_create, message_create, transfer_create, with_meta, with_account, with_contact, with_domain, with_host, with_address, with_link, with_line, with_message, with_transfer, contact_due, contact_sponsor_due, domain_registrant, domain_due, domain_sponsor_due, host_superordinate, address_host, link_domain, link_contact, link_host, line_object, message_queue, transfer_contact, transfer_domain, transfer_requester_due, contact_due_create, contact_sponsor_due_create, domain_registrant_create, domain_due_create, domain_sponsor_due_create, host_superordinate_create, address_host_create, link_domain_create, link_contact_create, link_host_create, line_object_create, message_queue_create, transfer_contact_create, transfer_domain_create, transfer_requester_due_create, with_contact_due, with_contact_sponsor_due, with_domain_registrant, with_domain_due, with_domain_sponsor_due, with_host_superordinate, with_address_host, with_link_domain, with_link_contact, with_link_host, with_line_object, with_message_queue, with_transfer_contact, with_transfer_domain, with_transfer_requester_due}
-use Rattle.tables.specs.Tables as tables
 use Rattle.tables.specs.Content.{IsContent, no_content}
 
 meta_is : IsTable no_schema meta_create meta

@@ -1,11 +1,10 @@
 -- What domains name: contacts in a role, and hosts, and how they lie in their table.
-use Rattle.std.specs.Prelude.{Bool, false, int_le, ℕ, ℤ, List, [], ◌∷◌, Option, Some, refl}
+use Rattle.std.specs.Prelude.{Bool, ℤ, [], ◌∷◌, Option, refl}
 use Rattle.std.specs.Ordering.{int_eq}
 use Rattle.sqlite_value.specs.declared.value.Value.TheVariants.{Int, Null}
 use Rattle.sqlite_value.specs.Order.{Row}
 use Rattle.sqlite_keyed.specs.Rules.{points_to}
 use Rattle.sqlite_typed.specs.Columns.{or_null}
-use Rattle.sqlite_typed.specs.Tests.{bytes_eq, if_both}
 use Rattle.rows.specs.Layouts.{Layout}
 
 pub record Link : Type 0 where

@@ -1,12 +1,12 @@
 -- The last transfer of each object that had one, and how they lie in their table.
-use Rattle.std.specs.Prelude.{◌&&◌, Bool, false, int_le, ℕ, ℤ, List, [], ◌∷◌, Option, Some, refl}
+use Rattle.std.specs.Prelude.{◌&&◌, Bool, ℤ, List, [], ◌∷◌, Option, refl}
 use Rattle.std.specs.declared.cmp.Ordering.{Ordering}
 use Rattle.std.specs.Ordering.{int_cmp, int_eq, on}
 use Rattle.sqlite_value.specs.declared.value.Value.TheVariants.{Int, Null}
 use Rattle.sqlite_value.specs.Order.{Row}
 use Rattle.sqlite_keyed.specs.Rules.{points_to}
 use Rattle.sqlite_typed.specs.Columns.{or_null}
-use Rattle.sqlite_typed.specs.Tests.{bytes_eq, nulls_first}
+use Rattle.sqlite_typed.specs.Tests.{nulls_first}
 use Rattle.sqlite_keyed.specs.Lists.{sort_by}
 use Rattle.rows.specs.Layouts.{Layout, by_then_key}
 use Rattle.tables.specs.Due.{is_due_by}

@@ -1,5 +1,5 @@
 //! Registrars' accounts.
-ghost use Rattle.std.specs.Prelude.{◌≡◌, true, List, filter, IfOk, OnOk};
+ghost use Rattle.std.specs.Prelude.{◌≡◌, true, filter};
 ghost use Rattle.sqlite.specs.Held.{state};
 ghost use Rattle.sqlite_keyed.specs.Keyed.{insert_by};
 ghost use Rattle.rows.specs.Calls.{Changes, Finds, IsSteady};
@@ -37,7 +37,7 @@ pub struct AccountRow {
 }
 
 impl Model for AccountRow {
-    ghost use Rattle.std.specs.Prelude.{option_map, string_bytes};
+    ghost use Rattle.std.specs.Prelude.{string_bytes};
     ghost use Rattle.tables.specs.Account.{Account};
 
     ghost Value = { Account };

@@ -1,5 +1,5 @@
 //! Lines of accounts.
-ghost use Rattle.std.specs.Prelude.{◌≡◌, true, List, filter, IfOk, OnOk};
+ghost use Rattle.std.specs.Prelude.{◌≡◌, true, filter};
 ghost use Rattle.sqlite.specs.Held.{state};
 ghost use Rattle.sqlite_keyed.specs.Keyed.{insert_by};
 ghost use Rattle.rows.specs.Calls.{Changes, Finds, IsSteady};
@@ -37,7 +37,6 @@ pub struct LineRow {
 }
 
 impl Model for LineRow {
-    ghost use Rattle.std.specs.Prelude.{option_map, string_bytes};
     ghost use Rattle.tables.specs.Line.{Line};
 
     ghost Value = { Line };

@@ -1,5 +1,5 @@
 //! What domains name: contacts in a role, and hosts.
-ghost use Rattle.std.specs.Prelude.{◌≡◌, true, List, filter, IfOk, OnOk};
+ghost use Rattle.std.specs.Prelude.{◌≡◌, true, filter};
 ghost use Rattle.sqlite.specs.Held.{state};
 ghost use Rattle.sqlite_keyed.specs.Keyed.{insert_by};
 ghost use Rattle.sqlite_keyed.specs.Lists.{delete_where};
@@ -38,7 +38,6 @@ pub struct LinkRow {
 }
 
 impl Model for LinkRow {
-    ghost use Rattle.std.specs.Prelude.{option_map, string_bytes};
     ghost use Rattle.tables.specs.Link.{Link};
 
     ghost Value = { Link };

@@ -1,5 +1,5 @@
 //! What holds of the whole registry, in one row.
-ghost use Rattle.std.specs.Prelude.{◌≡◌, true, List, filter, IfOk, OnOk};
+ghost use Rattle.std.specs.Prelude.{◌≡◌, true};
 ghost use Rattle.sqlite.specs.Held.{state};
 ghost use Rattle.sqlite_keyed.specs.Keyed.{insert_by};
 ghost use Rattle.rows.specs.Calls.{Changes, Finds, IsSteady};
@@ -42,7 +42,7 @@ pub struct MetaRow {
 }
 
 impl Model for MetaRow {
-    ghost use Rattle.std.specs.Prelude.{option_map, string_bytes};
+    ghost use Rattle.std.specs.Prelude.{string_bytes};
     ghost use Rattle.tables.specs.Meta.{Meta};
 
     ghost Value = { Meta };

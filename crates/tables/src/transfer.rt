@@ -1,5 +1,5 @@
 //! The last transfer of each object that had one.
-ghost use Rattle.std.specs.Prelude.{◌≡◌, true, List, filter, IfOk, OnOk};
+ghost use Rattle.std.specs.Prelude.{◌≡◌, true, filter};
 ghost use Rattle.sqlite.specs.Held.{state};
 ghost use Rattle.sqlite_keyed.specs.Keyed.{insert_by};
 ghost use Rattle.sqlite_keyed.specs.Lists.{delete_where};
@@ -42,7 +42,6 @@ pub struct TransferRow {
 }
 
 impl Model for TransferRow {
-    ghost use Rattle.std.specs.Prelude.{option_map, string_bytes};
     ghost use Rattle.tables.specs.Transfer.{Transfer};
 
     ghost Value = { Transfer };

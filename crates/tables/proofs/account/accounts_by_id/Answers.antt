@@ -1,6 +1,6 @@
 use Rattle.std.proofs.Common.{filter, [], ◌∷◌}
 use Rattle.sqlite.specs.Held.{state}
-use Rattle.sqlite.specs.declared.types.Value.TheVariants.{Int, Text}
+use Rattle.sqlite.specs.declared.types.Value.TheVariants.{Int}
 use Rattle.rows.proofs.AnswerLemmas.{finds, plain_in}
 use Rattle.tables.specs.Tables as tables
 use Rattle.tables.specs.Tables.{registry}

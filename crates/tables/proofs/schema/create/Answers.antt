@@ -1,4 +1,3 @@
-use Rattle.std.proofs.Common.{refl}
 use Rattle.sqlite.specs.Held.{state}
 use Rattle.rows.specs.Columns.{no_schema}
 use Rattle.tables.specs.Tables.{registry}
