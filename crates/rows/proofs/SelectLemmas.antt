@@ -63,7 +63,7 @@ module _ {X : Type 0} (L : Layout X) (filters project columns : List Term) (limi
     (tests : (x : X) → list_all (holds (params ∷ L.to_row x ∷ [])) filters ≡ p x)
     (shows : (x : X) → eval_all project (params ∷ L.to_row x ∷ []) ≡ shown x)
     (orders : (x y : X) → output_cmp (sorted_query L.tree filters project columns limit) (output (sorted_query L.tree filters project columns limit) (params ∷ L.to_row x ∷ []))
-        (output (sorted_query L.tree filters project columns limit) (params ∷ L.to_row y ∷ [])) ≡ by_then_key L by x y) where
+    (output (sorted_query L.tree filters project columns limit) (params ∷ L.to_row y ∷ [])) ≡ by_then_key L by x y) where
   sorted_answers : (db : Trees) (xs : List X) (rows : List Row) → Holds L db xs → IsAnswer (sorted_query L.tree filters project columns limit) (overlay db []) params rows
       → rows ≡ page (sorted_query L.tree filters project columns limit) params (map shown (sort_by (by_then_key L by) (filter p xs)))
   sorted_answers db xs rows h answer =

@@ -16,7 +16,8 @@ const NOTE: &str = "CREATE TABLE note (id INTEGER PRIMARY KEY, rank INTEGER, tit
 
 const BY_RANK: &str = "CREATE INDEX note_rank ON note (rank)";
 
-const PUT: &str = "INSERT INTO note (id, rank, title) VALUES (?1, ?2, ?3) ON CONFLICT (id) DO UPDATE SET rank = excluded.rank, title = excluded.title";
+const PUT: &str =
+    "INSERT INTO note (id, rank, title) VALUES (?1, ?2, ?3) ON CONFLICT (id) DO UPDATE SET rank = excluded.rank, title = excluded.title";
 
 const SINCE: &str = "SELECT id FROM note WHERE id >= ?1 ORDER BY id";
 
@@ -101,10 +102,25 @@ fn make_beside_notes<S: Alter>(
 const TEXTS: &[(&[&str], bool)] = &[
     (&[NOTE, BY_RANK], true),
     (&[NOTE], false),
-    (&["CREATE TABLE note (id INTEGER PRIMARY KEY, rank INTEGER, title TEXT NOT NULL) STRICT", BY_RANK], false),
+    (
+        &[
+            "CREATE TABLE note (id INTEGER PRIMARY KEY, rank INTEGER, title TEXT NOT NULL) STRICT",
+            BY_RANK,
+        ],
+        false,
+    ),
     (&[NOTE, "CREATE INDEX note_rank ON note (title)"], false),
-    (&[NOTE, "CREATE UNIQUE INDEX note_rank ON note (rank)"], false),
-    (&["CREATE TABLE note (id INTEGER PRIMARY KEY, rank INTEGER DEFAULT 1, title TEXT) STRICT", BY_RANK], false),
+    (
+        &[NOTE, "CREATE UNIQUE INDEX note_rank ON note (rank)"],
+        false,
+    ),
+    (
+        &[
+            "CREATE TABLE note (id INTEGER PRIMARY KEY, rank INTEGER DEFAULT 1, title TEXT) STRICT",
+            BY_RANK,
+        ],
+        false,
+    ),
 ];
 
 #[test]

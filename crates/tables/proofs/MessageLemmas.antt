@@ -37,7 +37,7 @@ table = record message { tree = 12 }
 
 queue_order : (x y : Message)
     → ordering_then (value_cmp (Int x.moment) (Int y.moment)) (ordering_then (value_cmp (Int x.class) (Int y.class)) (ordering_then (value_cmp (Int x.number) (Int y.number)) (ordering_then (value_cmp (Text x.name) (Text y.name))
-        (ordering_then (value_cmp (Int x.subject) (Int y.subject)) (ordering_then (value_cmp (Int x.notice) (Int y.notice)) (ordering_then (value_cmp (Int x.id) (Int y.id)) Equal))))))
+    (ordering_then (value_cmp (Int x.subject) (Int y.subject)) (ordering_then (value_cmp (Int x.notice) (Int y.notice)) (ordering_then (value_cmp (Int x.id) (Int y.id)) Equal))))))
     ≡ by_then_key messages message_order x y
 queue_order x y =
     then_key (value_cmp-Int x.moment y.moment) (then_key (value_cmp-Int x.class y.class) (then_key (value_cmp-Int x.number y.number) (then_key (value_cmp-Text x.name y.name)

@@ -98,17 +98,17 @@ fn number_kept<S: Alter>(conn: &mut Connection<S>, alloc: Global) -> Result<Opti
     Ok(metas.first().map(|meta| meta.version))
 }
 
-fn tell<S: Alter>(
-    rt: &impl Abort,
-    conn: &mut Connection<S>,
-    alloc: Global,
-) -> Result<(), Error> {
+fn tell<S: Alter>(rt: &impl Abort, conn: &mut Connection<S>, alloc: Global) -> Result<(), Error> {
     assert_eq!(rt; readiness_of(conn, alloc)?, Ready::Empty);
     begin(conn)?;
     create(conn)?;
     assert_eq!(rt; readiness_of(conn, alloc)?, Ready::Other);
     for (number, ready) in NUMBERS {
-        assert_eq!(rt; ready_under(conn, alloc, *number)?, *ready, "under {number}");
+        assert_eq!(rt;
+            ready_under(conn, alloc, *number)?,
+            *ready,
+            "under {number}"
+        );
     }
     assert_eq!(rt; number_kept(conn, alloc)?, Some(2));
     commit(conn)

@@ -93,10 +93,7 @@ const CONTACTS: &[(i64, &str, i64, Option<i64>)] = &[
     (14, "c4", 1, Some(500)),
 ];
 
-pub(super) fn put_contacts<S: Alter>(
-    conn: &mut Connection<S>,
-    alloc: Global,
-) -> Result<(), Error> {
+pub(super) fn put_contacts<S: Alter>(conn: &mut Connection<S>, alloc: Global) -> Result<(), Error> {
     for (id, name, sponsor, due) in CONTACTS {
         let contact = contact_of(alloc, *id, name, *sponsor, *due)?;
         put_contact(conn, &contact)?;
@@ -240,10 +237,7 @@ const DOMAINS: &[(i64, &str, i64, i64, i64)] = &[
     (23, "c.test", 1, 12, 600),
 ];
 
-pub(super) fn put_domains<S: Alter>(
-    conn: &mut Connection<S>,
-    alloc: Global,
-) -> Result<(), Error> {
+pub(super) fn put_domains<S: Alter>(conn: &mut Connection<S>, alloc: Global) -> Result<(), Error> {
     for (id, name, sponsor, registrant, due) in DOMAINS {
         let domain = domain_of(alloc, *id, name, *sponsor, *registrant, *due)?;
         put_domain(conn, &domain)?;
@@ -437,13 +431,7 @@ fn put_addresses<S: Alter>(conn: &mut Connection<S>, alloc: Global) -> Result<()
 }
 
 /// A link of a domain in a role.
-fn link(
-    id: i64,
-    domain: i64,
-    role: i64,
-    contact: Option<i64>,
-    host: Option<i64>,
-) -> LinkRow {
+fn link(id: i64, domain: i64, role: i64, contact: Option<i64>, host: Option<i64>) -> LinkRow {
     LinkRow {
         id,
         domain,
