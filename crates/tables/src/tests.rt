@@ -93,9 +93,17 @@ fn ready_under<S: Alter>(
     readiness_of(conn, alloc)
 }
 
+/// The number in the one row of `meta`.
+fn number_in(metas: &[MetaRow]) -> Option<i64> {
+    match metas {
+        [meta] => Some(meta.version),
+        _ => None,
+    }
+}
+
 fn number_kept<S: Alter>(conn: &mut Connection<S>, alloc: Global) -> Result<Option<i64>, Error> {
     let metas = all_metas(conn, alloc)?;
-    Ok(metas.first().map(|meta| meta.version))
+    Ok(number_in(&metas))
 }
 
 fn tell<S: Alter>(rt: &impl Abort, conn: &mut Connection<S>, alloc: Global) -> Result<(), Error> {
