@@ -51,7 +51,11 @@ fn numbers_since<S: Alter>(
     select(conn, alloc, SINCE, params![Number::new(id)])
 }
 
-fn note<S: Alter>(rt: &impl Abort, conn: &mut Connection<S>, alloc: Global) -> Result<(), Error> {
+fn keep_notes<S: Alter>(
+    rt: &impl Abort,
+    conn: &mut Connection<S>,
+    alloc: Global,
+) -> Result<(), Error> {
     assert!(rt; is_unused(conn.schema()));
     begin(conn)?;
     define(conn, &[NOTE, BY_RANK])?;
@@ -71,7 +75,7 @@ fn note<S: Alter>(rt: &impl Abort, conn: &mut Connection<S>, alloc: Global) -> R
 fn keeps_what_is_committed_alone(rt: HostRuntime) -> Result<(), Error> {
     let alloc = rt.alloc();
     let mut conn = Connection::open_in_memory(alloc)?;
-    let noted = note(&rt, &mut conn, alloc);
+    let noted = keep_notes(&rt, &mut conn, alloc);
     drop(conn);
     noted
 }
