@@ -1,0 +1,14 @@
+pub mod SelectLemmas
+pub mod ListLemmas
+pub mod WriteLemmas
+pub mod PutLemmas
+pub mod StandLemmas
+pub mod CastLemmas
+pub mod QuietLemmas
+pub mod AnswerLemmas
+pub mod SwitchLemmas
+pub mod SoundLemmas
+pub mod CreateLemmas
+pub mod DefineLemmas
+pub mod TransactionLemmas
+pub mod PlainLemmas

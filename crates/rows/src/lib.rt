@@ -1,0 +1,20 @@
+//! Typed rows of a SQL database: a record stands for a row of its table, a query gives the records that
+//! pass, an upsert puts one by its key, a removal takes those that pass. What a statement means is
+//! computed from its text.
+#![tactic(auto)]
+
+mod definition;
+mod likeness;
+mod nullable;
+mod number;
+mod record;
+#[cfg(test)]
+mod tests;
+mod transaction;
+
+pub use definition::define;
+pub use likeness::{is_schema, is_unused};
+pub use nullable::{maybe_number, maybe_text};
+pub use number::Number;
+pub use record::{Record, select, write};
+pub use transaction::{begin, commit, go_back};

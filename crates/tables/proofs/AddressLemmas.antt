@@ -1,0 +1,66 @@
+-- What the statements on the table `address` mean.
+use Rattle.std.proofs.Common.{◌≡◌, Ok, refl, List, [], ◌∷◌, ℕ, ℤ, filter, codes, false}
+use Rattle.sqlite_value.specs.declared.value.Value.TheVariants.{Null, Int}
+use Rattle.sqlite_value.specs.declared.keys.Collation.TheVariants.{Binary}
+use Rattle.sqlite_sql.specs.declared.ops.CompareOp.TheVariants.{Eq}
+use Rattle.sqlite_sql.specs.declared.ops.BinaryOp.TheVariants.{Compare}
+use Rattle.sqlite_sql.specs.Term.{Term, lit, col, op2}
+use Rattle.sqlite_schema.specs.declared.schema.Table.{Table}
+use Rattle.sqlite_typed.proofs.TestLemmas.{at_ints, last_term}
+use Rattle.sqlite_keyed.specs.Keyed.{insert_by}
+use Rattle.sqlite_keyed.specs.Lists.{delete_where}
+use Rattle.sqlite.specs.Listing.{understood}
+use Rattle.sqlite.specs.State.{State, Executes}
+use Rattle.sqlite_tied.specs.Compute.{everything}
+use Rattle.rows.specs.Layouts.{Holds, Sets, Listed, Gives, IsSelect, IsPut, IsDelete, select_query}
+use Rattle.rows.specs.Calls.{Answers}
+use Rattle.rows.proofs.SelectLemmas.{selects}
+use Rattle.rows.proofs.WriteLemmas.{deletes}
+use Rattle.rows.proofs.PutLemmas.{puts}
+use Rattle.rows.proofs.CastLemmas.{cast_int, cast_null, cast_text, cast_maybe_int, cast_maybe_text}
+use Rattle.rows.proofs.QuietLemmas.{quiet_if_idle}
+use Rattle.tables.specs.Tables.{address, registry, address_by_host, address_put, address_remove_host}
+use Rattle.tables.specs.Address.{Address, addresses, address_shown, address_with_host}
+
+abbrev columns : List Term
+columns = col 1 0 ∷ col 1 2 ∷ col 1 3 ∷ []
+
+abbrev table : Table
+table = record address { tree = 9 }
+
+pub by_host_is : IsSelect registry address_by_host (select_query 9 (op2 (Compare Eq Binary) (col 1 2) (col 0 0) ∷ []) columns)
+unfolding understood everything
+by_host_is = record { names = codes "id" ∷ codes "host" ∷ codes "address" ∷ []; command = refl; plain = (refl, refl); unlisted = refl }
+
+pub by_host_answers : (old new : State) (v : ℤ) (xs : List Address) → old.now.schema ≡ registry → Holds addresses old.now.trees xs → Answers address_shown address_by_host (Int v ∷ []) old new (filter (address_with_host v) xs)
+by_host_answers old new v xs has h rows seen =
+    selects addresses _ _ (Int v ∷ []) (address_with_host v) address_shown (λ x. last_term (at_ints false Eq x.host v)) (λ x. refl) registry address_by_host old new xs rows by_host_is has h seen
+
+listed : Listed addresses registry 5 table
+listed = record { is = refl; tree = refl; quiet = quiet_if_idle registry refl; uncounted = refl; unstamped = refl; casts = λ x. simp (cast_int, cast_null, cast_text, cast_maybe_int, cast_maybe_text) }
+
+abbrev values : List Term
+values = col 0 0 ∷ lit Null ∷ col 0 1 ∷ col 0 2 ∷ []
+
+abbrev sets : List Term
+sets = col 1 0 ∷ lit Null ∷ col 0 6 ∷ col 0 7 ∷ []
+
+pub put_is : IsPut registry address_put 5 9 3 values sets
+unfolding understood everything
+put_is = record { command = refl; plain = (refl, refl) }
+
+gives : Gives addresses registry table 3 values sets address_shown
+gives = record { values = λ x. refl; place = λ x v. refl; updates = λ x v r. refl; unshared = λ new r. refl; headed = λ x. refl }
+
+pub puts_row : (old new : State) (x : Address) (xs : List Address) (count : ℕ) → old.now.schema ≡ registry → Holds addresses old.now.trees xs → Executes address_put (address_shown x) old new (Ok count)
+    → Sets addresses registry old.now new.now (insert_by addresses.key xs x)
+puts_row old new x xs count has h ran = puts addresses registry 5 table listed 3 values sets address_shown gives address_put old new xs x has h put_is count ran
+
+pub remove_host_is : IsDelete registry address_remove_host 5 9 (op2 (Compare Eq Binary) (col 1 2) (col 0 0) ∷ [])
+unfolding understood everything
+remove_host_is = record { command = refl; plain = (refl, refl) }
+
+pub removes_host : (old new : State) (v : ℤ) (xs : List Address) (count : ℕ) → old.now.schema ≡ registry → Holds addresses old.now.trees xs → Executes address_remove_host (Int v ∷ []) old new (Ok count)
+    → Sets addresses registry old.now new.now (delete_where (address_with_host v) xs)
+removes_host old new v xs count has h ran =
+    deletes addresses registry 5 table listed address_remove_host (Int v ∷ []) old new xs has h _ (address_with_host v) (λ x. last_term (at_ints false Eq x.host v)) remove_host_is count ran

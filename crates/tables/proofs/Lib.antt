@@ -1,0 +1,13 @@
+pub mod MetaLemmas
+pub mod AccountLemmas
+pub mod DueLemmas
+pub mod ContactLemmas
+pub mod DomainLemmas
+pub mod HostLemmas
+pub mod AddressLemmas
+pub mod LinkLemmas
+pub mod LineLemmas
+pub mod MessageLemmas
+pub mod TransferLemmas
+pub mod SchemaLemmas
+pub mod BalanceLemmas

@@ -1,0 +1,82 @@
+-- What the statements on the table `link` mean.
+use Rattle.std.proofs.Common.{◌≡◌, Ok, refl, List, [], ◌∷◌, ℕ, ℤ, filter, codes, false}
+use Rattle.sqlite_value.specs.declared.value.Value.TheVariants.{Null, Int}
+use Rattle.sqlite_value.specs.declared.keys.Collation.TheVariants.{Binary}
+use Rattle.sqlite_sql.specs.declared.ops.CompareOp.TheVariants.{Eq}
+use Rattle.sqlite_sql.specs.declared.ops.BinaryOp.TheVariants.{Compare}
+use Rattle.sqlite_sql.specs.Term.{Term, lit, col, op2}
+use Rattle.sqlite_schema.specs.declared.schema.Table.{Table}
+use Rattle.sqlite_typed.proofs.TestLemmas.{at_ints, at_points_to, last_term}
+use Rattle.sqlite_keyed.specs.Keyed.{insert_by}
+use Rattle.sqlite_keyed.specs.Lists.{delete_where}
+use Rattle.sqlite.specs.Listing.{understood}
+use Rattle.sqlite.specs.State.{State, Executes}
+use Rattle.sqlite_tied.specs.Compute.{everything}
+use Rattle.rows.specs.Layouts.{Holds, Sets, Listed, Gives, IsSelect, IsPut, IsDelete, select_query}
+use Rattle.rows.specs.Calls.{Answers}
+use Rattle.rows.proofs.SelectLemmas.{selects}
+use Rattle.rows.proofs.WriteLemmas.{deletes}
+use Rattle.rows.proofs.PutLemmas.{puts}
+use Rattle.rows.proofs.CastLemmas.{cast_int, cast_null, cast_text, cast_maybe_int, cast_maybe_text}
+use Rattle.rows.proofs.QuietLemmas.{quiet_if_idle}
+use Rattle.tables.specs.Tables.{link, registry, link_by_domain, link_by_contact, link_by_host, link_put, link_remove_domain}
+use Rattle.tables.specs.Link.{Link, links, link_shown, link_with_contact, link_with_domain, link_with_host}
+
+abbrev columns : List Term
+columns = col 1 0 ∷ col 1 2 ∷ col 1 3 ∷ col 1 4 ∷ col 1 5 ∷ []
+
+abbrev table : Table
+table = record link { tree = 10 }
+
+pub by_domain_is : IsSelect registry link_by_domain (select_query 10 (op2 (Compare Eq Binary) (col 1 2) (col 0 0) ∷ []) columns)
+unfolding understood everything
+by_domain_is = record { names = codes "id" ∷ codes "domain" ∷ codes "role" ∷ codes "contact" ∷ codes "host" ∷ []; command = refl; plain = (refl, refl); unlisted = refl }
+
+pub by_domain_answers : (old new : State) (v : ℤ) (xs : List Link) → old.now.schema ≡ registry → Holds links old.now.trees xs → Answers link_shown link_by_domain (Int v ∷ []) old new (filter (link_with_domain v) xs)
+by_domain_answers old new v xs has h rows seen =
+    selects links _ _ (Int v ∷ []) (link_with_domain v) link_shown (λ x. last_term (at_ints false Eq x.domain v)) (λ x. refl) registry link_by_domain old new xs rows by_domain_is has h seen
+
+pub by_contact_is : IsSelect registry link_by_contact (select_query 10 (op2 (Compare Eq Binary) (col 1 4) (col 0 0) ∷ []) columns)
+unfolding understood everything
+by_contact_is = record { names = codes "id" ∷ codes "domain" ∷ codes "role" ∷ codes "contact" ∷ codes "host" ∷ []; command = refl; plain = (refl, refl); unlisted = refl }
+
+pub by_contact_answers : (old new : State) (v : ℤ) (xs : List Link) → old.now.schema ≡ registry → Holds links old.now.trees xs → Answers link_shown link_by_contact (Int v ∷ []) old new (filter (link_with_contact v) xs)
+by_contact_answers old new v xs has h rows seen =
+    selects links _ _ (Int v ∷ []) (link_with_contact v) link_shown (λ x. last_term (at_points_to x.contact v)) (λ x. refl) registry link_by_contact old new xs rows by_contact_is has h seen
+
+pub by_host_is : IsSelect registry link_by_host (select_query 10 (op2 (Compare Eq Binary) (col 1 5) (col 0 0) ∷ []) columns)
+unfolding understood everything
+by_host_is = record { names = codes "id" ∷ codes "domain" ∷ codes "role" ∷ codes "contact" ∷ codes "host" ∷ []; command = refl; plain = (refl, refl); unlisted = refl }
+
+pub by_host_answers : (old new : State) (v : ℤ) (xs : List Link) → old.now.schema ≡ registry → Holds links old.now.trees xs → Answers link_shown link_by_host (Int v ∷ []) old new (filter (link_with_host v) xs)
+by_host_answers old new v xs has h rows seen =
+    selects links _ _ (Int v ∷ []) (link_with_host v) link_shown (λ x. last_term (at_points_to x.host v)) (λ x. refl) registry link_by_host old new xs rows by_host_is has h seen
+
+listed : Listed links registry 6 table
+listed = record { is = refl; tree = refl; quiet = quiet_if_idle registry refl; uncounted = refl; unstamped = refl; casts = λ x. simp (cast_int, cast_null, cast_text, cast_maybe_int, cast_maybe_text) }
+
+abbrev values : List Term
+values = col 0 0 ∷ lit Null ∷ col 0 1 ∷ col 0 2 ∷ col 0 3 ∷ col 0 4 ∷ []
+
+abbrev sets : List Term
+sets = col 1 0 ∷ lit Null ∷ col 0 8 ∷ col 0 9 ∷ col 0 10 ∷ col 0 11 ∷ []
+
+pub put_is : IsPut registry link_put 6 10 5 values sets
+unfolding understood everything
+put_is = record { command = refl; plain = (refl, refl) }
+
+gives : Gives links registry table 5 values sets link_shown
+gives = record { values = λ x. refl; place = λ x v. refl; updates = λ x v r. refl; unshared = λ new r. refl; headed = λ x. refl }
+
+pub puts_row : (old new : State) (x : Link) (xs : List Link) (count : ℕ) → old.now.schema ≡ registry → Holds links old.now.trees xs → Executes link_put (link_shown x) old new (Ok count)
+    → Sets links registry old.now new.now (insert_by links.key xs x)
+puts_row old new x xs count has h ran = puts links registry 6 table listed 5 values sets link_shown gives link_put old new xs x has h put_is count ran
+
+pub remove_domain_is : IsDelete registry link_remove_domain 6 10 (op2 (Compare Eq Binary) (col 1 2) (col 0 0) ∷ [])
+unfolding understood everything
+remove_domain_is = record { command = refl; plain = (refl, refl) }
+
+pub removes_domain : (old new : State) (v : ℤ) (xs : List Link) (count : ℕ) → old.now.schema ≡ registry → Holds links old.now.trees xs → Executes link_remove_domain (Int v ∷ []) old new (Ok count)
+    → Sets links registry old.now new.now (delete_where (link_with_domain v) xs)
+removes_domain old new v xs count has h ran =
+    deletes links registry 6 table listed link_remove_domain (Int v ∷ []) old new xs has h _ (link_with_domain v) (λ x. last_term (at_ints false Eq x.domain v)) remove_domain_is count ran

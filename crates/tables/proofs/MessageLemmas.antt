@@ -1,0 +1,90 @@
+-- What the statements on the table `message` mean.
+use Rattle.std.proofs.Common.{pos, negsuc, take, Equal, ◌≡◌, ◌∙◌, Ok, refl, List, [], ◌∷◌, ℕ, ℤ, codes, false}
+use Rattle.sqlite_value.specs.declared.value.Value.TheVariants.{Null, Int, Text}
+use Rattle.sqlite_value.specs.declared.keys.Collation.TheVariants.{Binary}
+use Rattle.std.specs.List.{take-map}
+use Rattle.std.specs.Ordering.{ordering_then}
+use Rattle.sqlite_value.specs.Order.{value_cmp}
+use Rattle.sqlite_value.proofs.OrderLemmas.{value_cmp-Int, value_cmp-Text}
+use Rattle.sqlite_sql.specs.declared.ops.CompareOp.TheVariants.{Eq}
+use Rattle.sqlite_sql.specs.declared.ops.BinaryOp.TheVariants.{Compare}
+use Rattle.sqlite_sql.specs.Term.{Term, lit, col, op2}
+use Rattle.sqlite_schema.specs.declared.schema.Table.{Table}
+use Rattle.sqlite_typed.proofs.TestLemmas.{at_ints, last_term, then_key, last_key}
+use Rattle.sqlite_keyed.specs.Keyed.{insert_by}
+use Rattle.sqlite_keyed.specs.Lists.{delete_where}
+use Rattle.sqlite.specs.Listing.{understood}
+use Rattle.sqlite.specs.State.{State, Executes}
+use Rattle.sqlite_tied.specs.Compute.{everything}
+use Rattle.rows.specs.Layouts.{Holds, Sets, Listed, Gives, IsSelect, IsPut, IsDelete, sorted_query, by_then_key}
+use Rattle.rows.specs.Calls.{Answers}
+use Rattle.rows.proofs.SelectLemmas.{sorts}
+use Rattle.rows.proofs.WriteLemmas.{deletes}
+use Rattle.rows.proofs.PutLemmas.{puts}
+use Rattle.rows.proofs.CastLemmas.{cast_int, cast_null, cast_text, cast_maybe_int, cast_maybe_text}
+use Rattle.rows.proofs.QuietLemmas.{quiet_if_idle}
+use Rattle.tables.specs.Tables.{message, registry, message_by_account, message_first_by_account, message_put, message_remove_id}
+use Rattle.tables.specs.Message.{Message, messages, message_order, message_shown, message_with_account, message_with_id, queue_of}
+
+abbrev columns : List Term
+columns = col 1 0 ∷ col 1 2 ∷ col 1 3 ∷ col 1 4 ∷ col 1 5 ∷ col 1 6 ∷ col 1 7 ∷ col 1 8 ∷ []
+
+abbrev queue_columns : List Term
+queue_columns = col 1 3 ∷ col 1 4 ∷ col 1 5 ∷ col 1 6 ∷ col 1 7 ∷ col 1 8 ∷ []
+
+abbrev table : Table
+table = record message { tree = 12 }
+
+queue_order : (x y : Message)
+    → ordering_then (value_cmp (Int x.moment) (Int y.moment)) (ordering_then (value_cmp (Int x.class) (Int y.class)) (ordering_then (value_cmp (Int x.number) (Int y.number)) (ordering_then (value_cmp (Text x.name) (Text y.name))
+    (ordering_then (value_cmp (Int x.subject) (Int y.subject)) (ordering_then (value_cmp (Int x.notice) (Int y.notice)) (ordering_then (value_cmp (Int x.id) (Int y.id)) Equal))))))
+    ≡ by_then_key messages message_order x y
+queue_order x y =
+    then_key (value_cmp-Int x.moment y.moment) (then_key (value_cmp-Int x.class y.class) (then_key (value_cmp-Int x.number y.number) (then_key (value_cmp-Text x.name y.name)
+    (then_key (value_cmp-Int x.subject y.subject) (then_key (value_cmp-Int x.notice y.notice) (last_key (value_cmp-Int x.id y.id)))))))
+
+pub by_account_is : IsSelect registry message_by_account (sorted_query 12 (op2 (Compare Eq Binary) (col 1 2) (col 0 0) ∷ []) columns queue_columns (negsuc 0))
+unfolding understood everything
+by_account_is = record { names = codes "id" ∷ codes "account" ∷ codes "moment" ∷ codes "class" ∷ codes "number" ∷ codes "name" ∷ codes "subject" ∷ codes "notice" ∷ []; command = refl; plain = (refl, refl); unlisted = refl }
+
+pub by_account_answers : (old new : State) (v : ℤ) (xs : List Message) → old.now.schema ≡ registry → Holds messages old.now.trees xs → Answers message_shown message_by_account (Int v ∷ []) old new (queue_of v xs)
+by_account_answers old new v xs has h rows seen =
+    sorts messages _ columns queue_columns (negsuc 0) (Int v ∷ []) (message_with_account v) message_shown message_order (λ x. last_term (at_ints false Eq x.account v)) (λ x. refl) queue_order registry message_by_account old new xs rows by_account_is has h seen
+
+pub first_by_account_is : IsSelect registry message_first_by_account (sorted_query 12 (op2 (Compare Eq Binary) (col 1 2) (col 0 0) ∷ []) columns queue_columns (pos 1))
+unfolding understood everything
+first_by_account_is = record { names = codes "id" ∷ codes "account" ∷ codes "moment" ∷ codes "class" ∷ codes "number" ∷ codes "name" ∷ codes "subject" ∷ codes "notice" ∷ []; command = refl; plain = (refl, refl); unlisted = refl }
+
+pub first_by_account_answers : (old new : State) (v : ℤ) (xs : List Message) → old.now.schema ≡ registry → Holds messages old.now.trees xs → Answers message_shown message_first_by_account (Int v ∷ []) old new (take 1 (queue_of v xs))
+first_by_account_answers old new v xs has h rows seen =
+    sorts messages _ columns queue_columns (pos 1) (Int v ∷ []) (message_with_account v) message_shown message_order (λ x. last_term (at_ints false Eq x.account v)) (λ x. refl) queue_order registry message_first_by_account old new xs rows first_by_account_is has h seen
+    ∙ take-map message_shown 1 (queue_of v xs)
+
+listed : Listed messages registry 8 table
+listed = record { is = refl; tree = refl; quiet = quiet_if_idle registry refl; uncounted = refl; unstamped = refl; casts = λ x. simp (cast_int, cast_null, cast_text, cast_maybe_int, cast_maybe_text) }
+
+abbrev values : List Term
+values = col 0 0 ∷ lit Null ∷ col 0 1 ∷ col 0 2 ∷ col 0 3 ∷ col 0 4 ∷ col 0 5 ∷ col 0 6 ∷ col 0 7 ∷ []
+
+abbrev sets : List Term
+sets = col 1 0 ∷ lit Null ∷ col 0 11 ∷ col 0 12 ∷ col 0 13 ∷ col 0 14 ∷ col 0 15 ∷ col 0 16 ∷ col 0 17 ∷ []
+
+pub put_is : IsPut registry message_put 8 12 8 values sets
+unfolding understood everything
+put_is = record { command = refl; plain = (refl, refl) }
+
+gives : Gives messages registry table 8 values sets message_shown
+gives = record { values = λ x. refl; place = λ x v. refl; updates = λ x v r. refl; unshared = λ new r. refl; headed = λ x. refl }
+
+pub puts_row : (old new : State) (x : Message) (xs : List Message) (count : ℕ) → old.now.schema ≡ registry → Holds messages old.now.trees xs → Executes message_put (message_shown x) old new (Ok count)
+    → Sets messages registry old.now new.now (insert_by messages.key xs x)
+puts_row old new x xs count has h ran = puts messages registry 8 table listed 8 values sets message_shown gives message_put old new xs x has h put_is count ran
+
+pub remove_id_is : IsDelete registry message_remove_id 8 12 (op2 (Compare Eq Binary) (col 1 0) (col 0 0) ∷ [])
+unfolding understood everything
+remove_id_is = record { command = refl; plain = (refl, refl) }
+
+pub removes_id : (old new : State) (v : ℤ) (xs : List Message) (count : ℕ) → old.now.schema ≡ registry → Holds messages old.now.trees xs → Executes message_remove_id (Int v ∷ []) old new (Ok count)
+    → Sets messages registry old.now new.now (delete_where (message_with_id v) xs)
+removes_id old new v xs count has h ran =
+    deletes messages registry 8 table listed message_remove_id (Int v ∷ []) old new xs has h _ (message_with_id v) (λ x. last_term (at_ints false Eq x.id v)) remove_id_is count ran

@@ -1,0 +1,15 @@
+use Rattle.std.proofs.Common.{filter, [], ◌∷◌}
+use Rattle.sqlite.specs.Held.{state}
+use Rattle.sqlite.specs.declared.types.Value.TheVariants.{Text}
+use Rattle.rows.proofs.AnswerLemmas.{finds, plain_in}
+use Rattle.tables.specs.Tables as tables
+use Rattle.tables.specs.Tables.{registry}
+use Rattle.tables.specs.Account.{accounts, account_shown, account_with_ident}
+use Rattle.tables.proofs.AccountLemmas.{by_ident_is, by_ident_answers}
+use Rattle.tables.proofs.account.accounts_by_ident.Goals as goal
+
+pub returns-clause-does : goal.returns-clause-does
+returns-clause-does g c ours =
+    let old = state g.S.Store c.args.conn.now in
+    let new = state g.S.Store c.select.new.conn in
+    finds accounts old new (filter (account_with_ident c.args.ident.now)) account_shown tables.account_by_ident (Text c.args.ident.now ∷ []) c.select.result (λ xs. by_ident_answers old new c.args.ident.now xs ours) (rw c.params-to_sql.ensures at (c.select.ensures.does (plain_in _ registry _ _ ours by_ident_is)))

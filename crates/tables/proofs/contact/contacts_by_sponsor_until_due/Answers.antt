@@ -1,0 +1,15 @@
+use Rattle.std.proofs.Common.{filter, [], ◌∷◌}
+use Rattle.sqlite.specs.Held.{state}
+use Rattle.sqlite.specs.declared.types.Value.TheVariants.{Int}
+use Rattle.rows.proofs.AnswerLemmas.{finds, plain_in}
+use Rattle.tables.specs.Tables as tables
+use Rattle.tables.specs.Tables.{registry}
+use Rattle.tables.specs.Contact.{contacts, contacts_by_due, contact_shown, contact_of_sponsor_within_due}
+use Rattle.tables.proofs.ContactLemmas.{by_sponsor_until_due_is, by_sponsor_until_due_answers}
+use Rattle.tables.proofs.contact.contacts_by_sponsor_until_due.Goals as goal
+
+pub returns-clause-does : goal.returns-clause-does
+returns-clause-does g c ours =
+    let old = state g.S.Store c.args.conn.now in
+    let new = state g.S.Store c.select.new.conn in
+    finds contacts old new (λ xs. contacts_by_due (filter (contact_of_sponsor_within_due c.args.sponsor c.args.due) xs)) contact_shown tables.contact_by_sponsor_until_due (Int c.args.sponsor ∷ Int c.args.due ∷ []) c.select.result (λ xs. by_sponsor_until_due_answers old new c.args.sponsor c.args.due xs ours) (rw (c.params-to_sql.ensures, c.params-to_sql-2.ensures) at (c.select.ensures.does (plain_in _ registry _ _ ours by_sponsor_until_due_is)))

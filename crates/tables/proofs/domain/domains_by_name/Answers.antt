@@ -1,0 +1,15 @@
+use Rattle.std.proofs.Common.{filter, [], ◌∷◌}
+use Rattle.sqlite.specs.Held.{state}
+use Rattle.sqlite.specs.declared.types.Value.TheVariants.{Text}
+use Rattle.rows.proofs.AnswerLemmas.{finds, plain_in}
+use Rattle.tables.specs.Tables as tables
+use Rattle.tables.specs.Tables.{registry}
+use Rattle.tables.specs.Domain.{domains, domain_shown, domain_with_name}
+use Rattle.tables.proofs.DomainLemmas.{by_name_is, by_name_answers}
+use Rattle.tables.proofs.domain.domains_by_name.Goals as goal
+
+pub returns-clause-does : goal.returns-clause-does
+returns-clause-does g c ours =
+    let old = state g.S.Store c.args.conn.now in
+    let new = state g.S.Store c.select.new.conn in
+    finds domains old new (filter (domain_with_name c.args.name.now)) domain_shown tables.domain_by_name (Text c.args.name.now ∷ []) c.select.result (λ xs. by_name_answers old new c.args.name.now xs ours) (rw c.params-to_sql.ensures at (c.select.ensures.does (plain_in _ registry _ _ ours by_name_is)))

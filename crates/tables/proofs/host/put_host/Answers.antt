@@ -1,0 +1,18 @@
+use Rattle.std.proofs.Common.{◌≡◌, true, sym, ap, subst}
+use Rattle.sqlite.specs.Held.{state}
+use Rattle.sqlite.specs.Listing.{understood}
+use Rattle.sqlite_keyed.specs.Keyed.{insert_by}
+use Rattle.rows.specs.Layouts.{command_of, writes_tables}
+use Rattle.rows.proofs.AnswerLemmas.{changes}
+use Rattle.tables.specs.Tables as tables
+use Rattle.tables.specs.Tables.{registry}
+use Rattle.tables.specs.Host.{hosts, host_shown}
+use Rattle.tables.proofs.HostLemmas.{put_is, puts_row}
+use Rattle.tables.proofs.host.put_host.Goals as goal
+
+pub returns-clause-does : goal.returns-clause-does
+returns-clause-does g c ours inside =
+    let old = state g.S.Store c.args.conn.now in
+    let new = state g.S.Store c.write.new.conn in
+    let writes = subst (λ s. writes_tables (command_of (understood s tables.host_put)) ≡ true) (sym ours) (ap writes_tables put_is.command) in
+    changes hosts old new (λ xs. insert_by hosts.key xs c.args.host.now) registry tables.host_put (host_shown c.args.host.now) c.write.result (λ count xs. puts_row old new c.args.host.now xs count ours) (rw c.params.ensures at (c.write.ensures.does writes inside))

@@ -1,0 +1,15 @@
+pub mod Tables
+pub mod Due
+pub mod Meta
+pub mod Account
+pub mod Contact
+pub mod Domain
+pub mod Host
+pub mod Address
+pub mod Link
+pub mod Line
+pub mod Message
+pub mod Transfer
+pub mod Content
+pub mod Balance
+pub mod Readiness

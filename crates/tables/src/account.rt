@@ -1,0 +1,141 @@
+//! Registrars' accounts.
+ghost use Rattle.std.specs.Prelude.{◌≡◌, true, filter};
+ghost use Rattle.sqlite.specs.Held.{state};
+ghost use Rattle.sqlite_keyed.specs.Keyed.{insert_by};
+ghost use Rattle.rows.specs.Calls.{Changes, Finds, IsSteady};
+ghost use Rattle.tables.specs.Tables.{registry};
+ghost use Rattle.tables.specs.Account.{Account, accounts, account_with_id, account_with_ident};
+
+use rows::{Number, Record, select, write};
+use sqlite::types::{ToSql, Type, ValueRef};
+use sqlite::{Alter, Connection, Error, Row, params};
+use std::alloc::Global;
+use std::marker::Model;
+
+const ALL: &str =
+    "SELECT id, ident, commands, messages, serial, balance, held FROM account ORDER BY id";
+
+const BY_ID: &str =
+    "SELECT id, ident, commands, messages, serial, balance, held FROM account WHERE id = ?1 ORDER BY id";
+
+const BY_IDENT: &str =
+    "SELECT id, ident, commands, messages, serial, balance, held FROM account WHERE ident = ?1 ORDER BY id";
+
+const PUT: &str =
+    "INSERT INTO account (id, ident, commands, messages, serial, balance, held) VALUES (?1, ?2, ?3, ?4, ?5, ?6, ?7) ON CONFLICT (id) DO UPDATE SET ident = excluded.ident, commands = excluded.commands, messages = excluded.messages, serial = excluded.serial, balance = excluded.balance, held = excluded.held";
+
+/// A row of the table `account`.
+#[derive(Drop)]
+pub struct AccountRow {
+    pub id: i64,
+    pub ident: String,
+    pub commands: i64,
+    pub messages: i64,
+    pub serial: i64,
+    pub balance: [u8; 16],
+    pub held: i64,
+}
+
+impl Model for AccountRow {
+    ghost use Rattle.std.specs.Prelude.{string_bytes};
+    ghost use Rattle.tables.specs.Account.{Account};
+
+    ghost Value = { Account };
+
+    ghost view = { λ x. record {
+      id = x.id;
+      ident = string_bytes x.ident;
+      commands = x.commands;
+      messages = x.messages;
+      serial = x.serial;
+      balance = x.balance;
+      held = x.held;
+    } };
+}
+
+impl AccountRow {
+    ghost use Rattle.sqlite.specs.Values.{bound};
+    ghost use Rattle.tables.specs.Account.{account_shown};
+
+    /// The parameters of the statement that puts it.
+    fn params(&self) -> [ValueRef<'_>; 7]
+        ensures { bound result ≡ account_shown self.now }
+    {
+        [
+            self.id.to_sql(),
+            (&self.ident).to_sql(),
+            self.commands.to_sql(),
+            self.messages.to_sql(),
+            self.serial.to_sql(),
+            self.balance.as_slice().to_sql(),
+            self.held.to_sql(),
+        ]
+    }
+}
+
+impl Record for AccountRow {
+    ghost use Rattle.tables.specs.Account.{account_shown};
+
+    ghost shown = { account_shown };
+
+    fn from_row(row: &Row) -> Result<AccountRow, Error> {
+        let bytes: Vec<u8> = row.get(5)?;
+        if bytes.len() != 16 {
+            return Err(Error::InvalidColumnType(5, Type::Blob));
+        }
+        let mut balance = [0; 16];
+        balance.copy_from_slice(&bytes);
+        Ok(AccountRow {
+            id: row.get(0)?,
+            ident: row.get(1)?,
+            commands: row.get(2)?,
+            messages: row.get(3)?,
+            serial: row.get(4)?,
+            balance,
+            held: row.get(6)?,
+        })
+    }
+}
+
+/// All of them, by their numbers.
+pub fn all_accounts<S: Alter>(
+    conn: &mut Connection<S>,
+    alloc: Global,
+) -> Result<Vec<AccountRow>, Error>
+    ensures does { conn.old.schema ≡ registry → Finds accounts (λ xs. xs) (state S.Store conn.old) (state S.Store conn.new) result }
+    ensures steady { IsSteady (state S.Store conn.old) (state S.Store conn.new) }
+{
+    select(conn, alloc, ALL, &[])
+}
+
+/// Those with this number.
+pub fn accounts_by_id<S: Alter>(
+    conn: &mut Connection<S>,
+    alloc: Global,
+    id: Number,
+) -> Result<Vec<AccountRow>, Error>
+    ensures does { conn.old.schema ≡ registry → Finds accounts (filter (account_with_id id)) (state S.Store conn.old) (state S.Store conn.new) result }
+    ensures steady { IsSteady (state S.Store conn.old) (state S.Store conn.new) }
+{
+    select(conn, alloc, BY_ID, params![id])
+}
+
+/// Those whose `ident` is this.
+pub fn accounts_by_ident<S: Alter>(
+    conn: &mut Connection<S>,
+    alloc: Global,
+    ident: &str,
+) -> Result<Vec<AccountRow>, Error>
+    ensures does { conn.old.schema ≡ registry → Finds accounts (filter (account_with_ident ident.now)) (state S.Store conn.old) (state S.Store conn.new) result }
+    ensures steady { IsSteady (state S.Store conn.old) (state S.Store conn.new) }
+{
+    select(conn, alloc, BY_IDENT, params![ident])
+}
+
+/// Puts a row in the place of the one with its number, or beside all others.
+pub fn put_account<S: Alter>(conn: &mut Connection<S>, account: &AccountRow) -> Result<(), Error>
+    ensures does { conn.old.schema ≡ registry → conn.old.in_transaction ≡ true → Changes accounts registry (λ xs. insert_by accounts.key xs account.now) (state S.Store conn.old) (state S.Store conn.new) result }
+    ensures steady { IsSteady (state S.Store conn.old) (state S.Store conn.new) }
+{
+    write(conn, PUT, &account.params())
+}

@@ -1,0 +1,103 @@
+//! Addresses of hosts.
+ghost use Rattle.std.specs.Prelude.{◌≡◌, true, filter};
+ghost use Rattle.sqlite.specs.Held.{state};
+ghost use Rattle.sqlite_keyed.specs.Keyed.{insert_by};
+ghost use Rattle.sqlite_keyed.specs.Lists.{delete_where};
+ghost use Rattle.rows.specs.Calls.{Changes, Finds, IsSteady};
+ghost use Rattle.tables.specs.Tables.{registry};
+ghost use Rattle.tables.specs.Address.{Address, addresses, address_with_host};
+
+use rows::{Number, Record, select, write};
+use sqlite::types::{ToSql, ValueRef};
+use sqlite::{Alter, Connection, Error, Row, params};
+use std::alloc::Global;
+use std::marker::Model;
+
+const BY_HOST: &str = "SELECT id, host, address FROM address WHERE host = ?1 ORDER BY id";
+
+const PUT: &str =
+    "INSERT INTO address (id, host, address) VALUES (?1, ?2, ?3) ON CONFLICT (id) DO UPDATE SET host = excluded.host, address = excluded.address";
+
+const REMOVE_HOST: &str = "DELETE FROM address WHERE host = ?1";
+
+/// A row of the table `address`.
+#[derive(Drop)]
+pub struct AddressRow {
+    pub id: i64,
+    pub host: i64,
+    pub address: String,
+}
+
+impl Model for AddressRow {
+    ghost use Rattle.std.specs.Prelude.{string_bytes};
+    ghost use Rattle.tables.specs.Address.{Address};
+
+    ghost Value = { Address };
+
+    ghost view = { λ x. record {
+      id = x.id;
+      host = x.host;
+      address = string_bytes x.address;
+    } };
+}
+
+impl AddressRow {
+    ghost use Rattle.sqlite.specs.Values.{bound};
+    ghost use Rattle.tables.specs.Address.{address_shown};
+
+    /// The parameters of the statement that puts it.
+    fn params(&self) -> [ValueRef<'_>; 3]
+        ensures { bound result ≡ address_shown self.now }
+    {
+        [
+            self.id.to_sql(),
+            self.host.to_sql(),
+            (&self.address).to_sql(),
+        ]
+    }
+}
+
+impl Record for AddressRow {
+    ghost use Rattle.tables.specs.Address.{address_shown};
+
+    ghost shown = { address_shown };
+
+    fn from_row(row: &Row) -> Result<AddressRow, Error> {
+        Ok(AddressRow {
+            id: row.get(0)?,
+            host: row.get(1)?,
+            address: row.get(2)?,
+        })
+    }
+}
+
+/// Those whose `host` is this.
+pub fn addresses_by_host<S: Alter>(
+    conn: &mut Connection<S>,
+    alloc: Global,
+    host: Number,
+) -> Result<Vec<AddressRow>, Error>
+    ensures does { conn.old.schema ≡ registry → Finds addresses (filter (address_with_host host)) (state S.Store conn.old) (state S.Store conn.new) result }
+    ensures steady { IsSteady (state S.Store conn.old) (state S.Store conn.new) }
+{
+    select(conn, alloc, BY_HOST, params![host])
+}
+
+/// Puts a row in the place of the one with its number, or beside all others.
+pub fn put_address<S: Alter>(conn: &mut Connection<S>, address: &AddressRow) -> Result<(), Error>
+    ensures does { conn.old.schema ≡ registry → conn.old.in_transaction ≡ true → Changes addresses registry (λ xs. insert_by addresses.key xs address.now) (state S.Store conn.old) (state S.Store conn.new) result }
+    ensures steady { IsSteady (state S.Store conn.old) (state S.Store conn.new) }
+{
+    write(conn, PUT, &address.params())
+}
+
+/// Removes those whose `host` is this.
+pub fn remove_addresses_by_host<S: Alter>(
+    conn: &mut Connection<S>,
+    host: Number,
+) -> Result<(), Error>
+    ensures does { conn.old.schema ≡ registry → conn.old.in_transaction ≡ true → Changes addresses registry (delete_where (address_with_host host)) (state S.Store conn.old) (state S.Store conn.new) result }
+    ensures steady { IsSteady (state S.Store conn.old) (state S.Store conn.new) }
+{
+    write(conn, REMOVE_HOST, params![host])
+}

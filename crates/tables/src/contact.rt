@@ -1,0 +1,277 @@
+//! Contacts.
+ghost use Rattle.std.specs.Prelude.{◌≡◌, true, filter, IfOk};
+ghost use Rattle.sqlite.specs.Held.{state};
+ghost use Rattle.sqlite_keyed.specs.Keyed.{insert_by};
+ghost use Rattle.sqlite_keyed.specs.Lists.{delete_where};
+ghost use Rattle.rows.specs.Calls.{Changes, Finds, IsSteady};
+ghost use Rattle.tables.specs.Tables.{registry};
+ghost use Rattle.tables.specs.Contact.{Contact, contacts, contacts_by_due, contact_of_sponsor_within_due, contact_within_due, contact_with_id, contact_with_name, contact_shown};
+
+use rows::{Number, Record, maybe_number, maybe_text, select, write};
+use sqlite::types::{ToSql, ValueRef};
+use sqlite::{Alter, Connection, Error, Row, params};
+use std::alloc::Global;
+use std::marker::Model;
+
+const ALL: &str =
+    "SELECT id, name, creator, serial, sponsor, created, transferred, updated, statuses, secret, postal_name, org, street, city, state, postal_code, country, voice, mail, due FROM contact ORDER BY id";
+
+const BY_ID: &str =
+    "SELECT id, name, creator, serial, sponsor, created, transferred, updated, statuses, secret, postal_name, org, street, city, state, postal_code, country, voice, mail, due FROM contact WHERE id = ?1 ORDER BY id";
+
+const BY_NAME: &str =
+    "SELECT id, name, creator, serial, sponsor, created, transferred, updated, statuses, secret, postal_name, org, street, city, state, postal_code, country, voice, mail, due FROM contact WHERE name = ?1 ORDER BY id";
+
+const UNTIL_DUE: &str =
+    "SELECT id, name, creator, serial, sponsor, created, transferred, updated, statuses, secret, postal_name, org, street, city, state, postal_code, country, voice, mail, due FROM contact WHERE due >= 0 AND due <= ?1 ORDER BY due, id";
+
+const BY_SPONSOR_UNTIL_DUE: &str =
+    "SELECT id, name, creator, serial, sponsor, created, transferred, updated, statuses, secret, postal_name, org, street, city, state, postal_code, country, voice, mail, due FROM contact WHERE sponsor = ?1 AND due >= 0 AND due <= ?2 ORDER BY due, id";
+
+const PUT: &str =
+    "INSERT INTO contact (id, name, creator, serial, sponsor, created, transferred, updated, statuses, secret, postal_name, org, street, city, state, postal_code, country, voice, mail, due) VALUES (?1, ?2, ?3, ?4, ?5, ?6, ?7, ?8, ?9, ?10, ?11, ?12, ?13, ?14, ?15, ?16, ?17, ?18, ?19, ?20) ON CONFLICT (id) DO UPDATE SET name = excluded.name, creator = excluded.creator, serial = excluded.serial, sponsor = excluded.sponsor, created = excluded.created, transferred = excluded.transferred, updated = excluded.updated, statuses = excluded.statuses, secret = excluded.secret, postal_name = excluded.postal_name, org = excluded.org, street = excluded.street, city = excluded.city, state = excluded.state, postal_code = excluded.postal_code, country = excluded.country, voice = excluded.voice, mail = excluded.mail, due = excluded.due";
+
+const REMOVE_ID: &str = "DELETE FROM contact WHERE id = ?1";
+
+/// The postal columns of a row.
+#[derive(Drop)]
+pub struct PostalRow {
+    pub name: String,
+    pub org: Option<String>,
+    pub street: String,
+    pub city: String,
+    pub state: Option<String>,
+    pub postal_code: Option<String>,
+    pub country: String,
+}
+
+impl Model for PostalRow {
+    ghost use Rattle.std.specs.Prelude.{option_map, string_bytes};
+    ghost use Rattle.tables.specs.Contact.{Postal};
+
+    ghost Value = { Postal };
+
+    ghost view = { λ x. record {
+      name = string_bytes x.name;
+      org = option_map string_bytes x.org;
+      street = string_bytes x.street;
+      city = string_bytes x.city;
+      state = option_map string_bytes x.state;
+      postal_code = option_map string_bytes x.postal_code;
+      country = string_bytes x.country;
+    } };
+}
+
+/// The postal columns of a contact's row.
+fn postal_of(row: &Row) -> Result<PostalRow, Error>
+    ensures { (x : Contact) → row.now ≡ contact_shown x → IfOk result (λ r. r ≡ x.postal) }
+{
+    Ok(PostalRow {
+        name: row.get(10)?,
+        org: row.get(11)?,
+        street: row.get(12)?,
+        city: row.get(13)?,
+        state: row.get(14)?,
+        postal_code: row.get(15)?,
+        country: row.get(16)?,
+    })
+}
+
+/// A row of the table `contact`.
+#[derive(Drop)]
+pub struct ContactRow {
+    pub id: i64,
+    pub name: String,
+    pub creator: i64,
+    pub serial: i64,
+    pub sponsor: i64,
+    pub created: i64,
+    pub transferred: Option<i64>,
+    pub updated: Option<i64>,
+    pub statuses: String,
+    pub secret: String,
+    pub voice: Option<String>,
+    pub mail: String,
+    pub due: Option<i64>,
+    pub postal: PostalRow,
+}
+
+impl Model for ContactRow {
+    ghost use Rattle.std.specs.Prelude.{option_map, string_bytes};
+    ghost use Rattle.tables.specs.Contact.{Contact};
+
+    ghost Value = { Contact };
+
+    ghost view = { λ x. record {
+      id = x.id;
+      name = string_bytes x.name;
+      creator = x.creator;
+      serial = x.serial;
+      sponsor = x.sponsor;
+      created = x.created;
+      transferred = x.transferred;
+      updated = x.updated;
+      statuses = string_bytes x.statuses;
+      secret = string_bytes x.secret;
+      voice = option_map string_bytes x.voice;
+      mail = string_bytes x.mail;
+      due = x.due;
+      postal = x.postal;
+    } };
+}
+
+impl ContactRow {
+    ghost use Rattle.sqlite.specs.Values.{bound};
+    ghost use Rattle.tables.specs.Contact.{contact_shown};
+
+    /// The parameters of the statement that puts it.
+    fn params(&self) -> [ValueRef<'_>; 20]
+        ensures { bound result ≡ contact_shown self.now }
+    {
+        [
+            self.id.to_sql(),
+            (&self.name).to_sql(),
+            self.creator.to_sql(),
+            self.serial.to_sql(),
+            self.sponsor.to_sql(),
+            self.created.to_sql(),
+            maybe_number(self.transferred),
+            maybe_number(self.updated),
+            (&self.statuses).to_sql(),
+            (&self.secret).to_sql(),
+            (&self.postal.name).to_sql(),
+            maybe_text(&self.postal.org),
+            (&self.postal.street).to_sql(),
+            (&self.postal.city).to_sql(),
+            maybe_text(&self.postal.state),
+            maybe_text(&self.postal.postal_code),
+            (&self.postal.country).to_sql(),
+            maybe_text(&self.voice),
+            (&self.mail).to_sql(),
+            maybe_number(self.due),
+        ]
+    }
+}
+
+/// The moments in a contact's row, in seconds since 1970.
+#[derive(Clone, Copy, Drop)]
+struct ContactDates {
+    created: i64,
+    transferred: Option<i64>,
+    updated: Option<i64>,
+    due: Option<i64>,
+}
+
+fn dates_of(row: &Row) -> Result<ContactDates, Error>
+    ensures { (x : Contact) → row.now ≡ contact_shown x → IfOk result (λ dates. (dates.created ≡ x.created) × (dates.transferred ≡ x.transferred) × (dates.updated ≡ x.updated) × (dates.due ≡ x.due)) }
+{
+    Ok(ContactDates {
+        created: row.get(5)?,
+        transferred: row.get(6)?,
+        updated: row.get(7)?,
+        due: row.get(19)?,
+    })
+}
+
+impl Record for ContactRow {
+    ghost use Rattle.tables.specs.Contact.{contact_shown};
+
+    ghost shown = { contact_shown };
+
+    fn from_row(row: &Row) -> Result<ContactRow, Error> {
+        let dates = dates_of(row)?;
+        Ok(ContactRow {
+            id: row.get(0)?,
+            name: row.get(1)?,
+            creator: row.get(2)?,
+            serial: row.get(3)?,
+            sponsor: row.get(4)?,
+            created: dates.created,
+            transferred: dates.transferred,
+            updated: dates.updated,
+            statuses: row.get(8)?,
+            secret: row.get(9)?,
+            voice: row.get(17)?,
+            mail: row.get(18)?,
+            due: dates.due,
+            postal: postal_of(row)?,
+        })
+    }
+}
+
+/// All of them, by their numbers.
+pub fn all_contacts<S: Alter>(
+    conn: &mut Connection<S>,
+    alloc: Global,
+) -> Result<Vec<ContactRow>, Error>
+    ensures does { conn.old.schema ≡ registry → Finds contacts (λ xs. xs) (state S.Store conn.old) (state S.Store conn.new) result }
+    ensures steady { IsSteady (state S.Store conn.old) (state S.Store conn.new) }
+{
+    select(conn, alloc, ALL, &[])
+}
+
+/// Those with this number.
+pub fn contacts_by_id<S: Alter>(
+    conn: &mut Connection<S>,
+    alloc: Global,
+    id: Number,
+) -> Result<Vec<ContactRow>, Error>
+    ensures does { conn.old.schema ≡ registry → Finds contacts (filter (contact_with_id id)) (state S.Store conn.old) (state S.Store conn.new) result }
+    ensures steady { IsSteady (state S.Store conn.old) (state S.Store conn.new) }
+{
+    select(conn, alloc, BY_ID, params![id])
+}
+
+/// Those whose `name` is this.
+pub fn contacts_by_name<S: Alter>(
+    conn: &mut Connection<S>,
+    alloc: Global,
+    name: &str,
+) -> Result<Vec<ContactRow>, Error>
+    ensures does { conn.old.schema ≡ registry → Finds contacts (filter (contact_with_name name.now)) (state S.Store conn.old) (state S.Store conn.new) result }
+    ensures steady { IsSteady (state S.Store conn.old) (state S.Store conn.new) }
+{
+    select(conn, alloc, BY_NAME, params![name])
+}
+
+/// Those whose `due` is this moment or one before, in the order in which they are due. No moment is
+/// before 1970.
+pub fn contacts_until_due<S: Alter>(
+    conn: &mut Connection<S>,
+    alloc: Global,
+    due: Number,
+) -> Result<Vec<ContactRow>, Error>
+    ensures does { conn.old.schema ≡ registry → Finds contacts (λ xs. contacts_by_due (filter (contact_within_due due) xs)) (state S.Store conn.old) (state S.Store conn.new) result }
+    ensures steady { IsSteady (state S.Store conn.old) (state S.Store conn.new) }
+{
+    select(conn, alloc, UNTIL_DUE, params![due])
+}
+
+/// Those of this sponsor whose `due` is this moment or one before, in the order in which they are due.
+pub fn contacts_by_sponsor_until_due<S: Alter>(
+    conn: &mut Connection<S>,
+    alloc: Global,
+    sponsor: Number,
+    due: Number,
+) -> Result<Vec<ContactRow>, Error>
+    ensures does { conn.old.schema ≡ registry → Finds contacts (λ xs. contacts_by_due (filter (contact_of_sponsor_within_due sponsor due) xs)) (state S.Store conn.old) (state S.Store conn.new) result }
+    ensures steady { IsSteady (state S.Store conn.old) (state S.Store conn.new) }
+{
+    select(conn, alloc, BY_SPONSOR_UNTIL_DUE, params![sponsor, due])
+}
+
+/// Puts a row in the place of the one with its number, or beside all others.
+pub fn put_contact<S: Alter>(conn: &mut Connection<S>, contact: &ContactRow) -> Result<(), Error>
+    ensures does { conn.old.schema ≡ registry → conn.old.in_transaction ≡ true → Changes contacts registry (λ xs. insert_by contacts.key xs contact.now) (state S.Store conn.old) (state S.Store conn.new) result }
+    ensures steady { IsSteady (state S.Store conn.old) (state S.Store conn.new) }
+{
+    write(conn, PUT, &contact.params())
+}
+
+/// Removes those whose `id` is this.
+pub fn remove_contacts_by_id<S: Alter>(conn: &mut Connection<S>, id: Number) -> Result<(), Error>
+    ensures does { conn.old.schema ≡ registry → conn.old.in_transaction ≡ true → Changes contacts registry (delete_where (contact_with_id id)) (state S.Store conn.old) (state S.Store conn.new) result }
+    ensures steady { IsSteady (state S.Store conn.old) (state S.Store conn.new) }
+{
+    write(conn, REMOVE_ID, params![id])
+}

@@ -1,0 +1,170 @@
+//! Hosts.
+ghost use Rattle.std.specs.Prelude.{◌≡◌, true, filter};
+ghost use Rattle.sqlite.specs.Held.{state};
+ghost use Rattle.sqlite_keyed.specs.Keyed.{insert_by};
+ghost use Rattle.sqlite_keyed.specs.Lists.{delete_where};
+ghost use Rattle.rows.specs.Calls.{Changes, Finds, IsSteady};
+ghost use Rattle.tables.specs.Tables.{registry};
+ghost use Rattle.tables.specs.Host.{Host, hosts, host_with_id, host_with_name, host_with_superordinate};
+
+use rows::{Number, Record, maybe_number, select, write};
+use sqlite::types::{ToSql, ValueRef};
+use sqlite::{Alter, Connection, Error, Row, params};
+use std::alloc::Global;
+use std::marker::Model;
+
+const ALL: &str =
+    "SELECT id, name, creator, serial, superordinate, external_sponsor, sponsor, created, updated, statuses FROM host ORDER BY id";
+
+const BY_ID: &str =
+    "SELECT id, name, creator, serial, superordinate, external_sponsor, sponsor, created, updated, statuses FROM host WHERE id = ?1 ORDER BY id";
+
+const BY_NAME: &str =
+    "SELECT id, name, creator, serial, superordinate, external_sponsor, sponsor, created, updated, statuses FROM host WHERE name = ?1 ORDER BY id";
+
+const BY_SUPERORDINATE: &str =
+    "SELECT id, name, creator, serial, superordinate, external_sponsor, sponsor, created, updated, statuses FROM host WHERE superordinate = ?1 ORDER BY id";
+
+const PUT: &str =
+    "INSERT INTO host (id, name, creator, serial, superordinate, external_sponsor, sponsor, created, updated, statuses) VALUES (?1, ?2, ?3, ?4, ?5, ?6, ?7, ?8, ?9, ?10) ON CONFLICT (id) DO UPDATE SET name = excluded.name, creator = excluded.creator, serial = excluded.serial, superordinate = excluded.superordinate, external_sponsor = excluded.external_sponsor, sponsor = excluded.sponsor, created = excluded.created, updated = excluded.updated, statuses = excluded.statuses";
+
+const REMOVE_ID: &str = "DELETE FROM host WHERE id = ?1";
+
+/// A row of the table `host`.
+#[derive(Drop)]
+pub struct HostRow {
+    pub id: i64,
+    pub name: String,
+    pub creator: i64,
+    pub serial: i64,
+    pub superordinate: Option<i64>,
+    pub external_sponsor: Option<i64>,
+    pub sponsor: i64,
+    pub created: i64,
+    pub updated: Option<i64>,
+    pub statuses: String,
+}
+
+impl Model for HostRow {
+    ghost use Rattle.std.specs.Prelude.{string_bytes};
+    ghost use Rattle.tables.specs.Host.{Host};
+
+    ghost Value = { Host };
+
+    ghost view = { λ x. record {
+      id = x.id;
+      name = string_bytes x.name;
+      creator = x.creator;
+      serial = x.serial;
+      superordinate = x.superordinate;
+      external_sponsor = x.external_sponsor;
+      sponsor = x.sponsor;
+      created = x.created;
+      updated = x.updated;
+      statuses = string_bytes x.statuses;
+    } };
+}
+
+impl HostRow {
+    ghost use Rattle.sqlite.specs.Values.{bound};
+    ghost use Rattle.tables.specs.Host.{host_shown};
+
+    /// The parameters of the statement that puts it.
+    fn params(&self) -> [ValueRef<'_>; 10]
+        ensures { bound result ≡ host_shown self.now }
+    {
+        [
+            self.id.to_sql(),
+            (&self.name).to_sql(),
+            self.creator.to_sql(),
+            self.serial.to_sql(),
+            maybe_number(self.superordinate),
+            maybe_number(self.external_sponsor),
+            self.sponsor.to_sql(),
+            self.created.to_sql(),
+            maybe_number(self.updated),
+            (&self.statuses).to_sql(),
+        ]
+    }
+}
+
+impl Record for HostRow {
+    ghost use Rattle.tables.specs.Host.{host_shown};
+
+    ghost shown = { host_shown };
+
+    fn from_row(row: &Row) -> Result<HostRow, Error> {
+        Ok(HostRow {
+            id: row.get(0)?,
+            name: row.get(1)?,
+            creator: row.get(2)?,
+            serial: row.get(3)?,
+            superordinate: row.get(4)?,
+            external_sponsor: row.get(5)?,
+            sponsor: row.get(6)?,
+            created: row.get(7)?,
+            updated: row.get(8)?,
+            statuses: row.get(9)?,
+        })
+    }
+}
+
+/// All of them, by their numbers.
+pub fn all_hosts<S: Alter>(conn: &mut Connection<S>, alloc: Global) -> Result<Vec<HostRow>, Error>
+    ensures does { conn.old.schema ≡ registry → Finds hosts (λ xs. xs) (state S.Store conn.old) (state S.Store conn.new) result }
+    ensures steady { IsSteady (state S.Store conn.old) (state S.Store conn.new) }
+{
+    select(conn, alloc, ALL, &[])
+}
+
+/// Those with this number.
+pub fn hosts_by_id<S: Alter>(
+    conn: &mut Connection<S>,
+    alloc: Global,
+    id: Number,
+) -> Result<Vec<HostRow>, Error>
+    ensures does { conn.old.schema ≡ registry → Finds hosts (filter (host_with_id id)) (state S.Store conn.old) (state S.Store conn.new) result }
+    ensures steady { IsSteady (state S.Store conn.old) (state S.Store conn.new) }
+{
+    select(conn, alloc, BY_ID, params![id])
+}
+
+/// Those whose `name` is this.
+pub fn hosts_by_name<S: Alter>(
+    conn: &mut Connection<S>,
+    alloc: Global,
+    name: &str,
+) -> Result<Vec<HostRow>, Error>
+    ensures does { conn.old.schema ≡ registry → Finds hosts (filter (host_with_name name.now)) (state S.Store conn.old) (state S.Store conn.new) result }
+    ensures steady { IsSteady (state S.Store conn.old) (state S.Store conn.new) }
+{
+    select(conn, alloc, BY_NAME, params![name])
+}
+
+/// Those whose `superordinate` is this.
+pub fn hosts_by_superordinate<S: Alter>(
+    conn: &mut Connection<S>,
+    alloc: Global,
+    superordinate: Number,
+) -> Result<Vec<HostRow>, Error>
+    ensures does { conn.old.schema ≡ registry → Finds hosts (filter (host_with_superordinate superordinate)) (state S.Store conn.old) (state S.Store conn.new) result }
+    ensures steady { IsSteady (state S.Store conn.old) (state S.Store conn.new) }
+{
+    select(conn, alloc, BY_SUPERORDINATE, params![superordinate])
+}
+
+/// Puts a row in the place of the one with its number, or beside all others.
+pub fn put_host<S: Alter>(conn: &mut Connection<S>, host: &HostRow) -> Result<(), Error>
+    ensures does { conn.old.schema ≡ registry → conn.old.in_transaction ≡ true → Changes hosts registry (λ xs. insert_by hosts.key xs host.now) (state S.Store conn.old) (state S.Store conn.new) result }
+    ensures steady { IsSteady (state S.Store conn.old) (state S.Store conn.new) }
+{
+    write(conn, PUT, &host.params())
+}
+
+/// Removes those whose `id` is this.
+pub fn remove_hosts_by_id<S: Alter>(conn: &mut Connection<S>, id: Number) -> Result<(), Error>
+    ensures does { conn.old.schema ≡ registry → conn.old.in_transaction ≡ true → Changes hosts registry (delete_where (host_with_id id)) (state S.Store conn.old) (state S.Store conn.new) result }
+    ensures steady { IsSteady (state S.Store conn.old) (state S.Store conn.new) }
+{
+    write(conn, REMOVE_ID, params![id])
+}

@@ -1,0 +1,134 @@
+//! Lines of accounts.
+ghost use Rattle.std.specs.Prelude.{◌≡◌, true, filter};
+ghost use Rattle.sqlite.specs.Held.{state};
+ghost use Rattle.sqlite_keyed.specs.Keyed.{insert_by};
+ghost use Rattle.rows.specs.Calls.{Changes, Finds, IsSteady};
+ghost use Rattle.tables.specs.Tables.{registry};
+ghost use Rattle.tables.specs.Line.{Line, lines, line_of_object, line_with_account};
+
+use rows::{Number, Record, maybe_number, select, write};
+use sqlite::types::{ToSql, ValueRef};
+use sqlite::{Alter, Connection, Error, Row, params};
+use std::alloc::Global;
+use std::marker::Model;
+
+const BY_ACCOUNT: &str =
+    "SELECT id, account, kind, creator, serial, recorded, years, cents, started, refunded FROM line WHERE account = ?1 ORDER BY id";
+
+const BY_OBJECT: &str =
+    "SELECT id, account, kind, creator, serial, recorded, years, cents, started, refunded FROM line WHERE account = ?1 AND creator = ?2 AND serial = ?3 ORDER BY id";
+
+const PUT: &str =
+    "INSERT INTO line (id, account, kind, creator, serial, recorded, years, cents, started, refunded) VALUES (?1, ?2, ?3, ?4, ?5, ?6, ?7, ?8, ?9, ?10) ON CONFLICT (id) DO UPDATE SET account = excluded.account, kind = excluded.kind, creator = excluded.creator, serial = excluded.serial, recorded = excluded.recorded, years = excluded.years, cents = excluded.cents, started = excluded.started, refunded = excluded.refunded";
+
+/// A row of the table `line`.
+#[derive(Drop)]
+pub struct LineRow {
+    pub id: i64,
+    pub account: i64,
+    pub kind: i64,
+    pub creator: Option<i64>,
+    pub serial: Option<i64>,
+    pub recorded: i64,
+    pub years: i64,
+    pub cents: i64,
+    pub started: Option<i64>,
+    pub refunded: Option<i64>,
+}
+
+impl Model for LineRow {
+    ghost use Rattle.tables.specs.Line.{Line};
+
+    ghost Value = { Line };
+
+    ghost view = { λ x. record {
+      id = x.id;
+      account = x.account;
+      kind = x.kind;
+      creator = x.creator;
+      serial = x.serial;
+      recorded = x.recorded;
+      years = x.years;
+      cents = x.cents;
+      started = x.started;
+      refunded = x.refunded;
+    } };
+}
+
+impl LineRow {
+    ghost use Rattle.sqlite.specs.Values.{bound};
+    ghost use Rattle.tables.specs.Line.{line_shown};
+
+    /// The parameters of the statement that puts it.
+    fn params(&self) -> [ValueRef<'_>; 10]
+        ensures { bound result ≡ line_shown self.now }
+    {
+        [
+            self.id.to_sql(),
+            self.account.to_sql(),
+            self.kind.to_sql(),
+            maybe_number(self.creator),
+            maybe_number(self.serial),
+            self.recorded.to_sql(),
+            self.years.to_sql(),
+            self.cents.to_sql(),
+            maybe_number(self.started),
+            maybe_number(self.refunded),
+        ]
+    }
+}
+
+impl Record for LineRow {
+    ghost use Rattle.tables.specs.Line.{line_shown};
+
+    ghost shown = { line_shown };
+
+    fn from_row(row: &Row) -> Result<LineRow, Error> {
+        Ok(LineRow {
+            id: row.get(0)?,
+            account: row.get(1)?,
+            kind: row.get(2)?,
+            creator: row.get(3)?,
+            serial: row.get(4)?,
+            recorded: row.get(5)?,
+            years: row.get(6)?,
+            cents: row.get(7)?,
+            started: row.get(8)?,
+            refunded: row.get(9)?,
+        })
+    }
+}
+
+/// Those whose `account` is this.
+pub fn lines_by_account<S: Alter>(
+    conn: &mut Connection<S>,
+    alloc: Global,
+    account: Number,
+) -> Result<Vec<LineRow>, Error>
+    ensures does { conn.old.schema ≡ registry → Finds lines (filter (line_with_account account)) (state S.Store conn.old) (state S.Store conn.new) result }
+    ensures steady { IsSteady (state S.Store conn.old) (state S.Store conn.new) }
+{
+    select(conn, alloc, BY_ACCOUNT, params![account])
+}
+
+/// Those of this account for the object that this registrar created with this number.
+pub fn lines_by_object<S: Alter>(
+    conn: &mut Connection<S>,
+    alloc: Global,
+    account: Number,
+    creator: Number,
+    serial: Number,
+) -> Result<Vec<LineRow>, Error>
+    ensures does { conn.old.schema ≡ registry → Finds lines (filter (line_of_object account creator serial)) (state S.Store conn.old) (state S.Store conn.new) result }
+    ensures steady { IsSteady (state S.Store conn.old) (state S.Store conn.new) }
+{
+    select(conn, alloc, BY_OBJECT, params![account, creator, serial])
+}
+
+/// Puts a row in the place of the one with its number, or beside all others.
+pub fn put_line<S: Alter>(conn: &mut Connection<S>, line: &LineRow) -> Result<(), Error>
+    ensures does { conn.old.schema ≡ registry → conn.old.in_transaction ≡ true → Changes lines registry (λ xs. insert_by lines.key xs line.now) (state S.Store conn.old) (state S.Store conn.new) result }
+    ensures steady { IsSteady (state S.Store conn.old) (state S.Store conn.new) }
+{
+    write(conn, PUT, &line.params())
+}

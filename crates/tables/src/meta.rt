@@ -1,0 +1,146 @@
+//! What holds of the whole registry, in one row.
+ghost use Rattle.std.specs.Prelude.{◌≡◌, true};
+ghost use Rattle.sqlite.specs.Held.{state};
+ghost use Rattle.sqlite_keyed.specs.Keyed.{insert_by};
+ghost use Rattle.rows.specs.Calls.{Changes, Finds, IsSteady};
+ghost use Rattle.tables.specs.Tables.{registry};
+ghost use Rattle.tables.specs.Meta.{Meta, metas};
+
+use rows::{Record, select, write};
+use sqlite::types::{ToSql, ValueRef};
+use sqlite::{Alter, Connection, Error, Row};
+use std::alloc::Global;
+use std::marker::Model;
+
+const ALL: &str =
+    "SELECT id, version, clock, next_row, zone, reserved, days_add, days_auto_renew, days_renew, days_transfer, days_redemption, days_restore, days_pending_delete, days_answer, days_lock, price_create, price_renew, price_transfer FROM meta ORDER BY id";
+
+const PUT: &str =
+    "INSERT INTO meta (id, version, clock, next_row, zone, reserved, days_add, days_auto_renew, days_renew, days_transfer, days_redemption, days_restore, days_pending_delete, days_answer, days_lock, price_create, price_renew, price_transfer) VALUES (?1, ?2, ?3, ?4, ?5, ?6, ?7, ?8, ?9, ?10, ?11, ?12, ?13, ?14, ?15, ?16, ?17, ?18) ON CONFLICT (id) DO UPDATE SET version = excluded.version, clock = excluded.clock, next_row = excluded.next_row, zone = excluded.zone, reserved = excluded.reserved, days_add = excluded.days_add, days_auto_renew = excluded.days_auto_renew, days_renew = excluded.days_renew, days_transfer = excluded.days_transfer, days_redemption = excluded.days_redemption, days_restore = excluded.days_restore, days_pending_delete = excluded.days_pending_delete, days_answer = excluded.days_answer, days_lock = excluded.days_lock, price_create = excluded.price_create, price_renew = excluded.price_renew, price_transfer = excluded.price_transfer";
+
+/// A row of the table `meta`.
+#[derive(Drop)]
+pub struct MetaRow {
+    pub id: i64,
+    pub version: i64,
+    pub clock: i64,
+    pub next_row: i64,
+    pub zone: String,
+    pub reserved: String,
+    pub days_add: i64,
+    pub days_auto_renew: i64,
+    pub days_renew: i64,
+    pub days_transfer: i64,
+    pub days_redemption: i64,
+    pub days_restore: i64,
+    pub days_pending_delete: i64,
+    pub days_answer: i64,
+    pub days_lock: i64,
+    pub price_create: i64,
+    pub price_renew: i64,
+    pub price_transfer: i64,
+}
+
+impl Model for MetaRow {
+    ghost use Rattle.std.specs.Prelude.{string_bytes};
+    ghost use Rattle.tables.specs.Meta.{Meta};
+
+    ghost Value = { Meta };
+
+    ghost view = { λ x. record {
+      id = x.id;
+      version = x.version;
+      clock = x.clock;
+      next_row = x.next_row;
+      zone = string_bytes x.zone;
+      reserved = string_bytes x.reserved;
+      days_add = x.days_add;
+      days_auto_renew = x.days_auto_renew;
+      days_renew = x.days_renew;
+      days_transfer = x.days_transfer;
+      days_redemption = x.days_redemption;
+      days_restore = x.days_restore;
+      days_pending_delete = x.days_pending_delete;
+      days_answer = x.days_answer;
+      days_lock = x.days_lock;
+      price_create = x.price_create;
+      price_renew = x.price_renew;
+      price_transfer = x.price_transfer;
+    } };
+}
+
+impl MetaRow {
+    ghost use Rattle.sqlite.specs.Values.{bound};
+    ghost use Rattle.tables.specs.Meta.{meta_shown};
+
+    /// The parameters of the statement that puts it.
+    fn params(&self) -> [ValueRef<'_>; 18]
+        ensures { bound result ≡ meta_shown self.now }
+    {
+        [
+            self.id.to_sql(),
+            self.version.to_sql(),
+            self.clock.to_sql(),
+            self.next_row.to_sql(),
+            (&self.zone).to_sql(),
+            (&self.reserved).to_sql(),
+            self.days_add.to_sql(),
+            self.days_auto_renew.to_sql(),
+            self.days_renew.to_sql(),
+            self.days_transfer.to_sql(),
+            self.days_redemption.to_sql(),
+            self.days_restore.to_sql(),
+            self.days_pending_delete.to_sql(),
+            self.days_answer.to_sql(),
+            self.days_lock.to_sql(),
+            self.price_create.to_sql(),
+            self.price_renew.to_sql(),
+            self.price_transfer.to_sql(),
+        ]
+    }
+}
+
+impl Record for MetaRow {
+    ghost use Rattle.tables.specs.Meta.{meta_shown};
+
+    ghost shown = { meta_shown };
+
+    fn from_row(row: &Row) -> Result<MetaRow, Error> {
+        Ok(MetaRow {
+            id: row.get(0)?,
+            version: row.get(1)?,
+            clock: row.get(2)?,
+            next_row: row.get(3)?,
+            zone: row.get(4)?,
+            reserved: row.get(5)?,
+            days_add: row.get(6)?,
+            days_auto_renew: row.get(7)?,
+            days_renew: row.get(8)?,
+            days_transfer: row.get(9)?,
+            days_redemption: row.get(10)?,
+            days_restore: row.get(11)?,
+            days_pending_delete: row.get(12)?,
+            days_answer: row.get(13)?,
+            days_lock: row.get(14)?,
+            price_create: row.get(15)?,
+            price_renew: row.get(16)?,
+            price_transfer: row.get(17)?,
+        })
+    }
+}
+
+/// All of them, by their numbers.
+pub fn all_metas<S: Alter>(conn: &mut Connection<S>, alloc: Global) -> Result<Vec<MetaRow>, Error>
+    ensures does { conn.old.schema ≡ registry → Finds metas (λ xs. xs) (state S.Store conn.old) (state S.Store conn.new) result }
+    ensures steady { IsSteady (state S.Store conn.old) (state S.Store conn.new) }
+{
+    select(conn, alloc, ALL, &[])
+}
+
+/// Puts a row in the place of the one with its number, or beside all others.
+pub fn put_meta<S: Alter>(conn: &mut Connection<S>, meta: &MetaRow) -> Result<(), Error>
+    ensures does { conn.old.schema ≡ registry → conn.old.in_transaction ≡ true → Changes metas registry (λ xs. insert_by metas.key xs meta.now) (state S.Store conn.old) (state S.Store conn.new) result }
+    ensures steady { IsSteady (state S.Store conn.old) (state S.Store conn.new) }
+{
+    write(conn, PUT, &meta.params())
+}

@@ -1,0 +1,112 @@
+//! The schema: ten tables with their indexes, made in a database that was never used, and its number.
+ghost use Rattle.std.specs.Prelude.{◌≡◌, true, OnOk, IsTrue};
+ghost use Rattle.rows.specs.Calls.{IsSteady};
+ghost use Rattle.rows.specs.Columns.{no_schema};
+ghost use Rattle.rows.specs.Definitions.{Makes};
+ghost use Rattle.sqlite.specs.Held.{state};
+ghost use Rattle.sqlite.specs.State.{HasCleanDisk};
+ghost use Rattle.tables.specs.Content.{IsContent, no_content};
+ghost use Rattle.tables.specs.Tables.{registry};
+
+use rows::define;
+use sqlite::{Alter, Connection, Error};
+
+const META: &str =
+    "CREATE TABLE meta (id INTEGER PRIMARY KEY, version INTEGER NOT NULL, clock INTEGER NOT NULL, next_row INTEGER NOT NULL, zone TEXT NOT NULL, reserved TEXT NOT NULL, days_add INTEGER NOT NULL, days_auto_renew INTEGER NOT NULL, days_renew INTEGER NOT NULL, days_transfer INTEGER NOT NULL, days_redemption INTEGER NOT NULL, days_restore INTEGER NOT NULL, days_pending_delete INTEGER NOT NULL, days_answer INTEGER NOT NULL, days_lock INTEGER NOT NULL, price_create INTEGER NOT NULL, price_renew INTEGER NOT NULL, price_transfer INTEGER NOT NULL) STRICT";
+
+const ACCOUNT: &str =
+    "CREATE TABLE account (id INTEGER PRIMARY KEY, ident TEXT NOT NULL UNIQUE, commands INTEGER NOT NULL, messages INTEGER NOT NULL, serial INTEGER NOT NULL, balance BLOB NOT NULL, held INTEGER NOT NULL) STRICT";
+
+const CONTACT: &str =
+    "CREATE TABLE contact (id INTEGER PRIMARY KEY, name TEXT NOT NULL UNIQUE, creator INTEGER NOT NULL, serial INTEGER NOT NULL, sponsor INTEGER NOT NULL REFERENCES account (id), created INTEGER NOT NULL, transferred INTEGER, updated INTEGER, statuses TEXT NOT NULL, secret TEXT NOT NULL, postal_name TEXT NOT NULL, org TEXT, street TEXT NOT NULL, city TEXT NOT NULL, state TEXT, postal_code TEXT, country TEXT NOT NULL, voice TEXT, mail TEXT NOT NULL, due INTEGER) STRICT";
+
+const DOMAIN: &str =
+    "CREATE TABLE domain (id INTEGER PRIMARY KEY, name TEXT NOT NULL UNIQUE, creator INTEGER NOT NULL, serial INTEGER NOT NULL, sponsor INTEGER NOT NULL REFERENCES account (id), created INTEGER NOT NULL, years INTEGER NOT NULL, transferred INTEGER, updated INTEGER, statuses TEXT NOT NULL, secret TEXT NOT NULL, registrant INTEGER NOT NULL REFERENCES contact (id), deleted INTEGER, restore_requested INTEGER, due INTEGER NOT NULL) STRICT";
+
+const HOST: &str =
+    "CREATE TABLE host (id INTEGER PRIMARY KEY, name TEXT NOT NULL UNIQUE, creator INTEGER NOT NULL, serial INTEGER NOT NULL, superordinate INTEGER REFERENCES domain (id), external_sponsor INTEGER REFERENCES account (id), sponsor INTEGER NOT NULL REFERENCES account (id), created INTEGER NOT NULL, updated INTEGER, statuses TEXT NOT NULL) STRICT";
+
+const ADDRESS: &str =
+    "CREATE TABLE address (id INTEGER PRIMARY KEY, host INTEGER NOT NULL REFERENCES host (id), address TEXT NOT NULL) STRICT";
+
+const LINK: &str =
+    "CREATE TABLE link (id INTEGER PRIMARY KEY, domain INTEGER NOT NULL REFERENCES domain (id), role INTEGER NOT NULL, contact INTEGER REFERENCES contact (id), host INTEGER REFERENCES host (id)) STRICT";
+
+const LINE: &str =
+    "CREATE TABLE line (id INTEGER PRIMARY KEY, account INTEGER NOT NULL REFERENCES account (id), kind INTEGER NOT NULL, creator INTEGER, serial INTEGER, recorded INTEGER NOT NULL, years INTEGER NOT NULL, cents INTEGER NOT NULL, started INTEGER, refunded INTEGER) STRICT";
+
+const MESSAGE: &str =
+    "CREATE TABLE message (id INTEGER PRIMARY KEY, account INTEGER NOT NULL REFERENCES account (id), moment INTEGER NOT NULL, class INTEGER NOT NULL, number INTEGER NOT NULL, name TEXT NOT NULL, subject INTEGER NOT NULL, notice INTEGER NOT NULL) STRICT";
+
+const TRANSFER: &str =
+    "CREATE TABLE transfer (id INTEGER PRIMARY KEY, contact INTEGER REFERENCES contact (id), domain INTEGER REFERENCES domain (id), requester INTEGER NOT NULL REFERENCES account (id), losing INTEGER NOT NULL REFERENCES account (id), requested INTEGER NOT NULL, ac_date INTEGER NOT NULL, state INTEGER NOT NULL, due INTEGER) STRICT";
+
+const CONTACT_DUE: &str = "CREATE INDEX contact_due ON contact (due)";
+
+const CONTACT_SPONSOR_DUE: &str = "CREATE INDEX contact_sponsor_due ON contact (sponsor, due)";
+
+const DOMAIN_REGISTRANT: &str = "CREATE INDEX domain_registrant ON domain (registrant)";
+
+const DOMAIN_DUE: &str = "CREATE INDEX domain_due ON domain (due)";
+
+const DOMAIN_SPONSOR_DUE: &str = "CREATE INDEX domain_sponsor_due ON domain (sponsor, due)";
+
+const HOST_SUPERORDINATE: &str = "CREATE INDEX host_superordinate ON host (superordinate)";
+
+const ADDRESS_HOST: &str = "CREATE INDEX address_host ON address (host)";
+
+const LINK_DOMAIN: &str = "CREATE INDEX link_domain ON link (domain)";
+
+const LINK_CONTACT: &str = "CREATE INDEX link_contact ON link (contact)";
+
+const LINK_HOST: &str = "CREATE INDEX link_host ON link (host)";
+
+const LINE_OBJECT: &str = "CREATE INDEX line_object ON line (account, creator, serial)";
+
+const MESSAGE_QUEUE: &str =
+    "CREATE INDEX message_queue ON message (account, moment, class, number, name, subject, notice)";
+
+const TRANSFER_CONTACT: &str = "CREATE INDEX transfer_contact ON transfer (contact)";
+
+const TRANSFER_DOMAIN: &str = "CREATE INDEX transfer_domain ON transfer (domain)";
+
+const TRANSFER_REQUESTER_DUE: &str =
+    "CREATE INDEX transfer_requester_due ON transfer (requester, due)";
+
+/// Makes the tables and their indexes, in a transaction on a database that was never used.
+pub fn create<S: Alter>(conn: &mut Connection<S>) -> Result<(), Error>
+    ensures makes { conn.old.schema ≡ no_schema → IsTrue (state S.Store conn.old).is_open → conn.old.in_transaction ≡ true → HasCleanDisk (state S.Store conn.new) → Makes registry (state S.Store conn.old) (state S.Store conn.new) result }
+    ensures empty { conn.old.schema ≡ no_schema → IsTrue (state S.Store conn.old).is_open → conn.old.in_transaction ≡ true → HasCleanDisk (state S.Store conn.new) → OnOk result (IsContent no_content (state S.Store conn.new).now) }
+    ensures steady { IsSteady (state S.Store conn.old) (state S.Store conn.new) }
+{
+    define(
+        conn,
+        &[
+            META,
+            ACCOUNT,
+            CONTACT,
+            DOMAIN,
+            HOST,
+            ADDRESS,
+            LINK,
+            LINE,
+            MESSAGE,
+            TRANSFER,
+            CONTACT_DUE,
+            CONTACT_SPONSOR_DUE,
+            DOMAIN_REGISTRANT,
+            DOMAIN_DUE,
+            DOMAIN_SPONSOR_DUE,
+            HOST_SUPERORDINATE,
+            ADDRESS_HOST,
+            LINK_DOMAIN,
+            LINK_CONTACT,
+            LINK_HOST,
+            LINE_OBJECT,
+            MESSAGE_QUEUE,
+            TRANSFER_CONTACT,
+            TRANSFER_DOMAIN,
+            TRANSFER_REQUESTER_DUE,
+        ],
+    )
+}

@@ -1,0 +1,156 @@
+//! The last transfer of each object that had one.
+ghost use Rattle.std.specs.Prelude.{◌≡◌, true, filter};
+ghost use Rattle.sqlite.specs.Held.{state};
+ghost use Rattle.sqlite_keyed.specs.Keyed.{insert_by};
+ghost use Rattle.sqlite_keyed.specs.Lists.{delete_where};
+ghost use Rattle.rows.specs.Calls.{Changes, Finds, IsSteady};
+ghost use Rattle.tables.specs.Tables.{registry};
+ghost use Rattle.tables.specs.Transfer.{Transfer, transfers, transfers_by_due, transfer_of_requester_within_due, transfer_with_contact, transfer_with_domain, transfer_with_id};
+
+use rows::{Number, Record, maybe_number, select, write};
+use sqlite::types::{ToSql, ValueRef};
+use sqlite::{Alter, Connection, Error, Row, params};
+use std::alloc::Global;
+use std::marker::Model;
+
+const BY_CONTACT: &str =
+    "SELECT id, contact, domain, requester, losing, requested, ac_date, state, due FROM transfer WHERE contact = ?1 ORDER BY id";
+
+const BY_DOMAIN: &str =
+    "SELECT id, contact, domain, requester, losing, requested, ac_date, state, due FROM transfer WHERE domain = ?1 ORDER BY id";
+
+const BY_REQUESTER_UNTIL_DUE: &str =
+    "SELECT id, contact, domain, requester, losing, requested, ac_date, state, due FROM transfer WHERE requester = ?1 AND due >= 0 AND due <= ?2 ORDER BY due, id";
+
+const PUT: &str =
+    "INSERT INTO transfer (id, contact, domain, requester, losing, requested, ac_date, state, due) VALUES (?1, ?2, ?3, ?4, ?5, ?6, ?7, ?8, ?9) ON CONFLICT (id) DO UPDATE SET contact = excluded.contact, domain = excluded.domain, requester = excluded.requester, losing = excluded.losing, requested = excluded.requested, ac_date = excluded.ac_date, state = excluded.state, due = excluded.due";
+
+const REMOVE_ID: &str = "DELETE FROM transfer WHERE id = ?1";
+
+/// A row of the table `transfer`.
+#[derive(Drop)]
+pub struct TransferRow {
+    pub id: i64,
+    pub contact: Option<i64>,
+    pub domain: Option<i64>,
+    pub requester: i64,
+    pub losing: i64,
+    pub requested: i64,
+    pub ac_date: i64,
+    pub state: i64,
+    pub due: Option<i64>,
+}
+
+impl Model for TransferRow {
+    ghost use Rattle.tables.specs.Transfer.{Transfer};
+
+    ghost Value = { Transfer };
+
+    ghost view = { λ x. record {
+      id = x.id;
+      contact = x.contact;
+      domain = x.domain;
+      requester = x.requester;
+      losing = x.losing;
+      requested = x.requested;
+      ac_date = x.ac_date;
+      state = x.state;
+      due = x.due;
+    } };
+}
+
+impl TransferRow {
+    ghost use Rattle.sqlite.specs.Values.{bound};
+    ghost use Rattle.tables.specs.Transfer.{transfer_shown};
+
+    /// The parameters of the statement that puts it.
+    fn params(&self) -> [ValueRef<'_>; 9]
+        ensures { bound result ≡ transfer_shown self.now }
+    {
+        [
+            self.id.to_sql(),
+            maybe_number(self.contact),
+            maybe_number(self.domain),
+            self.requester.to_sql(),
+            self.losing.to_sql(),
+            self.requested.to_sql(),
+            self.ac_date.to_sql(),
+            self.state.to_sql(),
+            maybe_number(self.due),
+        ]
+    }
+}
+
+impl Record for TransferRow {
+    ghost use Rattle.tables.specs.Transfer.{transfer_shown};
+
+    ghost shown = { transfer_shown };
+
+    fn from_row(row: &Row) -> Result<TransferRow, Error> {
+        Ok(TransferRow {
+            id: row.get(0)?,
+            contact: row.get(1)?,
+            domain: row.get(2)?,
+            requester: row.get(3)?,
+            losing: row.get(4)?,
+            requested: row.get(5)?,
+            ac_date: row.get(6)?,
+            state: row.get(7)?,
+            due: row.get(8)?,
+        })
+    }
+}
+
+/// Those whose `contact` is this.
+pub fn transfers_by_contact<S: Alter>(
+    conn: &mut Connection<S>,
+    alloc: Global,
+    contact: Number,
+) -> Result<Vec<TransferRow>, Error>
+    ensures does { conn.old.schema ≡ registry → Finds transfers (filter (transfer_with_contact contact)) (state S.Store conn.old) (state S.Store conn.new) result }
+    ensures steady { IsSteady (state S.Store conn.old) (state S.Store conn.new) }
+{
+    select(conn, alloc, BY_CONTACT, params![contact])
+}
+
+/// Those whose `domain` is this.
+pub fn transfers_by_domain<S: Alter>(
+    conn: &mut Connection<S>,
+    alloc: Global,
+    domain: Number,
+) -> Result<Vec<TransferRow>, Error>
+    ensures does { conn.old.schema ≡ registry → Finds transfers (filter (transfer_with_domain domain)) (state S.Store conn.old) (state S.Store conn.new) result }
+    ensures steady { IsSteady (state S.Store conn.old) (state S.Store conn.new) }
+{
+    select(conn, alloc, BY_DOMAIN, params![domain])
+}
+
+/// Those that this registrar asked for whose `due` is this moment or one before, in the order in
+/// which they are due.
+pub fn transfers_by_requester_until_due<S: Alter>(
+    conn: &mut Connection<S>,
+    alloc: Global,
+    requester: Number,
+    due: Number,
+) -> Result<Vec<TransferRow>, Error>
+    ensures does { conn.old.schema ≡ registry → Finds transfers (λ xs. transfers_by_due (filter (transfer_of_requester_within_due requester due) xs)) (state S.Store conn.old) (state S.Store conn.new) result }
+    ensures steady { IsSteady (state S.Store conn.old) (state S.Store conn.new) }
+{
+    select(conn, alloc, BY_REQUESTER_UNTIL_DUE, params![requester, due])
+}
+
+/// Puts a row in the place of the one with its number, or beside all others.
+pub fn put_transfer<S: Alter>(conn: &mut Connection<S>, transfer: &TransferRow) -> Result<(), Error>
+    ensures does { conn.old.schema ≡ registry → conn.old.in_transaction ≡ true → Changes transfers registry (λ xs. insert_by transfers.key xs transfer.now) (state S.Store conn.old) (state S.Store conn.new) result }
+    ensures steady { IsSteady (state S.Store conn.old) (state S.Store conn.new) }
+{
+    write(conn, PUT, &transfer.params())
+}
+
+/// Removes those whose `id` is this.
+pub fn remove_transfers_by_id<S: Alter>(conn: &mut Connection<S>, id: Number) -> Result<(), Error>
+    ensures does { conn.old.schema ≡ registry → conn.old.in_transaction ≡ true → Changes transfers registry (delete_where (transfer_with_id id)) (state S.Store conn.old) (state S.Store conn.new) result }
+    ensures steady { IsSteady (state S.Store conn.old) (state S.Store conn.new) }
+{
+    write(conn, REMOVE_ID, params![id])
+}
