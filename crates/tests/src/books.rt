@@ -21,6 +21,7 @@ fn terms_of(alloc: Global, text: &str) -> Result<Terms, Fail> {
 
 /// Puts terms down in a book.
 fn put_down(book: &mut PlainBook, terms: Terms) -> Result<(), Fail>
+    requires { (plain_state book.old).is_open ≡ false }
     ensures { OnOk result ((plain_state book.new).is_open ≡ false) }
 {
     book.begin()?;
