@@ -1,1 +1,5 @@
 pub mod CodeLemmas
+pub mod ReadLemmas
+pub mod LineLemmas
+pub mod MessageLemmas
+pub mod TransferLemmas
