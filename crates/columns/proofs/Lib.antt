@@ -3,3 +3,4 @@ pub mod ReadLemmas
 pub mod LineLemmas
 pub mod MessageLemmas
 pub mod TransferLemmas
+pub mod TextLemmas

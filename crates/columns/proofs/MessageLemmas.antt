@@ -1,8 +1,7 @@
--- A message is read from its row, and from no other.
-use Rattle.std.proofs.Common.{◌≡◌, ℕ, ℤ, pos, Bool, true, false, cond, ◌&&◌, List, Option, Some, None, IfSome, refl, sym, ap, ap₂, ◌∙◌}
+-- What is read of a row is the message that it is the row of.
+use Rattle.std.proofs.Common.{◌≡◌, ℕ, ℤ, pos, Bool, true, false, cond, ◌&&◌, Option, Some, None, IfSome, refl, sym, ap, ◌∙◌}
 use Rattle.std.proofs.lemmas.Bool.Decides.{Decides-int_eq}
 use Rattle.std.specs.Ordering.{int_eq}
-use Rattle.calendar.specs.Moment.{IsMoment}
 use Rattle.accounts.specs.declared.message.CommandNotice.{CommandNotice}
 use Rattle.accounts.specs.declared.message.CommandNotice.TheVariants as commands
 use Rattle.accounts.specs.declared.message.LapseNotice.{LapseNotice}
@@ -16,7 +15,7 @@ use Rattle.columns.specs.declared.origin.OriginColumns.{OriginColumns}
 use Rattle.columns.specs.Codes.{subject_column, with_code}
 use Rattle.columns.specs.Numbers.{exact_column, moment_column}
 use Rattle.columns.specs.Steps.{◌>>=◌}
-use Rattle.columns.specs.Messages.{all_command_notices, all_lapse_notices, command_columns, command_made, command_notice_column, lapse_made, lapse_notice_column, message_made, message_row, origin_columns, origin_made}
+use Rattle.columns.specs.Messages.{all_command_notices, all_lapse_notices, command_made, command_notice_column, lapse_made, lapse_notice_column, message_made, message_row, origin_columns, origin_made}
 use Rattle.columns.proofs.CodeLemmas.{has_code}
 
 -- ---- codes
@@ -43,34 +42,6 @@ with_command_notice_column c n e = ap (with_code command_notice_column all_comma
 pub ruleset command_notices_by_code = (has_code, with_command_notice_column)
 
 -- ---- origins
-
-columns_or : OriginColumns → Option OriginColumns → OriginColumns
-columns_or c None = c
-columns_or c (Some other) = other
-
--- what is read of each column
-pub record AreRead (c : OriginColumns) (letter : Option LapseNotice) (number : Option ℕ) (notice : Option CommandNotice) : Type 0 where
-  pub letter_only : (x : LapseNotice) → c.number ≡ lapse_notice_column x → letter ≡ Some x
-  pub number_only : (x : ℕ) → exact_column x ≡ Some c.number → number ≡ Some x
-  pub notice_only : (x : CommandNotice) → c.notice ≡ command_notice_column x → notice ≡ Some x
-
--- a command's columns, where its number's is n
-command_back : (n : Option ℤ) (x : ℕ) (k : CommandNotice) (c : OriginColumns) (letter : Option LapseNotice) (number : Option ℕ) (notice : Option CommandNotice) → AreRead c letter number notice
-    → exact_column x ≡ n → (n >>= (λ z. Some (record { class = pos 1; number = z; notice = command_notice_column k }))) ≡ Some c → origin_made c letter number notice ≡ Some (Command x k)
-unfolding columns_or
-command_back None x k c letter number notice read is e = cc
-command_back (Some z) x k c letter number notice read is e =
-    let same : c ≡ record { class = pos 1; number = z; notice = command_notice_column k } = sym (ap (columns_or c) e) in
-    let its_number : Some z ≡ Some c.number = sym (ap (λ (d : OriginColumns). Some d.number) same) in
-    λ i. origin_made (same i) letter (read.number_only x (is ∙ its_number) i) (read.notice_only k (ap (λ (d : OriginColumns). d.notice) same) i)
-
-pub origin_back : (c : OriginColumns) (letter : Option LapseNotice) (number : Option ℕ) (notice : Option CommandNotice) → AreRead c letter number notice
-    → (o : Origin) → origin_columns o ≡ Some c → origin_made c letter number notice ≡ Some o
-unfolding columns_or
-origin_back c letter number notice read (Lapse l) e =
-    let same : c ≡ record { class = pos 0; number = lapse_notice_column l; notice = pos 0 } = sym (ap (columns_or c) e) in
-    λ i. origin_made (same i) (read.letter_only l (ap (λ (d : OriginColumns). d.number) same) i) number notice
-origin_back c letter number notice read (Command x k) e = command_back (exact_column x) x k c letter number notice read refl e
 
 lapse_found : (c : OriginColumns) → c.class ≡ pos 0 → c.notice ≡ pos 0 → (letter : Option LapseNotice) → IfSome letter (λ x. c.number ≡ lapse_notice_column x)
     → IfSome (lapse_made letter) (λ o. origin_columns o ≡ Some c)
@@ -114,37 +85,6 @@ origin_in row = record { class = row.class; number = row.number; notice = row.no
 
 abbrev row_with : table.Message → Message → OriginColumns → table.Message
 row_with row m o = record { id = row.id; account = row.account; moment = moment_column m.moment; class = o.class; number = o.number; name = m.name; subject = subject_column m.subject; notice = o.notice }
-
-row_or : table.Message → Option table.Message → table.Message
-row_or row None = row
-row_or row (Some other) = other
-
--- each column of the row is the message's
-pub record HasColumns (origin : Option OriginColumns) (m : Message) (row : table.Message) : Type 0 where
-  pub moment : row.moment ≡ moment_column m.moment
-  pub origin_is : origin ≡ Some (origin_in row)
-  pub subject : row.subject ≡ subject_column m.subject
-  pub name : row.name ≡ m.name
-
-has_columns : (origin : Option OriginColumns) (m : Message) (row : table.Message) → (origin >>= (λ o. Some (row_with row m o))) ≡ Some row → HasColumns origin m row
-unfolding row_or
-has_columns None m row e = cc
-has_columns (Some o) m row e =
-    let same : row_with row m o ≡ row = ap (row_or row) e in
-    record {
-      moment = sym (ap (λ (r : table.Message). r.moment) same);
-      origin_is = λ i. Some (origin_in (same i));
-      subject = sym (ap (λ (r : table.Message). r.subject) same);
-      name = sym (ap (λ (r : table.Message). r.name) same)
-    }
-
-pub message_back : (row : table.Message) (moment : Option ℕ) → ((x : ℕ) → IsMoment x → row.moment ≡ moment_column x → moment ≡ Some x)
-    → (origin : Option Origin) → ((x : Origin) → origin_columns x ≡ Some (origin_in row) → origin ≡ Some x)
-    → (subject : Option Subject) → ((x : Subject) → row.subject ≡ subject_column x → subject ≡ Some x)
-    → (m : Message) → IsMoment m.moment → message_row row.id row.account m ≡ Some row → message_made moment origin subject row.name ≡ Some m
-message_back row moment moment_only origin origin_only subject subject_only m is e =
-    let has = has_columns (origin_columns m.origin) m row e in
-    λ i. message_made (moment_only m.moment is has.moment i) (origin_only m.origin has.origin_is i) (subject_only m.subject has.subject i) (has.name i)
 
 pub message_found : (row : table.Message) (moment : Option ℕ) → IfSome moment (λ x. row.moment ≡ moment_column x)
     → (origin : Option Origin) → IfSome origin (λ x. origin_columns x ≡ Some (origin_in row))

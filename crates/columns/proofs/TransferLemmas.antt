@@ -1,44 +1,19 @@
--- A transfer is read from its row, and from no other.
-use Rattle.std.proofs.Common.{◌≡◌, ℕ, ℤ, Bool, true, false, cond, Option, Some, None, IfSome, refl, sym, ap, ◌∙◌}
+-- What is read of a row is the transfer that it is the row of.
+use Rattle.std.proofs.Common.{◌≡◌, ℕ, ℤ, Bool, true, false, cond, Option, Some, None, IfSome, refl, sym, ap}
 use Rattle.std.proofs.lemmas.Bool.{false≢true}
 use Rattle.std.proofs.lemmas.Bool.Decides.{Decides-int_eq}
-use Rattle.calendar.specs.Moment.{IsMoment}
 use Rattle.objects.specs.declared.transfer.Transfer.{Transfer}
 use Rattle.objects.specs.declared.transfer.TransferState.{TransferState}
 use Rattle.tables.specs.Transfer as table
 use Rattle.columns.specs.Codes.{state_column}
-use Rattle.columns.specs.Numbers.{IsPlace, moment_column, registrar_column}
-use Rattle.columns.specs.Transfers.{IsTransfer, due_column, is_same, transfer_made, transfer_row, with_due}
-
-same_to_itself : (a : Option ℤ) → is_same a a ≡ true
-same_to_itself None = refl
-same_to_itself (Some a) = (Decides-int_eq a a).1 refl
+use Rattle.columns.specs.Numbers.{moment_column, registrar_column}
+use Rattle.columns.specs.Transfers.{due_column, is_same, transfer_made, transfer_row, with_due}
 
 same_is_equal : (a b : Option ℤ) → is_same a b ≡ true → a ≡ b
 same_is_equal None None e = refl
 same_is_equal (Some a) (Some b) e = ap Some ((Decides-int_eq a b).0 e)
 same_is_equal None (Some b) e = absurd (false≢true e)
 same_is_equal (Some a) None e = absurd (false≢true e)
-
--- what is read of each column
-pub record AreRead (row : table.Transfer) (requester losing requested ac_date : Option ℕ) (state : Option TransferState) : Type 0 where
-  pub requester_only : (x : ℕ) → IsPlace x → row.requester ≡ registrar_column x → requester ≡ Some x
-  pub losing_only : (x : ℕ) → IsPlace x → row.losing ≡ registrar_column x → losing ≡ Some x
-  pub requested_only : (x : ℕ) → IsMoment x → row.requested ≡ moment_column x → requested ≡ Some x
-  pub ac_date_only : (x : ℕ) → IsMoment x → row.ac_date ≡ moment_column x → ac_date ≡ Some x
-  pub state_only : (x : TransferState) → row.state ≡ state_column x → state ≡ Some x
-
-pub transfer_back : (row : table.Transfer) (requester losing requested ac_date : Option ℕ) (state : Option TransferState) → AreRead row requester losing requested ac_date state
-    → (t : Transfer) → IsTransfer t → transfer_row row.id row.contact row.domain t ≡ row → with_due (transfer_made requester losing requested ac_date state) row.due ≡ Some t
-transfer_back row requester losing requested ac_date state read t is e =
-    let back : row ≡ transfer_row row.id row.contact row.domain t = sym e in
-    (λ i. with_due (transfer_made
-      (read.requester_only t.requester is.requester (ap (λ (r : table.Transfer). r.requester) back) i)
-      (read.losing_only t.losing_registrar is.losing_registrar (ap (λ (r : table.Transfer). r.losing) back) i)
-      (read.requested_only t.requested is.requested (ap (λ (r : table.Transfer). r.requested) back) i)
-      (read.ac_date_only t.ac_date is.ac_date (ap (λ (r : table.Transfer). r.ac_date) back) i)
-      (read.state_only t.state (ap (λ (r : table.Transfer). r.state) back) i)) ((back i).due))
-    ∙ ap (λ (b : Bool). cond b (Some t) None) (same_to_itself (due_column t))
 
 kept : (P : Transfer → Type 0) (t : Transfer) (b : Bool) → (b ≡ true → P t) → IfSome (cond b (Some t) None) P
 kept P t true is = is refl

@@ -4,3 +4,4 @@ pub mod Codes
 pub mod Lines
 pub mod Messages
 pub mod Transfers
+pub mod Texts

@@ -10,6 +10,8 @@ mod message;
 mod moment;
 mod number;
 mod origin;
+mod statuses;
+mod street;
 mod transfer;
 
 pub use code::{
@@ -26,4 +28,6 @@ pub use number::{
 pub use origin::{
     command_notice_column, command_notice_of_column, lapse_notice_column, lapse_notice_of_column,
 };
+pub use statuses::{statuses_column, statuses_of_column};
+pub use street::{street_column, street_of_column};
 pub use transfer::{transfer_of_row, transfer_row};
