@@ -41,7 +41,7 @@ has_columns (Some d) (Some c) line row e =
       years = sym (ap (λ (r : table.Line). r.years) same);
       cents_are = λ i. Some ((same i).cents);
       started = sym (ap (λ (r : table.Line). r.started) same);
-      refunded = sym (ap (λ (r : table.Line). r.refunded) same)
+      refunded = sym (ap (λ (r : table.Line). r.refunded) same);
     }
 
 pub columns_in : (line : Line) (row : table.Line) → line_row row.id row.account line ≡ Some row → HasColumns (domain_columns line.roid) (exact_column line.cents) line row
@@ -66,13 +66,13 @@ pub line_back : (row : table.Line) (kind : Option LineKind) (roid : Option (Opti
 line_back row kind roid recorded years cents started refunded read line is e =
     let has = columns_in line row e in
     λ i. line_made
-      (read.kind_only line.kind has.kind i)
-      (read.roid_only line.roid is.roid has.domain_is i)
-      (read.recorded_only line.recorded is.recorded has.recorded i)
-      (read.years_only line.years is.years has.years i)
-      (read.cents_only line.cents has.cents_are i)
-      (read.started_only line.started is.started has.started i)
-      (read.refunded_only line.refunded is.refunded has.refunded i)
+    (read.kind_only line.kind has.kind i)
+    (read.roid_only line.roid is.roid has.domain_is i)
+    (read.recorded_only line.recorded is.recorded has.recorded i)
+    (read.years_only line.years is.years has.years i)
+    (read.cents_only line.cents has.cents_are i)
+    (read.started_only line.started is.started has.started i)
+    (read.refunded_only line.refunded is.refunded has.refunded i)
 
 row_is : (row : table.Line) (line : Line) → HasColumns (domain_columns line.roid) (exact_column line.cents) line row → line_row row.id row.account line ≡ Some row
 row_is row line has =
@@ -96,4 +96,4 @@ line_found row (Some kind) k (Some roid) r (Some recorded) m (Some years) y (Som
 line_found row (Some kind) k (Some roid) r (Some recorded) m (Some years) y (Some cents) c (Some started) s None b = tt
 line_found row (Some kind) k (Some roid) r (Some recorded) m (Some years) y (Some cents) c (Some started) s (Some refunded) b =
     row_is row (record { kind = kind; roid = roid; recorded = recorded; years = years; cents = cents; started = started; refunded = refunded })
-      (record { kind = k; domain_is = r; recorded = m; years = y; cents_are = c; started = s; refunded = b })
+    (record { kind = k; domain_is = r; recorded = m; years = y; cents_are = c; started = s; refunded = b })

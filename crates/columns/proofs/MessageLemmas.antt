@@ -74,9 +74,9 @@ pub origin_found : (c : OriginColumns) (letter : Option LapseNotice) → IfSome 
     → IfSome (origin_made c letter number notice) (λ o. origin_columns o ≡ Some c)
 origin_found c letter l number n notice k =
     at_tests (λ o. origin_columns o ≡ Some c) (lapse_made letter) (command_made number notice) (int_eq c.class (pos 0) && int_eq c.notice (pos 0)) (int_eq c.class (pos 1))
-      (λ e. let both = both_true (int_eq c.class (pos 0)) (int_eq c.notice (pos 0)) e in
-        lapse_found c ((Decides-int_eq c.class (pos 0)).0 both.0) ((Decides-int_eq c.notice (pos 0)).0 both.1) letter l)
-      (λ e. command_found c ((Decides-int_eq c.class (pos 1)).0 e) number n notice k)
+    (λ e. let both = both_true (int_eq c.class (pos 0)) (int_eq c.notice (pos 0)) e in
+    lapse_found c ((Decides-int_eq c.class (pos 0)).0 both.0) ((Decides-int_eq c.notice (pos 0)).0 both.1) letter l)
+    (λ e. command_found c ((Decides-int_eq c.class (pos 1)).0 e) number n notice k)
 
 -- ---- messages
 

@@ -1,11 +1,12 @@
 -- Lists are read from their texts.
-use Rattle.std.proofs.Common.{◌≡◌, ℕ, eqb, Bool, true, false, cond, ◌||◌, List, [], ◌∷◌, ◌++◌, map, fold, find, length, Option, Some, None, IfSome, Result, Ok, Err, IfOk, refl, sym, ap, ◌∙◌, append_assoc}
+use Rattle.std.proofs.Common.{◌≡◌, ℕ, eqb, Bool, true, false, cond, ◌||◌, List, [], ◌∷◌, ◌++◌, map, fold, find, length, get_or, ◌<◌, Bor, subst, ap₂, arith, Option, Some, None, IfSome, Result, Ok, Err, IfOk, refl, sym, ap, ◌∙◌, append_assoc}
 use Rattle.std.proofs.lemmas.Bool.{false≢true}
 use Rattle.std.proofs.lemmas.Bool.Decides.{Decides-eqb}
 use Rattle.std.proofs.lemmas.Slice.Eq.{bytes_eq-Decides}
 use Rattle.std.specs.Str.{bytes_eq}
 use Rattle.std.specs.Prelude.{unwrap_or}
 use Rattle.std.specs.List.{join_with_byte, list_any, onto_first, slice_split}
+use Rattle.std.proofs.lemmas.List.{get_or-map, length-map, map-append}
 use Rattle.std.proofs.lemmas.List.Splits.{join_with_byte-slice_split}
 use Rattle.objects.specs.StatusTexts.{status_named, status_text}
 use Rattle.objects.specs.declared.status.Status.{Status}
@@ -210,20 +211,37 @@ empty_only [] (x ∷ xs) short e =
     let head : [] ≡ status_text x = ap first_of (statuses_split [] x xs e) in
     let none : None ≡ Some x = ap status_named head ∙ status_back x in
     cc
-empty_only (b ∷ bs) (x ∷ xs) short e = cc
+empty_only (b ∷ bs) (x ∷ xs) short e = let zero : length (b ∷ bs) ≡ 0 = (Decides-eqb (length (b ∷ bs)) 0).0 short in absurd (omega arith)
 
-read_found : (text : List ℕ) (pieces : List (List ℕ)) → pieces ≡ slice_split (is 32) text → (read : Option (List Status)) → IfSome read (λ xs. pieces ≡ map status_text xs) → IfSome read (λ xs. text ≡ statuses_column xs)
-read_found text pieces cut None h = tt
-read_found text pieces cut (Some xs) h = sym (join_with_byte-slice_split 32 text) ∙ ap (join_with_byte 32) (sym cut ∙ h)
+read_found : (text : List ℕ) (read : Option (List Status)) → IfSome read (λ xs. slice_split (is 32) text ≡ map status_text xs) → IfSome read (λ xs. text ≡ statuses_column xs)
+read_found text None h = tt
+read_found text (Some xs) h = sym (join_with_byte-slice_split 32 text) ∙ ap (join_with_byte 32) h
 
-pub named_found : {E : Type 0} (text : List ℕ) (pieces : List (List ℕ)) → pieces ≡ slice_split (λ b. eqb b 32) text → (named : Result (Option (List Status)) E) → IfOk named (λ read. IfSome read (λ xs. pieces ≡ map status_text xs)) → IfOk named (λ read. IfSome read (λ xs. text ≡ statuses_column xs))
-named_found text pieces cut (Ok read) h = read_found text pieces cut read h
-named_found text pieces cut (Err failed) h = tt
+pub named_found : {E : Type 0} (text : List ℕ) (named : Result (Option (List Status)) E) → IfOk named (λ read. IfSome read (λ xs. slice_split (λ b. eqb b 32) text ≡ map status_text xs)) → IfOk named (λ read. IfSome read (λ xs. text ≡ statuses_column xs))
+named_found text (Ok read) h = read_found text read h
+named_found text (Err failed) h = tt
 
-read_only : (text : List ℕ) (pieces : List (List ℕ)) → eqb (length text) 0 ≡ false → pieces ≡ slice_split (is 32) text → (read : Option (List Status)) → ((xs : List Status) → pieces ≡ map status_text xs → read ≡ Some xs) → (xs : List Status) → text ≡ statuses_column xs → read ≡ Some xs
-read_only text pieces long cut read only [] e = let short : true ≡ false = ap (λ (t : List ℕ). eqb (length t) 0) (sym e) ∙ long in cc
-read_only text pieces long cut read only (x ∷ xs) e = only (x ∷ xs) (cut ∙ statuses_split text x xs e)
+read_only : (text : List ℕ) → eqb (length text) 0 ≡ false → (read : Option (List Status)) → ((xs : List Status) → slice_split (is 32) text ≡ map status_text xs → read ≡ Some xs) → (xs : List Status) → text ≡ statuses_column xs → read ≡ Some xs
+read_only text long read only [] e = let short : true ≡ false = ap (λ (t : List ℕ). eqb (length t) 0) (sym e) ∙ long in cc
+read_only text long read only (x ∷ xs) e = only (x ∷ xs) (statuses_split text x xs e)
 
-pub named_only : {E : Type 0} (text : List ℕ) (pieces : List (List ℕ)) → eqb (length text) 0 ≡ false → pieces ≡ slice_split (λ b. eqb b 32) text → (named : Result (Option (List Status)) E) → IfOk named (λ read. (xs : List Status) → pieces ≡ map status_text xs → read ≡ Some xs) → IfOk named (λ read. (xs : List Status) → text ≡ statuses_column xs → read ≡ Some xs)
-named_only text pieces long cut (Ok read) h = read_only text pieces long cut read h
-named_only text pieces long cut (Err failed) h = tt
+pub named_only : {E : Type 0} (text : List ℕ) → eqb (length text) 0 ≡ false → (named : Result (Option (List Status)) E) → IfOk named (λ read. (xs : List Status) → slice_split (λ b. eqb b 32) text ≡ map status_text xs → read ≡ Some xs) → IfOk named (λ read. (xs : List Status) → text ≡ statuses_column xs → read ≡ Some xs)
+named_only text long (Ok read) h = read_only text long read h
+named_only text long (Err failed) h = tt
+
+pub status_word : (word : List ℕ) (s : Status) → Some s ≡ status_named word → word ≡ status_text s
+status_word word s e = let P : Option Status → Type 0 = λ read. IfSome read (λ s. word ≡ status_text s) in subst P (sym e) (status_has word)
+
+-- the texts so far, and one more
+pub named_more : (words : List (Bor (List ℕ))) (word : Bor (List ℕ)) (statuses : List Status) (s : Status) → map status_text statuses ≡ map (λ w. w.now) words → Some s ≡ status_named word.now → map status_text (statuses ++ s ∷ []) ≡ map (λ w. w.now) (words ++ word ∷ [])
+named_more words word statuses s e named =
+    map-append status_text statuses (s ∷ []) ∙ ap₂ ◌++◌ e (ap (λ t. t ∷ []) (sym (status_word word.now s named))) ∙ sym (map-append (λ (w : Bor (List ℕ)). w.now) words (word ∷ []))
+
+-- each of the words names a status
+pub no_status : (words : List (List ℕ)) (xs : List Status) → words ≡ map status_text xs → (word : List ℕ) (i : ℕ) → (i < length words) × (word ≡ get_or words i word) → None ≡ status_named word → ⊥
+no_status words xs e word i at none =
+    let short : i < length xs = omega (arith, at.0, ap length e, length-map xs status_text) in
+    let s : Status = get_or xs i Fine in
+    let is_text : word ≡ status_text s = at.1 ∙ ap (λ ws. get_or ws i word) e ∙ get_or-map status_text xs i Fine word short in
+    let no : None ≡ Some s = none ∙ ap status_named is_text ∙ status_back s in
+    cc

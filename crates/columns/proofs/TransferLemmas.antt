@@ -33,11 +33,11 @@ transfer_found row (Some requester) r (Some losing) l (Some requested) m (Some a
 transfer_found row (Some requester) r (Some losing) l (Some requested) m (Some ac_date) a (Some state) s =
     let t : Transfer = record { requester = requester; losing_registrar = losing; requested = requested; ac_date = ac_date; state = state } in
     kept (λ t. transfer_row row.id row.contact row.domain t ≡ row) t (is_same (due_column t) row.due) (λ e.
-      λ i. record row {
-        requester = sym r i;
-        losing = sym l i;
-        requested = sym m i;
-        ac_date = sym a i;
-        state = sym s i;
-        due = same_is_equal (due_column t) row.due e i
-      })
+    λ i. record row {
+      requester = sym r i;
+      losing = sym l i;
+      requested = sym m i;
+      ac_date = sym a i;
+      state = sym s i;
+      due = same_is_equal (due_column t) row.due e i;
+    })

@@ -50,7 +50,7 @@ row_with id account line domain cents = record {
   years = years_column line.years;
   cents = cents;
   started = maybe_moment_column line.started;
-  refunded = maybe_moment_column line.refunded
+  refunded = maybe_moment_column line.refunded;
 }
 
 -- the row of a line, under its number and its account's

@@ -31,7 +31,7 @@ transfer_row id contact domain t = record {
   requested = moment_column t.requested;
   ac_date = moment_column t.ac_date;
   state = state_column t.state;
-  due = due_column t
+  due = due_column t;
 }
 
 -- ---- read

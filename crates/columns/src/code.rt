@@ -64,7 +64,10 @@ pub fn kind_of_column(column: i64) -> Option<LineKind>
 fn kind_with(column: i64) -> Option<LineKind>
     ensures { result ≡ spec.with_code spec.kind_column spec.all_kinds column }
 {
-    KINDS.iter().copied().find(|kind| kind_column(*kind) == column)
+    KINDS
+        .iter()
+        .copied()
+        .find(|kind| kind_column(*kind) == column)
 }
 
 /// The code of what a message is about.
@@ -149,5 +152,8 @@ pub fn role_of_column(column: i64) -> Option<Role>
 fn role_with(column: i64) -> Option<Role>
     ensures { result ≡ spec.with_code spec.role_column spec.all_roles column }
 {
-    ROLES.iter().copied().find(|role| role_column(*role) == column)
+    ROLES
+        .iter()
+        .copied()
+        .find(|role| role_column(*role) == column)
 }

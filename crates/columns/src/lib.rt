@@ -12,6 +12,8 @@ mod number;
 mod origin;
 mod statuses;
 mod street;
+#[cfg(test)]
+mod tests;
 mod transfer;
 
 pub use code::{

@@ -5,9 +5,7 @@ ghost use Rattle.accounts.specs.declared.line.Line.{Line};
 ghost use Rattle.columns.specs.Lines as spec;
 
 use crate::code::{kind_column, kind_of_column};
-use crate::moment::{
-    maybe_moment_column, maybe_moment_of_column, moment_column, moment_of_column,
-};
+use crate::moment::{maybe_moment_column, maybe_moment_of_column, moment_column, moment_of_column};
 use crate::number::{
     counter_column, counter_of_column, exact_column, exact_of_column, registrar_column,
     registrar_of_column, years_column, years_of_column,

@@ -41,23 +41,16 @@ pub fn statuses_of_column(alloc: Global, text: &str) -> Result<Option<Seq<Status
     if text.is_empty() {
         return Ok(Some(Seq::new(alloc)));
     }
-    let words = words_of(alloc, text)?;
-    named(alloc, &words)
+    named(alloc, text)
 }
 
-fn words_of(alloc: Global, text: &str) -> Result<Vec<&str>, AllocError>
-    ensures { IfOk result (λ words. map (λ w. w.now) words.items ≡ slice_split (λ b. b == 32) text.now) }
-{
-    text.split(' ').collect(alloc)
-}
-
-/// The statuses that the words name, if each names one.
-fn named(alloc: Global, words: &[&str]) -> Result<Option<Seq<Status>>, AllocError>
-    ensures found { IfOk result (λ read. IfSome read (λ xs. map (λ w. w.now) words.now ≡ map status_text xs)) }
-    ensures only { IfOk result (λ read. (xs : List Status) → map (λ w. w.now) words.now ≡ map status_text xs → read ≡ Some xs) }
+/// The statuses that the words between blanks name, if each names one.
+fn named(alloc: Global, text: &str) -> Result<Option<Seq<Status>>, AllocError>
+    ensures found { IfOk result (λ read. IfSome read (λ xs. slice_split (λ b. b == 32) text.now ≡ map status_text xs)) }
+    ensures only { IfOk result (λ read. (xs : List Status) → slice_split (λ b. b == 32) text.now ≡ map status_text xs → read ≡ Some xs) }
 {
     let mut statuses = Vec::new(alloc);
-    for word in words {
+    for word in text.split(' ') {
         let Some(status) = Status::named(word) else {
             return Ok(None);
         };

@@ -18,13 +18,13 @@ returns-clause-found c =
     let cents : FitsSigned w64 r.cents = search rules in
     let Found : Option Line → Type 0 = λ read. IfSome read (λ line. line_row row.id row.account line ≡ Some row) in
     let here : Found c.line_made.result = subst Found (sym c.line_made.ensures) (line_found row
-      c.kind_of_column.result (of_column kind_column c.kind_of_column.result (to_z w64 (of_z w64 r.kind)) r.kind (to_z-of_z kind) c.kind_of_column.ensures.found)
-      c.domain_of_columns.result c.domain_of_columns.ensures.found
-      c.moment_of_column.result (of_column moment_column c.moment_of_column.result (to_z w64 (of_z w64 r.recorded)) r.recorded (to_z-of_z recorded) c.moment_of_column.ensures.found)
-      c.years_of_column.result (of_column years_column c.years_of_column.result (to_z w64 (of_z w64 r.years)) r.years (to_z-of_z years) c.years_of_column.ensures.found)
-      c.exact_of_column.result (of_exact exact_column c.exact_of_column.result (to_z w64 (of_z w64 r.cents)) r.cents (to_z-of_z cents) c.exact_of_column.ensures.found)
-      c.maybe_moment_of_column.result c.maybe_moment_of_column.ensures.found
-      c.maybe_moment_of_column-2.result c.maybe_moment_of_column-2.ensures.found) in
+    c.kind_of_column.result (of_column kind_column c.kind_of_column.result (to_z w64 (of_z w64 r.kind)) r.kind (to_z-of_z kind) c.kind_of_column.ensures.found)
+    c.domain_of_columns.result c.domain_of_columns.ensures.found
+    c.moment_of_column.result (of_column moment_column c.moment_of_column.result (to_z w64 (of_z w64 r.recorded)) r.recorded (to_z-of_z recorded) c.moment_of_column.ensures.found)
+    c.years_of_column.result (of_column years_column c.years_of_column.result (to_z w64 (of_z w64 r.years)) r.years (to_z-of_z years) c.years_of_column.ensures.found)
+    c.exact_of_column.result (of_exact exact_column c.exact_of_column.result (to_z w64 (of_z w64 r.cents)) r.cents (to_z-of_z cents) c.exact_of_column.ensures.found)
+    c.maybe_moment_of_column.result c.maybe_moment_of_column.ensures.found
+    c.maybe_moment_of_column-2.result c.maybe_moment_of_column-2.ensures.found) in
     let At : table.Line → Type 0 = λ row. IfSome c.line_made.result (λ line. line_row row.id row.account line ≡ Some row) in
     subst At c.row.view_is here
 
@@ -38,12 +38,12 @@ returns-clause-only c = λ line is e.
     let cents : FitsSigned w64 r.cents = search rules in
     let At : table.Line → Type 0 = λ row. line_row row.id row.account line ≡ Some row in
     c.line_made.ensures ∙ line_back row c.kind_of_column.result c.domain_of_columns.result c.moment_of_column.result c.years_of_column.result c.exact_of_column.result c.maybe_moment_of_column.result c.maybe_moment_of_column-2.result
-      (record {
-        kind_only = λ x h. c.kind_of_column.ensures.only x (to_z-of_z kind ∙ h);
-        roid_only = c.domain_of_columns.ensures.only;
-        recorded_only = λ x in_range h. c.moment_of_column.ensures.only x in_range (to_z-of_z recorded ∙ h);
-        years_only = λ x in_range h. c.years_of_column.ensures.only x in_range (to_z-of_z years ∙ h);
-        cents_only = λ x h. c.exact_of_column.ensures.only x (h ∙ ap Some (sym (to_z-of_z cents)));
-        started_only = c.maybe_moment_of_column.ensures.only;
-        refunded_only = c.maybe_moment_of_column-2.ensures.only
-      }) line is (subst At (sym c.row.view_is) e)
+    (record {
+      kind_only = λ x h. c.kind_of_column.ensures.only x (to_z-of_z kind ∙ h);
+      roid_only = c.domain_of_columns.ensures.only;
+      recorded_only = λ x in_range h. c.moment_of_column.ensures.only x in_range (to_z-of_z recorded ∙ h);
+      years_only = λ x in_range h. c.years_of_column.ensures.only x in_range (to_z-of_z years ∙ h);
+      cents_only = λ x h. c.exact_of_column.ensures.only x (h ∙ ap Some (sym (to_z-of_z cents)));
+      started_only = c.maybe_moment_of_column.ensures.only;
+      refunded_only = c.maybe_moment_of_column-2.ensures.only;
+    }) line is (subst At (sym c.row.view_is) e)

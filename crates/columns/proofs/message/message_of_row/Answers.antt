@@ -22,8 +22,8 @@ returns-clause-found c =
     let same_origin : ◌≡◌ {A = Option OriginColumns} (Some (record { class = to_z w64 (of_z w64 r.class); number = to_z w64 (of_z w64 r.number); notice = to_z w64 (of_z w64 r.notice) })) (Some (record { class = r.class; number = r.number; notice = r.notice })) = λ i. Some (record { class = to_z-of_z class i; number = to_z-of_z number i; notice = to_z-of_z notice i }) in
     let made = c.message_made.ensures ∙ ap (λ (name : List ℕ). message_made c.moment_of_column.result c.origin_of_columns.result c.subject_of_column.result name) c.from_string.ensures in
     let here : Found c.message_made.result = subst Found (sym made) (message_found row
-      c.moment_of_column.result (of_column moment_column c.moment_of_column.result (to_z w64 (of_z w64 r.moment)) r.moment (to_z-of_z moment) c.moment_of_column.ensures.found)
-      c.origin_of_columns.result (of_columns origin_columns c.origin_of_columns.result _ _ same_origin c.origin_of_columns.ensures.found)
-      c.subject_of_column.result (of_column subject_column c.subject_of_column.result (to_z w64 (of_z w64 r.subject)) r.subject (to_z-of_z subject) c.subject_of_column.ensures.found)) in
+    c.moment_of_column.result (of_column moment_column c.moment_of_column.result (to_z w64 (of_z w64 r.moment)) r.moment (to_z-of_z moment) c.moment_of_column.ensures.found)
+    c.origin_of_columns.result (of_columns origin_columns c.origin_of_columns.result _ _ same_origin c.origin_of_columns.ensures.found)
+    c.subject_of_column.result (of_column subject_column c.subject_of_column.result (to_z w64 (of_z w64 r.subject)) r.subject (to_z-of_z subject) c.subject_of_column.ensures.found)) in
     let At : table.Message → Type 0 = λ row. IfSome c.message_made.result (λ m. message_row row.id row.account m ≡ Some row) in
     subst At c.row.view_is here

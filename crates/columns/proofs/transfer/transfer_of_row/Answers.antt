@@ -20,10 +20,10 @@ returns-clause-found c =
     let Found : Option Transfer → Type 0 = λ read. IfSome read (λ t. transfer_row row.id row.contact row.domain t ≡ row) in
     let made = c.with_due.ensures ∙ ap (λ (t : Option Transfer). with_due t r.due) c.transfer_made-transfer.ensures in
     let here : Found c.with_due.result = subst Found (sym made) (transfer_found row
-      c.registrar_of_column.result (of_column registrar_column c.registrar_of_column.result (to_z w64 (of_z w64 r.requester)) r.requester (to_z-of_z requester) c.registrar_of_column.ensures.found)
-      c.registrar_of_column-2.result (of_column registrar_column c.registrar_of_column-2.result (to_z w64 (of_z w64 r.losing)) r.losing (to_z-of_z losing) c.registrar_of_column-2.ensures.found)
-      c.moment_of_column.result (of_column moment_column c.moment_of_column.result (to_z w64 (of_z w64 r.requested)) r.requested (to_z-of_z requested) c.moment_of_column.ensures.found)
-      c.moment_of_column-2.result (of_column moment_column c.moment_of_column-2.result (to_z w64 (of_z w64 r.ac_date)) r.ac_date (to_z-of_z ac_date) c.moment_of_column-2.ensures.found)
-      c.state_of_column.result (of_column state_column c.state_of_column.result (to_z w64 (of_z w64 r.state)) r.state (to_z-of_z state) c.state_of_column.ensures.found)) in
+    c.registrar_of_column.result (of_column registrar_column c.registrar_of_column.result (to_z w64 (of_z w64 r.requester)) r.requester (to_z-of_z requester) c.registrar_of_column.ensures.found)
+    c.registrar_of_column-2.result (of_column registrar_column c.registrar_of_column-2.result (to_z w64 (of_z w64 r.losing)) r.losing (to_z-of_z losing) c.registrar_of_column-2.ensures.found)
+    c.moment_of_column.result (of_column moment_column c.moment_of_column.result (to_z w64 (of_z w64 r.requested)) r.requested (to_z-of_z requested) c.moment_of_column.ensures.found)
+    c.moment_of_column-2.result (of_column moment_column c.moment_of_column-2.result (to_z w64 (of_z w64 r.ac_date)) r.ac_date (to_z-of_z ac_date) c.moment_of_column-2.ensures.found)
+    c.state_of_column.result (of_column state_column c.state_of_column.result (to_z w64 (of_z w64 r.state)) r.state (to_z-of_z state) c.state_of_column.ensures.found)) in
     let At : table.Transfer → Type 0 = λ row. IfSome c.with_due.result (λ t. transfer_row row.id row.contact row.domain t ≡ row) in
     subst At c.row.view_is here
