@@ -8,7 +8,6 @@ use Rattle.accounts.specs.declared.message.LapseNotice.{LapseNotice}
 use Rattle.accounts.specs.declared.message.LapseNotice.TheVariants.{RenewedAutomatically, Purged, TransferApproved}
 use Rattle.accounts.specs.declared.message.Message.{Message}
 use Rattle.accounts.specs.declared.message.Origin.{Origin}
-use Rattle.accounts.specs.declared.message.Origin.TheVariants.{Lapse, Command}
 use Rattle.accounts.specs.declared.message.Subject.{Subject}
 use Rattle.tables.specs.Message as table
 use Rattle.columns.specs.declared.origin.OriginColumns.{OriginColumns}

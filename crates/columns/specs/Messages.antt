@@ -1,4 +1,4 @@
--- How a message lies in its row, so that rows are in the order of messages.
+-- How a message lies in its row.
 use Rattle.std.specs.Prelude.{ℕ, ℤ, pos, ◌&&◌, List, [], ◌∷◌, Option, Some, None, if◌then◌else◌}
 use Rattle.std.specs.Ordering.{int_eq}
 use Rattle.accounts.specs.Messages.{command_rank, letter_rank}

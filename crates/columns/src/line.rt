@@ -1,5 +1,5 @@
 //! Lines of accounts as rows.
-ghost use Rattle.std.specs.Prelude.{◌≡◌, ℕ, Option, Some, None, IfSome};
+ghost use Rattle.std.specs.Prelude.{◌≡◌, Option, Some, None, IfSome};
 ghost use Rattle.objects.specs.declared.roid.Roid.{Roid};
 ghost use Rattle.accounts.specs.declared.line.Line.{Line};
 ghost use Rattle.columns.specs.Lines as spec;

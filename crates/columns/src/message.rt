@@ -1,5 +1,5 @@
 //! Messages as rows.
-ghost use Rattle.std.specs.Prelude.{◌≡◌, ℕ, List, Some, IfOk, IfSome};
+ghost use Rattle.std.specs.Prelude.{◌≡◌, Some, IfOk, IfSome};
 ghost use Rattle.accounts.specs.declared.message.Message.{Message};
 ghost use Rattle.calendar.specs.Moment.{IsMoment};
 ghost use Rattle.columns.specs.Messages as spec;

@@ -1,5 +1,5 @@
 //! Lists of statuses as one text.
-ghost use Rattle.std.specs.Prelude.{◌≡◌, ◌==◌, List, [], ◌∷◌, ◌++◌, Some, map, IfOk, IfSome, OnOk, string_bytes};
+ghost use Rattle.std.specs.Prelude.{◌≡◌, ◌==◌, List, Some, map, IfOk, IfSome, OnOk, string_bytes};
 ghost use Rattle.std.specs.List.{slice_split};
 ghost use Rattle.objects.specs.StatusTexts.{status_text};
 ghost use Rattle.objects.specs.declared.status.Status.{Status};
