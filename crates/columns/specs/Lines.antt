@@ -14,7 +14,7 @@ use Rattle.columns.specs.Steps.{◌>>=◌}
 
 -- ---- which values there are
 
--- numbers that a ROID of Rust's can have
+-- the creator has a place, and the serial number 64 bits
 pub record IsDomain (roid : Roid) : Type 0 where
   pub creator : IsPlace roid.creator
   pub serial : roid.serial < 2 ^ 64
