@@ -1,0 +1,35 @@
+//! How values of the registry lie in the columns of its tables, and how they are read back.
+//!
+//! Each value has a function that gives its column, or its row, and one that reads it. What was
+//! written is read back, and a column that no value has reads as none.
+#![tactic(auto)]
+
+mod code;
+mod line;
+mod message;
+mod moment;
+mod number;
+mod origin;
+mod statuses;
+mod street;
+#[cfg(test)]
+mod tests;
+mod transfer;
+
+pub use code::{
+    Role, kind_column, kind_of_column, role_column, role_of_column, state_column, state_of_column,
+    subject_column, subject_of_column,
+};
+pub use line::{line_of_row, line_row};
+pub use message::{message_of_row, message_row};
+pub use moment::{maybe_moment_column, maybe_moment_of_column, moment_column, moment_of_column};
+pub use number::{
+    counter_column, counter_of_column, exact_column, exact_of_column, registrar_column,
+    registrar_of_column, years_column, years_of_column,
+};
+pub use origin::{
+    command_notice_column, command_notice_of_column, lapse_notice_column, lapse_notice_of_column,
+};
+pub use statuses::{statuses_column, statuses_of_column};
+pub use street::{street_column, street_of_column};
+pub use transfer::{transfer_of_row, transfer_row};

@@ -1,0 +1,138 @@
+//! Lines of accounts as rows.
+ghost use Rattle.std.specs.Prelude.{◌≡◌, Option, Some, None, IfSome};
+ghost use Rattle.objects.specs.declared.roid.Roid.{Roid};
+ghost use Rattle.accounts.specs.declared.line.Line.{Line};
+ghost use Rattle.columns.specs.Lines as spec;
+
+use crate::code::{kind_column, kind_of_column};
+use crate::moment::{maybe_moment_column, maybe_moment_of_column, moment_column, moment_of_column};
+use crate::number::{
+    counter_column, counter_of_column, exact_column, exact_of_column, registrar_column,
+    registrar_of_column, years_column, years_of_column,
+};
+use accounts::{Line, LineKind};
+use basis::registrar::RegistrarNo;
+use calendar::Moment;
+use objects::{ObjectKind, Roid};
+use tables::LineRow;
+
+/// The columns for a domain's ROID, which are NULL of no domain.
+#[derive(Clone, Copy, Drop)]
+pub(crate) struct DomainColumns {
+    pub creator: Option<i64>,
+    pub serial: Option<i64>,
+}
+
+/// The row of a line, under its number and its account's; none where the line is on a contact or a
+/// host, or its cents are too many.
+pub fn line_row(id: i64, account: i64, line: &Line) -> Option<LineRow>
+    ensures { result ≡ spec.line_row id account line.now }
+{
+    let domain = domain_columns(&line.roid)?;
+    let cents = exact_column(line.cents)?;
+    Some(LineRow {
+        id,
+        account,
+        kind: kind_column(line.kind),
+        creator: domain.creator,
+        serial: domain.serial,
+        recorded: moment_column(line.recorded),
+        years: years_column(line.years),
+        cents,
+        started: maybe_moment_column(line.started),
+        refunded: maybe_moment_column(line.refunded),
+    })
+}
+
+/// The line of a row, if it's one's.
+pub fn line_of_row(row: &LineRow) -> Option<Line>
+    ensures found { IfSome result (λ line. spec.line_row row.now.id row.now.account line ≡ Some row.now) }
+    ensures only { (line : Line) → spec.IsLine line → spec.line_row row.now.id row.now.account line ≡ Some row.now → result ≡ Some line }
+{
+    line_made(
+        kind_of_column(row.kind),
+        domain_of_columns(row.creator, row.serial),
+        moment_of_column(row.recorded),
+        years_of_column(row.years),
+        exact_of_column(row.cents),
+        maybe_moment_of_column(row.started),
+        maybe_moment_of_column(row.refunded),
+    )
+}
+
+/// The line of these parts, if all are there.
+fn line_made(
+    kind: Option<LineKind>,
+    roid: Option<Option<Roid>>,
+    recorded: Option<Moment>,
+    years: Option<u32>,
+    cents: Option<u64>,
+    started: Option<Option<Moment>>,
+    refunded: Option<Option<Moment>>,
+) -> Option<Line>
+    ensures { result ≡ spec.line_made kind roid recorded years cents started refunded }
+{
+    Some(Line {
+        kind: kind?,
+        roid: roid?,
+        recorded: recorded?,
+        years: years?,
+        cents: cents?,
+        started: started?,
+        refunded: refunded?,
+    })
+}
+
+fn domain_columns(roid: &Option<Roid>) -> Option<DomainColumns>
+    ensures { result ≡ spec.domain_columns roid.now }
+{
+    match roid {
+        None => Some(DomainColumns {
+            creator: None,
+            serial: None,
+        }),
+        Some(roid) => columns_of_roid(roid),
+    }
+}
+
+fn columns_of_roid(roid: &Roid) -> Option<DomainColumns>
+    ensures { result ≡ spec.columns_of roid.now.kind roid.now.creator roid.now.serial }
+{
+    match roid.kind {
+        ObjectKind::Contact | ObjectKind::Host => None,
+        ObjectKind::Domain => Some(DomainColumns {
+            creator: Some(registrar_column(roid.creator)),
+            serial: Some(counter_column(roid.serial)),
+        }),
+    }
+}
+
+/// The domain of two columns, if both are NULL or neither.
+fn domain_of_columns(creator: Option<i64>, serial: Option<i64>) -> Option<Option<Roid>>
+    ensures found { IfSome result (λ roid. spec.domain_columns roid ≡ Some (record { creator = creator; serial = serial })) }
+    ensures only { (roid : Option Roid) → IfSome roid spec.IsDomain → spec.domain_columns roid ≡ Some (record { creator = creator; serial = serial }) → result ≡ Some roid }
+{
+    match (creator, serial) {
+        (None, None) => Some(None),
+        (Some(creator), Some(serial)) => some_domain_of_columns(creator, serial),
+        _ => None,
+    }
+}
+
+fn some_domain_of_columns(creator: i64, serial: i64) -> Option<Option<Roid>>
+    ensures found { IfSome result (λ roid. spec.domain_columns roid ≡ Some (record { creator = Some creator; serial = Some serial })) }
+    ensures only { (roid : Option Roid) → IfSome roid spec.IsDomain → spec.domain_columns roid ≡ Some (record { creator = Some creator; serial = Some serial }) → result ≡ Some roid }
+{
+    domain_made(registrar_of_column(creator), counter_of_column(serial))
+}
+
+fn domain_made(creator: Option<RegistrarNo>, serial: u64) -> Option<Option<Roid>>
+    ensures { result ≡ spec.domain_made creator serial }
+{
+    let creator = creator?;
+    Some(Some(Roid {
+        kind: ObjectKind::Domain,
+        creator,
+        serial,
+    }))
+}
