@@ -152,10 +152,10 @@ fn in_pieces<R: Abort + AllocGlobal>(
     exchange: Exchange,
     registry: Registry<PlainBook>,
 ) -> Registry<PlainBook> {
+    let mut clock = exchange.clock;
     let mut reader = whole(&exchange.asked);
     reader.step = 1;
     let mut told = Vec::new(rt.alloc());
-    let mut clock = exchange.clock;
     let served = serve_one(rt.alloc(), &mut reader, &mut told, &mut clock, registry);
     assert!(rt; told.as_slice() == exchange.wanted.as_slice());
     assert_eq!(rt; served.end, ConnectionEnd::Session(exchange.end));
