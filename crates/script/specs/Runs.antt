@@ -17,9 +17,8 @@ use Rattle.script.specs.declared.exit.Exit.TheVariants as exits
 use Rattle.script.specs.declared.line.Sender.{Sender}
 use Rattle.script.specs.declared.line.Sender.TheVariants.{Registrar, Operator}
 use Rattle.script.specs.Lines.{Asked, IsLine}
-use Rattle.store.specs.declared.plain.PlainBook.{PlainBook}
 use Rattle.store.specs.Book.{nothing}
-use Rattle.store.specs.Plain.{plain_state}
+use Rattle.store.specs.Plain.{PlainBook, plain_state}
 use Rattle.protocol.specs.declared.code.Code.{Code}
 use Rattle.protocol.specs.declared.code.Code.TheVariants.{Completed}
 use Rattle.protocol.specs.declared.command.Command.{Command}

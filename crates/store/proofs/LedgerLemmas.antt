@@ -17,7 +17,7 @@ use Rattle.accounts.specs.Account.{empty_account}
 use Rattle.basis.proofs.MapLemmas.{get-map_values}
 use Rattle.store.specs.declared.ledgers.Counters.{Counters}
 use Rattle.store.specs.Ledgers.{accounts_of, changed_if_there, counted, counters_of, lacks, lines_of, put, queue_of, with_changed, with_counted, with_counters, with_line, with_notice, without_line, without_notice}
-use Rattle.store.proofs.EditLemmas.{put-again}
+use Rattle.store.proofs.PutLemmas.{put-again}
 
 abbrev Accounts : Type 0
 Accounts = FinMap nat_cmp Account

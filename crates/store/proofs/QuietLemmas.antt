@@ -1,9 +1,9 @@
 -- Until when nothing is due.
-use Rattle.std.proofs.Common.{◌≡◌, ◌⊎◌, ⊎_elim, ℕ, ◌<◌, ◌≤◌, max, Bool, true, false, cond, nat_lt, List, [], ◌∷◌, Option, Some, None, option_and_then, refl, sym, subst, ap, ◌∙◌, arith}
+use Rattle.std.proofs.Common.{◌≡◌, ◌⊎◌, ⊎_elim, ℕ, ◌<◌, ◌≤◌, max, Bool, true, false, cond, nat_lt, List, [], ◌∷◌, Option, Some, None, option_and_then, option_map, refl, sym, subst, ap, ◌∙◌, arith}
 use Rattle.std.proofs.lemmas.Bool.Decides.{nat_tests}
 use Rattle.std.specs.Prelude.{fold, unwrap_or}
 use Rattle.std.specs.Cmp.Lexicographic.{nat_list_cmp_total, slice_cmp}
-use Rattle.std.specs.FinMap.{FinMap, entries, find, get, get-entries}
+use Rattle.std.specs.FinMap.{entries, find, get, get-entries, insert}
 use Rattle.std.specs.Ordering.{eq_by_cmp, nat_cmp}
 use Rattle.basis.proofs.EntryLaws.{Each, each_entry}
 use Rattle.basis.proofs.MapLemmas.{names_apart}
@@ -16,14 +16,16 @@ use Rattle.objects.specs.declared.contact.Contact.{Contact}
 use Rattle.objects.specs.declared.domain.Deletion.{Deletion}
 use Rattle.objects.specs.declared.domain.Domain.{Domain}
 use Rattle.policy.specs.Rules.{PolicyRules}
-use Rattle.rules.specs.declared.change.Change.{Change}
-use Rattle.rules.specs.declared.change.Change.TheVariants.{MoveClock, OpenAccount, PutContact, DropContact, PutDomain, DropDomain, PutHost, DropHost, RenameHost, LapseContact, LapseDomain, Give}
-use Rattle.rules.specs.Changes.{changed, with_host_renamed}
-use Rattle.rules.proofs.NamedLemmas.{drop-cases, put-cases, remade-cases}
+use Rattle.rules.proofs.NamedLemmas.{drop-cases, put-cases}
 use Rattle.store.specs.declared.due.Due.{Due}
 use Rattle.store.specs.declared.quiet.Quiet.{Quiet}
 use Rattle.store.specs.Due.{contact_due, domain_due, due_by, due_then, found_due, with_due}
-use Rattle.store.specs.Quiet.{HasEnds, IsQuiet, NoneBefore, due_put, quiet_with, sooner, until_contacts, until_domains}
+use Rattle.store.specs.declared.edit.Edit.{Edit}
+use Rattle.store.specs.declared.edit.Edit.TheVariants as edit
+use Rattle.store.specs.Book.{Stored}
+use Rattle.store.specs.Edits.{edited}
+use Rattle.store.specs.Quiet.{HasEnds, IsQuiet, NoneBefore, quiet_after, quiet_with, quiet_with_contact, sooner, until_contacts, until_domains}
+use Rattle.store.specs.Tables.{domain_put}
 
 -- ---- under any policy with the same periods
 
@@ -62,94 +64,93 @@ completed-at : (until m : ℕ) (o : Option ℕ) → o ≡ Some m → sooner unti
 completed-at until m None e = cc
 completed-at until m (Some n) e = let same : n ≡ m = cc in subst (λ k. sooner until (passed until n) ≤ k) same (no-later-than until n)
 
-renamed-due : (p : PolicyRules) (old new : List ℕ) (d : Domain) → due_at p (with_host_renamed old new d) ≡ due_at p d
-renamed-due p old new d = by d.deletion
+-- ---- after an edit
+
+nothing-known : (s : Registry) → IsQuiet None s
+nothing-known s = λ q found. absurd (never q found)
   where
-    by : (o : Option Deletion) → due_of p o (with_host_renamed old new d) ≡ due_of p o d
-    by None = refl
-    by (Some x) = refl
+    never : (q : Quiet) → (let o : Option Quiet = None in o) ≡ Some q → ⊥
+    never q e = cc
 
--- ---- after a change
+some-is : (x y : Quiet) → (let o : Option Quiet = Some x in o) ≡ Some y → x ≡ y
+some-is x y e = cc
 
-module _ (r : PolicyRules) (q : Quiet) (s : Registry) (p : PolicyRules) (ends : HasEnds q p) (own : HasEnds q r) (none : NoneBefore p q.until s) where
-  abbrev Named : Type 0 → Type 0
-  Named X = FinMap (slice_cmp nat_cmp) X
+-- where nothing is due before a moment or before what was put is
+known-with : (q : Quiet) (due : Option ℕ) (s : Registry) → ((p : PolicyRules) → HasEnds q p → NoneBefore p (sooner q.until due) s) → IsQuiet (Some (quiet_with q due)) s
+known-with q due s none = λ x found p ends.
+    let same : quiet_with q due ≡ x = some-is (quiet_with q due) x found in
+    subst (λ (y : Quiet). NoneBefore p y.until s) same (none p (like x p same ends))
+  where
+    like : (x : Quiet) (p : PolicyRules) → quiet_with q due ≡ x → HasEnds x p → HasEnds q p
+    like x p same ends = record {
+      redemption = ends.redemption ∙ sym (ap (λ (y : Quiet). y.redemption) same);
+      restore = ends.restore ∙ sym (ap (λ (y : Quiet). y.restore) same);
+      pending_delete = ends.pending_delete ∙ sym (ap (λ (y : Quiet). y.pending_delete) same);
+    }
 
-  contact-after : (k : List ℕ) (c : Contact) (name : List ℕ) (x : Contact) (m : ℕ) → (get s.contacts name ≡ Some x → completes_at x.transfer ≡ Some m → q.until ≤ m)
-      → ((name ≡ k) × (c ≡ x)) ⊎ (get s.contacts name ≡ Some x) → completes_at x.transfer ≡ Some m → sooner q.until (option_and_then (passed q.until) (completes_at c.transfer)) ≤ m
-  contact-after k c name x m before found is =
-      ⊎_elim (λ put. completed-at q.until m (completes_at c.transfer) (ap (λ (y : Contact). completes_at y.transfer) put.1 ∙ is))
-      (λ there. let least = before there is in omega (arith, least, no-later q.until (option_and_then (passed q.until) (completes_at c.transfer)))) found
-
-  domain-after : (k : List ℕ) (d : Domain) (name : List ℕ) (x : Domain) → (get s.domains name ≡ Some x → q.until ≤ due_at p x)
-      → ((name ≡ k) × (d ≡ x)) ⊎ (get s.domains name ≡ Some x) → sooner q.until (passed q.until (due_at r d)) ≤ due_at p x
-  domain-after k d name x before found =
-      ⊎_elim (λ put. subst (λ (y : Domain). sooner q.until (passed q.until (due_at r d)) ≤ due_at p y) put.1
-      (subst (λ m. sooner q.until (passed q.until m) ≤ due_at p d) (same-ends q p r ends own d) (no-later-than q.until (due_at p d))))
-      (λ there. let least = before there in omega (arith, least, no-later q.until (passed q.until (due_at r d)))) found
-
+module _ (q : Quiet) (s : Registry) (p : PolicyRules) (none : NoneBefore p q.until s) where
   contacts-still : (o : Option ℕ) (name : List ℕ) (c : Contact) (m : ℕ) → get s.contacts name ≡ Some c → completes_at c.transfer ≡ Some m → sooner q.until o ≤ m
   contacts-still o name c m found is = let least = none.0 name c m found is in omega (arith, least, no-later q.until o)
 
   domains-still : (o : Option ℕ) (name : List ℕ) (d : Domain) → get s.domains name ≡ Some d → sooner q.until o ≤ due_at p d
   domains-still o name d found = let least = none.1 name d found in omega (arith, least, no-later q.until o)
 
-  after : (change : Change) → NoneBefore p (sooner q.until (due_put r q.until change)) (changed r change s)
-  after (MoveClock t) = none
-  after (OpenAccount other) = none
-  after (PutHost h) = none
-  after (DropHost name) = none
-  after (Give other what) = none
-  after (PutContact c) = (
-    λ name x m found is. contact-after c.name c name x m (λ there. none.0 name x m there) (put-cases s.contacts c.name c name x found) is,
-    domains-still (due_put r q.until (PutContact c)),
-  )
-  after (LapseContact k (Some c)) = (
-    λ name x m found is. contact-after k c name x m (λ there. none.0 name x m there) (put-cases s.contacts k c name x found) is,
-    domains-still (due_put r q.until (LapseContact k (Some c))),
-  )
-  after (LapseContact k None) = (λ name x m found is. none.0 name x m (drop-cases s.contacts k name x found).1 is, none.1)
-  after (DropContact k) = (λ name x m found is. none.0 name x m (drop-cases s.contacts k name x found).1 is, none.1)
-  after (PutDomain d) = (
-    contacts-still (due_put r q.until (PutDomain d)),
-    λ name x found. domain-after d.name d name x (λ there. none.1 name x there) (put-cases s.domains d.name d name x found),
-  )
-  after (LapseDomain k (Some d)) = (
-    contacts-still (due_put r q.until (LapseDomain k (Some d))),
-    λ name x found. domain-after k d name x (λ there. none.1 name x there) (put-cases s.domains k d name x found),
-  )
-  after (LapseDomain k None) = (none.0, λ name x found. none.1 name x (drop-cases s.domains k name x found).1)
-  after (DropDomain k) = (none.0, λ name x found. none.1 name x (drop-cases s.domains k name x found).1)
-  after (RenameHost old new) = (
-    none.0,
-    λ name x found.
-        let was = remade-cases (with_host_renamed old new) s.domains name x found in
-        subst (λ (y : Domain). q.until ≤ due_at p y) was.2 (subst (λ m. q.until ≤ m) (sym (renamed-due p old new was.0)) (none.1 name was.0 was.1)),
+  contact-after : (k : List ℕ) (c : Contact) (name : List ℕ) (x : Contact) (m : ℕ) → ((name ≡ k) × (c ≡ x)) ⊎ (get s.contacts name ≡ Some x) → completes_at x.transfer ≡ Some m
+      → sooner q.until (option_and_then (passed q.until) (completes_at c.transfer)) ≤ m
+  contact-after k c name x m found is =
+      ⊎_elim (λ put. completed-at q.until m (completes_at c.transfer) (ap (λ (y : Contact). completes_at y.transfer) put.1 ∙ is))
+      (λ there. contacts-still (option_and_then (passed q.until) (completes_at c.transfer)) name x m there is) found
+
+  contact-put : (k : List ℕ) (c : Contact) → NoneBefore p (quiet_with_contact c q).until (record s { contacts = insert s.contacts k c })
+  contact-put k c = (
+    λ name x m found is. contact-after k c name x m (put-cases s.contacts k c name x found) is,
+    domains-still (option_and_then (passed q.until) (completes_at c.transfer)),
   )
 
--- what is known after a change
-pub quiet-after : (r : PolicyRules) (known : Option Quiet) (q : Quiet) (s : Registry) (change : Change) → IsQuiet known s → known ≡ Some q → HasEnds q r
-    → (result : Option Quiet) → result ≡ Some (quiet_with q (due_put r q.until change)) → IsQuiet result (changed r change s)
-quiet-after r known q s change is e own result made = λ x found p ends.
-    let same : quiet_with q (due_put r q.until change) ≡ x = some-is (quiet_with q (due_put r q.until change)) x (sym made ∙ found) in
-    subst (λ (y : Quiet). NoneBefore p y.until (changed r change s)) same
-    (after r q s p (like same ends) own (is q e p (like same ends)) change)
-  where
-    some-is : (x y : Quiet) → (let o : Option Quiet = Some x in o) ≡ Some y → x ≡ y
-    some-is x y e = cc
+  module _ (r : PolicyRules) (ends : HasEnds q p) (own : HasEnds q r) where
+    domain-after : (k : List ℕ) (d : Domain) (name : List ℕ) (x : Domain) → ((name ≡ k) × (d ≡ x)) ⊎ (get s.domains name ≡ Some x) → sooner q.until (passed q.until (due_at r d)) ≤ due_at p x
+    domain-after k d name x found =
+        ⊎_elim (λ put. subst (λ (y : Domain). sooner q.until (passed q.until (due_at r d)) ≤ due_at p y) put.1
+        (subst (λ m. sooner q.until (passed q.until m) ≤ due_at p d) (same-ends q p r ends own d) (no-later-than q.until (due_at p d))))
+        (λ there. domains-still (passed q.until (due_at r d)) name x there) found
 
-    like : {x : Quiet} {p : PolicyRules} → quiet_with q (due_put r q.until change) ≡ x → HasEnds x p → HasEnds q p
-    like same ends = record {
-      redemption = ends.redemption ∙ sym (ap (λ (y : Quiet). y.redemption) same);
-      restore = ends.restore ∙ sym (ap (λ (y : Quiet). y.restore) same);
-      pending_delete = ends.pending_delete ∙ sym (ap (λ (y : Quiet). y.pending_delete) same);
-    }
+    domain-put : (k : List ℕ) (d : Domain) → NoneBefore p (sooner q.until (passed q.until (due_at r d))) (record s { domains = insert s.domains k d })
+    domain-put k d = (
+      contacts-still (passed q.until (due_at r d)),
+      λ name x found. domain-after k d name x (put-cases s.domains k d name x found),
+    )
 
-pub nothing-known : (known : Option Quiet) (s : Registry) → known ≡ None → IsQuiet known s
-nothing-known known s e = λ q found. absurd (never q (sym e ∙ found))
-  where
-    never : (q : Quiet) → (let o : Option Quiet = None in o) ≡ Some q → ⊥
-    never q e = cc
+contact-known : (known : Option Quiet) (k : List ℕ) (c : Contact) (s : Registry) → IsQuiet known s → IsQuiet (option_map (quiet_with_contact c) known) (record s { contacts = insert s.contacts k c })
+contact-known None k c s is = nothing-known (record s { contacts = insert s.contacts k c })
+contact-known (Some q) k c s is =
+    known-with q (option_and_then (passed q.until) (completes_at c.transfer)) (record s { contacts = insert s.contacts k c }) (λ p ends. contact-put q s p (is q refl p ends) k c)
+
+pub quiet-edited : (known : Option Quiet) (e : Edit) (s : Stored) → IsQuiet known s.registry → IsQuiet (quiet_after known e) (edited e s).registry
+quiet-edited known (edit.Contact k (Some c)) s is = contact-known known k c s.registry is
+quiet-edited known (edit.Contact k None) s is = λ q found p ends.
+    let none = is q found p ends in (λ name x m there done. none.0 name x m (drop-cases s.registry.contacts k name x there).1 done, none.1)
+quiet-edited known (edit.Domain k (Some d)) s is = nothing-known (edited (edit.Domain k (Some d)) s).registry
+quiet-edited known (edit.Domain k None) s is = λ q found p ends.
+    let none = is q found p ends in (none.0, λ name x there. none.1 name x (drop-cases s.registry.domains k name x there).1)
+quiet-edited known (edit.Host name value) s is = is
+quiet-edited known (edit.Clock t) s is = is
+quiet-edited known (edit.Account r value) s is = is
+quiet-edited known (edit.Counters r x) s is = is
+quiet-edited known (edit.Line r line) s is = is
+quiet-edited known (edit.Unline r line) s is = is
+quiet-edited known (edit.Notice r m) s is = is
+quiet-edited known (edit.Unnotice r m) s is = is
+quiet-edited known (edit.Terms value) s is = is
+
+pub quiet-unknown : (known : Option Quiet) (s : Registry) → known ≡ None → IsQuiet known s
+quiet-unknown known s e = subst (λ (o : Option Quiet). IsQuiet o s) (sym e) (nothing-known s)
+
+-- what is known once a domain is put
+pub quiet-put : (r : PolicyRules) (known : Option Quiet) (q : Quiet) (s : Stored) (d : Domain) → IsQuiet known s.registry → known ≡ Some q → HasEnds q r
+    → (result : Option Quiet) → result ≡ Some (quiet_with q (passed q.until (due_at r d))) → (k : List ℕ) → IsQuiet result (domain_put k (Some d) s).registry
+quiet-put r known q s d is e own result made k =
+    subst (λ (o : Option Quiet). IsQuiet o (domain_put k (Some d) s).registry) (sym made)
+    (known-with q (passed q.until (due_at r d)) (domain_put k (Some d) s).registry (λ p ends. domain-put q s.registry p (is q e p ends) r ends own k d))
 
 -- ---- nothing is due before
 
@@ -223,6 +224,3 @@ quiet-from r q s m own is = λ x found p ends.
           subst (λ n. q.until ≤ n) (sym (same-ends q p r (subst (λ (y : Quiet). HasEnds y p) (sym same) ends) own d))
           (subst (λ n. n ≤ due_at r d) (sym is) (all-due (λ (d : Domain). Some (due_at r d)) name d (due_at r d) refl (entries s.domains) (until_contacts m (entries s.contacts)) (sym (get-entries s.domains name) ∙ there))),
     )
-  where
-    some-is : (x y : Quiet) → (let o : Option Quiet = Some x in o) ≡ Some y → x ≡ y
-    some-is x y e = cc

@@ -1,23 +1,14 @@
--- How a book in memory makes a change, and takes it back: values at keys.
-use Rattle.std.specs.Prelude.{◌≡◌, ℕ, true, if◌then◌else◌, List, [], ◌∷◌, map, filter, fold, Option, Some, None, is_some, option_map}
-use Rattle.std.specs.FinMap.{entries, get}
+-- How records in memory are changed, and a change is taken back: values at keys.
+use Rattle.std.specs.Prelude.{ℕ, if◌then◌else◌, List, [], ◌∷◌, Option, Some, None, option_map}
+use Rattle.std.specs.FinMap.{get}
 use Rattle.accounts.specs.declared.account.Account.{Account}
-use Rattle.std.specs.Str.{bytes_eq}
 use Rattle.accounts.specs.declared.line.Line.{Line}
-use Rattle.accounts.specs.declared.line.LineSwap.{LineSwap}
 use Rattle.accounts.specs.declared.message.Message.{Message}
-use Rattle.accounts.specs.Account.{saturating_next}
-use Rattle.accounts.specs.Messages.{message_id}
-use Rattle.lifecycle.specs.Changes.{numbered}
-use Rattle.lifecycle.specs.declared.change.Notification.{Notification}
-use Rattle.objects.specs.Links.{names_host}
-use Rattle.rules.specs.Changes.{with_account, with_host_renamed}
 use Rattle.store.specs.declared.edit.Edit.{Edit}
 use Rattle.store.specs.declared.edit.Edit.TheVariants as edit
-use Rattle.store.specs.Book.{Stored}
 use Rattle.store.specs.declared.ledgers.Counters.{Counters}
-use Rattle.store.specs.Ledgers.{counters_of, lacks, next_message, put, with_counted, with_line, with_notice, without_line, without_notice}
-use Rattle.model.specs.Registry.{Registry}
+use Rattle.store.specs.Book.{Stored}
+use Rattle.store.specs.Ledgers.{counters_of, lacks, put, with_counted, with_line, with_notice, without_line, without_notice}
 
 abbrev pub edited : Edit → Stored → Stored
 edited (edit.Clock t) s = record s { registry = record s.registry { clock = t } }
@@ -31,10 +22,6 @@ edited (edit.Contact name value) s = record s { registry = record s.registry { c
 edited (edit.Domain name value) s = record s { registry = record s.registry { domains = put s.registry.domains name value } }
 edited (edit.Host name value) s = record s { registry = record s.registry { hosts = put s.registry.hosts name value } }
 edited (edit.Terms value) s = record s { terms = value }
-
--- the first one first
-abbrev pub edited_all : List Edit → Stored → Stored
-edited_all edits s = fold (λ s e. edited e s) s edits
 
 -- what gives an account its counters back, or takes away one that wasn't there
 abbrev pub counters_back : ℕ → Option Counters → Edit
@@ -68,29 +55,3 @@ inverse (edit.Terms value) s = edit.Terms s.terms
 abbrev pub undone_all : List Edit → Stored → Stored
 undone_all [] s = s
 undone_all (e ∷ es) s = edited e (undone_all es s)
-
--- one registrar's account is changed
-abbrev pub given_to : ℕ → (Account → Account) → Stored → Stored
-given_to r f s = record s { registry = with_account r f s.registry }
-
--- these edits change a registrar's account, where it is there
-abbrev pub GiveIt : ℕ → (Account → Account) → Stored → List Edit → Type 0
-GiveIt r f s edits = is_some (get s.registry.accounts r) ≡ true → edited_all edits s ≡ given_to r f s
-
--- for one line for another, one is taken out and the other put in
-abbrev pub swap_edits : ℕ → List LineSwap → List Edit
-swap_edits r [] = []
-swap_edits r (x ∷ xs) = edit.Unline r x.from ∷ edit.Line r x.to ∷ swap_edits r xs
-
--- for a message of a command, it is put in with the recipient's next number, and counted
-abbrev pub told_edits : ℕ → Notification → Account → List Edit
-told_edits r n a = edit.Notice r (numbered (saturating_next a.messages) n) ∷ edit.Counters r (next_message (counters_of a)) ∷ []
-
--- for an acknowledgement, the oldest message is taken out, where it has the identifier
-abbrev pub ack_edits : ℕ → List ℕ → Option Message → List Edit
-ack_edits r id None = []
-ack_edits r id (Some oldest) = if bytes_eq (message_id oldest) id then edit.Unnotice r oldest ∷ [] else []
-
--- for a host's new name, an edit for each domain that names the host
-abbrev pub renames : List ℕ → List ℕ → Registry → List Edit
-renames old new s = map (λ e. edit.Domain e.0 (Some (with_host_renamed old new e.1))) (filter (λ e. names_host old e.1.links) (entries s.domains))

@@ -8,3 +8,6 @@ pub mod Faces
 pub mod Contents
 pub mod Plain
 pub mod Quiet
+pub mod Records
+pub mod Tables
+pub mod Kept

@@ -1,16 +1,19 @@
--- What a `PlainBook` holds.
+-- What records in memory hold, and a book that is made of them.
 use Rattle.std.specs.Prelude.{◌≡◌, ◌-◌, length, take, List, true, if◌then◌else◌, [], Option, Some, None}
 use Rattle.policy.specs.declared.terms.Terms.{Terms}
 use Rattle.store.specs.declared.book.Ready.{Ready}
 use Rattle.store.specs.declared.book.Ready.TheVariants.{Empty, Used}
-use Rattle.store.specs.declared.plain.PlainBook.{PlainBook}
+use Rattle.store.specs.declared.edit.Edit.{Edit}
+use Rattle.store.specs.declared.kept.Kept.{Kept}
+use Rattle.store.specs.declared.plain.Plain.{Plain}
 use Rattle.store.specs.Book.{BookState, Stored}
 pub use Rattle.store.specs.Contents.{content_of, registry_in}
 use Rattle.store.specs.Edits.{edited, undone_all}
-use Rattle.store.specs.declared.edit.Edit.{Edit}
+use Rattle.store.specs.Kept.{stands}
+use Rattle.store.specs.Records.{RecordsState}
 
 -- what was held when the transaction began
-abbrev pub at_begin : PlainBook → Stored
+abbrev pub at_begin : Plain → Stored
 at_begin b = undone_all b.undo (content_of b.content)
 
 -- a book in memory is ready once it was opened
@@ -18,24 +21,30 @@ abbrev pub readiness_of : Option Terms → Ready
 readiness_of None = Empty
 readiness_of (Some terms) = Used
 
-abbrev pub held_by : PlainBook → Stored
+abbrev pub held_by : Plain → Stored
 held_by b = if b.is_open then content_of b.content else at_begin b
 
--- a book in memory takes nothing wrong and refuses nothing, and a crash leaves nothing of it
-abbrev pub plain_state : PlainBook → BookState
-plain_state b = record {
+-- records in memory take nothing wrong, and a crash leaves nothing of them
+abbrev pub plain_records : Plain → RecordsState
+plain_records b = record {
   content = held_by b;
   before = at_begin b;
   is_open = b.is_open;
   is_clean = true;
-  refused = 0;
   readiness = readiness_of (held_by b).terms;
   crash_leaves = [];
 }
 
+-- a book in memory
+abbrev pub PlainBook : Type 0
+PlainBook = Kept Plain
+
+abbrev pub plain_state : PlainBook → BookState
+plain_state b = stands (plain_records b.records) b.refused
+
 -- nothing is left to undo but what an open transaction did
-pub record IsSettled (old : BookState) (new : PlainBook) : Type 0 where
-  pub same : plain_state new ≡ old
+pub record IsSettled (old : RecordsState) (new : Plain) : Type 0 where
+  pub same : plain_records new ≡ old
   pub content : content_of new.content ≡ old.content
 
 -- what undoes all changes but the latest
@@ -44,6 +53,6 @@ without_latest undo = take (length undo - 1) undo
 
 -- once the edit is made, the latest undoes it and the others what was changed before, and as long as
 -- it isn't, the others lead back alone
-pub record LatestUndoes (e : Edit) (old new : PlainBook) : Type 0 where
+pub record LatestUndoes (e : Edit) (old new : Plain) : Type 0 where
   pub made : undone_all new.undo (edited e (content_of new.content)) ≡ at_begin old
   pub unmade : undone_all (without_latest new.undo) (content_of new.content) ≡ at_begin old

@@ -1,5 +1,5 @@
 -- Until when nothing is due in a book in memory.
-use Rattle.std.specs.Prelude.{◌≡◌, ℕ, ◌≤◌, List, Option, Some, None, fold, min, option_and_then, unwrap_or}
+use Rattle.std.specs.Prelude.{◌≡◌, ℕ, ◌≤◌, List, Option, Some, None, fold, min, option_and_then, option_map, unwrap_or}
 use Rattle.std.specs.FinMap.{get}
 use Rattle.lifecycle.specs.Lapse.{completes_at, due_at}
 use Rattle.model.specs.Registry.{Registry}
@@ -7,8 +7,8 @@ use Rattle.objects.specs.declared.contact.Contact.{Contact}
 use Rattle.objects.specs.declared.domain.Domain.{Domain}
 use Rattle.lifecycle.specs.Periods.{passed}
 use Rattle.policy.specs.Rules.{PolicyRules}
-use Rattle.rules.specs.declared.change.Change.{Change}
-use Rattle.rules.specs.declared.change.Change.TheVariants.{MoveClock, OpenAccount, PutContact, DropContact, PutDomain, DropDomain, PutHost, DropHost, RenameHost, LapseContact, LapseDomain, Give}
+use Rattle.store.specs.declared.edit.Edit.{Edit}
+use Rattle.store.specs.declared.edit.Edit.TheVariants as edit
 use Rattle.store.specs.declared.quiet.Quiet.{Quiet}
 
 -- the periods whose ends say when a deleted domain is purged
@@ -34,22 +34,25 @@ sooner until (Some due) = min until due
 abbrev pub quiet_with : Quiet → Option ℕ → Quiet
 quiet_with q due = record q { until = sooner q.until due }
 
--- when what a change puts is due, if that is by a moment
-abbrev pub due_put : PolicyRules → ℕ → Change → Option ℕ
-due_put p until (PutContact c) = option_and_then (passed until) (completes_at c.transfer)
-due_put p until (PutDomain d) = passed until (due_at p d)
-due_put p until (LapseContact name None) = None
-due_put p until (LapseContact name (Some c)) = option_and_then (passed until) (completes_at c.transfer)
-due_put p until (LapseDomain name None) = None
-due_put p until (LapseDomain name (Some d)) = passed until (due_at p d)
-due_put p until (DropContact name) = None
-due_put p until (DropDomain name) = None
-due_put p until (PutHost h) = None
-due_put p until (DropHost name) = None
-due_put p until (RenameHost old new) = None
-due_put p until (MoveClock t) = None
-due_put p until (OpenAccount r) = None
-due_put p until (Give r what) = None
+abbrev pub quiet_with_contact : Contact → Quiet → Quiet
+quiet_with_contact c q = quiet_with q (option_and_then (passed q.until) (completes_at c.transfer))
+
+-- What is known after an edit. When a domain is due hangs on the policy, so one that is put makes it
+-- unknown.
+abbrev pub quiet_after : Option Quiet → Edit → Option Quiet
+quiet_after known (edit.Contact name (Some c)) = option_map (quiet_with_contact c) known
+quiet_after known (edit.Contact name None) = known
+quiet_after known (edit.Domain name (Some d)) = None
+quiet_after known (edit.Domain name None) = known
+quiet_after known (edit.Host name value) = known
+quiet_after known (edit.Clock t) = known
+quiet_after known (edit.Account r value) = known
+quiet_after known (edit.Counters r x) = known
+quiet_after known (edit.Line r line) = known
+quiet_after known (edit.Unline r line) = known
+quiet_after known (edit.Notice r m) = known
+quiet_after known (edit.Unnotice r m) = known
+quiet_after known (edit.Terms value) = known
 
 -- the soonest moment at which one of them is due, or that which is given
 abbrev pub until_contacts : ℕ → List (List ℕ × Contact) → ℕ

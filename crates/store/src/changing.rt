@@ -1,36 +1,20 @@
-//! How a registry in ordered maps is changed.
-ghost use Rattle.std.specs.Prelude.{◌≡◌, ◌∷◌, [], option_map, IfOk, IfSome, OnOk, OnErr};
+//! How a registry in ordered maps is edited, and each edit taken back.
+ghost use Rattle.std.specs.Prelude.{◌≡◌, option_map, IfOk, IfSome, OnOk, OnErr};
 ghost use Rattle.std.specs.FinMap as finmap;
-ghost use Rattle.store.specs.Book.{with_changes};
 ghost use Rattle.store.specs.Edits as spec;
-ghost use Rattle.store.specs.Edits.{edited, edited_all};
+ghost use Rattle.store.specs.Edits.{edited};
 ghost use Rattle.store.specs.Ledgers.{counters_of};
-ghost use Rattle.store.specs.Plain.{content_of, registry_in};
-ghost use Rattle.model.specs.Registry.{account_of};
+ghost use Rattle.store.specs.Plain.{content_of};
 
 use crate::content::Content;
 use crate::edit::{
     Edit, copy_contact, copy_domain, copy_host, copy_terms, message_clone, put_named,
 };
-use crate::renamed::with_host_renamed;
-use accounts::{Account, Line, Message};
+use accounts::{Line, Message};
 use basis::registrar::RegistrarNo;
-use basis::text::Text;
-use policy::Policy;
-use rules::Change;
 use std::alloc::AllocError;
 
 impl Content {
-    /// A copy of a registrar's account, which is empty where it was never opened.
-    fn account(&self, registrar: RegistrarNo) -> Result<Account, AllocError>
-        ensures { IfOk result (λ account. account ≡ account_of registrar (registry_in self.now)) }
-    {
-        match self.accounts.copy(registrar)? {
-            Some(account) => Ok(account),
-            None => Ok(Account::empty(self.alloc)),
-        }
-    }
-
     /// What takes a line back, or the account that is opened for it.
     fn line_back(&self, registrar: RegistrarNo, line: Line) -> Edit
         ensures { result ≡ spec.line_back registrar line (finmap.get self.now.accounts registrar) }
@@ -50,58 +34,6 @@ impl Content {
             return Ok(Edit::Unnotice(registrar, message_clone(message)?));
         }
         Ok(Edit::Account(registrar, self.accounts.copy(registrar)?))
-    }
-
-    /// The edits that make a change.
-    pub fn edits_of(&self, change: Change, policy: &Policy) -> Result<Vec<Edit>, AllocError>
-        ensures { IfOk result (λ edits. edited_all edits.items (content_of self.now) ≡ with_changes policy.now (change ∷ []) (content_of self.now)) }
-    {
-        match change {
-            Change::MoveClock(moment) => self.one(Edit::Clock(moment.later(self.clock))),
-            Change::OpenAccount(registrar) => {
-                let account = self.account(registrar)?;
-                self.one(Edit::Account(registrar, Some(account)))
-            }
-            Change::Give(registrar, what) => self.gift(registrar, what, policy),
-            Change::PutContact(contact) => {
-                let name = contact.name.clone()?;
-                self.one(Edit::Contact(name, Some(contact)))
-            }
-            Change::DropContact(name) => self.one(Edit::Contact(name, None)),
-            Change::PutDomain(domain) => {
-                let name = domain.name.clone()?;
-                self.one(Edit::Domain(name, Some(domain)))
-            }
-            Change::DropDomain(name) => self.one(Edit::Domain(name, None)),
-            Change::PutHost(host) => {
-                let name = host.name.clone()?;
-                self.one(Edit::Host(name, Some(host)))
-            }
-            Change::DropHost(name) => self.one(Edit::Host(name, None)),
-            Change::RenameHost { from, to } => self.renames(&from, &to),
-            Change::LapseContact(name, left) => self.one(Edit::Contact(name, left)),
-            Change::LapseDomain(name, left) => self.one(Edit::Domain(name, left)),
-        }
-    }
-
-    pub fn one(&self, edit: Edit) -> Result<Vec<Edit>, AllocError>
-        ensures { IfOk result (λ edits. edits.items ≡ edit ∷ []) }
-    {
-        Ok(vec![in self.alloc; edit]?)
-    }
-
-    /// The domains that name a host, each with the host's new name.
-    fn renames(&self, from: &Text, to: &Text) -> Result<Vec<Edit>, AllocError>
-        ensures { IfOk result (λ edits. edits.items ≡ spec.renames from.now to.now (registry_in self.now)) }
-    {
-        let mut edits = Vec::new(self.alloc);
-        for (name, domain) in self.domains.iter() {
-            if domain.links.names_host(from) {
-                let domain = with_host_renamed(self.alloc, from, to, domain)?;
-                edits.push(Edit::Domain(name.clone()?, Some(domain)))?;
-            }
-        }
-        Ok(edits)
     }
 
     /// What gives a registrar's account its counters back.

@@ -111,6 +111,16 @@ pub(crate) fn message_clone(message: &Message) -> Result<Message, AllocError>
     message.clone()
 }
 
+/// A copy of a message, if there is one.
+pub(crate) fn copy_message(message: Option<&Message>) -> Result<Option<Message>, AllocError>
+    ensures { IfOk result (λ copy. copy ≡ option_copied message.entry) }
+{
+    match message {
+        None => Ok(None),
+        Some(message) => Ok(Some(message_clone(message)?)),
+    }
+}
+
 pub(crate) fn copy_contact(
     contact: Option<&ContactRecord>,
 ) -> Result<Option<ContactRecord>, AllocError>

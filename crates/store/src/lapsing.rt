@@ -1,12 +1,13 @@
 //! What of a registry in ordered maps is due.
-ghost use Rattle.std.specs.Prelude.{◌≡◌, ◌++◌, Some, IfOk, OnOk};
+ghost use Rattle.std.specs.Prelude.{◌≡◌, Some, option_map, IfOk, OnOk};
 ghost use Rattle.std.specs.FinMap.{entries};
 ghost use Rattle.store.specs.Due as spec;
-ghost use Rattle.store.specs.Quiet.{IsQuiet, due_put, until_contacts, until_domains};
+ghost use Rattle.store.specs.Quiet.{IsQuiet, quiet_after, quiet_with_contact, until_contacts, until_domains};
 ghost use Rattle.store.specs.Plain.{registry_in};
 
 use crate::content::Content;
 use crate::due::Due;
+use crate::edit::Edit;
 use crate::quiet::Quiet;
 use basis::list::Seq;
 use basis::text::Text;
@@ -14,7 +15,6 @@ use calendar::Moment;
 use lifecycle::{contact_due_by, due_by};
 use objects::{Contact, Domain, ObjectKind};
 use policy::Policy;
-use rules::Change;
 use std::alloc::{AllocError, Global};
 use std::collections::BTreeSet;
 
@@ -87,18 +87,25 @@ fn last_moment() -> Moment {
     Moment::first().plus_years_capped(u32::MAX)
 }
 
-/// When what a change puts is due, if that is by a moment.
-pub(crate) fn due_put(change: &Change, until: Moment, policy: &Policy) -> Option<Moment>
-    ensures { result ≡ due_put policy.now until change.now }
+/// Until when nothing is due after an edit, where that is known. When a domain is due hangs on the
+/// policy, so one that is put makes it unknown.
+pub(crate) fn quiet_after(quiet: Option<Quiet>, edit: &Edit) -> Option<Quiet>
+    ensures { result ≡ quiet_after quiet edit.now }
 {
-    match change {
-        Change::PutContact(contact) | Change::LapseContact(_, Some(contact)) => {
-            contact_due_by(contact, until)
-        }
-        Change::PutDomain(domain) | Change::LapseDomain(_, Some(domain)) => {
-            due_by(domain, until, policy)
-        }
-        _ => None,
+    match edit {
+        Edit::Contact(_, Some(contact)) => quiet_with(quiet, contact),
+        Edit::Domain(_, Some(_)) => None,
+        _ => quiet,
+    }
+}
+
+/// The same where a contact is put.
+fn quiet_with(quiet: Option<Quiet>, contact: &Contact) -> Option<Quiet>
+    ensures { result ≡ option_map (quiet_with_contact contact.now) quiet }
+{
+    match quiet {
+        None => None,
+        Some(quiet) => Some(quiet.with(contact_due_by(contact, quiet.until))),
     }
 }
 

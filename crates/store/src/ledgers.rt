@@ -1,24 +1,27 @@
 //! The accounts of a book in memory: counters apart from lines and messages, and each line and each
 //! message put in and taken out where the account stands, so that no command copies what it leaves.
-ghost use Rattle.std.specs.Prelude.{◌≡◌, true, [], IfOk, OnOk, OnErr, is_some, option_map, unwrap_or};
+ghost use Rattle.std.specs.Prelude.{◌≡◌, true, [], length, slice_get, IfOk, OnOk, OnErr, is_some, option_map, unwrap_or};
+ghost use Rattle.std.specs.List.{filter};
 ghost use Rattle.std.specs.FinMap as map;
 ghost use Rattle.std.specs.Option.{option_copied};
 ghost use Rattle.accounts.specs.Account.{empty_account};
+ghost use Rattle.accounts.specs.Lines as lines;
 ghost use Rattle.accounts.specs.Lines.{in_order, swapped_all};
-ghost use Rattle.basis.specs.Bag.{remade};
+ghost use Rattle.basis.specs.Bag.{bag_of, remade};
 ghost use Rattle.store.specs.Ledgers as spec;
 ghost use Rattle.store.specs.Ledgers.{put};
 
-use crate::edit::account_clone;
-use accounts::{Account, Line, LineChange, LineSwap, Message, Queue, saturating_next};
+use crate::edit::{account_clone, copy_message};
+use accounts::{Account, Line, LineChange, LineSwap, Lines, Message, Queue, saturating_next};
 use basis::maps::RegistrarMap;
 use basis::registrar::RegistrarNo;
+use objects::Roid;
 use std::alloc::{AllocError, Global};
 use std::marker::Model;
 
 /// The counters of an account.
 #[derive(Clone, Copy, Drop)]
-pub(crate) struct Counters {
+pub struct Counters {
     pub commands: u64,
     pub messages: u64,
     pub serial: u64,
@@ -139,6 +142,52 @@ impl Ledgers {
         match self.accounts.get(registrar) {
             None => None,
             Some(account) => Some(&account.queue),
+        }
+    }
+
+    /// What a registrar's account has, in whole cents.
+    #[tactic(auto, unfolding(accounts::specs::Lines::balance))]
+    pub fn balance(&self, registrar: RegistrarNo) -> i128
+        ensures { result ≡ lines.balance (spec.lines_of (map.get self.now registrar)) }
+    {
+        match self.ledger(registrar) {
+            None => 0,
+            Some(account) => account.lines.balance(),
+        }
+    }
+
+    /// A registrar's lines on a domain.
+    pub fn lines_on(
+        &self,
+        alloc: Global,
+        registrar: RegistrarNo,
+        roid: &Roid,
+    ) -> Result<Lines, AllocError>
+        ensures { IfOk result (λ on. on ≡ filter (lines.is_on roid.now) (spec.lines_of (map.get self.now registrar))) }
+    {
+        match self.ledger(registrar) {
+            None => Ok(Lines::new(alloc)),
+            Some(account) => bag_of(alloc, account.lines.on(roid)),
+        }
+    }
+
+    /// The message that has waited longest for a registrar.
+    pub fn oldest(&self, registrar: RegistrarNo) -> Result<Option<Message>, AllocError>
+        ensures { IfOk result (λ oldest. oldest ≡ slice_get (spec.queue_of (map.get self.now registrar)) 0) }
+    {
+        match self.queue(registrar) {
+            None => Ok(None),
+            Some(queue) => copy_message(queue.oldest()),
+        }
+    }
+
+    /// How many messages wait for a registrar.
+    pub fn waiting(&self, registrar: RegistrarNo) -> u64
+        ensures { result ≡ length (spec.queue_of (map.get self.now registrar)) }
+    {
+        match self.queue(registrar) {
+            None => 0,
+            Some(queue) => queue.waiting() as u64,
         }
     }
 
@@ -345,4 +394,15 @@ fn counters_now(account: &Account, other: Option<&Counters>) -> Counters
         None => Counters::of(account),
         Some(counters) => *counters,
     }
+}
+
+/// Lines as a bag.
+fn bag_of(alloc: Global, lines: &[Line]) -> Result<Lines, AllocError>
+    ensures { IfOk result (λ bag. bag ≡ bag_of in_order lines.now) }
+{
+    let mut bag = Lines::new(alloc);
+    for line in lines {
+        bag.add(*line)?;
+    }
+    Ok(bag)
 }

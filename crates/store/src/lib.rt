@@ -1,22 +1,31 @@
-//! Where a registry is kept: the trait of such a place, and one in memory.
+//! Where a registry is kept: the trait of such a place, one that is made of records, and records in
+//! memory.
 #![tactic(auto)]
 
+mod applying;
 mod book;
 mod changing;
 mod content;
 mod due;
 mod edit;
-mod faces;
 mod fault;
-mod gifts;
+mod finding;
+mod giving;
+mod kept;
 mod lapsing;
 mod ledgers;
+mod memory;
 mod plain;
 mod quiet;
+mod records;
 mod renamed;
+mod seeing;
 mod transaction;
 
 pub use book::{Book, Ready};
 pub use due::Due;
 pub use fault::BookFault;
-pub use plain::PlainBook;
+pub use kept::Kept;
+pub use ledgers::Counters;
+pub use plain::{Plain, PlainBook};
+pub use records::Records;

@@ -4,13 +4,17 @@ ghost use Rattle.store.specs.Quiet.{IsQuiet};
 
 use crate::content::Content;
 use crate::edit::Edit;
+use crate::kept::Kept;
 use crate::quiet::Quiet;
 use basis::list::Seq;
 
-/// A registry in ordered maps, with what undoes the changes of the open transaction. A change costs
-/// a look-up and a copy of what it replaces; nothing is copied when a transaction begins.
+/// A book in memory.
+pub type PlainBook = Kept<Plain>;
+
+/// Records in ordered maps, with what undoes the changes of the open transaction. A change costs a
+/// look-up and a copy of what it replaces; nothing is copied when a transaction begins.
 #[derive(Drop)]
-pub struct PlainBook {
+pub struct Plain {
     pub(crate) content: Content,
     /// What undoes the transaction's changes, the latest last. Where going back finds no memory,
     /// what is still to be undone, which the next call undoes first.

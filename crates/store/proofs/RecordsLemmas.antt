@@ -1,0 +1,24 @@
+-- One call on records after another.
+use Rattle.std.proofs.Common.{◌≡◌, true, Result, Ok, Err, ◌∙◌}
+use Rattle.store.specs.declared.fault.BookFault.{BookFault}
+use Rattle.store.specs.Book.{Stored}
+use Rattle.store.specs.Records.{Makes, Reads, RecordsState}
+
+pub reads-on : (s m t : RecordsState) → Reads s m → Reads m t → Reads s t
+reads-on s m t a b = record {
+  clean = λ e. a.clean (b.clean e);
+  before = λ e. b.before e ∙ a.before (b.clean e);
+  opened = b.opened ∙ a.opened;
+  content = λ e. b.content e ∙ a.content (b.clean e);
+}
+
+-- a change after a call that stays in the transaction
+pub makes-on : {A : Type 0} (r : Result A BookFault) (s m t : RecordsState) (g h : Stored) → (m.is_clean ≡ true → s.is_clean ≡ true) → (m.is_clean ≡ true → m.before ≡ s.before)
+    → (m.is_clean ≡ true → g ≡ h) → Makes r g m t → Makes r h s t
+makes-on (Ok done) s m t g h clean before same made = record {
+  clean = λ e. clean (made.clean e);
+  before = λ e. made.before e ∙ before (made.clean e);
+  opened = made.opened;
+  content = λ e. made.content e ∙ same (made.clean e);
+}
+makes-on (Err fault) s m t g h clean before same made = record { clean = λ e. clean (made.clean e); before = λ e. made.before e ∙ before (made.clean e) }

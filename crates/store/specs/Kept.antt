@@ -1,0 +1,28 @@
+-- How a book stands that is made of records.
+use Rattle.std.specs.Prelude.{◌≡◌, ℕ, ◌≤◌, true, false}
+use Rattle.store.specs.declared.fault.BookFault.{BookFault}
+use Rattle.store.specs.declared.fault.BookFault.TheVariants.{Memory, Store}
+use Rattle.store.specs.Book.{BookState, HasRefused, NoRefusal}
+use Rattle.store.specs.Records.{RecordsState}
+
+abbrev pub stands : RecordsState → ℕ → BookState
+stands s refused = record {
+  content = s.content;
+  before = s.before;
+  is_open = s.is_open;
+  is_clean = s.is_clean;
+  refused = refused;
+  readiness = s.readiness;
+  crash_leaves = s.crash_leaves;
+}
+
+-- it went back, whatever was done in the transaction
+pub record GoesBack (old new : BookState) : Type 0 where
+  pub clean : new.is_clean ≡ true → old.is_clean ≡ true
+  pub counted : old.refused ≤ new.refused
+  pub closed : new.is_open ≡ false
+  pub content : new.is_clean ≡ true → new.content ≡ old.before
+
+abbrev pub GaveUp : BookFault → BookState → BookState → Type 0
+GaveUp Memory old new = GoesBack old new × NoRefusal old new
+GaveUp Store old new = GoesBack old new × HasRefused old new

@@ -1,0 +1,122 @@
+//! How changes are made in records.
+ghost use Rattle.std.specs.Prelude.{◌≡◌, ◌∷◌, [], true};
+ghost use Rattle.rules.specs.declared.change.Change.TheVariants as change;
+ghost use Rattle.store.specs.Book.{with_changes};
+ghost use Rattle.store.specs.Records.{Makes};
+ghost use Rattle.store.specs.Tables.{contact_left, domain_left, host_renamed_in};
+
+use crate::fault::BookFault;
+use crate::giving::give;
+use crate::records::Records;
+use basis::list::Seq;
+use basis::text::Text;
+use objects::{Contact, Domain};
+use policy::Policy;
+use rules::Change;
+
+/// Makes changes, one after another.
+pub(crate) fn apply<R: Records>(
+    records: &mut R,
+    changes: Seq<Change>,
+    policy: &Policy,
+) -> Result<(), BookFault>
+    requires { (R.kept records.old).is_open ≡ true }
+    ensures { Makes result (with_changes policy.now changes (R.kept records.old).content) (R.kept records.old) (R.kept records.new) }
+{
+    for change in changes.into_vec() {
+        make(records, change, policy)?;
+    }
+    Ok(())
+}
+
+/// Makes a change.
+fn make<R: Records>(records: &mut R, change: Change, policy: &Policy) -> Result<(), BookFault>
+    requires { (R.kept records.old).is_open ≡ true }
+    ensures { Makes result (with_changes policy.now (change ∷ []) (R.kept records.old).content) (R.kept records.old) (R.kept records.new) }
+{
+    match change {
+        Change::MoveClock(moment) => {
+            let clock = records.clock()?;
+            records.set_clock(moment.later(clock))
+        }
+        Change::OpenAccount(registrar) => records.open_account(registrar),
+        Change::Give(registrar, what) => give(records, registrar, what, policy),
+        Change::PutContact(contact) => {
+            let name = contact.name.clone()?;
+            records.put_contact(name, contact)
+        }
+        Change::DropContact(name) => records.drop_contact(name),
+        Change::PutDomain(domain) => {
+            let name = domain.name.clone()?;
+            records.put_domain(name, domain, policy)
+        }
+        Change::DropDomain(name) => records.drop_domain(name),
+        Change::PutHost(host) => records.put_host(host),
+        Change::DropHost(name) => records.drop_host(name),
+        Change::RenameHost { from, to } => rename(records, &from, &to, policy),
+        Change::LapseContact(name, left) => leave_contact(records, name, left),
+        Change::LapseDomain(name, left) => leave_domain(records, name, left, policy),
+    }
+}
+
+/// What time left of a contact stands under its name.
+fn leave_contact<R: Records>(
+    records: &mut R,
+    name: Text,
+    left: Option<Contact>,
+) -> Result<(), BookFault>
+    requires { (R.kept records.old).is_open ≡ true }
+    ensures { Makes result (contact_left name left (R.kept records.old).content) (R.kept records.old) (R.kept records.new) }
+{
+    match left {
+        None => records.drop_contact(name),
+        Some(contact) => records.put_contact(name, contact),
+    }
+}
+
+/// What time left of a domain stands under its name.
+fn leave_domain<R: Records>(
+    records: &mut R,
+    name: Text,
+    left: Option<Domain>,
+    policy: &Policy,
+) -> Result<(), BookFault>
+    requires { (R.kept records.old).is_open ≡ true }
+    ensures { Makes result (domain_left name left (R.kept records.old).content) (R.kept records.old) (R.kept records.new) }
+{
+    match left {
+        None => records.drop_domain(name),
+        Some(domain) => records.put_domain(name, domain, policy),
+    }
+}
+
+/// Every domain that names the host of the one name names that of the other in its place.
+fn rename<R: Records>(
+    records: &mut R,
+    from: &Text,
+    to: &Text,
+    policy: &Policy,
+) -> Result<(), BookFault>
+    requires { (R.kept records.old).is_open ≡ true }
+    ensures { Makes result (with_changes policy.now (change.RenameHost from.now to.now ∷ []) (R.kept records.old).content) (R.kept records.old) (R.kept records.new) }
+{
+    let names = records.domains_naming(from)?;
+    rename_in(records, from, to, names.as_slice(), policy)
+}
+
+/// Each of these domains names the host of the one name by the other.
+fn rename_in<R: Records>(
+    records: &mut R,
+    from: &Text,
+    to: &Text,
+    names: &[Text],
+    policy: &Policy,
+) -> Result<(), BookFault>
+    requires { (R.kept records.old).is_open ≡ true }
+    ensures { Makes result (host_renamed_in from.now to.now names.now (R.kept records.old).content) (R.kept records.old) (R.kept records.new) }
+{
+    for name in names {
+        records.rename_host(name, from, to, policy)?;
+    }
+    Ok(())
+}

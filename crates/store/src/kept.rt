@@ -1,0 +1,189 @@
+//! A book that is made of records.
+ghost use Rattle.std.specs.Prelude.{◌≡◌, ◌≤◌, Err};
+ghost use Rattle.store.specs.Book.{HasRefused};
+ghost use Rattle.store.specs.Kept.{GaveUp, GoesBack, stands};
+
+use crate::book::Book;
+use crate::due::Due;
+use crate::fault::BookFault;
+use crate::records::Records;
+use crate::{applying, finding, seeing};
+use basis::list::Seq;
+use basis::registrar::RegistrarNo;
+use basis::text::Text;
+use calendar::Moment;
+use facts::Facts;
+use model::Object;
+use objects::{ContactFace, DomainFace, HostFace, ObjectKind};
+use policy::{Policy, Terms};
+use protocol::Command;
+use rules::Change;
+
+/// A book over records. It counts what they refuse, and goes back after each fault.
+#[derive(Drop)]
+pub struct Kept<R> {
+    records: R,
+    refused: u64,
+}
+
+impl<R> Kept<R> {
+    /// A book over records of which none was refused yet.
+    pub fn over(records: R) -> Self
+        ensures records { result.records ≡ records }
+        ensures refused { result.refused ≡ 0 }
+    {
+        Kept {
+            records,
+            refused: 0,
+        }
+    }
+}
+
+impl<R: Records> Kept<R> {
+    /// One refusal more.
+    fn count(&mut self)
+        ensures same { self.new.records ≡ self.old.records }
+        ensures counted { self.old.refused ≤ self.new.refused }
+        ensures refused { HasRefused (stands (R.kept self.old.records) self.old.refused) (stands (R.kept self.new.records) self.new.refused) }
+    {
+        self.refused = self.refused.saturating_add(1);
+    }
+
+    /// Goes back because of a fault, and counts a refusal.
+    fn give_up<T>(&mut self, fault: BookFault) -> Result<T, BookFault>
+        ensures fault { result ≡ Err fault }
+        ensures back { GaveUp fault (stands (R.kept self.old.records) self.old.refused) (stands (R.kept self.new.records) self.new.refused) }
+    {
+        self.records.back();
+        match fault {
+            BookFault::Memory => {}
+            BookFault::Store => self.count(),
+        }
+        Err(fault)
+    }
+}
+
+impl<R: Records> Book for Kept<R> {
+    ghost use Rattle.store.specs.Kept.{stands};
+
+    ghost state = { λ b. stands (R.kept b.records) b.refused };
+
+    fn active(&self) -> bool {
+        self.records.is_open()
+    }
+
+    fn refusals(&self) -> u64 {
+        self.refused
+    }
+
+    fn clock(&mut self) -> Result<Moment, BookFault> {
+        match self.records.clock() {
+            Ok(clock) => Ok(clock),
+            Err(fault) => self.give_up(fault),
+        }
+    }
+
+    fn terms(&mut self) -> Result<Option<Terms>, BookFault> {
+        match self.records.terms() {
+            Ok(terms) => Ok(terms),
+            Err(fault) => self.give_up(fault),
+        }
+    }
+
+    fn facts_for(
+        &mut self,
+        caller: RegistrarNo,
+        command: &Command,
+        policy: &Policy,
+    ) -> Result<Facts, BookFault> {
+        match finding::facts_for(&mut self.records, caller, command, policy) {
+            Ok(facts) => Ok(facts),
+            Err(fault) => self.give_up(fault),
+        }
+    }
+
+    fn object_at(&mut self, kind: ObjectKind, name: &Text) -> Result<Option<Object>, BookFault> {
+        match finding::object_at(&mut self.records, kind, name) {
+            Ok(object) => Ok(object),
+            Err(fault) => self.give_up(fault),
+        }
+    }
+
+    fn domain_face(
+        &mut self,
+        name: &Text,
+        policy: &Policy,
+    ) -> Result<Option<DomainFace>, BookFault> {
+        match seeing::domain_face(&mut self.records, name, policy) {
+            Ok(face) => Ok(face),
+            Err(fault) => self.give_up(fault),
+        }
+    }
+
+    fn host_face(&mut self, name: &Text, policy: &Policy) -> Result<Option<HostFace>, BookFault> {
+        match seeing::host_face(&mut self.records, name, policy) {
+            Ok(face) => Ok(face),
+            Err(fault) => self.give_up(fault),
+        }
+    }
+
+    fn contact_face(&mut self, name: &Text) -> Result<Option<ContactFace>, BookFault> {
+        match seeing::contact_face(&mut self.records, name) {
+            Ok(face) => Ok(face),
+            Err(fault) => self.give_up(fault),
+        }
+    }
+
+    fn domain_names(&mut self) -> Result<Seq<Text>, BookFault> {
+        match self.records.domain_names() {
+            Ok(names) => Ok(names),
+            Err(fault) => self.give_up(fault),
+        }
+    }
+
+    fn host_addresses(&mut self, name: &Text) -> Result<Option<Seq<Text>>, BookFault> {
+        match self.records.host_addresses(name) {
+            Ok(addresses) => Ok(addresses),
+            Err(fault) => self.give_up(fault),
+        }
+    }
+
+    fn due(&mut self, moment: Moment, policy: &Policy) -> Result<Seq<Due>, BookFault> {
+        match self.records.due(moment, policy) {
+            Ok(due) => Ok(due),
+            Err(fault) => self.give_up(fault),
+        }
+    }
+
+    fn begin(&mut self) -> Result<(), BookFault> {
+        match self.records.begin() {
+            Ok(()) => Ok(()),
+            Err(fault) => self.give_up(fault),
+        }
+    }
+
+    fn apply(&mut self, changes: Seq<Change>, policy: &Policy) -> Result<(), BookFault> {
+        match applying::apply(&mut self.records, changes, policy) {
+            Ok(()) => Ok(()),
+            Err(fault) => self.give_up(fault),
+        }
+    }
+
+    fn keep_terms(&mut self, terms: Terms) -> Result<(), BookFault> {
+        match self.records.set_terms(terms) {
+            Ok(()) => Ok(()),
+            Err(fault) => self.give_up(fault),
+        }
+    }
+
+    fn commit(&mut self) -> Result<(), BookFault> {
+        match self.records.commit() {
+            Ok(()) => Ok(()),
+            Err(fault) => self.give_up(fault),
+        }
+    }
+
+    fn back(&mut self) {
+        self.records.back();
+    }
+}
