@@ -1,6 +1,14 @@
--- Accounts are opened one after another.
-use Rattle.std.proofs.Common.{◌≡◌, ℕ, suc, ◌+◌, [], ◌∷◌, ◌++◌, refl, arith}
-use Rattle.registry.specs.Opening.{openings}
+-- Accounts are opened one after another, and a book once it is known to be ours.
+use Rattle.std.proofs.Common.{◌≡◌, ◌≢◌, ◌<◌, ◌⊎◌, ℕ, suc, ◌+◌, true, false, cond, [], ◌∷◌, ◌++◌, refl, sym, ap, subst, ◌∙◌, arith}
+use Rattle.policy.specs.Rules.{PolicyRules}
+use Rattle.registry.specs.declared.fault.OpenFault.{OpenFault}
+use Rattle.registry.specs.declared.fault.OpenFault.TheVariants as refusals
+use Rattle.registry.specs.Opening.{IsOthers, IsOurs, Opens, Refuses, RefusesOurs, goes_on, openings}
+use Rattle.policy.specs.Terms.{terms_of}
+use Rattle.registry.specs.Opening.{opened}
+use Rattle.store.specs.Book.{BookState, Follows, IsBack, IsSame, home}
+use Rattle.store.specs.declared.book.Ready.{Ready}
+use Rattle.store.specs.declared.book.Ready.TheVariants.{Other}
 use Rattle.rules.specs.declared.change.Change.TheVariants.{OpenAccount}
 
 pub openings-zero : openings 0 ≡ []
@@ -10,3 +18,50 @@ openings-zero = refl
 pub openings-next : (n : ℕ) → openings (n + 1) ≡ openings n ++ OpenAccount (n + 1) ∷ []
 unfolding openings
 openings-next n = let next : n + 1 ≡ suc n = omega arith in rw next refl
+
+-- ---- a book that was only looked at
+
+-- what it goes back to is what it was before
+home-same : (old mid : BookState) → IsSame old mid → mid.is_clean ≡ true → old.is_open ≡ false → home mid ≡ home old
+home-same old mid same clean closed =
+    ap (λ b. cond b mid.before mid.content) (same.opened ∙ closed) ∙ same.content clean ∙ sym (ap (λ b. cond b old.before old.content) closed)
+
+back-later : (old mid new : BookState) → IsSame old mid → Follows mid new → old.is_open ≡ false → IsBack mid new → IsBack old new
+back-later old mid new same then closed back = record {
+  closed = back.closed;
+  content = λ clean. back.content clean ∙ home-same old mid same (then.clean clean) closed;
+}
+
+pub is-others : (old new : BookState) → IsSame old new → old.is_open ≡ false → (new.is_clean ≡ true → Other ≡ old.readiness) → IsOthers old new
+is-others old new same closed found = record {
+  back = record { closed = same.opened ∙ closed; content = λ clean. same.content clean ∙ sym (ap (λ b. cond b old.before old.content) closed) };
+  counted = same.counted;
+  other = λ clean. sym (found clean);
+}
+
+pub opens-later : (p : PolicyRules) (old mid new : BookState) → IsSame old mid → Follows mid new → Opens p mid new → Opens p old new
+opens-later p old mid new same then opens = record {
+  counted = opens.counted ∙ same.counted;
+  closed = opens.closed;
+  content = λ clean. opens.content clean ∙ ap (opened p) (same.content (then.clean clean));
+  fits = λ clean. sym (ap (goes_on (terms_of p)) (same.content (then.clean clean))) ∙ opens.fits clean;
+}
+
+pub refuses-later : (fault : OpenFault) (p : PolicyRules) (old mid new : BookState) → old.is_open ≡ false → IsSame old mid → Follows mid new → Refuses fault p mid new → fault ≢ refusals.Schema → Refuses fault p old new
+refuses-later refusals.Policy p old mid new closed same then refused other = record {
+  back = back-later old mid new same then closed refused.back;
+  differs = λ clean. sym (ap (goes_on (terms_of p)) (same.content (then.clean clean))) ∙ refused.differs clean;
+}
+refuses-later refusals.Schema p old mid new closed same then refused other = absurd (other refl)
+refuses-later refusals.Memory p old mid new closed same then refused other = (back-later old mid new same then closed refused.0, refused.1 ∙ same.counted)
+refuses-later refusals.Store p old mid new closed same then refused other =
+    (back-later old mid new same then closed refused.0, subst (λ n. (n < new.refused) ⊎ (new.refused ≡ 0xFFFF_FFFF_FFFF_FFFF)) same.counted refused.1)
+
+pub is-ours : (ready : Ready) (old mid new : BookState) → ready ≢ Other → (mid.is_clean ≡ true → ready ≡ old.readiness) → Follows mid new → IsOurs old new
+is-ours ready old mid new differs found then clean other = differs (found (then.clean clean) ∙ other)
+
+pub refuses-ours : (fault : OpenFault) (old new : BookState) → IsOurs old new → RefusesOurs fault old new
+refuses-ours refusals.Policy old new ours = ours
+refuses-ours refusals.Schema old new ours = tt
+refuses-ours refusals.Memory old new ours = tt
+refuses-ours refusals.Store old new ours = tt

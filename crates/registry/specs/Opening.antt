@@ -1,5 +1,5 @@
 -- How a book is opened under a policy.
-use Rattle.std.specs.Prelude.{◌≡◌, ℕ, zero, suc, Bool, true, false, List, [], ◌∷◌, ◌++◌, length, Option, Some, None}
+use Rattle.std.specs.Prelude.{◌≡◌, ◌≢◌, ℕ, zero, suc, Bool, true, false, List, [], ◌∷◌, ◌++◌, length, Option, Some, None}
 use Rattle.policy.specs.declared.terms.Terms.{Terms}
 use Rattle.policy.specs.Rules.{PolicyRules}
 use Rattle.policy.specs.Terms.{continues, terms_of}
@@ -9,6 +9,7 @@ use Rattle.rules.specs.declared.change.Change.{Change}
 use Rattle.rules.specs.declared.change.Change.TheVariants.{OpenAccount}
 use Rattle.rules.specs.Changes.{changed_all}
 use Rattle.store.specs.Book.{BookState, HasRefused, IsBack, NoRefusal, Stored}
+use Rattle.store.specs.declared.book.Ready.TheVariants.{Other}
 
 abbrev pub continues_earlier : Terms → Option Terms → Bool
 continues_earlier terms None = true
@@ -44,10 +45,28 @@ pub record DoesNotFit (p : PolicyRules) (old new : BookState) : Type 0 where
   pub back : IsBack old new
   pub differs : new.is_clean ≡ true → goes_on (terms_of p) old.content ≡ false
 
+-- what keeps the book is no other's
+abbrev pub IsOurs : BookState → BookState → Type 0
+IsOurs old new = new.is_clean ≡ true → old.readiness ≢ Other
+
+-- what is another's is as it was
+pub record IsOthers (old new : BookState) : Type 0 where
+  pub back : IsBack old new
+  pub counted : NoRefusal old new
+  pub other : new.is_clean ≡ true → old.readiness ≡ Other
+
 abbrev pub Refuses : OpenFault → PolicyRules → BookState → BookState → Type 0
 Refuses refusals.Policy p old new = DoesNotFit p old new
+Refuses refusals.Schema p old new = IsOthers old new
 Refuses refusals.Memory p old new = IsBack old new × NoRefusal old new
 Refuses refusals.Store p old new = IsBack old new × HasRefused old new
+
+-- a policy is refused only of a book that is ours
+abbrev pub RefusesOurs : OpenFault → BookState → BookState → Type 0
+RefusesOurs refusals.Policy old new = IsOurs old new
+RefusesOurs refusals.Schema old new = Unit {0}
+RefusesOurs refusals.Memory old new = Unit {0}
+RefusesOurs refusals.Store old new = Unit {0}
 
 -- in a transaction, the book was opened or it went back
 abbrev pub TakesUp : Bool → PolicyRules → BookState → BookState → Type 0

@@ -47,6 +47,9 @@ pub enum OpenFault {
     /// It was used under another zone, other reserved labels, days or prices, or other registrars.
     #[error("open: policy differs")]
     Policy,
+    /// What keeps the book has something else in it, or a book of another form.
+    #[error("open: schema")]
+    Schema,
     /// Memory ran out.
     #[error("out of memory")]
     Memory,

@@ -1,9 +1,10 @@
 //! How a book is opened under a policy.
-ghost use Rattle.std.specs.Prelude.{◌≡◌, true, false, IfOk, IfErr, OnOk};
+ghost use Rattle.std.specs.Prelude.{◌≡◌, ◌≢◌, true, false, IfOk, IfErr, OnOk};
 ghost use Rattle.policy.specs.Terms.{terms_of};
 ghost use Rattle.registry.specs.Execution.{GoesBack};
 ghost use Rattle.registry.specs.Opening as spec;
-ghost use Rattle.registry.specs.Opening.{IsOpened, Opens, Refuses, TakesUp};
+ghost use Rattle.registry.specs.declared.fault.OpenFault.TheVariants as refusals;
+ghost use Rattle.registry.specs.Opening.{IsOpened, IsOurs, Opens, Refuses, RefusesOurs, TakesUp};
 ghost use Rattle.store.specs.Book.{Follows};
 
 use crate::fault::{Fault, OpenFault};
@@ -13,9 +14,10 @@ use basis::registrar::RegistrarNo;
 use policy::{Policy, Terms};
 use rules::Change;
 use std::alloc::{AllocError, Global};
-use store::{Book, BookFault};
+use store::{Book, BookFault, Ready};
 
-/// Opens a book in one transaction.
+/// Opens a book, unless what keeps it is another's.
+#[tactic(auto, using(crate::proofs::OpeningLemmas::opens-later, crate::proofs::OpeningLemmas::refuses-later, crate::proofs::OpeningLemmas::is-others, crate::proofs::OpeningLemmas::is-ours, crate::proofs::OpeningLemmas::refuses-ours))]
 pub(crate) fn open_in<B: Book>(
     book: &mut B,
     alloc: Global,
@@ -23,7 +25,25 @@ pub(crate) fn open_in<B: Book>(
 ) -> Result<(), OpenFault>
     requires { (B.state book.old).is_open ≡ false }
     ensures opened { OnOk result (Opens policy.now (B.state book.old) (B.state book.new)) }
+    ensures ours { OnOk result (IsOurs (B.state book.old) (B.state book.new)) }
     ensures refused { IfErr result (λ fault. Refuses fault policy.now (B.state book.old) (B.state book.new)) }
+    ensures refused_ours { IfErr result (λ fault. RefusesOurs fault (B.state book.old) (B.state book.new)) }
+    ensures follows { Follows (B.state book.old) (B.state book.new) }
+{
+    match book.ready() {
+        Ok(Ready::Other) => Err(OpenFault::Schema),
+        Ok(Ready::Empty | Ready::Used) => open_ours(book, alloc, policy),
+        Err(BookFault::Memory) => Err(OpenFault::Memory),
+        Err(BookFault::Store) => Err(OpenFault::Store),
+    }
+}
+
+/// Opens a book in one transaction.
+fn open_ours<B: Book>(book: &mut B, alloc: Global, policy: &Policy) -> Result<(), OpenFault>
+    requires { (B.state book.old).is_open ≡ false }
+    ensures opened { OnOk result (Opens policy.now (B.state book.old) (B.state book.new)) }
+    ensures refused { IfErr result (λ fault. Refuses fault policy.now (B.state book.old) (B.state book.new)) }
+    ensures known { IfErr result (λ fault. fault ≢ refusals.Schema) }
     ensures follows { Follows (B.state book.old) (B.state book.new) }
 {
     match book.begin() {

@@ -9,7 +9,7 @@ ghost use Rattle.policy.specs.Terms.{terms_of};
 ghost use Rattle.registry.specs.Execution.{Fails, GoesBack, Greets, IsPrepared, Isolates, Keeps, OrderSteps, SameTerms, Settles, Steps, last_call};
 ghost use Rattle.registry.specs.Faces.{LooksUp};
 ghost use Rattle.registry.specs.Money.{BookKeepsMoney, BookSpendsMoney};
-ghost use Rattle.registry.specs.Opening.{Opens, Refuses};
+ghost use Rattle.registry.specs.Opening.{IsOurs, Opens, Refuses, RefusesOurs};
 ghost use Rattle.registry.specs.WellFormed.{BookCanBeReopened, BookKeepsWellFormed, BookStaysWellFormed, OpensWellFormed};
 ghost use Rattle.rules.specs.Steps.{reply_of};
 ghost use Rattle.store.specs.Book.{Follows, IsSame, with_changes};
@@ -64,11 +64,12 @@ pub struct Registry<B: Book> {
 impl<B: Book + Drop> Registry<B> {
     /// Opens a book under a policy, and the accounts of the registrars that have none yet. A book
     /// that was used under another zone, other reserved labels, days or prices, or whose earlier
-    /// registrars aren't the first of the policy, is refused. What is refused is handed back as it
-    /// was. A new book, or one of a well formed registry, is opened as a well formed registry.
+    /// registrars aren't the first of the policy, is refused, and so is what isn't a book of this
+    /// form (`OpenFault::Schema`). What is refused is handed back as it was. A new book, or one of a well formed registry, is opened as a well formed registry.
     pub fn open(alloc: Global, book: B, policy: Policy) -> Result<Registry<B>, (OpenFault, B)>
         requires { (B.state book).is_open ≡ false }
         ensures opened { IfOk result (λ registry. Opens policy (B.state book) (B.state registry.book)) }
+        ensures ours { IfOk result (λ registry. IsOurs (B.state book) (B.state registry.book)) }
         ensures policy { IfOk result (λ registry. registry.policy ≡ policy) }
         ensures well_formed { IfOk result (λ registry. (B.state registry.book).is_clean ≡ true
             → OpensWellFormed policy (B.state book).content (B.state registry.book).content) }
@@ -76,6 +77,7 @@ impl<B: Book + Drop> Registry<B> {
         ensures follows { IfOk result (λ registry. Follows (B.state book) (B.state registry.book)) }
         ensures refusal_follows { IfErr result (λ refusal. Follows (B.state book) (B.state refusal.1)) }
         ensures refused { IfErr result (λ refusal. Refuses refusal.0 policy (B.state book) (B.state refusal.1)) }
+        ensures refused_ours { IfErr result (λ refusal. RefusesOurs refusal.0 (B.state book) (B.state refusal.1)) }
     {
         let mut book = book;
         policy.is_sound();

@@ -40,7 +40,7 @@ use Rattle.rules.specs.Changes.{changed_all, with_account}
 use Rattle.rules.specs.Decisions.{charge, charge_line, external_sponsor_of, contact_changes, domain_changes, host_changes, new_contact, new_domain, new_host, new_roid, renaming, renewal_changes, renewed_domain, updated_contact, updated_domain, external_sponsor_after}
 use Rattle.rules.proofs.KeepingLemmas.{IsUndeleted, drop-contact, drop-host, kept-account, put-contact, put-domain, put-host, rename-host}
 use Rattle.rules.proofs.LinkLemmas.{new-contacts, new-hosts, updated-contacts, updated-hosts}
-use Rattle.rules.proofs.NamedLemmas.{value-fails}
+use Rattle.rules.proofs.NamedLemmas.{is-there, value-fails}
 use Rattle.verdict.proofs.RowLemmas.{unrefused}
 use Rattle.rules.proofs.StandInLemmas.{contact-updated, domain-updated, kept-put-contact, kept-put-domain, kept-put-host}
 use Rattle.rules.proofs.SightLemmas.{full_as}
@@ -324,15 +324,19 @@ module _ (p : PolicyRules) (r : ℕ) (cl_trid : Option (List ℕ)) (s : Registry
     addresses = amended itself h.addresses u.rem.addresses u.add.addresses;
   }
 
-  kept-renaming : (u : HostUpdate) (h : Host) → get s.hosts (name_of u.name) ≡ Some h → (given : Option GivenName)
+  -- a name at which no host is isn't this host's
+  other-name : (name : List ℕ) (h : Host) → get s.hosts name ≡ Some h → (new : List ℕ) → is_some (get s.hosts new) ≡ false → new ≢ name
+  other-name name h at new free = λ same. let never : true ≡ false = sym (is-there (get s.hosts name) h at) ∙ ap (λ (n : List ℕ). is_some (get s.hosts n)) (sym same) ∙ free in cc
+
+  kept-renaming : (u : HostUpdate) (h : Host) → get s.hosts (name_of u.name) ≡ Some h → (given : Option GivenName) → is_some (option_and_then (λ (known : HostFacts). known.host) (known_new u given)) ≡ false
       → holds_of (has_no_superordinate p.zone) (known_new u given) ≡ false → holds_of (superordinate_is_deleted p.zone) (known_new u given) ≡ false
       → HasObjects p (changed_all p (renaming (name_of u.name) (host_with u h given) given) after_count)
-  kept-renaming u h at None based alive =
+  kept-renaming u h at None untaken based alive =
       let k = kept-counted.hosts (name_of u.name) h at in
       kept-put-host p after_count kept-counted (name_of u.name) h (host_with u h None) at refl (record { named = refl; roid = k.roid; belongs = k.belongs; created = k.created; updated = omega arith })
-  kept-renaming u h at (Some name) based alive =
+  kept-renaming u h at (Some name) untaken based alive =
       let k = kept-counted.hosts (name_of u.name) h at in
-      rename-host p after_count kept-counted (name_of u.name) h (host_with u h (Some name)) at refl
+      rename-host p after_count kept-counted (name_of u.name) h (host_with u h (Some name)) at (other-name (name_of u.name) h at (name_of name) untaken) refl
       (record { named = refl; roid = k.roid; belongs = belongs-new (name_of name) based; created = k.created; updated = omega arith })
       (undeleted-new (name_of name) alive)
 
@@ -340,6 +344,9 @@ module _ (p : PolicyRules) (r : ℕ) (cl_trid : Option (List ℕ)) (s : Registry
       → HasObjects p (changed_all p (host_changes p.zone r s.clock u (host_seen (facts p r (Asked cl_trid (requests.UpdateHost u)) s) (name_of u.name))) after_count)
   kept-host-update u taken = by (host_seen (facts p r (asked_host u) s) (name_of u.name)) (ap (option_and_then (λ known. known.host)) (at-itself (name_of u.name) (host_facts (lookups p r (asked_host u) s) (asked_host u) (name_of u.name))))
     where
+      untaken : is_some (option_and_then (λ (known : HostFacts). known.host) (known_new u u.new_name)) ≡ false
+      untaken = unrefused p r s.clock (requests.UpdateHost u) (facts p r (asked_host u) s) taken conditions.NewNameIsTaken (search (inl, inr) depth 20)
+
       based : holds_of (has_no_superordinate p.zone) (known_new u u.new_name) ≡ false
       based = unrefused p r s.clock (requests.UpdateHost u) (facts p r (asked_host u) s) taken conditions.SuperordinateIsMissing (search (inl, inr) depth 20)
 
@@ -348,4 +355,4 @@ module _ (p : PolicyRules) (r : ℕ) (cl_trid : Option (List ℕ)) (s : Registry
 
       by : (seen : Option Host) → seen ≡ get s.hosts (name_of u.name) → HasObjects p (changed_all p (host_changes p.zone r s.clock u seen) after_count)
       by None e = kept-counted
-      by (Some h) e = kept-renaming u h (sym e) u.new_name based alive
+      by (Some h) e = kept-renaming u h (sym e) u.new_name untaken based alive

@@ -248,9 +248,9 @@ renamed-listed old new hosts n e = by (has_name hosts old) refl e
 
 module _ (p : PolicyRules) (s : Registry) (is : HasObjects p s) where
   -- A host goes from one name to another, and domains that named it name it still.
-  pub rename-host : (old : List ℕ) (o h : Host) → get s.hosts old ≡ Some o → h.roid ≡ o.roid → IsHostOf p s h.name h → IsUndeleted p s h.name
-      → HasObjects p (changed p (RenameHost old h.name) (changed p (PutHost h) (changed p (DropHost old) s)))
-  rename-host old o h at-old same fits free =
+  renamed-apart : (old : List ℕ) (o h : Host) → get s.hosts old ≡ Some o → h.roid ≡ o.roid → IsHostOf p s h.name h → IsUndeleted p s h.name
+      → HasObjects p (with_objects s.contacts (insert (remove s.hosts old) h.name h) (map_values (λ name. with_host_renamed old h.name) s.domains) s)
+  renamed-apart old o h at-old same fits free =
       let left : Hosts = remove s.hosts old in
       let hosts : Hosts = insert left h.name h in
       let domains : Domains = map_values (λ name. with_host_renamed old h.name) s.domains in
@@ -278,3 +278,9 @@ module _ (p : PolicyRules) (s : Registry) (is : HasObjects p s) where
         host_roids = apart-put host_roid left apart h.name h own;
         domain_roids = apart-remade domain_roid s.domains is.domain_roids (with_host_renamed old h.name) (λ d. refl);
       }
+
+  -- it stands under both names until the domains name it anew
+  pub rename-host : (old : List ℕ) (o h : Host) → get s.hosts old ≡ Some o → h.name ≢ old → h.roid ≡ o.roid → IsHostOf p s h.name h → IsUndeleted p s h.name
+      → HasObjects p (changed p (DropHost old) (changed p (RenameHost old h.name) (changed p (PutHost h) s)))
+  rename-host old o h at-old other same fits free =
+      subst (λ (hosts : Hosts). HasObjects p (with_objects s.contacts hosts (map_values (λ name. with_host_renamed old h.name) s.domains) s)) (swap-names s.hosts old h.name h other) (renamed-apart old o h at-old same fits free)

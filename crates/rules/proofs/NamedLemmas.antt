@@ -2,7 +2,7 @@
 use Rattle.std.proofs.Common.{◌≡◌, ◌≢◌, ◌⊎◌, inl, inr, ⊎_elim, ℕ, Bool, true, false, cond, List, [], ◌∷◌, map, Option, Some, None, IsSome, is_some, option_map, refl, sym, ap, ◌∙◌, suc, length, filter, eqb-true, arith}
 use Rattle.std.specs.Cmp.{Equal-is, eq_by_cmp_equiv}
 use Rattle.std.specs.Cmp.Lexicographic.{slice_cmp, nat_list_cmp_total}
-use Rattle.std.specs.FinMap.{FinMap, entries, find, get, get-entries, insert, keys, remove, values, get-insert, get-remove}
+use Rattle.std.specs.FinMap.{FinMap, entries, find, get, get-entries, insert, keys, nat_cmp-IsAntisymmetric, remove, same_map, slice_cmp-IsAntisymmetric, values, get-insert, get-remove}
 use Rattle.std.specs.List.{list_any}
 use Rattle.std.specs.Ordering.{eq_by_cmp, nat_cmp}
 use Rattle.std.proofs.lemmas.Bool.{or_parts}
@@ -73,6 +73,21 @@ module _ {X : Type 0} (m : FinMap (slice_cmp nat_cmp) X) (k : List ℕ) where
   drop-there n there =
       let found = there-is (get (remove m k) n) there in
       is-there (get m n) found.0 (drop-cases n found.0 found.1).1
+
+  -- a name goes and another comes, in either order
+  pub swap-names : (n : List ℕ) (v : X) → n ≢ k → insert (remove m k) n v ≡ remove (insert m n v) k
+  swap-names n v other = same_map (slice_cmp-IsAntisymmetric nat_cmp-IsAntisymmetric) (insert (remove m k) n v) (remove (insert m n v) k)
+      (λ q. get-insert nat_list_cmp_total (remove m k) n v q
+          ∙ ap (λ (o : Option X). cond (eq_by_cmp (slice_cmp nat_cmp) q n) (Some v) o) (get-remove nat_list_cmp_total m k q)
+          ∙ by q (eq_by_cmp (slice_cmp nat_cmp) q n) (eq_by_cmp (slice_cmp nat_cmp) q k) refl refl
+          ∙ ap (λ (o : Option X). cond (eq_by_cmp (slice_cmp nat_cmp) q k) None o) (sym (get-insert nat_list_cmp_total m n v q))
+          ∙ sym (get-remove nat_list_cmp_total (insert m n v) k q))
+    where
+      by : (q : List ℕ) (a b : Bool) → eq_by_cmp (slice_cmp nat_cmp) q n ≡ a → eq_by_cmp (slice_cmp nat_cmp) q k ≡ b → cond a (Some v) (cond b None (get m q)) ≡ cond b None (cond a (Some v) (get m q))
+      by q true true first second = absurd (other (sym (same_name q n first) ∙ same_name q k second))
+      by q true false first second = refl
+      by q false true first second = refl
+      by q false false first second = refl
 
 -- ---- each value is made anew
 

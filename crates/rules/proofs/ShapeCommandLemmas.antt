@@ -214,7 +214,7 @@ module _ (p : PolicyRules) (r : ℕ) (cl_trid : Option (List ℕ)) (s : Registry
 
   renamed : (u : HostUpdate) (old : List ℕ) (h : Host) (given : Option GivenName) → is_some (at_new u given) ≡ false → IsShapedHost p.zone h → AllFitShapes p (renaming old h given) counted
   renamed u old h None free shaped = (shaped, tt)
-  renamed u old h (Some name) free shaped = (tt, (record { name = shaped.name; addresses = shaped.addresses }, (unnamed (name_of name) free, tt)))
+  renamed u old h (Some name) free shaped = (record { name = shaped.name; addresses = shaped.addresses }, (unnamed (name_of name) free, (tt, tt)))
 
   host-updated : (u : HostUpdate) (seen : Option Host) → seen ≡ get s.hosts (name_of u.name) → is_some (at_new u u.new_name) ≡ false → list_repeats (of_host u.add) ≡ false → holds_of (host_has (of_host u.add)) seen ≡ false
       → holds_of (host_is_over (of_host u.rem) (of_host u.add)) seen ≡ false → IsHostName p.zone (final_name u u.new_name) → AllFitShapes p (host_changes p.zone r s.clock u seen) counted

@@ -250,10 +250,10 @@ abbrev pub deletion_at : ℕ → ℕ → Option DomainFacts → List Change
 deletion_at r t None = []
 deletion_at r t (Some known) = deletion_changes r t known known.seen
 
--- under a new name, a host is linked as before
+-- A host gets a new name: it stands under both until the domains that named it name it anew.
 abbrev pub renaming : List ℕ → Host → Option GivenName → List Change
 renaming old h None = PutHost h ∷ []
-renaming old h (Some name) = DropHost old ∷ PutHost h ∷ RenameHost old (name_of name) ∷ []
+renaming old h (Some name) = PutHost h ∷ RenameHost old (name_of name) ∷ DropHost old ∷ []
 
 abbrev pub host_changes : ZoneRules → ℕ → ℕ → HostUpdate → Option Host → List Change
 host_changes zone r t u None = []

@@ -416,7 +416,7 @@ fn update_host(
     put_host(alloc, update.name.text(), updated, update.new_name.as_ref())
 }
 
-/// Under a new name, a host is linked as before.
+/// A host gets a new name: it stands under both until the domains that named it name it anew.
 fn put_host(
     alloc: Global,
     old: &Text,
@@ -430,8 +430,8 @@ fn put_host(
     };
     let (dropped, from, to) = (old.clone()?, old.clone()?, new.text().clone()?);
     Ok(vec![in alloc;
-        Change::DropHost(dropped),
         Change::PutHost(host),
         Change::RenameHost { from, to },
+        Change::DropHost(dropped),
     ]?)
 }

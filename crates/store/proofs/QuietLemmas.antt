@@ -142,9 +142,6 @@ quiet-edited known (edit.Notice r m) s is = is
 quiet-edited known (edit.Unnotice r m) s is = is
 quiet-edited known (edit.Terms value) s is = is
 
-pub quiet-unknown : (known : Option Quiet) (s : Registry) → known ≡ None → IsQuiet known s
-quiet-unknown known s e = subst (λ (o : Option Quiet). IsQuiet o s) (sym e) (nothing-known s)
-
 -- what is known once a domain is put
 pub quiet-put : (r : PolicyRules) (known : Option Quiet) (q : Quiet) (s : Stored) (d : Domain) → IsQuiet known s.registry → known ≡ Some q → HasEnds q r
     → (result : Option Quiet) → result ≡ Some (quiet_with q (passed q.until (due_at r d))) → (k : List ℕ) → IsQuiet result (domain_put k (Some d) s).registry

@@ -3,7 +3,7 @@ ghost use Rattle.std.specs.Prelude.{◌≡◌, ◌≤◌, Err};
 ghost use Rattle.store.specs.Book.{HasRefused};
 ghost use Rattle.store.specs.Kept.{GaveUp, GoesBack, stands};
 
-use crate::book::Book;
+use crate::book::{Book, Ready};
 use crate::due::Due;
 use crate::fault::BookFault;
 use crate::records::Records;
@@ -74,6 +74,13 @@ impl<R: Records> Book for Kept<R> {
 
     fn refusals(&self) -> u64 {
         self.refused
+    }
+
+    fn ready(&mut self) -> Result<Ready, BookFault> {
+        match self.records.ready() {
+            Ok(ready) => Ok(ready),
+            Err(fault) => self.give_up(fault),
+        }
     }
 
     fn clock(&mut self) -> Result<Moment, BookFault> {

@@ -1,4 +1,8 @@
 //! Records in memory.
+ghost use Rattle.std.specs.Prelude.{◌≡◌};
+ghost use Rattle.store.specs.Plain as spec;
+
+use crate::book::Ready;
 use crate::due::Due;
 use crate::edit::{Edit, copy_contact, copy_domain, copy_host, copy_terms};
 use crate::fault::BookFault;
@@ -15,6 +19,16 @@ use objects::{Contact, Domain, Host, Roid};
 use policy::{Policy, Terms};
 use std::alloc::Global;
 
+/// Records in memory are a book's once it was opened.
+fn readiness_of(terms: &Option<Terms>) -> Ready
+    ensures { result ≡ spec.readiness_of terms.now }
+{
+    match terms {
+        None => Ready::Empty,
+        Some(_) => Ready::Used,
+    }
+}
+
 impl Records for Plain {
     ghost use Rattle.store.specs.Plain.{at_begin, plain_records};
 
@@ -28,6 +42,11 @@ impl Records for Plain {
 
     fn is_open(&self) -> bool {
         self.is_open
+    }
+
+    fn ready(&mut self) -> Result<Ready, BookFault> {
+        self.settle()?;
+        Ok(readiness_of(&self.content.terms))
     }
 
     fn clock(&mut self) -> Result<Moment, BookFault> {

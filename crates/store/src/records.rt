@@ -15,6 +15,7 @@ ghost use Rattle.store.specs.Lookups.{has_contact, has_host};
 ghost use Rattle.store.specs.Records.{Begins, Closes, Ends, Finds, Makes, Meets};
 ghost use Rattle.store.specs.Tables as tables;
 
+use crate::book::Ready;
 use crate::due::Due;
 use crate::fault::BookFault;
 use crate::ledgers::Counters;
@@ -45,6 +46,10 @@ pub trait Records {
     /// Whether a transaction is open.
     fn is_open(&self) -> bool
         ensures { result ≡ (kept self.now).is_open };
+
+    /// Whether there is a book in what keeps them.
+    fn ready(&mut self) -> Result<Ready, BookFault>
+        ensures { Finds result (kept self.old).readiness (kept self.old) (kept self.new) };
 
     fn clock(&mut self) -> Result<Moment, BookFault>
         ensures { Finds result (kept self.old).content.registry.clock (kept self.old) (kept self.new) };
