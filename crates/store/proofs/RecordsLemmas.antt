@@ -1,10 +1,9 @@
 -- One call on records after another.
 use Rattle.std.proofs.Common.{◌≡◌, true, Result, Ok, Err, ◌∙◌}
 use Rattle.store.specs.declared.fault.BookFault.{BookFault}
-use Rattle.store.specs.Book.{Stored}
-use Rattle.store.specs.Records.{Makes, Reads, RecordsState}
+use Rattle.store.specs.Records.{Makes, Reads, StateOf}
 
-pub reads-on : (s m t : RecordsState) → Reads s m → Reads m t → Reads s t
+pub reads-on : {X : Type 0} (s m t : StateOf X) → Reads s m → Reads m t → Reads s t
 reads-on s m t a b = record {
   clean = λ e. a.clean (b.clean e);
   before = λ e. b.before e ∙ a.before (b.clean e);
@@ -13,7 +12,7 @@ reads-on s m t a b = record {
 }
 
 -- a change after a call that stays in the transaction
-pub makes-on : {A : Type 0} (r : Result A BookFault) (s m t : RecordsState) (g h : Stored) → (m.is_clean ≡ true → s.is_clean ≡ true) → (m.is_clean ≡ true → m.before ≡ s.before)
+pub makes-on : {A X : Type 0} (r : Result A BookFault) (s m t : StateOf X) (g h : X) → (m.is_clean ≡ true → s.is_clean ≡ true) → (m.is_clean ≡ true → m.before ≡ s.before)
     → (m.is_clean ≡ true → g ≡ h) → Makes r g m t → Makes r h s t
 makes-on (Ok done) s m t g h clean before same made = record {
   clean = λ e. clean (made.clean e);
