@@ -21,7 +21,7 @@ use Rattle.rules.specs.declared.change.Change.TheVariants.{PutContact, DropConta
 use Rattle.rules.specs.Changes.{changed, with_account, with_host_renamed, links_with_host_renamed, renamed}
 use Rattle.rules.proofs.GrowthLemmas.{Grows, contact-grown, domain-grown, host-grown, host-grown-below}
 use Rattle.rules.proofs.NameListLemmas.{has_name-filter}
-use Rattle.rules.proofs.NamedLemmas.{drop-cases, drop-keeps, drop-there, is-there, put-cases, put-is, put-keeps, put-there, remade-cases, remade-keeps}
+use Rattle.rules.proofs.NamedLemmas.{drop-cases, drop-keeps, drop-there, is-there, put-cases, put-is, put-keeps, put-there, remade-cases, remade-keeps, swap-names}
 use Rattle.rules.proofs.ViewLemmas.{account_of-with_account}
 use Rattle.model.specs.Registry.{Registry, account_of}
 use Rattle.model.specs.WellFormed.{IsContactOf, IsDomainOf, IsHostOf, HasObjects}
