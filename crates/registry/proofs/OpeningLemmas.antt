@@ -32,36 +32,36 @@ back-later old mid new same then closed back = record {
   content = λ clean. back.content clean ∙ home-same old mid same (then.clean clean) closed;
 }
 
-pub is-others : (old new : BookState) → IsSame old new → old.is_open ≡ false → (new.is_clean ≡ true → Other ≡ old.readiness) → IsOthers old new
-is-others old new same closed found = record {
+pub is_others : (old new : BookState) → IsSame old new → old.is_open ≡ false → (new.is_clean ≡ true → Other ≡ old.readiness) → IsOthers old new
+is_others old new same closed found = record {
   back = record { closed = same.opened ∙ closed; content = λ clean. same.content clean ∙ sym (ap (λ b. cond b old.before old.content) closed) };
   counted = same.counted;
   other = λ clean. sym (found clean);
 }
 
-pub opens-later : (p : PolicyRules) (old mid new : BookState) → IsSame old mid → Follows mid new → Opens p mid new → Opens p old new
-opens-later p old mid new same then opens = record {
+pub opens_later : (p : PolicyRules) (old mid new : BookState) → IsSame old mid → Follows mid new → Opens p mid new → Opens p old new
+opens_later p old mid new same then opens = record {
   counted = opens.counted ∙ same.counted;
   closed = opens.closed;
   content = λ clean. opens.content clean ∙ ap (opened p) (same.content (then.clean clean));
   fits = λ clean. sym (ap (goes_on (terms_of p)) (same.content (then.clean clean))) ∙ opens.fits clean;
 }
 
-pub refuses-later : (fault : OpenFault) (p : PolicyRules) (old mid new : BookState) → old.is_open ≡ false → IsSame old mid → Follows mid new → Refuses fault p mid new → fault ≢ refusals.Schema → Refuses fault p old new
-refuses-later refusals.Policy p old mid new closed same then refused other = record {
+pub refuses_later : (fault : OpenFault) (p : PolicyRules) (old mid new : BookState) → old.is_open ≡ false → IsSame old mid → Follows mid new → Refuses fault p mid new → fault ≢ refusals.Schema → Refuses fault p old new
+refuses_later refusals.Policy p old mid new closed same then refused other = record {
   back = back-later old mid new same then closed refused.back;
   differs = λ clean. sym (ap (goes_on (terms_of p)) (same.content (then.clean clean))) ∙ refused.differs clean;
 }
-refuses-later refusals.Schema p old mid new closed same then refused other = absurd (other refl)
-refuses-later refusals.Memory p old mid new closed same then refused other = (back-later old mid new same then closed refused.0, refused.1 ∙ same.counted)
-refuses-later refusals.Store p old mid new closed same then refused other =
+refuses_later refusals.Schema p old mid new closed same then refused other = absurd (other refl)
+refuses_later refusals.Memory p old mid new closed same then refused other = (back-later old mid new same then closed refused.0, refused.1 ∙ same.counted)
+refuses_later refusals.Store p old mid new closed same then refused other =
     (back-later old mid new same then closed refused.0, subst (λ n. (n < new.refused) ⊎ (new.refused ≡ 0xFFFF_FFFF_FFFF_FFFF)) same.counted refused.1)
 
-pub is-ours : (ready : Ready) (old mid new : BookState) → ready ≢ Other → (mid.is_clean ≡ true → ready ≡ old.readiness) → Follows mid new → IsOurs old new
-is-ours ready old mid new differs found then clean other = differs (found (then.clean clean) ∙ other)
+pub is_ours : (ready : Ready) (old mid new : BookState) → ready ≢ Other → (mid.is_clean ≡ true → ready ≡ old.readiness) → Follows mid new → IsOurs old new
+is_ours ready old mid new differs found then clean other = differs (found (then.clean clean) ∙ other)
 
-pub refuses-ours : (fault : OpenFault) (old new : BookState) → IsOurs old new → RefusesOurs fault old new
-refuses-ours refusals.Policy old new ours = ours
-refuses-ours refusals.Schema old new ours = tt
-refuses-ours refusals.Memory old new ours = tt
-refuses-ours refusals.Store old new ours = tt
+pub refuses_ours : (fault : OpenFault) (old new : BookState) → IsOurs old new → RefusesOurs fault old new
+refuses_ours refusals.Policy old new ours = ours
+refuses_ours refusals.Schema old new ours = tt
+refuses_ours refusals.Memory old new ours = tt
+refuses_ours refusals.Store old new ours = tt

@@ -17,7 +17,7 @@ use std::alloc::{AllocError, Global};
 use store::{Book, BookFault, Ready};
 
 /// Opens a book, unless what keeps it is another's.
-#[tactic(auto, using(crate::proofs::OpeningLemmas::opens-later, crate::proofs::OpeningLemmas::refuses-later, crate::proofs::OpeningLemmas::is-others, crate::proofs::OpeningLemmas::is-ours, crate::proofs::OpeningLemmas::refuses-ours))]
+#[tactic(auto, using(crate::proofs::OpeningLemmas::opens_later, crate::proofs::OpeningLemmas::refuses_later, crate::proofs::OpeningLemmas::is_others, crate::proofs::OpeningLemmas::is_ours, crate::proofs::OpeningLemmas::refuses_ours))]
 pub(crate) fn open_in<B: Book>(
     book: &mut B,
     alloc: Global,
