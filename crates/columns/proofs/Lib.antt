@@ -1,6 +1,12 @@
 pub mod CodeLemmas
+pub mod NumberLemmas
+pub mod RoidLemmas
 pub mod ReadLemmas
 pub mod LineLemmas
 pub mod MessageLemmas
 pub mod TransferLemmas
 pub mod TextLemmas
+pub mod RegistrationLemmas
+pub mod ContactLemmas
+pub mod DomainLemmas
+pub mod AboveLemmas

@@ -1,99 +1,148 @@
 -- A line is read from its row, and from no other.
-use Rattle.std.proofs.Common.{◌≡◌, ℕ, ◌<◌, ◌^◌, ℤ, Option, Some, None, IfSome, sym, ap, ◌∙◌}
-use Rattle.calendar.specs.Moment.{IsMoment}
+use Rattle.std.proofs.Common.{◌≡◌, ℕ, ℤ, Option, Some, None, IfSome, refl, sym, ap, ◌∙◌}
+use Rattle.std.specs.Prelude.{option_map}
+use Rattle.objects.specs.declared.roid.ObjectKind.TheVariants.{Domain}
 use Rattle.objects.specs.declared.roid.Roid.{Roid}
 use Rattle.accounts.specs.declared.line.Line.{Line}
 use Rattle.accounts.specs.declared.line.LineKind.{LineKind}
 use Rattle.tables.specs.Line as table
 use Rattle.columns.specs.declared.line.DomainColumns.{DomainColumns}
-use Rattle.columns.specs.Codes.{kind_column}
-use Rattle.columns.specs.Numbers.{exact_column, maybe_moment_column, moment_column, years_column}
+use Rattle.columns.specs.declared.roid.RoidColumns.{RoidColumns}
+use Rattle.columns.specs.Codes.{kind_column, kind_in}
+use Rattle.columns.specs.Numbers.{exact_column, exact_in, maybe_moment_column, maybe_moment_in, moment_column, moment_in, years_column, years_in}
+use Rattle.columns.specs.Roids.{IsRoid, roid_columns, roid_in}
 use Rattle.columns.specs.Steps.{◌>>=◌}
-use Rattle.columns.specs.Lines.{IsDomain, IsLine, domain_columns, row_with, line_row, line_made}
+use Rattle.columns.specs.Lines.{IsLine, domain_columns, line_in, line_made, line_row, maybe_domain_in, not_null, row_with}
+use Rattle.columns.proofs.CodeLemmas.{kind_back, kind_written}
+use Rattle.columns.proofs.NumberLemmas.{exact_back, exact_written, maybe_moment_back, maybe_moment_is, maybe_moment_written, moment_back, moment_is, moment_written, years_are, years_back, years_written}
+use Rattle.columns.proofs.ReadLemmas.{same_some, some_read, step}
+use Rattle.columns.proofs.RoidLemmas.{roid_back, roid_is, roid_written}
 
--- ---- a line's row
+-- ---- the domain of a line
+
+some_domain_back : (roid : Roid) (columns : Option RoidColumns) (creator serial : Option ℤ)
+    → ((c : RoidColumns) → columns ≡ Some c → roid_in Domain c.creator c.serial ≡ Some roid)
+    → option_map not_null columns ≡ Some (record { creator = creator; serial = serial }) → maybe_domain_in creator serial ≡ Some (Some roid)
+some_domain_back roid None creator serial each e = cc
+some_domain_back roid (Some c) creator serial each e =
+    let same = same_some (not_null c) (record { creator = creator; serial = serial }) e in
+    sym (λ i. maybe_domain_in (same i).creator (same i).serial) ∙ ap (option_map Some) (each c refl)
+
+pub maybe_domain_back : (roid : Option Roid) (creator serial : Option ℤ) → IfSome roid IsRoid
+    → domain_columns roid ≡ Some (record { creator = creator; serial = serial }) → maybe_domain_in creator serial ≡ Some roid
+maybe_domain_back None creator serial is e =
+    let same : ◌≡◌ {A = DomainColumns} (record { creator = None; serial = None }) (record { creator = creator; serial = serial }) = same_some _ _ e in
+    sym (λ i. maybe_domain_in (same i).creator (same i).serial)
+maybe_domain_back (Some roid) creator serial is e =
+    some_domain_back roid (roid_columns Domain roid) creator serial (λ c is_columns. roid_back Domain roid c is is_columns) e
+
+pub maybe_domain_written : (creator serial : Option ℤ) (roid : Option Roid) → maybe_domain_in creator serial ≡ Some roid → domain_columns roid ≡ Some (record { creator = creator; serial = serial })
+maybe_domain_written None None roid e = sym (ap domain_columns (same_some None roid e))
+maybe_domain_written (Some c) (Some s) roid e =
+    some_read (roid_in Domain c s) roid (λ x. domain_columns x ≡ Some (record { creator = Some c; serial = Some s })) (λ r read. ap (option_map not_null) (roid_written Domain c s r read)) e
+maybe_domain_written None (Some s) roid e = cc
+maybe_domain_written (Some c) None roid e = cc
+
+pub maybe_domain_is : (creator serial : Option ℤ) (roid : Option Roid) → maybe_domain_in creator serial ≡ Some roid → IfSome roid IsRoid
+maybe_domain_is None None None e = tt
+maybe_domain_is None None (Some roid) e = cc
+maybe_domain_is (Some c) (Some s) roid e = some_read (roid_in Domain c s) roid (λ x. IfSome x IsRoid) (λ r read. roid_is Domain c s r read) e
+maybe_domain_is None (Some s) roid e = cc
+maybe_domain_is (Some c) None roid e = cc
+
+-- ---- written
 
 -- each column of the row is the line's
-pub record HasColumns (domain : Option DomainColumns) (cents : Option ℤ) (line : Line) (row : table.Line) : Type 0 where
+record HasColumns (line : Line) (row : table.Line) : Type 0 where
   pub kind : row.kind ≡ kind_column line.kind
-  pub domain_is : domain ≡ Some (record { creator = row.creator; serial = row.serial })
+  pub domain_is : domain_columns line.roid ≡ Some (record { creator = row.creator; serial = row.serial })
   pub recorded : row.recorded ≡ moment_column line.recorded
   pub years : row.years ≡ years_column line.years
-  pub cents_are : cents ≡ Some row.cents
+  pub cents_are : exact_column line.cents ≡ Some row.cents
   pub started : row.started ≡ maybe_moment_column line.started
   pub refunded : row.refunded ≡ maybe_moment_column line.refunded
 
-row_or : table.Line → Option table.Line → table.Line
-row_or row None = row
-row_or row (Some other) = other
-
-has_columns : (domain : Option DomainColumns) (cents : Option ℤ) (line : Line) (row : table.Line)
-    → (domain >>= (λ d. cents >>= (λ c. Some (row_with row.id row.account line d c)))) ≡ Some row → HasColumns domain cents line row
-unfolding row_or
-has_columns None cents line row e = cc
-has_columns (Some d) None line row e = cc
-has_columns (Some d) (Some c) line row e =
-    let same : row_with row.id row.account line d c ≡ row = ap (row_or row) e in
+has_columns : (id account : ℤ) (line : Line) (row : table.Line) → line_row id account line ≡ Some row → HasColumns line row
+has_columns id account line row e =
+    let domain = step (domain_columns line.roid) (λ d. exact_column line.cents >>= (λ c. Some (row_with id account line d c))) row e in
+    let cents = step (exact_column line.cents) (λ c. Some (row_with id account line domain.given c)) row domain.rest in
+    let same = same_some (row_with id account line domain.given cents.given) row cents.rest in
     record {
       kind = sym (ap (λ (r : table.Line). r.kind) same);
-      domain_is = λ i. Some (record { creator = (same i).creator; serial = (same i).serial });
+      domain_is = domain.is ∙ λ i. Some (record { creator = (same i).creator; serial = (same i).serial });
       recorded = sym (ap (λ (r : table.Line). r.recorded) same);
       years = sym (ap (λ (r : table.Line). r.years) same);
-      cents_are = λ i. Some ((same i).cents);
+      cents_are = cents.is ∙ λ i. Some ((same i).cents);
       started = sym (ap (λ (r : table.Line). r.started) same);
       refunded = sym (ap (λ (r : table.Line). r.refunded) same);
     }
 
-pub columns_in : (line : Line) (row : table.Line) → line_row row.id row.account line ≡ Some row → HasColumns (domain_columns line.roid) (exact_column line.cents) line row
-columns_in line row e = has_columns (domain_columns line.roid) (exact_column line.cents) line row e
-
--- the domain of a line, in its row
-abbrev pub DomainIs : Option ℤ → Option ℤ → Option Roid → Type 0
-DomainIs creator serial roid = domain_columns roid ≡ Some (record { creator = creator; serial = serial })
-
--- what is read of each column
-pub record AreRead (row : table.Line) (kind : Option LineKind) (roid : Option (Option Roid)) (recorded years cents : Option ℕ) (started refunded : Option (Option ℕ)) : Type 0 where
-  pub kind_only : (x : LineKind) → row.kind ≡ kind_column x → kind ≡ Some x
-  pub roid_only : (x : Option Roid) → IfSome x IsDomain → DomainIs row.creator row.serial x → roid ≡ Some x
-  pub recorded_only : (x : ℕ) → IsMoment x → row.recorded ≡ moment_column x → recorded ≡ Some x
-  pub years_only : (x : ℕ) → x < 2 ^ 32 → row.years ≡ years_column x → years ≡ Some x
-  pub cents_only : (x : ℕ) → exact_column x ≡ Some row.cents → cents ≡ Some x
-  pub started_only : (x : Option ℕ) → IfSome x IsMoment → row.started ≡ maybe_moment_column x → started ≡ Some x
-  pub refunded_only : (x : Option ℕ) → IfSome x IsMoment → row.refunded ≡ maybe_moment_column x → refunded ≡ Some x
-
-pub line_back : (row : table.Line) (kind : Option LineKind) (roid : Option (Option Roid)) (recorded years cents : Option ℕ) (started refunded : Option (Option ℕ)) → AreRead row kind roid recorded years cents started refunded
-    → (line : Line) → IsLine line → line_row row.id row.account line ≡ Some row → line_made kind roid recorded years cents started refunded ≡ Some line
-line_back row kind roid recorded years cents started refunded read line is e =
-    let has = columns_in line row e in
+-- what was written is read back
+pub line_back : (id account : ℤ) (line : Line) (row : table.Line) → IsLine line → line_row id account line ≡ Some row → line_in row ≡ Some line
+line_back id account line row is e =
+    let has = has_columns id account line row e in
     λ i. line_made
-    (read.kind_only line.kind has.kind i)
-    (read.roid_only line.roid is.roid has.domain_is i)
-    (read.recorded_only line.recorded is.recorded has.recorded i)
-    (read.years_only line.years is.years has.years i)
-    (read.cents_only line.cents has.cents_are i)
-    (read.started_only line.started is.started has.started i)
-    (read.refunded_only line.refunded is.refunded has.refunded i)
+    ((ap kind_in has.kind ∙ kind_back line.kind) i)
+    (maybe_domain_back line.roid row.creator row.serial is.roid has.domain_is i)
+    ((ap moment_in has.recorded ∙ moment_back line.recorded is.recorded) i)
+    ((ap years_in has.years ∙ years_back line.years is.years) i)
+    (exact_back line.cents row.cents has.cents_are i)
+    ((ap maybe_moment_in has.started ∙ maybe_moment_back line.started is.started) i)
+    ((ap maybe_moment_in has.refunded ∙ maybe_moment_back line.refunded is.refunded) i)
 
-row_is : (row : table.Line) (line : Line) → HasColumns (domain_columns line.roid) (exact_column line.cents) line row → line_row row.id row.account line ≡ Some row
-row_is row line has =
-    (λ i. has.domain_is i >>= (λ d. has.cents_are i >>= (λ c. Some (row_with row.id row.account line d c))))
-    ∙ sym (λ i. Some (record row { kind = has.kind i; recorded = has.recorded i; years = has.years i; started = has.started i; refunded = has.refunded i }))
+-- ---- read
 
-pub line_found : (row : table.Line) (kind : Option LineKind) → IfSome kind (λ x. row.kind ≡ kind_column x)
-    → (roid : Option (Option Roid)) → IfSome roid (DomainIs row.creator row.serial)
-    → (recorded : Option ℕ) → IfSome recorded (λ x. row.recorded ≡ moment_column x)
-    → (years : Option ℕ) → IfSome years (λ x. row.years ≡ years_column x)
-    → (cents : Option ℕ) → IfSome cents (λ x. exact_column x ≡ Some row.cents)
-    → (started : Option (Option ℕ)) → IfSome started (λ x. row.started ≡ maybe_moment_column x)
-    → (refunded : Option (Option ℕ)) → IfSome refunded (λ x. row.refunded ≡ maybe_moment_column x)
-    → IfSome (line_made kind roid recorded years cents started refunded) (λ line. line_row row.id row.account line ≡ Some row)
-line_found row None k roid r recorded m years y cents c started s refunded b = tt
-line_found row (Some kind) k None r recorded m years y cents c started s refunded b = tt
-line_found row (Some kind) k (Some roid) r None m years y cents c started s refunded b = tt
-line_found row (Some kind) k (Some roid) r (Some recorded) m None y cents c started s refunded b = tt
-line_found row (Some kind) k (Some roid) r (Some recorded) m (Some years) y None c started s refunded b = tt
-line_found row (Some kind) k (Some roid) r (Some recorded) m (Some years) y (Some cents) c None s refunded b = tt
-line_found row (Some kind) k (Some roid) r (Some recorded) m (Some years) y (Some cents) c (Some started) s None b = tt
-line_found row (Some kind) k (Some roid) r (Some recorded) m (Some years) y (Some cents) c (Some started) s (Some refunded) b =
-    row_is row (record { kind = kind; roid = roid; recorded = recorded; years = years; cents = cents; started = started; refunded = refunded })
-    (record { kind = k; domain_is = r; recorded = m; years = y; cents_are = c; started = s; refunded = b })
+-- each column reads as the line's
+record IsRead (row : table.Line) (line : Line) : Type 0 where
+  pub kind : kind_in row.kind ≡ Some line.kind
+  pub roid : maybe_domain_in row.creator row.serial ≡ Some line.roid
+  pub recorded : moment_in row.recorded ≡ Some line.recorded
+  pub years : years_in row.years ≡ Some line.years
+  pub cents : exact_in row.cents ≡ Some line.cents
+  pub started : maybe_moment_in row.started ≡ Some line.started
+  pub refunded : maybe_moment_in row.refunded ≡ Some line.refunded
+
+is_read : (row : table.Line) (line : Line) → line_in row ≡ Some line → IsRead row line
+is_read row line e =
+    let kind = step (kind_in row.kind) _ line e in
+    let roid = step (maybe_domain_in row.creator row.serial) _ line kind.rest in
+    let recorded = step (moment_in row.recorded) _ line roid.rest in
+    let years = step (years_in row.years) _ line recorded.rest in
+    let cents = step (exact_in row.cents) _ line years.rest in
+    let started = step (maybe_moment_in row.started) _ line cents.rest in
+    let refunded = step (maybe_moment_in row.refunded) _ line started.rest in
+    let same : ◌≡◌ {A = Line} (record { kind = kind.given; roid = roid.given; recorded = recorded.given; years = years.given; cents = cents.given; started = started.given; refunded = refunded.given }) line = same_some _ _ refunded.rest in
+    record {
+      kind = kind.is ∙ λ i. Some ((same i).kind);
+      roid = roid.is ∙ λ i. Some ((same i).roid);
+      recorded = recorded.is ∙ λ i. Some ((same i).recorded);
+      years = years.is ∙ λ i. Some ((same i).years);
+      cents = cents.is ∙ λ i. Some ((same i).cents);
+      started = started.is ∙ λ i. Some ((same i).started);
+      refunded = refunded.is ∙ λ i. Some ((same i).refunded);
+    }
+
+-- what is read was written so
+pub line_written : (row : table.Line) (line : Line) → line_in row ≡ Some line → line_row row.id row.account line ≡ Some row
+line_written row line e =
+    let read = is_read row line e in
+    (λ i. maybe_domain_written row.creator row.serial line.roid read.roid i >>= (λ d. exact_written row.cents line.cents read.cents i >>= (λ c. Some (row_with row.id row.account line d c))))
+    ∙ (λ i. Some (record row {
+      kind = kind_written row.kind line.kind read.kind i;
+      recorded = moment_written row.recorded line.recorded read.recorded i;
+      years = years_written row.years line.years read.years i;
+      started = maybe_moment_written row.started line.started read.started i;
+      refunded = maybe_moment_written row.refunded line.refunded read.refunded i;
+    }))
+
+-- and is a line's
+pub line_is : (row : table.Line) (line : Line) → line_in row ≡ Some line → IsLine line
+line_is row line e =
+    let read = is_read row line e in
+    record {
+      roid = maybe_domain_is row.creator row.serial line.roid read.roid;
+      recorded = moment_is row.recorded line.recorded read.recorded;
+      years = years_are row.years line.years read.years;
+      started = maybe_moment_is row.started line.started read.started;
+      refunded = maybe_moment_is row.refunded line.refunded read.refunded;
+    }

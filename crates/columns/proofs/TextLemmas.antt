@@ -4,7 +4,6 @@ use Rattle.std.proofs.lemmas.Bool.{false≢true}
 use Rattle.std.proofs.lemmas.Bool.Decides.{Decides-eqb}
 use Rattle.std.proofs.lemmas.Slice.Eq.{bytes_eq-Decides}
 use Rattle.std.specs.Str.{bytes_eq}
-use Rattle.std.specs.Prelude.{unwrap_or}
 use Rattle.std.specs.List.{join_with_byte, list_any, onto_first, slice_split}
 use Rattle.std.proofs.lemmas.List.{get_or-map, length-map, map-append}
 use Rattle.std.proofs.lemmas.List.Splits.{join_with_byte-slice_split}
@@ -12,7 +11,9 @@ use Rattle.objects.specs.StatusTexts.{status_named, status_text}
 use Rattle.objects.specs.declared.status.Status.{Status}
 use Rattle.objects.specs.declared.status.Status.TheVariants.{ClientDeleteProhibited, ClientHold, ClientRenewProhibited, ClientTransferProhibited, ClientUpdateProhibited, Inactive, Linked, Fine, PendingDelete, PendingTransfer, ServerDeleteProhibited, ServerHold, ServerRenewProhibited, ServerTransferProhibited, ServerUpdateProhibited}
 use Rattle.objects.specs.Statuses.{all_statuses}
-use Rattle.columns.specs.Texts.{after_each, has_feed, statuses_column, street_column}
+use Rattle.columns.specs.Steps.{◌>>=◌}
+use Rattle.columns.specs.Texts.{after_each, has_feed, statuses_column, statuses_in, statuses_named, street_column, street_in}
+use Rattle.columns.proofs.ReadLemmas.{all_read, same_some, step}
 
 -- ---- written
 
@@ -84,9 +85,10 @@ street_pieces : (xs : List (List ℕ)) (text : List ℕ) (feeds : Bool) → list
 street_pieces xs text true feeds e = cc
 street_pieces xs text false feeds e = let same : join_with_byte 10 xs ≡ text = cc in (same, feeds)
 
-street_back : (text : List ℕ) (xs : List (List ℕ)) → street_column xs ≡ Some text → slice_split (λ b. eqb b 10) text ≡ xs
-street_back text [] e = cc
-street_back text (x ∷ xs) e =
+-- what was written is read back
+pub street_back : (xs : List (List ℕ)) (text : List ℕ) → street_column xs ≡ Some text → street_in text ≡ xs
+street_back [] text e = cc
+street_back (x ∷ xs) text e =
     let pieces = street_pieces (x ∷ xs) text (list_any has_feed (x ∷ xs)) refl e in
     ap (slice_split (is 10)) (sym pieces.0) ∙ split-joined 10 x xs pieces.1
 
@@ -119,18 +121,19 @@ split_some : (c : ℕ) (text : List ℕ) → (first : List ℕ) × (rest : List 
 split_some c [] = ([], [], refl)
 split_some c (b ∷ bs) = split_by c b (slice_split (is c) bs) (is c b)
 
-street_found : (text : List ℕ) → street_column (slice_split (λ b. eqb b 10) text) ≡ Some text
-street_found text =
+-- what is read was written so
+pub street_written : (text : List ℕ) → street_column (street_in text) ≡ Some text
+street_written text =
     let some = split_some 10 text in
     street_of text (slice_split (is 10) text) (pieces-free 10 text) (join_with_byte-slice_split 10 text) some.0 some.1 some.2
 
-pub cut_found : {E : Type 0} (text : List ℕ) (cut : Result (List (List ℕ)) E) → IfOk cut (λ lines. lines ≡ slice_split (λ b. eqb b 10) text) → IfOk cut (λ lines. street_column lines ≡ Some text)
-cut_found text (Ok lines) e = ap street_column e ∙ street_found text
-cut_found text (Err failed) e = tt
+pub street_found : {E : Type 0} (text : List ℕ) (read : Result (List (List ℕ)) E) → IfOk read (λ lines. lines ≡ street_in text) → IfOk read (λ lines. street_column lines ≡ Some text)
+street_found text (Ok lines) e = ap street_column e ∙ street_written text
+street_found text (Err failed) e = tt
 
-pub cut_only : {E : Type 0} (text : List ℕ) (cut : Result (List (List ℕ)) E) → IfOk cut (λ lines. lines ≡ slice_split (λ b. eqb b 10) text) → IfOk cut (λ lines. (xs : List (List ℕ)) → street_column xs ≡ Some text → lines ≡ xs)
-cut_only text (Ok lines) e = λ xs is_column. e ∙ street_back text xs is_column
-cut_only text (Err failed) e = tt
+pub street_only : {E : Type 0} (text : List ℕ) (read : Result (List (List ℕ)) E) → IfOk read (λ lines. lines ≡ street_in text) → IfOk read (λ lines. (xs : List (List ℕ)) → street_column xs ≡ Some text → lines ≡ xs)
+street_only text (Ok lines) e = λ xs is_column. e ∙ street_back xs text is_column
+street_only text (Err failed) e = tt
 
 -- ---- statuses
 
@@ -175,18 +178,6 @@ words-free (x ∷ xs) = ap (λ t. t || list_any (list_any (is 32)) (map status_t
 statuses_split : (text : List ℕ) (x : Status) (xs : List Status) → text ≡ statuses_column (x ∷ xs) → slice_split (is 32) text ≡ map status_text (x ∷ xs)
 statuses_split text x xs e = ap (slice_split (is 32)) e ∙ split-joined 32 (status_text x) (map status_text xs) (words-free (x ∷ xs))
 
-status_in : List ℕ → Status
-status_in word = unwrap_or (status_named word) Fine
-
-statuses_in : (xs : List Status) → map status_in (map status_text xs) ≡ xs
-unfolding status_in
-statuses_in [] = refl
-statuses_in (x ∷ xs) = λ i. unwrap_or (status_back x i) Fine ∷ statuses_in xs i
-
--- lists with the same texts are the same
-pub same_statuses : (xs ys : List Status) → map status_text xs ≡ map status_text ys → xs ≡ ys
-same_statuses xs ys e = sym (statuses_in xs) ∙ ap (map status_in) e ∙ statuses_in ys
-
 at_test : (P : Status → Type 0) (s : Status) (rest : Option Status) (b : Bool) → (b ≡ true → P s) → IfSome rest P → IfSome (cond b (Some s) rest) P
 at_test P s rest true here there = here refl
 at_test P s rest false here there = there
@@ -203,8 +194,23 @@ first_of : List (List ℕ) → List ℕ
 first_of [] = []
 first_of (piece ∷ pieces) = piece
 
+pub status_word : (word : List ℕ) (s : Status) → Some s ≡ status_named word → word ≡ status_text s
+status_word word s e = let P : Option Status → Type 0 = λ read. IfSome read (λ s. word ≡ status_text s) in subst P (sym e) (status_has word)
+
+texts_named : (xs : List Status) → statuses_named (map status_text xs) ≡ Some xs
+texts_named [] = refl
+texts_named (x ∷ xs) = λ i. status_back x i >>= (λ s. texts_named xs i >>= (λ ss. Some (s ∷ ss)))
+
+words_of : (words : List (List ℕ)) (xs : List Status) → statuses_named words ≡ Some xs → words ≡ map status_text xs
+words_of [] xs e = ap (map status_text) (same_some [] xs e)
+words_of (word ∷ words) xs e =
+    let first = step (status_named word) (λ s. statuses_named words >>= (λ ss. Some (s ∷ ss))) xs e in
+    let others = step (statuses_named words) (λ ss. Some (first.given ∷ ss)) xs first.rest in
+    ap₂ ◌∷◌ (status_word word first.given (sym first.is)) (words_of words others.given others.is)
+    ∙ ap (map status_text) (same_some (first.given ∷ others.given) xs others.rest)
+
 -- an empty text is that of no status
-pub empty_only : (text : List ℕ) (xs : List Status) → eqb (length text) 0 ≡ true → text ≡ statuses_column xs → xs ≡ []
+empty_only : (text : List ℕ) (xs : List Status) → eqb (length text) 0 ≡ true → text ≡ statuses_column xs → xs ≡ []
 unfolding first_of
 empty_only text [] short e = refl
 empty_only [] (x ∷ xs) short e =
@@ -213,24 +219,42 @@ empty_only [] (x ∷ xs) short e =
     cc
 empty_only (b ∷ bs) (x ∷ xs) short e = let zero : length (b ∷ bs) ≡ 0 = (Decides-eqb (length (b ∷ bs)) 0).0 short in absurd (omega arith)
 
-read_found : (text : List ℕ) (read : Option (List Status)) → IfSome read (λ xs. slice_split (is 32) text ≡ map status_text xs) → IfSome read (λ xs. text ≡ statuses_column xs)
-read_found text None h = tt
-read_found text (Some xs) h = sym (join_with_byte-slice_split 32 text) ∙ ap (join_with_byte 32) h
+back_by : (text : List ℕ) (x : Status) (xs : List Status) → statuses_column (x ∷ xs) ≡ text → statuses_in text ≡ Some (x ∷ xs)
+back_by [] x xs e = let none : x ∷ xs ≡ [] = empty_only [] (x ∷ xs) refl (sym e) in cc
+back_by (b ∷ bs) x xs e = ap statuses_named (statuses_split (b ∷ bs) x xs (sym e)) ∙ texts_named (x ∷ xs)
 
-pub named_found : {E : Type 0} (text : List ℕ) (named : Result (Option (List Status)) E) → IfOk named (λ read. IfSome read (λ xs. slice_split (λ b. eqb b 32) text ≡ map status_text xs)) → IfOk named (λ read. IfSome read (λ xs. text ≡ statuses_column xs))
-named_found text (Ok read) h = read_found text read h
-named_found text (Err failed) h = tt
+-- what was written is read back
+pub statuses_back : (xs : List Status) → statuses_in (statuses_column xs) ≡ Some xs
+statuses_back [] = refl
+statuses_back (x ∷ xs) = back_by (statuses_column (x ∷ xs)) x xs refl
 
-read_only : (text : List ℕ) → eqb (length text) 0 ≡ false → (read : Option (List Status)) → ((xs : List Status) → slice_split (is 32) text ≡ map status_text xs → read ≡ Some xs) → (xs : List Status) → text ≡ statuses_column xs → read ≡ Some xs
-read_only text long read only [] e = let short : true ≡ false = ap (λ (t : List ℕ). eqb (length t) 0) (sym e) ∙ long in cc
-read_only text long read only (x ∷ xs) e = only (x ∷ xs) (statuses_split text x xs e)
+-- what is read was written so
+pub statuses_written : (text : List ℕ) (xs : List Status) → statuses_in text ≡ Some xs → statuses_column xs ≡ text
+statuses_written [] xs e = sym (ap statuses_column (same_some [] xs e))
+statuses_written (b ∷ bs) xs e =
+    ap (join_with_byte 32) (sym (words_of (slice_split (is 32) (b ∷ bs)) xs e)) ∙ join_with_byte-slice_split 32 (b ∷ bs)
 
-pub named_only : {E : Type 0} (text : List ℕ) → eqb (length text) 0 ≡ false → (named : Result (Option (List Status)) E) → IfOk named (λ read. (xs : List Status) → slice_split (λ b. eqb b 32) text ≡ map status_text xs → read ≡ Some xs) → IfOk named (λ read. (xs : List Status) → text ≡ statuses_column xs → read ≡ Some xs)
-named_only text long (Ok read) h = read_only text long read h
-named_only text long (Err failed) h = tt
+pub statuses_found : {E : Type 0} (text : List ℕ) (read : Result (Option (List Status)) E) → IfOk read (λ r. r ≡ statuses_in text) → IfOk read (λ r. IfSome r (λ xs. text ≡ statuses_column xs))
+statuses_found text (Ok r) e = all_read (λ xs. text ≡ statuses_column xs) r (λ xs is. sym (statuses_written text xs (sym e ∙ is)))
+statuses_found text (Err failed) e = tt
 
-pub status_word : (word : List ℕ) (s : Status) → Some s ≡ status_named word → word ≡ status_text s
-status_word word s e = let P : Option Status → Type 0 = λ read. IfSome read (λ s. word ≡ status_text s) in subst P (sym e) (status_has word)
+pub statuses_only : {E : Type 0} (text : List ℕ) (read : Result (Option (List Status)) E) → IfOk read (λ r. r ≡ statuses_in text) → IfOk read (λ r. (xs : List Status) → text ≡ statuses_column xs → r ≡ Some xs)
+statuses_only text (Ok r) e = λ xs is. e ∙ ap statuses_in is ∙ statuses_back xs
+statuses_only text (Err failed) e = tt
+
+-- ---- cut and named
+
+pub empty_in : (text : List ℕ) → eqb (length text) 0 ≡ true → Some [] ≡ statuses_in text
+empty_in [] short = refl
+empty_in (b ∷ bs) short = let zero : length (b ∷ bs) ≡ 0 = (Decides-eqb (length (b ∷ bs)) 0).0 short in absurd (omega arith)
+
+filled_in : (text : List ℕ) → eqb (length text) 0 ≡ false → statuses_named (slice_split (is 32) text) ≡ statuses_in text
+filled_in [] long = cc
+filled_in (b ∷ bs) long = refl
+
+pub named_in : {E : Type 0} (text : List ℕ) → eqb (length text) 0 ≡ false → (named : Result (Option (List Status)) E) → IfOk named (λ r. r ≡ statuses_named (slice_split (λ b. eqb b 32) text)) → IfOk named (λ r. r ≡ statuses_in text)
+named_in text long (Ok r) e = e ∙ filled_in text long
+named_in text long (Err failed) e = tt
 
 -- the texts so far, and one more
 pub named_more : (words : List (Bor (List ℕ))) (word : Bor (List ℕ)) (statuses : List Status) (s : Status) → map status_text statuses ≡ map (λ w. w.now) words → Some s ≡ status_named word.now → map status_text (statuses ++ s ∷ []) ≡ map (λ w. w.now) (words ++ word ∷ [])
@@ -238,10 +262,22 @@ named_more words word statuses s e named =
     map-append status_text statuses (s ∷ []) ∙ ap₂ ◌++◌ e (ap (λ t. t ∷ []) (sym (status_word word.now s named))) ∙ sym (map-append (λ (w : Bor (List ℕ)). w.now) words (word ∷ []))
 
 -- each of the words names a status
-pub no_status : (words : List (List ℕ)) (xs : List Status) → words ≡ map status_text xs → (word : List ℕ) (i : ℕ) → (i < length words) × (word ≡ get_or words i word) → None ≡ status_named word → ⊥
+no_status : (words : List (List ℕ)) (xs : List Status) → words ≡ map status_text xs → (word : List ℕ) (i : ℕ) → (i < length words) × (word ≡ get_or words i word) → None ≡ status_named word → ⊥
 no_status words xs e word i at none =
     let short : i < length xs = omega (arith, at.0, ap length e, length-map xs status_text) in
     let s : Status = get_or xs i Fine in
     let is_text : word ≡ status_text s = at.1 ∙ ap (λ ws. get_or ws i word) e ∙ get_or-map status_text xs i Fine word short in
     let no : None ≡ Some s = none ∙ ap status_named is_text ∙ status_back s in
     cc
+
+none_by : (words : List (List ℕ)) (word : List ℕ) (i : ℕ) → (i < length words) × (word ≡ get_or words i word) → None ≡ status_named word → (read : Option (List Status)) → statuses_named words ≡ read → None ≡ read
+none_by words word i at none None e = refl
+none_by words word i at none (Some xs) e = absurd (no_status words xs (words_of words xs e) word i at none)
+
+-- where one names none, they are no list's
+pub none_named : (words : List (List ℕ)) (word : List ℕ) (i : ℕ) → (i < length words) × (word ≡ get_or words i word) → None ≡ status_named word → None ≡ statuses_named words
+none_named words word i at none = none_by words word i at none (statuses_named words) refl
+
+-- where they are the texts of statuses, they name these
+pub all_named : (words : List (List ℕ)) (xs : List Status) → map status_text xs ≡ words → Some xs ≡ statuses_named words
+all_named words xs e = sym (texts_named xs) ∙ ap statuses_named e

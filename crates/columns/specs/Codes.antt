@@ -22,11 +22,17 @@ all_kinds = kinds.Deposit ∷ kinds.Create ∷ kinds.Renew ∷ kinds.AutoRenew �
 abbrev pub kind_column : LineKind → ℤ
 kind_column kind = pos (kind_rank kind)
 
+abbrev pub kind_in : ℤ → Option LineKind
+kind_in column = with_code kind_column all_kinds column
+
 abbrev pub all_subjects : List Subject
 all_subjects = subjects.Contact ∷ subjects.Domain ∷ []
 
 abbrev pub subject_column : Subject → ℤ
 subject_column subject = pos (subject_rank subject)
+
+abbrev pub subject_in : ℤ → Option Subject
+subject_in column = with_code subject_column all_subjects column
 
 abbrev pub all_states : List TransferState
 all_states = Pending ∷ ClientApproved ∷ ClientRejected ∷ ClientCancelled ∷ ServerApproved ∷ []
@@ -38,6 +44,9 @@ state_column ClientRejected = pos 2
 state_column ClientCancelled = pos 3
 state_column ServerApproved = pos 4
 
+abbrev pub state_in : ℤ → Option TransferState
+state_in column = with_code state_column all_states column
+
 abbrev pub all_roles : List Role
 all_roles = roles.Admin ∷ roles.Tech ∷ roles.Host ∷ []
 
@@ -45,3 +54,6 @@ abbrev pub role_column : Role → ℤ
 role_column roles.Admin = pos 0
 role_column roles.Tech = pos 1
 role_column roles.Host = pos 2
+
+abbrev pub role_in : ℤ → Option Role
+role_in column = with_code role_column all_roles column

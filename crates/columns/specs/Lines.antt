@@ -1,26 +1,22 @@
 -- How a line of an account lies in its row.
-use Rattle.std.specs.Prelude.{ℕ, ◌<◌, ◌^◌, ℤ, Option, Some, None, IfSome}
+use Rattle.std.specs.Prelude.{ℕ, ◌<◌, ◌^◌, ℤ, Option, Some, None, IfSome, option_map}
 use Rattle.calendar.specs.Moment.{IsMoment}
-use Rattle.objects.specs.declared.roid.ObjectKind.{ObjectKind}
-use Rattle.objects.specs.declared.roid.ObjectKind.TheVariants.{Contact, Domain, Host}
+use Rattle.objects.specs.declared.roid.ObjectKind.TheVariants.{Domain}
 use Rattle.objects.specs.declared.roid.Roid.{Roid}
 use Rattle.accounts.specs.declared.line.Line.{Line}
 use Rattle.accounts.specs.declared.line.LineKind.{LineKind}
 use Rattle.tables.specs.Line as table
 use Rattle.columns.specs.declared.line.DomainColumns.{DomainColumns}
-use Rattle.columns.specs.Codes.{kind_column}
-use Rattle.columns.specs.Numbers.{IsPlace, counter_column, exact_column, maybe_moment_column, moment_column, registrar_column, years_column}
+use Rattle.columns.specs.declared.roid.RoidColumns.{RoidColumns}
+use Rattle.columns.specs.Codes.{kind_column, kind_in}
+use Rattle.columns.specs.Numbers.{exact_column, exact_in, maybe_moment_column, maybe_moment_in, moment_column, moment_in, years_column, years_in}
+use Rattle.columns.specs.Roids.{IsRoid, roid_columns, roid_in}
 use Rattle.columns.specs.Steps.{◌>>=◌}
 
 -- ---- which values there are
 
--- the creator has a place, and the serial number 64 bits
-pub record IsDomain (roid : Roid) : Type 0 where
-  pub creator : IsPlace roid.creator
-  pub serial : roid.serial < 2 ^ 64
-
 pub record IsLine (line : Line) : Type 0 where
-  pub roid : IfSome line.roid IsDomain
+  pub roid : IfSome line.roid IsRoid
   pub recorded : IsMoment line.recorded
   pub years : line.years < 2 ^ 32
   pub started : IfSome line.started IsMoment
@@ -28,16 +24,13 @@ pub record IsLine (line : Line) : Type 0 where
 
 -- ---- written
 
--- only a domain's ROID is written
-abbrev pub columns_of : ObjectKind → ℕ → ℕ → Option DomainColumns
-columns_of Contact creator serial = None
-columns_of Domain creator serial = Some (record { creator = Some (registrar_column creator); serial = Some (counter_column serial) })
-columns_of Host creator serial = None
+abbrev pub not_null : RoidColumns → DomainColumns
+not_null columns = record { creator = Some columns.creator; serial = Some columns.serial }
 
--- both NULL of no domain
+-- only a domain's ROID is written; both columns are NULL of no domain
 abbrev pub domain_columns : Option Roid → Option DomainColumns
 domain_columns None = Some (record { creator = None; serial = None })
-domain_columns (Some roid) = columns_of roid.kind roid.creator roid.serial
+domain_columns (Some roid) = option_map not_null (roid_columns Domain roid)
 
 abbrev pub row_with : ℤ → ℤ → Line → DomainColumns → ℤ → table.Line
 row_with id account line domain cents = record {
@@ -62,10 +55,12 @@ line_row id account line = do
 
 -- ---- read
 
-abbrev pub domain_made : Option ℕ → ℕ → Option (Option Roid)
-domain_made creator serial = do
-  place ← creator
-  Some (Some (record { kind = Domain; creator = place; serial = serial }))
+-- the domain of these columns, or none where both are NULL
+abbrev pub maybe_domain_in : Option ℤ → Option ℤ → Option (Option Roid)
+maybe_domain_in None None = Some None
+maybe_domain_in (Some creator) (Some serial) = option_map Some (roid_in Domain creator serial)
+maybe_domain_in None (Some serial) = None
+maybe_domain_in (Some creator) None = None
 
 -- the line of these parts, if all are there
 abbrev pub line_made : Option LineKind → Option (Option Roid) → Option ℕ → Option ℕ → Option ℕ → Option (Option ℕ) → Option (Option ℕ) → Option Line
@@ -78,3 +73,9 @@ line_made kind roid recorded years cents started refunded = do
   s ← started
   b ← refunded
   Some (record { kind = k; roid = r; recorded = m; years = y; cents = c; started = s; refunded = b })
+
+-- the line of a row, if each column reads
+abbrev pub line_in : table.Line → Option Line
+line_in row =
+    line_made (kind_in row.kind) (maybe_domain_in row.creator row.serial) (moment_in row.recorded) (years_in row.years)
+    (exact_in row.cents) (maybe_moment_in row.started) (maybe_moment_in row.refunded)

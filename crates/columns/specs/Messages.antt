@@ -12,8 +12,8 @@ use Rattle.accounts.specs.declared.message.Origin.TheVariants.{Lapse, Command}
 use Rattle.accounts.specs.declared.message.Subject.{Subject}
 use Rattle.tables.specs.Message as table
 use Rattle.columns.specs.declared.origin.OriginColumns.{OriginColumns}
-use Rattle.columns.specs.Codes.{subject_column}
-use Rattle.columns.specs.Numbers.{exact_column, moment_column}
+use Rattle.columns.specs.Codes.{subject_column, subject_in, with_code}
+use Rattle.columns.specs.Numbers.{exact_column, exact_in, moment_column, moment_in}
 use Rattle.columns.specs.Steps.{◌>>=◌}
 
 -- ---- written
@@ -25,11 +25,17 @@ all_lapse_notices = RenewedAutomatically ∷ Purged ∷ TransferApproved ∷ []
 abbrev pub lapse_notice_column : LapseNotice → ℤ
 lapse_notice_column notice = pos (letter_rank notice)
 
+abbrev pub lapse_notice_in : ℤ → Option LapseNotice
+lapse_notice_in column = with_code lapse_notice_column all_lapse_notices column
+
 abbrev pub all_command_notices : List CommandNotice
 all_command_notices = commands.TransferRequested ∷ commands.TransferApproved ∷ commands.TransferRejected ∷ commands.TransferCancelled ∷ []
 
 abbrev pub command_notice_column : CommandNotice → ℤ
 command_notice_column notice = pos (command_rank notice)
+
+abbrev pub command_notice_in : ℤ → Option CommandNotice
+command_notice_in column = with_code command_notice_column all_command_notices column
 
 abbrev pub command_columns : ℕ → CommandNotice → Option OriginColumns
 command_columns number notice = do
@@ -66,6 +72,10 @@ origin_made columns letter number notice =
     if int_eq columns.class (pos 0) && int_eq columns.notice (pos 0) then lapse_made letter
     else (if int_eq columns.class (pos 1) then command_made number notice else None)
 
+-- the origin of these columns, if they are one's
+abbrev pub origin_in : OriginColumns → Option Origin
+origin_in columns = origin_made columns (lapse_notice_in columns.number) (exact_in columns.number) (command_notice_in columns.notice)
+
 -- the message of these parts, if all are there
 abbrev pub message_made : Option ℕ → Option Origin → Option Subject → List ℕ → Option Message
 message_made moment origin subject name = do
@@ -73,3 +83,8 @@ message_made moment origin subject name = do
   o ← origin
   s ← subject
   Some (record { moment = m; origin = o; name = name; subject = s })
+
+-- the message of a row, if each column reads
+abbrev pub message_in : table.Message → Option Message
+message_in row =
+    message_made (moment_in row.moment) (origin_in (record { class = row.class; number = row.number; notice = row.notice })) (subject_in row.subject) row.name

@@ -6,8 +6,8 @@ use Rattle.objects.specs.Transfers.{is_pending_state}
 use Rattle.objects.specs.declared.transfer.Transfer.{Transfer}
 use Rattle.objects.specs.declared.transfer.TransferState.{TransferState}
 use Rattle.tables.specs.Transfer as table
-use Rattle.columns.specs.Codes.{state_column}
-use Rattle.columns.specs.Numbers.{IsPlace, moment_column, registrar_column}
+use Rattle.columns.specs.Codes.{state_column, state_in}
+use Rattle.columns.specs.Numbers.{IsPlace, moment_column, moment_in, registrar_column, registrar_in}
 use Rattle.columns.specs.Steps.{◌>>=◌}
 
 pub record IsTransfer (t : Transfer) : Type 0 where
@@ -19,6 +19,11 @@ pub record IsTransfer (t : Transfer) : Type 0 where
 -- when the server approves it while it is pending
 abbrev pub due_column : Transfer → Option ℤ
 due_column t = if is_pending_state t.state then Some (moment_column t.ac_date) else None
+
+-- of an object whose last transfer is this
+abbrev pub maybe_due_column : Option Transfer → Option ℤ
+maybe_due_column None = None
+maybe_due_column (Some t) = due_column t
 
 -- the row of a transfer, under its number, of the contact or the domain with this one
 abbrev pub transfer_row : ℤ → Option ℤ → Option ℤ → Transfer → table.Transfer
@@ -57,3 +62,8 @@ abbrev pub with_due : Option Transfer → Option ℤ → Option Transfer
 with_due transfer due = do
   t ← transfer
   if is_same (due_column t) due then Some t else None
+
+-- the transfer of a row, if each column reads, and it is due when it says
+abbrev pub transfer_in : table.Transfer → Option Transfer
+transfer_in row =
+    with_due (transfer_made (registrar_in row.requester) (registrar_in row.losing) (moment_in row.requested) (moment_in row.ac_date) (state_in row.state)) row.due

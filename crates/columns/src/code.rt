@@ -55,6 +55,7 @@ pub fn kind_column(kind: LineKind) -> i64
 /// What a line with this code is for.
 #[tactic(auto, using(crate::proofs::CodeLemmas::kinds_by_code))]
 pub fn kind_of_column(column: i64) -> Option<LineKind>
+    ensures value { result ≡ spec.kind_in column }
     ensures found { IfSome result (λ kind. column ≡ spec.kind_column kind) }
     ensures only { (kind : LineKind) → column ≡ spec.kind_column kind → result ≡ Some kind }
 {
@@ -83,6 +84,7 @@ pub fn subject_column(subject: Subject) -> i64
 /// What a message with this code is about.
 #[tactic(auto, using(crate::proofs::CodeLemmas::subjects_by_code))]
 pub fn subject_of_column(column: i64) -> Option<Subject>
+    ensures value { result ≡ spec.subject_in column }
     ensures found { IfSome result (λ subject. column ≡ spec.subject_column subject) }
     ensures only { (subject : Subject) → column ≡ spec.subject_column subject → result ≡ Some subject }
 {
@@ -114,6 +116,7 @@ pub fn state_column(state: TransferState) -> i64
 /// How a transfer with this code stands.
 #[tactic(auto, using(crate::proofs::CodeLemmas::states_by_code))]
 pub fn state_of_column(column: i64) -> Option<TransferState>
+    ensures value { result ≡ spec.state_in column }
     ensures found { IfSome result (λ state. column ≡ spec.state_column state) }
     ensures only { (state : TransferState) → column ≡ spec.state_column state → result ≡ Some state }
 {
@@ -143,6 +146,7 @@ pub fn role_column(role: Role) -> i64
 /// The role with this code.
 #[tactic(auto, using(crate::proofs::CodeLemmas::roles_by_code))]
 pub fn role_of_column(column: i64) -> Option<Role>
+    ensures value { result ≡ spec.role_in column }
     ensures found { IfSome result (λ role. column ≡ spec.role_column role) }
     ensures only { (role : Role) → column ≡ spec.role_column role → result ≡ Some role }
 {

@@ -4,28 +4,38 @@
 //! written is read back, and a column that no value has reads as none.
 #![tactic(auto)]
 
+mod above;
 mod code;
+mod contact;
+mod domain;
 mod line;
 mod message;
 mod moment;
 mod number;
 mod origin;
+mod registration;
+mod roid;
 mod statuses;
 mod street;
 #[cfg(test)]
 mod tests;
+mod text;
 mod transfer;
 
+pub use above::above_column;
 pub use code::{
     Role, kind_column, kind_of_column, role_column, role_of_column, state_column, state_of_column,
     subject_column, subject_of_column,
 };
+pub use contact::{contact_of_row, contact_row};
+pub use domain::{domain_of_row, domain_row};
 pub use line::{line_of_row, line_row};
 pub use message::{message_of_row, message_row};
 pub use moment::{maybe_moment_column, maybe_moment_of_column, moment_column, moment_of_column};
 pub use number::{
-    counter_column, counter_of_column, exact_column, exact_of_column, registrar_column,
-    registrar_of_column, years_column, years_of_column,
+    counter_column, counter_of_column, exact_column, exact_of_column, maybe_registrar_column,
+    maybe_registrar_of_column, registrar_column, registrar_of_column, years_column,
+    years_of_column,
 };
 pub use origin::{
     command_notice_column, command_notice_of_column, lapse_notice_column, lapse_notice_of_column,

@@ -1,17 +1,13 @@
 //! Lines of accounts as rows.
-ghost use Rattle.std.specs.Prelude.{◌≡◌, Option, Some, None, IfSome};
-ghost use Rattle.objects.specs.declared.roid.Roid.{Roid};
+ghost use Rattle.std.specs.Prelude.{◌≡◌, Some, IfSome};
 ghost use Rattle.accounts.specs.declared.line.Line.{Line};
 ghost use Rattle.columns.specs.Lines as spec;
 
 use crate::code::{kind_column, kind_of_column};
 use crate::moment::{maybe_moment_column, maybe_moment_of_column, moment_column, moment_of_column};
-use crate::number::{
-    counter_column, counter_of_column, exact_column, exact_of_column, registrar_column,
-    registrar_of_column, years_column, years_of_column,
-};
+use crate::number::{exact_column, exact_of_column, years_column, years_of_column};
+use crate::roid::{roid_columns, roid_of_columns};
 use accounts::{Line, LineKind};
-use basis::registrar::RegistrarNo;
 use calendar::Moment;
 use objects::{ObjectKind, Roid};
 use tables::LineRow;
@@ -46,6 +42,7 @@ pub fn line_row(id: i64, account: i64, line: &Line) -> Option<LineRow>
 
 /// The line of a row, if it's one's.
 pub fn line_of_row(row: &LineRow) -> Option<Line>
+    ensures value { result ≡ spec.line_in row.now }
     ensures found { IfSome result (λ line. spec.line_row row.now.id row.now.account line ≡ Some row.now) }
     ensures only { (line : Line) → spec.IsLine line → spec.line_row row.now.id row.now.account line ≡ Some row.now → result ≡ Some line }
 {
@@ -91,26 +88,23 @@ fn domain_columns(roid: &Option<Roid>) -> Option<DomainColumns>
             creator: None,
             serial: None,
         }),
-        Some(roid) => columns_of_roid(roid),
+        Some(roid) => some_domain_columns(roid),
     }
 }
 
-fn columns_of_roid(roid: &Roid) -> Option<DomainColumns>
-    ensures { result ≡ spec.columns_of roid.now.kind roid.now.creator roid.now.serial }
+fn some_domain_columns(roid: &Roid) -> Option<DomainColumns>
+    ensures { result ≡ spec.domain_columns (Some roid.now) }
 {
-    match roid.kind {
-        ObjectKind::Contact | ObjectKind::Host => None,
-        ObjectKind::Domain => Some(DomainColumns {
-            creator: Some(registrar_column(roid.creator)),
-            serial: Some(counter_column(roid.serial)),
-        }),
-    }
+    let columns = roid_columns(ObjectKind::Domain, roid)?;
+    Some(DomainColumns {
+        creator: Some(columns.creator),
+        serial: Some(columns.serial),
+    })
 }
 
 /// The domain of two columns, if both are NULL or neither.
 fn domain_of_columns(creator: Option<i64>, serial: Option<i64>) -> Option<Option<Roid>>
-    ensures found { IfSome result (λ roid. spec.domain_columns roid ≡ Some (record { creator = creator; serial = serial })) }
-    ensures only { (roid : Option Roid) → IfSome roid spec.IsDomain → spec.domain_columns roid ≡ Some (record { creator = creator; serial = serial }) → result ≡ Some roid }
+    ensures { result ≡ spec.maybe_domain_in creator serial }
 {
     match (creator, serial) {
         (None, None) => Some(None),
@@ -120,19 +114,8 @@ fn domain_of_columns(creator: Option<i64>, serial: Option<i64>) -> Option<Option
 }
 
 fn some_domain_of_columns(creator: i64, serial: i64) -> Option<Option<Roid>>
-    ensures found { IfSome result (λ roid. spec.domain_columns roid ≡ Some (record { creator = Some creator; serial = Some serial })) }
-    ensures only { (roid : Option Roid) → IfSome roid spec.IsDomain → spec.domain_columns roid ≡ Some (record { creator = Some creator; serial = Some serial }) → result ≡ Some roid }
+    ensures { result ≡ spec.maybe_domain_in (Some creator) (Some serial) }
 {
-    domain_made(registrar_of_column(creator), counter_of_column(serial))
-}
-
-fn domain_made(creator: Option<RegistrarNo>, serial: u64) -> Option<Option<Roid>>
-    ensures { result ≡ spec.domain_made creator serial }
-{
-    let creator = creator?;
-    Some(Some(Roid {
-        kind: ObjectKind::Domain,
-        creator,
-        serial,
-    }))
+    let roid = roid_of_columns(ObjectKind::Domain, creator, serial)?;
+    Some(Some(roid))
 }

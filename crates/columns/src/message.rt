@@ -41,6 +41,7 @@ pub fn message_row(
 
 /// The message of a row, if it's one's.
 pub fn message_of_row(row: MessageRow) -> Option<Message>
+    ensures value { result ≡ spec.message_in row }
     ensures found { IfSome result (λ m. spec.message_row row.id row.account m ≡ Some row) }
     ensures only { (m : Message) → IsMoment m.moment → spec.message_row row.id row.account m ≡ Some row → result ≡ Some m }
 {

@@ -14,6 +14,7 @@ pub fn moment_column(moment: Moment) -> i64
 
 /// The moment of a column, if it's one.
 pub fn moment_of_column(column: i64) -> Option<Moment>
+    ensures value { result ≡ spec.moment_in column }
     ensures found { IfSome result (λ m. column ≡ spec.moment_column m) }
     ensures only { (m : ℕ) → IsMoment m → column ≡ spec.moment_column m → result ≡ Some m }
 {
@@ -32,6 +33,7 @@ pub fn maybe_moment_column(moment: Option<Moment>) -> Option<i64>
 
 /// The moment of a column that may be NULL; none where it's neither.
 pub fn maybe_moment_of_column(column: Option<i64>) -> Option<Option<Moment>>
+    ensures value { result ≡ spec.maybe_moment_in column }
     ensures found { IfSome result (λ m. column ≡ spec.maybe_moment_column m) }
     ensures only { (m : Option ℕ) → IfSome m IsMoment → column ≡ spec.maybe_moment_column m → result ≡ Some m }
 {
@@ -42,8 +44,7 @@ pub fn maybe_moment_of_column(column: Option<i64>) -> Option<Option<Moment>>
 }
 
 fn some_moment_of_column(column: i64) -> Option<Option<Moment>>
-    ensures found { IfSome result (λ m. Some column ≡ spec.maybe_moment_column m) }
-    ensures only { (m : Option ℕ) → IfSome m IsMoment → Some column ≡ spec.maybe_moment_column m → result ≡ Some m }
+    ensures { result ≡ spec.maybe_moment_in (Some column) }
 {
     let moment = moment_of_column(column)?;
     Some(Some(moment))

@@ -1,5 +1,5 @@
 //! Numbers as columns: registrars' places, counters, years and cents.
-ghost use Rattle.std.specs.Prelude.{◌≡◌, ◌<◌, ◌^◌, ℕ, IfSome};
+ghost use Rattle.std.specs.Prelude.{◌≡◌, ◌<◌, ◌^◌, ℕ, Option, Some, IfSome};
 ghost use Rattle.columns.specs.Numbers as spec;
 
 use basis::registrar::RegistrarNo;
@@ -13,6 +13,7 @@ pub fn registrar_column(registrar: RegistrarNo) -> i64
 
 /// The registrar whose place a column is, if it's one.
 pub fn registrar_of_column(column: i64) -> Option<RegistrarNo>
+    ensures value { result ≡ spec.registrar_in column }
     ensures found { IfSome result (λ place. column ≡ spec.registrar_column place) }
     ensures only { (place : ℕ) → spec.IsPlace place → column ≡ spec.registrar_column place → result ≡ Some place }
 {
@@ -20,6 +21,35 @@ pub fn registrar_of_column(column: i64) -> Option<RegistrarNo>
         return None;
     }
     Some(RegistrarNo::of_place(column as u32))
+}
+
+/// The place of a registrar, or NULL where there is none.
+pub fn maybe_registrar_column(registrar: Option<RegistrarNo>) -> Option<i64>
+    ensures { result ≡ spec.maybe_registrar_column registrar }
+{
+    match registrar {
+        None => None,
+        Some(registrar) => Some(registrar_column(registrar)),
+    }
+}
+
+/// The registrar of a column that may be NULL; none where it's neither.
+pub fn maybe_registrar_of_column(column: Option<i64>) -> Option<Option<RegistrarNo>>
+    ensures value { result ≡ spec.maybe_registrar_in column }
+    ensures found { IfSome result (λ place. column ≡ spec.maybe_registrar_column place) }
+    ensures only { (place : Option ℕ) → IfSome place spec.IsPlace → column ≡ spec.maybe_registrar_column place → result ≡ Some place }
+{
+    match column {
+        None => Some(None),
+        Some(column) => some_registrar_of_column(column),
+    }
+}
+
+fn some_registrar_of_column(column: i64) -> Option<Option<RegistrarNo>>
+    ensures { result ≡ spec.maybe_registrar_in (Some column) }
+{
+    let registrar = registrar_of_column(column)?;
+    Some(Some(registrar))
 }
 
 /// A counter's 64 bits.
@@ -31,6 +61,7 @@ pub fn counter_column(counter: u64) -> i64
 
 /// The counter with these bits.
 pub fn counter_of_column(column: i64) -> u64
+    ensures value { result ≡ spec.counter_in column }
     ensures found { column ≡ spec.counter_column result }
     ensures only { (n : ℕ) → n < 2 ^ 64 → column ≡ spec.counter_column n → result ≡ n }
 {
@@ -46,6 +77,7 @@ pub fn years_column(years: u32) -> i64
 
 /// The number of years of a column, if it's one.
 pub fn years_of_column(column: i64) -> Option<u32>
+    ensures value { result ≡ spec.years_in column }
     ensures found { IfSome result (λ years. column ≡ spec.years_column years) }
     ensures only { (years : ℕ) → years < 2 ^ 32 → column ≡ spec.years_column years → result ≡ Some years }
 {
@@ -68,6 +100,7 @@ pub fn exact_column(number: u64) -> Option<i64>
 
 /// The number that a column is; none where it's negative.
 pub fn exact_of_column(column: i64) -> Option<u64>
+    ensures value { result ≡ spec.exact_in column }
     ensures found { IfSome result (λ n. spec.exact_column n ≡ Some column) }
     ensures only { (n : ℕ) → spec.exact_column n ≡ Some column → result ≡ Some n }
 {

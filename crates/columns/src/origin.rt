@@ -44,6 +44,7 @@ pub fn lapse_notice_column(notice: LapseNotice) -> i64
 /// What time brought, by its code.
 #[tactic(auto, using(crate::proofs::MessageLemmas::lapse_notices_by_code))]
 pub fn lapse_notice_of_column(column: i64) -> Option<LapseNotice>
+    ensures value { result ≡ spec.lapse_notice_in column }
     ensures found { IfSome result (λ notice. column ≡ spec.lapse_notice_column notice) }
     ensures only { (notice : LapseNotice) → column ≡ spec.lapse_notice_column notice → result ≡ Some notice }
 {
@@ -74,6 +75,7 @@ pub fn command_notice_column(notice: CommandNotice) -> i64
 /// What a command brought, by its code.
 #[tactic(auto, using(crate::proofs::MessageLemmas::command_notices_by_code))]
 pub fn command_notice_of_column(column: i64) -> Option<CommandNotice>
+    ensures value { result ≡ spec.command_notice_in column }
     ensures found { IfSome result (λ notice. column ≡ spec.command_notice_column notice) }
     ensures only { (notice : CommandNotice) → column ≡ spec.command_notice_column notice → result ≡ Some notice }
 {
@@ -116,6 +118,7 @@ fn command_columns(number: u64, notice: CommandNotice) -> Option<OriginColumns>
 
 /// The origin of these columns, if they are one's.
 pub(crate) fn origin_of_columns(columns: OriginColumns) -> Option<Origin>
+    ensures value { result ≡ spec.origin_in columns }
     ensures found { IfSome result (λ origin. spec.origin_columns origin ≡ Some columns) }
     ensures only { (origin : Origin) → spec.origin_columns origin ≡ Some columns → result ≡ Some origin }
 {

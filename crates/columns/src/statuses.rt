@@ -1,5 +1,5 @@
 //! Lists of statuses as one text.
-ghost use Rattle.std.specs.Prelude.{◌≡◌, ◌==◌, List, Some, map, IfOk, IfSome, OnOk, string_bytes};
+ghost use Rattle.std.specs.Prelude.{◌≡◌, ◌==◌, List, Some, IfOk, IfSome, OnOk, string_bytes};
 ghost use Rattle.std.specs.List.{slice_split};
 ghost use Rattle.objects.specs.StatusTexts.{status_text};
 ghost use Rattle.objects.specs.declared.status.Status.{Status};
@@ -35,6 +35,7 @@ fn push_statuses(text: &mut String, statuses: &[Status]) -> Result<(), AllocErro
 
 /// The statuses of a text, if it's a list's.
 pub fn statuses_of_column(alloc: Global, text: &str) -> Result<Option<Seq<Status>>, AllocError>
+    ensures value { IfOk result (λ read. read ≡ spec.statuses_in text.now) }
     ensures found { IfOk result (λ read. IfSome read (λ xs. text.now ≡ spec.statuses_column xs)) }
     ensures only { IfOk result (λ read. (xs : List Status) → text.now ≡ spec.statuses_column xs → read ≡ Some xs) }
 {
@@ -46,8 +47,7 @@ pub fn statuses_of_column(alloc: Global, text: &str) -> Result<Option<Seq<Status
 
 /// The statuses that the words between blanks name, if each names one.
 fn named(alloc: Global, text: &str) -> Result<Option<Seq<Status>>, AllocError>
-    ensures found { IfOk result (λ read. IfSome read (λ xs. slice_split (λ b. b == 32) text.now ≡ map status_text xs)) }
-    ensures only { IfOk result (λ read. (xs : List Status) → slice_split (λ b. b == 32) text.now ≡ map status_text xs → read ≡ Some xs) }
+    ensures { IfOk result (λ read. read ≡ spec.statuses_named (slice_split (λ b. b == 32) text.now)) }
 {
     let mut statuses = Vec::new(alloc);
     for word in text.split(' ') {

@@ -44,8 +44,19 @@ fn due_column(transfer: &Transfer) -> Option<i64>
     }
 }
 
+/// The same of an object whose last transfer is this.
+pub(crate) fn maybe_due_column(transfer: &Option<Transfer>) -> Option<i64>
+    ensures { result ≡ spec.maybe_due_column transfer.now }
+{
+    match transfer {
+        None => None,
+        Some(transfer) => due_column(transfer),
+    }
+}
+
 /// The transfer of a row, if it's one's.
 pub fn transfer_of_row(row: &TransferRow) -> Option<Transfer>
+    ensures value { result ≡ spec.transfer_in row.now }
     ensures found { IfSome result (λ t. spec.transfer_row row.now.id row.now.contact row.now.domain t ≡ row.now) }
     ensures only { (t : Transfer) → spec.IsTransfer t → spec.transfer_row row.now.id row.now.contact row.now.domain t ≡ row.now → result ≡ Some t }
 {
@@ -90,7 +101,7 @@ fn with_due(transfer: Option<Transfer>, due: Option<i64>) -> Option<Transfer>
     }
 }
 
-fn is_same(a: Option<i64>, b: Option<i64>) -> bool
+pub(crate) fn is_same(a: Option<i64>, b: Option<i64>) -> bool
     ensures { result ≡ spec.is_same a b }
 {
     match (a, b) {

@@ -1,5 +1,7 @@
 -- From what a text does to what a call on typed rows does.
-use Rattle.std.proofs.Common.{◌≡◌, ℕ, List, Vec, Global, Result, Ok, Err, IfOk, OnOk, sym, subst}
+use Rattle.std.proofs.Common.{◌≡◌, ◌∙◌, ℕ, List, [], ◌∷◌, map, take, drop, Vec, Global, Result, Ok, Err, IfOk, OnOk, refl, sym, ap, subst}
+use Rattle.std.specs.List.{take-map}
+use Rattle.sqlite_value.specs.declared.value.ValueRef.{ValueRef}
 use Rattle.sqlite_value.specs.Order.{Row}
 use Rattle.sqlite_sql.specs.Query.{Query}
 use Rattle.sqlite_schema.specs.declared.schema.Schema.{Schema}
@@ -7,6 +9,7 @@ use Rattle.sqlite.specs.declared.error.Error.{Error}
 use Rattle.sqlite.specs.Given.{IsPlain}
 use Rattle.sqlite.specs.Listing.{understood}
 use Rattle.sqlite.specs.State.{State, Executes}
+use Rattle.sqlite.specs.Values.{bound}
 use Rattle.rows.specs.Layouts.{Layout, Holds, Sets, IsSelect}
 use Rattle.rows.specs.Calls.{Answers, Selects, Writes, Finds, Changes}
 
@@ -33,3 +36,11 @@ module _ {X : Type 0} (L : Layout X) (old new : State) (f : List X → List X) w
 
 pub plain_in : (s schema : Schema) (sql : List ℕ) (q : Query) → s ≡ schema → IsSelect schema sql q → IsPlain (understood s sql)
 plain_in s schema sql q has is = subst (λ x. IsPlain (understood x sql)) (sym has) is.plain
+
+without_first : {X Y : Type 0} (f : X → Y) (xs : List X) → map f (drop 1 xs) ≡ drop 1 (map f xs)
+without_first f [] = refl
+without_first f (x ∷ xs) = refl
+
+-- the parameters but the first, which is a row's number
+pub past_first : (xs : List ValueRef) (row : Row) → bound xs ≡ row → (count : ℕ) → bound (take count (drop 1 xs)) ≡ take count (drop 1 row)
+past_first xs row is count = sym (take-map _ count (drop 1 xs)) ∙ ap (take count) (without_first _ xs ∙ ap (drop 1) is)

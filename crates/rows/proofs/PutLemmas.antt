@@ -41,7 +41,7 @@ use Rattle.rows.proofs.SelectLemmas.{same_command}
 use Rattle.rows.proofs.ListLemmas.{removed_put, only_one}
 use Rattle.rows.proofs.WriteLemmas.{went, same_value, concluded, task_of, left, applies, sets, chosen}
 
-not_counted : (task : Task) → task.table.is_counted ≡ false → (db next : Trees) (counter : Option Row) (top : ℤ) → Counts task db counter top (Ok next) → next ≡ db
+pub not_counted : (task : Task) → task.table.is_counted ≡ false → (db next : Trees) (counter : Option Row) (top : ℤ) → Counts task db counter top (Ok next) → next ≡ db
 not_counted task none db next counter top it = same_value (rw none at it)
 
 -- the row has its rowid already

@@ -1,5 +1,5 @@
 -- Rows by a test.
-use Rattle.std.proofs.Common.{◌≡◌, ◌^◌, ◌-◌, Err, ℕ, Bool, true, false, List, [], ◌∷◌, map, filter, unwrap_or, cond, nat_le, slice_get, None, Result, Ok, refl, sym, ap₂, ◌∙◌, int_cmp, map-id, ℤ, Option, Ordering, Less}
+use Rattle.std.proofs.Common.{◌≡◌, ◌^◌, ◌-◌, negsuc, Err, ℕ, Bool, true, false, List, [], ◌∷◌, map, filter, unwrap_or, cond, nat_le, slice_get, None, Result, Ok, refl, sym, ap₂, ◌∙◌, int_cmp, map-id, ℤ, Option, Ordering, Less}
 use Rattle.std.specs.List.{list_all}
 use Rattle.sqlite_value.specs.declared.value.Value.TheVariants.{Null, Int}
 use Rattle.sqlite_value.specs.Order.{Row, value_cmp}
@@ -21,7 +21,7 @@ use Rattle.sqlite.proofs.Callers as callers
 use Rattle.sqlite.specs.Listing.{understood}
 use Rattle.sqlite_resolve.specs.declared.compiled.Compiled.{Compiled}
 use Rattle.sqlite_resolve.specs.declared.error.CompileError.{CompileError}
-use Rattle.rows.specs.Layouts.{Layout, Holds, select_query, sorted_query, by_then_key, IsSelect, command_of}
+use Rattle.rows.specs.Layouts.{Layout, Holds, select_query, limited_query, sorted_query, by_then_key, IsSelect, command_of}
 
 pub same_command : (r : Result Compiled CompileError) → callers.command_of r ≡ command_of r
 same_command (Ok c) = refl
@@ -30,12 +30,13 @@ same_command (Err e) = refl
 pub overlay_none : (db : Trees) (t : ℕ) → overlay db [] t ≡ db t
 overlay_none db t = elim (nat_le (2 ^ 31) t) as (λ b. unwrap_or (cond b (slice_get [] (t - 2 ^ 31)) None) (db t) ≡ db t) [ true ↦ refl | false ↦ refl ]
 
-module _ {X : Type 0} (L : Layout X) (filters project : List Term) (params : Row) (p : X → Bool) (shown : X → Row)
+module _ {X : Type 0} (L : Layout X) (filters project : List Term) (limit : ℤ) (params : Row) (p : X → Bool) (shown : X → Row)
     (tests : (x : X) → list_all (holds (params ∷ L.to_row x ∷ [])) filters ≡ p x)
     (shows : (x : X) → eval_all project (params ∷ L.to_row x ∷ []) ≡ shown x) where
-  pub answers : (db : Trees) (xs : List X) (rows : List Row) → Holds L db xs → IsAnswer (select_query L.tree filters project) (overlay db []) params rows → rows ≡ map shown (filter p xs)
+  answers : (db : Trees) (xs : List X) (rows : List Row) → Holds L db xs → IsAnswer (limited_query L.tree filters project limit) (overlay db []) params rows
+      → rows ≡ page (limited_query L.tree filters project limit) params (map shown (filter p xs))
   answers db xs rows h answer =
-      let q = select_query L.tree filters project in
+      let q = limited_query L.tree filters project limit in
       let stored : overlay db [] L.tree ≡ map L.to_row xs = overlay_none db L.tree ∙ h.rows in
       let source = last_table (overlay db []) L.tree L.to_row L.key xs stored h.keyed (at_end (overlay db [])) in
       let ordered : (a b : X) → output_cmp q (output q (params ∷ L.to_row a ∷ [])) (output q (params ∷ L.to_row b ∷ [])) ≡ int_cmp (L.key a) (L.key b) =
@@ -43,12 +44,20 @@ module _ {X : Type 0} (L : Layout X) (filters project : List Term) (params : Row
       let all = answer_by_keys q (overlay db []) params source p tests (λ r. r) shown shows refl refl ordered rows answer in
       sym (map-id rows) ∙ all
 
-  pub selects : (schema : Schema) (sql : List ℕ) (old new : State) (xs : List X) (rows : List Row) → IsSelect schema sql (select_query L.tree filters project) → old.now.schema ≡ schema
-      → Holds L old.now.trees xs → Shown sql params old new rows → rows ≡ map shown (filter p xs)
-  selects schema sql old new xs rows is has h seen =
-      let q = select_query L.tree filters project in
+  -- the first of the rows, by key
+  pub limits : (schema : Schema) (sql : List ℕ) (old new : State) (xs : List X) (rows : List Row) → IsSelect schema sql (limited_query L.tree filters project limit) → old.now.schema ≡ schema
+      → Holds L old.now.trees xs → Shown sql params old new rows → rows ≡ page (limited_query L.tree filters project limit) params (map shown (filter p xs))
+  limits schema sql old new xs rows is has h seen =
+      let q = limited_query L.tree filters project limit in
       let read = reads_as sql params old new schema has (Select (record { lets = []; body = q }) is.names) (same_command (understood schema sql) ∙ is.command) is.plain is.unlisted rows seen in
       answers old.now.trees xs rows h (read.answer Null)
+
+module _ {X : Type 0} (L : Layout X) (filters project : List Term) (params : Row) (p : X → Bool) (shown : X → Row)
+    (tests : (x : X) → list_all (holds (params ∷ L.to_row x ∷ [])) filters ≡ p x)
+    (shows : (x : X) → eval_all project (params ∷ L.to_row x ∷ []) ≡ shown x) where
+  pub selects : (schema : Schema) (sql : List ℕ) (old new : State) (xs : List X) (rows : List Row) → IsSelect schema sql (select_query L.tree filters project) → old.now.schema ≡ schema
+      → Holds L old.now.trees xs → Shown sql params old new rows → rows ≡ map shown (filter p xs)
+  selects = limits L filters project (negsuc 0) params p shown tests shows
 
 -- a key of ORDER BY that may be NULL
 pub value_cmp-maybe_int : (a b : Option ℤ) → value_cmp (or_null Int a) (or_null Int b) ≡ nulls_first int_cmp a b

@@ -3,7 +3,7 @@ use Rattle.std.proofs.Common.{IfOk, Vec, Global, cond, OnErr, OnOk, ◌≡◌, i
 use Rattle.sqlite_value.specs.Order.{Row}
 use Rattle.sqlite_trees.specs.Tree.{Trees}
 use Rattle.sqlite_schema.specs.declared.command.Command.{Command}
-use Rattle.sqlite_schema.specs.declared.command.Command.TheVariants.{InsertOr, Delete, CreateTable, CreateIndex}
+use Rattle.sqlite_schema.specs.declared.command.Command.TheVariants.{Insert, InsertOr, Delete, CreateTable, CreateIndex}
 use Rattle.sqlite_schema.specs.declared.command.Returning.{Returning}
 use Rattle.sqlite_resolve.specs.declared.compiled.Compiled.{Compiled}
 use Rattle.sqlite.specs.declared.error.Error.{Error}
@@ -73,6 +73,7 @@ on_ok_always (Err e) h = tt
 
 stays_by : (old new : State) (returning : Option Returning) (command : Command) (text : List ℕ) (params : Row) (count : ℕ) → writes_tables command ≡ true → old.in_transaction ≡ true
     → Runs old new returning command text params count → Stays old new
+stays_by old new returning (Insert at from) text params count kind inside w = record { shown = subst (λ b. Shows old new new.now (cond b old.committed new.now) b) inside w.shown; marks = w.marks }
 stays_by old new returning (InsertOr at way from clauses) text params count kind inside w = record { shown = subst (λ b. Shows old new new.now (cond b old.committed new.now) b) inside w.shown; marks = w.marks }
 stays_by old new returning (Delete at q) text params count kind inside w = record { shown = subst (λ b. Shows old new new.now (cond b old.committed new.now) b) inside w.shown; marks = w.marks }
 stays_by old new returning CreateTable text params count kind inside w = record { shown = subst (λ b. Shows old new new.now (cond b old.committed new.now) b) inside w.shown; marks = w.marks }

@@ -1,8 +1,8 @@
--- The four shapes of statement, over typed rows of one table.
+-- The shapes of statement, over typed rows of one table.
 use Rattle.std.specs.Prelude.{◌/◌, ◌++◌, length, drop, ◌≢◌, slice_get, true, ◌≡◌, ℕ, ℤ, pos, negsuc, Bool, false, List, [], ◌∷◌, map, Some, None, Result, Ok, Err}
 use Rattle.std.specs.declared.cmp.Ordering.{Ordering}
 use Rattle.std.specs.Ordering.{int_cmp, on, then_cmp}
-use Rattle.sqlite_value.specs.declared.value.Value.TheVariants.{Int}
+use Rattle.sqlite_value.specs.declared.value.Value.TheVariants.{Int, Null}
 use Rattle.sqlite_value.specs.declared.keys.Collation.TheVariants.{Binary}
 use Rattle.sqlite_value.specs.Keys.{ascending}
 use Rattle.sqlite_value.specs.Order.{Row, column}
@@ -12,12 +12,12 @@ use Rattle.sqlite_sql.specs.Term.{Term, lit, col, op2, eval_all}
 use Rattle.sqlite_schema.specs.declared.schema.Table.{Table}
 use Rattle.sqlite_schema.specs.declared.schema.Schema.{Schema}
 use Rattle.sqlite_schema.specs.declared.command.Command.{Command}
-use Rattle.sqlite_schema.specs.declared.command.Command.TheVariants.{Select, Delete, InsertOr, CreateTable, CreateIndex, Nothing}
+use Rattle.sqlite_schema.specs.declared.command.Command.TheVariants.{Select, Insert, Delete, InsertOr, CreateTable, CreateIndex, Nothing}
 use Rattle.sqlite_resolve.specs.declared.compiled.Compiled.{Compiled}
 use Rattle.sqlite_resolve.specs.declared.error.CompileError.{CompileError}
 use Rattle.sqlite.specs.Listing.{understood, reads_listing}
 use Rattle.sqlite.specs.Given.{IsPlain}
-use Rattle.sqlite_keyed.specs.Keyed.{IsKeyedBy}
+use Rattle.sqlite_keyed.specs.Keyed.{IsKeyedBy, next_key}
 use Rattle.std.specs.List.{AllByRecursion, list_any}
 use Rattle.sqlite_value.specs.declared.value.Value.{Value}
 use Rattle.sqlite_sql.specs.declared.ops.CompareOp.TheVariants.{Eq}
@@ -61,6 +61,10 @@ select_query tree filter project = record {
   limit = lit (Int (negsuc 0));
   offset = lit (Int (pos 0));
 }
+
+-- the same, and no more than the limit, if that isn't below 0
+abbrev pub limited_query : ℕ → List Term → List Term → ℤ → Query
+limited_query tree filter project limit = record (select_query tree filter project) { limit = lit (Int limit) }
 
 -- the rows that pass, in the order of some columns and then by key, and no more than the limit, if that isn't below 0
 abbrev pub sorted_query : ℕ → List Term → List Term → List Term → ℤ → Query
@@ -123,8 +127,24 @@ pub record Gives {X : Type 0} (L : Layout X) (schema : Schema) (table : Table) (
   pub unshared : (new r : Row) → list_any (shares (Some (0 ∷ [])) table new r) schema.indexes ≡ false
   pub headed : (x : X) → rowid (L.to_row x) ∷ drop 1 (L.to_row x) ≡ L.to_row x
 
+-- the rows, and after them one that is made for the next key: one above the last, and 1 in an empty table
+abbrev pub appended : {X : Type 0} → Layout X → (ℤ → X) → List X → List X
+appended L numbered xs = xs ++ numbered (next_key L.key xs) ∷ []
+
+-- an insertion of a row that has no key yet: the terms of VALUES
+pub record IsAppend (schema : Schema) (sql : List ℕ) (at : ℕ) (terms : List Term) : Type 0 where
+  pub command : command_of (understood schema sql) ≡ Insert at (Values terms (length terms))
+  pub plain : IsPlain (understood schema sql)
+
+-- the parameters of a row, from which VALUES makes it without a key, and the row with each key
+pub record Numbers {X : Type 0} (L : Layout X) (table : Table) (terms : List Term) (params : X → Row) (numbered : X → ℤ → X) : Type 0 where
+  pub values : (x : X) → value_rows (stamped table (params x)) (length terms) (length terms / length terms) terms ≡ (Null ∷ drop 1 (L.to_row x)) ∷ []
+  pub casts : (x : X) → cast_row table (Null ∷ drop 1 (L.to_row x)) ≡ Null ∷ drop 1 (L.to_row x)
+  pub row : (x : X) (id : ℤ) → L.to_row (numbered x id) ≡ Int id ∷ drop 1 (L.to_row x)
+
 -- a command that writes rows of a table, or makes a table or an index
 abbrev pub writes_tables : Command → Bool
+writes_tables (Insert at from) = true
 writes_tables (InsertOr at way from clauses) = true
 writes_tables (Delete at q) = true
 writes_tables CreateTable = true

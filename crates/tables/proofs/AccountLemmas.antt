@@ -1,12 +1,12 @@
 -- What the statements on the table `account` mean.
 use Rattle.std.proofs.Common.{◌≡◌, ap, map, ◌∙◌, Ok, refl, List, [], ◌∷◌, ℕ, ℤ, filter, codes, true, false}
-use Rattle.sqlite_value.specs.declared.value.Value.TheVariants.{Null, Int, Text}
+use Rattle.sqlite_value.specs.declared.value.Value.TheVariants.{Null, Int}
 use Rattle.sqlite_value.specs.declared.keys.Collation.TheVariants.{Binary}
 use Rattle.sqlite_sql.specs.declared.ops.CompareOp.TheVariants.{Eq}
 use Rattle.sqlite_sql.specs.declared.ops.BinaryOp.TheVariants.{Compare}
 use Rattle.sqlite_sql.specs.Term.{Term, lit, col, op2}
 use Rattle.sqlite_schema.specs.declared.schema.Table.{Table}
-use Rattle.sqlite_typed.proofs.TestLemmas.{at_ints, at_texts, last_term}
+use Rattle.sqlite_typed.proofs.TestLemmas.{at_ints, last_term}
 use Rattle.sqlite_keyed.specs.Keyed.{insert_by}
 use Rattle.sqlite_keyed.proofs.ListLemmas.{filter_all, all_of}
 use Rattle.sqlite.specs.Listing.{understood}
@@ -18,18 +18,18 @@ use Rattle.rows.proofs.SelectLemmas.{selects}
 use Rattle.rows.proofs.PutLemmas.{puts}
 use Rattle.rows.proofs.CastLemmas.{cast_int, cast_null, cast_text, cast_maybe_int, cast_maybe_text}
 use Rattle.rows.proofs.QuietLemmas.{quiet_if_idle}
-use Rattle.tables.specs.Tables.{account, registry, account_all, account_by_id, account_by_ident, account_put}
-use Rattle.tables.specs.Account.{Account, accounts, account_shown, account_with_id, account_with_ident}
+use Rattle.tables.specs.Tables.{account, registry, account_all, account_by_id, account_put}
+use Rattle.tables.specs.Account.{Account, account_shown, accounts, account_with_id}
 
 abbrev columns : List Term
-columns = col 1 0 ∷ col 1 2 ∷ col 1 3 ∷ col 1 4 ∷ col 1 5 ∷ col 1 6 ∷ col 1 7 ∷ []
+columns = col 1 0 ∷ col 1 2 ∷ col 1 3 ∷ col 1 4 ∷ col 1 5 ∷ col 1 6 ∷ col 1 7 ∷ col 1 8 ∷ []
 
 abbrev table : Table
 table = record account { tree = 1 }
 
 pub all_is : IsSelect registry account_all (select_query 1 ([]) columns)
 unfolding understood everything
-all_is = record { names = codes "id" ∷ codes "ident" ∷ codes "commands" ∷ codes "messages" ∷ codes "serial" ∷ codes "balance" ∷ codes "held" ∷ []; command = refl; plain = (refl, refl); unlisted = refl }
+all_is = record { names = codes "id" ∷ codes "ident" ∷ codes "commands" ∷ codes "messages" ∷ codes "serial" ∷ codes "waiting" ∷ codes "balance" ∷ codes "held" ∷ []; command = refl; plain = (refl, refl); unlisted = refl }
 
 pub all_answers : (old new : State) (xs : List Account) → old.now.schema ≡ registry → Holds accounts old.now.trees xs → Answers account_shown account_all [] old new xs
 all_answers old new xs has h rows seen =
@@ -37,36 +37,28 @@ all_answers old new xs has h rows seen =
 
 pub by_id_is : IsSelect registry account_by_id (select_query 1 (op2 (Compare Eq Binary) (col 1 0) (col 0 0) ∷ []) columns)
 unfolding understood everything
-by_id_is = record { names = codes "id" ∷ codes "ident" ∷ codes "commands" ∷ codes "messages" ∷ codes "serial" ∷ codes "balance" ∷ codes "held" ∷ []; command = refl; plain = (refl, refl); unlisted = refl }
+by_id_is = record { names = codes "id" ∷ codes "ident" ∷ codes "commands" ∷ codes "messages" ∷ codes "serial" ∷ codes "waiting" ∷ codes "balance" ∷ codes "held" ∷ []; command = refl; plain = (refl, refl); unlisted = refl }
 
 pub by_id_answers : (old new : State) (v : ℤ) (xs : List Account) → old.now.schema ≡ registry → Holds accounts old.now.trees xs → Answers account_shown account_by_id (Int v ∷ []) old new (filter (account_with_id v) xs)
 by_id_answers old new v xs has h rows seen =
     selects accounts _ _ (Int v ∷ []) (account_with_id v) account_shown (λ x. last_term (at_ints false Eq x.id v)) (λ x. refl) registry account_by_id old new xs rows by_id_is has h seen
 
-pub by_ident_is : IsSelect registry account_by_ident (select_query 1 (op2 (Compare Eq Binary) (col 1 2) (col 0 0) ∷ []) columns)
-unfolding understood everything
-by_ident_is = record { names = codes "id" ∷ codes "ident" ∷ codes "commands" ∷ codes "messages" ∷ codes "serial" ∷ codes "balance" ∷ codes "held" ∷ []; command = refl; plain = (refl, refl); unlisted = refl }
-
-pub by_ident_answers : (old new : State) (v : List ℕ) (xs : List Account) → old.now.schema ≡ registry → Holds accounts old.now.trees xs → Answers account_shown account_by_ident (Text v ∷ []) old new (filter (account_with_ident v) xs)
-by_ident_answers old new v xs has h rows seen =
-    selects accounts _ _ (Text v ∷ []) (account_with_ident v) account_shown (λ x. last_term (at_texts false Eq x.ident v)) (λ x. refl) registry account_by_ident old new xs rows by_ident_is has h seen
-
 listed : Listed accounts registry 1 table
 listed = record { is = refl; tree = refl; quiet = quiet_if_idle registry refl; uncounted = refl; unstamped = refl; casts = λ x. simp (cast_int, cast_null, cast_text, cast_maybe_int, cast_maybe_text) }
 
 abbrev values : List Term
-values = col 0 0 ∷ lit Null ∷ col 0 1 ∷ col 0 2 ∷ col 0 3 ∷ col 0 4 ∷ col 0 5 ∷ col 0 6 ∷ []
+values = col 0 0 ∷ lit Null ∷ col 0 1 ∷ col 0 2 ∷ col 0 3 ∷ col 0 4 ∷ col 0 5 ∷ col 0 6 ∷ col 0 7 ∷ []
 
 abbrev sets : List Term
-sets = col 1 0 ∷ lit Null ∷ col 0 10 ∷ col 0 11 ∷ col 0 12 ∷ col 0 13 ∷ col 0 14 ∷ col 0 15 ∷ []
+sets = col 1 0 ∷ lit Null ∷ col 0 11 ∷ col 0 12 ∷ col 0 13 ∷ col 0 14 ∷ col 0 15 ∷ col 0 16 ∷ col 0 17 ∷ []
 
-pub put_is : IsPut registry account_put 1 1 7 values sets
+pub put_is : IsPut registry account_put 1 1 8 values sets
 unfolding understood everything
 put_is = record { command = refl; plain = (refl, refl) }
 
-gives : Gives accounts registry table 7 values sets account_shown
+gives : Gives accounts registry table 8 values sets account_shown
 gives = record { values = λ x. refl; place = λ x v. refl; updates = λ x v r. refl; unshared = λ new r. refl; headed = λ x. refl }
 
 pub puts_row : (old new : State) (x : Account) (xs : List Account) (count : ℕ) → old.now.schema ≡ registry → Holds accounts old.now.trees xs → Executes account_put (account_shown x) old new (Ok count)
     → Sets accounts registry old.now new.now (insert_by accounts.key xs x)
-puts_row old new x xs count has h ran = puts accounts registry 1 table listed 7 values sets account_shown gives account_put old new xs x has h put_is count ran
+puts_row old new x xs count has h ran = puts accounts registry 1 table listed 8 values sets account_shown gives account_put old new xs x has h put_is count ran

@@ -1,5 +1,5 @@
 -- What the statements on the table `address` mean.
-use Rattle.std.proofs.Common.{◌≡◌, Ok, refl, List, [], ◌∷◌, ℕ, ℤ, filter, codes, false}
+use Rattle.std.proofs.Common.{drop, ◌≡◌, Ok, refl, List, [], ◌∷◌, ℕ, ℤ, filter, codes, false}
 use Rattle.sqlite_value.specs.declared.value.Value.TheVariants.{Null, Int}
 use Rattle.sqlite_value.specs.declared.keys.Collation.TheVariants.{Binary}
 use Rattle.sqlite_sql.specs.declared.ops.CompareOp.TheVariants.{Eq}
@@ -7,20 +7,19 @@ use Rattle.sqlite_sql.specs.declared.ops.BinaryOp.TheVariants.{Compare}
 use Rattle.sqlite_sql.specs.Term.{Term, lit, col, op2}
 use Rattle.sqlite_schema.specs.declared.schema.Table.{Table}
 use Rattle.sqlite_typed.proofs.TestLemmas.{at_ints, last_term}
-use Rattle.sqlite_keyed.specs.Keyed.{insert_by}
 use Rattle.sqlite_keyed.specs.Lists.{delete_where}
 use Rattle.sqlite.specs.Listing.{understood}
 use Rattle.sqlite.specs.State.{State, Executes}
 use Rattle.sqlite_tied.specs.Compute.{everything}
-use Rattle.rows.specs.Layouts.{Holds, Sets, Listed, Gives, IsSelect, IsPut, IsDelete, select_query}
+use Rattle.rows.specs.Layouts.{Holds, Sets, Listed, Numbers, IsSelect, IsAppend, IsDelete, select_query, appended}
 use Rattle.rows.specs.Calls.{Answers}
 use Rattle.rows.proofs.SelectLemmas.{selects}
 use Rattle.rows.proofs.WriteLemmas.{deletes}
-use Rattle.rows.proofs.PutLemmas.{puts}
+use Rattle.rows.proofs.AppendLemmas.{appends}
 use Rattle.rows.proofs.CastLemmas.{cast_int, cast_null, cast_text, cast_maybe_int, cast_maybe_text}
 use Rattle.rows.proofs.QuietLemmas.{quiet_if_idle}
-use Rattle.tables.specs.Tables.{address, registry, address_by_host, address_put, address_remove_host}
-use Rattle.tables.specs.Address.{Address, addresses, address_shown, address_with_host}
+use Rattle.tables.specs.Tables.{address, registry, address_by_host, address_append, address_remove_host}
+use Rattle.tables.specs.Address.{Address, address_shown, addresses, address_with_host}
 
 abbrev columns : List Term
 columns = col 1 0 ∷ col 1 2 ∷ col 1 3 ∷ []
@@ -39,22 +38,20 @@ by_host_answers old new v xs has h rows seen =
 listed : Listed addresses registry 5 table
 listed = record { is = refl; tree = refl; quiet = quiet_if_idle registry refl; uncounted = refl; unstamped = refl; casts = λ x. simp (cast_int, cast_null, cast_text, cast_maybe_int, cast_maybe_text) }
 
-abbrev values : List Term
-values = col 0 0 ∷ lit Null ∷ col 0 1 ∷ col 0 2 ∷ []
+abbrev unnumbered : List Term
+unnumbered = lit Null ∷ lit Null ∷ col 0 0 ∷ col 0 1 ∷ []
 
-abbrev sets : List Term
-sets = col 1 0 ∷ lit Null ∷ col 0 6 ∷ col 0 7 ∷ []
-
-pub put_is : IsPut registry address_put 5 9 3 values sets
+pub append_is : IsAppend registry address_append 5 unnumbered
 unfolding understood everything
-put_is = record { command = refl; plain = (refl, refl) }
+append_is = record { command = refl; plain = (refl, refl) }
 
-gives : Gives addresses registry table 3 values sets address_shown
-gives = record { values = λ x. refl; place = λ x v. refl; updates = λ x v r. refl; unshared = λ new r. refl; headed = λ x. refl }
+numbers : Numbers addresses table unnumbered (λ x. drop 1 (address_shown x)) (λ x id. record x { id = id })
+numbers = record { values = λ x. refl; casts = λ x. simp (cast_int, cast_null, cast_text, cast_maybe_int, cast_maybe_text); row = λ x id. refl }
 
-pub puts_row : (old new : State) (x : Address) (xs : List Address) (count : ℕ) → old.now.schema ≡ registry → Holds addresses old.now.trees xs → Executes address_put (address_shown x) old new (Ok count)
-    → Sets addresses registry old.now new.now (insert_by addresses.key xs x)
-puts_row old new x xs count has h ran = puts addresses registry 5 table listed 3 values sets address_shown gives address_put old new xs x has h put_is count ran
+pub appends_row : (old new : State) (x : Address) (xs : List Address) (count : ℕ) → old.now.schema ≡ registry → Holds addresses old.now.trees xs → Executes address_append (drop 1 (address_shown x)) old new (Ok count)
+    → Sets addresses registry old.now new.now (appended addresses (λ id. record x { id = id }) xs)
+appends_row old new x xs count has h ran =
+    appends addresses registry 5 table listed unnumbered (λ x. drop 1 (address_shown x)) (λ x id. record x { id = id }) numbers address_append old new xs x has h append_is count ran
 
 pub remove_host_is : IsDelete registry address_remove_host 5 9 (op2 (Compare Eq Binary) (col 1 2) (col 0 0) ∷ [])
 unfolding understood everything

@@ -1,27 +1,27 @@
 -- What the statements on the table `host` mean.
-use Rattle.std.proofs.Common.{◌≡◌, ap, map, ◌∙◌, Ok, refl, List, [], ◌∷◌, ℕ, ℤ, filter, codes, true, false}
+use Rattle.std.proofs.Common.{drop, ◌≡◌, Ok, refl, List, [], ◌∷◌, ℕ, ℤ, filter, codes, false}
 use Rattle.sqlite_value.specs.declared.value.Value.TheVariants.{Null, Int, Text}
 use Rattle.sqlite_value.specs.declared.keys.Collation.TheVariants.{Binary}
 use Rattle.sqlite_sql.specs.declared.ops.CompareOp.TheVariants.{Eq}
 use Rattle.sqlite_sql.specs.declared.ops.BinaryOp.TheVariants.{Compare}
 use Rattle.sqlite_sql.specs.Term.{Term, lit, col, op2}
 use Rattle.sqlite_schema.specs.declared.schema.Table.{Table}
-use Rattle.sqlite_typed.proofs.TestLemmas.{at_ints, at_texts, at_points_to, last_term}
+use Rattle.sqlite_typed.proofs.TestLemmas.{at_ints, at_texts, last_term}
 use Rattle.sqlite_keyed.specs.Keyed.{insert_by}
 use Rattle.sqlite_keyed.specs.Lists.{delete_where}
-use Rattle.sqlite_keyed.proofs.ListLemmas.{filter_all, all_of}
 use Rattle.sqlite.specs.Listing.{understood}
 use Rattle.sqlite.specs.State.{State, Executes}
 use Rattle.sqlite_tied.specs.Compute.{everything}
-use Rattle.rows.specs.Layouts.{Holds, Sets, Listed, Gives, IsSelect, IsPut, IsDelete, select_query}
+use Rattle.rows.specs.Layouts.{Holds, Sets, Listed, Gives, Numbers, IsSelect, IsPut, IsAppend, IsDelete, select_query, appended}
 use Rattle.rows.specs.Calls.{Answers}
 use Rattle.rows.proofs.SelectLemmas.{selects}
 use Rattle.rows.proofs.WriteLemmas.{deletes}
 use Rattle.rows.proofs.PutLemmas.{puts}
+use Rattle.rows.proofs.AppendLemmas.{appends}
 use Rattle.rows.proofs.CastLemmas.{cast_int, cast_null, cast_text, cast_maybe_int, cast_maybe_text}
 use Rattle.rows.proofs.QuietLemmas.{quiet_if_idle}
-use Rattle.tables.specs.Tables.{host, registry, host_all, host_by_id, host_by_name, host_by_superordinate, host_put, host_remove_id}
-use Rattle.tables.specs.Host.{Host, hosts, host_shown, host_with_id, host_with_name, host_with_superordinate}
+use Rattle.tables.specs.Tables.{host, registry, host_by_id, host_by_name, host_by_above, host_put, host_append, host_remove_id}
+use Rattle.tables.specs.Host.{Host, host_shown, hosts, host_with_id, host_with_name, host_with_above}
 
 abbrev columns : List Term
 columns = col 1 0 ∷ col 1 2 ∷ col 1 3 ∷ col 1 4 ∷ col 1 5 ∷ col 1 6 ∷ col 1 7 ∷ col 1 8 ∷ col 1 9 ∷ col 1 10 ∷ []
@@ -29,17 +29,9 @@ columns = col 1 0 ∷ col 1 2 ∷ col 1 3 ∷ col 1 4 ∷ col 1 5 ∷ col 1 6 �
 abbrev table : Table
 table = record host { tree = 7 }
 
-pub all_is : IsSelect registry host_all (select_query 7 ([]) columns)
-unfolding understood everything
-all_is = record { names = codes "id" ∷ codes "name" ∷ codes "creator" ∷ codes "serial" ∷ codes "superordinate" ∷ codes "external_sponsor" ∷ codes "sponsor" ∷ codes "created" ∷ codes "updated" ∷ codes "statuses" ∷ []; command = refl; plain = (refl, refl); unlisted = refl }
-
-pub all_answers : (old new : State) (xs : List Host) → old.now.schema ≡ registry → Holds hosts old.now.trees xs → Answers host_shown host_all [] old new xs
-all_answers old new xs has h rows seen =
-    selects hosts _ _ [] (λ _. true) host_shown (λ x. refl) (λ x. refl) registry host_all old new xs rows all_is has h seen ∙ ap (map host_shown) (filter_all (λ _. true) xs (all_of _ (λ x. refl) xs))
-
 pub by_id_is : IsSelect registry host_by_id (select_query 7 (op2 (Compare Eq Binary) (col 1 0) (col 0 0) ∷ []) columns)
 unfolding understood everything
-by_id_is = record { names = codes "id" ∷ codes "name" ∷ codes "creator" ∷ codes "serial" ∷ codes "superordinate" ∷ codes "external_sponsor" ∷ codes "sponsor" ∷ codes "created" ∷ codes "updated" ∷ codes "statuses" ∷ []; command = refl; plain = (refl, refl); unlisted = refl }
+by_id_is = record { names = codes "id" ∷ codes "name" ∷ codes "creator" ∷ codes "serial" ∷ codes "above" ∷ codes "external_sponsor" ∷ codes "sponsor" ∷ codes "created" ∷ codes "updated" ∷ codes "statuses" ∷ []; command = refl; plain = (refl, refl); unlisted = refl }
 
 pub by_id_answers : (old new : State) (v : ℤ) (xs : List Host) → old.now.schema ≡ registry → Holds hosts old.now.trees xs → Answers host_shown host_by_id (Int v ∷ []) old new (filter (host_with_id v) xs)
 by_id_answers old new v xs has h rows seen =
@@ -47,19 +39,19 @@ by_id_answers old new v xs has h rows seen =
 
 pub by_name_is : IsSelect registry host_by_name (select_query 7 (op2 (Compare Eq Binary) (col 1 2) (col 0 0) ∷ []) columns)
 unfolding understood everything
-by_name_is = record { names = codes "id" ∷ codes "name" ∷ codes "creator" ∷ codes "serial" ∷ codes "superordinate" ∷ codes "external_sponsor" ∷ codes "sponsor" ∷ codes "created" ∷ codes "updated" ∷ codes "statuses" ∷ []; command = refl; plain = (refl, refl); unlisted = refl }
+by_name_is = record { names = codes "id" ∷ codes "name" ∷ codes "creator" ∷ codes "serial" ∷ codes "above" ∷ codes "external_sponsor" ∷ codes "sponsor" ∷ codes "created" ∷ codes "updated" ∷ codes "statuses" ∷ []; command = refl; plain = (refl, refl); unlisted = refl }
 
 pub by_name_answers : (old new : State) (v : List ℕ) (xs : List Host) → old.now.schema ≡ registry → Holds hosts old.now.trees xs → Answers host_shown host_by_name (Text v ∷ []) old new (filter (host_with_name v) xs)
 by_name_answers old new v xs has h rows seen =
     selects hosts _ _ (Text v ∷ []) (host_with_name v) host_shown (λ x. last_term (at_texts false Eq x.name v)) (λ x. refl) registry host_by_name old new xs rows by_name_is has h seen
 
-pub by_superordinate_is : IsSelect registry host_by_superordinate (select_query 7 (op2 (Compare Eq Binary) (col 1 5) (col 0 0) ∷ []) columns)
+pub by_above_is : IsSelect registry host_by_above (select_query 7 (op2 (Compare Eq Binary) (col 1 5) (col 0 0) ∷ []) columns)
 unfolding understood everything
-by_superordinate_is = record { names = codes "id" ∷ codes "name" ∷ codes "creator" ∷ codes "serial" ∷ codes "superordinate" ∷ codes "external_sponsor" ∷ codes "sponsor" ∷ codes "created" ∷ codes "updated" ∷ codes "statuses" ∷ []; command = refl; plain = (refl, refl); unlisted = refl }
+by_above_is = record { names = codes "id" ∷ codes "name" ∷ codes "creator" ∷ codes "serial" ∷ codes "above" ∷ codes "external_sponsor" ∷ codes "sponsor" ∷ codes "created" ∷ codes "updated" ∷ codes "statuses" ∷ []; command = refl; plain = (refl, refl); unlisted = refl }
 
-pub by_superordinate_answers : (old new : State) (v : ℤ) (xs : List Host) → old.now.schema ≡ registry → Holds hosts old.now.trees xs → Answers host_shown host_by_superordinate (Int v ∷ []) old new (filter (host_with_superordinate v) xs)
-by_superordinate_answers old new v xs has h rows seen =
-    selects hosts _ _ (Int v ∷ []) (host_with_superordinate v) host_shown (λ x. last_term (at_points_to x.superordinate v)) (λ x. refl) registry host_by_superordinate old new xs rows by_superordinate_is has h seen
+pub by_above_answers : (old new : State) (v : List ℕ) (xs : List Host) → old.now.schema ≡ registry → Holds hosts old.now.trees xs → Answers host_shown host_by_above (Text v ∷ []) old new (filter (host_with_above v) xs)
+by_above_answers old new v xs has h rows seen =
+    selects hosts _ _ (Text v ∷ []) (host_with_above v) host_shown (λ x. last_term (at_texts false Eq x.above v)) (λ x. refl) registry host_by_above old new xs rows by_above_is has h seen
 
 listed : Listed hosts registry 4 table
 listed = record { is = refl; tree = refl; quiet = quiet_if_idle registry refl; uncounted = refl; unstamped = refl; casts = λ x. simp (cast_int, cast_null, cast_text, cast_maybe_int, cast_maybe_text) }
@@ -80,6 +72,21 @@ gives = record { values = λ x. refl; place = λ x v. refl; updates = λ x v r. 
 pub puts_row : (old new : State) (x : Host) (xs : List Host) (count : ℕ) → old.now.schema ≡ registry → Holds hosts old.now.trees xs → Executes host_put (host_shown x) old new (Ok count)
     → Sets hosts registry old.now new.now (insert_by hosts.key xs x)
 puts_row old new x xs count has h ran = puts hosts registry 4 table listed 10 values sets host_shown gives host_put old new xs x has h put_is count ran
+
+abbrev unnumbered : List Term
+unnumbered = lit Null ∷ lit Null ∷ col 0 0 ∷ col 0 1 ∷ col 0 2 ∷ col 0 3 ∷ col 0 4 ∷ col 0 5 ∷ col 0 6 ∷ col 0 7 ∷ col 0 8 ∷ []
+
+pub append_is : IsAppend registry host_append 4 unnumbered
+unfolding understood everything
+append_is = record { command = refl; plain = (refl, refl) }
+
+numbers : Numbers hosts table unnumbered (λ x. drop 1 (host_shown x)) (λ x id. record x { id = id })
+numbers = record { values = λ x. refl; casts = λ x. simp (cast_int, cast_null, cast_text, cast_maybe_int, cast_maybe_text); row = λ x id. refl }
+
+pub appends_row : (old new : State) (x : Host) (xs : List Host) (count : ℕ) → old.now.schema ≡ registry → Holds hosts old.now.trees xs → Executes host_append (drop 1 (host_shown x)) old new (Ok count)
+    → Sets hosts registry old.now new.now (appended hosts (λ id. record x { id = id }) xs)
+appends_row old new x xs count has h ran =
+    appends hosts registry 4 table listed unnumbered (λ x. drop 1 (host_shown x)) (λ x id. record x { id = id }) numbers host_append old new xs x has h append_is count ran
 
 pub remove_id_is : IsDelete registry host_remove_id 4 7 (op2 (Compare Eq Binary) (col 1 0) (col 0 0) ∷ [])
 unfolding understood everything

@@ -1,26 +1,26 @@
 -- What the statements on the table `link` mean.
-use Rattle.std.proofs.Common.{◌≡◌, Ok, refl, List, [], ◌∷◌, ℕ, ℤ, filter, codes, false}
+use Rattle.std.proofs.Common.{pos, take, drop, ◌≡◌, ◌∙◌, Ok, refl, List, [], ◌∷◌, ℕ, ℤ, filter, codes, false}
 use Rattle.sqlite_value.specs.declared.value.Value.TheVariants.{Null, Int}
 use Rattle.sqlite_value.specs.declared.keys.Collation.TheVariants.{Binary}
+use Rattle.std.specs.List.{take-map}
 use Rattle.sqlite_sql.specs.declared.ops.CompareOp.TheVariants.{Eq}
 use Rattle.sqlite_sql.specs.declared.ops.BinaryOp.TheVariants.{Compare}
 use Rattle.sqlite_sql.specs.Term.{Term, lit, col, op2}
 use Rattle.sqlite_schema.specs.declared.schema.Table.{Table}
 use Rattle.sqlite_typed.proofs.TestLemmas.{at_ints, at_points_to, last_term}
-use Rattle.sqlite_keyed.specs.Keyed.{insert_by}
 use Rattle.sqlite_keyed.specs.Lists.{delete_where}
 use Rattle.sqlite.specs.Listing.{understood}
 use Rattle.sqlite.specs.State.{State, Executes}
 use Rattle.sqlite_tied.specs.Compute.{everything}
-use Rattle.rows.specs.Layouts.{Holds, Sets, Listed, Gives, IsSelect, IsPut, IsDelete, select_query}
+use Rattle.rows.specs.Layouts.{Holds, Sets, Listed, Numbers, IsSelect, IsAppend, IsDelete, select_query, limited_query, appended}
 use Rattle.rows.specs.Calls.{Answers}
-use Rattle.rows.proofs.SelectLemmas.{selects}
+use Rattle.rows.proofs.SelectLemmas.{selects, limits}
 use Rattle.rows.proofs.WriteLemmas.{deletes}
-use Rattle.rows.proofs.PutLemmas.{puts}
+use Rattle.rows.proofs.AppendLemmas.{appends}
 use Rattle.rows.proofs.CastLemmas.{cast_int, cast_null, cast_text, cast_maybe_int, cast_maybe_text}
 use Rattle.rows.proofs.QuietLemmas.{quiet_if_idle}
-use Rattle.tables.specs.Tables.{link, registry, link_by_domain, link_by_contact, link_by_host, link_put, link_remove_domain}
-use Rattle.tables.specs.Link.{Link, links, link_shown, link_with_contact, link_with_domain, link_with_host}
+use Rattle.tables.specs.Tables.{link, registry, link_by_domain, link_by_host, link_first_by_contact, link_first_by_host, link_append, link_remove_domain}
+use Rattle.tables.specs.Link.{Link, link_shown, links, link_with_domain, link_with_contact, link_with_host}
 
 abbrev columns : List Term
 columns = col 1 0 ∷ col 1 2 ∷ col 1 3 ∷ col 1 4 ∷ col 1 5 ∷ []
@@ -30,47 +30,55 @@ table = record link { tree = 10 }
 
 pub by_domain_is : IsSelect registry link_by_domain (select_query 10 (op2 (Compare Eq Binary) (col 1 2) (col 0 0) ∷ []) columns)
 unfolding understood everything
-by_domain_is = record { names = codes "id" ∷ codes "domain" ∷ codes "role" ∷ codes "contact" ∷ codes "host" ∷ []; command = refl; plain = (refl, refl); unlisted = refl }
+by_domain_is = record { names = codes "id" ∷ codes "domain" ∷ codes "contact" ∷ codes "host" ∷ codes "role" ∷ []; command = refl; plain = (refl, refl); unlisted = refl }
 
 pub by_domain_answers : (old new : State) (v : ℤ) (xs : List Link) → old.now.schema ≡ registry → Holds links old.now.trees xs → Answers link_shown link_by_domain (Int v ∷ []) old new (filter (link_with_domain v) xs)
 by_domain_answers old new v xs has h rows seen =
     selects links _ _ (Int v ∷ []) (link_with_domain v) link_shown (λ x. last_term (at_ints false Eq x.domain v)) (λ x. refl) registry link_by_domain old new xs rows by_domain_is has h seen
 
-pub by_contact_is : IsSelect registry link_by_contact (select_query 10 (op2 (Compare Eq Binary) (col 1 4) (col 0 0) ∷ []) columns)
+pub by_host_is : IsSelect registry link_by_host (select_query 10 (op2 (Compare Eq Binary) (col 1 4) (col 0 0) ∷ []) columns)
 unfolding understood everything
-by_contact_is = record { names = codes "id" ∷ codes "domain" ∷ codes "role" ∷ codes "contact" ∷ codes "host" ∷ []; command = refl; plain = (refl, refl); unlisted = refl }
-
-pub by_contact_answers : (old new : State) (v : ℤ) (xs : List Link) → old.now.schema ≡ registry → Holds links old.now.trees xs → Answers link_shown link_by_contact (Int v ∷ []) old new (filter (link_with_contact v) xs)
-by_contact_answers old new v xs has h rows seen =
-    selects links _ _ (Int v ∷ []) (link_with_contact v) link_shown (λ x. last_term (at_points_to x.contact v)) (λ x. refl) registry link_by_contact old new xs rows by_contact_is has h seen
-
-pub by_host_is : IsSelect registry link_by_host (select_query 10 (op2 (Compare Eq Binary) (col 1 5) (col 0 0) ∷ []) columns)
-unfolding understood everything
-by_host_is = record { names = codes "id" ∷ codes "domain" ∷ codes "role" ∷ codes "contact" ∷ codes "host" ∷ []; command = refl; plain = (refl, refl); unlisted = refl }
+by_host_is = record { names = codes "id" ∷ codes "domain" ∷ codes "contact" ∷ codes "host" ∷ codes "role" ∷ []; command = refl; plain = (refl, refl); unlisted = refl }
 
 pub by_host_answers : (old new : State) (v : ℤ) (xs : List Link) → old.now.schema ≡ registry → Holds links old.now.trees xs → Answers link_shown link_by_host (Int v ∷ []) old new (filter (link_with_host v) xs)
 by_host_answers old new v xs has h rows seen =
     selects links _ _ (Int v ∷ []) (link_with_host v) link_shown (λ x. last_term (at_points_to x.host v)) (λ x. refl) registry link_by_host old new xs rows by_host_is has h seen
 
+pub first_by_contact_is : IsSelect registry link_first_by_contact (limited_query 10 (op2 (Compare Eq Binary) (col 1 3) (col 0 0) ∷ []) columns (pos 1))
+unfolding understood everything
+first_by_contact_is = record { names = codes "id" ∷ codes "domain" ∷ codes "contact" ∷ codes "host" ∷ codes "role" ∷ []; command = refl; plain = (refl, refl); unlisted = refl }
+
+pub first_by_contact_answers : (old new : State) (v : ℤ) (xs : List Link) → old.now.schema ≡ registry → Holds links old.now.trees xs → Answers link_shown link_first_by_contact (Int v ∷ []) old new (take 1 (filter (link_with_contact v) xs))
+first_by_contact_answers old new v xs has h rows seen =
+    limits links _ columns (pos 1) (Int v ∷ []) (link_with_contact v) link_shown (λ x. last_term (at_points_to x.contact v)) (λ x. refl) registry link_first_by_contact old new xs rows first_by_contact_is has h seen
+    ∙ take-map link_shown 1 (filter (link_with_contact v) xs)
+
+pub first_by_host_is : IsSelect registry link_first_by_host (limited_query 10 (op2 (Compare Eq Binary) (col 1 4) (col 0 0) ∷ []) columns (pos 1))
+unfolding understood everything
+first_by_host_is = record { names = codes "id" ∷ codes "domain" ∷ codes "contact" ∷ codes "host" ∷ codes "role" ∷ []; command = refl; plain = (refl, refl); unlisted = refl }
+
+pub first_by_host_answers : (old new : State) (v : ℤ) (xs : List Link) → old.now.schema ≡ registry → Holds links old.now.trees xs → Answers link_shown link_first_by_host (Int v ∷ []) old new (take 1 (filter (link_with_host v) xs))
+first_by_host_answers old new v xs has h rows seen =
+    limits links _ columns (pos 1) (Int v ∷ []) (link_with_host v) link_shown (λ x. last_term (at_points_to x.host v)) (λ x. refl) registry link_first_by_host old new xs rows first_by_host_is has h seen
+    ∙ take-map link_shown 1 (filter (link_with_host v) xs)
+
 listed : Listed links registry 6 table
 listed = record { is = refl; tree = refl; quiet = quiet_if_idle registry refl; uncounted = refl; unstamped = refl; casts = λ x. simp (cast_int, cast_null, cast_text, cast_maybe_int, cast_maybe_text) }
 
-abbrev values : List Term
-values = col 0 0 ∷ lit Null ∷ col 0 1 ∷ col 0 2 ∷ col 0 3 ∷ col 0 4 ∷ []
+abbrev unnumbered : List Term
+unnumbered = lit Null ∷ lit Null ∷ col 0 0 ∷ col 0 1 ∷ col 0 2 ∷ col 0 3 ∷ []
 
-abbrev sets : List Term
-sets = col 1 0 ∷ lit Null ∷ col 0 8 ∷ col 0 9 ∷ col 0 10 ∷ col 0 11 ∷ []
-
-pub put_is : IsPut registry link_put 6 10 5 values sets
+pub append_is : IsAppend registry link_append 6 unnumbered
 unfolding understood everything
-put_is = record { command = refl; plain = (refl, refl) }
+append_is = record { command = refl; plain = (refl, refl) }
 
-gives : Gives links registry table 5 values sets link_shown
-gives = record { values = λ x. refl; place = λ x v. refl; updates = λ x v r. refl; unshared = λ new r. refl; headed = λ x. refl }
+numbers : Numbers links table unnumbered (λ x. drop 1 (link_shown x)) (λ x id. record x { id = id })
+numbers = record { values = λ x. refl; casts = λ x. simp (cast_int, cast_null, cast_text, cast_maybe_int, cast_maybe_text); row = λ x id. refl }
 
-pub puts_row : (old new : State) (x : Link) (xs : List Link) (count : ℕ) → old.now.schema ≡ registry → Holds links old.now.trees xs → Executes link_put (link_shown x) old new (Ok count)
-    → Sets links registry old.now new.now (insert_by links.key xs x)
-puts_row old new x xs count has h ran = puts links registry 6 table listed 5 values sets link_shown gives link_put old new xs x has h put_is count ran
+pub appends_row : (old new : State) (x : Link) (xs : List Link) (count : ℕ) → old.now.schema ≡ registry → Holds links old.now.trees xs → Executes link_append (drop 1 (link_shown x)) old new (Ok count)
+    → Sets links registry old.now new.now (appended links (λ id. record x { id = id }) xs)
+appends_row old new x xs count has h ran =
+    appends links registry 6 table listed unnumbered (λ x. drop 1 (link_shown x)) (λ x id. record x { id = id }) numbers link_append old new xs x has h append_is count ran
 
 pub remove_domain_is : IsDelete registry link_remove_domain 6 10 (op2 (Compare Eq Binary) (col 1 2) (col 0 0) ∷ [])
 unfolding understood everything

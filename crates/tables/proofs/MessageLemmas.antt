@@ -1,5 +1,5 @@
 -- What the statements on the table `message` mean.
-use Rattle.std.proofs.Common.{pos, negsuc, take, Equal, ◌≡◌, ◌∙◌, Ok, refl, List, [], ◌∷◌, ℕ, ℤ, codes, false}
+use Rattle.std.proofs.Common.{pos, negsuc, take, drop, Equal, ◌≡◌, ◌∙◌, Ok, refl, List, [], ◌∷◌, ℕ, ℤ, filter, codes, false}
 use Rattle.sqlite_value.specs.declared.value.Value.TheVariants.{Null, Int, Text}
 use Rattle.sqlite_value.specs.declared.keys.Collation.TheVariants.{Binary}
 use Rattle.std.specs.List.{take-map}
@@ -10,21 +10,20 @@ use Rattle.sqlite_sql.specs.declared.ops.CompareOp.TheVariants.{Eq}
 use Rattle.sqlite_sql.specs.declared.ops.BinaryOp.TheVariants.{Compare}
 use Rattle.sqlite_sql.specs.Term.{Term, lit, col, op2}
 use Rattle.sqlite_schema.specs.declared.schema.Table.{Table}
-use Rattle.sqlite_typed.proofs.TestLemmas.{at_ints, last_term, then_key, last_key}
-use Rattle.sqlite_keyed.specs.Keyed.{insert_by}
+use Rattle.sqlite_typed.proofs.TestLemmas.{at_ints, at_texts, then_term, last_term, then_key, last_key}
 use Rattle.sqlite_keyed.specs.Lists.{delete_where}
 use Rattle.sqlite.specs.Listing.{understood}
 use Rattle.sqlite.specs.State.{State, Executes}
 use Rattle.sqlite_tied.specs.Compute.{everything}
-use Rattle.rows.specs.Layouts.{Holds, Sets, Listed, Gives, IsSelect, IsPut, IsDelete, sorted_query, by_then_key}
+use Rattle.rows.specs.Layouts.{Holds, Sets, Listed, Numbers, IsSelect, IsAppend, IsDelete, select_query, sorted_query, by_then_key, appended}
 use Rattle.rows.specs.Calls.{Answers}
-use Rattle.rows.proofs.SelectLemmas.{sorts}
+use Rattle.rows.proofs.SelectLemmas.{selects, sorts}
 use Rattle.rows.proofs.WriteLemmas.{deletes}
-use Rattle.rows.proofs.PutLemmas.{puts}
+use Rattle.rows.proofs.AppendLemmas.{appends}
 use Rattle.rows.proofs.CastLemmas.{cast_int, cast_null, cast_text, cast_maybe_int, cast_maybe_text}
 use Rattle.rows.proofs.QuietLemmas.{quiet_if_idle}
-use Rattle.tables.specs.Tables.{message, registry, message_by_account, message_first_by_account, message_put, message_remove_id}
-use Rattle.tables.specs.Message.{Message, messages, message_order, message_shown, message_with_account, message_with_id, queue_of}
+use Rattle.tables.specs.Tables.{message, registry, message_by_account, message_first_by_account, message_same, message_append, message_remove_id}
+use Rattle.tables.specs.Message.{Message, message_shown, messages, message_with_account, message_with_id, is_same_message, message_order, queue_of}
 
 abbrev columns : List Term
 columns = col 1 0 ∷ col 1 2 ∷ col 1 3 ∷ col 1 4 ∷ col 1 5 ∷ col 1 6 ∷ col 1 7 ∷ col 1 8 ∷ []
@@ -60,25 +59,33 @@ first_by_account_answers old new v xs has h rows seen =
     sorts messages _ columns queue_columns (pos 1) (Int v ∷ []) (message_with_account v) message_shown message_order (λ x. last_term (at_ints false Eq x.account v)) (λ x. refl) queue_order registry message_first_by_account old new xs rows first_by_account_is has h seen
     ∙ take-map message_shown 1 (queue_of v xs)
 
+pub same_is : IsSelect registry message_same (select_query 12 (op2 (Compare Eq Binary) (col 1 2) (col 0 0) ∷ op2 (Compare Eq Binary) (col 1 3) (col 0 1) ∷ op2 (Compare Eq Binary) (col 1 4) (col 0 2) ∷ op2 (Compare Eq Binary) (col 1 5) (col 0 3) ∷ op2 (Compare Eq Binary) (col 1 6) (col 0 4) ∷ op2 (Compare Eq Binary) (col 1 7) (col 0 5) ∷ op2 (Compare Eq Binary) (col 1 8) (col 0 6) ∷ []) columns)
+unfolding understood everything
+same_is = record { names = codes "id" ∷ codes "account" ∷ codes "moment" ∷ codes "class" ∷ codes "number" ∷ codes "name" ∷ codes "subject" ∷ codes "notice" ∷ []; command = refl; plain = (refl, refl); unlisted = refl }
+
+pub same_answers : (old new : State) (m : Message) (xs : List Message) → old.now.schema ≡ registry → Holds messages old.now.trees xs → Answers message_shown message_same (drop 1 (message_shown m)) old new (filter (is_same_message m) xs)
+same_answers old new m xs has h rows seen =
+    selects messages _ _ (drop 1 (message_shown m)) (is_same_message m) message_shown
+    (λ x. then_term (at_ints false Eq x.account m.account) (then_term (at_ints false Eq x.moment m.moment) (then_term (at_ints false Eq x.class m.class) (then_term (at_ints false Eq x.number m.number) (then_term (at_texts false Eq x.name m.name) (then_term (at_ints false Eq x.subject m.subject) (last_term (at_ints false Eq x.notice m.notice))))))))
+    (λ x. refl) registry message_same old new xs rows same_is has h seen
+
 listed : Listed messages registry 8 table
 listed = record { is = refl; tree = refl; quiet = quiet_if_idle registry refl; uncounted = refl; unstamped = refl; casts = λ x. simp (cast_int, cast_null, cast_text, cast_maybe_int, cast_maybe_text) }
 
-abbrev values : List Term
-values = col 0 0 ∷ lit Null ∷ col 0 1 ∷ col 0 2 ∷ col 0 3 ∷ col 0 4 ∷ col 0 5 ∷ col 0 6 ∷ col 0 7 ∷ []
+abbrev unnumbered : List Term
+unnumbered = lit Null ∷ lit Null ∷ col 0 0 ∷ col 0 1 ∷ col 0 2 ∷ col 0 3 ∷ col 0 4 ∷ col 0 5 ∷ col 0 6 ∷ []
 
-abbrev sets : List Term
-sets = col 1 0 ∷ lit Null ∷ col 0 11 ∷ col 0 12 ∷ col 0 13 ∷ col 0 14 ∷ col 0 15 ∷ col 0 16 ∷ col 0 17 ∷ []
-
-pub put_is : IsPut registry message_put 8 12 8 values sets
+pub append_is : IsAppend registry message_append 8 unnumbered
 unfolding understood everything
-put_is = record { command = refl; plain = (refl, refl) }
+append_is = record { command = refl; plain = (refl, refl) }
 
-gives : Gives messages registry table 8 values sets message_shown
-gives = record { values = λ x. refl; place = λ x v. refl; updates = λ x v r. refl; unshared = λ new r. refl; headed = λ x. refl }
+numbers : Numbers messages table unnumbered (λ x. drop 1 (message_shown x)) (λ x id. record x { id = id })
+numbers = record { values = λ x. refl; casts = λ x. simp (cast_int, cast_null, cast_text, cast_maybe_int, cast_maybe_text); row = λ x id. refl }
 
-pub puts_row : (old new : State) (x : Message) (xs : List Message) (count : ℕ) → old.now.schema ≡ registry → Holds messages old.now.trees xs → Executes message_put (message_shown x) old new (Ok count)
-    → Sets messages registry old.now new.now (insert_by messages.key xs x)
-puts_row old new x xs count has h ran = puts messages registry 8 table listed 8 values sets message_shown gives message_put old new xs x has h put_is count ran
+pub appends_row : (old new : State) (x : Message) (xs : List Message) (count : ℕ) → old.now.schema ≡ registry → Holds messages old.now.trees xs → Executes message_append (drop 1 (message_shown x)) old new (Ok count)
+    → Sets messages registry old.now new.now (appended messages (λ id. record x { id = id }) xs)
+appends_row old new x xs count has h ran =
+    appends messages registry 8 table listed unnumbered (λ x. drop 1 (message_shown x)) (λ x id. record x { id = id }) numbers message_append old new xs x has h append_is count ran
 
 pub remove_id_is : IsDelete registry message_remove_id 8 12 (op2 (Compare Eq Binary) (col 1 0) (col 0 0) ∷ [])
 unfolding understood everything

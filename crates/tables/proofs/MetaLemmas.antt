@@ -15,17 +15,17 @@ use Rattle.rows.proofs.PutLemmas.{puts}
 use Rattle.rows.proofs.CastLemmas.{cast_int, cast_null, cast_text, cast_maybe_int, cast_maybe_text}
 use Rattle.rows.proofs.QuietLemmas.{quiet_if_idle}
 use Rattle.tables.specs.Tables.{meta, registry, meta_all, meta_put}
-use Rattle.tables.specs.Meta.{Meta, metas, meta_shown}
+use Rattle.tables.specs.Meta.{Meta, meta_shown, metas}
 
 abbrev columns : List Term
-columns = col 1 0 ∷ col 1 2 ∷ col 1 3 ∷ col 1 4 ∷ col 1 5 ∷ col 1 6 ∷ col 1 7 ∷ col 1 8 ∷ col 1 9 ∷ col 1 10 ∷ col 1 11 ∷ col 1 12 ∷ col 1 13 ∷ col 1 14 ∷ col 1 15 ∷ col 1 16 ∷ col 1 17 ∷ col 1 18 ∷ []
+columns = col 1 0 ∷ col 1 2 ∷ col 1 3 ∷ col 1 4 ∷ col 1 5 ∷ col 1 6 ∷ col 1 7 ∷ col 1 8 ∷ col 1 9 ∷ col 1 10 ∷ col 1 11 ∷ col 1 12 ∷ col 1 13 ∷ col 1 14 ∷ col 1 15 ∷ col 1 16 ∷ col 1 17 ∷ []
 
 abbrev table : Table
 table = record meta { tree = 0 }
 
 pub all_is : IsSelect registry meta_all (select_query 0 ([]) columns)
 unfolding understood everything
-all_is = record { names = codes "id" ∷ codes "version" ∷ codes "clock" ∷ codes "next_row" ∷ codes "zone" ∷ codes "reserved" ∷ codes "days_add" ∷ codes "days_auto_renew" ∷ codes "days_renew" ∷ codes "days_transfer" ∷ codes "days_redemption" ∷ codes "days_restore" ∷ codes "days_pending_delete" ∷ codes "days_answer" ∷ codes "days_lock" ∷ codes "price_create" ∷ codes "price_renew" ∷ codes "price_transfer" ∷ []; command = refl; plain = (refl, refl); unlisted = refl }
+all_is = record { names = codes "id" ∷ codes "version" ∷ codes "clock" ∷ codes "zone" ∷ codes "reserved" ∷ codes "days_add" ∷ codes "days_auto_renew" ∷ codes "days_renew" ∷ codes "days_transfer" ∷ codes "days_redemption" ∷ codes "days_restore" ∷ codes "days_pending_delete" ∷ codes "days_answer" ∷ codes "days_lock" ∷ codes "price_create" ∷ codes "price_renew" ∷ codes "price_transfer" ∷ []; command = refl; plain = (refl, refl); unlisted = refl }
 
 pub all_answers : (old new : State) (xs : List Meta) → old.now.schema ≡ registry → Holds metas old.now.trees xs → Answers meta_shown meta_all [] old new xs
 all_answers old new xs has h rows seen =
@@ -35,18 +35,18 @@ listed : Listed metas registry 0 table
 listed = record { is = refl; tree = refl; quiet = quiet_if_idle registry refl; uncounted = refl; unstamped = refl; casts = λ x. simp (cast_int, cast_null, cast_text, cast_maybe_int, cast_maybe_text) }
 
 abbrev values : List Term
-values = col 0 0 ∷ lit Null ∷ col 0 1 ∷ col 0 2 ∷ col 0 3 ∷ col 0 4 ∷ col 0 5 ∷ col 0 6 ∷ col 0 7 ∷ col 0 8 ∷ col 0 9 ∷ col 0 10 ∷ col 0 11 ∷ col 0 12 ∷ col 0 13 ∷ col 0 14 ∷ col 0 15 ∷ col 0 16 ∷ col 0 17 ∷ []
+values = col 0 0 ∷ lit Null ∷ col 0 1 ∷ col 0 2 ∷ col 0 3 ∷ col 0 4 ∷ col 0 5 ∷ col 0 6 ∷ col 0 7 ∷ col 0 8 ∷ col 0 9 ∷ col 0 10 ∷ col 0 11 ∷ col 0 12 ∷ col 0 13 ∷ col 0 14 ∷ col 0 15 ∷ col 0 16 ∷ []
 
 abbrev sets : List Term
-sets = col 1 0 ∷ lit Null ∷ col 0 21 ∷ col 0 22 ∷ col 0 23 ∷ col 0 24 ∷ col 0 25 ∷ col 0 26 ∷ col 0 27 ∷ col 0 28 ∷ col 0 29 ∷ col 0 30 ∷ col 0 31 ∷ col 0 32 ∷ col 0 33 ∷ col 0 34 ∷ col 0 35 ∷ col 0 36 ∷ col 0 37 ∷ []
+sets = col 1 0 ∷ lit Null ∷ col 0 20 ∷ col 0 21 ∷ col 0 22 ∷ col 0 23 ∷ col 0 24 ∷ col 0 25 ∷ col 0 26 ∷ col 0 27 ∷ col 0 28 ∷ col 0 29 ∷ col 0 30 ∷ col 0 31 ∷ col 0 32 ∷ col 0 33 ∷ col 0 34 ∷ col 0 35 ∷ []
 
-pub put_is : IsPut registry meta_put 0 0 18 values sets
+pub put_is : IsPut registry meta_put 0 0 17 values sets
 unfolding understood everything
 put_is = record { command = refl; plain = (refl, refl) }
 
-gives : Gives metas registry table 18 values sets meta_shown
+gives : Gives metas registry table 17 values sets meta_shown
 gives = record { values = λ x. refl; place = λ x v. refl; updates = λ x v r. refl; unshared = λ new r. refl; headed = λ x. refl }
 
 pub puts_row : (old new : State) (x : Meta) (xs : List Meta) (count : ℕ) → old.now.schema ≡ registry → Holds metas old.now.trees xs → Executes meta_put (meta_shown x) old new (Ok count)
     → Sets metas registry old.now new.now (insert_by metas.key xs x)
-puts_row old new x xs count has h ran = puts metas registry 0 table listed 18 values sets meta_shown gives meta_put old new xs x has h put_is count ran
+puts_row old new x xs count has h ran = puts metas registry 0 table listed 17 values sets meta_shown gives meta_put old new xs x has h put_is count ran

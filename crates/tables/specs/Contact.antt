@@ -1,5 +1,5 @@
 -- Contacts, and how they lie in their table.
-use Rattle.std.specs.Prelude.{◌&&◌, Bool, ℕ, ℤ, List, [], ◌∷◌, Option, refl}
+use Rattle.std.specs.Prelude.{Bool, ℕ, ℤ, List, [], ◌∷◌, Option, refl}
 use Rattle.std.specs.declared.cmp.Ordering.{Ordering}
 use Rattle.std.specs.Ordering.{int_cmp, int_eq, on}
 use Rattle.sqlite_value.specs.declared.value.Value.TheVariants.{Int, Null, Text}
@@ -31,17 +31,17 @@ pub record Contact : Type 0 where
   pub statuses : List ℕ
   pub secret : List ℕ
   pub voice : Option (List ℕ)
-  pub mail : List ℕ
   pub due : Option ℤ
+  pub mail : List ℕ
   pub postal : Postal
 
 -- as it is stored: its key, NULL in the key's column, and then the others
 abbrev pub contact_row : Contact → Row
-contact_row x = Int x.id ∷ Null ∷ Text x.name ∷ Int x.creator ∷ Int x.serial ∷ Int x.sponsor ∷ Int x.created ∷ or_null Int x.transferred ∷ or_null Int x.updated ∷ Text x.statuses ∷ Text x.secret ∷ Text x.postal.name ∷ or_null Text x.postal.org ∷ Text x.postal.street ∷ Text x.postal.city ∷ or_null Text x.postal.state ∷ or_null Text x.postal.postal_code ∷ Text x.postal.country ∷ or_null Text x.voice ∷ Text x.mail ∷ or_null Int x.due ∷ []
+contact_row x = Int x.id ∷ Null ∷ Text x.name ∷ Int x.creator ∷ Int x.serial ∷ Int x.sponsor ∷ Int x.created ∷ or_null Int x.transferred ∷ or_null Int x.updated ∷ Text x.statuses ∷ Text x.secret ∷ Text x.postal.name ∷ or_null Text x.postal.org ∷ Text x.postal.street ∷ Text x.postal.city ∷ or_null Text x.postal.state ∷ or_null Text x.postal.postal_code ∷ Text x.postal.country ∷ or_null Text x.voice ∷ or_null Int x.due ∷ Text x.mail ∷ []
 
 -- as a query shows it, and as parameters
 abbrev pub contact_shown : Contact → Row
-contact_shown x = Int x.id ∷ Text x.name ∷ Int x.creator ∷ Int x.serial ∷ Int x.sponsor ∷ Int x.created ∷ or_null Int x.transferred ∷ or_null Int x.updated ∷ Text x.statuses ∷ Text x.secret ∷ Text x.postal.name ∷ or_null Text x.postal.org ∷ Text x.postal.street ∷ Text x.postal.city ∷ or_null Text x.postal.state ∷ or_null Text x.postal.postal_code ∷ Text x.postal.country ∷ or_null Text x.voice ∷ Text x.mail ∷ or_null Int x.due ∷ []
+contact_shown x = Int x.id ∷ Text x.name ∷ Int x.creator ∷ Int x.serial ∷ Int x.sponsor ∷ Int x.created ∷ or_null Int x.transferred ∷ or_null Int x.updated ∷ Text x.statuses ∷ Text x.secret ∷ Text x.postal.name ∷ or_null Text x.postal.org ∷ Text x.postal.street ∷ Text x.postal.city ∷ or_null Text x.postal.state ∷ or_null Text x.postal.postal_code ∷ Text x.postal.country ∷ or_null Text x.voice ∷ or_null Int x.due ∷ Text x.mail ∷ []
 
 abbrev pub contacts : Layout Contact
 contacts = record { tree = 3; key = λ x. x.id; to_row = contact_row; keyed = λ x. refl }
@@ -54,9 +54,6 @@ contact_with_name v x = bytes_eq x.name v
 
 abbrev pub contact_within_due : ℤ → Contact → Bool
 contact_within_due due x = is_due_by due x.due
-
-abbrev pub contact_of_sponsor_within_due : ℤ → ℤ → Contact → Bool
-contact_of_sponsor_within_due sponsor due x = int_eq x.sponsor sponsor && is_due_by due x.due
 
 abbrev pub by_due : List (Contact → Contact → Ordering)
 by_due = on (λ (x : Contact). x.due) (nulls_first int_cmp) ∷ []

@@ -10,17 +10,17 @@ use Rattle.rows.specs.Layouts.{Layout}
 pub record Link : Type 0 where
   pub id : ℤ
   pub domain : ℤ
-  pub role : ℤ
   pub contact : Option ℤ
   pub host : Option ℤ
+  pub role : ℤ
 
 -- as it is stored: its key, NULL in the key's column, and then the others
 abbrev pub link_row : Link → Row
-link_row x = Int x.id ∷ Null ∷ Int x.domain ∷ Int x.role ∷ or_null Int x.contact ∷ or_null Int x.host ∷ []
+link_row x = Int x.id ∷ Null ∷ Int x.domain ∷ or_null Int x.contact ∷ or_null Int x.host ∷ Int x.role ∷ []
 
 -- as a query shows it, and as parameters
 abbrev pub link_shown : Link → Row
-link_shown x = Int x.id ∷ Int x.domain ∷ Int x.role ∷ or_null Int x.contact ∷ or_null Int x.host ∷ []
+link_shown x = Int x.id ∷ Int x.domain ∷ or_null Int x.contact ∷ or_null Int x.host ∷ Int x.role ∷ []
 
 abbrev pub links : Layout Link
 links = record { tree = 10; key = λ x. x.id; to_row = link_row; keyed = λ x. refl }

@@ -1,11 +1,11 @@
 -- Messages that wait, how they lie in their table, and the order of a queue.
-use Rattle.std.specs.Prelude.{Bool, filter, ℕ, ℤ, List, [], ◌∷◌, refl}
+use Rattle.std.specs.Prelude.{◌&&◌, Bool, filter, ℕ, ℤ, List, [], ◌∷◌, refl}
 use Rattle.std.specs.declared.cmp.Ordering.{Ordering}
 use Rattle.std.specs.Ordering.{int_cmp, int_eq, on}
 use Rattle.sqlite_value.specs.declared.value.Value.TheVariants.{Int, Null, Text}
 use Rattle.sqlite_value.specs.Order.{Row}
 use Rattle.sqlite_keyed.specs.Lists.{sort_by}
-use Rattle.sqlite_typed.specs.Tests.{bytes_cmp}
+use Rattle.sqlite_typed.specs.Tests.{bytes_cmp, bytes_eq}
 use Rattle.rows.specs.Layouts.{Layout, by_then_key}
 
 pub record Message : Type 0 where
@@ -37,6 +37,12 @@ message_with_account v x = int_eq x.account v
 
 abbrev pub message_with_id : ℤ → Message → Bool
 message_with_id v x = int_eq x.id v
+
+-- equal in all columns but the number
+abbrev pub is_same_message : Message → Message → Bool
+is_same_message m x =
+    int_eq x.account m.account
+    && (int_eq x.moment m.moment && (int_eq x.class m.class && (int_eq x.number m.number && (bytes_eq x.name m.name && (int_eq x.subject m.subject && int_eq x.notice m.notice)))))
 
 -- by moment; at one moment what time brought by letter and then the object's name, then commands' by number
 abbrev pub message_order : List (Message → Message → Ordering)

@@ -10,62 +10,56 @@ use Rattle.rows.specs.Columns.{filled, nullable, keyed_table, index_on, referenc
 -- ---- meta
 
 abbrev pub meta : Table
-meta = keyed_table (codes "meta") (filled (codes "version") Integer ∷ filled (codes "clock") Integer ∷ filled (codes "next_row") Integer ∷ filled (codes "zone") Text ∷ filled (codes "reserved") Text ∷ filled (codes "days_add") Integer ∷ filled (codes "days_auto_renew") Integer ∷ filled (codes "days_renew") Integer ∷ filled (codes "days_transfer") Integer ∷ filled (codes "days_redemption") Integer ∷ filled (codes "days_restore") Integer ∷ filled (codes "days_pending_delete") Integer ∷ filled (codes "days_answer") Integer ∷ filled (codes "days_lock") Integer ∷ filled (codes "price_create") Integer ∷ filled (codes "price_renew") Integer ∷ filled (codes "price_transfer") Integer ∷ []) ([]) ([])
+meta = keyed_table (codes "meta") (filled (codes "version") Integer ∷ filled (codes "clock") Integer ∷ filled (codes "zone") Text ∷ filled (codes "reserved") Text ∷ filled (codes "days_add") Integer ∷ filled (codes "days_auto_renew") Integer ∷ filled (codes "days_renew") Integer ∷ filled (codes "days_transfer") Integer ∷ filled (codes "days_redemption") Integer ∷ filled (codes "days_restore") Integer ∷ filled (codes "days_pending_delete") Integer ∷ filled (codes "days_answer") Integer ∷ filled (codes "days_lock") Integer ∷ filled (codes "price_create") Integer ∷ filled (codes "price_renew") Integer ∷ filled (codes "price_transfer") Integer ∷ []) ([]) ([])
 
 abbrev pub meta_create : List ℕ
-meta_create = codes "CREATE TABLE meta (id INTEGER PRIMARY KEY, version INTEGER NOT NULL, clock INTEGER NOT NULL, next_row INTEGER NOT NULL, zone TEXT NOT NULL, reserved TEXT NOT NULL, days_add INTEGER NOT NULL, days_auto_renew INTEGER NOT NULL, days_renew INTEGER NOT NULL, days_transfer INTEGER NOT NULL, days_redemption INTEGER NOT NULL, days_restore INTEGER NOT NULL, days_pending_delete INTEGER NOT NULL, days_answer INTEGER NOT NULL, days_lock INTEGER NOT NULL, price_create INTEGER NOT NULL, price_renew INTEGER NOT NULL, price_transfer INTEGER NOT NULL) STRICT"
+meta_create = codes "CREATE TABLE meta (id INTEGER PRIMARY KEY, version INTEGER NOT NULL, clock INTEGER NOT NULL, zone TEXT NOT NULL, reserved TEXT NOT NULL, days_add INTEGER NOT NULL, days_auto_renew INTEGER NOT NULL, days_renew INTEGER NOT NULL, days_transfer INTEGER NOT NULL, days_redemption INTEGER NOT NULL, days_restore INTEGER NOT NULL, days_pending_delete INTEGER NOT NULL, days_answer INTEGER NOT NULL, days_lock INTEGER NOT NULL, price_create INTEGER NOT NULL, price_renew INTEGER NOT NULL, price_transfer INTEGER NOT NULL) STRICT"
 
 abbrev pub meta_all : List ℕ
-meta_all = codes "SELECT id, version, clock, next_row, zone, reserved, days_add, days_auto_renew, days_renew, days_transfer, days_redemption, days_restore, days_pending_delete, days_answer, days_lock, price_create, price_renew, price_transfer FROM meta ORDER BY id"
+meta_all = codes "SELECT id, version, clock, zone, reserved, days_add, days_auto_renew, days_renew, days_transfer, days_redemption, days_restore, days_pending_delete, days_answer, days_lock, price_create, price_renew, price_transfer FROM meta ORDER BY id"
 
 abbrev pub meta_put : List ℕ
-meta_put = codes "INSERT INTO meta (id, version, clock, next_row, zone, reserved, days_add, days_auto_renew, days_renew, days_transfer, days_redemption, days_restore, days_pending_delete, days_answer, days_lock, price_create, price_renew, price_transfer) VALUES (?1, ?2, ?3, ?4, ?5, ?6, ?7, ?8, ?9, ?10, ?11, ?12, ?13, ?14, ?15, ?16, ?17, ?18) ON CONFLICT (id) DO UPDATE SET version = excluded.version, clock = excluded.clock, next_row = excluded.next_row, zone = excluded.zone, reserved = excluded.reserved, days_add = excluded.days_add, days_auto_renew = excluded.days_auto_renew, days_renew = excluded.days_renew, days_transfer = excluded.days_transfer, days_redemption = excluded.days_redemption, days_restore = excluded.days_restore, days_pending_delete = excluded.days_pending_delete, days_answer = excluded.days_answer, days_lock = excluded.days_lock, price_create = excluded.price_create, price_renew = excluded.price_renew, price_transfer = excluded.price_transfer"
+meta_put = codes "INSERT INTO meta (id, version, clock, zone, reserved, days_add, days_auto_renew, days_renew, days_transfer, days_redemption, days_restore, days_pending_delete, days_answer, days_lock, price_create, price_renew, price_transfer) VALUES (?1, ?2, ?3, ?4, ?5, ?6, ?7, ?8, ?9, ?10, ?11, ?12, ?13, ?14, ?15, ?16, ?17) ON CONFLICT (id) DO UPDATE SET version = excluded.version, clock = excluded.clock, zone = excluded.zone, reserved = excluded.reserved, days_add = excluded.days_add, days_auto_renew = excluded.days_auto_renew, days_renew = excluded.days_renew, days_transfer = excluded.days_transfer, days_redemption = excluded.days_redemption, days_restore = excluded.days_restore, days_pending_delete = excluded.days_pending_delete, days_answer = excluded.days_answer, days_lock = excluded.days_lock, price_create = excluded.price_create, price_renew = excluded.price_renew, price_transfer = excluded.price_transfer"
 
 -- ---- account
 
 abbrev pub account : Table
-account = keyed_table (codes "account") (filled (codes "ident") Text ∷ filled (codes "commands") Integer ∷ filled (codes "messages") Integer ∷ filled (codes "serial") Integer ∷ filled (codes "balance") Blob ∷ filled (codes "held") Integer ∷ []) ((2 ∷ []) ∷ []) ([])
+account = keyed_table (codes "account") (filled (codes "ident") Text ∷ filled (codes "commands") Integer ∷ filled (codes "messages") Integer ∷ filled (codes "serial") Integer ∷ filled (codes "waiting") Integer ∷ filled (codes "balance") Blob ∷ filled (codes "held") Integer ∷ []) ((2 ∷ []) ∷ []) ([])
 
 abbrev pub account_create : List ℕ
-account_create = codes "CREATE TABLE account (id INTEGER PRIMARY KEY, ident TEXT NOT NULL UNIQUE, commands INTEGER NOT NULL, messages INTEGER NOT NULL, serial INTEGER NOT NULL, balance BLOB NOT NULL, held INTEGER NOT NULL) STRICT"
+account_create = codes "CREATE TABLE account (id INTEGER PRIMARY KEY, ident TEXT NOT NULL UNIQUE, commands INTEGER NOT NULL, messages INTEGER NOT NULL, serial INTEGER NOT NULL, waiting INTEGER NOT NULL, balance BLOB NOT NULL, held INTEGER NOT NULL) STRICT"
 
 abbrev pub account_all : List ℕ
-account_all = codes "SELECT id, ident, commands, messages, serial, balance, held FROM account ORDER BY id"
+account_all = codes "SELECT id, ident, commands, messages, serial, waiting, balance, held FROM account ORDER BY id"
 
 abbrev pub account_by_id : List ℕ
-account_by_id = codes "SELECT id, ident, commands, messages, serial, balance, held FROM account WHERE id = ?1 ORDER BY id"
-
-abbrev pub account_by_ident : List ℕ
-account_by_ident = codes "SELECT id, ident, commands, messages, serial, balance, held FROM account WHERE ident = ?1 ORDER BY id"
+account_by_id = codes "SELECT id, ident, commands, messages, serial, waiting, balance, held FROM account WHERE id = ?1 ORDER BY id"
 
 abbrev pub account_put : List ℕ
-account_put = codes "INSERT INTO account (id, ident, commands, messages, serial, balance, held) VALUES (?1, ?2, ?3, ?4, ?5, ?6, ?7) ON CONFLICT (id) DO UPDATE SET ident = excluded.ident, commands = excluded.commands, messages = excluded.messages, serial = excluded.serial, balance = excluded.balance, held = excluded.held"
+account_put = codes "INSERT INTO account (id, ident, commands, messages, serial, waiting, balance, held) VALUES (?1, ?2, ?3, ?4, ?5, ?6, ?7, ?8) ON CONFLICT (id) DO UPDATE SET ident = excluded.ident, commands = excluded.commands, messages = excluded.messages, serial = excluded.serial, waiting = excluded.waiting, balance = excluded.balance, held = excluded.held"
 
 -- ---- contact
 
 abbrev pub contact : Table
-contact = keyed_table (codes "contact") (filled (codes "name") Text ∷ filled (codes "creator") Integer ∷ filled (codes "serial") Integer ∷ filled (codes "sponsor") Integer ∷ filled (codes "created") Integer ∷ nullable (codes "transferred") Integer ∷ nullable (codes "updated") Integer ∷ filled (codes "statuses") Text ∷ filled (codes "secret") Text ∷ filled (codes "postal_name") Text ∷ nullable (codes "org") Text ∷ filled (codes "street") Text ∷ filled (codes "city") Text ∷ nullable (codes "state") Text ∷ nullable (codes "postal_code") Text ∷ filled (codes "country") Text ∷ nullable (codes "voice") Text ∷ filled (codes "mail") Text ∷ nullable (codes "due") Integer ∷ []) ((2 ∷ []) ∷ []) (reference_to (codes "account") 5 ∷ [])
+contact = keyed_table (codes "contact") (filled (codes "name") Text ∷ filled (codes "creator") Integer ∷ filled (codes "serial") Integer ∷ filled (codes "sponsor") Integer ∷ filled (codes "created") Integer ∷ nullable (codes "transferred") Integer ∷ nullable (codes "updated") Integer ∷ filled (codes "statuses") Text ∷ filled (codes "secret") Text ∷ filled (codes "postal_name") Text ∷ nullable (codes "org") Text ∷ filled (codes "street") Text ∷ filled (codes "city") Text ∷ nullable (codes "state") Text ∷ nullable (codes "postal_code") Text ∷ filled (codes "country") Text ∷ nullable (codes "voice") Text ∷ nullable (codes "due") Integer ∷ filled (codes "mail") Text ∷ []) ((2 ∷ []) ∷ []) (reference_to (codes "account") 5 ∷ [])
 
 abbrev pub contact_create : List ℕ
-contact_create = codes "CREATE TABLE contact (id INTEGER PRIMARY KEY, name TEXT NOT NULL UNIQUE, creator INTEGER NOT NULL, serial INTEGER NOT NULL, sponsor INTEGER NOT NULL REFERENCES account (id), created INTEGER NOT NULL, transferred INTEGER, updated INTEGER, statuses TEXT NOT NULL, secret TEXT NOT NULL, postal_name TEXT NOT NULL, org TEXT, street TEXT NOT NULL, city TEXT NOT NULL, state TEXT, postal_code TEXT, country TEXT NOT NULL, voice TEXT, mail TEXT NOT NULL, due INTEGER) STRICT"
-
-abbrev pub contact_all : List ℕ
-contact_all = codes "SELECT id, name, creator, serial, sponsor, created, transferred, updated, statuses, secret, postal_name, org, street, city, state, postal_code, country, voice, mail, due FROM contact ORDER BY id"
+contact_create = codes "CREATE TABLE contact (id INTEGER PRIMARY KEY, name TEXT NOT NULL UNIQUE, creator INTEGER NOT NULL, serial INTEGER NOT NULL, sponsor INTEGER NOT NULL REFERENCES account (id), created INTEGER NOT NULL, transferred INTEGER, updated INTEGER, statuses TEXT NOT NULL, secret TEXT NOT NULL, postal_name TEXT NOT NULL, org TEXT, street TEXT NOT NULL, city TEXT NOT NULL, state TEXT, postal_code TEXT, country TEXT NOT NULL, voice TEXT, due INTEGER, mail TEXT NOT NULL) STRICT"
 
 abbrev pub contact_by_id : List ℕ
-contact_by_id = codes "SELECT id, name, creator, serial, sponsor, created, transferred, updated, statuses, secret, postal_name, org, street, city, state, postal_code, country, voice, mail, due FROM contact WHERE id = ?1 ORDER BY id"
+contact_by_id = codes "SELECT id, name, creator, serial, sponsor, created, transferred, updated, statuses, secret, postal_name, org, street, city, state, postal_code, country, voice, due, mail FROM contact WHERE id = ?1 ORDER BY id"
 
 abbrev pub contact_by_name : List ℕ
-contact_by_name = codes "SELECT id, name, creator, serial, sponsor, created, transferred, updated, statuses, secret, postal_name, org, street, city, state, postal_code, country, voice, mail, due FROM contact WHERE name = ?1 ORDER BY id"
+contact_by_name = codes "SELECT id, name, creator, serial, sponsor, created, transferred, updated, statuses, secret, postal_name, org, street, city, state, postal_code, country, voice, due, mail FROM contact WHERE name = ?1 ORDER BY id"
 
 abbrev pub contact_until_due : List ℕ
-contact_until_due = codes "SELECT id, name, creator, serial, sponsor, created, transferred, updated, statuses, secret, postal_name, org, street, city, state, postal_code, country, voice, mail, due FROM contact WHERE due >= 0 AND due <= ?1 ORDER BY due, id"
-
-abbrev pub contact_by_sponsor_until_due : List ℕ
-contact_by_sponsor_until_due = codes "SELECT id, name, creator, serial, sponsor, created, transferred, updated, statuses, secret, postal_name, org, street, city, state, postal_code, country, voice, mail, due FROM contact WHERE sponsor = ?1 AND due >= 0 AND due <= ?2 ORDER BY due, id"
+contact_until_due = codes "SELECT id, name, creator, serial, sponsor, created, transferred, updated, statuses, secret, postal_name, org, street, city, state, postal_code, country, voice, due, mail FROM contact WHERE due >= 0 AND due <= ?1 ORDER BY due, id"
 
 abbrev pub contact_put : List ℕ
-contact_put = codes "INSERT INTO contact (id, name, creator, serial, sponsor, created, transferred, updated, statuses, secret, postal_name, org, street, city, state, postal_code, country, voice, mail, due) VALUES (?1, ?2, ?3, ?4, ?5, ?6, ?7, ?8, ?9, ?10, ?11, ?12, ?13, ?14, ?15, ?16, ?17, ?18, ?19, ?20) ON CONFLICT (id) DO UPDATE SET name = excluded.name, creator = excluded.creator, serial = excluded.serial, sponsor = excluded.sponsor, created = excluded.created, transferred = excluded.transferred, updated = excluded.updated, statuses = excluded.statuses, secret = excluded.secret, postal_name = excluded.postal_name, org = excluded.org, street = excluded.street, city = excluded.city, state = excluded.state, postal_code = excluded.postal_code, country = excluded.country, voice = excluded.voice, mail = excluded.mail, due = excluded.due"
+contact_put = codes "INSERT INTO contact (id, name, creator, serial, sponsor, created, transferred, updated, statuses, secret, postal_name, org, street, city, state, postal_code, country, voice, due, mail) VALUES (?1, ?2, ?3, ?4, ?5, ?6, ?7, ?8, ?9, ?10, ?11, ?12, ?13, ?14, ?15, ?16, ?17, ?18, ?19, ?20) ON CONFLICT (id) DO UPDATE SET name = excluded.name, creator = excluded.creator, serial = excluded.serial, sponsor = excluded.sponsor, created = excluded.created, transferred = excluded.transferred, updated = excluded.updated, statuses = excluded.statuses, secret = excluded.secret, postal_name = excluded.postal_name, org = excluded.org, street = excluded.street, city = excluded.city, state = excluded.state, postal_code = excluded.postal_code, country = excluded.country, voice = excluded.voice, due = excluded.due, mail = excluded.mail"
+
+abbrev pub contact_append : List ℕ
+contact_append = codes "INSERT INTO contact (name, creator, serial, sponsor, created, transferred, updated, statuses, secret, postal_name, org, street, city, state, postal_code, country, voice, due, mail) VALUES (?1, ?2, ?3, ?4, ?5, ?6, ?7, ?8, ?9, ?10, ?11, ?12, ?13, ?14, ?15, ?16, ?17, ?18, ?19)"
 
 abbrev pub contact_remove_id : List ℕ
 contact_remove_id = codes "DELETE FROM contact WHERE id = ?1"
@@ -87,17 +81,20 @@ domain_by_id = codes "SELECT id, name, creator, serial, sponsor, created, years,
 abbrev pub domain_by_name : List ℕ
 domain_by_name = codes "SELECT id, name, creator, serial, sponsor, created, years, transferred, updated, statuses, secret, registrant, deleted, restore_requested, due FROM domain WHERE name = ?1 ORDER BY id"
 
-abbrev pub domain_by_registrant : List ℕ
-domain_by_registrant = codes "SELECT id, name, creator, serial, sponsor, created, years, transferred, updated, statuses, secret, registrant, deleted, restore_requested, due FROM domain WHERE registrant = ?1 ORDER BY id"
+abbrev pub domain_by_sponsor : List ℕ
+domain_by_sponsor = codes "SELECT id, name, creator, serial, sponsor, created, years, transferred, updated, statuses, secret, registrant, deleted, restore_requested, due FROM domain WHERE sponsor = ?1 ORDER BY id"
+
+abbrev pub domain_first_by_registrant : List ℕ
+domain_first_by_registrant = codes "SELECT id, name, creator, serial, sponsor, created, years, transferred, updated, statuses, secret, registrant, deleted, restore_requested, due FROM domain WHERE registrant = ?1 ORDER BY id LIMIT 1"
 
 abbrev pub domain_until_due : List ℕ
 domain_until_due = codes "SELECT id, name, creator, serial, sponsor, created, years, transferred, updated, statuses, secret, registrant, deleted, restore_requested, due FROM domain WHERE due <= ?1 ORDER BY due, id"
 
-abbrev pub domain_by_sponsor_until_due : List ℕ
-domain_by_sponsor_until_due = codes "SELECT id, name, creator, serial, sponsor, created, years, transferred, updated, statuses, secret, registrant, deleted, restore_requested, due FROM domain WHERE sponsor = ?1 AND due <= ?2 ORDER BY due, id"
-
 abbrev pub domain_put : List ℕ
 domain_put = codes "INSERT INTO domain (id, name, creator, serial, sponsor, created, years, transferred, updated, statuses, secret, registrant, deleted, restore_requested, due) VALUES (?1, ?2, ?3, ?4, ?5, ?6, ?7, ?8, ?9, ?10, ?11, ?12, ?13, ?14, ?15) ON CONFLICT (id) DO UPDATE SET name = excluded.name, creator = excluded.creator, serial = excluded.serial, sponsor = excluded.sponsor, created = excluded.created, years = excluded.years, transferred = excluded.transferred, updated = excluded.updated, statuses = excluded.statuses, secret = excluded.secret, registrant = excluded.registrant, deleted = excluded.deleted, restore_requested = excluded.restore_requested, due = excluded.due"
+
+abbrev pub domain_append : List ℕ
+domain_append = codes "INSERT INTO domain (name, creator, serial, sponsor, created, years, transferred, updated, statuses, secret, registrant, deleted, restore_requested, due) VALUES (?1, ?2, ?3, ?4, ?5, ?6, ?7, ?8, ?9, ?10, ?11, ?12, ?13, ?14)"
 
 abbrev pub domain_remove_id : List ℕ
 domain_remove_id = codes "DELETE FROM domain WHERE id = ?1"
@@ -105,25 +102,25 @@ domain_remove_id = codes "DELETE FROM domain WHERE id = ?1"
 -- ---- host
 
 abbrev pub host : Table
-host = keyed_table (codes "host") (filled (codes "name") Text ∷ filled (codes "creator") Integer ∷ filled (codes "serial") Integer ∷ nullable (codes "superordinate") Integer ∷ nullable (codes "external_sponsor") Integer ∷ filled (codes "sponsor") Integer ∷ filled (codes "created") Integer ∷ nullable (codes "updated") Integer ∷ filled (codes "statuses") Text ∷ []) ((2 ∷ []) ∷ []) (reference_to (codes "domain") 5 ∷ reference_to (codes "account") 6 ∷ reference_to (codes "account") 7 ∷ [])
+host = keyed_table (codes "host") (filled (codes "name") Text ∷ filled (codes "creator") Integer ∷ filled (codes "serial") Integer ∷ filled (codes "above") Text ∷ nullable (codes "external_sponsor") Integer ∷ nullable (codes "sponsor") Integer ∷ filled (codes "created") Integer ∷ nullable (codes "updated") Integer ∷ filled (codes "statuses") Text ∷ []) ((2 ∷ []) ∷ []) (reference_to (codes "account") 6 ∷ reference_to (codes "account") 7 ∷ [])
 
 abbrev pub host_create : List ℕ
-host_create = codes "CREATE TABLE host (id INTEGER PRIMARY KEY, name TEXT NOT NULL UNIQUE, creator INTEGER NOT NULL, serial INTEGER NOT NULL, superordinate INTEGER REFERENCES domain (id), external_sponsor INTEGER REFERENCES account (id), sponsor INTEGER NOT NULL REFERENCES account (id), created INTEGER NOT NULL, updated INTEGER, statuses TEXT NOT NULL) STRICT"
-
-abbrev pub host_all : List ℕ
-host_all = codes "SELECT id, name, creator, serial, superordinate, external_sponsor, sponsor, created, updated, statuses FROM host ORDER BY id"
+host_create = codes "CREATE TABLE host (id INTEGER PRIMARY KEY, name TEXT NOT NULL UNIQUE, creator INTEGER NOT NULL, serial INTEGER NOT NULL, above TEXT NOT NULL, external_sponsor INTEGER REFERENCES account (id), sponsor INTEGER REFERENCES account (id), created INTEGER NOT NULL, updated INTEGER, statuses TEXT NOT NULL) STRICT"
 
 abbrev pub host_by_id : List ℕ
-host_by_id = codes "SELECT id, name, creator, serial, superordinate, external_sponsor, sponsor, created, updated, statuses FROM host WHERE id = ?1 ORDER BY id"
+host_by_id = codes "SELECT id, name, creator, serial, above, external_sponsor, sponsor, created, updated, statuses FROM host WHERE id = ?1 ORDER BY id"
 
 abbrev pub host_by_name : List ℕ
-host_by_name = codes "SELECT id, name, creator, serial, superordinate, external_sponsor, sponsor, created, updated, statuses FROM host WHERE name = ?1 ORDER BY id"
+host_by_name = codes "SELECT id, name, creator, serial, above, external_sponsor, sponsor, created, updated, statuses FROM host WHERE name = ?1 ORDER BY id"
 
-abbrev pub host_by_superordinate : List ℕ
-host_by_superordinate = codes "SELECT id, name, creator, serial, superordinate, external_sponsor, sponsor, created, updated, statuses FROM host WHERE superordinate = ?1 ORDER BY id"
+abbrev pub host_by_above : List ℕ
+host_by_above = codes "SELECT id, name, creator, serial, above, external_sponsor, sponsor, created, updated, statuses FROM host WHERE above = ?1 ORDER BY id"
 
 abbrev pub host_put : List ℕ
-host_put = codes "INSERT INTO host (id, name, creator, serial, superordinate, external_sponsor, sponsor, created, updated, statuses) VALUES (?1, ?2, ?3, ?4, ?5, ?6, ?7, ?8, ?9, ?10) ON CONFLICT (id) DO UPDATE SET name = excluded.name, creator = excluded.creator, serial = excluded.serial, superordinate = excluded.superordinate, external_sponsor = excluded.external_sponsor, sponsor = excluded.sponsor, created = excluded.created, updated = excluded.updated, statuses = excluded.statuses"
+host_put = codes "INSERT INTO host (id, name, creator, serial, above, external_sponsor, sponsor, created, updated, statuses) VALUES (?1, ?2, ?3, ?4, ?5, ?6, ?7, ?8, ?9, ?10) ON CONFLICT (id) DO UPDATE SET name = excluded.name, creator = excluded.creator, serial = excluded.serial, above = excluded.above, external_sponsor = excluded.external_sponsor, sponsor = excluded.sponsor, created = excluded.created, updated = excluded.updated, statuses = excluded.statuses"
+
+abbrev pub host_append : List ℕ
+host_append = codes "INSERT INTO host (name, creator, serial, above, external_sponsor, sponsor, created, updated, statuses) VALUES (?1, ?2, ?3, ?4, ?5, ?6, ?7, ?8, ?9)"
 
 abbrev pub host_remove_id : List ℕ
 host_remove_id = codes "DELETE FROM host WHERE id = ?1"
@@ -139,8 +136,8 @@ address_create = codes "CREATE TABLE address (id INTEGER PRIMARY KEY, host INTEG
 abbrev pub address_by_host : List ℕ
 address_by_host = codes "SELECT id, host, address FROM address WHERE host = ?1 ORDER BY id"
 
-abbrev pub address_put : List ℕ
-address_put = codes "INSERT INTO address (id, host, address) VALUES (?1, ?2, ?3) ON CONFLICT (id) DO UPDATE SET host = excluded.host, address = excluded.address"
+abbrev pub address_append : List ℕ
+address_append = codes "INSERT INTO address (host, address) VALUES (?1, ?2)"
 
 abbrev pub address_remove_host : List ℕ
 address_remove_host = codes "DELETE FROM address WHERE host = ?1"
@@ -148,22 +145,25 @@ address_remove_host = codes "DELETE FROM address WHERE host = ?1"
 -- ---- link
 
 abbrev pub link : Table
-link = keyed_table (codes "link") (filled (codes "domain") Integer ∷ filled (codes "role") Integer ∷ nullable (codes "contact") Integer ∷ nullable (codes "host") Integer ∷ []) ([]) (reference_to (codes "domain") 2 ∷ reference_to (codes "contact") 4 ∷ reference_to (codes "host") 5 ∷ [])
+link = keyed_table (codes "link") (filled (codes "domain") Integer ∷ nullable (codes "contact") Integer ∷ nullable (codes "host") Integer ∷ filled (codes "role") Integer ∷ []) ([]) (reference_to (codes "domain") 2 ∷ reference_to (codes "contact") 3 ∷ reference_to (codes "host") 4 ∷ [])
 
 abbrev pub link_create : List ℕ
-link_create = codes "CREATE TABLE link (id INTEGER PRIMARY KEY, domain INTEGER NOT NULL REFERENCES domain (id), role INTEGER NOT NULL, contact INTEGER REFERENCES contact (id), host INTEGER REFERENCES host (id)) STRICT"
+link_create = codes "CREATE TABLE link (id INTEGER PRIMARY KEY, domain INTEGER NOT NULL REFERENCES domain (id), contact INTEGER REFERENCES contact (id), host INTEGER REFERENCES host (id), role INTEGER NOT NULL) STRICT"
 
 abbrev pub link_by_domain : List ℕ
-link_by_domain = codes "SELECT id, domain, role, contact, host FROM link WHERE domain = ?1 ORDER BY id"
-
-abbrev pub link_by_contact : List ℕ
-link_by_contact = codes "SELECT id, domain, role, contact, host FROM link WHERE contact = ?1 ORDER BY id"
+link_by_domain = codes "SELECT id, domain, contact, host, role FROM link WHERE domain = ?1 ORDER BY id"
 
 abbrev pub link_by_host : List ℕ
-link_by_host = codes "SELECT id, domain, role, contact, host FROM link WHERE host = ?1 ORDER BY id"
+link_by_host = codes "SELECT id, domain, contact, host, role FROM link WHERE host = ?1 ORDER BY id"
 
-abbrev pub link_put : List ℕ
-link_put = codes "INSERT INTO link (id, domain, role, contact, host) VALUES (?1, ?2, ?3, ?4, ?5) ON CONFLICT (id) DO UPDATE SET domain = excluded.domain, role = excluded.role, contact = excluded.contact, host = excluded.host"
+abbrev pub link_first_by_contact : List ℕ
+link_first_by_contact = codes "SELECT id, domain, contact, host, role FROM link WHERE contact = ?1 ORDER BY id LIMIT 1"
+
+abbrev pub link_first_by_host : List ℕ
+link_first_by_host = codes "SELECT id, domain, contact, host, role FROM link WHERE host = ?1 ORDER BY id LIMIT 1"
+
+abbrev pub link_append : List ℕ
+link_append = codes "INSERT INTO link (domain, contact, host, role) VALUES (?1, ?2, ?3, ?4)"
 
 abbrev pub link_remove_domain : List ℕ
 link_remove_domain = codes "DELETE FROM link WHERE domain = ?1"
@@ -171,19 +171,22 @@ link_remove_domain = codes "DELETE FROM link WHERE domain = ?1"
 -- ---- line
 
 abbrev pub line : Table
-line = keyed_table (codes "line") (filled (codes "account") Integer ∷ filled (codes "kind") Integer ∷ nullable (codes "creator") Integer ∷ nullable (codes "serial") Integer ∷ filled (codes "recorded") Integer ∷ filled (codes "years") Integer ∷ filled (codes "cents") Integer ∷ nullable (codes "started") Integer ∷ nullable (codes "refunded") Integer ∷ []) ([]) (reference_to (codes "account") 2 ∷ [])
+line = keyed_table (codes "line") (filled (codes "account") Integer ∷ filled (codes "kind") Integer ∷ nullable (codes "creator") Integer ∷ nullable (codes "serial") Integer ∷ filled (codes "years") Integer ∷ filled (codes "cents") Integer ∷ nullable (codes "started") Integer ∷ nullable (codes "refunded") Integer ∷ filled (codes "recorded") Integer ∷ []) ([]) (reference_to (codes "account") 2 ∷ [])
 
 abbrev pub line_create : List ℕ
-line_create = codes "CREATE TABLE line (id INTEGER PRIMARY KEY, account INTEGER NOT NULL REFERENCES account (id), kind INTEGER NOT NULL, creator INTEGER, serial INTEGER, recorded INTEGER NOT NULL, years INTEGER NOT NULL, cents INTEGER NOT NULL, started INTEGER, refunded INTEGER) STRICT"
+line_create = codes "CREATE TABLE line (id INTEGER PRIMARY KEY, account INTEGER NOT NULL REFERENCES account (id), kind INTEGER NOT NULL, creator INTEGER, serial INTEGER, years INTEGER NOT NULL, cents INTEGER NOT NULL, started INTEGER, refunded INTEGER, recorded INTEGER NOT NULL) STRICT"
 
 abbrev pub line_by_account : List ℕ
-line_by_account = codes "SELECT id, account, kind, creator, serial, recorded, years, cents, started, refunded FROM line WHERE account = ?1 ORDER BY id"
+line_by_account = codes "SELECT id, account, kind, creator, serial, years, cents, started, refunded, recorded FROM line WHERE account = ?1 ORDER BY id"
 
 abbrev pub line_by_object : List ℕ
-line_by_object = codes "SELECT id, account, kind, creator, serial, recorded, years, cents, started, refunded FROM line WHERE account = ?1 AND creator = ?2 AND serial = ?3 ORDER BY id"
+line_by_object = codes "SELECT id, account, kind, creator, serial, years, cents, started, refunded, recorded FROM line WHERE account = ?1 AND creator = ?2 AND serial = ?3 ORDER BY id"
 
-abbrev pub line_put : List ℕ
-line_put = codes "INSERT INTO line (id, account, kind, creator, serial, recorded, years, cents, started, refunded) VALUES (?1, ?2, ?3, ?4, ?5, ?6, ?7, ?8, ?9, ?10) ON CONFLICT (id) DO UPDATE SET account = excluded.account, kind = excluded.kind, creator = excluded.creator, serial = excluded.serial, recorded = excluded.recorded, years = excluded.years, cents = excluded.cents, started = excluded.started, refunded = excluded.refunded"
+abbrev pub line_append : List ℕ
+line_append = codes "INSERT INTO line (account, kind, creator, serial, years, cents, started, refunded, recorded) VALUES (?1, ?2, ?3, ?4, ?5, ?6, ?7, ?8, ?9)"
+
+abbrev pub line_remove_id : List ℕ
+line_remove_id = codes "DELETE FROM line WHERE id = ?1"
 
 -- ---- message
 
@@ -199,8 +202,11 @@ message_by_account = codes "SELECT id, account, moment, class, number, name, sub
 abbrev pub message_first_by_account : List ℕ
 message_first_by_account = codes "SELECT id, account, moment, class, number, name, subject, notice FROM message WHERE account = ?1 ORDER BY moment, class, number, name, subject, notice, id LIMIT 1"
 
-abbrev pub message_put : List ℕ
-message_put = codes "INSERT INTO message (id, account, moment, class, number, name, subject, notice) VALUES (?1, ?2, ?3, ?4, ?5, ?6, ?7, ?8) ON CONFLICT (id) DO UPDATE SET account = excluded.account, moment = excluded.moment, class = excluded.class, number = excluded.number, name = excluded.name, subject = excluded.subject, notice = excluded.notice"
+abbrev pub message_same : List ℕ
+message_same = codes "SELECT id, account, moment, class, number, name, subject, notice FROM message WHERE account = ?1 AND moment = ?2 AND class = ?3 AND number = ?4 AND name = ?5 AND subject = ?6 AND notice = ?7 ORDER BY id"
+
+abbrev pub message_append : List ℕ
+message_append = codes "INSERT INTO message (account, moment, class, number, name, subject, notice) VALUES (?1, ?2, ?3, ?4, ?5, ?6, ?7)"
 
 abbrev pub message_remove_id : List ℕ
 message_remove_id = codes "DELETE FROM message WHERE id = ?1"
@@ -208,25 +214,28 @@ message_remove_id = codes "DELETE FROM message WHERE id = ?1"
 -- ---- transfer
 
 abbrev pub transfer : Table
-transfer = keyed_table (codes "transfer") (nullable (codes "contact") Integer ∷ nullable (codes "domain") Integer ∷ filled (codes "requester") Integer ∷ filled (codes "losing") Integer ∷ filled (codes "requested") Integer ∷ filled (codes "ac_date") Integer ∷ filled (codes "state") Integer ∷ nullable (codes "due") Integer ∷ []) ([]) (reference_to (codes "contact") 2 ∷ reference_to (codes "domain") 3 ∷ reference_to (codes "account") 4 ∷ reference_to (codes "account") 5 ∷ [])
+transfer = keyed_table (codes "transfer") (nullable (codes "contact") Integer ∷ nullable (codes "domain") Integer ∷ filled (codes "requester") Integer ∷ filled (codes "losing") Integer ∷ filled (codes "requested") Integer ∷ filled (codes "ac_date") Integer ∷ nullable (codes "due") Integer ∷ filled (codes "state") Integer ∷ []) ([]) (reference_to (codes "contact") 2 ∷ reference_to (codes "domain") 3 ∷ reference_to (codes "account") 4 ∷ reference_to (codes "account") 5 ∷ [])
 
 abbrev pub transfer_create : List ℕ
-transfer_create = codes "CREATE TABLE transfer (id INTEGER PRIMARY KEY, contact INTEGER REFERENCES contact (id), domain INTEGER REFERENCES domain (id), requester INTEGER NOT NULL REFERENCES account (id), losing INTEGER NOT NULL REFERENCES account (id), requested INTEGER NOT NULL, ac_date INTEGER NOT NULL, state INTEGER NOT NULL, due INTEGER) STRICT"
+transfer_create = codes "CREATE TABLE transfer (id INTEGER PRIMARY KEY, contact INTEGER REFERENCES contact (id), domain INTEGER REFERENCES domain (id), requester INTEGER NOT NULL REFERENCES account (id), losing INTEGER NOT NULL REFERENCES account (id), requested INTEGER NOT NULL, ac_date INTEGER NOT NULL, due INTEGER, state INTEGER NOT NULL) STRICT"
 
 abbrev pub transfer_by_contact : List ℕ
-transfer_by_contact = codes "SELECT id, contact, domain, requester, losing, requested, ac_date, state, due FROM transfer WHERE contact = ?1 ORDER BY id"
+transfer_by_contact = codes "SELECT id, contact, domain, requester, losing, requested, ac_date, due, state FROM transfer WHERE contact = ?1 ORDER BY id"
 
 abbrev pub transfer_by_domain : List ℕ
-transfer_by_domain = codes "SELECT id, contact, domain, requester, losing, requested, ac_date, state, due FROM transfer WHERE domain = ?1 ORDER BY id"
+transfer_by_domain = codes "SELECT id, contact, domain, requester, losing, requested, ac_date, due, state FROM transfer WHERE domain = ?1 ORDER BY id"
 
-abbrev pub transfer_by_requester_until_due : List ℕ
-transfer_by_requester_until_due = codes "SELECT id, contact, domain, requester, losing, requested, ac_date, state, due FROM transfer WHERE requester = ?1 AND due >= 0 AND due <= ?2 ORDER BY due, id"
+abbrev pub transfer_by_requester : List ℕ
+transfer_by_requester = codes "SELECT id, contact, domain, requester, losing, requested, ac_date, due, state FROM transfer WHERE requester = ?1 ORDER BY id"
 
-abbrev pub transfer_put : List ℕ
-transfer_put = codes "INSERT INTO transfer (id, contact, domain, requester, losing, requested, ac_date, state, due) VALUES (?1, ?2, ?3, ?4, ?5, ?6, ?7, ?8, ?9) ON CONFLICT (id) DO UPDATE SET contact = excluded.contact, domain = excluded.domain, requester = excluded.requester, losing = excluded.losing, requested = excluded.requested, ac_date = excluded.ac_date, state = excluded.state, due = excluded.due"
+abbrev pub transfer_append : List ℕ
+transfer_append = codes "INSERT INTO transfer (contact, domain, requester, losing, requested, ac_date, due, state) VALUES (?1, ?2, ?3, ?4, ?5, ?6, ?7, ?8)"
 
-abbrev pub transfer_remove_id : List ℕ
-transfer_remove_id = codes "DELETE FROM transfer WHERE id = ?1"
+abbrev pub transfer_remove_contact : List ℕ
+transfer_remove_contact = codes "DELETE FROM transfer WHERE contact = ?1"
+
+abbrev pub transfer_remove_domain : List ℕ
+transfer_remove_domain = codes "DELETE FROM transfer WHERE domain = ?1"
 
 -- ---- the schema
 
@@ -263,16 +272,10 @@ with_transfer = created with_message transfer
 -- ---- indexes, each of which keeps its entries in the order of the columns and then of the rows' numbers
 
 abbrev pub contact_due : Index
-contact_due = index_on 3 (codes "contact_due") (20 ∷ [])
+contact_due = index_on 3 (codes "contact_due") (19 ∷ [])
 
 abbrev pub contact_due_create : List ℕ
 contact_due_create = codes "CREATE INDEX contact_due ON contact (due)"
-
-abbrev pub contact_sponsor_due : Index
-contact_sponsor_due = index_on 3 (codes "contact_sponsor_due") (5 ∷ 20 ∷ [])
-
-abbrev pub contact_sponsor_due_create : List ℕ
-contact_sponsor_due_create = codes "CREATE INDEX contact_sponsor_due ON contact (sponsor, due)"
 
 abbrev pub domain_registrant : Index
 domain_registrant = index_on 5 (codes "domain_registrant") (12 ∷ [])
@@ -286,17 +289,17 @@ domain_due = index_on 5 (codes "domain_due") (15 ∷ [])
 abbrev pub domain_due_create : List ℕ
 domain_due_create = codes "CREATE INDEX domain_due ON domain (due)"
 
-abbrev pub domain_sponsor_due : Index
-domain_sponsor_due = index_on 5 (codes "domain_sponsor_due") (5 ∷ 15 ∷ [])
+abbrev pub domain_sponsor : Index
+domain_sponsor = index_on 5 (codes "domain_sponsor") (5 ∷ [])
 
-abbrev pub domain_sponsor_due_create : List ℕ
-domain_sponsor_due_create = codes "CREATE INDEX domain_sponsor_due ON domain (sponsor, due)"
+abbrev pub domain_sponsor_create : List ℕ
+domain_sponsor_create = codes "CREATE INDEX domain_sponsor ON domain (sponsor)"
 
-abbrev pub host_superordinate : Index
-host_superordinate = index_on 7 (codes "host_superordinate") (5 ∷ [])
+abbrev pub host_above : Index
+host_above = index_on 7 (codes "host_above") (5 ∷ [])
 
-abbrev pub host_superordinate_create : List ℕ
-host_superordinate_create = codes "CREATE INDEX host_superordinate ON host (superordinate)"
+abbrev pub host_above_create : List ℕ
+host_above_create = codes "CREATE INDEX host_above ON host (above)"
 
 abbrev pub address_host : Index
 address_host = index_on 9 (codes "address_host") (2 ∷ [])
@@ -311,13 +314,13 @@ abbrev pub link_domain_create : List ℕ
 link_domain_create = codes "CREATE INDEX link_domain ON link (domain)"
 
 abbrev pub link_contact : Index
-link_contact = index_on 10 (codes "link_contact") (4 ∷ [])
+link_contact = index_on 10 (codes "link_contact") (3 ∷ [])
 
 abbrev pub link_contact_create : List ℕ
 link_contact_create = codes "CREATE INDEX link_contact ON link (contact)"
 
 abbrev pub link_host : Index
-link_host = index_on 10 (codes "link_host") (5 ∷ [])
+link_host = index_on 10 (codes "link_host") (4 ∷ [])
 
 abbrev pub link_host_create : List ℕ
 link_host_create = codes "CREATE INDEX link_host ON link (host)"
@@ -346,34 +349,31 @@ transfer_domain = index_on 13 (codes "transfer_domain") (3 ∷ [])
 abbrev pub transfer_domain_create : List ℕ
 transfer_domain_create = codes "CREATE INDEX transfer_domain ON transfer (domain)"
 
-abbrev pub transfer_requester_due : Index
-transfer_requester_due = index_on 13 (codes "transfer_requester_due") (4 ∷ 9 ∷ [])
+abbrev pub transfer_requester : Index
+transfer_requester = index_on 13 (codes "transfer_requester") (4 ∷ [])
 
-abbrev pub transfer_requester_due_create : List ℕ
-transfer_requester_due_create = codes "CREATE INDEX transfer_requester_due ON transfer (requester, due)"
+abbrev pub transfer_requester_create : List ℕ
+transfer_requester_create = codes "CREATE INDEX transfer_requester ON transfer (requester)"
 
 -- ---- the schema with its indexes
 
 abbrev pub with_contact_due : Schema
 with_contact_due = indexed with_transfer (record contact { tree = 3 }) contact_due
 
-abbrev pub with_contact_sponsor_due : Schema
-with_contact_sponsor_due = indexed with_contact_due (record contact { tree = 3 }) contact_sponsor_due
-
 abbrev pub with_domain_registrant : Schema
-with_domain_registrant = indexed with_contact_sponsor_due (record domain { tree = 5 }) domain_registrant
+with_domain_registrant = indexed with_contact_due (record domain { tree = 5 }) domain_registrant
 
 abbrev pub with_domain_due : Schema
 with_domain_due = indexed with_domain_registrant (record domain { tree = 5 }) domain_due
 
-abbrev pub with_domain_sponsor_due : Schema
-with_domain_sponsor_due = indexed with_domain_due (record domain { tree = 5 }) domain_sponsor_due
+abbrev pub with_domain_sponsor : Schema
+with_domain_sponsor = indexed with_domain_due (record domain { tree = 5 }) domain_sponsor
 
-abbrev pub with_host_superordinate : Schema
-with_host_superordinate = indexed with_domain_sponsor_due (record host { tree = 7 }) host_superordinate
+abbrev pub with_host_above : Schema
+with_host_above = indexed with_domain_sponsor (record host { tree = 7 }) host_above
 
 abbrev pub with_address_host : Schema
-with_address_host = indexed with_host_superordinate (record address { tree = 9 }) address_host
+with_address_host = indexed with_host_above (record address { tree = 9 }) address_host
 
 abbrev pub with_link_domain : Schema
 with_link_domain = indexed with_address_host (record link { tree = 10 }) link_domain
@@ -396,15 +396,15 @@ with_transfer_contact = indexed with_message_queue (record transfer { tree = 13 
 abbrev pub with_transfer_domain : Schema
 with_transfer_domain = indexed with_transfer_contact (record transfer { tree = 13 }) transfer_domain
 
-abbrev pub with_transfer_requester_due : Schema
-with_transfer_requester_due = indexed with_transfer_domain (record transfer { tree = 13 }) transfer_requester_due
+abbrev pub with_transfer_requester : Schema
+with_transfer_requester = indexed with_transfer_domain (record transfer { tree = 13 }) transfer_requester
 
 abbrev pub registry : Schema
-registry = with_transfer_requester_due
+registry = with_transfer_requester
 
 -- the texts that make it, in their order
 abbrev pub creation : List (List ℕ)
-creation = meta_create ∷ account_create ∷ contact_create ∷ domain_create ∷ host_create ∷ address_create ∷ link_create ∷ line_create ∷ message_create ∷ transfer_create ∷ contact_due_create ∷ contact_sponsor_due_create ∷ domain_registrant_create ∷ domain_due_create ∷ domain_sponsor_due_create ∷ host_superordinate_create ∷ address_host_create ∷ link_domain_create ∷ link_contact_create ∷ link_host_create ∷ line_object_create ∷ message_queue_create ∷ transfer_contact_create ∷ transfer_domain_create ∷ transfer_requester_due_create ∷ []
+creation = meta_create ∷ account_create ∷ contact_create ∷ domain_create ∷ host_create ∷ address_create ∷ link_create ∷ line_create ∷ message_create ∷ transfer_create ∷ contact_due_create ∷ domain_registrant_create ∷ domain_due_create ∷ domain_sponsor_create ∷ host_above_create ∷ address_host_create ∷ link_domain_create ∷ link_contact_create ∷ link_host_create ∷ line_object_create ∷ message_queue_create ∷ transfer_contact_create ∷ transfer_domain_create ∷ transfer_requester_create ∷ []
 
 -- the number of this schema, which the table `meta` keeps
 abbrev pub schema_number : ℤ

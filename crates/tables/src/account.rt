@@ -4,7 +4,7 @@ ghost use Rattle.sqlite.specs.Held.{state};
 ghost use Rattle.sqlite_keyed.specs.Keyed.{insert_by};
 ghost use Rattle.rows.specs.Calls.{Changes, Finds, IsSteady};
 ghost use Rattle.tables.specs.Tables.{registry};
-ghost use Rattle.tables.specs.Account.{Account, accounts, account_with_id, account_with_ident};
+ghost use Rattle.tables.specs.Account.{Account, accounts, account_with_id};
 
 use rows::{Number, Record, select, write};
 use sqlite::types::{ToSql, Type, ValueRef};
@@ -13,16 +13,13 @@ use std::alloc::Global;
 use std::marker::Model;
 
 const ALL: &str =
-    "SELECT id, ident, commands, messages, serial, balance, held FROM account ORDER BY id";
+    "SELECT id, ident, commands, messages, serial, waiting, balance, held FROM account ORDER BY id";
 
 const BY_ID: &str =
-    "SELECT id, ident, commands, messages, serial, balance, held FROM account WHERE id = ?1 ORDER BY id";
-
-const BY_IDENT: &str =
-    "SELECT id, ident, commands, messages, serial, balance, held FROM account WHERE ident = ?1 ORDER BY id";
+    "SELECT id, ident, commands, messages, serial, waiting, balance, held FROM account WHERE id = ?1 ORDER BY id";
 
 const PUT: &str =
-    "INSERT INTO account (id, ident, commands, messages, serial, balance, held) VALUES (?1, ?2, ?3, ?4, ?5, ?6, ?7) ON CONFLICT (id) DO UPDATE SET ident = excluded.ident, commands = excluded.commands, messages = excluded.messages, serial = excluded.serial, balance = excluded.balance, held = excluded.held";
+    "INSERT INTO account (id, ident, commands, messages, serial, waiting, balance, held) VALUES (?1, ?2, ?3, ?4, ?5, ?6, ?7, ?8) ON CONFLICT (id) DO UPDATE SET ident = excluded.ident, commands = excluded.commands, messages = excluded.messages, serial = excluded.serial, waiting = excluded.waiting, balance = excluded.balance, held = excluded.held";
 
 /// A row of the table `account`.
 #[derive(Drop)]
@@ -32,6 +29,7 @@ pub struct AccountRow {
     pub commands: i64,
     pub messages: i64,
     pub serial: i64,
+    pub waiting: i64,
     pub balance: [u8; 16],
     pub held: i64,
 }
@@ -48,6 +46,7 @@ impl Model for AccountRow {
       commands = x.commands;
       messages = x.messages;
       serial = x.serial;
+      waiting = x.waiting;
       balance = x.balance;
       held = x.held;
     } };
@@ -58,7 +57,7 @@ impl AccountRow {
     ghost use Rattle.tables.specs.Account.{account_shown};
 
     /// The parameters of the statement that puts it.
-    fn params(&self) -> [ValueRef<'_>; 7]
+    fn params(&self) -> [ValueRef<'_>; 8]
         ensures { bound result ≡ account_shown self.now }
     {
         [
@@ -67,6 +66,7 @@ impl AccountRow {
             self.commands.to_sql(),
             self.messages.to_sql(),
             self.serial.to_sql(),
+            self.waiting.to_sql(),
             self.balance.as_slice().to_sql(),
             self.held.to_sql(),
         ]
@@ -79,9 +79,9 @@ impl Record for AccountRow {
     ghost shown = { account_shown };
 
     fn from_row(row: &Row) -> Result<AccountRow, Error> {
-        let bytes: Vec<u8> = row.get(5)?;
+        let bytes: Vec<u8> = row.get(6)?;
         if bytes.len() != 16 {
-            return Err(Error::InvalidColumnType(5, Type::Blob));
+            return Err(Error::InvalidColumnType(6, Type::Blob));
         }
         let mut balance = [0; 16];
         balance.copy_from_slice(&bytes);
@@ -91,8 +91,9 @@ impl Record for AccountRow {
             commands: row.get(2)?,
             messages: row.get(3)?,
             serial: row.get(4)?,
+            waiting: row.get(5)?,
             balance,
-            held: row.get(6)?,
+            held: row.get(7)?,
         })
     }
 }
@@ -118,18 +119,6 @@ pub fn accounts_by_id<S: Alter>(
     ensures steady { IsSteady (state S.Store conn.old) (state S.Store conn.new) }
 {
     select(conn, alloc, BY_ID, params![id])
-}
-
-/// Those whose `ident` is this.
-pub fn accounts_by_ident<S: Alter>(
-    conn: &mut Connection<S>,
-    alloc: Global,
-    ident: &str,
-) -> Result<Vec<AccountRow>, Error>
-    ensures does { conn.old.schema ≡ registry → Finds accounts (filter (account_with_ident ident.now)) (state S.Store conn.old) (state S.Store conn.new) result }
-    ensures steady { IsSteady (state S.Store conn.old) (state S.Store conn.new) }
-{
-    select(conn, alloc, BY_IDENT, params![ident])
 }
 
 /// Puts a row in the place of the one with its number, or beside all others.

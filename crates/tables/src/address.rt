@@ -1,9 +1,9 @@
 //! Addresses of hosts.
 ghost use Rattle.std.specs.Prelude.{◌≡◌, true, filter};
 ghost use Rattle.sqlite.specs.Held.{state};
-ghost use Rattle.sqlite_keyed.specs.Keyed.{insert_by};
 ghost use Rattle.sqlite_keyed.specs.Lists.{delete_where};
 ghost use Rattle.rows.specs.Calls.{Changes, Finds, IsSteady};
+ghost use Rattle.rows.specs.Layouts.{appended};
 ghost use Rattle.tables.specs.Tables.{registry};
 ghost use Rattle.tables.specs.Address.{Address, addresses, address_with_host};
 
@@ -15,8 +15,7 @@ use std::marker::Model;
 
 const BY_HOST: &str = "SELECT id, host, address FROM address WHERE host = ?1 ORDER BY id";
 
-const PUT: &str =
-    "INSERT INTO address (id, host, address) VALUES (?1, ?2, ?3) ON CONFLICT (id) DO UPDATE SET host = excluded.host, address = excluded.address";
+const APPEND: &str = "INSERT INTO address (host, address) VALUES (?1, ?2)";
 
 const REMOVE_HOST: &str = "DELETE FROM address WHERE host = ?1";
 
@@ -45,7 +44,7 @@ impl AddressRow {
     ghost use Rattle.sqlite.specs.Values.{bound};
     ghost use Rattle.tables.specs.Address.{address_shown};
 
-    /// The parameters of the statement that puts it.
+    /// Its columns as parameters, its number first.
     fn params(&self) -> [ValueRef<'_>; 3]
         ensures { bound result ≡ address_shown self.now }
     {
@@ -83,12 +82,12 @@ pub fn addresses_by_host<S: Alter>(
     select(conn, alloc, BY_HOST, params![host])
 }
 
-/// Puts a row in the place of the one with its number, or beside all others.
-pub fn put_address<S: Alter>(conn: &mut Connection<S>, address: &AddressRow) -> Result<(), Error>
-    ensures does { conn.old.schema ≡ registry → conn.old.in_transaction ≡ true → Changes addresses registry (λ xs. insert_by addresses.key xs address.now) (state S.Store conn.old) (state S.Store conn.new) result }
+/// Adds a row at the end, with the number after the last one. The given row's number isn't looked at.
+pub fn append_address<S: Alter>(conn: &mut Connection<S>, address: &AddressRow) -> Result<(), Error>
+    ensures does { conn.old.schema ≡ registry → conn.old.in_transaction ≡ true → Changes addresses registry (appended addresses (λ id. record address.now { id = id })) (state S.Store conn.old) (state S.Store conn.new) result }
     ensures steady { IsSteady (state S.Store conn.old) (state S.Store conn.new) }
 {
-    write(conn, PUT, &address.params())
+    write(conn, APPEND, &address.params()[1..])
 }
 
 /// Removes those whose `host` is this.

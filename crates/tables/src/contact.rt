@@ -4,8 +4,9 @@ ghost use Rattle.sqlite.specs.Held.{state};
 ghost use Rattle.sqlite_keyed.specs.Keyed.{insert_by};
 ghost use Rattle.sqlite_keyed.specs.Lists.{delete_where};
 ghost use Rattle.rows.specs.Calls.{Changes, Finds, IsSteady};
+ghost use Rattle.rows.specs.Layouts.{appended};
 ghost use Rattle.tables.specs.Tables.{registry};
-ghost use Rattle.tables.specs.Contact.{Contact, contacts, contacts_by_due, contact_of_sponsor_within_due, contact_within_due, contact_with_id, contact_with_name, contact_shown};
+ghost use Rattle.tables.specs.Contact.{Contact, contact_shown, contacts, contact_with_id, contact_with_name, contact_within_due, contacts_by_due};
 
 use rows::{Number, Record, maybe_number, maybe_text, select, write};
 use sqlite::types::{ToSql, ValueRef};
@@ -13,23 +14,20 @@ use sqlite::{Alter, Connection, Error, Row, params};
 use std::alloc::Global;
 use std::marker::Model;
 
-const ALL: &str =
-    "SELECT id, name, creator, serial, sponsor, created, transferred, updated, statuses, secret, postal_name, org, street, city, state, postal_code, country, voice, mail, due FROM contact ORDER BY id";
-
 const BY_ID: &str =
-    "SELECT id, name, creator, serial, sponsor, created, transferred, updated, statuses, secret, postal_name, org, street, city, state, postal_code, country, voice, mail, due FROM contact WHERE id = ?1 ORDER BY id";
+    "SELECT id, name, creator, serial, sponsor, created, transferred, updated, statuses, secret, postal_name, org, street, city, state, postal_code, country, voice, due, mail FROM contact WHERE id = ?1 ORDER BY id";
 
 const BY_NAME: &str =
-    "SELECT id, name, creator, serial, sponsor, created, transferred, updated, statuses, secret, postal_name, org, street, city, state, postal_code, country, voice, mail, due FROM contact WHERE name = ?1 ORDER BY id";
+    "SELECT id, name, creator, serial, sponsor, created, transferred, updated, statuses, secret, postal_name, org, street, city, state, postal_code, country, voice, due, mail FROM contact WHERE name = ?1 ORDER BY id";
 
 const UNTIL_DUE: &str =
-    "SELECT id, name, creator, serial, sponsor, created, transferred, updated, statuses, secret, postal_name, org, street, city, state, postal_code, country, voice, mail, due FROM contact WHERE due >= 0 AND due <= ?1 ORDER BY due, id";
-
-const BY_SPONSOR_UNTIL_DUE: &str =
-    "SELECT id, name, creator, serial, sponsor, created, transferred, updated, statuses, secret, postal_name, org, street, city, state, postal_code, country, voice, mail, due FROM contact WHERE sponsor = ?1 AND due >= 0 AND due <= ?2 ORDER BY due, id";
+    "SELECT id, name, creator, serial, sponsor, created, transferred, updated, statuses, secret, postal_name, org, street, city, state, postal_code, country, voice, due, mail FROM contact WHERE due >= 0 AND due <= ?1 ORDER BY due, id";
 
 const PUT: &str =
-    "INSERT INTO contact (id, name, creator, serial, sponsor, created, transferred, updated, statuses, secret, postal_name, org, street, city, state, postal_code, country, voice, mail, due) VALUES (?1, ?2, ?3, ?4, ?5, ?6, ?7, ?8, ?9, ?10, ?11, ?12, ?13, ?14, ?15, ?16, ?17, ?18, ?19, ?20) ON CONFLICT (id) DO UPDATE SET name = excluded.name, creator = excluded.creator, serial = excluded.serial, sponsor = excluded.sponsor, created = excluded.created, transferred = excluded.transferred, updated = excluded.updated, statuses = excluded.statuses, secret = excluded.secret, postal_name = excluded.postal_name, org = excluded.org, street = excluded.street, city = excluded.city, state = excluded.state, postal_code = excluded.postal_code, country = excluded.country, voice = excluded.voice, mail = excluded.mail, due = excluded.due";
+    "INSERT INTO contact (id, name, creator, serial, sponsor, created, transferred, updated, statuses, secret, postal_name, org, street, city, state, postal_code, country, voice, due, mail) VALUES (?1, ?2, ?3, ?4, ?5, ?6, ?7, ?8, ?9, ?10, ?11, ?12, ?13, ?14, ?15, ?16, ?17, ?18, ?19, ?20) ON CONFLICT (id) DO UPDATE SET name = excluded.name, creator = excluded.creator, serial = excluded.serial, sponsor = excluded.sponsor, created = excluded.created, transferred = excluded.transferred, updated = excluded.updated, statuses = excluded.statuses, secret = excluded.secret, postal_name = excluded.postal_name, org = excluded.org, street = excluded.street, city = excluded.city, state = excluded.state, postal_code = excluded.postal_code, country = excluded.country, voice = excluded.voice, due = excluded.due, mail = excluded.mail";
+
+const APPEND: &str =
+    "INSERT INTO contact (name, creator, serial, sponsor, created, transferred, updated, statuses, secret, postal_name, org, street, city, state, postal_code, country, voice, due, mail) VALUES (?1, ?2, ?3, ?4, ?5, ?6, ?7, ?8, ?9, ?10, ?11, ?12, ?13, ?14, ?15, ?16, ?17, ?18, ?19)";
 
 const REMOVE_ID: &str = "DELETE FROM contact WHERE id = ?1";
 
@@ -91,8 +89,8 @@ pub struct ContactRow {
     pub statuses: String,
     pub secret: String,
     pub voice: Option<String>,
-    pub mail: String,
     pub due: Option<i64>,
+    pub mail: String,
     pub postal: PostalRow,
 }
 
@@ -114,8 +112,8 @@ impl Model for ContactRow {
       statuses = string_bytes x.statuses;
       secret = string_bytes x.secret;
       voice = option_map string_bytes x.voice;
-      mail = string_bytes x.mail;
       due = x.due;
+      mail = string_bytes x.mail;
       postal = x.postal;
     } };
 }
@@ -124,7 +122,7 @@ impl ContactRow {
     ghost use Rattle.sqlite.specs.Values.{bound};
     ghost use Rattle.tables.specs.Contact.{contact_shown};
 
-    /// The parameters of the statement that puts it.
+    /// Its columns as parameters, its number first.
     fn params(&self) -> [ValueRef<'_>; 20]
         ensures { bound result ≡ contact_shown self.now }
     {
@@ -147,8 +145,8 @@ impl ContactRow {
             maybe_text(&self.postal.postal_code),
             (&self.postal.country).to_sql(),
             maybe_text(&self.voice),
-            (&self.mail).to_sql(),
             maybe_number(self.due),
+            (&self.mail).to_sql(),
         ]
     }
 }
@@ -169,7 +167,7 @@ fn dates_of(row: &Row) -> Result<ContactDates, Error>
         created: row.get(5)?,
         transferred: row.get(6)?,
         updated: row.get(7)?,
-        due: row.get(19)?,
+        due: row.get(18)?,
     })
 }
 
@@ -192,22 +190,11 @@ impl Record for ContactRow {
             statuses: row.get(8)?,
             secret: row.get(9)?,
             voice: row.get(17)?,
-            mail: row.get(18)?,
             due: dates.due,
+            mail: row.get(19)?,
             postal: postal_of(row)?,
         })
     }
-}
-
-/// All of them, by their numbers.
-pub fn all_contacts<S: Alter>(
-    conn: &mut Connection<S>,
-    alloc: Global,
-) -> Result<Vec<ContactRow>, Error>
-    ensures does { conn.old.schema ≡ registry → Finds contacts (λ xs. xs) (state S.Store conn.old) (state S.Store conn.new) result }
-    ensures steady { IsSteady (state S.Store conn.old) (state S.Store conn.new) }
-{
-    select(conn, alloc, ALL, &[])
 }
 
 /// Those with this number.
@@ -247,25 +234,20 @@ pub fn contacts_until_due<S: Alter>(
     select(conn, alloc, UNTIL_DUE, params![due])
 }
 
-/// Those of this sponsor whose `due` is this moment or one before, in the order in which they are due.
-pub fn contacts_by_sponsor_until_due<S: Alter>(
-    conn: &mut Connection<S>,
-    alloc: Global,
-    sponsor: Number,
-    due: Number,
-) -> Result<Vec<ContactRow>, Error>
-    ensures does { conn.old.schema ≡ registry → Finds contacts (λ xs. contacts_by_due (filter (contact_of_sponsor_within_due sponsor due) xs)) (state S.Store conn.old) (state S.Store conn.new) result }
-    ensures steady { IsSteady (state S.Store conn.old) (state S.Store conn.new) }
-{
-    select(conn, alloc, BY_SPONSOR_UNTIL_DUE, params![sponsor, due])
-}
-
 /// Puts a row in the place of the one with its number, or beside all others.
 pub fn put_contact<S: Alter>(conn: &mut Connection<S>, contact: &ContactRow) -> Result<(), Error>
     ensures does { conn.old.schema ≡ registry → conn.old.in_transaction ≡ true → Changes contacts registry (λ xs. insert_by contacts.key xs contact.now) (state S.Store conn.old) (state S.Store conn.new) result }
     ensures steady { IsSteady (state S.Store conn.old) (state S.Store conn.new) }
 {
     write(conn, PUT, &contact.params())
+}
+
+/// Adds a row at the end, with the number after the last one. The given row's number isn't looked at.
+pub fn append_contact<S: Alter>(conn: &mut Connection<S>, contact: &ContactRow) -> Result<(), Error>
+    ensures does { conn.old.schema ≡ registry → conn.old.in_transaction ≡ true → Changes contacts registry (appended contacts (λ id. record contact.now { id = id })) (state S.Store conn.old) (state S.Store conn.new) result }
+    ensures steady { IsSteady (state S.Store conn.old) (state S.Store conn.new) }
+{
+    write(conn, APPEND, &contact.params()[1..])
 }
 
 /// Removes those whose `id` is this.

@@ -1,11 +1,12 @@
 //! Domains.
-ghost use Rattle.std.specs.Prelude.{◌≡◌, true, filter};
+ghost use Rattle.std.specs.Prelude.{◌≡◌, true, filter, take};
 ghost use Rattle.sqlite.specs.Held.{state};
 ghost use Rattle.sqlite_keyed.specs.Keyed.{insert_by};
 ghost use Rattle.sqlite_keyed.specs.Lists.{delete_where};
 ghost use Rattle.rows.specs.Calls.{Changes, Finds, IsSteady};
+ghost use Rattle.rows.specs.Layouts.{appended};
 ghost use Rattle.tables.specs.Tables.{registry};
-ghost use Rattle.tables.specs.Domain.{Domain, domains, domains_by_due, domain_of_sponsor_within_due, domain_with_id, domain_with_name, domain_with_registrant, domain_within_due};
+ghost use Rattle.tables.specs.Domain.{Domain, domains, domain_with_id, domain_with_name, domain_with_sponsor, domain_with_registrant, domain_within_due, domains_by_due};
 
 use rows::{Number, Record, maybe_number, select, write};
 use sqlite::types::{ToSql, ValueRef};
@@ -22,17 +23,20 @@ const BY_ID: &str =
 const BY_NAME: &str =
     "SELECT id, name, creator, serial, sponsor, created, years, transferred, updated, statuses, secret, registrant, deleted, restore_requested, due FROM domain WHERE name = ?1 ORDER BY id";
 
-const BY_REGISTRANT: &str =
-    "SELECT id, name, creator, serial, sponsor, created, years, transferred, updated, statuses, secret, registrant, deleted, restore_requested, due FROM domain WHERE registrant = ?1 ORDER BY id";
+const BY_SPONSOR: &str =
+    "SELECT id, name, creator, serial, sponsor, created, years, transferred, updated, statuses, secret, registrant, deleted, restore_requested, due FROM domain WHERE sponsor = ?1 ORDER BY id";
+
+const FIRST_BY_REGISTRANT: &str =
+    "SELECT id, name, creator, serial, sponsor, created, years, transferred, updated, statuses, secret, registrant, deleted, restore_requested, due FROM domain WHERE registrant = ?1 ORDER BY id LIMIT 1";
 
 const UNTIL_DUE: &str =
     "SELECT id, name, creator, serial, sponsor, created, years, transferred, updated, statuses, secret, registrant, deleted, restore_requested, due FROM domain WHERE due <= ?1 ORDER BY due, id";
 
-const BY_SPONSOR_UNTIL_DUE: &str =
-    "SELECT id, name, creator, serial, sponsor, created, years, transferred, updated, statuses, secret, registrant, deleted, restore_requested, due FROM domain WHERE sponsor = ?1 AND due <= ?2 ORDER BY due, id";
-
 const PUT: &str =
     "INSERT INTO domain (id, name, creator, serial, sponsor, created, years, transferred, updated, statuses, secret, registrant, deleted, restore_requested, due) VALUES (?1, ?2, ?3, ?4, ?5, ?6, ?7, ?8, ?9, ?10, ?11, ?12, ?13, ?14, ?15) ON CONFLICT (id) DO UPDATE SET name = excluded.name, creator = excluded.creator, serial = excluded.serial, sponsor = excluded.sponsor, created = excluded.created, years = excluded.years, transferred = excluded.transferred, updated = excluded.updated, statuses = excluded.statuses, secret = excluded.secret, registrant = excluded.registrant, deleted = excluded.deleted, restore_requested = excluded.restore_requested, due = excluded.due";
+
+const APPEND: &str =
+    "INSERT INTO domain (name, creator, serial, sponsor, created, years, transferred, updated, statuses, secret, registrant, deleted, restore_requested, due) VALUES (?1, ?2, ?3, ?4, ?5, ?6, ?7, ?8, ?9, ?10, ?11, ?12, ?13, ?14)";
 
 const REMOVE_ID: &str = "DELETE FROM domain WHERE id = ?1";
 
@@ -85,7 +89,7 @@ impl DomainRow {
     ghost use Rattle.sqlite.specs.Values.{bound};
     ghost use Rattle.tables.specs.Domain.{domain_shown};
 
-    /// The parameters of the statement that puts it.
+    /// Its columns as parameters, its number first.
     fn params(&self) -> [ValueRef<'_>; 15]
         ensures { bound result ≡ domain_shown self.now }
     {
@@ -170,16 +174,28 @@ pub fn domains_by_name<S: Alter>(
     select(conn, alloc, BY_NAME, params![name])
 }
 
-/// Those whose `registrant` is this.
-pub fn domains_by_registrant<S: Alter>(
+/// Those whose `sponsor` is this.
+pub fn domains_by_sponsor<S: Alter>(
+    conn: &mut Connection<S>,
+    alloc: Global,
+    sponsor: Number,
+) -> Result<Vec<DomainRow>, Error>
+    ensures does { conn.old.schema ≡ registry → Finds domains (filter (domain_with_sponsor sponsor)) (state S.Store conn.old) (state S.Store conn.new) result }
+    ensures steady { IsSteady (state S.Store conn.old) (state S.Store conn.new) }
+{
+    select(conn, alloc, BY_SPONSOR, params![sponsor])
+}
+
+/// The first of those whose `registrant` is this, by number, if there is any.
+pub fn first_domains_by_registrant<S: Alter>(
     conn: &mut Connection<S>,
     alloc: Global,
     registrant: Number,
 ) -> Result<Vec<DomainRow>, Error>
-    ensures does { conn.old.schema ≡ registry → Finds domains (filter (domain_with_registrant registrant)) (state S.Store conn.old) (state S.Store conn.new) result }
+    ensures does { conn.old.schema ≡ registry → Finds domains (λ xs. take 1 (filter (domain_with_registrant registrant) xs)) (state S.Store conn.old) (state S.Store conn.new) result }
     ensures steady { IsSteady (state S.Store conn.old) (state S.Store conn.new) }
 {
-    select(conn, alloc, BY_REGISTRANT, params![registrant])
+    select(conn, alloc, FIRST_BY_REGISTRANT, params![registrant])
 }
 
 /// Those whose `due` is this moment or one before, in the order in which they are due.
@@ -194,25 +210,20 @@ pub fn domains_until_due<S: Alter>(
     select(conn, alloc, UNTIL_DUE, params![due])
 }
 
-/// Those of this sponsor whose `due` is this moment or one before, in the order in which they are due.
-pub fn domains_by_sponsor_until_due<S: Alter>(
-    conn: &mut Connection<S>,
-    alloc: Global,
-    sponsor: Number,
-    due: Number,
-) -> Result<Vec<DomainRow>, Error>
-    ensures does { conn.old.schema ≡ registry → Finds domains (λ xs. domains_by_due (filter (domain_of_sponsor_within_due sponsor due) xs)) (state S.Store conn.old) (state S.Store conn.new) result }
-    ensures steady { IsSteady (state S.Store conn.old) (state S.Store conn.new) }
-{
-    select(conn, alloc, BY_SPONSOR_UNTIL_DUE, params![sponsor, due])
-}
-
 /// Puts a row in the place of the one with its number, or beside all others.
 pub fn put_domain<S: Alter>(conn: &mut Connection<S>, domain: &DomainRow) -> Result<(), Error>
     ensures does { conn.old.schema ≡ registry → conn.old.in_transaction ≡ true → Changes domains registry (λ xs. insert_by domains.key xs domain.now) (state S.Store conn.old) (state S.Store conn.new) result }
     ensures steady { IsSteady (state S.Store conn.old) (state S.Store conn.new) }
 {
     write(conn, PUT, &domain.params())
+}
+
+/// Adds a row at the end, with the number after the last one. The given row's number isn't looked at.
+pub fn append_domain<S: Alter>(conn: &mut Connection<S>, domain: &DomainRow) -> Result<(), Error>
+    ensures does { conn.old.schema ≡ registry → conn.old.in_transaction ≡ true → Changes domains registry (appended domains (λ id. record domain.now { id = id })) (state S.Store conn.old) (state S.Store conn.new) result }
+    ensures steady { IsSteady (state S.Store conn.old) (state S.Store conn.new) }
+{
+    write(conn, APPEND, &domain.params()[1..])
 }
 
 /// Removes those whose `id` is this.

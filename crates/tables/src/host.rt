@@ -4,8 +4,9 @@ ghost use Rattle.sqlite.specs.Held.{state};
 ghost use Rattle.sqlite_keyed.specs.Keyed.{insert_by};
 ghost use Rattle.sqlite_keyed.specs.Lists.{delete_where};
 ghost use Rattle.rows.specs.Calls.{Changes, Finds, IsSteady};
+ghost use Rattle.rows.specs.Layouts.{appended};
 ghost use Rattle.tables.specs.Tables.{registry};
-ghost use Rattle.tables.specs.Host.{Host, hosts, host_with_id, host_with_name, host_with_superordinate};
+ghost use Rattle.tables.specs.Host.{Host, hosts, host_with_id, host_with_name, host_with_above};
 
 use rows::{Number, Record, maybe_number, select, write};
 use sqlite::types::{ToSql, ValueRef};
@@ -13,20 +14,20 @@ use sqlite::{Alter, Connection, Error, Row, params};
 use std::alloc::Global;
 use std::marker::Model;
 
-const ALL: &str =
-    "SELECT id, name, creator, serial, superordinate, external_sponsor, sponsor, created, updated, statuses FROM host ORDER BY id";
-
 const BY_ID: &str =
-    "SELECT id, name, creator, serial, superordinate, external_sponsor, sponsor, created, updated, statuses FROM host WHERE id = ?1 ORDER BY id";
+    "SELECT id, name, creator, serial, above, external_sponsor, sponsor, created, updated, statuses FROM host WHERE id = ?1 ORDER BY id";
 
 const BY_NAME: &str =
-    "SELECT id, name, creator, serial, superordinate, external_sponsor, sponsor, created, updated, statuses FROM host WHERE name = ?1 ORDER BY id";
+    "SELECT id, name, creator, serial, above, external_sponsor, sponsor, created, updated, statuses FROM host WHERE name = ?1 ORDER BY id";
 
-const BY_SUPERORDINATE: &str =
-    "SELECT id, name, creator, serial, superordinate, external_sponsor, sponsor, created, updated, statuses FROM host WHERE superordinate = ?1 ORDER BY id";
+const BY_ABOVE: &str =
+    "SELECT id, name, creator, serial, above, external_sponsor, sponsor, created, updated, statuses FROM host WHERE above = ?1 ORDER BY id";
 
 const PUT: &str =
-    "INSERT INTO host (id, name, creator, serial, superordinate, external_sponsor, sponsor, created, updated, statuses) VALUES (?1, ?2, ?3, ?4, ?5, ?6, ?7, ?8, ?9, ?10) ON CONFLICT (id) DO UPDATE SET name = excluded.name, creator = excluded.creator, serial = excluded.serial, superordinate = excluded.superordinate, external_sponsor = excluded.external_sponsor, sponsor = excluded.sponsor, created = excluded.created, updated = excluded.updated, statuses = excluded.statuses";
+    "INSERT INTO host (id, name, creator, serial, above, external_sponsor, sponsor, created, updated, statuses) VALUES (?1, ?2, ?3, ?4, ?5, ?6, ?7, ?8, ?9, ?10) ON CONFLICT (id) DO UPDATE SET name = excluded.name, creator = excluded.creator, serial = excluded.serial, above = excluded.above, external_sponsor = excluded.external_sponsor, sponsor = excluded.sponsor, created = excluded.created, updated = excluded.updated, statuses = excluded.statuses";
+
+const APPEND: &str =
+    "INSERT INTO host (name, creator, serial, above, external_sponsor, sponsor, created, updated, statuses) VALUES (?1, ?2, ?3, ?4, ?5, ?6, ?7, ?8, ?9)";
 
 const REMOVE_ID: &str = "DELETE FROM host WHERE id = ?1";
 
@@ -37,9 +38,10 @@ pub struct HostRow {
     pub name: String,
     pub creator: i64,
     pub serial: i64,
-    pub superordinate: Option<i64>,
+    /// The last two labels of its name.
+    pub above: String,
     pub external_sponsor: Option<i64>,
-    pub sponsor: i64,
+    pub sponsor: Option<i64>,
     pub created: i64,
     pub updated: Option<i64>,
     pub statuses: String,
@@ -56,7 +58,7 @@ impl Model for HostRow {
       name = string_bytes x.name;
       creator = x.creator;
       serial = x.serial;
-      superordinate = x.superordinate;
+      above = string_bytes x.above;
       external_sponsor = x.external_sponsor;
       sponsor = x.sponsor;
       created = x.created;
@@ -69,7 +71,7 @@ impl HostRow {
     ghost use Rattle.sqlite.specs.Values.{bound};
     ghost use Rattle.tables.specs.Host.{host_shown};
 
-    /// The parameters of the statement that puts it.
+    /// Its columns as parameters, its number first.
     fn params(&self) -> [ValueRef<'_>; 10]
         ensures { bound result ≡ host_shown self.now }
     {
@@ -78,9 +80,9 @@ impl HostRow {
             (&self.name).to_sql(),
             self.creator.to_sql(),
             self.serial.to_sql(),
-            maybe_number(self.superordinate),
+            (&self.above).to_sql(),
             maybe_number(self.external_sponsor),
-            self.sponsor.to_sql(),
+            maybe_number(self.sponsor),
             self.created.to_sql(),
             maybe_number(self.updated),
             (&self.statuses).to_sql(),
@@ -99,7 +101,7 @@ impl Record for HostRow {
             name: row.get(1)?,
             creator: row.get(2)?,
             serial: row.get(3)?,
-            superordinate: row.get(4)?,
+            above: row.get(4)?,
             external_sponsor: row.get(5)?,
             sponsor: row.get(6)?,
             created: row.get(7)?,
@@ -107,14 +109,6 @@ impl Record for HostRow {
             statuses: row.get(9)?,
         })
     }
-}
-
-/// All of them, by their numbers.
-pub fn all_hosts<S: Alter>(conn: &mut Connection<S>, alloc: Global) -> Result<Vec<HostRow>, Error>
-    ensures does { conn.old.schema ≡ registry → Finds hosts (λ xs. xs) (state S.Store conn.old) (state S.Store conn.new) result }
-    ensures steady { IsSteady (state S.Store conn.old) (state S.Store conn.new) }
-{
-    select(conn, alloc, ALL, &[])
 }
 
 /// Those with this number.
@@ -141,16 +135,16 @@ pub fn hosts_by_name<S: Alter>(
     select(conn, alloc, BY_NAME, params![name])
 }
 
-/// Those whose `superordinate` is this.
-pub fn hosts_by_superordinate<S: Alter>(
+/// Those whose `above` is this.
+pub fn hosts_by_above<S: Alter>(
     conn: &mut Connection<S>,
     alloc: Global,
-    superordinate: Number,
+    above: &str,
 ) -> Result<Vec<HostRow>, Error>
-    ensures does { conn.old.schema ≡ registry → Finds hosts (filter (host_with_superordinate superordinate)) (state S.Store conn.old) (state S.Store conn.new) result }
+    ensures does { conn.old.schema ≡ registry → Finds hosts (filter (host_with_above above.now)) (state S.Store conn.old) (state S.Store conn.new) result }
     ensures steady { IsSteady (state S.Store conn.old) (state S.Store conn.new) }
 {
-    select(conn, alloc, BY_SUPERORDINATE, params![superordinate])
+    select(conn, alloc, BY_ABOVE, params![above])
 }
 
 /// Puts a row in the place of the one with its number, or beside all others.
@@ -159,6 +153,14 @@ pub fn put_host<S: Alter>(conn: &mut Connection<S>, host: &HostRow) -> Result<()
     ensures steady { IsSteady (state S.Store conn.old) (state S.Store conn.new) }
 {
     write(conn, PUT, &host.params())
+}
+
+/// Adds a row at the end, with the number after the last one. The given row's number isn't looked at.
+pub fn append_host<S: Alter>(conn: &mut Connection<S>, host: &HostRow) -> Result<(), Error>
+    ensures does { conn.old.schema ≡ registry → conn.old.in_transaction ≡ true → Changes hosts registry (appended hosts (λ id. record host.now { id = id })) (state S.Store conn.old) (state S.Store conn.new) result }
+    ensures steady { IsSteady (state S.Store conn.old) (state S.Store conn.new) }
+{
+    write(conn, APPEND, &host.params()[1..])
 }
 
 /// Removes those whose `id` is this.

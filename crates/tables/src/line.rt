@@ -1,10 +1,11 @@
 //! Lines of accounts.
 ghost use Rattle.std.specs.Prelude.{◌≡◌, true, filter};
 ghost use Rattle.sqlite.specs.Held.{state};
-ghost use Rattle.sqlite_keyed.specs.Keyed.{insert_by};
+ghost use Rattle.sqlite_keyed.specs.Lists.{delete_where};
 ghost use Rattle.rows.specs.Calls.{Changes, Finds, IsSteady};
+ghost use Rattle.rows.specs.Layouts.{appended};
 ghost use Rattle.tables.specs.Tables.{registry};
-ghost use Rattle.tables.specs.Line.{Line, lines, line_of_object, line_with_account};
+ghost use Rattle.tables.specs.Line.{Line, lines, line_with_account, line_with_id, line_of_object};
 
 use rows::{Number, Record, maybe_number, select, write};
 use sqlite::types::{ToSql, ValueRef};
@@ -13,13 +14,15 @@ use std::alloc::Global;
 use std::marker::Model;
 
 const BY_ACCOUNT: &str =
-    "SELECT id, account, kind, creator, serial, recorded, years, cents, started, refunded FROM line WHERE account = ?1 ORDER BY id";
+    "SELECT id, account, kind, creator, serial, years, cents, started, refunded, recorded FROM line WHERE account = ?1 ORDER BY id";
 
 const BY_OBJECT: &str =
-    "SELECT id, account, kind, creator, serial, recorded, years, cents, started, refunded FROM line WHERE account = ?1 AND creator = ?2 AND serial = ?3 ORDER BY id";
+    "SELECT id, account, kind, creator, serial, years, cents, started, refunded, recorded FROM line WHERE account = ?1 AND creator = ?2 AND serial = ?3 ORDER BY id";
 
-const PUT: &str =
-    "INSERT INTO line (id, account, kind, creator, serial, recorded, years, cents, started, refunded) VALUES (?1, ?2, ?3, ?4, ?5, ?6, ?7, ?8, ?9, ?10) ON CONFLICT (id) DO UPDATE SET account = excluded.account, kind = excluded.kind, creator = excluded.creator, serial = excluded.serial, recorded = excluded.recorded, years = excluded.years, cents = excluded.cents, started = excluded.started, refunded = excluded.refunded";
+const APPEND: &str =
+    "INSERT INTO line (account, kind, creator, serial, years, cents, started, refunded, recorded) VALUES (?1, ?2, ?3, ?4, ?5, ?6, ?7, ?8, ?9)";
+
+const REMOVE_ID: &str = "DELETE FROM line WHERE id = ?1";
 
 /// A row of the table `line`.
 #[derive(Drop)]
@@ -29,11 +32,11 @@ pub struct LineRow {
     pub kind: i64,
     pub creator: Option<i64>,
     pub serial: Option<i64>,
-    pub recorded: i64,
     pub years: i64,
     pub cents: i64,
     pub started: Option<i64>,
     pub refunded: Option<i64>,
+    pub recorded: i64,
 }
 
 impl Model for LineRow {
@@ -47,11 +50,11 @@ impl Model for LineRow {
       kind = x.kind;
       creator = x.creator;
       serial = x.serial;
-      recorded = x.recorded;
       years = x.years;
       cents = x.cents;
       started = x.started;
       refunded = x.refunded;
+      recorded = x.recorded;
     } };
 }
 
@@ -59,7 +62,7 @@ impl LineRow {
     ghost use Rattle.sqlite.specs.Values.{bound};
     ghost use Rattle.tables.specs.Line.{line_shown};
 
-    /// The parameters of the statement that puts it.
+    /// Its columns as parameters, its number first.
     fn params(&self) -> [ValueRef<'_>; 10]
         ensures { bound result ≡ line_shown self.now }
     {
@@ -69,11 +72,11 @@ impl LineRow {
             self.kind.to_sql(),
             maybe_number(self.creator),
             maybe_number(self.serial),
-            self.recorded.to_sql(),
             self.years.to_sql(),
             self.cents.to_sql(),
             maybe_number(self.started),
             maybe_number(self.refunded),
+            self.recorded.to_sql(),
         ]
     }
 }
@@ -90,11 +93,11 @@ impl Record for LineRow {
             kind: row.get(2)?,
             creator: row.get(3)?,
             serial: row.get(4)?,
-            recorded: row.get(5)?,
-            years: row.get(6)?,
-            cents: row.get(7)?,
-            started: row.get(8)?,
-            refunded: row.get(9)?,
+            years: row.get(5)?,
+            cents: row.get(6)?,
+            started: row.get(7)?,
+            refunded: row.get(8)?,
+            recorded: row.get(9)?,
         })
     }
 }
@@ -125,10 +128,18 @@ pub fn lines_by_object<S: Alter>(
     select(conn, alloc, BY_OBJECT, params![account, creator, serial])
 }
 
-/// Puts a row in the place of the one with its number, or beside all others.
-pub fn put_line<S: Alter>(conn: &mut Connection<S>, line: &LineRow) -> Result<(), Error>
-    ensures does { conn.old.schema ≡ registry → conn.old.in_transaction ≡ true → Changes lines registry (λ xs. insert_by lines.key xs line.now) (state S.Store conn.old) (state S.Store conn.new) result }
+/// Adds a row at the end, with the number after the last one. The given row's number isn't looked at.
+pub fn append_line<S: Alter>(conn: &mut Connection<S>, line: &LineRow) -> Result<(), Error>
+    ensures does { conn.old.schema ≡ registry → conn.old.in_transaction ≡ true → Changes lines registry (appended lines (λ id. record line.now { id = id })) (state S.Store conn.old) (state S.Store conn.new) result }
     ensures steady { IsSteady (state S.Store conn.old) (state S.Store conn.new) }
 {
-    write(conn, PUT, &line.params())
+    write(conn, APPEND, &line.params()[1..])
+}
+
+/// Removes those whose `id` is this.
+pub fn remove_lines_by_id<S: Alter>(conn: &mut Connection<S>, id: Number) -> Result<(), Error>
+    ensures does { conn.old.schema ≡ registry → conn.old.in_transaction ≡ true → Changes lines registry (delete_where (line_with_id id)) (state S.Store conn.old) (state S.Store conn.new) result }
+    ensures steady { IsSteady (state S.Store conn.old) (state S.Store conn.new) }
+{
+    write(conn, REMOVE_ID, params![id])
 }

@@ -1,11 +1,11 @@
 //! What domains name: contacts in a role, and hosts.
-ghost use Rattle.std.specs.Prelude.{◌≡◌, true, filter};
+ghost use Rattle.std.specs.Prelude.{◌≡◌, true, filter, take};
 ghost use Rattle.sqlite.specs.Held.{state};
-ghost use Rattle.sqlite_keyed.specs.Keyed.{insert_by};
 ghost use Rattle.sqlite_keyed.specs.Lists.{delete_where};
 ghost use Rattle.rows.specs.Calls.{Changes, Finds, IsSteady};
+ghost use Rattle.rows.specs.Layouts.{appended};
 ghost use Rattle.tables.specs.Tables.{registry};
-ghost use Rattle.tables.specs.Link.{Link, links, link_with_contact, link_with_domain, link_with_host};
+ghost use Rattle.tables.specs.Link.{Link, links, link_with_domain, link_with_contact, link_with_host};
 
 use rows::{Number, Record, maybe_number, select, write};
 use sqlite::types::{ToSql, ValueRef};
@@ -14,16 +14,18 @@ use std::alloc::Global;
 use std::marker::Model;
 
 const BY_DOMAIN: &str =
-    "SELECT id, domain, role, contact, host FROM link WHERE domain = ?1 ORDER BY id";
-
-const BY_CONTACT: &str =
-    "SELECT id, domain, role, contact, host FROM link WHERE contact = ?1 ORDER BY id";
+    "SELECT id, domain, contact, host, role FROM link WHERE domain = ?1 ORDER BY id";
 
 const BY_HOST: &str =
-    "SELECT id, domain, role, contact, host FROM link WHERE host = ?1 ORDER BY id";
+    "SELECT id, domain, contact, host, role FROM link WHERE host = ?1 ORDER BY id";
 
-const PUT: &str =
-    "INSERT INTO link (id, domain, role, contact, host) VALUES (?1, ?2, ?3, ?4, ?5) ON CONFLICT (id) DO UPDATE SET domain = excluded.domain, role = excluded.role, contact = excluded.contact, host = excluded.host";
+const FIRST_BY_CONTACT: &str =
+    "SELECT id, domain, contact, host, role FROM link WHERE contact = ?1 ORDER BY id LIMIT 1";
+
+const FIRST_BY_HOST: &str =
+    "SELECT id, domain, contact, host, role FROM link WHERE host = ?1 ORDER BY id LIMIT 1";
+
+const APPEND: &str = "INSERT INTO link (domain, contact, host, role) VALUES (?1, ?2, ?3, ?4)";
 
 const REMOVE_DOMAIN: &str = "DELETE FROM link WHERE domain = ?1";
 
@@ -32,9 +34,9 @@ const REMOVE_DOMAIN: &str = "DELETE FROM link WHERE domain = ?1";
 pub struct LinkRow {
     pub id: i64,
     pub domain: i64,
-    pub role: i64,
     pub contact: Option<i64>,
     pub host: Option<i64>,
+    pub role: i64,
 }
 
 impl Model for LinkRow {
@@ -45,9 +47,9 @@ impl Model for LinkRow {
     ghost view = { λ x. record {
       id = x.id;
       domain = x.domain;
-      role = x.role;
       contact = x.contact;
       host = x.host;
+      role = x.role;
     } };
 }
 
@@ -55,16 +57,16 @@ impl LinkRow {
     ghost use Rattle.sqlite.specs.Values.{bound};
     ghost use Rattle.tables.specs.Link.{link_shown};
 
-    /// The parameters of the statement that puts it.
+    /// Its columns as parameters, its number first.
     fn params(&self) -> [ValueRef<'_>; 5]
         ensures { bound result ≡ link_shown self.now }
     {
         [
             self.id.to_sql(),
             self.domain.to_sql(),
-            self.role.to_sql(),
             maybe_number(self.contact),
             maybe_number(self.host),
+            self.role.to_sql(),
         ]
     }
 }
@@ -78,9 +80,9 @@ impl Record for LinkRow {
         Ok(LinkRow {
             id: row.get(0)?,
             domain: row.get(1)?,
-            role: row.get(2)?,
-            contact: row.get(3)?,
-            host: row.get(4)?,
+            contact: row.get(2)?,
+            host: row.get(3)?,
+            role: row.get(4)?,
         })
     }
 }
@@ -97,18 +99,6 @@ pub fn links_by_domain<S: Alter>(
     select(conn, alloc, BY_DOMAIN, params![domain])
 }
 
-/// Those whose `contact` is this.
-pub fn links_by_contact<S: Alter>(
-    conn: &mut Connection<S>,
-    alloc: Global,
-    contact: Number,
-) -> Result<Vec<LinkRow>, Error>
-    ensures does { conn.old.schema ≡ registry → Finds links (filter (link_with_contact contact)) (state S.Store conn.old) (state S.Store conn.new) result }
-    ensures steady { IsSteady (state S.Store conn.old) (state S.Store conn.new) }
-{
-    select(conn, alloc, BY_CONTACT, params![contact])
-}
-
 /// Those whose `host` is this.
 pub fn links_by_host<S: Alter>(
     conn: &mut Connection<S>,
@@ -121,12 +111,36 @@ pub fn links_by_host<S: Alter>(
     select(conn, alloc, BY_HOST, params![host])
 }
 
-/// Puts a row in the place of the one with its number, or beside all others.
-pub fn put_link<S: Alter>(conn: &mut Connection<S>, link: &LinkRow) -> Result<(), Error>
-    ensures does { conn.old.schema ≡ registry → conn.old.in_transaction ≡ true → Changes links registry (λ xs. insert_by links.key xs link.now) (state S.Store conn.old) (state S.Store conn.new) result }
+/// The first of those whose `contact` is this, by number, if there is any.
+pub fn first_links_by_contact<S: Alter>(
+    conn: &mut Connection<S>,
+    alloc: Global,
+    contact: Number,
+) -> Result<Vec<LinkRow>, Error>
+    ensures does { conn.old.schema ≡ registry → Finds links (λ xs. take 1 (filter (link_with_contact contact) xs)) (state S.Store conn.old) (state S.Store conn.new) result }
     ensures steady { IsSteady (state S.Store conn.old) (state S.Store conn.new) }
 {
-    write(conn, PUT, &link.params())
+    select(conn, alloc, FIRST_BY_CONTACT, params![contact])
+}
+
+/// The first of those whose `host` is this, by number, if there is any.
+pub fn first_links_by_host<S: Alter>(
+    conn: &mut Connection<S>,
+    alloc: Global,
+    host: Number,
+) -> Result<Vec<LinkRow>, Error>
+    ensures does { conn.old.schema ≡ registry → Finds links (λ xs. take 1 (filter (link_with_host host) xs)) (state S.Store conn.old) (state S.Store conn.new) result }
+    ensures steady { IsSteady (state S.Store conn.old) (state S.Store conn.new) }
+{
+    select(conn, alloc, FIRST_BY_HOST, params![host])
+}
+
+/// Adds a row at the end, with the number after the last one. The given row's number isn't looked at.
+pub fn append_link<S: Alter>(conn: &mut Connection<S>, link: &LinkRow) -> Result<(), Error>
+    ensures does { conn.old.schema ≡ registry → conn.old.in_transaction ≡ true → Changes links registry (appended links (λ id. record link.now { id = id })) (state S.Store conn.old) (state S.Store conn.new) result }
+    ensures steady { IsSteady (state S.Store conn.old) (state S.Store conn.new) }
+{
+    write(conn, APPEND, &link.params()[1..])
 }
 
 /// Removes those whose `domain` is this.

@@ -1,11 +1,11 @@
 //! Messages that wait.
-ghost use Rattle.std.specs.Prelude.{◌≡◌, true, take};
+ghost use Rattle.std.specs.Prelude.{◌≡◌, true, filter, take};
 ghost use Rattle.sqlite.specs.Held.{state};
-ghost use Rattle.sqlite_keyed.specs.Keyed.{insert_by};
 ghost use Rattle.sqlite_keyed.specs.Lists.{delete_where};
 ghost use Rattle.rows.specs.Calls.{Changes, Finds, IsSteady};
+ghost use Rattle.rows.specs.Layouts.{appended};
 ghost use Rattle.tables.specs.Tables.{registry};
-ghost use Rattle.tables.specs.Message.{Message, messages, message_with_id, queue_of};
+ghost use Rattle.tables.specs.Message.{Message, messages, message_with_id, is_same_message, queue_of};
 
 use rows::{Number, Record, select, write};
 use sqlite::types::{ToSql, ValueRef};
@@ -19,8 +19,11 @@ const BY_ACCOUNT: &str =
 const FIRST_BY_ACCOUNT: &str =
     "SELECT id, account, moment, class, number, name, subject, notice FROM message WHERE account = ?1 ORDER BY moment, class, number, name, subject, notice, id LIMIT 1";
 
-const PUT: &str =
-    "INSERT INTO message (id, account, moment, class, number, name, subject, notice) VALUES (?1, ?2, ?3, ?4, ?5, ?6, ?7, ?8) ON CONFLICT (id) DO UPDATE SET account = excluded.account, moment = excluded.moment, class = excluded.class, number = excluded.number, name = excluded.name, subject = excluded.subject, notice = excluded.notice";
+const SAME: &str =
+    "SELECT id, account, moment, class, number, name, subject, notice FROM message WHERE account = ?1 AND moment = ?2 AND class = ?3 AND number = ?4 AND name = ?5 AND subject = ?6 AND notice = ?7 ORDER BY id";
+
+const APPEND: &str =
+    "INSERT INTO message (account, moment, class, number, name, subject, notice) VALUES (?1, ?2, ?3, ?4, ?5, ?6, ?7)";
 
 const REMOVE_ID: &str = "DELETE FROM message WHERE id = ?1";
 
@@ -62,7 +65,7 @@ impl MessageRow {
     ghost use Rattle.sqlite.specs.Values.{bound};
     ghost use Rattle.tables.specs.Message.{message_shown};
 
-    /// The parameters of the statement that puts it.
+    /// Its columns as parameters, its number first.
     fn params(&self) -> [ValueRef<'_>; 8]
         ensures { bound result ≡ message_shown self.now }
     {
@@ -122,12 +125,24 @@ pub fn first_messages_by_account<S: Alter>(
     select(conn, alloc, FIRST_BY_ACCOUNT, params![account])
 }
 
-/// Puts a row in the place of the one with its number, or beside all others.
-pub fn put_message<S: Alter>(conn: &mut Connection<S>, message: &MessageRow) -> Result<(), Error>
-    ensures does { conn.old.schema ≡ registry → conn.old.in_transaction ≡ true → Changes messages registry (λ xs. insert_by messages.key xs message.now) (state S.Store conn.old) (state S.Store conn.new) result }
+/// Those that are equal to this one in all columns but the number.
+pub fn same_messages<S: Alter>(
+    conn: &mut Connection<S>,
+    alloc: Global,
+    message: &MessageRow,
+) -> Result<Vec<MessageRow>, Error>
+    ensures does { conn.old.schema ≡ registry → Finds messages (filter (is_same_message message.now)) (state S.Store conn.old) (state S.Store conn.new) result }
     ensures steady { IsSteady (state S.Store conn.old) (state S.Store conn.new) }
 {
-    write(conn, PUT, &message.params())
+    select(conn, alloc, SAME, &message.params()[1..])
+}
+
+/// Adds a row at the end, with the number after the last one. The given row's number isn't looked at.
+pub fn append_message<S: Alter>(conn: &mut Connection<S>, message: &MessageRow) -> Result<(), Error>
+    ensures does { conn.old.schema ≡ registry → conn.old.in_transaction ≡ true → Changes messages registry (appended messages (λ id. record message.now { id = id })) (state S.Store conn.old) (state S.Store conn.new) result }
+    ensures steady { IsSteady (state S.Store conn.old) (state S.Store conn.new) }
+{
+    write(conn, APPEND, &message.params()[1..])
 }
 
 /// Removes those whose `id` is this.

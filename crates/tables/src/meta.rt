@@ -13,10 +13,10 @@ use std::alloc::Global;
 use std::marker::Model;
 
 const ALL: &str =
-    "SELECT id, version, clock, next_row, zone, reserved, days_add, days_auto_renew, days_renew, days_transfer, days_redemption, days_restore, days_pending_delete, days_answer, days_lock, price_create, price_renew, price_transfer FROM meta ORDER BY id";
+    "SELECT id, version, clock, zone, reserved, days_add, days_auto_renew, days_renew, days_transfer, days_redemption, days_restore, days_pending_delete, days_answer, days_lock, price_create, price_renew, price_transfer FROM meta ORDER BY id";
 
 const PUT: &str =
-    "INSERT INTO meta (id, version, clock, next_row, zone, reserved, days_add, days_auto_renew, days_renew, days_transfer, days_redemption, days_restore, days_pending_delete, days_answer, days_lock, price_create, price_renew, price_transfer) VALUES (?1, ?2, ?3, ?4, ?5, ?6, ?7, ?8, ?9, ?10, ?11, ?12, ?13, ?14, ?15, ?16, ?17, ?18) ON CONFLICT (id) DO UPDATE SET version = excluded.version, clock = excluded.clock, next_row = excluded.next_row, zone = excluded.zone, reserved = excluded.reserved, days_add = excluded.days_add, days_auto_renew = excluded.days_auto_renew, days_renew = excluded.days_renew, days_transfer = excluded.days_transfer, days_redemption = excluded.days_redemption, days_restore = excluded.days_restore, days_pending_delete = excluded.days_pending_delete, days_answer = excluded.days_answer, days_lock = excluded.days_lock, price_create = excluded.price_create, price_renew = excluded.price_renew, price_transfer = excluded.price_transfer";
+    "INSERT INTO meta (id, version, clock, zone, reserved, days_add, days_auto_renew, days_renew, days_transfer, days_redemption, days_restore, days_pending_delete, days_answer, days_lock, price_create, price_renew, price_transfer) VALUES (?1, ?2, ?3, ?4, ?5, ?6, ?7, ?8, ?9, ?10, ?11, ?12, ?13, ?14, ?15, ?16, ?17) ON CONFLICT (id) DO UPDATE SET version = excluded.version, clock = excluded.clock, zone = excluded.zone, reserved = excluded.reserved, days_add = excluded.days_add, days_auto_renew = excluded.days_auto_renew, days_renew = excluded.days_renew, days_transfer = excluded.days_transfer, days_redemption = excluded.days_redemption, days_restore = excluded.days_restore, days_pending_delete = excluded.days_pending_delete, days_answer = excluded.days_answer, days_lock = excluded.days_lock, price_create = excluded.price_create, price_renew = excluded.price_renew, price_transfer = excluded.price_transfer";
 
 /// A row of the table `meta`.
 #[derive(Drop)]
@@ -24,7 +24,6 @@ pub struct MetaRow {
     pub id: i64,
     pub version: i64,
     pub clock: i64,
-    pub next_row: i64,
     pub zone: String,
     pub reserved: String,
     pub days_add: i64,
@@ -51,7 +50,6 @@ impl Model for MetaRow {
       id = x.id;
       version = x.version;
       clock = x.clock;
-      next_row = x.next_row;
       zone = string_bytes x.zone;
       reserved = string_bytes x.reserved;
       days_add = x.days_add;
@@ -74,14 +72,13 @@ impl MetaRow {
     ghost use Rattle.tables.specs.Meta.{meta_shown};
 
     /// The parameters of the statement that puts it.
-    fn params(&self) -> [ValueRef<'_>; 18]
+    fn params(&self) -> [ValueRef<'_>; 17]
         ensures { bound result ≡ meta_shown self.now }
     {
         [
             self.id.to_sql(),
             self.version.to_sql(),
             self.clock.to_sql(),
-            self.next_row.to_sql(),
             (&self.zone).to_sql(),
             (&self.reserved).to_sql(),
             self.days_add.to_sql(),
@@ -110,21 +107,20 @@ impl Record for MetaRow {
             id: row.get(0)?,
             version: row.get(1)?,
             clock: row.get(2)?,
-            next_row: row.get(3)?,
-            zone: row.get(4)?,
-            reserved: row.get(5)?,
-            days_add: row.get(6)?,
-            days_auto_renew: row.get(7)?,
-            days_renew: row.get(8)?,
-            days_transfer: row.get(9)?,
-            days_redemption: row.get(10)?,
-            days_restore: row.get(11)?,
-            days_pending_delete: row.get(12)?,
-            days_answer: row.get(13)?,
-            days_lock: row.get(14)?,
-            price_create: row.get(15)?,
-            price_renew: row.get(16)?,
-            price_transfer: row.get(17)?,
+            zone: row.get(3)?,
+            reserved: row.get(4)?,
+            days_add: row.get(5)?,
+            days_auto_renew: row.get(6)?,
+            days_renew: row.get(7)?,
+            days_transfer: row.get(8)?,
+            days_redemption: row.get(9)?,
+            days_restore: row.get(10)?,
+            days_pending_delete: row.get(11)?,
+            days_answer: row.get(12)?,
+            days_lock: row.get(13)?,
+            price_create: row.get(14)?,
+            price_renew: row.get(15)?,
+            price_transfer: row.get(16)?,
         })
     }
 }

@@ -12,46 +12,44 @@ use rows::define;
 use sqlite::{Alter, Connection, Error};
 
 const META: &str =
-    "CREATE TABLE meta (id INTEGER PRIMARY KEY, version INTEGER NOT NULL, clock INTEGER NOT NULL, next_row INTEGER NOT NULL, zone TEXT NOT NULL, reserved TEXT NOT NULL, days_add INTEGER NOT NULL, days_auto_renew INTEGER NOT NULL, days_renew INTEGER NOT NULL, days_transfer INTEGER NOT NULL, days_redemption INTEGER NOT NULL, days_restore INTEGER NOT NULL, days_pending_delete INTEGER NOT NULL, days_answer INTEGER NOT NULL, days_lock INTEGER NOT NULL, price_create INTEGER NOT NULL, price_renew INTEGER NOT NULL, price_transfer INTEGER NOT NULL) STRICT";
+    "CREATE TABLE meta (id INTEGER PRIMARY KEY, version INTEGER NOT NULL, clock INTEGER NOT NULL, zone TEXT NOT NULL, reserved TEXT NOT NULL, days_add INTEGER NOT NULL, days_auto_renew INTEGER NOT NULL, days_renew INTEGER NOT NULL, days_transfer INTEGER NOT NULL, days_redemption INTEGER NOT NULL, days_restore INTEGER NOT NULL, days_pending_delete INTEGER NOT NULL, days_answer INTEGER NOT NULL, days_lock INTEGER NOT NULL, price_create INTEGER NOT NULL, price_renew INTEGER NOT NULL, price_transfer INTEGER NOT NULL) STRICT";
 
 const ACCOUNT: &str =
-    "CREATE TABLE account (id INTEGER PRIMARY KEY, ident TEXT NOT NULL UNIQUE, commands INTEGER NOT NULL, messages INTEGER NOT NULL, serial INTEGER NOT NULL, balance BLOB NOT NULL, held INTEGER NOT NULL) STRICT";
+    "CREATE TABLE account (id INTEGER PRIMARY KEY, ident TEXT NOT NULL UNIQUE, commands INTEGER NOT NULL, messages INTEGER NOT NULL, serial INTEGER NOT NULL, waiting INTEGER NOT NULL, balance BLOB NOT NULL, held INTEGER NOT NULL) STRICT";
 
 const CONTACT: &str =
-    "CREATE TABLE contact (id INTEGER PRIMARY KEY, name TEXT NOT NULL UNIQUE, creator INTEGER NOT NULL, serial INTEGER NOT NULL, sponsor INTEGER NOT NULL REFERENCES account (id), created INTEGER NOT NULL, transferred INTEGER, updated INTEGER, statuses TEXT NOT NULL, secret TEXT NOT NULL, postal_name TEXT NOT NULL, org TEXT, street TEXT NOT NULL, city TEXT NOT NULL, state TEXT, postal_code TEXT, country TEXT NOT NULL, voice TEXT, mail TEXT NOT NULL, due INTEGER) STRICT";
+    "CREATE TABLE contact (id INTEGER PRIMARY KEY, name TEXT NOT NULL UNIQUE, creator INTEGER NOT NULL, serial INTEGER NOT NULL, sponsor INTEGER NOT NULL REFERENCES account (id), created INTEGER NOT NULL, transferred INTEGER, updated INTEGER, statuses TEXT NOT NULL, secret TEXT NOT NULL, postal_name TEXT NOT NULL, org TEXT, street TEXT NOT NULL, city TEXT NOT NULL, state TEXT, postal_code TEXT, country TEXT NOT NULL, voice TEXT, due INTEGER, mail TEXT NOT NULL) STRICT";
 
 const DOMAIN: &str =
     "CREATE TABLE domain (id INTEGER PRIMARY KEY, name TEXT NOT NULL UNIQUE, creator INTEGER NOT NULL, serial INTEGER NOT NULL, sponsor INTEGER NOT NULL REFERENCES account (id), created INTEGER NOT NULL, years INTEGER NOT NULL, transferred INTEGER, updated INTEGER, statuses TEXT NOT NULL, secret TEXT NOT NULL, registrant INTEGER NOT NULL REFERENCES contact (id), deleted INTEGER, restore_requested INTEGER, due INTEGER NOT NULL) STRICT";
 
 const HOST: &str =
-    "CREATE TABLE host (id INTEGER PRIMARY KEY, name TEXT NOT NULL UNIQUE, creator INTEGER NOT NULL, serial INTEGER NOT NULL, superordinate INTEGER REFERENCES domain (id), external_sponsor INTEGER REFERENCES account (id), sponsor INTEGER NOT NULL REFERENCES account (id), created INTEGER NOT NULL, updated INTEGER, statuses TEXT NOT NULL) STRICT";
+    "CREATE TABLE host (id INTEGER PRIMARY KEY, name TEXT NOT NULL UNIQUE, creator INTEGER NOT NULL, serial INTEGER NOT NULL, above TEXT NOT NULL, external_sponsor INTEGER REFERENCES account (id), sponsor INTEGER REFERENCES account (id), created INTEGER NOT NULL, updated INTEGER, statuses TEXT NOT NULL) STRICT";
 
 const ADDRESS: &str =
     "CREATE TABLE address (id INTEGER PRIMARY KEY, host INTEGER NOT NULL REFERENCES host (id), address TEXT NOT NULL) STRICT";
 
 const LINK: &str =
-    "CREATE TABLE link (id INTEGER PRIMARY KEY, domain INTEGER NOT NULL REFERENCES domain (id), role INTEGER NOT NULL, contact INTEGER REFERENCES contact (id), host INTEGER REFERENCES host (id)) STRICT";
+    "CREATE TABLE link (id INTEGER PRIMARY KEY, domain INTEGER NOT NULL REFERENCES domain (id), contact INTEGER REFERENCES contact (id), host INTEGER REFERENCES host (id), role INTEGER NOT NULL) STRICT";
 
 const LINE: &str =
-    "CREATE TABLE line (id INTEGER PRIMARY KEY, account INTEGER NOT NULL REFERENCES account (id), kind INTEGER NOT NULL, creator INTEGER, serial INTEGER, recorded INTEGER NOT NULL, years INTEGER NOT NULL, cents INTEGER NOT NULL, started INTEGER, refunded INTEGER) STRICT";
+    "CREATE TABLE line (id INTEGER PRIMARY KEY, account INTEGER NOT NULL REFERENCES account (id), kind INTEGER NOT NULL, creator INTEGER, serial INTEGER, years INTEGER NOT NULL, cents INTEGER NOT NULL, started INTEGER, refunded INTEGER, recorded INTEGER NOT NULL) STRICT";
 
 const MESSAGE: &str =
     "CREATE TABLE message (id INTEGER PRIMARY KEY, account INTEGER NOT NULL REFERENCES account (id), moment INTEGER NOT NULL, class INTEGER NOT NULL, number INTEGER NOT NULL, name TEXT NOT NULL, subject INTEGER NOT NULL, notice INTEGER NOT NULL) STRICT";
 
 const TRANSFER: &str =
-    "CREATE TABLE transfer (id INTEGER PRIMARY KEY, contact INTEGER REFERENCES contact (id), domain INTEGER REFERENCES domain (id), requester INTEGER NOT NULL REFERENCES account (id), losing INTEGER NOT NULL REFERENCES account (id), requested INTEGER NOT NULL, ac_date INTEGER NOT NULL, state INTEGER NOT NULL, due INTEGER) STRICT";
+    "CREATE TABLE transfer (id INTEGER PRIMARY KEY, contact INTEGER REFERENCES contact (id), domain INTEGER REFERENCES domain (id), requester INTEGER NOT NULL REFERENCES account (id), losing INTEGER NOT NULL REFERENCES account (id), requested INTEGER NOT NULL, ac_date INTEGER NOT NULL, due INTEGER, state INTEGER NOT NULL) STRICT";
 
 const CONTACT_DUE: &str = "CREATE INDEX contact_due ON contact (due)";
-
-const CONTACT_SPONSOR_DUE: &str = "CREATE INDEX contact_sponsor_due ON contact (sponsor, due)";
 
 const DOMAIN_REGISTRANT: &str = "CREATE INDEX domain_registrant ON domain (registrant)";
 
 const DOMAIN_DUE: &str = "CREATE INDEX domain_due ON domain (due)";
 
-const DOMAIN_SPONSOR_DUE: &str = "CREATE INDEX domain_sponsor_due ON domain (sponsor, due)";
+const DOMAIN_SPONSOR: &str = "CREATE INDEX domain_sponsor ON domain (sponsor)";
 
-const HOST_SUPERORDINATE: &str = "CREATE INDEX host_superordinate ON host (superordinate)";
+const HOST_ABOVE: &str = "CREATE INDEX host_above ON host (above)";
 
 const ADDRESS_HOST: &str = "CREATE INDEX address_host ON address (host)";
 
@@ -70,8 +68,7 @@ const TRANSFER_CONTACT: &str = "CREATE INDEX transfer_contact ON transfer (conta
 
 const TRANSFER_DOMAIN: &str = "CREATE INDEX transfer_domain ON transfer (domain)";
 
-const TRANSFER_REQUESTER_DUE: &str =
-    "CREATE INDEX transfer_requester_due ON transfer (requester, due)";
+const TRANSFER_REQUESTER: &str = "CREATE INDEX transfer_requester ON transfer (requester)";
 
 /// Makes the tables and their indexes, in a transaction on a database that was never used.
 pub fn create<S: Alter>(conn: &mut Connection<S>) -> Result<(), Error>
@@ -93,11 +90,10 @@ pub fn create<S: Alter>(conn: &mut Connection<S>) -> Result<(), Error>
             MESSAGE,
             TRANSFER,
             CONTACT_DUE,
-            CONTACT_SPONSOR_DUE,
             DOMAIN_REGISTRANT,
             DOMAIN_DUE,
-            DOMAIN_SPONSOR_DUE,
-            HOST_SUPERORDINATE,
+            DOMAIN_SPONSOR,
+            HOST_ABOVE,
             ADDRESS_HOST,
             LINK_DOMAIN,
             LINK_CONTACT,
@@ -106,7 +102,7 @@ pub fn create<S: Alter>(conn: &mut Connection<S>) -> Result<(), Error>
             MESSAGE_QUEUE,
             TRANSFER_CONTACT,
             TRANSFER_DOMAIN,
-            TRANSFER_REQUESTER_DUE,
+            TRANSFER_REQUESTER,
         ],
     )
 }

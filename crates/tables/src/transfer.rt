@@ -1,11 +1,11 @@
 //! The last transfer of each object that had one.
 ghost use Rattle.std.specs.Prelude.{◌≡◌, true, filter};
 ghost use Rattle.sqlite.specs.Held.{state};
-ghost use Rattle.sqlite_keyed.specs.Keyed.{insert_by};
 ghost use Rattle.sqlite_keyed.specs.Lists.{delete_where};
 ghost use Rattle.rows.specs.Calls.{Changes, Finds, IsSteady};
+ghost use Rattle.rows.specs.Layouts.{appended};
 ghost use Rattle.tables.specs.Tables.{registry};
-ghost use Rattle.tables.specs.Transfer.{Transfer, transfers, transfers_by_due, transfer_of_requester_within_due, transfer_with_contact, transfer_with_domain, transfer_with_id};
+ghost use Rattle.tables.specs.Transfer.{Transfer, transfers, transfer_with_contact, transfer_with_domain, transfer_with_requester};
 
 use rows::{Number, Record, maybe_number, select, write};
 use sqlite::types::{ToSql, ValueRef};
@@ -14,18 +14,20 @@ use std::alloc::Global;
 use std::marker::Model;
 
 const BY_CONTACT: &str =
-    "SELECT id, contact, domain, requester, losing, requested, ac_date, state, due FROM transfer WHERE contact = ?1 ORDER BY id";
+    "SELECT id, contact, domain, requester, losing, requested, ac_date, due, state FROM transfer WHERE contact = ?1 ORDER BY id";
 
 const BY_DOMAIN: &str =
-    "SELECT id, contact, domain, requester, losing, requested, ac_date, state, due FROM transfer WHERE domain = ?1 ORDER BY id";
+    "SELECT id, contact, domain, requester, losing, requested, ac_date, due, state FROM transfer WHERE domain = ?1 ORDER BY id";
 
-const BY_REQUESTER_UNTIL_DUE: &str =
-    "SELECT id, contact, domain, requester, losing, requested, ac_date, state, due FROM transfer WHERE requester = ?1 AND due >= 0 AND due <= ?2 ORDER BY due, id";
+const BY_REQUESTER: &str =
+    "SELECT id, contact, domain, requester, losing, requested, ac_date, due, state FROM transfer WHERE requester = ?1 ORDER BY id";
 
-const PUT: &str =
-    "INSERT INTO transfer (id, contact, domain, requester, losing, requested, ac_date, state, due) VALUES (?1, ?2, ?3, ?4, ?5, ?6, ?7, ?8, ?9) ON CONFLICT (id) DO UPDATE SET contact = excluded.contact, domain = excluded.domain, requester = excluded.requester, losing = excluded.losing, requested = excluded.requested, ac_date = excluded.ac_date, state = excluded.state, due = excluded.due";
+const APPEND: &str =
+    "INSERT INTO transfer (contact, domain, requester, losing, requested, ac_date, due, state) VALUES (?1, ?2, ?3, ?4, ?5, ?6, ?7, ?8)";
 
-const REMOVE_ID: &str = "DELETE FROM transfer WHERE id = ?1";
+const REMOVE_CONTACT: &str = "DELETE FROM transfer WHERE contact = ?1";
+
+const REMOVE_DOMAIN: &str = "DELETE FROM transfer WHERE domain = ?1";
 
 /// A row of the table `transfer`.
 #[derive(Drop)]
@@ -37,8 +39,8 @@ pub struct TransferRow {
     pub losing: i64,
     pub requested: i64,
     pub ac_date: i64,
-    pub state: i64,
     pub due: Option<i64>,
+    pub state: i64,
 }
 
 impl Model for TransferRow {
@@ -54,8 +56,8 @@ impl Model for TransferRow {
       losing = x.losing;
       requested = x.requested;
       ac_date = x.ac_date;
-      state = x.state;
       due = x.due;
+      state = x.state;
     } };
 }
 
@@ -63,7 +65,7 @@ impl TransferRow {
     ghost use Rattle.sqlite.specs.Values.{bound};
     ghost use Rattle.tables.specs.Transfer.{transfer_shown};
 
-    /// The parameters of the statement that puts it.
+    /// Its columns as parameters, its number first.
     fn params(&self) -> [ValueRef<'_>; 9]
         ensures { bound result ≡ transfer_shown self.now }
     {
@@ -75,8 +77,8 @@ impl TransferRow {
             self.losing.to_sql(),
             self.requested.to_sql(),
             self.ac_date.to_sql(),
-            self.state.to_sql(),
             maybe_number(self.due),
+            self.state.to_sql(),
         ]
     }
 }
@@ -95,8 +97,8 @@ impl Record for TransferRow {
             losing: row.get(4)?,
             requested: row.get(5)?,
             ac_date: row.get(6)?,
-            state: row.get(7)?,
-            due: row.get(8)?,
+            due: row.get(7)?,
+            state: row.get(8)?,
         })
     }
 }
@@ -125,32 +127,47 @@ pub fn transfers_by_domain<S: Alter>(
     select(conn, alloc, BY_DOMAIN, params![domain])
 }
 
-/// Those that this registrar asked for whose `due` is this moment or one before, in the order in
-/// which they are due.
-pub fn transfers_by_requester_until_due<S: Alter>(
+/// Those whose `requester` is this.
+pub fn transfers_by_requester<S: Alter>(
     conn: &mut Connection<S>,
     alloc: Global,
     requester: Number,
-    due: Number,
 ) -> Result<Vec<TransferRow>, Error>
-    ensures does { conn.old.schema ≡ registry → Finds transfers (λ xs. transfers_by_due (filter (transfer_of_requester_within_due requester due) xs)) (state S.Store conn.old) (state S.Store conn.new) result }
+    ensures does { conn.old.schema ≡ registry → Finds transfers (filter (transfer_with_requester requester)) (state S.Store conn.old) (state S.Store conn.new) result }
     ensures steady { IsSteady (state S.Store conn.old) (state S.Store conn.new) }
 {
-    select(conn, alloc, BY_REQUESTER_UNTIL_DUE, params![requester, due])
+    select(conn, alloc, BY_REQUESTER, params![requester])
 }
 
-/// Puts a row in the place of the one with its number, or beside all others.
-pub fn put_transfer<S: Alter>(conn: &mut Connection<S>, transfer: &TransferRow) -> Result<(), Error>
-    ensures does { conn.old.schema ≡ registry → conn.old.in_transaction ≡ true → Changes transfers registry (λ xs. insert_by transfers.key xs transfer.now) (state S.Store conn.old) (state S.Store conn.new) result }
+/// Adds a row at the end, with the number after the last one. The given row's number isn't looked at.
+pub fn append_transfer<S: Alter>(
+    conn: &mut Connection<S>,
+    transfer: &TransferRow,
+) -> Result<(), Error>
+    ensures does { conn.old.schema ≡ registry → conn.old.in_transaction ≡ true → Changes transfers registry (appended transfers (λ id. record transfer.now { id = id })) (state S.Store conn.old) (state S.Store conn.new) result }
     ensures steady { IsSteady (state S.Store conn.old) (state S.Store conn.new) }
 {
-    write(conn, PUT, &transfer.params())
+    write(conn, APPEND, &transfer.params()[1..])
 }
 
-/// Removes those whose `id` is this.
-pub fn remove_transfers_by_id<S: Alter>(conn: &mut Connection<S>, id: Number) -> Result<(), Error>
-    ensures does { conn.old.schema ≡ registry → conn.old.in_transaction ≡ true → Changes transfers registry (delete_where (transfer_with_id id)) (state S.Store conn.old) (state S.Store conn.new) result }
+/// Removes those whose `contact` is this.
+pub fn remove_transfers_by_contact<S: Alter>(
+    conn: &mut Connection<S>,
+    contact: Number,
+) -> Result<(), Error>
+    ensures does { conn.old.schema ≡ registry → conn.old.in_transaction ≡ true → Changes transfers registry (delete_where (transfer_with_contact contact)) (state S.Store conn.old) (state S.Store conn.new) result }
     ensures steady { IsSteady (state S.Store conn.old) (state S.Store conn.new) }
 {
-    write(conn, REMOVE_ID, params![id])
+    write(conn, REMOVE_CONTACT, params![contact])
+}
+
+/// Removes those whose `domain` is this.
+pub fn remove_transfers_by_domain<S: Alter>(
+    conn: &mut Connection<S>,
+    domain: Number,
+) -> Result<(), Error>
+    ensures does { conn.old.schema ≡ registry → conn.old.in_transaction ≡ true → Changes transfers registry (delete_where (transfer_with_domain domain)) (state S.Store conn.old) (state S.Store conn.new) result }
+    ensures steady { IsSteady (state S.Store conn.old) (state S.Store conn.new) }
+{
+    write(conn, REMOVE_DOMAIN, params![domain])
 }

@@ -1,18 +1,23 @@
-use Rattle.std.proofs.Common.{rules, ◌≡◌, Option, Some, IfSome, FitsSigned, w64, to_z, of_z, to_z-of_z, subst, sym}
-use Rattle.accounts.specs.declared.message.Origin.{Origin}
-use Rattle.columns.specs.Messages.{command_notice_column, lapse_notice_column, origin_columns}
-use Rattle.columns.specs.Numbers.{exact_column}
-use Rattle.columns.proofs.MessageLemmas.{origin_found}
-use Rattle.columns.proofs.ReadLemmas.{of_column, of_exact}
+use Rattle.std.proofs.Common.{rules, ◌≡◌, Some, FitsSigned, w64, to_z-of_z, sym, ap, ◌∙◌}
+use Rattle.columns.specs.Messages.{command_notice_in, lapse_notice_in, origin_columns, origin_made}
+use Rattle.columns.specs.Numbers.{exact_in}
+use Rattle.columns.proofs.MessageLemmas.{origin_back, origin_written}
+use Rattle.columns.proofs.ReadLemmas.{all_read}
 use Rattle.columns.proofs.origin.origin_of_columns.Goals as goal
 
-pub returns-clause-found : goal.returns-clause-found
-returns-clause-found c =
+pub returns-clause-value : goal.returns-clause-value
+returns-clause-value c =
     let x = c.args.columns in
     let number : FitsSigned w64 x.number = search rules in
     let notice : FitsSigned w64 x.notice = search rules in
-    let Found : Option Origin → Type 0 = λ read. IfSome read (λ o. origin_columns o ≡ Some x) in
-    subst Found (sym c.origin_made.ensures) (origin_found x
-    c.lapse_notice_of_column.result (of_column lapse_notice_column c.lapse_notice_of_column.result (to_z w64 (of_z w64 x.number)) x.number (to_z-of_z number) c.lapse_notice_of_column.ensures.found)
-    c.exact_of_column.result (of_exact exact_column c.exact_of_column.result (to_z w64 (of_z w64 x.number)) x.number (to_z-of_z number) c.exact_of_column.ensures.found)
-    c.command_notice_of_column.result (of_column command_notice_column c.command_notice_of_column.result (to_z w64 (of_z w64 x.notice)) x.notice (to_z-of_z notice) c.command_notice_of_column.ensures.found))
+    c.origin_made.ensures
+    ∙ (λ i. origin_made x
+    ((c.lapse_notice_of_column.ensures.value ∙ ap lapse_notice_in (to_z-of_z number)) i)
+    ((c.exact_of_column.ensures.value ∙ ap exact_in (to_z-of_z number)) i)
+    ((c.command_notice_of_column.ensures.value ∙ ap command_notice_in (to_z-of_z notice)) i))
+
+pub returns-clause-found : goal.returns-clause-found
+returns-clause-found c = all_read (λ o. origin_columns o ≡ Some c.args.columns) c.origin_made.result (λ o is. origin_written c.args.columns o (sym (returns-clause-value c) ∙ is))
+
+pub returns-clause-only : goal.returns-clause-only
+returns-clause-only c = λ o e. returns-clause-value c ∙ origin_back o c.args.columns e

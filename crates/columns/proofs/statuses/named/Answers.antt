@@ -3,27 +3,22 @@ use Rattle.std.proofs.lemmas.Iterator.Consumers.{YieldsList-end, YieldsList-turn
 use Rattle.std.proofs.lemmas.Iterator.Splits.{YieldsList-from_str_split}
 use Rattle.std.specs.List.{slice_split}
 use Rattle.objects.specs.StatusTexts.{status_named, status_text}
-use Rattle.columns.proofs.TextLemmas.{named_more, no_status, same_statuses}
+use Rattle.columns.proofs.TextLemmas.{all_named, named_more, none_named}
 use Rattle.columns.proofs.statuses.named.Goals as goal
 
-pub returns-in_default-clause-only : goal.returns-in_default-clause-only
-returns-in_default-clause-only c = λ xs e.
+pub returns-in_default : goal.returns-in_default
+returns-in_default c =
     let words : List (List ℕ) = slice_split (λ b. b == 32) c.args.text.now in
     let at : (length c.loop-word.yielded < length words) × (c.in-Some.word.now ≡ get_or words (length c.loop-word.yielded) c.in-Some.word.now) =
     YieldsList-turn (YieldsList-from_str_split 32 c.args.text.now (lit< tt) (cc) (cc) (cc)) c.loop-word.yielded _ c.loop-word.yielded_by _ _ c.in-Some.word c.in-Some.is c.next.ensures.steps in
-    absurd (no_status words xs e c.in-Some.word.now (length c.loop-word.yielded) at (sym c.in_default.is ∙ c.named.ensures))
+    none_named words c.in-Some.word.now (length c.loop-word.yielded) at (sym c.in_default.is ∙ c.named.ensures)
 
 pub loop-word-preserved : goal.loop-word-preserved
 loop-word-preserved c =
     let named : Some c.in-Some-named.status ≡ status_named c.in-Some.word.now = sym c.in-Some-named.is ∙ c.named.ensures in
     ap (map status_text) c.in_ok-push.ensures.items ∙ named_more c.loop-word.yielded c.in-Some.word c.loop-word.statuses.items c.in-Some-named.status c.loop-word.invariant named
 
-pub returns-clause-found : goal.returns-clause-found
-returns-clause-found c =
+pub returns : goal.returns
+returns c =
     let all = YieldsList-end (YieldsList-from_str_split 32 c.args.text.now (lit< tt) (cc) (cc) (cc)) c.loop-word.yielded _ c.loop-word.yielded_by _ _ c.in-None.is c.next.ensures.steps in
-    sym (ap (map status_text) c.from_vec.ensures ∙ c.loop-word.invariant ∙ all.0)
-
-pub returns-clause-only : goal.returns-clause-only
-returns-clause-only c = λ xs e.
-    let all = YieldsList-end (YieldsList-from_str_split 32 c.args.text.now (lit< tt) (cc) (cc) (cc)) c.loop-word.yielded _ c.loop-word.yielded_by _ _ c.in-None.is c.next.ensures.steps in
-    ap Some (same_statuses c.from_vec.result xs (ap (map status_text) c.from_vec.ensures ∙ c.loop-word.invariant ∙ all.0 ∙ e))
+    all_named (slice_split (λ b. b == 32) c.args.text.now) c.from_vec.result (ap (map status_text) c.from_vec.ensures ∙ c.loop-word.invariant ∙ all.0)
