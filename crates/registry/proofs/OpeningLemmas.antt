@@ -7,8 +7,8 @@ use Rattle.registry.specs.Opening.{IsOthers, IsOurs, Opens, Refuses, RefusesOurs
 use Rattle.policy.specs.Terms.{terms_of}
 use Rattle.registry.specs.Opening.{opened}
 use Rattle.store.specs.Book.{BookState, Follows, IsBack, IsSame, home}
-use Rattle.store.specs.declared.book.Ready.{Ready}
-use Rattle.store.specs.declared.book.Ready.TheVariants.{Other}
+use Rattle.transactions.specs.declared.readiness.Ready.{Ready}
+use Rattle.transactions.specs.declared.readiness.Ready.TheVariants.{Other}
 use Rattle.rules.specs.declared.change.Change.TheVariants.{OpenAccount}
 
 pub openings-zero : openings 0 ≡ []

@@ -9,7 +9,7 @@ use Rattle.rules.specs.declared.change.Change.{Change}
 use Rattle.rules.specs.declared.change.Change.TheVariants.{OpenAccount}
 use Rattle.rules.specs.Changes.{changed_all}
 use Rattle.store.specs.Book.{BookState, HasRefused, IsBack, NoRefusal, Stored}
-use Rattle.store.specs.declared.book.Ready.TheVariants.{Other}
+use Rattle.transactions.specs.declared.readiness.Ready.TheVariants.{Other}
 
 abbrev pub continues_earlier : Terms → Option Terms → Bool
 continues_earlier terms None = true

@@ -2,7 +2,8 @@
 use Rattle.std.proofs.Common.{◌≡◌, true, ap, ◌∙◌}
 use Rattle.model.specs.Registry.{Registry}
 use Rattle.store.specs.Book.{Stored}
-use Rattle.store.specs.Records.{Reads, RecordsState}
+use Rattle.store.specs.Records.{RecordsState}
+use Rattle.transactions.specs.States.{Reads}
 use Rattle.store.proofs.RecordsLemmas.{reads-on}
 
 -- what else is found

@@ -20,11 +20,12 @@ use Rattle.lifecycle.specs.Changes.{numbered, told_by_command, with_acked}
 use Rattle.lifecycle.specs.declared.change.Notification.{Notification}
 use Rattle.model.specs.Registry.{account_of}
 use Rattle.rules.specs.Changes.{itself}
-use Rattle.store.specs.declared.fault.BookFault.{BookFault}
+use Rattle.transactions.specs.declared.fault.BookFault.{BookFault}
 use Rattle.store.specs.declared.ledgers.Counters.{Counters}
 use Rattle.store.specs.Book.{Stored}
 use Rattle.store.specs.Ledgers.{counters_of, next_message, with_counted, with_counters}
-use Rattle.store.specs.Records.{Makes, Reads, RecordsState, Writes}
+use Rattle.store.specs.Records.{RecordsState}
+use Rattle.transactions.specs.States.{Makes, Reads, Writes}
 use Rattle.store.specs.Tables.{account_opened, counters_set, given_to, line_added, line_taken, lines_swapped, message_acked, message_put, with_accounts}
 use Rattle.store.proofs.PutLemmas.{changed-at, changed-if, changed-put, changed-twice, put-put, put-same, put-there}
 use Rattle.store.proofs.RecordsLemmas.{makes-on}

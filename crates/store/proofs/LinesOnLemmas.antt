@@ -19,7 +19,8 @@ use Rattle.objects.specs.declared.grace.Standing.{Standing}
 use Rattle.objects.specs.declared.roid.Roid.{Roid}
 use Rattle.policy.specs.Rules.{PolicyRules}
 use Rattle.store.specs.Book.{Stored}
-use Rattle.store.specs.Records.{Reads, RecordsState}
+use Rattle.store.specs.Records.{RecordsState}
+use Rattle.transactions.specs.States.{Reads}
 use Rattle.store.proofs.RecordsLemmas.{reads-on}
 
 -- ---- of a part

@@ -4,7 +4,8 @@ use Rattle.std.specs.Prelude.{is_some}
 use Rattle.std.specs.FinMap.{get}
 use Rattle.store.specs.Book.{Stored}
 use Rattle.store.specs.Plain.{readiness_of}
-use Rattle.store.specs.Records.{RecordsState, Writes}
+use Rattle.store.specs.Records.{RecordsState}
+use Rattle.transactions.specs.States.{Writes}
 use Rattle.store.specs.Tables.{account_opened}
 use Rattle.store.proofs.GivingLemmas.{opened-same}
 

@@ -1,7 +1,7 @@
 -- One call on records after another.
 use Rattle.std.proofs.Common.{◌≡◌, true, Result, Ok, Err, ◌∙◌}
-use Rattle.store.specs.declared.fault.BookFault.{BookFault}
-use Rattle.store.specs.Records.{Makes, Reads, StateOf}
+use Rattle.transactions.specs.declared.fault.BookFault.{BookFault}
+use Rattle.transactions.specs.States.{Makes, Reads, StateOf}
 
 pub reads-on : {X : Type 0} (s m t : StateOf X) → Reads s m → Reads m t → Reads s t
 reads-on s m t a b = record {

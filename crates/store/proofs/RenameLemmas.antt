@@ -18,9 +18,10 @@ use Rattle.objects.specs.Links.{names_host}
 use Rattle.policy.specs.Rules.{PolicyRules}
 use Rattle.rules.specs.Changes.{with_host_renamed}
 use Rattle.rules.specs.declared.change.Change.TheVariants.{RenameHost}
-use Rattle.store.specs.declared.fault.BookFault.{BookFault}
+use Rattle.transactions.specs.declared.fault.BookFault.{BookFault}
 use Rattle.store.specs.Book.{Stored, with_changes}
-use Rattle.store.specs.Records.{Makes, Reads, RecordsState}
+use Rattle.store.specs.Records.{RecordsState}
+use Rattle.transactions.specs.States.{Makes, Reads}
 use Rattle.store.specs.Tables.{amended, domains_naming, host_renamed, host_renamed_in, with_domains}
 use Rattle.store.proofs.RecordsLemmas.{makes-on}
 

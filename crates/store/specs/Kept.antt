@@ -1,7 +1,7 @@
 -- How a book stands that is made of records.
 use Rattle.std.specs.Prelude.{◌≡◌, ℕ, ◌≤◌, true, false}
-use Rattle.store.specs.declared.fault.BookFault.{BookFault}
-use Rattle.store.specs.declared.fault.BookFault.TheVariants.{Memory, Store}
+use Rattle.transactions.specs.declared.fault.BookFault.{BookFault}
+use Rattle.transactions.specs.declared.fault.BookFault.TheVariants.{Memory, Store}
 use Rattle.store.specs.Book.{BookState, HasRefused, NoRefusal}
 use Rattle.store.specs.Records.{RecordsState}
 

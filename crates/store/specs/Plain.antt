@@ -1,8 +1,8 @@
 -- What records in memory hold, and a book that is made of them.
 use Rattle.std.specs.Prelude.{◌≡◌, ◌-◌, length, take, List, true, if◌then◌else◌, [], Option, Some, None}
 use Rattle.policy.specs.declared.terms.Terms.{Terms}
-use Rattle.store.specs.declared.book.Ready.{Ready}
-use Rattle.store.specs.declared.book.Ready.TheVariants.{Empty, Used}
+use Rattle.transactions.specs.declared.readiness.Ready.{Ready}
+use Rattle.transactions.specs.declared.readiness.Ready.TheVariants.{Empty, Used}
 use Rattle.store.specs.declared.edit.Edit.{Edit}
 use Rattle.store.specs.declared.kept.Kept.{Kept}
 use Rattle.store.specs.declared.plain.Plain.{Plain}

@@ -2,10 +2,9 @@
 ghost use Rattle.std.specs.Prelude.{◌≡◌, ◌∷◌, [], true};
 ghost use Rattle.rules.specs.declared.change.Change.TheVariants as change;
 ghost use Rattle.store.specs.Book.{with_changes};
-ghost use Rattle.store.specs.Records.{Makes};
+ghost use Rattle.transactions.specs.States.{Makes};
 ghost use Rattle.store.specs.Tables.{contact_left, domain_left, host_renamed_in};
 
-use crate::fault::BookFault;
 use crate::giving::give;
 use crate::records::Records;
 use basis::list::Seq;
@@ -13,6 +12,7 @@ use basis::text::Text;
 use objects::{Contact, Domain};
 use policy::Policy;
 use rules::Change;
+use transactions::BookFault;
 
 /// Makes changes, one after another.
 pub(crate) fn apply<R: Records>(

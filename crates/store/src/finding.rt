@@ -15,9 +15,8 @@ ghost use Rattle.names.specs.GivenName.{name_of};
 ghost use Rattle.objects.specs.Sight.{contact_as};
 ghost use Rattle.protocol.specs.Requests as requests;
 ghost use Rattle.store.specs.Lookups as lookups;
-ghost use Rattle.store.specs.Records.{Finds};
+ghost use Rattle.transactions.specs.States.{Finds};
 
-use crate::fault::BookFault;
 use crate::records::Records;
 use accounts::{Account, Lines, Message};
 use basis::list::Seq;
@@ -35,6 +34,7 @@ use objects::{Contact, ContactFace, Domain, DomainFace, FullDomain, ObjectKind, 
 use policy::Policy;
 use protocol::{Command, Request};
 use std::alloc::{AllocError, Global};
+use transactions::BookFault;
 
 /// The facts that bear on a registrar's command.
 pub(crate) fn facts_for<R: Records>(

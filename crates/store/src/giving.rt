@@ -5,10 +5,9 @@ ghost use Rattle.accounts.specs.Entries.{entered, with_lines};
 ghost use Rattle.accounts.specs.Lines.{in_order};
 ghost use Rattle.basis.specs.Bag.{remade};
 ghost use Rattle.lifecycle.specs.Changes.{changed, told_by_command, with_acked};
-ghost use Rattle.store.specs.Records.{Makes};
+ghost use Rattle.transactions.specs.States.{Makes};
 ghost use Rattle.store.specs.Tables.{given_to, lines_swapped, message_acked};
 
-use crate::fault::BookFault;
 use crate::records::Records;
 use accounts::{LapseEntry, LineChange, LineSwap, Message};
 use basis::list::Seq;
@@ -16,6 +15,7 @@ use basis::registrar::RegistrarNo;
 use basis::text::Text;
 use lifecycle::{AccountChange, Notification, RefundUnder};
 use policy::Policy;
+use transactions::BookFault;
 
 /// Changes a registrar's account. What was never opened is opened.
 pub(crate) fn give<R: Records>(

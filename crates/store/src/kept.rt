@@ -3,9 +3,8 @@ ghost use Rattle.std.specs.Prelude.{◌≡◌, ◌≤◌, Err};
 ghost use Rattle.store.specs.Book.{HasRefused};
 ghost use Rattle.store.specs.Kept.{GaveUp, GoesBack, stands};
 
-use crate::book::{Book, Ready};
+use crate::book::Book;
 use crate::due::Due;
-use crate::fault::BookFault;
 use crate::records::Records;
 use crate::{applying, finding, seeing};
 use basis::list::Seq;
@@ -18,6 +17,7 @@ use objects::{ContactFace, DomainFace, HostFace, ObjectKind};
 use policy::{Policy, Terms};
 use protocol::Command;
 use rules::Change;
+use transactions::{BookFault, Ready};
 
 /// A book over records. It counts what they refuse, and goes back after each fault.
 #[derive(Drop)]

@@ -2,10 +2,8 @@
 ghost use Rattle.std.specs.Prelude.{◌≡◌};
 ghost use Rattle.store.specs.Plain as spec;
 
-use crate::book::Ready;
 use crate::due::Due;
 use crate::edit::{Edit, copy_contact, copy_domain, copy_host, copy_terms};
-use crate::fault::BookFault;
 use crate::ledgers::Counters;
 use crate::plain::Plain;
 use crate::records::Records;
@@ -18,6 +16,7 @@ use facts::Superordinate;
 use objects::{Contact, Domain, Host, Roid};
 use policy::{Policy, Terms};
 use std::alloc::Global;
+use transactions::{BookFault, Ready};
 
 /// Records in memory are a book's once it was opened.
 fn readiness_of(terms: &Option<Terms>) -> Ready

@@ -12,12 +12,10 @@ ghost use Rattle.store.specs.Due.{due_by};
 ghost use Rattle.store.specs.Faces.{domain_names, host_addresses_at};
 ghost use Rattle.store.specs.Ledgers.{counters_of};
 ghost use Rattle.store.specs.Lookups.{has_contact, has_host};
-ghost use Rattle.store.specs.Records.{Begins, Closes, Ends, Finds, Makes, Meets};
+ghost use Rattle.transactions.specs.States.{Begins, Closes, Ends, Finds, Makes, Meets};
 ghost use Rattle.store.specs.Tables as tables;
 
-use crate::book::Ready;
 use crate::due::Due;
-use crate::fault::BookFault;
 use crate::ledgers::Counters;
 use accounts::{Line, LineChange, LineSwap, Lines, Message};
 use basis::list::Seq;
@@ -28,12 +26,14 @@ use facts::{HOLDING_LIMIT, Superordinate};
 use objects::{Contact, Domain, Host, Roid};
 use policy::{Policy, Terms};
 use std::alloc::Global;
+use transactions::{BookFault, Ready};
 
 /// The records of a registry, by key: what a book is made of. A call that fails says nothing of the
 /// content but where `back` leads. Each question is answered by a key or an index, and each change is
 /// one row put or dropped, but where its text says that all records are gone through.
 pub trait Records {
-    ghost use Rattle.store.specs.Records.{RecordsState, IsIdle};
+    ghost use Rattle.store.specs.Records.{RecordsState};
+    ghost use Rattle.transactions.specs.States.{IsIdle};
 
     /// How they stand.
     ghost kept: { Self → RecordsState };

@@ -2,10 +2,9 @@
 ghost use Rattle.std.specs.Prelude.{◌≡◌, IfOk, option_map};
 ghost use Rattle.objects.specs.Contacts.{contact_face_of};
 ghost use Rattle.store.specs.Faces as spec;
-ghost use Rattle.store.specs.Records.{Finds};
+ghost use Rattle.transactions.specs.States.{Finds};
 ghost use Rattle.verdict.specs.ResponseData.{with_shown_link};
 
-use crate::fault::BookFault;
 use crate::finding::{standing_now, superordinate};
 use crate::records::Records;
 use basis::registrar::RegistrarNo;
@@ -14,6 +13,7 @@ use names::Zone;
 use objects::{Contact, ContactFace, Domain, DomainFace, Host, HostFace, with_linked};
 use policy::Policy;
 use std::alloc::{AllocError, Global};
+use transactions::BookFault;
 
 pub(crate) fn domain_face<R: Records>(
     records: &mut R,

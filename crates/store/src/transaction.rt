@@ -6,12 +6,11 @@ ghost use Rattle.store.specs.Due.{due_by};
 ghost use Rattle.store.specs.Edits.{edited, undone_all};
 ghost use Rattle.store.specs.Plain.{IsSettled, LatestUndoes, content_of, at_begin, plain_records, plain_state, without_latest};
 ghost use Rattle.store.specs.Quiet.{IsQuiet};
-ghost use Rattle.store.specs.Records.{Makes, Stays};
+ghost use Rattle.transactions.specs.States.{Makes, Stays};
 ghost use Rattle.store.specs.Tables.{domain_put};
 
 use crate::content::Content;
 use crate::edit::Edit;
-use crate::fault::BookFault;
 use crate::kept::Kept;
 use crate::lapsing::quiet_after;
 use crate::ledgers::Ledgers;
@@ -25,6 +24,7 @@ use lifecycle::due_by;
 use objects::Domain;
 use policy::Policy;
 use std::alloc::{AllocError, Global};
+use transactions::BookFault;
 
 impl Kept<Plain> {
     /// A book with nothing in it, which was never opened.

@@ -1,6 +1,6 @@
 use Rattle.std.proofs.Common.{◌≡◌, true}
 use Rattle.store.specs.Book.{with_changes}
-use Rattle.store.specs.Records.{Stays}
+use Rattle.transactions.specs.States.{Stays}
 use Rattle.store.proofs.applying.apply.Given as goal
 
 -- the changes that are left lead to where all of them do

@@ -1,5 +1,5 @@
 use Rattle.std.proofs.Common.{◌≡◌, true, drop}
-use Rattle.store.specs.Records.{Stays}
+use Rattle.transactions.specs.States.{Stays}
 use Rattle.store.specs.Tables.{host_renamed_in}
 use Rattle.store.proofs.applying.rename_in.Given as goal
 

@@ -1,6 +1,6 @@
 use Rattle.std.proofs.Common.{◌≡◌, true, map, take}
 use Rattle.facts.specs.Facts.{contact_facts, lookups}
-use Rattle.store.specs.Records.{Reads}
+use Rattle.transactions.specs.States.{Reads}
 use Rattle.store.proofs.finding.contacts_for.Given as goal
 
 -- the facts of the names so far

@@ -1,7 +1,7 @@
 use Rattle.std.proofs.Common.{◌≡◌, true, map, take}
 use Rattle.facts.specs.Facts.{domain_facts, lookups}
 use Rattle.names.specs.GivenName.{name_of}
-use Rattle.store.specs.Records.{Reads}
+use Rattle.transactions.specs.States.{Reads}
 use Rattle.store.proofs.finding.domains_for.Given as goal
 
 -- the facts of the names so far

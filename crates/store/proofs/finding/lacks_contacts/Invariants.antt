@@ -1,6 +1,6 @@
 use Rattle.std.proofs.Common.{◌≡◌, true, drop, not}
 use Rattle.std.specs.List.{list_any}
-use Rattle.store.specs.Records.{Reads}
+use Rattle.transactions.specs.States.{Reads}
 use Rattle.store.specs.Lookups.{has_contact}
 use Rattle.store.proofs.finding.lacks_contacts.Given as goal
 

@@ -1,7 +1,7 @@
 use Rattle.std.proofs.Common.{◌≡◌, true, drop, not}
 use Rattle.std.specs.List.{list_any}
 use Rattle.names.specs.GivenName.{name_of}
-use Rattle.store.specs.Records.{Reads}
+use Rattle.transactions.specs.States.{Reads}
 use Rattle.store.specs.Lookups.{has_host}
 use Rattle.store.proofs.finding.lacks_hosts.Given as goal
 

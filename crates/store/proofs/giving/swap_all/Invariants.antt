@@ -1,5 +1,5 @@
 use Rattle.std.proofs.Common.{◌≡◌, true}
-use Rattle.store.specs.Records.{Stays}
+use Rattle.transactions.specs.States.{Stays}
 use Rattle.store.specs.Tables.{lines_swapped}
 use Rattle.store.proofs.giving.swap_all.Given as goal
 
