@@ -1,5 +1,5 @@
 -- What an insertion without a key does.
-use Rattle.std.proofs.Common.{◌≡◌, ◌+ℤ◌, ℕ, ℤ, pos, List, [], ◌∷◌, map, drop, fold, length, slice_get, Some, None, Ok, false, refl, sym, ap, ap₂, ◌∙◌, subst}
+use Rattle.std.proofs.Common.{◌≡◌, ◌+ℤ◌, ℕ, ℤ, pos, List, [], ◌∷◌, map, drop, fold, length, slice_get, Option, Some, None, Ok, false, refl, sym, ap, ap₂, ◌∙◌, subst}
 use Rattle.sqlite_value.specs.declared.value.Value.TheVariants.{Null, Int}
 use Rattle.sqlite_value.specs.Order.{Row}
 use Rattle.sqlite_trees.specs.Tree.{Trees, rowid, put_row}
@@ -17,12 +17,8 @@ use Rattle.sqlite_keyed.proofs.KeyedLemmas.{IsKeyedBy-insert_by}
 use Rattle.sqlite_keyed.proofs.SliceLemmas.{insert_next}
 use Rattle.sqlite.specs.Effect.{Database}
 use Rattle.sqlite.specs.Rows.{Written, Task, Inserts, rowids_for, count_of}
-use Rattle.sqlite.specs.Does.{Does}
-use Rattle.sqlite.specs.Listing.{understood}
-use Rattle.sqlite.specs.State.{State, mode_of, Executes}
-use Rattle.sqlite.proofs.Callers.{runs_as, statement_of}
-use Rattle.rows.specs.Layouts.{Layout, Holds, Sets, Listed, IsAppend, Numbers, appended}
-use Rattle.rows.proofs.SelectLemmas.{same_command}
+use Rattle.sqlite.specs.Does.{Does, Tally}
+use Rattle.rows.specs.Layouts.{Layout, Leads, steady, Holds, Sets, Listed, IsAppend, Numbers, appended}
 use Rattle.rows.proofs.WriteLemmas.{went, same_value, concluded, task_of, left, applies, sets}
 use Rattle.rows.proofs.PutLemmas.{not_counted}
 
@@ -38,9 +34,9 @@ module _ {X : Type 0} (L : Layout X) (schema : Schema) (at : ℕ) (table : Table
   key_is : (x : X) (id : ℤ) → L.key (numbered x id) ≡ id
   key_is x id = let given = sym (L.keyed (numbered x id)) ∙ ap rowid (numbers.row x id) in cc
 
-  module _ (old : State) (db : Trees) (xs : List X) (h : Holds L db xs) (x : X) where
+  module _ (limit : Option ℕ) (db : Trees) (xs : List X) (h : Holds L db xs) (x : X) where
     abbrev task : Task
-    task = task_of old schema table (params x)
+    task = task_of limit schema table (params x)
 
     abbrev bare : Row
     bare = Null ∷ drop 1 (L.to_row x)
@@ -76,21 +72,17 @@ module _ {X : Type 0} (L : Layout X) (schema : Schema) (at : ℕ) (table : Table
         sets L schema at table listed db new edit written.0 _ refl (applies schema db written.0 edit listed.quiet written.1) (now ∙ ap (left schema) (trees ∙ kept)) rows
         (subst (IsKeyedBy L.key) (at_end h.keyed) (IsKeyedBy-insert_by L.key xs last h.keyed))
 
-appends_rows : (sql : List ℕ) (params : Row) (old new : State) (schema : Schema) (at : ℕ) (table : Table) (terms : List Term) (count : ℕ) → old.now.schema ≡ schema
-    → slice_get schema.tables at ≡ Some table → IsAppend schema sql at terms → Executes sql params old new (Ok count)
-    → (w : Written) × Inserts (task_of old schema table params) (Values terms (length terms)) old.now.trees (Ok w) × (new.now ≡ left schema w.trees)
-appends_rows sql params old new schema at table terms count has place is ran =
-    let command = Insert at (Values terms (length terms)) in
-    let w = runs_as sql params old new schema has command (same_command (understood schema sql) ∙ is.command) is.plain count ran in
-    let text = statement_of sql (understood schema sql) in
-    let done = subst (λ s. Does old.step_limit (mode_of old) params (left s old.now.trees) text None command (Ok (w.tally, new.now))) has w.changed in
+appends_rows : (sql : List ℕ) (params : Row) (limit : Option ℕ) (text : List ℕ) (schema : Schema) (at : ℕ) (table : Table) (terms : List Term) (db : Trees) (tally : Tally) (after : Database)
+    → slice_get schema.tables at ≡ Some table → IsAppend schema sql at terms → Leads schema sql params limit text db tally after
+    → (w : Written) × Inserts (task_of limit schema table params) (Values terms (length terms)) db (Ok w) × (after ≡ left schema w.trees)
+appends_rows sql params limit text schema at table terms db tally after place is ran =
+    let done = subst (λ k. Does limit steady params (left schema db) text None k (Ok (tally, after))) is.command ran in
     let found = went (rw place at done) in
-    (found.0, found.1, concluded (task_of old schema table params) (mode_of old) found.0 (w.tally, new.now) found.2)
+    (found.0, found.1, concluded (task_of limit schema table params) steady found.0 (tally, after) found.2)
 
 module _ {X : Type 0} (L : Layout X) (schema : Schema) (at : ℕ) (table : Table) (listed : Listed L schema at table) (terms : List Term) (params : X → Row) (numbered : X → ℤ → X) (numbers : Numbers L table terms params numbered) where
-  pub appends : (sql : List ℕ) (old new : State) (xs : List X) (x : X) → old.now.schema ≡ schema → Holds L old.now.trees xs → IsAppend schema sql at terms
-      → (count : ℕ) → Executes sql (params x) old new (Ok count) → Sets L schema old.now new.now (appended L (numbered x) xs)
-  appends sql old new xs x has h is count ran =
-      let it = appends_rows sql (params x) old new schema at table terms count has listed.is is ran in
-      let done = inserted L schema at table listed terms params numbered numbers old old.now.trees xs h x it.0 new.now it.1 it.2 in
-      record { same = done.same; holds = done.holds; others = done.others }
+  pub appends : (sql : List ℕ) (x : X) → IsAppend schema sql at terms → (limit : Option ℕ) (text : List ℕ) (db : Trees) (tally : Tally) (after : Database) (xs : List X) → Holds L db xs
+      → Leads schema sql (params x) limit text db tally after → Sets L schema (left schema db) after (appended L (numbered x) xs)
+  appends sql x is limit text db tally after xs h ran =
+      let it = appends_rows sql (params x) limit text schema at table terms db tally after listed.is is ran in
+      inserted L schema at table listed terms params numbered numbers limit db xs h x it.0 after it.1 it.2

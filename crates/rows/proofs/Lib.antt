@@ -6,7 +6,7 @@ pub mod AppendLemmas
 pub mod StandLemmas
 pub mod CastLemmas
 pub mod QuietLemmas
-pub mod AnswerLemmas
+pub mod ParameterLemmas
 pub mod SwitchLemmas
 pub mod SoundLemmas
 pub mod CreateLemmas

@@ -32,12 +32,9 @@ use Rattle.sqlite_keyed.specs.Lists.{without_key}
 use Rattle.sqlite_keyed.proofs.KeyedLemmas.{IsKeyedBy-insert_by, same_int}
 use Rattle.sqlite.specs.Effect.{Database}
 use Rattle.sqlite.specs.Rows.{Written, Task, Puts, Clears, Updates, Meets, Upserts, Judged, Tries, TriesEach, InsertsOr, shown, nothing, rowids_for, count_of, Counts}
-use Rattle.sqlite.specs.Does.{Does}
-use Rattle.sqlite.specs.Listing.{understood}
-use Rattle.sqlite.specs.State.{State, mode_of, Executes}
-use Rattle.sqlite.proofs.Callers.{runs_as, statement_of, one_permutation}
-use Rattle.rows.specs.Layouts.{Layout, Holds, Sets, Listed, chosen_query, put_command, IsPut, Gives}
-use Rattle.rows.proofs.SelectLemmas.{same_command}
+use Rattle.sqlite.specs.Does.{Does, Tally}
+use Rattle.sqlite.proofs.Callers.{one_permutation}
+use Rattle.rows.specs.Layouts.{Layout, Leads, steady, Holds, Sets, Listed, chosen_query, put_command, IsPut, Gives}
 use Rattle.rows.proofs.ListLemmas.{removed_put, only_one}
 use Rattle.rows.proofs.WriteLemmas.{went, same_value, concluded, task_of, left, applies, sets, chosen}
 
@@ -70,9 +67,9 @@ module _ {X : Type 0} (L : Layout X) (schema : Schema) (at : ℕ) (table : Table
   abbrev clause : Upsert
   clause = record { target = Some (0 ∷ []); update = Some update }
 
-  module _ (old : State) (db : Trees) (xs : List X) (h : Holds L db xs) (x : X) where
+  module _ (limit : Option ℕ) (db : Trees) (xs : List X) (h : Holds L db xs) (x : X) where
     abbrev task : Task
-    task = task_of old schema table (params x)
+    task = task_of limit schema table (params x)
 
     inserted : (w : Written) (new : Database) → Puts task (L.to_row x) db (Ok w) → new ≡ left schema w.trees → Sets L schema (left schema db) new (insert_by L.key xs x)
     inserted w new found now =
@@ -168,24 +165,20 @@ module _ {X : Type 0} (L : Layout X) (schema : Schema) (at : ℕ) (table : Table
         let end : w.trees ≡ last.0 = ap (λ (d : Written). d.trees) (same_value last.2) in
         tries one.0 new done (now ∙ ap (left schema) (end ∙ kept ∙ from))
 
-puts_rows : (sql : List ℕ) (params : Row) (old new : State) (schema : Schema) (at : ℕ) (table : Table) (tree given : ℕ) (terms more : List Term) (count : ℕ) → old.now.schema ≡ schema
-    → slice_get schema.tables at ≡ Some table → IsPut schema sql at tree given terms more → Executes sql params old new (Ok count)
+puts_rows : (sql : List ℕ) (params : Row) (limit : Option ℕ) (text : List ℕ) (schema : Schema) (at : ℕ) (table : Table) (tree given : ℕ) (terms more : List Term) (db : Trees) (tally : Tally) (after : Database)
+    → slice_get schema.tables at ≡ Some table → IsPut schema sql at tree given terms more → Leads schema sql params limit text db tally after
     → (w : Written)
-    × InsertsOr (task_of old schema table params) Abort (record { target = Some (0 ∷ []); update = Some (record { lets = []; body = chosen_query tree (op2 (Compare Eq Binary) (col 1 0) (col 0 given) ∷ []) (col 1 0 ∷ more) }) } ∷ [])
-    (Values terms (length terms)) old.now.trees (Ok w)
-    × (new.now ≡ left schema w.trees)
-puts_rows sql params old new schema at table tree given terms more count has place is ran =
-    let command = put_command at tree given terms more in
-    let w = runs_as sql params old new schema has command (same_command (understood schema sql) ∙ is.command) is.plain count ran in
-    let text = statement_of sql (understood schema sql) in
-    let done = subst (λ s. Does old.step_limit (mode_of old) params (left s old.now.trees) text None command (Ok (w.tally, new.now))) has w.changed in
+    × InsertsOr (task_of limit schema table params) Abort (record { target = Some (0 ∷ []); update = Some (record { lets = []; body = chosen_query tree (op2 (Compare Eq Binary) (col 1 0) (col 0 given) ∷ []) (col 1 0 ∷ more) }) } ∷ [])
+    (Values terms (length terms)) db (Ok w)
+    × (after ≡ left schema w.trees)
+puts_rows sql params limit text schema at table tree given terms more db tally after place is ran =
+    let done = subst (λ k. Does limit steady params (left schema db) text None k (Ok (tally, after))) is.command ran in
     let found = went (rw place at done) in
-    (found.0, found.1, concluded (task_of old schema table params) (mode_of old) found.0 (w.tally, new.now) found.2)
+    (found.0, found.1, concluded (task_of limit schema table params) steady found.0 (tally, after) found.2)
 
 module _ {X : Type 0} (L : Layout X) (schema : Schema) (at : ℕ) (table : Table) (listed : Listed L schema at table) (given : ℕ) (terms more : List Term) (params : X → Row) (gives : Gives L schema table given terms more params) where
-  pub puts : (sql : List ℕ) (old new : State) (xs : List X) (x : X) → old.now.schema ≡ schema → Holds L old.now.trees xs → IsPut schema sql at L.tree given terms more
-      → (count : ℕ) → Executes sql (params x) old new (Ok count) → Sets L schema old.now new.now (insert_by L.key xs x)
-  puts sql old new xs x has h is count ran =
-      let it = puts_rows sql (params x) old new schema at table L.tree given terms more count has listed.is is ran in
-      let done = put L schema at table listed given terms more params gives old old.now.trees xs h x it.0 new.now it.1 it.2 in
-      record { same = done.same; holds = done.holds; others = done.others }
+  pub puts : (sql : List ℕ) (x : X) → IsPut schema sql at L.tree given terms more → (limit : Option ℕ) (text : List ℕ) (db : Trees) (tally : Tally) (after : Database) (xs : List X) → Holds L db xs
+      → Leads schema sql (params x) limit text db tally after → Sets L schema (left schema db) after (insert_by L.key xs x)
+  puts sql x is limit text db tally after xs h ran =
+      let it = puts_rows sql (params x) limit text schema at table L.tree given terms more db tally after listed.is is ran in
+      put L schema at table listed given terms more params gives limit db xs h x it.0 after it.1 it.2

@@ -8,20 +8,15 @@ use Rattle.sqlite_trees.specs.Tree.{Trees}
 use Rattle.sqlite_sql.specs.Query.{IsAnswer, output, output_cmp, page}
 use Rattle.sqlite_sql.specs.Program.{overlay}
 use Rattle.sqlite_sql.specs.Term.{Term, eval_all, holds}
-use Rattle.sqlite_schema.specs.declared.schema.Schema.{Schema}
-use Rattle.sqlite_schema.specs.declared.command.Command.TheVariants.{Select}
 use Rattle.sqlite_typed.proofs.AnswerLemmas.{at_end, last_table, answer_by_keys, answer_sorted, IsNoTie, no_tie, no_tie_after}
 use Rattle.sqlite_typed.proofs.TestLemmas.{value_cmp-or_null}
 use Rattle.sqlite_typed.specs.Columns.{or_null}
 use Rattle.sqlite_typed.specs.Tests.{nulls_first}
 use Rattle.sqlite_keyed.specs.Lists.{sort_by}
-use Rattle.sqlite.specs.State.{State, Shown}
-use Rattle.sqlite.proofs.Callers.{reads_as}
 use Rattle.sqlite.proofs.Callers as callers
-use Rattle.sqlite.specs.Listing.{understood}
 use Rattle.sqlite_resolve.specs.declared.compiled.Compiled.{Compiled}
 use Rattle.sqlite_resolve.specs.declared.error.CompileError.{CompileError}
-use Rattle.rows.specs.Layouts.{Layout, Holds, select_query, limited_query, sorted_query, by_then_key, IsSelect, command_of}
+use Rattle.rows.specs.Layouts.{Layout, Holds, select_query, limited_query, sorted_query, by_then_key, command_of}
 
 pub same_command : (r : Result Compiled CompileError) → callers.command_of r ≡ command_of r
 same_command (Ok c) = refl
@@ -33,9 +28,10 @@ overlay_none db t = elim (nat_le (2 ^ 31) t) as (λ b. unwrap_or (cond b (slice_
 module _ {X : Type 0} (L : Layout X) (filters project : List Term) (limit : ℤ) (params : Row) (p : X → Bool) (shown : X → Row)
     (tests : (x : X) → list_all (holds (params ∷ L.to_row x ∷ [])) filters ≡ p x)
     (shows : (x : X) → eval_all project (params ∷ L.to_row x ∷ []) ≡ shown x) where
-  answers : (db : Trees) (xs : List X) (rows : List Row) → Holds L db xs → IsAnswer (limited_query L.tree filters project limit) (overlay db []) params rows
+  -- the first of the rows, by key
+  pub limits : (db : Trees) (xs : List X) (rows : List Row) → Holds L db xs → IsAnswer (limited_query L.tree filters project limit) (overlay db []) params rows
       → rows ≡ page (limited_query L.tree filters project limit) params (map shown (filter p xs))
-  answers db xs rows h answer =
+  limits db xs rows h answer =
       let q = limited_query L.tree filters project limit in
       let stored : overlay db [] L.tree ≡ map L.to_row xs = overlay_none db L.tree ∙ h.rows in
       let source = last_table (overlay db []) L.tree L.to_row L.key xs stored h.keyed (at_end (overlay db [])) in
@@ -44,19 +40,10 @@ module _ {X : Type 0} (L : Layout X) (filters project : List Term) (limit : ℤ)
       let all = answer_by_keys q (overlay db []) params source p tests (λ r. r) shown shows refl refl ordered rows answer in
       sym (map-id rows) ∙ all
 
-  -- the first of the rows, by key
-  pub limits : (schema : Schema) (sql : List ℕ) (old new : State) (xs : List X) (rows : List Row) → IsSelect schema sql (limited_query L.tree filters project limit) → old.now.schema ≡ schema
-      → Holds L old.now.trees xs → Shown sql params old new rows → rows ≡ page (limited_query L.tree filters project limit) params (map shown (filter p xs))
-  limits schema sql old new xs rows is has h seen =
-      let q = limited_query L.tree filters project limit in
-      let read = reads_as sql params old new schema has (Select (record { lets = []; body = q }) is.names) (same_command (understood schema sql) ∙ is.command) is.plain is.unlisted rows seen in
-      answers old.now.trees xs rows h (read.answer Null)
-
 module _ {X : Type 0} (L : Layout X) (filters project : List Term) (params : Row) (p : X → Bool) (shown : X → Row)
     (tests : (x : X) → list_all (holds (params ∷ L.to_row x ∷ [])) filters ≡ p x)
     (shows : (x : X) → eval_all project (params ∷ L.to_row x ∷ []) ≡ shown x) where
-  pub selects : (schema : Schema) (sql : List ℕ) (old new : State) (xs : List X) (rows : List Row) → IsSelect schema sql (select_query L.tree filters project) → old.now.schema ≡ schema
-      → Holds L old.now.trees xs → Shown sql params old new rows → rows ≡ map shown (filter p xs)
+  pub selects : (db : Trees) (xs : List X) (rows : List Row) → Holds L db xs → IsAnswer (select_query L.tree filters project) (overlay db []) params rows → rows ≡ map shown (filter p xs)
   selects = limits L filters project (negsuc 0) params p shown tests shows
 
 -- a key of ORDER BY that may be NULL
@@ -73,18 +60,12 @@ module _ {X : Type 0} (L : Layout X) (filters project columns : List Term) (limi
     (shows : (x : X) → eval_all project (params ∷ L.to_row x ∷ []) ≡ shown x)
     (orders : (x y : X) → output_cmp (sorted_query L.tree filters project columns limit) (output (sorted_query L.tree filters project columns limit) (params ∷ L.to_row x ∷ []))
     (output (sorted_query L.tree filters project columns limit) (params ∷ L.to_row y ∷ [])) ≡ by_then_key L by x y) where
-  sorted_answers : (db : Trees) (xs : List X) (rows : List Row) → Holds L db xs → IsAnswer (sorted_query L.tree filters project columns limit) (overlay db []) params rows
+  -- the rows in the order of some columns
+  pub sorts : (db : Trees) (xs : List X) (rows : List Row) → Holds L db xs → IsAnswer (sorted_query L.tree filters project columns limit) (overlay db []) params rows
       → rows ≡ page (sorted_query L.tree filters project columns limit) params (map shown (sort_by (by_then_key L by) (filter p xs)))
-  sorted_answers db xs rows h answer =
+  sorts db xs rows h answer =
       let q = sorted_query L.tree filters project columns limit in
       let stored : overlay db [] L.tree ≡ map L.to_row xs = overlay_none db L.tree ∙ h.rows in
       let source = last_table (overlay db []) L.tree L.to_row L.key xs stored h.keyed (at_end (overlay db [])) in
       let all = answer_sorted q (overlay db []) params source p tests (λ r. r) shown shows refl refl (by_then_key L by) (untied L by) orders rows answer in
       sym (map-id rows) ∙ all
-
-  pub sorts : (schema : Schema) (sql : List ℕ) (old new : State) (xs : List X) (rows : List Row) → IsSelect schema sql (sorted_query L.tree filters project columns limit) → old.now.schema ≡ schema
-      → Holds L old.now.trees xs → Shown sql params old new rows → rows ≡ page (sorted_query L.tree filters project columns limit) params (map shown (sort_by (by_then_key L by) (filter p xs)))
-  sorts schema sql old new xs rows is has h seen =
-      let q = sorted_query L.tree filters project columns limit in
-      let read = reads_as sql params old new schema has (Select (record { lets = []; body = q }) is.names) (same_command (understood schema sql) ∙ is.command) is.plain is.unlisted rows seen in
-      sorted_answers old.now.trees xs rows h (read.answer Null)

@@ -1,5 +1,5 @@
 -- What a call that fails leaves.
-use Rattle.std.proofs.Common.{IfOk, Vec, Global, cond, OnErr, OnOk, ◌≡◌, inl, inr, ℕ, Bool, true, false, List, Option, Result, Ok, Err, sym, ap, ◌∙◌, subst, MatchBool, true≢false}
+use Rattle.std.proofs.Common.{cond, OnErr, OnOk, ◌≡◌, inl, inr, ℕ, Bool, true, false, List, Option, Result, Ok, Err, sym, ap, ◌∙◌, subst, MatchBool, true≢false}
 use Rattle.sqlite_value.specs.Order.{Row}
 use Rattle.sqlite_trees.specs.Tree.{Trees}
 use Rattle.sqlite_schema.specs.declared.command.Command.{Command}
@@ -91,7 +91,3 @@ stays_if_executed sql params old new count writes inside it =
     let c : Compiled = it.0 in
     let kind : writes_tables c.command ≡ true = subst (λ r. writes_tables (command_of r) ≡ true) it.1.is writes in
     stays_by old new c.returning c.command (text_of sql c) _ count kind inside (ran_alone _ _ (shows_rows false c) (λ shows. let e = shows.0 in cc) it.2)
-
-pub rows_if_read : {X E : Type 0} (r : Result (Vec X Global) E) (P : List X → Type 0) → ((xs : List X) → P xs → IfOk r (λ out. out.items ≡ xs)) → IfOk r (λ out. (xs : List X) → P xs → out.items ≡ xs)
-rows_if_read (Ok out) P h = h
-rows_if_read (Err e) P h = tt

@@ -1,5 +1,5 @@
 -- What a write does to the rows of its table.
-use Rattle.std.proofs.Common.{◌≡◌, ◌≢◌, ◌⊎◌, inl, inr, ℕ, Bool, List, [], ◌∷◌, map, filter, slice_get, Some, None, Result, Ok, Err, refl, sym, ap, ◌∙◌, subst, IsPermutation}
+use Rattle.std.proofs.Common.{◌≡◌, ◌≢◌, ◌⊎◌, inl, inr, ℕ, Bool, List, [], ◌∷◌, map, filter, slice_get, Option, Some, None, Result, Ok, Err, refl, sym, ap, ◌∙◌, subst, IsPermutation}
 use Rattle.std.specs.List.{list_all}
 use Rattle.std.proofs.lemmas.List.Sorted.{IsPermutation-map}
 use Rattle.sqlite_value.specs.declared.value.Value.TheVariants.{Null}
@@ -25,11 +25,9 @@ use Rattle.sqlite_keyed.proofs.ListLemmas.{map-map, map_same, all_weaker}
 use Rattle.sqlite.specs.Effect.{Database}
 use Rattle.sqlite.specs.Rows.{Written, Task, Deletes, Edited}
 use Rattle.sqlite.specs.Does.{Tally, Does, Concludes}
-use Rattle.sqlite.specs.Listing.{understood}
-use Rattle.sqlite.specs.State.{State, mode_of, Executes}
-use Rattle.sqlite.proofs.Callers.{runs_as, statement_of, one_step}
-use Rattle.rows.specs.Layouts.{Layout, Holds, Sets, Listed, chosen_query, IsDelete}
-use Rattle.rows.proofs.SelectLemmas.{overlay_none, same_command}
+use Rattle.sqlite.proofs.Callers.{one_step}
+use Rattle.rows.specs.Layouts.{Layout, Leads, steady, Holds, Sets, Listed, chosen_query, IsDelete}
+use Rattle.rows.proofs.SelectLemmas.{overlay_none}
 use Rattle.rows.proofs.ListLemmas.{removes_in_order}
 
 pub same_value : {B E : Type 0} {a b : B} → ◌≡◌ {A = Result B E} (Ok a) (Ok b) → a ≡ b
@@ -59,22 +57,19 @@ module _ {X : Type 0} (L : Layout X) (filters project : List Term) (params : Row
       subst (λ l. IsPermutation (map (λ x. eval_all project (params ∷ L.to_row x ∷ [])) (filter p xs)) l) (sym answer.shown)
       (subst (λ l. IsPermutation l (map (λ (o : Output). o.1) answer.ordered)) (map-map (λ (o : Output). o.1) (λ x. output q (params ∷ L.to_row x ∷ [])) (filter p xs)) moved)
 
-abbrev pub task_of : State → Schema → Table → Row → Task
-task_of old schema table params = record { limit = old.step_limit; keys = Enforced; schema = schema; table = table; params = params }
+abbrev pub task_of : Option ℕ → Schema → Table → Row → Task
+task_of limit schema table params = record { limit = limit; keys = Enforced; schema = schema; table = table; params = params }
 
 abbrev pub left : Schema → Trees → Database
 left schema db = record { schema = schema; trees = db }
 
-deletes_rows : (sql : List ℕ) (params : Row) (old new : State) (schema : Schema) (at : ℕ) (table : Table) (tree : ℕ) (filters : List Term) (count : ℕ) → old.now.schema ≡ schema
-    → slice_get schema.tables at ≡ Some table → IsDelete schema sql at tree filters → Executes sql params old new (Ok count)
-    → (w : Written) × Deletes (task_of old schema table params) (record { lets = []; body = chosen_query tree filters (col 1 0 ∷ []) }) old.now.trees (Ok w) × (new.now ≡ left schema w.trees)
-deletes_rows sql params old new schema at table tree filters count has place is ran =
-    let command = Delete at (record { lets = []; body = chosen_query tree filters (col 1 0 ∷ []) }) in
-    let w = runs_as sql params old new schema has command (same_command (understood schema sql) ∙ is.command) is.plain count ran in
-    let text = statement_of sql (understood schema sql) in
-    let done = subst (λ s. Does old.step_limit (mode_of old) params (left s old.now.trees) text None command (Ok (w.tally, new.now))) has w.changed in
+deletes_rows : (sql : List ℕ) (params : Row) (limit : Option ℕ) (text : List ℕ) (schema : Schema) (at : ℕ) (table : Table) (tree : ℕ) (filters : List Term) (db : Trees) (tally : Tally) (after : Database)
+    → slice_get schema.tables at ≡ Some table → IsDelete schema sql at tree filters → Leads schema sql params limit text db tally after
+    → (w : Written) × Deletes (task_of limit schema table params) (record { lets = []; body = chosen_query tree filters (col 1 0 ∷ []) }) db (Ok w) × (after ≡ left schema w.trees)
+deletes_rows sql params limit text schema at table tree filters db tally after place is ran =
+    let done = subst (λ k. Does limit steady params (left schema db) text None k (Ok (tally, after))) is.command ran in
     let found = went (rw place at done) in
-    (found.0, found.1, concluded (task_of old schema table params) (mode_of old) found.0 (w.tally, new.now) found.2)
+    (found.0, found.1, concluded (task_of limit schema table params) steady found.0 (tally, after) found.2)
 
 -- an edit in which no foreign key acts
 pub applies : (schema : Schema) (db next : Trees) (edit : Edit) → ((tree : ℕ) (olds news : List Row) → works schema Enforced 0 tree olds news ≡ []) → Edited schema Enforced db edit (Ok next)
@@ -92,10 +87,10 @@ module _ {X : Type 0} (L : Layout X) (schema : Schema) (at : ℕ) (table : Table
         (λ t kept apart. ap (λ (d : Database). d.trees t.tree) is ∙ kept (λ same. apart (same ∙ ap (λ (x : Table). x.tree) on ∙ listed.tree))) schema.tables it.tables;
   }
 
-  deleted : (params : Row) (old : State) (filters : List Term) (p : X → Bool) (db : Trees) (xs : List X) (w : Written) (new : Database) → ((x : X) → list_all (holds (params ∷ L.to_row x ∷ [])) filters ≡ p x)
-      → Holds L db xs → Deletes (task_of old schema table params) (record { lets = []; body = chosen_query L.tree filters (col 1 0 ∷ []) }) db (Ok w) → new ≡ left schema w.trees
+  deleted : (params : Row) (limit : Option ℕ) (filters : List Term) (p : X → Bool) (db : Trees) (xs : List X) (w : Written) (new : Database) → ((x : X) → list_all (holds (params ∷ L.to_row x ∷ [])) filters ≡ p x)
+      → Holds L db xs → Deletes (task_of limit schema table params) (record { lets = []; body = chosen_query L.tree filters (col 1 0 ∷ []) }) db (Ok w) → new ≡ left schema w.trees
       → Sets L schema (left schema db) new (delete_where p xs)
-  deleted params old filters p db xs w new tests h found now =
+  deleted params limit filters p db xs w new tests h found now =
       let given = went found in
       let edit = edit_of db table (ids_of given.0) Given 0 [] in
       let written = went given.2 in
@@ -108,10 +103,9 @@ module _ {X : Type 0} (L : Layout X) (schema : Schema) (at : ℕ) (table : Table
       (ap (λ l. without_all l (ids_of given.0)) (ap db listed.tree ∙ h.rows) ∙ deletes-map L.key L.to_row L.keyed (ids_of given.0) xs ∙ ap (map L.to_row) (removes_in_order L.key p xs (ids_of given.0) h.keyed ids))
       (IsKeyedBy-delete_where L.key p xs h.keyed)
 
-  module _ (sql : List ℕ) (params : Row) (old new : State) (xs : List X) (has : old.now.schema ≡ schema) (h : Holds L old.now.trees xs) where
-    pub deletes : (filters : List Term) (p : X → Bool) → ((x : X) → list_all (holds (params ∷ L.to_row x ∷ [])) filters ≡ p x)
-        → IsDelete schema sql at L.tree filters → (count : ℕ) → Executes sql params old new (Ok count) → Sets L schema old.now new.now (delete_where p xs)
-    deletes filters p tests is count ran =
-        let it = deletes_rows sql params old new schema at table L.tree filters count has listed.is is ran in
-        let done = deleted params old filters p old.now.trees xs it.0 new.now tests h it.1 it.2 in
-        record { same = done.same; holds = done.holds; others = done.others }
+  pub deletes : (sql : List ℕ) (params : Row) (filters : List Term) (p : X → Bool) → ((x : X) → list_all (holds (params ∷ L.to_row x ∷ [])) filters ≡ p x)
+      → IsDelete schema sql at L.tree filters → (limit : Option ℕ) (text : List ℕ) (db : Trees) (tally : Tally) (after : Database) (xs : List X) → Holds L db xs
+      → Leads schema sql params limit text db tally after → Sets L schema (left schema db) after (delete_where p xs)
+  deletes sql params filters p tests is limit text db tally after xs h ran =
+      let it = deletes_rows sql params limit text schema at table L.tree filters db tally after listed.is is ran in
+      deleted params limit filters p db xs it.0 after tests h it.1 it.2

@@ -1,5 +1,5 @@
 -- The shapes of statement, over typed rows of one table.
-use Rattle.std.specs.Prelude.{◌/◌, ◌++◌, length, drop, ◌≢◌, slice_get, true, ◌≡◌, ℕ, ℤ, pos, negsuc, Bool, false, List, [], ◌∷◌, map, Some, None, Result, Ok, Err}
+use Rattle.std.specs.Prelude.{◌/◌, ◌++◌, length, drop, ◌≢◌, slice_get, true, ◌≡◌, ℕ, ℤ, pos, negsuc, Bool, false, List, [], ◌∷◌, map, Option, Some, None, Result, Ok, Err}
 use Rattle.std.specs.declared.cmp.Ordering.{Ordering}
 use Rattle.std.specs.Ordering.{int_cmp, on, then_cmp}
 use Rattle.sqlite_value.specs.declared.value.Value.TheVariants.{Int, Null}
@@ -25,6 +25,8 @@ use Rattle.sqlite_sql.specs.declared.ops.BinaryOp.TheVariants.{Compare}
 use Rattle.sqlite_schema.specs.declared.command.Conflict.TheVariants.{Abort}
 use Rattle.sqlite_schema.specs.declared.command.Source.TheVariants.{Values}
 use Rattle.sqlite_rules.specs.Keys.{shares}
+use Rattle.sqlite.specs.Does.{Does, Tally}
+use Rattle.sqlite.specs.declared.run.Mode.{Mode}
 use Rattle.sqlite.specs.Effect.{value_rows}
 use Rattle.sqlite.specs.Rows.{stamped, shown}
 use Rattle.sqlite.specs.Effect.{Database}
@@ -150,3 +152,11 @@ writes_tables (Delete at q) = true
 writes_tables CreateTable = true
 writes_tables (CreateIndex at) = true
 writes_tables _ = false
+
+-- foreign keys hold before and after each statement
+abbrev pub steady : Mode
+steady = record { keys = Enforced; in_doubt = false; may_wait = false }
+
+-- what the text's command makes of trees whose tables are the schema's
+abbrev pub Leads : Schema → List ℕ → Row → Option ℕ → List ℕ → Trees → Tally → Database → Type 0
+Leads schema sql params limit text db tally after = Does limit steady params (record { schema = schema; trees = db }) text None (command_of (understood schema sql)) (Ok (tally, after))

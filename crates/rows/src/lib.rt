@@ -8,13 +8,11 @@ mod likeness;
 mod nullable;
 mod number;
 mod record;
-#[cfg(test)]
-mod tests;
 mod transaction;
 
 pub use definition::define;
 pub use likeness::{is_schema, is_unused};
 pub use nullable::{maybe_number, maybe_text};
 pub use number::Number;
-pub use record::{Record, select, write};
+pub use record::{Record, write};
 pub use transaction::{begin, commit, go_back};

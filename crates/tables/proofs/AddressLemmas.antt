@@ -1,5 +1,5 @@
 -- What the statements on the table `address` mean.
-use Rattle.std.proofs.Common.{drop, ◌≡◌, Ok, refl, List, [], ◌∷◌, ℕ, ℤ, filter, codes, false}
+use Rattle.std.proofs.Common.{ap, drop, refl, List, [], ◌∷◌, ℤ, filter, codes, false}
 use Rattle.sqlite_value.specs.declared.value.Value.TheVariants.{Null, Int}
 use Rattle.sqlite_value.specs.declared.keys.Collation.TheVariants.{Binary}
 use Rattle.sqlite_sql.specs.declared.ops.CompareOp.TheVariants.{Eq}
@@ -9,10 +9,8 @@ use Rattle.sqlite_schema.specs.declared.schema.Table.{Table}
 use Rattle.sqlite_typed.proofs.TestLemmas.{at_ints, last_term}
 use Rattle.sqlite_keyed.specs.Lists.{delete_where}
 use Rattle.sqlite.specs.Listing.{understood}
-use Rattle.sqlite.specs.State.{State, Executes}
 use Rattle.sqlite_tied.specs.Compute.{everything}
-use Rattle.rows.specs.Layouts.{Holds, Sets, Listed, Numbers, IsSelect, IsAppend, IsDelete, select_query, appended}
-use Rattle.rows.specs.Calls.{Answers}
+use Rattle.rows.specs.Layouts.{writes_tables, Listed, Numbers, IsSelect, IsAppend, IsDelete, select_query, appended}
 use Rattle.rows.proofs.SelectLemmas.{selects}
 use Rattle.rows.proofs.WriteLemmas.{deletes}
 use Rattle.rows.proofs.AppendLemmas.{appends}
@@ -20,6 +18,9 @@ use Rattle.rows.proofs.CastLemmas.{cast_int, cast_null, cast_text, cast_maybe_in
 use Rattle.rows.proofs.QuietLemmas.{quiet_if_idle}
 use Rattle.tables.specs.Tables.{address, registry, address_by_host, address_append, address_remove_host}
 use Rattle.tables.specs.Address.{Address, address_shown, addresses, address_with_host}
+use Rattle.tables.specs.Content.{addresses_to}
+use Rattle.tables.specs.Statements.{Alters, Asks}
+use Rattle.tables.proofs.TableLemmas.{asks_addresses, alters_addresses}
 
 abbrev columns : List Term
 columns = col 1 0 ∷ col 1 2 ∷ col 1 3 ∷ []
@@ -31,9 +32,9 @@ pub by_host_is : IsSelect registry address_by_host (select_query 9 (op2 (Compare
 unfolding understood everything
 by_host_is = record { names = codes "id" ∷ codes "host" ∷ codes "address" ∷ []; command = refl; plain = (refl, refl); unlisted = refl }
 
-pub by_host_answers : (old new : State) (v : ℤ) (xs : List Address) → old.now.schema ≡ registry → Holds addresses old.now.trees xs → Answers address_shown address_by_host (Int v ∷ []) old new (filter (address_with_host v) xs)
-by_host_answers old new v xs has h rows seen =
-    selects addresses _ _ (Int v ∷ []) (address_with_host v) address_shown (λ x. last_term (at_ints false Eq x.host v)) (λ x. refl) registry address_by_host old new xs rows by_host_is has h seen
+pub by_host_asks : (v : ℤ) → Asks address_shown address_by_host (Int v ∷ []) (λ c. filter (address_with_host v) c.addresses)
+by_host_asks v = asks_addresses address_shown address_by_host (Int v ∷ []) _ (λ xs. filter (address_with_host v) xs) by_host_is (λ db xs rows h answer.
+    selects addresses _ _ (Int v ∷ []) (address_with_host v) address_shown (λ x. last_term (at_ints false Eq x.host v)) (λ x. refl) db xs rows h answer)
 
 listed : Listed addresses registry 5 table
 listed = record { is = refl; tree = refl; quiet = quiet_if_idle registry refl; uncounted = refl; unstamped = refl; casts = λ x. simp (cast_int, cast_null, cast_text, cast_maybe_int, cast_maybe_text) }
@@ -48,16 +49,12 @@ append_is = record { command = refl; plain = (refl, refl) }
 numbers : Numbers addresses table unnumbered (λ x. drop 1 (address_shown x)) (λ x id. record x { id = id })
 numbers = record { values = λ x. refl; casts = λ x. simp (cast_int, cast_null, cast_text, cast_maybe_int, cast_maybe_text); row = λ x id. refl }
 
-pub appends_row : (old new : State) (x : Address) (xs : List Address) (count : ℕ) → old.now.schema ≡ registry → Holds addresses old.now.trees xs → Executes address_append (drop 1 (address_shown x)) old new (Ok count)
-    → Sets addresses registry old.now new.now (appended addresses (λ id. record x { id = id }) xs)
-appends_row old new x xs count has h ran =
-    appends addresses registry 5 table listed unnumbered (λ x. drop 1 (address_shown x)) (λ x id. record x { id = id }) numbers address_append old new xs x has h append_is count ran
+pub append_alters : (x : Address) → Alters address_append (drop 1 (address_shown x)) (addresses_to (λ xs. appended addresses (λ id. record x { id = id }) xs))
+append_alters x = alters_addresses address_append (drop 1 (address_shown x)) (λ xs. appended addresses (λ id. record x { id = id }) xs) append_is.plain (ap writes_tables append_is.command) (appends addresses registry 5 table listed unnumbered (λ x. drop 1 (address_shown x)) (λ x id. record x { id = id }) numbers address_append x append_is)
 
 pub remove_host_is : IsDelete registry address_remove_host 5 9 (op2 (Compare Eq Binary) (col 1 2) (col 0 0) ∷ [])
 unfolding understood everything
 remove_host_is = record { command = refl; plain = (refl, refl) }
 
-pub removes_host : (old new : State) (v : ℤ) (xs : List Address) (count : ℕ) → old.now.schema ≡ registry → Holds addresses old.now.trees xs → Executes address_remove_host (Int v ∷ []) old new (Ok count)
-    → Sets addresses registry old.now new.now (delete_where (address_with_host v) xs)
-removes_host old new v xs count has h ran =
-    deletes addresses registry 5 table listed address_remove_host (Int v ∷ []) old new xs has h _ (address_with_host v) (λ x. last_term (at_ints false Eq x.host v)) remove_host_is count ran
+pub remove_host_alters : (v : ℤ) → Alters address_remove_host (Int v ∷ []) (addresses_to (λ xs. delete_where (address_with_host v) xs))
+remove_host_alters v = alters_addresses address_remove_host (Int v ∷ []) (λ xs. delete_where (address_with_host v) xs) remove_host_is.plain (ap writes_tables remove_host_is.command) (deletes addresses registry 5 table listed address_remove_host (Int v ∷ []) _ (address_with_host v) (λ x. last_term (at_ints false Eq x.host v)) remove_host_is)

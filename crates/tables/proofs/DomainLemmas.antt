@@ -1,5 +1,5 @@
 -- What the statements on the table `domain` mean.
-use Rattle.std.proofs.Common.{pos, negsuc, take, drop, Equal, ◌≡◌, ap, map, ◌∙◌, Ok, refl, List, [], ◌∷◌, ℕ, ℤ, filter, codes, true, false}
+use Rattle.std.proofs.Common.{pos, negsuc, take, drop, Equal, ◌≡◌, ap, map, ◌∙◌, refl, List, [], ◌∷◌, ℕ, ℤ, filter, codes, true, false}
 use Rattle.sqlite_value.specs.declared.value.Value.TheVariants.{Null, Int, Text}
 use Rattle.sqlite_value.specs.declared.keys.Collation.TheVariants.{Binary}
 use Rattle.std.specs.List.{take-map}
@@ -15,10 +15,8 @@ use Rattle.sqlite_keyed.specs.Keyed.{insert_by}
 use Rattle.sqlite_keyed.specs.Lists.{delete_where}
 use Rattle.sqlite_keyed.proofs.ListLemmas.{filter_all, all_of}
 use Rattle.sqlite.specs.Listing.{understood}
-use Rattle.sqlite.specs.State.{State, Executes}
 use Rattle.sqlite_tied.specs.Compute.{everything}
-use Rattle.rows.specs.Layouts.{Holds, Sets, Listed, Gives, Numbers, IsSelect, IsPut, IsAppend, IsDelete, select_query, limited_query, sorted_query, by_then_key, appended}
-use Rattle.rows.specs.Calls.{Answers}
+use Rattle.rows.specs.Layouts.{writes_tables, Listed, Gives, Numbers, IsSelect, IsPut, IsAppend, IsDelete, select_query, limited_query, sorted_query, by_then_key, appended}
 use Rattle.rows.proofs.SelectLemmas.{selects, limits, sorts}
 use Rattle.rows.proofs.WriteLemmas.{deletes}
 use Rattle.rows.proofs.PutLemmas.{puts}
@@ -27,6 +25,9 @@ use Rattle.rows.proofs.CastLemmas.{cast_int, cast_null, cast_text, cast_maybe_in
 use Rattle.rows.proofs.QuietLemmas.{quiet_if_idle}
 use Rattle.tables.specs.Tables.{domain, registry, domain_all, domain_by_id, domain_by_name, domain_by_sponsor, domain_first_by_registrant, domain_until_due, domain_put, domain_append, domain_remove_id}
 use Rattle.tables.specs.Domain.{Domain, domain_shown, domains, domain_with_id, domain_with_name, domain_with_sponsor, domain_with_registrant, domain_within_due, by_due, domains_by_due}
+use Rattle.tables.specs.Content.{domains_to}
+use Rattle.tables.specs.Statements.{Alters, Asks}
+use Rattle.tables.proofs.TableLemmas.{asks_domains, alters_domains}
 
 abbrev columns : List Term
 columns = col 1 0 ∷ col 1 2 ∷ col 1 3 ∷ col 1 4 ∷ col 1 5 ∷ col 1 6 ∷ col 1 7 ∷ col 1 8 ∷ col 1 9 ∷ col 1 10 ∷ col 1 11 ∷ col 1 12 ∷ col 1 13 ∷ col 1 14 ∷ col 1 15 ∷ []
@@ -41,42 +42,42 @@ pub all_is : IsSelect registry domain_all (select_query 5 ([]) columns)
 unfolding understood everything
 all_is = record { names = codes "id" ∷ codes "name" ∷ codes "creator" ∷ codes "serial" ∷ codes "sponsor" ∷ codes "created" ∷ codes "years" ∷ codes "transferred" ∷ codes "updated" ∷ codes "statuses" ∷ codes "secret" ∷ codes "registrant" ∷ codes "deleted" ∷ codes "restore_requested" ∷ codes "due" ∷ []; command = refl; plain = (refl, refl); unlisted = refl }
 
-pub all_answers : (old new : State) (xs : List Domain) → old.now.schema ≡ registry → Holds domains old.now.trees xs → Answers domain_shown domain_all [] old new xs
-all_answers old new xs has h rows seen =
-    selects domains _ _ [] (λ _. true) domain_shown (λ x. refl) (λ x. refl) registry domain_all old new xs rows all_is has h seen ∙ ap (map domain_shown) (filter_all (λ _. true) xs (all_of _ (λ x. refl) xs))
+pub all_asks : Asks domain_shown domain_all [] (λ c. c.domains)
+all_asks = asks_domains domain_shown domain_all [] _ (λ xs. xs) all_is (λ db xs rows h answer.
+    selects domains _ _ [] (λ _. true) domain_shown (λ x. refl) (λ x. refl) db xs rows h answer ∙ ap (map domain_shown) (filter_all (λ _. true) xs (all_of _ (λ x. refl) xs)))
 
 pub by_id_is : IsSelect registry domain_by_id (select_query 5 (op2 (Compare Eq Binary) (col 1 0) (col 0 0) ∷ []) columns)
 unfolding understood everything
 by_id_is = record { names = codes "id" ∷ codes "name" ∷ codes "creator" ∷ codes "serial" ∷ codes "sponsor" ∷ codes "created" ∷ codes "years" ∷ codes "transferred" ∷ codes "updated" ∷ codes "statuses" ∷ codes "secret" ∷ codes "registrant" ∷ codes "deleted" ∷ codes "restore_requested" ∷ codes "due" ∷ []; command = refl; plain = (refl, refl); unlisted = refl }
 
-pub by_id_answers : (old new : State) (v : ℤ) (xs : List Domain) → old.now.schema ≡ registry → Holds domains old.now.trees xs → Answers domain_shown domain_by_id (Int v ∷ []) old new (filter (domain_with_id v) xs)
-by_id_answers old new v xs has h rows seen =
-    selects domains _ _ (Int v ∷ []) (domain_with_id v) domain_shown (λ x. last_term (at_ints false Eq x.id v)) (λ x. refl) registry domain_by_id old new xs rows by_id_is has h seen
+pub by_id_asks : (v : ℤ) → Asks domain_shown domain_by_id (Int v ∷ []) (λ c. filter (domain_with_id v) c.domains)
+by_id_asks v = asks_domains domain_shown domain_by_id (Int v ∷ []) _ (λ xs. filter (domain_with_id v) xs) by_id_is (λ db xs rows h answer.
+    selects domains _ _ (Int v ∷ []) (domain_with_id v) domain_shown (λ x. last_term (at_ints false Eq x.id v)) (λ x. refl) db xs rows h answer)
 
 pub by_name_is : IsSelect registry domain_by_name (select_query 5 (op2 (Compare Eq Binary) (col 1 2) (col 0 0) ∷ []) columns)
 unfolding understood everything
 by_name_is = record { names = codes "id" ∷ codes "name" ∷ codes "creator" ∷ codes "serial" ∷ codes "sponsor" ∷ codes "created" ∷ codes "years" ∷ codes "transferred" ∷ codes "updated" ∷ codes "statuses" ∷ codes "secret" ∷ codes "registrant" ∷ codes "deleted" ∷ codes "restore_requested" ∷ codes "due" ∷ []; command = refl; plain = (refl, refl); unlisted = refl }
 
-pub by_name_answers : (old new : State) (v : List ℕ) (xs : List Domain) → old.now.schema ≡ registry → Holds domains old.now.trees xs → Answers domain_shown domain_by_name (Text v ∷ []) old new (filter (domain_with_name v) xs)
-by_name_answers old new v xs has h rows seen =
-    selects domains _ _ (Text v ∷ []) (domain_with_name v) domain_shown (λ x. last_term (at_texts false Eq x.name v)) (λ x. refl) registry domain_by_name old new xs rows by_name_is has h seen
+pub by_name_asks : (v : List ℕ) → Asks domain_shown domain_by_name (Text v ∷ []) (λ c. filter (domain_with_name v) c.domains)
+by_name_asks v = asks_domains domain_shown domain_by_name (Text v ∷ []) _ (λ xs. filter (domain_with_name v) xs) by_name_is (λ db xs rows h answer.
+    selects domains _ _ (Text v ∷ []) (domain_with_name v) domain_shown (λ x. last_term (at_texts false Eq x.name v)) (λ x. refl) db xs rows h answer)
 
 pub by_sponsor_is : IsSelect registry domain_by_sponsor (select_query 5 (op2 (Compare Eq Binary) (col 1 5) (col 0 0) ∷ []) columns)
 unfolding understood everything
 by_sponsor_is = record { names = codes "id" ∷ codes "name" ∷ codes "creator" ∷ codes "serial" ∷ codes "sponsor" ∷ codes "created" ∷ codes "years" ∷ codes "transferred" ∷ codes "updated" ∷ codes "statuses" ∷ codes "secret" ∷ codes "registrant" ∷ codes "deleted" ∷ codes "restore_requested" ∷ codes "due" ∷ []; command = refl; plain = (refl, refl); unlisted = refl }
 
-pub by_sponsor_answers : (old new : State) (v : ℤ) (xs : List Domain) → old.now.schema ≡ registry → Holds domains old.now.trees xs → Answers domain_shown domain_by_sponsor (Int v ∷ []) old new (filter (domain_with_sponsor v) xs)
-by_sponsor_answers old new v xs has h rows seen =
-    selects domains _ _ (Int v ∷ []) (domain_with_sponsor v) domain_shown (λ x. last_term (at_ints false Eq x.sponsor v)) (λ x. refl) registry domain_by_sponsor old new xs rows by_sponsor_is has h seen
+pub by_sponsor_asks : (v : ℤ) → Asks domain_shown domain_by_sponsor (Int v ∷ []) (λ c. filter (domain_with_sponsor v) c.domains)
+by_sponsor_asks v = asks_domains domain_shown domain_by_sponsor (Int v ∷ []) _ (λ xs. filter (domain_with_sponsor v) xs) by_sponsor_is (λ db xs rows h answer.
+    selects domains _ _ (Int v ∷ []) (domain_with_sponsor v) domain_shown (λ x. last_term (at_ints false Eq x.sponsor v)) (λ x. refl) db xs rows h answer)
 
 pub first_by_registrant_is : IsSelect registry domain_first_by_registrant (limited_query 5 (op2 (Compare Eq Binary) (col 1 12) (col 0 0) ∷ []) columns (pos 1))
 unfolding understood everything
 first_by_registrant_is = record { names = codes "id" ∷ codes "name" ∷ codes "creator" ∷ codes "serial" ∷ codes "sponsor" ∷ codes "created" ∷ codes "years" ∷ codes "transferred" ∷ codes "updated" ∷ codes "statuses" ∷ codes "secret" ∷ codes "registrant" ∷ codes "deleted" ∷ codes "restore_requested" ∷ codes "due" ∷ []; command = refl; plain = (refl, refl); unlisted = refl }
 
-pub first_by_registrant_answers : (old new : State) (v : ℤ) (xs : List Domain) → old.now.schema ≡ registry → Holds domains old.now.trees xs → Answers domain_shown domain_first_by_registrant (Int v ∷ []) old new (take 1 (filter (domain_with_registrant v) xs))
-first_by_registrant_answers old new v xs has h rows seen =
-    limits domains _ columns (pos 1) (Int v ∷ []) (domain_with_registrant v) domain_shown (λ x. last_term (at_ints false Eq x.registrant v)) (λ x. refl) registry domain_first_by_registrant old new xs rows first_by_registrant_is has h seen
-    ∙ take-map domain_shown 1 (filter (domain_with_registrant v) xs)
+pub first_by_registrant_asks : (v : ℤ) → Asks domain_shown domain_first_by_registrant (Int v ∷ []) (λ c. take 1 (filter (domain_with_registrant v) c.domains))
+first_by_registrant_asks v = asks_domains domain_shown domain_first_by_registrant (Int v ∷ []) _ (λ xs. take 1 (filter (domain_with_registrant v) xs)) first_by_registrant_is (λ db xs rows h answer.
+    limits domains _ columns (pos 1) (Int v ∷ []) (domain_with_registrant v) domain_shown (λ x. last_term (at_ints false Eq x.registrant v)) (λ x. refl) db xs rows h answer
+    ∙ take-map domain_shown 1 (filter (domain_with_registrant v) xs))
 
 due_order : (x y : Domain) → ordering_then (value_cmp (Int x.due) (Int y.due)) (ordering_then (value_cmp (Int x.id) (Int y.id)) Equal) ≡ by_then_key domains by_due x y
 due_order x y = then_key (value_cmp-Int x.due y.due) (last_key (value_cmp-Int x.id y.id))
@@ -85,9 +86,9 @@ pub until_due_is : IsSelect registry domain_until_due (sorted_query 5 (op2 (Comp
 unfolding understood everything
 until_due_is = record { names = codes "id" ∷ codes "name" ∷ codes "creator" ∷ codes "serial" ∷ codes "sponsor" ∷ codes "created" ∷ codes "years" ∷ codes "transferred" ∷ codes "updated" ∷ codes "statuses" ∷ codes "secret" ∷ codes "registrant" ∷ codes "deleted" ∷ codes "restore_requested" ∷ codes "due" ∷ []; command = refl; plain = (refl, refl); unlisted = refl }
 
-pub until_due_answers : (old new : State) (v : ℤ) (xs : List Domain) → old.now.schema ≡ registry → Holds domains old.now.trees xs → Answers domain_shown domain_until_due (Int v ∷ []) old new (domains_by_due (filter (domain_within_due v) xs))
-until_due_answers old new v xs has h rows seen =
-    sorts domains _ columns due_columns (negsuc 0) (Int v ∷ []) (domain_within_due v) domain_shown by_due (λ x. last_term (at_ints false Le x.due v)) (λ x. refl) due_order registry domain_until_due old new xs rows until_due_is has h seen
+pub until_due_asks : (v : ℤ) → Asks domain_shown domain_until_due (Int v ∷ []) (λ c. domains_by_due (filter (domain_within_due v) c.domains))
+until_due_asks v = asks_domains domain_shown domain_until_due (Int v ∷ []) _ (λ xs. domains_by_due (filter (domain_within_due v) xs)) until_due_is (λ db xs rows h answer.
+    sorts domains _ columns due_columns (negsuc 0) (Int v ∷ []) (domain_within_due v) domain_shown by_due (λ x. last_term (at_ints false Le x.due v)) (λ x. refl) due_order db xs rows h answer)
 
 listed : Listed domains registry 3 table
 listed = record { is = refl; tree = refl; quiet = quiet_if_idle registry refl; uncounted = refl; unstamped = refl; casts = λ x. simp (cast_int, cast_null, cast_text, cast_maybe_int, cast_maybe_text) }
@@ -105,9 +106,8 @@ put_is = record { command = refl; plain = (refl, refl) }
 gives : Gives domains registry table 15 values sets domain_shown
 gives = record { values = λ x. refl; place = λ x v. refl; updates = λ x v r. refl; unshared = λ new r. refl; headed = λ x. refl }
 
-pub puts_row : (old new : State) (x : Domain) (xs : List Domain) (count : ℕ) → old.now.schema ≡ registry → Holds domains old.now.trees xs → Executes domain_put (domain_shown x) old new (Ok count)
-    → Sets domains registry old.now new.now (insert_by domains.key xs x)
-puts_row old new x xs count has h ran = puts domains registry 3 table listed 15 values sets domain_shown gives domain_put old new xs x has h put_is count ran
+pub put_alters : (x : Domain) → Alters domain_put (domain_shown x) (domains_to (λ xs. insert_by domains.key xs x))
+put_alters x = alters_domains domain_put (domain_shown x) (λ xs. insert_by domains.key xs x) put_is.plain (ap writes_tables put_is.command) (puts domains registry 3 table listed 15 values sets domain_shown gives domain_put x put_is)
 
 abbrev unnumbered : List Term
 unnumbered = lit Null ∷ lit Null ∷ col 0 0 ∷ col 0 1 ∷ col 0 2 ∷ col 0 3 ∷ col 0 4 ∷ col 0 5 ∷ col 0 6 ∷ col 0 7 ∷ col 0 8 ∷ col 0 9 ∷ col 0 10 ∷ col 0 11 ∷ col 0 12 ∷ col 0 13 ∷ []
@@ -119,16 +119,12 @@ append_is = record { command = refl; plain = (refl, refl) }
 numbers : Numbers domains table unnumbered (λ x. drop 1 (domain_shown x)) (λ x id. record x { id = id })
 numbers = record { values = λ x. refl; casts = λ x. simp (cast_int, cast_null, cast_text, cast_maybe_int, cast_maybe_text); row = λ x id. refl }
 
-pub appends_row : (old new : State) (x : Domain) (xs : List Domain) (count : ℕ) → old.now.schema ≡ registry → Holds domains old.now.trees xs → Executes domain_append (drop 1 (domain_shown x)) old new (Ok count)
-    → Sets domains registry old.now new.now (appended domains (λ id. record x { id = id }) xs)
-appends_row old new x xs count has h ran =
-    appends domains registry 3 table listed unnumbered (λ x. drop 1 (domain_shown x)) (λ x id. record x { id = id }) numbers domain_append old new xs x has h append_is count ran
+pub append_alters : (x : Domain) → Alters domain_append (drop 1 (domain_shown x)) (domains_to (λ xs. appended domains (λ id. record x { id = id }) xs))
+append_alters x = alters_domains domain_append (drop 1 (domain_shown x)) (λ xs. appended domains (λ id. record x { id = id }) xs) append_is.plain (ap writes_tables append_is.command) (appends domains registry 3 table listed unnumbered (λ x. drop 1 (domain_shown x)) (λ x id. record x { id = id }) numbers domain_append x append_is)
 
 pub remove_id_is : IsDelete registry domain_remove_id 3 5 (op2 (Compare Eq Binary) (col 1 0) (col 0 0) ∷ [])
 unfolding understood everything
 remove_id_is = record { command = refl; plain = (refl, refl) }
 
-pub removes_id : (old new : State) (v : ℤ) (xs : List Domain) (count : ℕ) → old.now.schema ≡ registry → Holds domains old.now.trees xs → Executes domain_remove_id (Int v ∷ []) old new (Ok count)
-    → Sets domains registry old.now new.now (delete_where (domain_with_id v) xs)
-removes_id old new v xs count has h ran =
-    deletes domains registry 3 table listed domain_remove_id (Int v ∷ []) old new xs has h _ (domain_with_id v) (λ x. last_term (at_ints false Eq x.id v)) remove_id_is count ran
+pub remove_id_alters : (v : ℤ) → Alters domain_remove_id (Int v ∷ []) (domains_to (λ xs. delete_where (domain_with_id v) xs))
+remove_id_alters v = alters_domains domain_remove_id (Int v ∷ []) (λ xs. delete_where (domain_with_id v) xs) remove_id_is.plain (ap writes_tables remove_id_is.command) (deletes domains registry 3 table listed domain_remove_id (Int v ∷ []) _ (domain_with_id v) (λ x. last_term (at_ints false Eq x.id v)) remove_id_is)

@@ -1,3 +1,10 @@
+pub mod DecodingLemmas
+pub mod StandingLemmas
+pub mod AskingLemmas
+pub mod AlteringLemmas
+pub mod TurningLemmas
+pub mod MakingLemmas
+pub mod TableLemmas
 pub mod MetaLemmas
 pub mod AccountLemmas
 pub mod DueLemmas

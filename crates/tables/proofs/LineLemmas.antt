@@ -1,5 +1,5 @@
 -- What the statements on the table `line` mean.
-use Rattle.std.proofs.Common.{drop, ◌≡◌, Ok, refl, List, [], ◌∷◌, ℕ, ℤ, filter, codes, false}
+use Rattle.std.proofs.Common.{ap, drop, refl, List, [], ◌∷◌, ℤ, filter, codes, false}
 use Rattle.sqlite_value.specs.declared.value.Value.TheVariants.{Null, Int}
 use Rattle.sqlite_value.specs.declared.keys.Collation.TheVariants.{Binary}
 use Rattle.sqlite_sql.specs.declared.ops.CompareOp.TheVariants.{Eq}
@@ -9,10 +9,8 @@ use Rattle.sqlite_schema.specs.declared.schema.Table.{Table}
 use Rattle.sqlite_typed.proofs.TestLemmas.{at_ints, at_points_to, then_term, last_term}
 use Rattle.sqlite_keyed.specs.Lists.{delete_where}
 use Rattle.sqlite.specs.Listing.{understood}
-use Rattle.sqlite.specs.State.{State, Executes}
 use Rattle.sqlite_tied.specs.Compute.{everything}
-use Rattle.rows.specs.Layouts.{Holds, Sets, Listed, Numbers, IsSelect, IsAppend, IsDelete, select_query, appended}
-use Rattle.rows.specs.Calls.{Answers}
+use Rattle.rows.specs.Layouts.{writes_tables, Listed, Numbers, IsSelect, IsAppend, IsDelete, select_query, appended}
 use Rattle.rows.proofs.SelectLemmas.{selects}
 use Rattle.rows.proofs.WriteLemmas.{deletes}
 use Rattle.rows.proofs.AppendLemmas.{appends}
@@ -20,6 +18,9 @@ use Rattle.rows.proofs.CastLemmas.{cast_int, cast_null, cast_text, cast_maybe_in
 use Rattle.rows.proofs.QuietLemmas.{quiet_if_idle}
 use Rattle.tables.specs.Tables.{line, registry, line_by_account, line_by_object, line_append, line_remove_id}
 use Rattle.tables.specs.Line.{Line, line_shown, lines, line_with_account, line_with_id, line_of_object}
+use Rattle.tables.specs.Content.{lines_to}
+use Rattle.tables.specs.Statements.{Alters, Asks}
+use Rattle.tables.proofs.TableLemmas.{asks_lines, alters_lines}
 
 abbrev columns : List Term
 columns = col 1 0 ∷ col 1 2 ∷ col 1 3 ∷ col 1 4 ∷ col 1 5 ∷ col 1 6 ∷ col 1 7 ∷ col 1 8 ∷ col 1 9 ∷ col 1 10 ∷ []
@@ -31,17 +32,17 @@ pub by_account_is : IsSelect registry line_by_account (select_query 11 (op2 (Com
 unfolding understood everything
 by_account_is = record { names = codes "id" ∷ codes "account" ∷ codes "kind" ∷ codes "creator" ∷ codes "serial" ∷ codes "years" ∷ codes "cents" ∷ codes "started" ∷ codes "refunded" ∷ codes "recorded" ∷ []; command = refl; plain = (refl, refl); unlisted = refl }
 
-pub by_account_answers : (old new : State) (v : ℤ) (xs : List Line) → old.now.schema ≡ registry → Holds lines old.now.trees xs → Answers line_shown line_by_account (Int v ∷ []) old new (filter (line_with_account v) xs)
-by_account_answers old new v xs has h rows seen =
-    selects lines _ _ (Int v ∷ []) (line_with_account v) line_shown (λ x. last_term (at_ints false Eq x.account v)) (λ x. refl) registry line_by_account old new xs rows by_account_is has h seen
+pub by_account_asks : (v : ℤ) → Asks line_shown line_by_account (Int v ∷ []) (λ c. filter (line_with_account v) c.lines)
+by_account_asks v = asks_lines line_shown line_by_account (Int v ∷ []) _ (λ xs. filter (line_with_account v) xs) by_account_is (λ db xs rows h answer.
+    selects lines _ _ (Int v ∷ []) (line_with_account v) line_shown (λ x. last_term (at_ints false Eq x.account v)) (λ x. refl) db xs rows h answer)
 
 pub by_object_is : IsSelect registry line_by_object (select_query 11 (op2 (Compare Eq Binary) (col 1 2) (col 0 0) ∷ op2 (Compare Eq Binary) (col 1 4) (col 0 1) ∷ op2 (Compare Eq Binary) (col 1 5) (col 0 2) ∷ []) columns)
 unfolding understood everything
 by_object_is = record { names = codes "id" ∷ codes "account" ∷ codes "kind" ∷ codes "creator" ∷ codes "serial" ∷ codes "years" ∷ codes "cents" ∷ codes "started" ∷ codes "refunded" ∷ codes "recorded" ∷ []; command = refl; plain = (refl, refl); unlisted = refl }
 
-pub by_object_answers : (old new : State) (account creator serial : ℤ) (xs : List Line) → old.now.schema ≡ registry → Holds lines old.now.trees xs → Answers line_shown line_by_object (Int account ∷ Int creator ∷ Int serial ∷ []) old new (filter (line_of_object account creator serial) xs)
-by_object_answers old new account creator serial xs has h rows seen =
-    selects lines _ _ (Int account ∷ Int creator ∷ Int serial ∷ []) (line_of_object account creator serial) line_shown (λ x. then_term (at_ints false Eq x.account account) (then_term (at_points_to x.creator creator) (last_term (at_points_to x.serial serial)))) (λ x. refl) registry line_by_object old new xs rows by_object_is has h seen
+pub by_object_asks : (account creator serial : ℤ) → Asks line_shown line_by_object (Int account ∷ Int creator ∷ Int serial ∷ []) (λ c. filter (line_of_object account creator serial) c.lines)
+by_object_asks account creator serial = asks_lines line_shown line_by_object (Int account ∷ Int creator ∷ Int serial ∷ []) _ (λ xs. filter (line_of_object account creator serial) xs) by_object_is (λ db xs rows h answer.
+    selects lines _ _ (Int account ∷ Int creator ∷ Int serial ∷ []) (line_of_object account creator serial) line_shown (λ x. then_term (at_ints false Eq x.account account) (then_term (at_points_to x.creator creator) (last_term (at_points_to x.serial serial)))) (λ x. refl) db xs rows h answer)
 
 listed : Listed lines registry 7 table
 listed = record { is = refl; tree = refl; quiet = quiet_if_idle registry refl; uncounted = refl; unstamped = refl; casts = λ x. simp (cast_int, cast_null, cast_text, cast_maybe_int, cast_maybe_text) }
@@ -56,16 +57,12 @@ append_is = record { command = refl; plain = (refl, refl) }
 numbers : Numbers lines table unnumbered (λ x. drop 1 (line_shown x)) (λ x id. record x { id = id })
 numbers = record { values = λ x. refl; casts = λ x. simp (cast_int, cast_null, cast_text, cast_maybe_int, cast_maybe_text); row = λ x id. refl }
 
-pub appends_row : (old new : State) (x : Line) (xs : List Line) (count : ℕ) → old.now.schema ≡ registry → Holds lines old.now.trees xs → Executes line_append (drop 1 (line_shown x)) old new (Ok count)
-    → Sets lines registry old.now new.now (appended lines (λ id. record x { id = id }) xs)
-appends_row old new x xs count has h ran =
-    appends lines registry 7 table listed unnumbered (λ x. drop 1 (line_shown x)) (λ x id. record x { id = id }) numbers line_append old new xs x has h append_is count ran
+pub append_alters : (x : Line) → Alters line_append (drop 1 (line_shown x)) (lines_to (λ xs. appended lines (λ id. record x { id = id }) xs))
+append_alters x = alters_lines line_append (drop 1 (line_shown x)) (λ xs. appended lines (λ id. record x { id = id }) xs) append_is.plain (ap writes_tables append_is.command) (appends lines registry 7 table listed unnumbered (λ x. drop 1 (line_shown x)) (λ x id. record x { id = id }) numbers line_append x append_is)
 
 pub remove_id_is : IsDelete registry line_remove_id 7 11 (op2 (Compare Eq Binary) (col 1 0) (col 0 0) ∷ [])
 unfolding understood everything
 remove_id_is = record { command = refl; plain = (refl, refl) }
 
-pub removes_id : (old new : State) (v : ℤ) (xs : List Line) (count : ℕ) → old.now.schema ≡ registry → Holds lines old.now.trees xs → Executes line_remove_id (Int v ∷ []) old new (Ok count)
-    → Sets lines registry old.now new.now (delete_where (line_with_id v) xs)
-removes_id old new v xs count has h ran =
-    deletes lines registry 7 table listed line_remove_id (Int v ∷ []) old new xs has h _ (line_with_id v) (λ x. last_term (at_ints false Eq x.id v)) remove_id_is count ran
+pub remove_id_alters : (v : ℤ) → Alters line_remove_id (Int v ∷ []) (lines_to (λ xs. delete_where (line_with_id v) xs))
+remove_id_alters v = alters_lines line_remove_id (Int v ∷ []) (λ xs. delete_where (line_with_id v) xs) remove_id_is.plain (ap writes_tables remove_id_is.command) (deletes lines registry 7 table listed line_remove_id (Int v ∷ []) _ (line_with_id v) (λ x. last_term (at_ints false Eq x.id v)) remove_id_is)

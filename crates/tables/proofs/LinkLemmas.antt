@@ -1,5 +1,5 @@
 -- What the statements on the table `link` mean.
-use Rattle.std.proofs.Common.{pos, take, drop, ◌≡◌, ◌∙◌, Ok, refl, List, [], ◌∷◌, ℕ, ℤ, filter, codes, false}
+use Rattle.std.proofs.Common.{ap, pos, take, drop, ◌∙◌, refl, List, [], ◌∷◌, ℤ, filter, codes, false}
 use Rattle.sqlite_value.specs.declared.value.Value.TheVariants.{Null, Int}
 use Rattle.sqlite_value.specs.declared.keys.Collation.TheVariants.{Binary}
 use Rattle.std.specs.List.{take-map}
@@ -10,10 +10,8 @@ use Rattle.sqlite_schema.specs.declared.schema.Table.{Table}
 use Rattle.sqlite_typed.proofs.TestLemmas.{at_ints, at_points_to, last_term}
 use Rattle.sqlite_keyed.specs.Lists.{delete_where}
 use Rattle.sqlite.specs.Listing.{understood}
-use Rattle.sqlite.specs.State.{State, Executes}
 use Rattle.sqlite_tied.specs.Compute.{everything}
-use Rattle.rows.specs.Layouts.{Holds, Sets, Listed, Numbers, IsSelect, IsAppend, IsDelete, select_query, limited_query, appended}
-use Rattle.rows.specs.Calls.{Answers}
+use Rattle.rows.specs.Layouts.{writes_tables, Listed, Numbers, IsSelect, IsAppend, IsDelete, select_query, limited_query, appended}
 use Rattle.rows.proofs.SelectLemmas.{selects, limits}
 use Rattle.rows.proofs.WriteLemmas.{deletes}
 use Rattle.rows.proofs.AppendLemmas.{appends}
@@ -21,6 +19,9 @@ use Rattle.rows.proofs.CastLemmas.{cast_int, cast_null, cast_text, cast_maybe_in
 use Rattle.rows.proofs.QuietLemmas.{quiet_if_idle}
 use Rattle.tables.specs.Tables.{link, registry, link_by_domain, link_by_host, link_first_by_contact, link_first_by_host, link_append, link_remove_domain}
 use Rattle.tables.specs.Link.{Link, link_shown, links, link_with_domain, link_with_contact, link_with_host}
+use Rattle.tables.specs.Content.{links_to}
+use Rattle.tables.specs.Statements.{Alters, Asks}
+use Rattle.tables.proofs.TableLemmas.{asks_links, alters_links}
 
 abbrev columns : List Term
 columns = col 1 0 ∷ col 1 2 ∷ col 1 3 ∷ col 1 4 ∷ col 1 5 ∷ []
@@ -32,35 +33,35 @@ pub by_domain_is : IsSelect registry link_by_domain (select_query 10 (op2 (Compa
 unfolding understood everything
 by_domain_is = record { names = codes "id" ∷ codes "domain" ∷ codes "contact" ∷ codes "host" ∷ codes "role" ∷ []; command = refl; plain = (refl, refl); unlisted = refl }
 
-pub by_domain_answers : (old new : State) (v : ℤ) (xs : List Link) → old.now.schema ≡ registry → Holds links old.now.trees xs → Answers link_shown link_by_domain (Int v ∷ []) old new (filter (link_with_domain v) xs)
-by_domain_answers old new v xs has h rows seen =
-    selects links _ _ (Int v ∷ []) (link_with_domain v) link_shown (λ x. last_term (at_ints false Eq x.domain v)) (λ x. refl) registry link_by_domain old new xs rows by_domain_is has h seen
+pub by_domain_asks : (v : ℤ) → Asks link_shown link_by_domain (Int v ∷ []) (λ c. filter (link_with_domain v) c.links)
+by_domain_asks v = asks_links link_shown link_by_domain (Int v ∷ []) _ (λ xs. filter (link_with_domain v) xs) by_domain_is (λ db xs rows h answer.
+    selects links _ _ (Int v ∷ []) (link_with_domain v) link_shown (λ x. last_term (at_ints false Eq x.domain v)) (λ x. refl) db xs rows h answer)
 
 pub by_host_is : IsSelect registry link_by_host (select_query 10 (op2 (Compare Eq Binary) (col 1 4) (col 0 0) ∷ []) columns)
 unfolding understood everything
 by_host_is = record { names = codes "id" ∷ codes "domain" ∷ codes "contact" ∷ codes "host" ∷ codes "role" ∷ []; command = refl; plain = (refl, refl); unlisted = refl }
 
-pub by_host_answers : (old new : State) (v : ℤ) (xs : List Link) → old.now.schema ≡ registry → Holds links old.now.trees xs → Answers link_shown link_by_host (Int v ∷ []) old new (filter (link_with_host v) xs)
-by_host_answers old new v xs has h rows seen =
-    selects links _ _ (Int v ∷ []) (link_with_host v) link_shown (λ x. last_term (at_points_to x.host v)) (λ x. refl) registry link_by_host old new xs rows by_host_is has h seen
+pub by_host_asks : (v : ℤ) → Asks link_shown link_by_host (Int v ∷ []) (λ c. filter (link_with_host v) c.links)
+by_host_asks v = asks_links link_shown link_by_host (Int v ∷ []) _ (λ xs. filter (link_with_host v) xs) by_host_is (λ db xs rows h answer.
+    selects links _ _ (Int v ∷ []) (link_with_host v) link_shown (λ x. last_term (at_points_to x.host v)) (λ x. refl) db xs rows h answer)
 
 pub first_by_contact_is : IsSelect registry link_first_by_contact (limited_query 10 (op2 (Compare Eq Binary) (col 1 3) (col 0 0) ∷ []) columns (pos 1))
 unfolding understood everything
 first_by_contact_is = record { names = codes "id" ∷ codes "domain" ∷ codes "contact" ∷ codes "host" ∷ codes "role" ∷ []; command = refl; plain = (refl, refl); unlisted = refl }
 
-pub first_by_contact_answers : (old new : State) (v : ℤ) (xs : List Link) → old.now.schema ≡ registry → Holds links old.now.trees xs → Answers link_shown link_first_by_contact (Int v ∷ []) old new (take 1 (filter (link_with_contact v) xs))
-first_by_contact_answers old new v xs has h rows seen =
-    limits links _ columns (pos 1) (Int v ∷ []) (link_with_contact v) link_shown (λ x. last_term (at_points_to x.contact v)) (λ x. refl) registry link_first_by_contact old new xs rows first_by_contact_is has h seen
-    ∙ take-map link_shown 1 (filter (link_with_contact v) xs)
+pub first_by_contact_asks : (v : ℤ) → Asks link_shown link_first_by_contact (Int v ∷ []) (λ c. take 1 (filter (link_with_contact v) c.links))
+first_by_contact_asks v = asks_links link_shown link_first_by_contact (Int v ∷ []) _ (λ xs. take 1 (filter (link_with_contact v) xs)) first_by_contact_is (λ db xs rows h answer.
+    limits links _ columns (pos 1) (Int v ∷ []) (link_with_contact v) link_shown (λ x. last_term (at_points_to x.contact v)) (λ x. refl) db xs rows h answer
+    ∙ take-map link_shown 1 (filter (link_with_contact v) xs))
 
 pub first_by_host_is : IsSelect registry link_first_by_host (limited_query 10 (op2 (Compare Eq Binary) (col 1 4) (col 0 0) ∷ []) columns (pos 1))
 unfolding understood everything
 first_by_host_is = record { names = codes "id" ∷ codes "domain" ∷ codes "contact" ∷ codes "host" ∷ codes "role" ∷ []; command = refl; plain = (refl, refl); unlisted = refl }
 
-pub first_by_host_answers : (old new : State) (v : ℤ) (xs : List Link) → old.now.schema ≡ registry → Holds links old.now.trees xs → Answers link_shown link_first_by_host (Int v ∷ []) old new (take 1 (filter (link_with_host v) xs))
-first_by_host_answers old new v xs has h rows seen =
-    limits links _ columns (pos 1) (Int v ∷ []) (link_with_host v) link_shown (λ x. last_term (at_points_to x.host v)) (λ x. refl) registry link_first_by_host old new xs rows first_by_host_is has h seen
-    ∙ take-map link_shown 1 (filter (link_with_host v) xs)
+pub first_by_host_asks : (v : ℤ) → Asks link_shown link_first_by_host (Int v ∷ []) (λ c. take 1 (filter (link_with_host v) c.links))
+first_by_host_asks v = asks_links link_shown link_first_by_host (Int v ∷ []) _ (λ xs. take 1 (filter (link_with_host v) xs)) first_by_host_is (λ db xs rows h answer.
+    limits links _ columns (pos 1) (Int v ∷ []) (link_with_host v) link_shown (λ x. last_term (at_points_to x.host v)) (λ x. refl) db xs rows h answer
+    ∙ take-map link_shown 1 (filter (link_with_host v) xs))
 
 listed : Listed links registry 6 table
 listed = record { is = refl; tree = refl; quiet = quiet_if_idle registry refl; uncounted = refl; unstamped = refl; casts = λ x. simp (cast_int, cast_null, cast_text, cast_maybe_int, cast_maybe_text) }
@@ -75,16 +76,12 @@ append_is = record { command = refl; plain = (refl, refl) }
 numbers : Numbers links table unnumbered (λ x. drop 1 (link_shown x)) (λ x id. record x { id = id })
 numbers = record { values = λ x. refl; casts = λ x. simp (cast_int, cast_null, cast_text, cast_maybe_int, cast_maybe_text); row = λ x id. refl }
 
-pub appends_row : (old new : State) (x : Link) (xs : List Link) (count : ℕ) → old.now.schema ≡ registry → Holds links old.now.trees xs → Executes link_append (drop 1 (link_shown x)) old new (Ok count)
-    → Sets links registry old.now new.now (appended links (λ id. record x { id = id }) xs)
-appends_row old new x xs count has h ran =
-    appends links registry 6 table listed unnumbered (λ x. drop 1 (link_shown x)) (λ x id. record x { id = id }) numbers link_append old new xs x has h append_is count ran
+pub append_alters : (x : Link) → Alters link_append (drop 1 (link_shown x)) (links_to (λ xs. appended links (λ id. record x { id = id }) xs))
+append_alters x = alters_links link_append (drop 1 (link_shown x)) (λ xs. appended links (λ id. record x { id = id }) xs) append_is.plain (ap writes_tables append_is.command) (appends links registry 6 table listed unnumbered (λ x. drop 1 (link_shown x)) (λ x id. record x { id = id }) numbers link_append x append_is)
 
 pub remove_domain_is : IsDelete registry link_remove_domain 6 10 (op2 (Compare Eq Binary) (col 1 2) (col 0 0) ∷ [])
 unfolding understood everything
 remove_domain_is = record { command = refl; plain = (refl, refl) }
 
-pub removes_domain : (old new : State) (v : ℤ) (xs : List Link) (count : ℕ) → old.now.schema ≡ registry → Holds links old.now.trees xs → Executes link_remove_domain (Int v ∷ []) old new (Ok count)
-    → Sets links registry old.now new.now (delete_where (link_with_domain v) xs)
-removes_domain old new v xs count has h ran =
-    deletes links registry 6 table listed link_remove_domain (Int v ∷ []) old new xs has h _ (link_with_domain v) (λ x. last_term (at_ints false Eq x.domain v)) remove_domain_is count ran
+pub remove_domain_alters : (v : ℤ) → Alters link_remove_domain (Int v ∷ []) (links_to (λ xs. delete_where (link_with_domain v) xs))
+remove_domain_alters v = alters_links link_remove_domain (Int v ∷ []) (λ xs. delete_where (link_with_domain v) xs) remove_domain_is.plain (ap writes_tables remove_domain_is.command) (deletes links registry 6 table listed link_remove_domain (Int v ∷ []) _ (link_with_domain v) (λ x. last_term (at_ints false Eq x.domain v)) remove_domain_is)

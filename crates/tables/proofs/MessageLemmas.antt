@@ -1,5 +1,5 @@
 -- What the statements on the table `message` mean.
-use Rattle.std.proofs.Common.{pos, negsuc, take, drop, Equal, ◌≡◌, ◌∙◌, Ok, refl, List, [], ◌∷◌, ℕ, ℤ, filter, codes, false}
+use Rattle.std.proofs.Common.{ap, pos, negsuc, take, drop, Equal, ◌≡◌, ◌∙◌, refl, List, [], ◌∷◌, ℤ, filter, codes, false}
 use Rattle.sqlite_value.specs.declared.value.Value.TheVariants.{Null, Int, Text}
 use Rattle.sqlite_value.specs.declared.keys.Collation.TheVariants.{Binary}
 use Rattle.std.specs.List.{take-map}
@@ -13,10 +13,8 @@ use Rattle.sqlite_schema.specs.declared.schema.Table.{Table}
 use Rattle.sqlite_typed.proofs.TestLemmas.{at_ints, at_texts, then_term, last_term, then_key, last_key}
 use Rattle.sqlite_keyed.specs.Lists.{delete_where}
 use Rattle.sqlite.specs.Listing.{understood}
-use Rattle.sqlite.specs.State.{State, Executes}
 use Rattle.sqlite_tied.specs.Compute.{everything}
-use Rattle.rows.specs.Layouts.{Holds, Sets, Listed, Numbers, IsSelect, IsAppend, IsDelete, select_query, sorted_query, by_then_key, appended}
-use Rattle.rows.specs.Calls.{Answers}
+use Rattle.rows.specs.Layouts.{writes_tables, Listed, Numbers, IsSelect, IsAppend, IsDelete, select_query, sorted_query, by_then_key, appended}
 use Rattle.rows.proofs.SelectLemmas.{selects, sorts}
 use Rattle.rows.proofs.WriteLemmas.{deletes}
 use Rattle.rows.proofs.AppendLemmas.{appends}
@@ -24,6 +22,9 @@ use Rattle.rows.proofs.CastLemmas.{cast_int, cast_null, cast_text, cast_maybe_in
 use Rattle.rows.proofs.QuietLemmas.{quiet_if_idle}
 use Rattle.tables.specs.Tables.{message, registry, message_by_account, message_first_by_account, message_same, message_append, message_remove_id}
 use Rattle.tables.specs.Message.{Message, message_shown, messages, message_with_account, message_with_id, is_same_message, message_order, queue_of}
+use Rattle.tables.specs.Content.{messages_to}
+use Rattle.tables.specs.Statements.{Alters, Asks}
+use Rattle.tables.proofs.TableLemmas.{asks_messages, alters_messages}
 
 abbrev columns : List Term
 columns = col 1 0 ∷ col 1 2 ∷ col 1 3 ∷ col 1 4 ∷ col 1 5 ∷ col 1 6 ∷ col 1 7 ∷ col 1 8 ∷ []
@@ -46,28 +47,28 @@ pub by_account_is : IsSelect registry message_by_account (sorted_query 12 (op2 (
 unfolding understood everything
 by_account_is = record { names = codes "id" ∷ codes "account" ∷ codes "moment" ∷ codes "class" ∷ codes "number" ∷ codes "name" ∷ codes "subject" ∷ codes "notice" ∷ []; command = refl; plain = (refl, refl); unlisted = refl }
 
-pub by_account_answers : (old new : State) (v : ℤ) (xs : List Message) → old.now.schema ≡ registry → Holds messages old.now.trees xs → Answers message_shown message_by_account (Int v ∷ []) old new (queue_of v xs)
-by_account_answers old new v xs has h rows seen =
-    sorts messages _ columns queue_columns (negsuc 0) (Int v ∷ []) (message_with_account v) message_shown message_order (λ x. last_term (at_ints false Eq x.account v)) (λ x. refl) queue_order registry message_by_account old new xs rows by_account_is has h seen
+pub by_account_asks : (v : ℤ) → Asks message_shown message_by_account (Int v ∷ []) (λ c. queue_of v c.messages)
+by_account_asks v = asks_messages message_shown message_by_account (Int v ∷ []) _ (λ xs. queue_of v xs) by_account_is (λ db xs rows h answer.
+    sorts messages _ columns queue_columns (negsuc 0) (Int v ∷ []) (message_with_account v) message_shown message_order (λ x. last_term (at_ints false Eq x.account v)) (λ x. refl) queue_order db xs rows h answer)
 
 pub first_by_account_is : IsSelect registry message_first_by_account (sorted_query 12 (op2 (Compare Eq Binary) (col 1 2) (col 0 0) ∷ []) columns queue_columns (pos 1))
 unfolding understood everything
 first_by_account_is = record { names = codes "id" ∷ codes "account" ∷ codes "moment" ∷ codes "class" ∷ codes "number" ∷ codes "name" ∷ codes "subject" ∷ codes "notice" ∷ []; command = refl; plain = (refl, refl); unlisted = refl }
 
-pub first_by_account_answers : (old new : State) (v : ℤ) (xs : List Message) → old.now.schema ≡ registry → Holds messages old.now.trees xs → Answers message_shown message_first_by_account (Int v ∷ []) old new (take 1 (queue_of v xs))
-first_by_account_answers old new v xs has h rows seen =
-    sorts messages _ columns queue_columns (pos 1) (Int v ∷ []) (message_with_account v) message_shown message_order (λ x. last_term (at_ints false Eq x.account v)) (λ x. refl) queue_order registry message_first_by_account old new xs rows first_by_account_is has h seen
-    ∙ take-map message_shown 1 (queue_of v xs)
+pub first_by_account_asks : (v : ℤ) → Asks message_shown message_first_by_account (Int v ∷ []) (λ c. take 1 (queue_of v c.messages))
+first_by_account_asks v = asks_messages message_shown message_first_by_account (Int v ∷ []) _ (λ xs. take 1 (queue_of v xs)) first_by_account_is (λ db xs rows h answer.
+    sorts messages _ columns queue_columns (pos 1) (Int v ∷ []) (message_with_account v) message_shown message_order (λ x. last_term (at_ints false Eq x.account v)) (λ x. refl) queue_order db xs rows h answer
+    ∙ take-map message_shown 1 (queue_of v xs))
 
 pub same_is : IsSelect registry message_same (select_query 12 (op2 (Compare Eq Binary) (col 1 2) (col 0 0) ∷ op2 (Compare Eq Binary) (col 1 3) (col 0 1) ∷ op2 (Compare Eq Binary) (col 1 4) (col 0 2) ∷ op2 (Compare Eq Binary) (col 1 5) (col 0 3) ∷ op2 (Compare Eq Binary) (col 1 6) (col 0 4) ∷ op2 (Compare Eq Binary) (col 1 7) (col 0 5) ∷ op2 (Compare Eq Binary) (col 1 8) (col 0 6) ∷ []) columns)
 unfolding understood everything
 same_is = record { names = codes "id" ∷ codes "account" ∷ codes "moment" ∷ codes "class" ∷ codes "number" ∷ codes "name" ∷ codes "subject" ∷ codes "notice" ∷ []; command = refl; plain = (refl, refl); unlisted = refl }
 
-pub same_answers : (old new : State) (m : Message) (xs : List Message) → old.now.schema ≡ registry → Holds messages old.now.trees xs → Answers message_shown message_same (drop 1 (message_shown m)) old new (filter (is_same_message m) xs)
-same_answers old new m xs has h rows seen =
+pub same_asks : (m : Message) → Asks message_shown message_same (drop 1 (message_shown m)) (λ c. filter (is_same_message m) c.messages)
+same_asks m = asks_messages message_shown message_same (drop 1 (message_shown m)) _ (λ xs. filter (is_same_message m) xs) same_is (λ db xs rows h answer.
     selects messages _ _ (drop 1 (message_shown m)) (is_same_message m) message_shown
     (λ x. then_term (at_ints false Eq x.account m.account) (then_term (at_ints false Eq x.moment m.moment) (then_term (at_ints false Eq x.class m.class) (then_term (at_ints false Eq x.number m.number) (then_term (at_texts false Eq x.name m.name) (then_term (at_ints false Eq x.subject m.subject) (last_term (at_ints false Eq x.notice m.notice))))))))
-    (λ x. refl) registry message_same old new xs rows same_is has h seen
+    (λ x. refl) db xs rows h answer)
 
 listed : Listed messages registry 8 table
 listed = record { is = refl; tree = refl; quiet = quiet_if_idle registry refl; uncounted = refl; unstamped = refl; casts = λ x. simp (cast_int, cast_null, cast_text, cast_maybe_int, cast_maybe_text) }
@@ -82,16 +83,12 @@ append_is = record { command = refl; plain = (refl, refl) }
 numbers : Numbers messages table unnumbered (λ x. drop 1 (message_shown x)) (λ x id. record x { id = id })
 numbers = record { values = λ x. refl; casts = λ x. simp (cast_int, cast_null, cast_text, cast_maybe_int, cast_maybe_text); row = λ x id. refl }
 
-pub appends_row : (old new : State) (x : Message) (xs : List Message) (count : ℕ) → old.now.schema ≡ registry → Holds messages old.now.trees xs → Executes message_append (drop 1 (message_shown x)) old new (Ok count)
-    → Sets messages registry old.now new.now (appended messages (λ id. record x { id = id }) xs)
-appends_row old new x xs count has h ran =
-    appends messages registry 8 table listed unnumbered (λ x. drop 1 (message_shown x)) (λ x id. record x { id = id }) numbers message_append old new xs x has h append_is count ran
+pub append_alters : (x : Message) → Alters message_append (drop 1 (message_shown x)) (messages_to (λ xs. appended messages (λ id. record x { id = id }) xs))
+append_alters x = alters_messages message_append (drop 1 (message_shown x)) (λ xs. appended messages (λ id. record x { id = id }) xs) append_is.plain (ap writes_tables append_is.command) (appends messages registry 8 table listed unnumbered (λ x. drop 1 (message_shown x)) (λ x id. record x { id = id }) numbers message_append x append_is)
 
 pub remove_id_is : IsDelete registry message_remove_id 8 12 (op2 (Compare Eq Binary) (col 1 0) (col 0 0) ∷ [])
 unfolding understood everything
 remove_id_is = record { command = refl; plain = (refl, refl) }
 
-pub removes_id : (old new : State) (v : ℤ) (xs : List Message) (count : ℕ) → old.now.schema ≡ registry → Holds messages old.now.trees xs → Executes message_remove_id (Int v ∷ []) old new (Ok count)
-    → Sets messages registry old.now new.now (delete_where (message_with_id v) xs)
-removes_id old new v xs count has h ran =
-    deletes messages registry 8 table listed message_remove_id (Int v ∷ []) old new xs has h _ (message_with_id v) (λ x. last_term (at_ints false Eq x.id v)) remove_id_is count ran
+pub remove_id_alters : (v : ℤ) → Alters message_remove_id (Int v ∷ []) (messages_to (λ xs. delete_where (message_with_id v) xs))
+remove_id_alters v = alters_messages message_remove_id (Int v ∷ []) (λ xs. delete_where (message_with_id v) xs) remove_id_is.plain (ap writes_tables remove_id_is.command) (deletes messages registry 8 table listed message_remove_id (Int v ∷ []) _ (message_with_id v) (λ x. last_term (at_ints false Eq x.id v)) remove_id_is)

@@ -1,21 +1,22 @@
 -- What the statements on the table `meta` mean.
-use Rattle.std.proofs.Common.{◌≡◌, ap, map, ◌∙◌, Ok, refl, List, [], ◌∷◌, ℕ, codes, true}
+use Rattle.std.proofs.Common.{ap, map, ◌∙◌, refl, List, [], ◌∷◌, codes, true}
 use Rattle.sqlite_value.specs.declared.value.Value.TheVariants.{Null}
 use Rattle.sqlite_sql.specs.Term.{Term, lit, col}
 use Rattle.sqlite_schema.specs.declared.schema.Table.{Table}
 use Rattle.sqlite_keyed.specs.Keyed.{insert_by}
 use Rattle.sqlite_keyed.proofs.ListLemmas.{filter_all, all_of}
 use Rattle.sqlite.specs.Listing.{understood}
-use Rattle.sqlite.specs.State.{State, Executes}
 use Rattle.sqlite_tied.specs.Compute.{everything}
-use Rattle.rows.specs.Layouts.{Holds, Sets, Listed, Gives, IsSelect, IsPut, select_query}
-use Rattle.rows.specs.Calls.{Answers}
+use Rattle.rows.specs.Layouts.{writes_tables, Listed, Gives, IsSelect, IsPut, select_query}
 use Rattle.rows.proofs.SelectLemmas.{selects}
 use Rattle.rows.proofs.PutLemmas.{puts}
 use Rattle.rows.proofs.CastLemmas.{cast_int, cast_null, cast_text, cast_maybe_int, cast_maybe_text}
 use Rattle.rows.proofs.QuietLemmas.{quiet_if_idle}
 use Rattle.tables.specs.Tables.{meta, registry, meta_all, meta_put}
 use Rattle.tables.specs.Meta.{Meta, meta_shown, metas}
+use Rattle.tables.specs.Content.{metas_to}
+use Rattle.tables.specs.Statements.{Alters, Asks}
+use Rattle.tables.proofs.TableLemmas.{asks_metas, alters_metas}
 
 abbrev columns : List Term
 columns = col 1 0 ∷ col 1 2 ∷ col 1 3 ∷ col 1 4 ∷ col 1 5 ∷ col 1 6 ∷ col 1 7 ∷ col 1 8 ∷ col 1 9 ∷ col 1 10 ∷ col 1 11 ∷ col 1 12 ∷ col 1 13 ∷ col 1 14 ∷ col 1 15 ∷ col 1 16 ∷ col 1 17 ∷ []
@@ -27,9 +28,9 @@ pub all_is : IsSelect registry meta_all (select_query 0 ([]) columns)
 unfolding understood everything
 all_is = record { names = codes "id" ∷ codes "version" ∷ codes "clock" ∷ codes "zone" ∷ codes "reserved" ∷ codes "days_add" ∷ codes "days_auto_renew" ∷ codes "days_renew" ∷ codes "days_transfer" ∷ codes "days_redemption" ∷ codes "days_restore" ∷ codes "days_pending_delete" ∷ codes "days_answer" ∷ codes "days_lock" ∷ codes "price_create" ∷ codes "price_renew" ∷ codes "price_transfer" ∷ []; command = refl; plain = (refl, refl); unlisted = refl }
 
-pub all_answers : (old new : State) (xs : List Meta) → old.now.schema ≡ registry → Holds metas old.now.trees xs → Answers meta_shown meta_all [] old new xs
-all_answers old new xs has h rows seen =
-    selects metas _ _ [] (λ _. true) meta_shown (λ x. refl) (λ x. refl) registry meta_all old new xs rows all_is has h seen ∙ ap (map meta_shown) (filter_all (λ _. true) xs (all_of _ (λ x. refl) xs))
+pub all_asks : Asks meta_shown meta_all [] (λ c. c.metas)
+all_asks = asks_metas meta_shown meta_all [] _ (λ xs. xs) all_is (λ db xs rows h answer.
+    selects metas _ _ [] (λ _. true) meta_shown (λ x. refl) (λ x. refl) db xs rows h answer ∙ ap (map meta_shown) (filter_all (λ _. true) xs (all_of _ (λ x. refl) xs)))
 
 listed : Listed metas registry 0 table
 listed = record { is = refl; tree = refl; quiet = quiet_if_idle registry refl; uncounted = refl; unstamped = refl; casts = λ x. simp (cast_int, cast_null, cast_text, cast_maybe_int, cast_maybe_text) }
@@ -47,6 +48,5 @@ put_is = record { command = refl; plain = (refl, refl) }
 gives : Gives metas registry table 17 values sets meta_shown
 gives = record { values = λ x. refl; place = λ x v. refl; updates = λ x v r. refl; unshared = λ new r. refl; headed = λ x. refl }
 
-pub puts_row : (old new : State) (x : Meta) (xs : List Meta) (count : ℕ) → old.now.schema ≡ registry → Holds metas old.now.trees xs → Executes meta_put (meta_shown x) old new (Ok count)
-    → Sets metas registry old.now new.now (insert_by metas.key xs x)
-puts_row old new x xs count has h ran = puts metas registry 0 table listed 17 values sets meta_shown gives meta_put old new xs x has h put_is count ran
+pub put_alters : (x : Meta) → Alters meta_put (meta_shown x) (metas_to (λ xs. insert_by metas.key xs x))
+put_alters x = alters_metas meta_put (meta_shown x) (λ xs. insert_by metas.key xs x) put_is.plain (ap writes_tables put_is.command) (puts metas registry 0 table listed 17 values sets meta_shown gives meta_put x put_is)

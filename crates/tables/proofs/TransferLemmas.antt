@@ -1,5 +1,5 @@
 -- What the statements on the table `transfer` mean.
-use Rattle.std.proofs.Common.{drop, ◌≡◌, Ok, refl, List, [], ◌∷◌, ℕ, ℤ, filter, codes, false}
+use Rattle.std.proofs.Common.{ap, drop, refl, List, [], ◌∷◌, ℤ, filter, codes, false}
 use Rattle.sqlite_value.specs.declared.value.Value.TheVariants.{Null, Int}
 use Rattle.sqlite_value.specs.declared.keys.Collation.TheVariants.{Binary}
 use Rattle.sqlite_sql.specs.declared.ops.CompareOp.TheVariants.{Eq}
@@ -9,10 +9,8 @@ use Rattle.sqlite_schema.specs.declared.schema.Table.{Table}
 use Rattle.sqlite_typed.proofs.TestLemmas.{at_ints, at_points_to, last_term}
 use Rattle.sqlite_keyed.specs.Lists.{delete_where}
 use Rattle.sqlite.specs.Listing.{understood}
-use Rattle.sqlite.specs.State.{State, Executes}
 use Rattle.sqlite_tied.specs.Compute.{everything}
-use Rattle.rows.specs.Layouts.{Holds, Sets, Listed, Numbers, IsSelect, IsAppend, IsDelete, select_query, appended}
-use Rattle.rows.specs.Calls.{Answers}
+use Rattle.rows.specs.Layouts.{writes_tables, Listed, Numbers, IsSelect, IsAppend, IsDelete, select_query, appended}
 use Rattle.rows.proofs.SelectLemmas.{selects}
 use Rattle.rows.proofs.WriteLemmas.{deletes}
 use Rattle.rows.proofs.AppendLemmas.{appends}
@@ -20,6 +18,9 @@ use Rattle.rows.proofs.CastLemmas.{cast_int, cast_null, cast_text, cast_maybe_in
 use Rattle.rows.proofs.QuietLemmas.{quiet_if_idle}
 use Rattle.tables.specs.Tables.{transfer, registry, transfer_by_contact, transfer_by_domain, transfer_by_requester, transfer_append, transfer_remove_contact, transfer_remove_domain}
 use Rattle.tables.specs.Transfer.{Transfer, transfer_shown, transfers, transfer_with_contact, transfer_with_domain, transfer_with_requester}
+use Rattle.tables.specs.Content.{transfers_to}
+use Rattle.tables.specs.Statements.{Alters, Asks}
+use Rattle.tables.proofs.TableLemmas.{asks_transfers, alters_transfers}
 
 abbrev columns : List Term
 columns = col 1 0 ∷ col 1 2 ∷ col 1 3 ∷ col 1 4 ∷ col 1 5 ∷ col 1 6 ∷ col 1 7 ∷ col 1 8 ∷ col 1 9 ∷ []
@@ -31,25 +32,25 @@ pub by_contact_is : IsSelect registry transfer_by_contact (select_query 13 (op2 
 unfolding understood everything
 by_contact_is = record { names = codes "id" ∷ codes "contact" ∷ codes "domain" ∷ codes "requester" ∷ codes "losing" ∷ codes "requested" ∷ codes "ac_date" ∷ codes "due" ∷ codes "state" ∷ []; command = refl; plain = (refl, refl); unlisted = refl }
 
-pub by_contact_answers : (old new : State) (v : ℤ) (xs : List Transfer) → old.now.schema ≡ registry → Holds transfers old.now.trees xs → Answers transfer_shown transfer_by_contact (Int v ∷ []) old new (filter (transfer_with_contact v) xs)
-by_contact_answers old new v xs has h rows seen =
-    selects transfers _ _ (Int v ∷ []) (transfer_with_contact v) transfer_shown (λ x. last_term (at_points_to x.contact v)) (λ x. refl) registry transfer_by_contact old new xs rows by_contact_is has h seen
+pub by_contact_asks : (v : ℤ) → Asks transfer_shown transfer_by_contact (Int v ∷ []) (λ c. filter (transfer_with_contact v) c.transfers)
+by_contact_asks v = asks_transfers transfer_shown transfer_by_contact (Int v ∷ []) _ (λ xs. filter (transfer_with_contact v) xs) by_contact_is (λ db xs rows h answer.
+    selects transfers _ _ (Int v ∷ []) (transfer_with_contact v) transfer_shown (λ x. last_term (at_points_to x.contact v)) (λ x. refl) db xs rows h answer)
 
 pub by_domain_is : IsSelect registry transfer_by_domain (select_query 13 (op2 (Compare Eq Binary) (col 1 3) (col 0 0) ∷ []) columns)
 unfolding understood everything
 by_domain_is = record { names = codes "id" ∷ codes "contact" ∷ codes "domain" ∷ codes "requester" ∷ codes "losing" ∷ codes "requested" ∷ codes "ac_date" ∷ codes "due" ∷ codes "state" ∷ []; command = refl; plain = (refl, refl); unlisted = refl }
 
-pub by_domain_answers : (old new : State) (v : ℤ) (xs : List Transfer) → old.now.schema ≡ registry → Holds transfers old.now.trees xs → Answers transfer_shown transfer_by_domain (Int v ∷ []) old new (filter (transfer_with_domain v) xs)
-by_domain_answers old new v xs has h rows seen =
-    selects transfers _ _ (Int v ∷ []) (transfer_with_domain v) transfer_shown (λ x. last_term (at_points_to x.domain v)) (λ x. refl) registry transfer_by_domain old new xs rows by_domain_is has h seen
+pub by_domain_asks : (v : ℤ) → Asks transfer_shown transfer_by_domain (Int v ∷ []) (λ c. filter (transfer_with_domain v) c.transfers)
+by_domain_asks v = asks_transfers transfer_shown transfer_by_domain (Int v ∷ []) _ (λ xs. filter (transfer_with_domain v) xs) by_domain_is (λ db xs rows h answer.
+    selects transfers _ _ (Int v ∷ []) (transfer_with_domain v) transfer_shown (λ x. last_term (at_points_to x.domain v)) (λ x. refl) db xs rows h answer)
 
 pub by_requester_is : IsSelect registry transfer_by_requester (select_query 13 (op2 (Compare Eq Binary) (col 1 4) (col 0 0) ∷ []) columns)
 unfolding understood everything
 by_requester_is = record { names = codes "id" ∷ codes "contact" ∷ codes "domain" ∷ codes "requester" ∷ codes "losing" ∷ codes "requested" ∷ codes "ac_date" ∷ codes "due" ∷ codes "state" ∷ []; command = refl; plain = (refl, refl); unlisted = refl }
 
-pub by_requester_answers : (old new : State) (v : ℤ) (xs : List Transfer) → old.now.schema ≡ registry → Holds transfers old.now.trees xs → Answers transfer_shown transfer_by_requester (Int v ∷ []) old new (filter (transfer_with_requester v) xs)
-by_requester_answers old new v xs has h rows seen =
-    selects transfers _ _ (Int v ∷ []) (transfer_with_requester v) transfer_shown (λ x. last_term (at_ints false Eq x.requester v)) (λ x. refl) registry transfer_by_requester old new xs rows by_requester_is has h seen
+pub by_requester_asks : (v : ℤ) → Asks transfer_shown transfer_by_requester (Int v ∷ []) (λ c. filter (transfer_with_requester v) c.transfers)
+by_requester_asks v = asks_transfers transfer_shown transfer_by_requester (Int v ∷ []) _ (λ xs. filter (transfer_with_requester v) xs) by_requester_is (λ db xs rows h answer.
+    selects transfers _ _ (Int v ∷ []) (transfer_with_requester v) transfer_shown (λ x. last_term (at_ints false Eq x.requester v)) (λ x. refl) db xs rows h answer)
 
 listed : Listed transfers registry 9 table
 listed = record { is = refl; tree = refl; quiet = quiet_if_idle registry refl; uncounted = refl; unstamped = refl; casts = λ x. simp (cast_int, cast_null, cast_text, cast_maybe_int, cast_maybe_text) }
@@ -64,25 +65,19 @@ append_is = record { command = refl; plain = (refl, refl) }
 numbers : Numbers transfers table unnumbered (λ x. drop 1 (transfer_shown x)) (λ x id. record x { id = id })
 numbers = record { values = λ x. refl; casts = λ x. simp (cast_int, cast_null, cast_text, cast_maybe_int, cast_maybe_text); row = λ x id. refl }
 
-pub appends_row : (old new : State) (x : Transfer) (xs : List Transfer) (count : ℕ) → old.now.schema ≡ registry → Holds transfers old.now.trees xs → Executes transfer_append (drop 1 (transfer_shown x)) old new (Ok count)
-    → Sets transfers registry old.now new.now (appended transfers (λ id. record x { id = id }) xs)
-appends_row old new x xs count has h ran =
-    appends transfers registry 9 table listed unnumbered (λ x. drop 1 (transfer_shown x)) (λ x id. record x { id = id }) numbers transfer_append old new xs x has h append_is count ran
+pub append_alters : (x : Transfer) → Alters transfer_append (drop 1 (transfer_shown x)) (transfers_to (λ xs. appended transfers (λ id. record x { id = id }) xs))
+append_alters x = alters_transfers transfer_append (drop 1 (transfer_shown x)) (λ xs. appended transfers (λ id. record x { id = id }) xs) append_is.plain (ap writes_tables append_is.command) (appends transfers registry 9 table listed unnumbered (λ x. drop 1 (transfer_shown x)) (λ x id. record x { id = id }) numbers transfer_append x append_is)
 
 pub remove_contact_is : IsDelete registry transfer_remove_contact 9 13 (op2 (Compare Eq Binary) (col 1 2) (col 0 0) ∷ [])
 unfolding understood everything
 remove_contact_is = record { command = refl; plain = (refl, refl) }
 
-pub removes_contact : (old new : State) (v : ℤ) (xs : List Transfer) (count : ℕ) → old.now.schema ≡ registry → Holds transfers old.now.trees xs → Executes transfer_remove_contact (Int v ∷ []) old new (Ok count)
-    → Sets transfers registry old.now new.now (delete_where (transfer_with_contact v) xs)
-removes_contact old new v xs count has h ran =
-    deletes transfers registry 9 table listed transfer_remove_contact (Int v ∷ []) old new xs has h _ (transfer_with_contact v) (λ x. last_term (at_points_to x.contact v)) remove_contact_is count ran
+pub remove_contact_alters : (v : ℤ) → Alters transfer_remove_contact (Int v ∷ []) (transfers_to (λ xs. delete_where (transfer_with_contact v) xs))
+remove_contact_alters v = alters_transfers transfer_remove_contact (Int v ∷ []) (λ xs. delete_where (transfer_with_contact v) xs) remove_contact_is.plain (ap writes_tables remove_contact_is.command) (deletes transfers registry 9 table listed transfer_remove_contact (Int v ∷ []) _ (transfer_with_contact v) (λ x. last_term (at_points_to x.contact v)) remove_contact_is)
 
 pub remove_domain_is : IsDelete registry transfer_remove_domain 9 13 (op2 (Compare Eq Binary) (col 1 3) (col 0 0) ∷ [])
 unfolding understood everything
 remove_domain_is = record { command = refl; plain = (refl, refl) }
 
-pub removes_domain : (old new : State) (v : ℤ) (xs : List Transfer) (count : ℕ) → old.now.schema ≡ registry → Holds transfers old.now.trees xs → Executes transfer_remove_domain (Int v ∷ []) old new (Ok count)
-    → Sets transfers registry old.now new.now (delete_where (transfer_with_domain v) xs)
-removes_domain old new v xs count has h ran =
-    deletes transfers registry 9 table listed transfer_remove_domain (Int v ∷ []) old new xs has h _ (transfer_with_domain v) (λ x. last_term (at_points_to x.domain v)) remove_domain_is count ran
+pub remove_domain_alters : (v : ℤ) → Alters transfer_remove_domain (Int v ∷ []) (transfers_to (λ xs. delete_where (transfer_with_domain v) xs))
+remove_domain_alters v = alters_transfers transfer_remove_domain (Int v ∷ []) (λ xs. delete_where (transfer_with_domain v) xs) remove_domain_is.plain (ap writes_tables remove_domain_is.command) (deletes transfers registry 9 table listed transfer_remove_domain (Int v ∷ []) _ (transfer_with_domain v) (λ x. last_term (at_points_to x.domain v)) remove_domain_is)

@@ -52,3 +52,33 @@ pub record IsContent (content : Content) (db : Database) : Type 0 where
   pub lines : Holds line_table.lines db.trees content.lines
   pub messages : Holds message_table.messages db.trees content.messages
   pub transfers : Holds transfer_table.transfers db.trees content.transfers
+
+abbrev pub metas_to : (List Meta → List Meta) → Content → Content
+metas_to change xs = record xs { metas = change xs.metas }
+
+abbrev pub accounts_to : (List Account → List Account) → Content → Content
+accounts_to change xs = record xs { accounts = change xs.accounts }
+
+abbrev pub contacts_to : (List Contact → List Contact) → Content → Content
+contacts_to change xs = record xs { contacts = change xs.contacts }
+
+abbrev pub domains_to : (List Domain → List Domain) → Content → Content
+domains_to change xs = record xs { domains = change xs.domains }
+
+abbrev pub hosts_to : (List Host → List Host) → Content → Content
+hosts_to change xs = record xs { hosts = change xs.hosts }
+
+abbrev pub addresses_to : (List Address → List Address) → Content → Content
+addresses_to change xs = record xs { addresses = change xs.addresses }
+
+abbrev pub links_to : (List Link → List Link) → Content → Content
+links_to change xs = record xs { links = change xs.links }
+
+abbrev pub lines_to : (List Line → List Line) → Content → Content
+lines_to change xs = record xs { lines = change xs.lines }
+
+abbrev pub messages_to : (List Message → List Message) → Content → Content
+messages_to change xs = record xs { messages = change xs.messages }
+
+abbrev pub transfers_to : (List Transfer → List Transfer) → Content → Content
+transfers_to change xs = record xs { transfers = change xs.transfers }

@@ -12,4 +12,7 @@ pub mod Message
 pub mod Transfer
 pub mod Content
 pub mod Balance
+pub mod Decoding
 pub mod Readiness
+pub mod Statements
+pub mod Stored

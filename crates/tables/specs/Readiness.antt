@@ -1,12 +1,11 @@
 -- What a database is to this program.
-use Rattle.std.specs.Prelude.{◌≡◌, ◌≢◌, Bool, true, false, List, [], ◌∷◌}
+use Rattle.std.specs.Prelude.{◌≡◌, ◌≢◌, Bool, false, List, [], ◌∷◌}
 use Rattle.std.specs.Ordering.{int_eq}
-use Rattle.sqlite.specs.Effect.{Database}
+use Rattle.sqlite_schema.specs.declared.schema.Schema.{Schema}
 use Rattle.rows.specs.Columns.{no_schema}
-use Rattle.rows.specs.Layouts.{Holds}
-use Rattle.tables.specs.declared.readiness.Ready.{Ready}
-use Rattle.tables.specs.declared.readiness.Ready.TheVariants.{Empty, Used, Other}
-use Rattle.tables.specs.Meta.{Meta, metas}
+use Rattle.tables.specs.declared.form.Form.{Form}
+use Rattle.tables.specs.declared.form.Form.TheVariants.{Unused, Making, Made, Other}
+use Rattle.tables.specs.Meta.{Meta}
 use Rattle.tables.specs.Tables.{registry, schema_number}
 
 -- the table `meta` has one row, and in it the number of this schema
@@ -15,9 +14,9 @@ is_numbered [] = false
 is_numbered (meta ∷ []) = int_eq meta.version schema_number
 is_numbered (meta ∷ other ∷ more) = false
 
--- nothing was ever made in it; or it has the tables of a registry, all of them, no other, and their number;
--- or it is a database of something else, or of another number
-abbrev pub IsReady : Database → Ready → Type 0
-IsReady db Empty = db.schema ≡ no_schema
-IsReady db Used = (db.schema ≡ registry) × ((xs : List Meta) → Holds metas db.trees xs → is_numbered xs ≡ true)
-IsReady db Other = (db.schema ≢ no_schema) × (db.schema ≡ registry → (xs : List Meta) → Holds metas db.trees xs → is_numbered xs ≡ false)
+-- nothing was ever made in it; or it has the tables of a registry, all of them and no other; or others
+abbrev pub IsFormOf : Schema → Form → Type 0
+IsFormOf schema Unused = schema ≡ no_schema
+IsFormOf schema Making = ⊥
+IsFormOf schema Made = schema ≡ registry
+IsFormOf schema Other = (schema ≢ no_schema) × (schema ≢ registry)

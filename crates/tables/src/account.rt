@@ -1,16 +1,17 @@
 //! Registrars' accounts.
 ghost use Rattle.std.specs.Prelude.{◌≡◌, true, filter};
-ghost use Rattle.sqlite.specs.Held.{state};
 ghost use Rattle.sqlite_keyed.specs.Keyed.{insert_by};
-ghost use Rattle.rows.specs.Calls.{Changes, Finds, IsSteady};
-ghost use Rattle.tables.specs.Tables.{registry};
+ghost use Rattle.tables.specs.Content.{accounts_to};
+ghost use Rattle.transactions.specs.States.{Finds, Makes};
 ghost use Rattle.tables.specs.Account.{Account, accounts, account_with_id};
 
-use rows::{Number, Record, select, write};
+use crate::store::RowStore;
+use basis::list::Seq;
+use rows::{Number, Record};
 use sqlite::types::{ToSql, Type, ValueRef};
-use sqlite::{Alter, Connection, Error, Row, params};
-use std::alloc::Global;
+use sqlite::{Alter, Error, Row, params};
 use std::marker::Model;
+use transactions::BookFault;
 
 const ALL: &str =
     "SELECT id, ident, commands, messages, serial, waiting, balance, held FROM account ORDER BY id";
@@ -98,33 +99,26 @@ impl Record for AccountRow {
     }
 }
 
-/// All of them, by their numbers.
-pub fn all_accounts<S: Alter>(
-    conn: &mut Connection<S>,
-    alloc: Global,
-) -> Result<Vec<AccountRow>, Error>
-    ensures does { conn.old.schema ≡ registry → Finds accounts (λ xs. xs) (state S.Store conn.old) (state S.Store conn.new) result }
-    ensures steady { IsSteady (state S.Store conn.old) (state S.Store conn.new) }
-{
-    select(conn, alloc, ALL, &[])
-}
+impl<S: Alter> RowStore<S> {
+    /// All of them, by their numbers.
+    pub fn all_accounts(&mut self) -> Result<Seq<AccountRow>, BookFault>
+        ensures { Finds result self.old.content.accounts self.old self.new }
+    {
+        self.select(ALL, &[])
+    }
 
-/// Those with this number.
-pub fn accounts_by_id<S: Alter>(
-    conn: &mut Connection<S>,
-    alloc: Global,
-    id: Number,
-) -> Result<Vec<AccountRow>, Error>
-    ensures does { conn.old.schema ≡ registry → Finds accounts (filter (account_with_id id)) (state S.Store conn.old) (state S.Store conn.new) result }
-    ensures steady { IsSteady (state S.Store conn.old) (state S.Store conn.new) }
-{
-    select(conn, alloc, BY_ID, params![id])
-}
+    /// Those with this number.
+    pub fn accounts_by_id(&mut self, id: Number) -> Result<Seq<AccountRow>, BookFault>
+        ensures { Finds result (filter (account_with_id id) self.old.content.accounts) self.old self.new }
+    {
+        self.select(BY_ID, params![id])
+    }
 
-/// Puts a row in the place of the one with its number, or beside all others.
-pub fn put_account<S: Alter>(conn: &mut Connection<S>, account: &AccountRow) -> Result<(), Error>
-    ensures does { conn.old.schema ≡ registry → conn.old.in_transaction ≡ true → Changes accounts registry (λ xs. insert_by accounts.key xs account.now) (state S.Store conn.old) (state S.Store conn.new) result }
-    ensures steady { IsSteady (state S.Store conn.old) (state S.Store conn.new) }
-{
-    write(conn, PUT, &account.params())
+    /// Puts a row in the place of the one with its number, or beside all others.
+    pub fn put_account(&mut self, account: &AccountRow) -> Result<(), BookFault>
+        requires { self.old.is_open ≡ true }
+        ensures { Makes result (accounts_to (λ xs. insert_by accounts.key xs account.now) self.old.content) self.old self.new }
+    {
+        self.write(PUT, &account.params())
+    }
 }

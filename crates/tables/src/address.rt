@@ -1,17 +1,18 @@
 //! Addresses of hosts.
 ghost use Rattle.std.specs.Prelude.{◌≡◌, true, filter};
-ghost use Rattle.sqlite.specs.Held.{state};
 ghost use Rattle.sqlite_keyed.specs.Lists.{delete_where};
-ghost use Rattle.rows.specs.Calls.{Changes, Finds, IsSteady};
+ghost use Rattle.tables.specs.Content.{addresses_to};
+ghost use Rattle.transactions.specs.States.{Finds, Makes};
 ghost use Rattle.rows.specs.Layouts.{appended};
-ghost use Rattle.tables.specs.Tables.{registry};
 ghost use Rattle.tables.specs.Address.{Address, addresses, address_with_host};
 
-use rows::{Number, Record, select, write};
+use crate::store::RowStore;
+use basis::list::Seq;
+use rows::{Number, Record};
 use sqlite::types::{ToSql, ValueRef};
-use sqlite::{Alter, Connection, Error, Row, params};
-use std::alloc::Global;
+use sqlite::{Alter, Error, Row, params};
 use std::marker::Model;
+use transactions::BookFault;
 
 const BY_HOST: &str = "SELECT id, host, address FROM address WHERE host = ?1 ORDER BY id";
 
@@ -70,33 +71,27 @@ impl Record for AddressRow {
     }
 }
 
-/// Those whose `host` is this.
-pub fn addresses_by_host<S: Alter>(
-    conn: &mut Connection<S>,
-    alloc: Global,
-    host: Number,
-) -> Result<Vec<AddressRow>, Error>
-    ensures does { conn.old.schema ≡ registry → Finds addresses (filter (address_with_host host)) (state S.Store conn.old) (state S.Store conn.new) result }
-    ensures steady { IsSteady (state S.Store conn.old) (state S.Store conn.new) }
-{
-    select(conn, alloc, BY_HOST, params![host])
-}
+impl<S: Alter> RowStore<S> {
+    /// Those whose `host` is this.
+    pub fn addresses_by_host(&mut self, host: Number) -> Result<Seq<AddressRow>, BookFault>
+        ensures { Finds result (filter (address_with_host host) self.old.content.addresses) self.old self.new }
+    {
+        self.select(BY_HOST, params![host])
+    }
 
-/// Adds a row at the end, with the number after the last one. The given row's number isn't looked at.
-pub fn append_address<S: Alter>(conn: &mut Connection<S>, address: &AddressRow) -> Result<(), Error>
-    ensures does { conn.old.schema ≡ registry → conn.old.in_transaction ≡ true → Changes addresses registry (appended addresses (λ id. record address.now { id = id })) (state S.Store conn.old) (state S.Store conn.new) result }
-    ensures steady { IsSteady (state S.Store conn.old) (state S.Store conn.new) }
-{
-    write(conn, APPEND, &address.params()[1..])
-}
+    /// Adds a row at the end, with the number after the last one. The given row's number isn't looked at.
+    pub fn append_address(&mut self, address: &AddressRow) -> Result<(), BookFault>
+        requires { self.old.is_open ≡ true }
+        ensures { Makes result (addresses_to (appended addresses (λ id. record address.now { id = id })) self.old.content) self.old self.new }
+    {
+        self.write(APPEND, &address.params()[1..])
+    }
 
-/// Removes those whose `host` is this.
-pub fn remove_addresses_by_host<S: Alter>(
-    conn: &mut Connection<S>,
-    host: Number,
-) -> Result<(), Error>
-    ensures does { conn.old.schema ≡ registry → conn.old.in_transaction ≡ true → Changes addresses registry (delete_where (address_with_host host)) (state S.Store conn.old) (state S.Store conn.new) result }
-    ensures steady { IsSteady (state S.Store conn.old) (state S.Store conn.new) }
-{
-    write(conn, REMOVE_HOST, params![host])
+    /// Removes those whose `host` is this.
+    pub fn remove_addresses_by_host(&mut self, host: Number) -> Result<(), BookFault>
+        requires { self.old.is_open ≡ true }
+        ensures { Makes result (addresses_to (delete_where (address_with_host host)) self.old.content) self.old self.new }
+    {
+        self.write(REMOVE_HOST, params![host])
+    }
 }

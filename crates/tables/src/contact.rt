@@ -1,18 +1,19 @@
 //! Contacts.
 ghost use Rattle.std.specs.Prelude.{◌≡◌, true, filter, IfOk};
-ghost use Rattle.sqlite.specs.Held.{state};
 ghost use Rattle.sqlite_keyed.specs.Keyed.{insert_by};
 ghost use Rattle.sqlite_keyed.specs.Lists.{delete_where};
-ghost use Rattle.rows.specs.Calls.{Changes, Finds, IsSteady};
+ghost use Rattle.tables.specs.Content.{contacts_to};
+ghost use Rattle.transactions.specs.States.{Finds, Makes};
 ghost use Rattle.rows.specs.Layouts.{appended};
-ghost use Rattle.tables.specs.Tables.{registry};
 ghost use Rattle.tables.specs.Contact.{Contact, contact_shown, contacts, contact_with_id, contact_with_name, contact_within_due, contacts_by_due};
 
-use rows::{Number, Record, maybe_number, maybe_text, select, write};
+use crate::store::RowStore;
+use basis::list::Seq;
+use rows::{Number, Record, maybe_number, maybe_text};
 use sqlite::types::{ToSql, ValueRef};
-use sqlite::{Alter, Connection, Error, Row, params};
-use std::alloc::Global;
+use sqlite::{Alter, Error, Row, params};
 use std::marker::Model;
+use transactions::BookFault;
 
 const BY_ID: &str =
     "SELECT id, name, creator, serial, sponsor, created, transferred, updated, statuses, secret, postal_name, org, street, city, state, postal_code, country, voice, due, mail FROM contact WHERE id = ?1 ORDER BY id";
@@ -197,63 +198,50 @@ impl Record for ContactRow {
     }
 }
 
-/// Those with this number.
-pub fn contacts_by_id<S: Alter>(
-    conn: &mut Connection<S>,
-    alloc: Global,
-    id: Number,
-) -> Result<Vec<ContactRow>, Error>
-    ensures does { conn.old.schema ≡ registry → Finds contacts (filter (contact_with_id id)) (state S.Store conn.old) (state S.Store conn.new) result }
-    ensures steady { IsSteady (state S.Store conn.old) (state S.Store conn.new) }
-{
-    select(conn, alloc, BY_ID, params![id])
-}
+impl<S: Alter> RowStore<S> {
+    /// Those with this number.
+    pub fn contacts_by_id(&mut self, id: Number) -> Result<Seq<ContactRow>, BookFault>
+        ensures { Finds result (filter (contact_with_id id) self.old.content.contacts) self.old self.new }
+    {
+        self.select(BY_ID, params![id])
+    }
 
-/// Those whose `name` is this.
-pub fn contacts_by_name<S: Alter>(
-    conn: &mut Connection<S>,
-    alloc: Global,
-    name: &str,
-) -> Result<Vec<ContactRow>, Error>
-    ensures does { conn.old.schema ≡ registry → Finds contacts (filter (contact_with_name name.now)) (state S.Store conn.old) (state S.Store conn.new) result }
-    ensures steady { IsSteady (state S.Store conn.old) (state S.Store conn.new) }
-{
-    select(conn, alloc, BY_NAME, params![name])
-}
+    /// Those whose `name` is this.
+    pub fn contacts_by_name(&mut self, name: &str) -> Result<Seq<ContactRow>, BookFault>
+        ensures { Finds result (filter (contact_with_name name.now) self.old.content.contacts) self.old self.new }
+    {
+        self.select(BY_NAME, params![name])
+    }
 
-/// Those whose `due` is this moment or one before, in the order in which they are due. No moment is
-/// before 1970.
-pub fn contacts_until_due<S: Alter>(
-    conn: &mut Connection<S>,
-    alloc: Global,
-    due: Number,
-) -> Result<Vec<ContactRow>, Error>
-    ensures does { conn.old.schema ≡ registry → Finds contacts (λ xs. contacts_by_due (filter (contact_within_due due) xs)) (state S.Store conn.old) (state S.Store conn.new) result }
-    ensures steady { IsSteady (state S.Store conn.old) (state S.Store conn.new) }
-{
-    select(conn, alloc, UNTIL_DUE, params![due])
-}
+    /// Those whose `due` is this moment or one before, in the order in which they are due. No moment is
+    /// before 1970.
+    pub fn contacts_until_due(&mut self, due: Number) -> Result<Seq<ContactRow>, BookFault>
+        ensures { Finds result (contacts_by_due (filter (contact_within_due due) self.old.content.contacts)) self.old self.new }
+    {
+        self.select(UNTIL_DUE, params![due])
+    }
 
-/// Puts a row in the place of the one with its number, or beside all others.
-pub fn put_contact<S: Alter>(conn: &mut Connection<S>, contact: &ContactRow) -> Result<(), Error>
-    ensures does { conn.old.schema ≡ registry → conn.old.in_transaction ≡ true → Changes contacts registry (λ xs. insert_by contacts.key xs contact.now) (state S.Store conn.old) (state S.Store conn.new) result }
-    ensures steady { IsSteady (state S.Store conn.old) (state S.Store conn.new) }
-{
-    write(conn, PUT, &contact.params())
-}
+    /// Puts a row in the place of the one with its number, or beside all others.
+    pub fn put_contact(&mut self, contact: &ContactRow) -> Result<(), BookFault>
+        requires { self.old.is_open ≡ true }
+        ensures { Makes result (contacts_to (λ xs. insert_by contacts.key xs contact.now) self.old.content) self.old self.new }
+    {
+        self.write(PUT, &contact.params())
+    }
 
-/// Adds a row at the end, with the number after the last one. The given row's number isn't looked at.
-pub fn append_contact<S: Alter>(conn: &mut Connection<S>, contact: &ContactRow) -> Result<(), Error>
-    ensures does { conn.old.schema ≡ registry → conn.old.in_transaction ≡ true → Changes contacts registry (appended contacts (λ id. record contact.now { id = id })) (state S.Store conn.old) (state S.Store conn.new) result }
-    ensures steady { IsSteady (state S.Store conn.old) (state S.Store conn.new) }
-{
-    write(conn, APPEND, &contact.params()[1..])
-}
+    /// Adds a row at the end, with the number after the last one. The given row's number isn't looked at.
+    pub fn append_contact(&mut self, contact: &ContactRow) -> Result<(), BookFault>
+        requires { self.old.is_open ≡ true }
+        ensures { Makes result (contacts_to (appended contacts (λ id. record contact.now { id = id })) self.old.content) self.old self.new }
+    {
+        self.write(APPEND, &contact.params()[1..])
+    }
 
-/// Removes those whose `id` is this.
-pub fn remove_contacts_by_id<S: Alter>(conn: &mut Connection<S>, id: Number) -> Result<(), Error>
-    ensures does { conn.old.schema ≡ registry → conn.old.in_transaction ≡ true → Changes contacts registry (delete_where (contact_with_id id)) (state S.Store conn.old) (state S.Store conn.new) result }
-    ensures steady { IsSteady (state S.Store conn.old) (state S.Store conn.new) }
-{
-    write(conn, REMOVE_ID, params![id])
+    /// Removes those whose `id` is this.
+    pub fn remove_contacts_by_id(&mut self, id: Number) -> Result<(), BookFault>
+        requires { self.old.is_open ≡ true }
+        ensures { Makes result (contacts_to (delete_where (contact_with_id id)) self.old.content) self.old self.new }
+    {
+        self.write(REMOVE_ID, params![id])
+    }
 }

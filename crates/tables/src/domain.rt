@@ -1,18 +1,19 @@
 //! Domains.
 ghost use Rattle.std.specs.Prelude.{◌≡◌, true, filter, take};
-ghost use Rattle.sqlite.specs.Held.{state};
 ghost use Rattle.sqlite_keyed.specs.Keyed.{insert_by};
 ghost use Rattle.sqlite_keyed.specs.Lists.{delete_where};
-ghost use Rattle.rows.specs.Calls.{Changes, Finds, IsSteady};
+ghost use Rattle.tables.specs.Content.{domains_to};
+ghost use Rattle.transactions.specs.States.{Finds, Makes};
 ghost use Rattle.rows.specs.Layouts.{appended};
-ghost use Rattle.tables.specs.Tables.{registry};
 ghost use Rattle.tables.specs.Domain.{Domain, domains, domain_with_id, domain_with_name, domain_with_sponsor, domain_with_registrant, domain_within_due, domains_by_due};
 
-use rows::{Number, Record, maybe_number, select, write};
+use crate::store::RowStore;
+use basis::list::Seq;
+use rows::{Number, Record, maybe_number};
 use sqlite::types::{ToSql, ValueRef};
-use sqlite::{Alter, Connection, Error, Row, params};
-use std::alloc::Global;
+use sqlite::{Alter, Error, Row, params};
 use std::marker::Model;
+use transactions::BookFault;
 
 const ALL: &str =
     "SELECT id, name, creator, serial, sponsor, created, years, transferred, updated, statuses, secret, registrant, deleted, restore_requested, due FROM domain ORDER BY id";
@@ -139,97 +140,73 @@ impl Record for DomainRow {
     }
 }
 
-/// All of them, by their numbers.
-pub fn all_domains<S: Alter>(
-    conn: &mut Connection<S>,
-    alloc: Global,
-) -> Result<Vec<DomainRow>, Error>
-    ensures does { conn.old.schema ≡ registry → Finds domains (λ xs. xs) (state S.Store conn.old) (state S.Store conn.new) result }
-    ensures steady { IsSteady (state S.Store conn.old) (state S.Store conn.new) }
-{
-    select(conn, alloc, ALL, &[])
-}
+impl<S: Alter> RowStore<S> {
+    /// All of them, by their numbers.
+    pub fn all_domains(&mut self) -> Result<Seq<DomainRow>, BookFault>
+        ensures { Finds result self.old.content.domains self.old self.new }
+    {
+        self.select(ALL, &[])
+    }
 
-/// Those with this number.
-pub fn domains_by_id<S: Alter>(
-    conn: &mut Connection<S>,
-    alloc: Global,
-    id: Number,
-) -> Result<Vec<DomainRow>, Error>
-    ensures does { conn.old.schema ≡ registry → Finds domains (filter (domain_with_id id)) (state S.Store conn.old) (state S.Store conn.new) result }
-    ensures steady { IsSteady (state S.Store conn.old) (state S.Store conn.new) }
-{
-    select(conn, alloc, BY_ID, params![id])
-}
+    /// Those with this number.
+    pub fn domains_by_id(&mut self, id: Number) -> Result<Seq<DomainRow>, BookFault>
+        ensures { Finds result (filter (domain_with_id id) self.old.content.domains) self.old self.new }
+    {
+        self.select(BY_ID, params![id])
+    }
 
-/// Those whose `name` is this.
-pub fn domains_by_name<S: Alter>(
-    conn: &mut Connection<S>,
-    alloc: Global,
-    name: &str,
-) -> Result<Vec<DomainRow>, Error>
-    ensures does { conn.old.schema ≡ registry → Finds domains (filter (domain_with_name name.now)) (state S.Store conn.old) (state S.Store conn.new) result }
-    ensures steady { IsSteady (state S.Store conn.old) (state S.Store conn.new) }
-{
-    select(conn, alloc, BY_NAME, params![name])
-}
+    /// Those whose `name` is this.
+    pub fn domains_by_name(&mut self, name: &str) -> Result<Seq<DomainRow>, BookFault>
+        ensures { Finds result (filter (domain_with_name name.now) self.old.content.domains) self.old self.new }
+    {
+        self.select(BY_NAME, params![name])
+    }
 
-/// Those whose `sponsor` is this.
-pub fn domains_by_sponsor<S: Alter>(
-    conn: &mut Connection<S>,
-    alloc: Global,
-    sponsor: Number,
-) -> Result<Vec<DomainRow>, Error>
-    ensures does { conn.old.schema ≡ registry → Finds domains (filter (domain_with_sponsor sponsor)) (state S.Store conn.old) (state S.Store conn.new) result }
-    ensures steady { IsSteady (state S.Store conn.old) (state S.Store conn.new) }
-{
-    select(conn, alloc, BY_SPONSOR, params![sponsor])
-}
+    /// Those whose `sponsor` is this.
+    pub fn domains_by_sponsor(&mut self, sponsor: Number) -> Result<Seq<DomainRow>, BookFault>
+        ensures { Finds result (filter (domain_with_sponsor sponsor) self.old.content.domains) self.old self.new }
+    {
+        self.select(BY_SPONSOR, params![sponsor])
+    }
 
-/// The first of those whose `registrant` is this, by number, if there is any.
-pub fn first_domains_by_registrant<S: Alter>(
-    conn: &mut Connection<S>,
-    alloc: Global,
-    registrant: Number,
-) -> Result<Vec<DomainRow>, Error>
-    ensures does { conn.old.schema ≡ registry → Finds domains (λ xs. take 1 (filter (domain_with_registrant registrant) xs)) (state S.Store conn.old) (state S.Store conn.new) result }
-    ensures steady { IsSteady (state S.Store conn.old) (state S.Store conn.new) }
-{
-    select(conn, alloc, FIRST_BY_REGISTRANT, params![registrant])
-}
+    /// The first of those whose `registrant` is this, by number, if there is any.
+    pub fn first_domains_by_registrant(
+        &mut self,
+        registrant: Number,
+    ) -> Result<Seq<DomainRow>, BookFault>
+        ensures { Finds result (take 1 (filter (domain_with_registrant registrant) self.old.content.domains)) self.old self.new }
+    {
+        self.select(FIRST_BY_REGISTRANT, params![registrant])
+    }
 
-/// Those whose `due` is this moment or one before, in the order in which they are due.
-pub fn domains_until_due<S: Alter>(
-    conn: &mut Connection<S>,
-    alloc: Global,
-    due: Number,
-) -> Result<Vec<DomainRow>, Error>
-    ensures does { conn.old.schema ≡ registry → Finds domains (λ xs. domains_by_due (filter (domain_within_due due) xs)) (state S.Store conn.old) (state S.Store conn.new) result }
-    ensures steady { IsSteady (state S.Store conn.old) (state S.Store conn.new) }
-{
-    select(conn, alloc, UNTIL_DUE, params![due])
-}
+    /// Those whose `due` is this moment or one before, in the order in which they are due.
+    pub fn domains_until_due(&mut self, due: Number) -> Result<Seq<DomainRow>, BookFault>
+        ensures { Finds result (domains_by_due (filter (domain_within_due due) self.old.content.domains)) self.old self.new }
+    {
+        self.select(UNTIL_DUE, params![due])
+    }
 
-/// Puts a row in the place of the one with its number, or beside all others.
-pub fn put_domain<S: Alter>(conn: &mut Connection<S>, domain: &DomainRow) -> Result<(), Error>
-    ensures does { conn.old.schema ≡ registry → conn.old.in_transaction ≡ true → Changes domains registry (λ xs. insert_by domains.key xs domain.now) (state S.Store conn.old) (state S.Store conn.new) result }
-    ensures steady { IsSteady (state S.Store conn.old) (state S.Store conn.new) }
-{
-    write(conn, PUT, &domain.params())
-}
+    /// Puts a row in the place of the one with its number, or beside all others.
+    pub fn put_domain(&mut self, domain: &DomainRow) -> Result<(), BookFault>
+        requires { self.old.is_open ≡ true }
+        ensures { Makes result (domains_to (λ xs. insert_by domains.key xs domain.now) self.old.content) self.old self.new }
+    {
+        self.write(PUT, &domain.params())
+    }
 
-/// Adds a row at the end, with the number after the last one. The given row's number isn't looked at.
-pub fn append_domain<S: Alter>(conn: &mut Connection<S>, domain: &DomainRow) -> Result<(), Error>
-    ensures does { conn.old.schema ≡ registry → conn.old.in_transaction ≡ true → Changes domains registry (appended domains (λ id. record domain.now { id = id })) (state S.Store conn.old) (state S.Store conn.new) result }
-    ensures steady { IsSteady (state S.Store conn.old) (state S.Store conn.new) }
-{
-    write(conn, APPEND, &domain.params()[1..])
-}
+    /// Adds a row at the end, with the number after the last one. The given row's number isn't looked at.
+    pub fn append_domain(&mut self, domain: &DomainRow) -> Result<(), BookFault>
+        requires { self.old.is_open ≡ true }
+        ensures { Makes result (domains_to (appended domains (λ id. record domain.now { id = id })) self.old.content) self.old self.new }
+    {
+        self.write(APPEND, &domain.params()[1..])
+    }
 
-/// Removes those whose `id` is this.
-pub fn remove_domains_by_id<S: Alter>(conn: &mut Connection<S>, id: Number) -> Result<(), Error>
-    ensures does { conn.old.schema ≡ registry → conn.old.in_transaction ≡ true → Changes domains registry (delete_where (domain_with_id id)) (state S.Store conn.old) (state S.Store conn.new) result }
-    ensures steady { IsSteady (state S.Store conn.old) (state S.Store conn.new) }
-{
-    write(conn, REMOVE_ID, params![id])
+    /// Removes those whose `id` is this.
+    pub fn remove_domains_by_id(&mut self, id: Number) -> Result<(), BookFault>
+        requires { self.old.is_open ≡ true }
+        ensures { Makes result (domains_to (delete_where (domain_with_id id)) self.old.content) self.old self.new }
+    {
+        self.write(REMOVE_ID, params![id])
+    }
 }

@@ -1,18 +1,19 @@
 //! Hosts.
 ghost use Rattle.std.specs.Prelude.{◌≡◌, true, filter};
-ghost use Rattle.sqlite.specs.Held.{state};
 ghost use Rattle.sqlite_keyed.specs.Keyed.{insert_by};
 ghost use Rattle.sqlite_keyed.specs.Lists.{delete_where};
-ghost use Rattle.rows.specs.Calls.{Changes, Finds, IsSteady};
+ghost use Rattle.tables.specs.Content.{hosts_to};
+ghost use Rattle.transactions.specs.States.{Finds, Makes};
 ghost use Rattle.rows.specs.Layouts.{appended};
-ghost use Rattle.tables.specs.Tables.{registry};
 ghost use Rattle.tables.specs.Host.{Host, hosts, host_with_id, host_with_name, host_with_above};
 
-use rows::{Number, Record, maybe_number, select, write};
+use crate::store::RowStore;
+use basis::list::Seq;
+use rows::{Number, Record, maybe_number};
 use sqlite::types::{ToSql, ValueRef};
-use sqlite::{Alter, Connection, Error, Row, params};
-use std::alloc::Global;
+use sqlite::{Alter, Error, Row, params};
 use std::marker::Model;
+use transactions::BookFault;
 
 const BY_ID: &str =
     "SELECT id, name, creator, serial, above, external_sponsor, sponsor, created, updated, statuses FROM host WHERE id = ?1 ORDER BY id";
@@ -111,62 +112,49 @@ impl Record for HostRow {
     }
 }
 
-/// Those with this number.
-pub fn hosts_by_id<S: Alter>(
-    conn: &mut Connection<S>,
-    alloc: Global,
-    id: Number,
-) -> Result<Vec<HostRow>, Error>
-    ensures does { conn.old.schema ≡ registry → Finds hosts (filter (host_with_id id)) (state S.Store conn.old) (state S.Store conn.new) result }
-    ensures steady { IsSteady (state S.Store conn.old) (state S.Store conn.new) }
-{
-    select(conn, alloc, BY_ID, params![id])
-}
+impl<S: Alter> RowStore<S> {
+    /// Those with this number.
+    pub fn hosts_by_id(&mut self, id: Number) -> Result<Seq<HostRow>, BookFault>
+        ensures { Finds result (filter (host_with_id id) self.old.content.hosts) self.old self.new }
+    {
+        self.select(BY_ID, params![id])
+    }
 
-/// Those whose `name` is this.
-pub fn hosts_by_name<S: Alter>(
-    conn: &mut Connection<S>,
-    alloc: Global,
-    name: &str,
-) -> Result<Vec<HostRow>, Error>
-    ensures does { conn.old.schema ≡ registry → Finds hosts (filter (host_with_name name.now)) (state S.Store conn.old) (state S.Store conn.new) result }
-    ensures steady { IsSteady (state S.Store conn.old) (state S.Store conn.new) }
-{
-    select(conn, alloc, BY_NAME, params![name])
-}
+    /// Those whose `name` is this.
+    pub fn hosts_by_name(&mut self, name: &str) -> Result<Seq<HostRow>, BookFault>
+        ensures { Finds result (filter (host_with_name name.now) self.old.content.hosts) self.old self.new }
+    {
+        self.select(BY_NAME, params![name])
+    }
 
-/// Those whose `above` is this.
-pub fn hosts_by_above<S: Alter>(
-    conn: &mut Connection<S>,
-    alloc: Global,
-    above: &str,
-) -> Result<Vec<HostRow>, Error>
-    ensures does { conn.old.schema ≡ registry → Finds hosts (filter (host_with_above above.now)) (state S.Store conn.old) (state S.Store conn.new) result }
-    ensures steady { IsSteady (state S.Store conn.old) (state S.Store conn.new) }
-{
-    select(conn, alloc, BY_ABOVE, params![above])
-}
+    /// Those whose `above` is this.
+    pub fn hosts_by_above(&mut self, above: &str) -> Result<Seq<HostRow>, BookFault>
+        ensures { Finds result (filter (host_with_above above.now) self.old.content.hosts) self.old self.new }
+    {
+        self.select(BY_ABOVE, params![above])
+    }
 
-/// Puts a row in the place of the one with its number, or beside all others.
-pub fn put_host<S: Alter>(conn: &mut Connection<S>, host: &HostRow) -> Result<(), Error>
-    ensures does { conn.old.schema ≡ registry → conn.old.in_transaction ≡ true → Changes hosts registry (λ xs. insert_by hosts.key xs host.now) (state S.Store conn.old) (state S.Store conn.new) result }
-    ensures steady { IsSteady (state S.Store conn.old) (state S.Store conn.new) }
-{
-    write(conn, PUT, &host.params())
-}
+    /// Puts a row in the place of the one with its number, or beside all others.
+    pub fn put_host(&mut self, host: &HostRow) -> Result<(), BookFault>
+        requires { self.old.is_open ≡ true }
+        ensures { Makes result (hosts_to (λ xs. insert_by hosts.key xs host.now) self.old.content) self.old self.new }
+    {
+        self.write(PUT, &host.params())
+    }
 
-/// Adds a row at the end, with the number after the last one. The given row's number isn't looked at.
-pub fn append_host<S: Alter>(conn: &mut Connection<S>, host: &HostRow) -> Result<(), Error>
-    ensures does { conn.old.schema ≡ registry → conn.old.in_transaction ≡ true → Changes hosts registry (appended hosts (λ id. record host.now { id = id })) (state S.Store conn.old) (state S.Store conn.new) result }
-    ensures steady { IsSteady (state S.Store conn.old) (state S.Store conn.new) }
-{
-    write(conn, APPEND, &host.params()[1..])
-}
+    /// Adds a row at the end, with the number after the last one. The given row's number isn't looked at.
+    pub fn append_host(&mut self, host: &HostRow) -> Result<(), BookFault>
+        requires { self.old.is_open ≡ true }
+        ensures { Makes result (hosts_to (appended hosts (λ id. record host.now { id = id })) self.old.content) self.old self.new }
+    {
+        self.write(APPEND, &host.params()[1..])
+    }
 
-/// Removes those whose `id` is this.
-pub fn remove_hosts_by_id<S: Alter>(conn: &mut Connection<S>, id: Number) -> Result<(), Error>
-    ensures does { conn.old.schema ≡ registry → conn.old.in_transaction ≡ true → Changes hosts registry (delete_where (host_with_id id)) (state S.Store conn.old) (state S.Store conn.new) result }
-    ensures steady { IsSteady (state S.Store conn.old) (state S.Store conn.new) }
-{
-    write(conn, REMOVE_ID, params![id])
+    /// Removes those whose `id` is this.
+    pub fn remove_hosts_by_id(&mut self, id: Number) -> Result<(), BookFault>
+        requires { self.old.is_open ≡ true }
+        ensures { Makes result (hosts_to (delete_where (host_with_id id)) self.old.content) self.old self.new }
+    {
+        self.write(REMOVE_ID, params![id])
+    }
 }

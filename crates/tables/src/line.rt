@@ -1,17 +1,18 @@
 //! Lines of accounts.
 ghost use Rattle.std.specs.Prelude.{◌≡◌, true, filter};
-ghost use Rattle.sqlite.specs.Held.{state};
 ghost use Rattle.sqlite_keyed.specs.Lists.{delete_where};
-ghost use Rattle.rows.specs.Calls.{Changes, Finds, IsSteady};
+ghost use Rattle.tables.specs.Content.{lines_to};
+ghost use Rattle.transactions.specs.States.{Finds, Makes};
 ghost use Rattle.rows.specs.Layouts.{appended};
-ghost use Rattle.tables.specs.Tables.{registry};
 ghost use Rattle.tables.specs.Line.{Line, lines, line_with_account, line_with_id, line_of_object};
 
-use rows::{Number, Record, maybe_number, select, write};
+use crate::store::RowStore;
+use basis::list::Seq;
+use rows::{Number, Record, maybe_number};
 use sqlite::types::{ToSql, ValueRef};
-use sqlite::{Alter, Connection, Error, Row, params};
-use std::alloc::Global;
+use sqlite::{Alter, Error, Row, params};
 use std::marker::Model;
+use transactions::BookFault;
 
 const BY_ACCOUNT: &str =
     "SELECT id, account, kind, creator, serial, years, cents, started, refunded, recorded FROM line WHERE account = ?1 ORDER BY id";
@@ -102,44 +103,39 @@ impl Record for LineRow {
     }
 }
 
-/// Those whose `account` is this.
-pub fn lines_by_account<S: Alter>(
-    conn: &mut Connection<S>,
-    alloc: Global,
-    account: Number,
-) -> Result<Vec<LineRow>, Error>
-    ensures does { conn.old.schema ≡ registry → Finds lines (filter (line_with_account account)) (state S.Store conn.old) (state S.Store conn.new) result }
-    ensures steady { IsSteady (state S.Store conn.old) (state S.Store conn.new) }
-{
-    select(conn, alloc, BY_ACCOUNT, params![account])
-}
+impl<S: Alter> RowStore<S> {
+    /// Those whose `account` is this.
+    pub fn lines_by_account(&mut self, account: Number) -> Result<Seq<LineRow>, BookFault>
+        ensures { Finds result (filter (line_with_account account) self.old.content.lines) self.old self.new }
+    {
+        self.select(BY_ACCOUNT, params![account])
+    }
 
-/// Those of this account for the object that this registrar created with this number.
-pub fn lines_by_object<S: Alter>(
-    conn: &mut Connection<S>,
-    alloc: Global,
-    account: Number,
-    creator: Number,
-    serial: Number,
-) -> Result<Vec<LineRow>, Error>
-    ensures does { conn.old.schema ≡ registry → Finds lines (filter (line_of_object account creator serial)) (state S.Store conn.old) (state S.Store conn.new) result }
-    ensures steady { IsSteady (state S.Store conn.old) (state S.Store conn.new) }
-{
-    select(conn, alloc, BY_OBJECT, params![account, creator, serial])
-}
+    /// Those of this account for the object that this registrar created with this number.
+    pub fn lines_by_object(
+        &mut self,
+        account: Number,
+        creator: Number,
+        serial: Number,
+    ) -> Result<Seq<LineRow>, BookFault>
+        ensures { Finds result (filter (line_of_object account creator serial) self.old.content.lines) self.old self.new }
+    {
+        self.select(BY_OBJECT, params![account, creator, serial])
+    }
 
-/// Adds a row at the end, with the number after the last one. The given row's number isn't looked at.
-pub fn append_line<S: Alter>(conn: &mut Connection<S>, line: &LineRow) -> Result<(), Error>
-    ensures does { conn.old.schema ≡ registry → conn.old.in_transaction ≡ true → Changes lines registry (appended lines (λ id. record line.now { id = id })) (state S.Store conn.old) (state S.Store conn.new) result }
-    ensures steady { IsSteady (state S.Store conn.old) (state S.Store conn.new) }
-{
-    write(conn, APPEND, &line.params()[1..])
-}
+    /// Adds a row at the end, with the number after the last one. The given row's number isn't looked at.
+    pub fn append_line(&mut self, line: &LineRow) -> Result<(), BookFault>
+        requires { self.old.is_open ≡ true }
+        ensures { Makes result (lines_to (appended lines (λ id. record line.now { id = id })) self.old.content) self.old self.new }
+    {
+        self.write(APPEND, &line.params()[1..])
+    }
 
-/// Removes those whose `id` is this.
-pub fn remove_lines_by_id<S: Alter>(conn: &mut Connection<S>, id: Number) -> Result<(), Error>
-    ensures does { conn.old.schema ≡ registry → conn.old.in_transaction ≡ true → Changes lines registry (delete_where (line_with_id id)) (state S.Store conn.old) (state S.Store conn.new) result }
-    ensures steady { IsSteady (state S.Store conn.old) (state S.Store conn.new) }
-{
-    write(conn, REMOVE_ID, params![id])
+    /// Removes those whose `id` is this.
+    pub fn remove_lines_by_id(&mut self, id: Number) -> Result<(), BookFault>
+        requires { self.old.is_open ≡ true }
+        ensures { Makes result (lines_to (delete_where (line_with_id id)) self.old.content) self.old self.new }
+    {
+        self.write(REMOVE_ID, params![id])
+    }
 }

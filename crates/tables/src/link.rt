@@ -1,17 +1,18 @@
 //! What domains name: contacts in a role, and hosts.
 ghost use Rattle.std.specs.Prelude.{◌≡◌, true, filter, take};
-ghost use Rattle.sqlite.specs.Held.{state};
 ghost use Rattle.sqlite_keyed.specs.Lists.{delete_where};
-ghost use Rattle.rows.specs.Calls.{Changes, Finds, IsSteady};
+ghost use Rattle.tables.specs.Content.{links_to};
+ghost use Rattle.transactions.specs.States.{Finds, Makes};
 ghost use Rattle.rows.specs.Layouts.{appended};
-ghost use Rattle.tables.specs.Tables.{registry};
 ghost use Rattle.tables.specs.Link.{Link, links, link_with_domain, link_with_contact, link_with_host};
 
-use rows::{Number, Record, maybe_number, select, write};
+use crate::store::RowStore;
+use basis::list::Seq;
+use rows::{Number, Record, maybe_number};
 use sqlite::types::{ToSql, ValueRef};
-use sqlite::{Alter, Connection, Error, Row, params};
-use std::alloc::Global;
+use sqlite::{Alter, Error, Row, params};
 use std::marker::Model;
+use transactions::BookFault;
 
 const BY_DOMAIN: &str =
     "SELECT id, domain, contact, host, role FROM link WHERE domain = ?1 ORDER BY id";
@@ -87,69 +88,48 @@ impl Record for LinkRow {
     }
 }
 
-/// Those whose `domain` is this.
-pub fn links_by_domain<S: Alter>(
-    conn: &mut Connection<S>,
-    alloc: Global,
-    domain: Number,
-) -> Result<Vec<LinkRow>, Error>
-    ensures does { conn.old.schema ≡ registry → Finds links (filter (link_with_domain domain)) (state S.Store conn.old) (state S.Store conn.new) result }
-    ensures steady { IsSteady (state S.Store conn.old) (state S.Store conn.new) }
-{
-    select(conn, alloc, BY_DOMAIN, params![domain])
-}
+impl<S: Alter> RowStore<S> {
+    /// Those whose `domain` is this.
+    pub fn links_by_domain(&mut self, domain: Number) -> Result<Seq<LinkRow>, BookFault>
+        ensures { Finds result (filter (link_with_domain domain) self.old.content.links) self.old self.new }
+    {
+        self.select(BY_DOMAIN, params![domain])
+    }
 
-/// Those whose `host` is this.
-pub fn links_by_host<S: Alter>(
-    conn: &mut Connection<S>,
-    alloc: Global,
-    host: Number,
-) -> Result<Vec<LinkRow>, Error>
-    ensures does { conn.old.schema ≡ registry → Finds links (filter (link_with_host host)) (state S.Store conn.old) (state S.Store conn.new) result }
-    ensures steady { IsSteady (state S.Store conn.old) (state S.Store conn.new) }
-{
-    select(conn, alloc, BY_HOST, params![host])
-}
+    /// Those whose `host` is this.
+    pub fn links_by_host(&mut self, host: Number) -> Result<Seq<LinkRow>, BookFault>
+        ensures { Finds result (filter (link_with_host host) self.old.content.links) self.old self.new }
+    {
+        self.select(BY_HOST, params![host])
+    }
 
-/// The first of those whose `contact` is this, by number, if there is any.
-pub fn first_links_by_contact<S: Alter>(
-    conn: &mut Connection<S>,
-    alloc: Global,
-    contact: Number,
-) -> Result<Vec<LinkRow>, Error>
-    ensures does { conn.old.schema ≡ registry → Finds links (λ xs. take 1 (filter (link_with_contact contact) xs)) (state S.Store conn.old) (state S.Store conn.new) result }
-    ensures steady { IsSteady (state S.Store conn.old) (state S.Store conn.new) }
-{
-    select(conn, alloc, FIRST_BY_CONTACT, params![contact])
-}
+    /// The first of those whose `contact` is this, by number, if there is any.
+    pub fn first_links_by_contact(&mut self, contact: Number) -> Result<Seq<LinkRow>, BookFault>
+        ensures { Finds result (take 1 (filter (link_with_contact contact) self.old.content.links)) self.old self.new }
+    {
+        self.select(FIRST_BY_CONTACT, params![contact])
+    }
 
-/// The first of those whose `host` is this, by number, if there is any.
-pub fn first_links_by_host<S: Alter>(
-    conn: &mut Connection<S>,
-    alloc: Global,
-    host: Number,
-) -> Result<Vec<LinkRow>, Error>
-    ensures does { conn.old.schema ≡ registry → Finds links (λ xs. take 1 (filter (link_with_host host) xs)) (state S.Store conn.old) (state S.Store conn.new) result }
-    ensures steady { IsSteady (state S.Store conn.old) (state S.Store conn.new) }
-{
-    select(conn, alloc, FIRST_BY_HOST, params![host])
-}
+    /// The first of those whose `host` is this, by number, if there is any.
+    pub fn first_links_by_host(&mut self, host: Number) -> Result<Seq<LinkRow>, BookFault>
+        ensures { Finds result (take 1 (filter (link_with_host host) self.old.content.links)) self.old self.new }
+    {
+        self.select(FIRST_BY_HOST, params![host])
+    }
 
-/// Adds a row at the end, with the number after the last one. The given row's number isn't looked at.
-pub fn append_link<S: Alter>(conn: &mut Connection<S>, link: &LinkRow) -> Result<(), Error>
-    ensures does { conn.old.schema ≡ registry → conn.old.in_transaction ≡ true → Changes links registry (appended links (λ id. record link.now { id = id })) (state S.Store conn.old) (state S.Store conn.new) result }
-    ensures steady { IsSteady (state S.Store conn.old) (state S.Store conn.new) }
-{
-    write(conn, APPEND, &link.params()[1..])
-}
+    /// Adds a row at the end, with the number after the last one. The given row's number isn't looked at.
+    pub fn append_link(&mut self, link: &LinkRow) -> Result<(), BookFault>
+        requires { self.old.is_open ≡ true }
+        ensures { Makes result (links_to (appended links (λ id. record link.now { id = id })) self.old.content) self.old self.new }
+    {
+        self.write(APPEND, &link.params()[1..])
+    }
 
-/// Removes those whose `domain` is this.
-pub fn remove_links_by_domain<S: Alter>(
-    conn: &mut Connection<S>,
-    domain: Number,
-) -> Result<(), Error>
-    ensures does { conn.old.schema ≡ registry → conn.old.in_transaction ≡ true → Changes links registry (delete_where (link_with_domain domain)) (state S.Store conn.old) (state S.Store conn.new) result }
-    ensures steady { IsSteady (state S.Store conn.old) (state S.Store conn.new) }
-{
-    write(conn, REMOVE_DOMAIN, params![domain])
+    /// Removes those whose `domain` is this.
+    pub fn remove_links_by_domain(&mut self, domain: Number) -> Result<(), BookFault>
+        requires { self.old.is_open ≡ true }
+        ensures { Makes result (links_to (delete_where (link_with_domain domain)) self.old.content) self.old self.new }
+    {
+        self.write(REMOVE_DOMAIN, params![domain])
+    }
 }

@@ -1,17 +1,18 @@
 //! Messages that wait.
 ghost use Rattle.std.specs.Prelude.{◌≡◌, true, filter, take};
-ghost use Rattle.sqlite.specs.Held.{state};
 ghost use Rattle.sqlite_keyed.specs.Lists.{delete_where};
-ghost use Rattle.rows.specs.Calls.{Changes, Finds, IsSteady};
+ghost use Rattle.tables.specs.Content.{messages_to};
+ghost use Rattle.transactions.specs.States.{Finds, Makes};
 ghost use Rattle.rows.specs.Layouts.{appended};
-ghost use Rattle.tables.specs.Tables.{registry};
 ghost use Rattle.tables.specs.Message.{Message, messages, message_with_id, is_same_message, queue_of};
 
-use rows::{Number, Record, select, write};
+use crate::store::RowStore;
+use basis::list::Seq;
+use rows::{Number, Record};
 use sqlite::types::{ToSql, ValueRef};
-use sqlite::{Alter, Connection, Error, Row, params};
-use std::alloc::Global;
+use sqlite::{Alter, Error, Row, params};
 use std::marker::Model;
+use transactions::BookFault;
 
 const BY_ACCOUNT: &str =
     "SELECT id, account, moment, class, number, name, subject, notice FROM message WHERE account = ?1 ORDER BY moment, class, number, name, subject, notice, id";
@@ -101,54 +102,44 @@ impl Record for MessageRow {
     }
 }
 
-/// Those whose `account` is this, in the order of its queue.
-pub fn messages_by_account<S: Alter>(
-    conn: &mut Connection<S>,
-    alloc: Global,
-    account: Number,
-) -> Result<Vec<MessageRow>, Error>
-    ensures does { conn.old.schema ≡ registry → Finds messages (queue_of account) (state S.Store conn.old) (state S.Store conn.new) result }
-    ensures steady { IsSteady (state S.Store conn.old) (state S.Store conn.new) }
-{
-    select(conn, alloc, BY_ACCOUNT, params![account])
-}
+impl<S: Alter> RowStore<S> {
+    /// Those whose `account` is this, in the order of its queue.
+    pub fn messages_by_account(&mut self, account: Number) -> Result<Seq<MessageRow>, BookFault>
+        ensures { Finds result (queue_of account self.old.content.messages) self.old self.new }
+    {
+        self.select(BY_ACCOUNT, params![account])
+    }
 
-/// The first of an account's queue alone, if it has any.
-pub fn first_messages_by_account<S: Alter>(
-    conn: &mut Connection<S>,
-    alloc: Global,
-    account: Number,
-) -> Result<Vec<MessageRow>, Error>
-    ensures does { conn.old.schema ≡ registry → Finds messages (λ xs. take 1 (queue_of account xs)) (state S.Store conn.old) (state S.Store conn.new) result }
-    ensures steady { IsSteady (state S.Store conn.old) (state S.Store conn.new) }
-{
-    select(conn, alloc, FIRST_BY_ACCOUNT, params![account])
-}
+    /// The first of an account's queue alone, if it has any.
+    pub fn first_messages_by_account(
+        &mut self,
+        account: Number,
+    ) -> Result<Seq<MessageRow>, BookFault>
+        ensures { Finds result (take 1 (queue_of account self.old.content.messages)) self.old self.new }
+    {
+        self.select(FIRST_BY_ACCOUNT, params![account])
+    }
 
-/// Those that are equal to this one in all columns but the number.
-pub fn same_messages<S: Alter>(
-    conn: &mut Connection<S>,
-    alloc: Global,
-    message: &MessageRow,
-) -> Result<Vec<MessageRow>, Error>
-    ensures does { conn.old.schema ≡ registry → Finds messages (filter (is_same_message message.now)) (state S.Store conn.old) (state S.Store conn.new) result }
-    ensures steady { IsSteady (state S.Store conn.old) (state S.Store conn.new) }
-{
-    select(conn, alloc, SAME, &message.params()[1..])
-}
+    /// Those that are equal to this one in all columns but the number.
+    pub fn same_messages(&mut self, message: &MessageRow) -> Result<Seq<MessageRow>, BookFault>
+        ensures { Finds result (filter (is_same_message message.now) self.old.content.messages) self.old self.new }
+    {
+        self.select(SAME, &message.params()[1..])
+    }
 
-/// Adds a row at the end, with the number after the last one. The given row's number isn't looked at.
-pub fn append_message<S: Alter>(conn: &mut Connection<S>, message: &MessageRow) -> Result<(), Error>
-    ensures does { conn.old.schema ≡ registry → conn.old.in_transaction ≡ true → Changes messages registry (appended messages (λ id. record message.now { id = id })) (state S.Store conn.old) (state S.Store conn.new) result }
-    ensures steady { IsSteady (state S.Store conn.old) (state S.Store conn.new) }
-{
-    write(conn, APPEND, &message.params()[1..])
-}
+    /// Adds a row at the end, with the number after the last one. The given row's number isn't looked at.
+    pub fn append_message(&mut self, message: &MessageRow) -> Result<(), BookFault>
+        requires { self.old.is_open ≡ true }
+        ensures { Makes result (messages_to (appended messages (λ id. record message.now { id = id })) self.old.content) self.old self.new }
+    {
+        self.write(APPEND, &message.params()[1..])
+    }
 
-/// Removes those whose `id` is this.
-pub fn remove_messages_by_id<S: Alter>(conn: &mut Connection<S>, id: Number) -> Result<(), Error>
-    ensures does { conn.old.schema ≡ registry → conn.old.in_transaction ≡ true → Changes messages registry (delete_where (message_with_id id)) (state S.Store conn.old) (state S.Store conn.new) result }
-    ensures steady { IsSteady (state S.Store conn.old) (state S.Store conn.new) }
-{
-    write(conn, REMOVE_ID, params![id])
+    /// Removes those whose `id` is this.
+    pub fn remove_messages_by_id(&mut self, id: Number) -> Result<(), BookFault>
+        requires { self.old.is_open ≡ true }
+        ensures { Makes result (messages_to (delete_where (message_with_id id)) self.old.content) self.old self.new }
+    {
+        self.write(REMOVE_ID, params![id])
+    }
 }

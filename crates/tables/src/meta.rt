@@ -1,16 +1,17 @@
 //! What holds of the whole registry, in one row.
 ghost use Rattle.std.specs.Prelude.{◌≡◌, true};
-ghost use Rattle.sqlite.specs.Held.{state};
 ghost use Rattle.sqlite_keyed.specs.Keyed.{insert_by};
-ghost use Rattle.rows.specs.Calls.{Changes, Finds, IsSteady};
-ghost use Rattle.tables.specs.Tables.{registry};
+ghost use Rattle.tables.specs.Content.{metas_to};
+ghost use Rattle.transactions.specs.States.{Finds, Makes};
 ghost use Rattle.tables.specs.Meta.{Meta, metas};
 
-use rows::{Record, select, write};
+use crate::store::RowStore;
+use basis::list::Seq;
+use rows::Record;
 use sqlite::types::{ToSql, ValueRef};
-use sqlite::{Alter, Connection, Error, Row};
-use std::alloc::Global;
+use sqlite::{Alter, Error, Row};
 use std::marker::Model;
+use transactions::BookFault;
 
 const ALL: &str =
     "SELECT id, version, clock, zone, reserved, days_add, days_auto_renew, days_renew, days_transfer, days_redemption, days_restore, days_pending_delete, days_answer, days_lock, price_create, price_renew, price_transfer FROM meta ORDER BY id";
@@ -125,18 +126,19 @@ impl Record for MetaRow {
     }
 }
 
-/// All of them, by their numbers.
-pub fn all_metas<S: Alter>(conn: &mut Connection<S>, alloc: Global) -> Result<Vec<MetaRow>, Error>
-    ensures does { conn.old.schema ≡ registry → Finds metas (λ xs. xs) (state S.Store conn.old) (state S.Store conn.new) result }
-    ensures steady { IsSteady (state S.Store conn.old) (state S.Store conn.new) }
-{
-    select(conn, alloc, ALL, &[])
-}
+impl<S: Alter> RowStore<S> {
+    /// All of them, by their numbers.
+    pub fn all_metas(&mut self) -> Result<Seq<MetaRow>, BookFault>
+        ensures { Finds result self.old.content.metas self.old self.new }
+    {
+        self.select(ALL, &[])
+    }
 
-/// Puts a row in the place of the one with its number, or beside all others.
-pub fn put_meta<S: Alter>(conn: &mut Connection<S>, meta: &MetaRow) -> Result<(), Error>
-    ensures does { conn.old.schema ≡ registry → conn.old.in_transaction ≡ true → Changes metas registry (λ xs. insert_by metas.key xs meta.now) (state S.Store conn.old) (state S.Store conn.new) result }
-    ensures steady { IsSteady (state S.Store conn.old) (state S.Store conn.new) }
-{
-    write(conn, PUT, &meta.params())
+    /// Puts a row in the place of the one with its number, or beside all others.
+    pub fn put_meta(&mut self, meta: &MetaRow) -> Result<(), BookFault>
+        requires { self.old.is_open ≡ true }
+        ensures { Makes result (metas_to (λ xs. insert_by metas.key xs meta.now) self.old.content) self.old self.new }
+    {
+        self.write(PUT, &meta.params())
+    }
 }

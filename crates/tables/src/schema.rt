@@ -75,6 +75,7 @@ pub fn create<S: Alter>(conn: &mut Connection<S>) -> Result<(), Error>
     ensures makes { conn.old.schema ≡ no_schema → IsTrue (state S.Store conn.old).is_open → conn.old.in_transaction ≡ true → HasCleanDisk (state S.Store conn.new) → Makes registry (state S.Store conn.old) (state S.Store conn.new) result }
     ensures empty { conn.old.schema ≡ no_schema → IsTrue (state S.Store conn.old).is_open → conn.old.in_transaction ≡ true → HasCleanDisk (state S.Store conn.new) → OnOk result (IsContent no_content (state S.Store conn.new).now) }
     ensures steady { IsSteady (state S.Store conn.old) (state S.Store conn.new) }
+    ensures opened { HasCleanDisk (state S.Store conn.new) → IsTrue (state S.Store conn.new).is_open → IsTrue (state S.Store conn.old).is_open }
 {
     define(
         conn,

@@ -1,93 +1,83 @@
-//! The tables, made, filled and read in memory.
+//! A store of rows in memory: what is committed stays, and what isn't goes.
 
-mod fixtures;
-mod ledgers;
-mod objects;
-
-use crate::{
-    MetaRow, Ready, all_metas, balance_of_bytes, bytes_of_balance, create, put_meta, readiness_of,
-};
-use rows::begin;
-use sqlite::{Alter, Connection, Error};
-use std::alloc::Global;
+use crate::{AccountRow, LinkRow, MessageRow, RowStore};
+use rows::Number;
+use sqlite::MemStore;
+use std::alloc::{AllocError, Global};
 use std::process::Abort;
+use transactions::BookFault;
 
-fn meta_of(alloc: Global, version: i64) -> Result<MetaRow, Error> {
-    let zone = String::from_str(alloc, "test")?;
-    Ok(MetaRow {
-        id: 1,
-        version,
-        clock: 0,
-        zone,
-        reserved: String::new(alloc),
-        days_add: 5,
-        days_auto_renew: 45,
-        days_renew: 5,
-        days_transfer: 5,
-        days_redemption: 30,
-        days_restore: 7,
-        days_pending_delete: 5,
-        days_answer: 5,
-        days_lock: 60,
-        price_create: 800,
-        price_renew: 800,
-        price_transfer: 800,
+fn account(alloc: Global, id: i64) -> Result<AccountRow, AllocError> {
+    let ident = if id == 1 { "alfa" } else { "beta" };
+    Ok(AccountRow {
+        id,
+        ident: String::from_str(alloc, ident)?,
+        commands: 7,
+        messages: 0,
+        serial: 3,
+        waiting: 0,
+        balance: [0; 16],
+        held: 0,
     })
 }
 
-/// The number of a schema, and what a database is that has it.
-const NUMBERS: &[(i64, Ready)] = &[(0, Ready::Other), (2, Ready::Other), (1, Ready::Used)];
-
-fn ready_under<S: Alter>(
-    conn: &mut Connection<S>,
-    alloc: Global,
-    number: i64,
-) -> Result<Ready, Error> {
-    let meta = meta_of(alloc, number)?;
-    put_meta(conn, &meta)?;
-    readiness_of(conn, alloc)
+fn message(alloc: Global, moment: i64) -> Result<MessageRow, AllocError> {
+    Ok(MessageRow {
+        id: 0,
+        account: 1,
+        moment,
+        class: 1,
+        number: 1,
+        name: String::from_str(alloc, "foo.test")?,
+        subject: 1,
+        notice: 1,
+    })
 }
 
-fn tell_numbers<S: Alter>(
-    rt: &impl Abort,
-    conn: &mut Connection<S>,
-    alloc: Global,
-) -> Result<(), Error> {
-    for (number, ready) in NUMBERS {
-        assert_eq!(rt;
-            ready_under(conn, alloc, *number)?,
-            *ready,
-            "under {number}"
-        );
-    }
-    assert_eq!(rt; all_metas(conn, alloc)?.len(), 1);
-    Ok(())
+/// How many accounts have this number, and how many messages wait for it.
+fn counts(store: &mut RowStore<MemStore>, id: i64) -> Result<(usize, usize), BookFault> {
+    let accounts = store.accounts_by_id(Number::new(id))?.as_slice().len();
+    let messages = store.messages_by_account(Number::new(id))?.as_slice().len();
+    Ok((accounts, messages))
 }
 
-fn tell<S: Alter>(rt: &impl Abort, conn: &mut Connection<S>, alloc: Global) -> Result<(), Error> {
-    assert_eq!(rt; readiness_of(conn, alloc)?, Ready::Empty);
-    begin(conn)?;
-    create(conn)?;
-    tell_numbers(rt, conn, alloc)
+fn fill(store: &mut RowStore<MemStore>, alloc: Global) -> Result<(), BookFault> {
+    store.put_account(&account(alloc, 1)?)?;
+    store.put_account(&account(alloc, 2)?)?;
+    store.append_message(&message(alloc, 9)?)?;
+    store.append_message(&message(alloc, 5)?)
 }
 
 #[test]
-fn tells_a_registry_by_its_tables_and_their_number(rt: HostRuntime) -> Result<(), Error> {
+fn keeps_what_is_committed_alone(rt: HostRuntime) -> Result<(), BookFault> {
     let alloc = rt.alloc();
-    let mut conn = Connection::open_in_memory(alloc)?;
-    let told = tell(&rt, &mut conn, alloc);
-    drop(conn);
-    told
-}
-
-/// Cents, and the last two bytes of how they are stored.
-const BALANCES: &[(i128, u8, u8)] = &[(-800, 0xfc, 0xe0), (0, 0, 0), (800, 0x03, 0x20)];
-
-#[test]
-fn stores_a_balance_the_highest_byte_first(rt: HostRuntime) {
-    for (cents, high, low) in BALANCES {
-        let bytes = bytes_of_balance(*cents);
-        assert_eq!(rt; (bytes[14], bytes[15]), (*high, *low), "of {cents}");
-        assert_eq!(rt; balance_of_bytes(bytes), *cents);
-    }
+    let mut store = RowStore::in_memory(alloc)?;
+    store.begin()?;
+    fill(&mut store, alloc)?;
+    store.back();
+    assert!(rt; store.accounts_by_id(Number::new(1)).is_err());
+    store.begin()?;
+    fill(&mut store, alloc)?;
+    assert!(rt; counts(&mut store, 1)? == (1, 2));
+    store.commit()?;
+    assert!(rt; counts(&mut store, 2)? == (1, 0));
+    store.begin()?;
+    store.remove_messages_by_id(Number::new(2))?;
+    let first = store.first_messages_by_account(Number::new(1))?;
+    assert!(rt; first.as_slice().iter().all(|it| it.moment == 9));
+    assert!(rt; first.as_slice().len() == 1);
+    store.back();
+    assert!(rt; counts(&mut store, 1)? == (1, 2));
+    let link = LinkRow {
+        id: 0,
+        domain: 4,
+        role: 1,
+        contact: None,
+        host: None,
+    };
+    store.begin()?;
+    assert!(rt; store.append_link(&link).is_err());
+    store.back();
+    assert!(rt; store.all_accounts()?.as_slice().len() == 2);
+    Ok(())
 }

@@ -1,17 +1,18 @@
 //! The last transfer of each object that had one.
 ghost use Rattle.std.specs.Prelude.{◌≡◌, true, filter};
-ghost use Rattle.sqlite.specs.Held.{state};
 ghost use Rattle.sqlite_keyed.specs.Lists.{delete_where};
-ghost use Rattle.rows.specs.Calls.{Changes, Finds, IsSteady};
+ghost use Rattle.tables.specs.Content.{transfers_to};
+ghost use Rattle.transactions.specs.States.{Finds, Makes};
 ghost use Rattle.rows.specs.Layouts.{appended};
-ghost use Rattle.tables.specs.Tables.{registry};
 ghost use Rattle.tables.specs.Transfer.{Transfer, transfers, transfer_with_contact, transfer_with_domain, transfer_with_requester};
 
-use rows::{Number, Record, maybe_number, select, write};
+use crate::store::RowStore;
+use basis::list::Seq;
+use rows::{Number, Record, maybe_number};
 use sqlite::types::{ToSql, ValueRef};
-use sqlite::{Alter, Connection, Error, Row, params};
-use std::alloc::Global;
+use sqlite::{Alter, Error, Row, params};
 use std::marker::Model;
+use transactions::BookFault;
 
 const BY_CONTACT: &str =
     "SELECT id, contact, domain, requester, losing, requested, ac_date, due, state FROM transfer WHERE contact = ?1 ORDER BY id";
@@ -103,71 +104,52 @@ impl Record for TransferRow {
     }
 }
 
-/// Those whose `contact` is this.
-pub fn transfers_by_contact<S: Alter>(
-    conn: &mut Connection<S>,
-    alloc: Global,
-    contact: Number,
-) -> Result<Vec<TransferRow>, Error>
-    ensures does { conn.old.schema ≡ registry → Finds transfers (filter (transfer_with_contact contact)) (state S.Store conn.old) (state S.Store conn.new) result }
-    ensures steady { IsSteady (state S.Store conn.old) (state S.Store conn.new) }
-{
-    select(conn, alloc, BY_CONTACT, params![contact])
-}
+impl<S: Alter> RowStore<S> {
+    /// Those whose `contact` is this.
+    pub fn transfers_by_contact(&mut self, contact: Number) -> Result<Seq<TransferRow>, BookFault>
+        ensures { Finds result (filter (transfer_with_contact contact) self.old.content.transfers) self.old self.new }
+    {
+        self.select(BY_CONTACT, params![contact])
+    }
 
-/// Those whose `domain` is this.
-pub fn transfers_by_domain<S: Alter>(
-    conn: &mut Connection<S>,
-    alloc: Global,
-    domain: Number,
-) -> Result<Vec<TransferRow>, Error>
-    ensures does { conn.old.schema ≡ registry → Finds transfers (filter (transfer_with_domain domain)) (state S.Store conn.old) (state S.Store conn.new) result }
-    ensures steady { IsSteady (state S.Store conn.old) (state S.Store conn.new) }
-{
-    select(conn, alloc, BY_DOMAIN, params![domain])
-}
+    /// Those whose `domain` is this.
+    pub fn transfers_by_domain(&mut self, domain: Number) -> Result<Seq<TransferRow>, BookFault>
+        ensures { Finds result (filter (transfer_with_domain domain) self.old.content.transfers) self.old self.new }
+    {
+        self.select(BY_DOMAIN, params![domain])
+    }
 
-/// Those whose `requester` is this.
-pub fn transfers_by_requester<S: Alter>(
-    conn: &mut Connection<S>,
-    alloc: Global,
-    requester: Number,
-) -> Result<Vec<TransferRow>, Error>
-    ensures does { conn.old.schema ≡ registry → Finds transfers (filter (transfer_with_requester requester)) (state S.Store conn.old) (state S.Store conn.new) result }
-    ensures steady { IsSteady (state S.Store conn.old) (state S.Store conn.new) }
-{
-    select(conn, alloc, BY_REQUESTER, params![requester])
-}
+    /// Those whose `requester` is this.
+    pub fn transfers_by_requester(
+        &mut self,
+        requester: Number,
+    ) -> Result<Seq<TransferRow>, BookFault>
+        ensures { Finds result (filter (transfer_with_requester requester) self.old.content.transfers) self.old self.new }
+    {
+        self.select(BY_REQUESTER, params![requester])
+    }
 
-/// Adds a row at the end, with the number after the last one. The given row's number isn't looked at.
-pub fn append_transfer<S: Alter>(
-    conn: &mut Connection<S>,
-    transfer: &TransferRow,
-) -> Result<(), Error>
-    ensures does { conn.old.schema ≡ registry → conn.old.in_transaction ≡ true → Changes transfers registry (appended transfers (λ id. record transfer.now { id = id })) (state S.Store conn.old) (state S.Store conn.new) result }
-    ensures steady { IsSteady (state S.Store conn.old) (state S.Store conn.new) }
-{
-    write(conn, APPEND, &transfer.params()[1..])
-}
+    /// Adds a row at the end, with the number after the last one. The given row's number isn't looked at.
+    pub fn append_transfer(&mut self, transfer: &TransferRow) -> Result<(), BookFault>
+        requires { self.old.is_open ≡ true }
+        ensures { Makes result (transfers_to (appended transfers (λ id. record transfer.now { id = id })) self.old.content) self.old self.new }
+    {
+        self.write(APPEND, &transfer.params()[1..])
+    }
 
-/// Removes those whose `contact` is this.
-pub fn remove_transfers_by_contact<S: Alter>(
-    conn: &mut Connection<S>,
-    contact: Number,
-) -> Result<(), Error>
-    ensures does { conn.old.schema ≡ registry → conn.old.in_transaction ≡ true → Changes transfers registry (delete_where (transfer_with_contact contact)) (state S.Store conn.old) (state S.Store conn.new) result }
-    ensures steady { IsSteady (state S.Store conn.old) (state S.Store conn.new) }
-{
-    write(conn, REMOVE_CONTACT, params![contact])
-}
+    /// Removes those whose `contact` is this.
+    pub fn remove_transfers_by_contact(&mut self, contact: Number) -> Result<(), BookFault>
+        requires { self.old.is_open ≡ true }
+        ensures { Makes result (transfers_to (delete_where (transfer_with_contact contact)) self.old.content) self.old self.new }
+    {
+        self.write(REMOVE_CONTACT, params![contact])
+    }
 
-/// Removes those whose `domain` is this.
-pub fn remove_transfers_by_domain<S: Alter>(
-    conn: &mut Connection<S>,
-    domain: Number,
-) -> Result<(), Error>
-    ensures does { conn.old.schema ≡ registry → conn.old.in_transaction ≡ true → Changes transfers registry (delete_where (transfer_with_domain domain)) (state S.Store conn.old) (state S.Store conn.new) result }
-    ensures steady { IsSteady (state S.Store conn.old) (state S.Store conn.new) }
-{
-    write(conn, REMOVE_DOMAIN, params![domain])
+    /// Removes those whose `domain` is this.
+    pub fn remove_transfers_by_domain(&mut self, domain: Number) -> Result<(), BookFault>
+        requires { self.old.is_open ≡ true }
+        ensures { Makes result (transfers_to (delete_where (transfer_with_domain domain)) self.old.content) self.old self.new }
+    {
+        self.write(REMOVE_DOMAIN, params![domain])
+    }
 }

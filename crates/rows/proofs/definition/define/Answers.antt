@@ -11,7 +11,7 @@ returns-in_err-write-clause-does g c from to all blank is_open inside clean =
     let old = state g.S.Store c.args.conn.now in
     let mid = state g.S.Store c.texts.conn in
     let new = state g.S.Store c.write.new.conn in
-    let at = c.texts.invariant.1 from to all blank is_open inside (omega (arith, c.write.ensures.steady.clean, clean)) in
+    let at = c.texts.invariant.2 from to all blank is_open inside (omega (arith, c.write.ensures.steady.clean, clean)) in
     let texts = c.args.texts.now in
     let i = c.texts.text-index in
     let leads = leads_next mid to texts i c.texts-test.true at.0 in
@@ -25,11 +25,12 @@ returns-in_err-write-clause-does g c from to all blank is_open inside clean =
 pub texts-preserved : goal.texts-preserved
 texts-preserved g c = (
   survives_then (state g.S.Store c.args.conn.now) (state g.S.Store c.texts.conn) (state g.S.Store c.write.new.conn) _ _ _ (λ _ db _. tt) (λ _ db _. tt) c.texts.invariant.0 c.write.ensures.steady,
+  (λ clean opened. c.texts.invariant.1 (omega (arith, c.write.ensures.steady.clean, clean)) (c.write.ensures.opened clean opened)),
   λ from to all blank is_open inside clean.
       let old = state g.S.Store c.args.conn.now in
       let mid = state g.S.Store c.texts.conn in
       let new = state g.S.Store c.write.new.conn in
-      let at = c.texts.invariant.1 from to all blank is_open inside (omega (arith, c.write.ensures.steady.clean, clean)) in
+      let at = c.texts.invariant.2 from to all blank is_open inside (omega (arith, c.write.ensures.steady.clean, clean)) in
       let texts = c.args.texts.now in
       let i = c.texts.text-index in
       let leads = leads_next mid to texts i c.texts-test.true at.0 in
@@ -37,3 +38,6 @@ texts-preserved g c = (
       let ran = it.ran clean in
       (leads_on mid new (text_at texts i) (texts_from texts (i + 1)) to leads ran.0 ran.1, stays_then old mid new at.1 (it.stays clean), leaves_no_more old mid new at.2 it.crash clean),
 )
+
+pub returns-in_err-write-clause-opened : goal.returns-in_err-write-clause-opened
+returns-in_err-write-clause-opened g c clean opened = c.texts.invariant.1 (omega (arith, c.write.ensures.steady.clean, clean)) (c.write.ensures.opened clean opened)

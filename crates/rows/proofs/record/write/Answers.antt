@@ -1,6 +1,7 @@
+use Rattle.std.proofs.Common.{Err, Ok}
 use Rattle.std.proofs.lemmas.Result.{IfOk-from_err}
 use Rattle.rows.proofs.StandLemmas.{on_err_always, stands_if_not_executed, commits_later, stays_if_executed}
-use Rattle.rows.proofs.SoundLemmas.{steady}
+use Rattle.rows.proofs.SoundLemmas.{executed_open, steady}
 use Rattle.rows.proofs.record.write.Goals as goal
 
 pub returns-in_err-execute-clause-does : goal.returns-in_err-execute-clause-does
@@ -24,3 +25,9 @@ returns-in_err-execute-clause-steady g c = steady _ _ _ c.execute.ensures.surviv
 
 pub returns-clause-steady : goal.returns-clause-steady
 returns-clause-steady g c = steady _ _ _ c.execute.ensures.survives
+
+pub returns-in_err-execute-clause-opened : goal.returns-in_err-execute-clause-opened
+returns-in_err-execute-clause-opened g c clean opened = executed_open _ _ _ _ (Err c.in_err-execute.field-0.0) (c.in_err-execute.ensures.runs clean) opened
+
+pub returns-clause-opened : goal.returns-clause-opened
+returns-clause-opened g c clean opened = executed_open _ _ _ _ (Ok _) (c.in_ok-execute.ensures.runs clean) opened

@@ -1,0 +1,85 @@
+-- What a query finds, and what it leaves.
+use Rattle.std.proofs.Common.{◌≡◌, ℕ, Bool, true, List, [], map, IfOk, Result, Ok, Err, IsTrue, sym, ap, subst, ◌∙◌, true≢false}
+use Rattle.std.proofs.lemmas.Bool.{and_parts}
+use Rattle.sqlite_value.specs.declared.value.Value.TheVariants.{Null}
+use Rattle.sqlite_value.specs.Order.{Row}
+use Rattle.sqlite_trees.specs.Tree.{Trees}
+use Rattle.sqlite_schema.specs.declared.schema.Schema.{Schema}
+use Rattle.sqlite_schema.specs.declared.command.Command.TheVariants.{Select}
+use Rattle.sqlite.specs.declared.error.Error.{Error}
+use Rattle.sqlite.specs.Effect.{Database}
+use Rattle.sqlite.specs.Given.{IsPlain}
+use Rattle.sqlite.specs.Listing.{understood}
+use Rattle.sqlite.specs.State.{State, FailsToQuery, HasCleanDisk, IsUnchanged, Shown, Survives}
+use Rattle.sqlite.proofs.Callers.{reads_as}
+use Rattle.rows.specs.Calls.{Stands}
+use Rattle.rows.proofs.SelectLemmas.{same_command}
+use Rattle.rows.proofs.SoundLemmas.{not_queried_open, queried_open}
+use Rattle.rows.proofs.StandLemmas.{same_if_shown, stands_if_not_shown}
+use Rattle.tables.specs.Content.{Content, IsContent}
+use Rattle.tables.specs.Decoding.{contents}
+use Rattle.tables.specs.Tables.{registry}
+use Rattle.transactions.specs.declared.fault.BookFault.{BookFault}
+use Rattle.tables.specs.declared.form.Form.{Form}
+use Rattle.tables.specs.declared.form.Form.TheVariants.{Unused, Making, Made, Other}
+use Rattle.transactions.specs.States.{Finds, Reads, StateOf}
+use Rattle.tables.specs.Statements.{Asks}
+use Rattle.tables.specs.Stored.{Agrees, Bears, Fits, HoldsRows, has_rows, rows_in, stands}
+use Rattle.tables.proofs.StandingLemmas.{agrees-unchanged, honest, reads-same, was-honest}
+
+-- ---- where the tables are
+
+pub holds-now : (form : Form) (now committed : Database) → has_rows form ≡ true → Bears form now committed → HoldsRows now
+holds-now Unused now committed is it = absurd (true≢false (sym is))
+holds-now Making now committed is it = it.0
+holds-now Made now committed is it = it.0
+holds-now Other now committed is it = absurd (true≢false (sym is))
+
+pub rows-are : (form : Form) (db : Trees) → has_rows form ≡ true → rows_in form db ≡ contents db
+rows-are form db is = rw is
+
+module _ (sql : List ℕ) (params : Row) (form : Form) (begun : Bool) (old new : State) (P : Trees → Type 0) (survives : Survives old new P) (fits : Fits form begun old) (rows : has_rows form ≡ true) (plain : IsPlain (understood registry sql)) where
+  plain-in : HoldsRows old.now → IsPlain (understood old.now.schema sql)
+  plain-in h = subst (λ (s : Schema). IsPlain (understood s sql)) (sym h.schema) plain
+
+  pub agreed : (found : List Row) → HasCleanDisk new → Shown sql params old new found → Agrees form begun old
+  agreed found clean seen = fits (was-honest old new P survives clean) (queried_open sql params old new found seen)
+
+  pub held : (found : List Row) → HasCleanDisk new → Shown sql params old new found → HoldsRows old.now
+  held found clean seen = holds-now form old.now old.committed rows (agreed found clean seen).bears
+
+  pub same-if : (found : List Row) → HasCleanDisk new → Shown sql params old new found → IsUnchanged old new
+  same-if found clean seen = same_if_shown sql params old new found (plain-in (held found clean seen)) seen
+
+  -- after an answer
+  pub fits-shown : (found : List Row) → (HasCleanDisk new → Shown sql params old new found) → Fits form begun new
+  fits-shown found seen clean opened = agrees-unchanged form begun old new (same-if found clean (seen clean)) (agreed found clean (seen clean))
+
+  -- after an error
+  pub left-by-query : (e : Error) → (HasCleanDisk new → FailsToQuery sql params old new e) → HasCleanDisk new → IsTrue new.is_open → Stands old new × Agrees form begun old
+  left-by-query e fails clean opened =
+      let it = fits (was-honest old new P survives clean) (not_queried_open sql params old new e (fails clean) opened) in
+      (stands_if_not_shown sql params old new e (plain-in (holds-now form old.now old.committed rows it.bears)) (fails clean), it)
+
+-- the records that an answer shows
+answered : {R : Type 0} (shown : R → Row) (sql : List ℕ) (params : Row) (f : Content → List R) → Asks shown sql params f → (old new : State) → HoldsRows old.now → (found : List Row) → Shown sql params old new found
+    → found ≡ map shown (f (contents old.now.trees))
+answered shown sql params f a old new h found seen =
+    let read = reads_as sql params old new registry h.schema (Select (record { lets = []; body = a.query }) a.is.names) (same_command (understood registry sql) ∙ a.is.command) a.is.plain a.is.unlisted found seen in
+    a.means old.now.trees (contents old.now.trees) found (subst (λ (s : Schema). IsContent (contents old.now.trees) (record { schema = s; trees = old.now.trees })) h.schema h) (read.answer Null)
+
+-- what was read, or a fault
+finds-by : {A : Type 0} (result : Result A BookFault) (v : A) (old new : StateOf Content) → Reads old new → (new.is_clean ≡ true → IfOk result (λ it. it ≡ v)) → Finds result v old new
+finds-by (Ok it) v old new reads same = (reads, same)
+finds-by (Err fault) v old new reads same = record { clean = reads.clean; before = reads.before }
+
+pub asked : {R : Type 0} (shown : R → Row) (sql : List ℕ) (params : Row) (form : Form) (begun : Bool) (old new : State) (P : Trees → Type 0) → Survives old new P → Fits form begun old → has_rows form ≡ true
+    → (f : Content → List R) → Asks shown sql params f → (found : List Row) → (HasCleanDisk new → Shown sql params old new found) → (result : Result (List R) BookFault)
+    → ((xs : List R) → found ≡ map shown xs → IfOk result (λ out. out ≡ xs)) → Finds result (f (rows_in form old.now.trees)) (stands form begun old) (stands form begun new)
+asked shown sql params form begun old new P survives fits rows f asks found seen result read =
+    let plain = asks.is.plain in
+    finds-by result (f (rows_in form old.now.trees)) (stands form begun old) (stands form begun new)
+    (reads-same form begun old new P survives (λ clean. same-if sql params form begun old new P survives fits rows plain found clean (seen clean)))
+    (λ e. let clean = honest new (and_parts new.is_clean new.is_open e).0 in
+    read (f (rows_in form old.now.trees))
+    (answered shown sql params f asks old new (held sql params form begun old new P survives fits rows plain found clean (seen clean)) found (seen clean) ∙ ap (λ (xs : Content). map shown (f xs)) (sym (rows-are form old.now.trees rows))))

@@ -1,0 +1,147 @@
+-- What a statement leaves of a store of rows.
+use Rattle.std.proofs.Common.{◌≡◌, ◌&&◌, inl, inr, not, Bool, true, false, IsTrue, refl, sym, ap, subst, subst₂, ◌∙◌, if◌then◌else◌, arith, true≢false}
+use Rattle.std.proofs.lemmas.Bool.{and_parts}
+use Rattle.sqlite_trees.specs.Tree.{Trees}
+use Rattle.sqlite_trees.specs.View.{doubt}
+use Rattle.sqlite.specs.Effect.{Database}
+use Rattle.sqlite.specs.State.{State, HasCleanDisk, IsUnchanged, IsRolledBack, Survives}
+use Rattle.rows.specs.Calls.{Stands}
+use Rattle.rows.proofs.SoundLemmas.{was_open}
+use Rattle.tables.specs.declared.form.Form.{Form}
+use Rattle.tables.specs.declared.form.Form.TheVariants.{Unused, Making, Made, Other}
+use Rattle.transactions.specs.States.{Reads, Stays}
+use Rattle.tables.specs.Stored.{Agrees, Bears, Fits, rows_in, stands, undone}
+
+-- ---- clean and open
+
+pub honest : (s : State) → s.is_clean ≡ true → HasCleanDisk s
+unfolding doubt
+honest s e = ap doubt e
+
+clean-if : (b : Bool) → doubt b ≡ 0 → b ≡ true
+unfolding doubt
+clean-if true e = refl
+clean-if false e = absurd cc
+
+pub clean-of : (s : State) → HasCleanDisk s → s.is_clean ≡ true
+clean-of s e = clean-if s.is_clean e
+
+pub was-honest : (old new : State) (P : Trees → Type 0) → Survives old new P → HasCleanDisk new → HasCleanDisk old
+was-honest old new P it clean = omega (arith, it.clean, clean)
+
+-- ---- what the forms say
+
+bears-undone : (form : Form) (now committed : Database) → Bears form now committed → Bears (undone form) committed committed
+bears-undone Unused now committed it = (it.1, it.1)
+bears-undone Making now committed it = (it.1, it.1)
+bears-undone Made now committed it = (it.1, it.1)
+bears-undone Other now committed it = tt
+
+undone-twice : (form : Form) → undone (undone form) ≡ undone form
+undone-twice Unused = refl
+undone-twice Making = refl
+undone-twice Made = refl
+undone-twice Other = refl
+
+pub agrees-unchanged : (form : Form) (begun : Bool) (old new : State) → IsUnchanged old new → Agrees form begun old → Agrees form begun new
+agrees-unchanged form begun old new same it =
+    let was = same.0 in
+    record {
+      mode = was.mode ∙ it.mode;
+      bears = subst₂ (Bears form) (sym was.now_is) (sym was.committed_is) it.bears;
+      settled = λ idle. was.now_is ∙ it.settled idle ∙ sym was.committed_is;
+      making = it.making;
+    }
+
+pub agrees-back : (form : Form) (begun : Bool) (old new : State) → IsRolledBack old new → IsTrue new.is_open → Agrees form begun old → Agrees (undone form) false new
+agrees-back form begun old new back opened it =
+    let gone = back.undone opened in
+    record {
+      mode = back.autocommit;
+      bears = subst₂ (Bears (undone form)) (sym gone.0) (sym gone.1) (bears-undone form old.now old.committed it.bears);
+      settled = λ _. gone.0 ∙ sym gone.1;
+      making = λ _. undone-twice form;
+    }
+
+-- where no transaction is open
+agrees-idle : (form : Form) (s : State) → Agrees form false s → Agrees (undone form) false s
+agrees-idle form s it = subst (λ (f : Form). Agrees f false s) (sym (it.making refl)) it
+
+-- where going back leads
+pub home : (form : Form) (begun : Bool) (s : State) → Agrees form begun s → (stands form begun s).before ≡ rows_in (undone form) s.committed.trees
+home form true s it = refl
+home form false s it = ap (λ (f : Form). rows_in f s.now.trees) (sym (it.making refl)) ∙ ap (λ (db : Database). rows_in (undone form) db.trees) (it.settled refl)
+
+idle-if : (b mode : Bool) → b ≡ not mode → b ≡ true → mode ≡ false
+idle-if b true e is = absurd (true≢false (sym is ∙ e))
+idle-if b false e is = refl
+
+held-if : (b mode : Bool) → b ≡ not mode → b ≡ false → mode ≡ true
+held-if b true e is = refl
+held-if b false e is = absurd (true≢false (sym e ∙ is))
+
+-- what a call that failed left, while the disk is clean and the connection open: all is as it was, or undone
+module _ (form : Form) (begun : Bool) (old new : State) (auto : Bool) (tells : auto ≡ not new.in_transaction) where
+  abbrev pub Left : Type 0
+  Left = HasCleanDisk new → IsTrue new.is_open → Stands old new × Agrees form begun old
+
+  idle-after : Stands old new → IsTrue new.is_open → Agrees form begun old → auto ≡ true → Agrees (undone form) false new
+  idle-after (inl same) opened it is =
+      let none : begun ≡ false = sym it.mode ∙ sym same.0.mode ∙ idle-if auto new.in_transaction tells is in
+      agrees-idle form new (subst (λ (b : Bool). Agrees form b new) none (agrees-unchanged form begun old new same it))
+  idle-after (inr back) opened it is = agrees-back form begun old new back opened it
+
+  held-after : Stands old new → Agrees form begun old → auto ≡ false → IsUnchanged old new
+  held-after (inl same) it is = same
+  held-after (inr back) it is = absurd (true≢false (sym (held-if auto new.in_transaction tells is) ∙ back.autocommit))
+
+  pub fits-idle : Left → auto ≡ true → Fits (undone form) false new
+  fits-idle left is clean opened = let it = left clean opened in idle-after it.0 opened it.1 is
+
+  pub fits-held : Left → auto ≡ false → Fits form begun new
+  fits-held left is clean opened = let it = left clean opened in agrees-unchanged form begun old new (held-after it.0 it.1 is) it.1
+
+  -- going back leads where it led
+  idle-home : Stands old new → IsTrue new.is_open → Agrees form begun old → auto ≡ true → (stands (undone form) false new).before ≡ (stands form begun old).before
+  idle-home (inl same) opened it is =
+      let none : begun ≡ false = sym it.mode ∙ sym same.0.mode ∙ idle-if auto new.in_transaction tells is in
+      ap (λ (db : Database). rows_in (undone form) db.trees) (same.0.now_is ∙ it.settled none) ∙ sym (home form begun old it)
+  idle-home (inr back) opened it is =
+      ap (λ (db : Database). rows_in (undone form) db.trees) (back.undone opened).0 ∙ sym (home form begun old it)
+
+  module _ (P : Trees → Type 0) (survives : Survives old new P) where
+    was-clean : Left → (new.is_clean && new.is_open) ≡ true → (old.is_clean && old.is_open) ≡ true
+    was-clean left e =
+        let parts = and_parts new.is_clean new.is_open e in
+        let clean = honest new parts.0 in
+        let opened : IsTrue old.is_open = was_open old new (left clean parts.1).0 parts.1 in
+        ap (λ (b : Bool). b && old.is_open) (clean-of old (was-honest old new P survives clean)) ∙ opened
+
+    pub stays-idle : Left → auto ≡ true → Stays (stands form begun old) (stands (undone form) false new)
+    stays-idle left is = record {
+      clean = was-clean left;
+      before = λ e. let parts = and_parts new.is_clean new.is_open e in let it = left (honest new parts.0) parts.1 in idle-home it.0 parts.1 it.1 is;
+    }
+
+    pub stays-held : Left → auto ≡ false → Stays (stands form begun old) (stands form begun new)
+    stays-held left is = record {
+      clean = was-clean left;
+      before = λ e.
+          let parts = and_parts new.is_clean new.is_open e in
+          let it = left (honest new parts.0) parts.1 in
+          let same = (held-after it.0 it.1 is).0 in
+          ap (λ (db : Database). if begun then rows_in (undone form) db.trees else rows_in form new.now.trees) same.committed_is
+          ∙ ap (λ (db : Database). if begun then rows_in (undone form) old.committed.trees else rows_in form db.trees) same.now_is;
+    }
+
+-- a call that changed nothing
+pub reads-same : (form : Form) (begun : Bool) (old new : State) (P : Trees → Type 0) → Survives old new P → (HasCleanDisk new → IsUnchanged old new) → Reads (stands form begun old) (stands form begun new)
+reads-same form begun old new P survives same = record {
+  clean = λ e. let clean = honest new (and_parts new.is_clean new.is_open e).0 in ap (λ (b : Bool). b && old.is_open) (clean-of old (was-honest old new P survives clean)) ∙ (same clean).0.was_open;
+  before = λ e.
+      let was = (same (honest new (and_parts new.is_clean new.is_open e).0)).0 in
+      ap (λ (db : Database). if begun then rows_in (undone form) db.trees else rows_in form new.now.trees) was.committed_is
+      ∙ ap (λ (db : Database). if begun then rows_in (undone form) old.committed.trees else rows_in form db.trees) was.now_is;
+  opened = refl;
+  content = λ e. ap (λ (db : Database). rows_in form db.trees) (same (honest new (and_parts new.is_clean new.is_open e).0)).0.now_is;
+}

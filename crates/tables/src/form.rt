@@ -1,0 +1,46 @@
+//! What a database is to a store of rows.
+
+/// What a database is to a store of rows.
+#[derive(Clone, Copy, Debug, PartialEq, Eq, Drop)]
+pub enum Form {
+    /// Nothing was made in it yet.
+    Unused,
+    /// The open transaction made the ten tables.
+    Making,
+    /// It has the ten tables.
+    Made,
+    /// It is something else's.
+    Other,
+}
+
+impl Form {
+    ghost use Rattle.std.specs.Prelude.{◌≡◌};
+    ghost use Rattle.tables.specs.Stored.{committed, has_rows, undone};
+
+    /// Whether the ten tables are there.
+    pub fn has_rows(self) -> bool
+        ensures { result ≡ has_rows self }
+    {
+        matches!(self, Form::Making | Form::Made)
+    }
+
+    /// What it is once the open transaction is undone.
+    pub fn undone(self) -> Form
+        ensures { result ≡ undone self }
+    {
+        match self {
+            Form::Making => Form::Unused,
+            form => form,
+        }
+    }
+
+    /// What it is once the open transaction is committed.
+    pub fn committed(self) -> Form
+        ensures { result ≡ committed self }
+    {
+        match self {
+            Form::Making => Form::Made,
+            form => form,
+        }
+    }
+}

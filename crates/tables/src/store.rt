@@ -1,0 +1,205 @@
+//! The ten tables in a database as rows, with transactions.
+ghost use Rattle.std.specs.Prelude.{◌≡◌, false, true, List, map, IfOk};
+
+use crate::form::Form;
+use crate::schema::create;
+use basis::list::Seq;
+use rows::{Record, go_back};
+use sqlite::types::ValueRef;
+use sqlite::{Alter, Connection, Error, ErrorCode, MemStore, Row};
+use std::alloc::Global;
+use std::marker::Model;
+use transactions::BookFault;
+
+/// The ten tables in a database, as rows.
+#[derive(Drop)]
+pub struct RowStore<S: Alter> {
+    conn: Connection<S>,
+    alloc: Global,
+    form: Form,
+    /// Whether a transaction is open. After going back was itself refused the connection may think otherwise.
+    begun: bool,
+}
+
+impl<S: Alter> Model for RowStore<S> {
+    ghost use Rattle.sqlite.specs.Held.{state};
+    ghost use Rattle.tables.specs.Content.{Content};
+    ghost use Rattle.transactions.specs.States.{StateOf};
+    ghost use Rattle.tables.specs.Stored.{Fits, stands};
+
+    ghost Value = { StateOf Content };
+
+    ghost view = { λ r. stands r.form r.begun (state S.Store r.conn) };
+
+    ghost invariant = { λ r. Fits r.form r.begun (state S.Store r.conn) };
+}
+
+/// What an error of the database is to a book.
+fn fault_of(error: &Error) -> BookFault {
+    match error {
+        Error::SqliteFailure(ErrorCode::OutOfMemory) => BookFault::Memory,
+        _ => BookFault::Store,
+    }
+}
+
+fn read_all<R: Record>(alloc: Global, rows: &[Row]) -> Result<Seq<R>, BookFault>
+    ensures { (xs : List R) → rows.now ≡ map R.shown xs → IfOk result (λ out. out ≡ xs) }
+{
+    let mut records = Seq::new(alloc);
+    'rows: for row in rows {
+        match R::from_row(row) {
+            Ok(record) => records.push(record)?,
+            Err(error) => return Err(fault_of(&error)),
+        }
+    }
+    Ok(records)
+}
+
+impl<S: Alter> RowStore<S> {
+    ghost use Rattle.sqlite.specs.Given.{IsPlain};
+    ghost use Rattle.sqlite.specs.Listing.{understood};
+    ghost use Rattle.sqlite.specs.Values.{bound};
+    ghost use Rattle.tables.specs.Content.{Content};
+    ghost use Rattle.transactions.specs.States.{Begins, Closes, Ends, Finds, Makes, Stays};
+    ghost use Rattle.tables.specs.Statements.{Alters, Asks};
+    ghost use Rattle.tables.specs.Tables.{registry};
+
+    /// The records that the rows of a query show.
+    pub(crate) fn select<R: Record>(
+        &mut self,
+        sql: &str,
+        params: &[ValueRef<'_>],
+    ) -> Result<Seq<R>, BookFault>
+        requires { IsPlain (understood registry sql.now) }
+        ensures { (f : Content → List R) → Asks R.shown sql.now (bound params.now) f → Finds result (f self.old.content) self.old self.new }
+    {
+        if !self.form.has_rows() {
+            return Err(BookFault::Store);
+        }
+        match self.conn.query_all(sql, params) {
+            Ok(rows) => read_all(self.alloc, &rows),
+            Err(error) => {
+                if self.conn.is_autocommit() {
+                    self.form = self.form.undone();
+                    self.begun = false;
+                }
+                Err(fault_of(&error))
+            }
+        }
+    }
+
+    /// Runs a statement that writes rows, in the open transaction.
+    pub(crate) fn write(&mut self, sql: &str, params: &[ValueRef<'_>]) -> Result<(), BookFault>
+        requires means { (f : Content → Content) × Alters sql.now (bound params.now) f }
+        requires begun { self.old.is_open ≡ true }
+        ensures { (f : Content → Content) → Alters sql.now (bound params.now) f → Makes result (f self.old.content) self.old self.new }
+    {
+        if !self.form.has_rows() {
+            return Err(BookFault::Store);
+        }
+        match self.conn.execute(sql, params) {
+            Ok(_) => Ok(()),
+            Err(error) => {
+                if self.conn.is_autocommit() {
+                    self.form = self.form.undone();
+                    self.begun = false;
+                }
+                Err(fault_of(&error))
+            }
+        }
+    }
+
+    /// Opens a transaction over what is there.
+    fn begin_as_is(&mut self) -> Result<(), BookFault>
+        requires { self.old.is_open ≡ false }
+        ensures { Begins result self.old self.new }
+    {
+        match self.conn.execute("BEGIN", &[]) {
+            Ok(_) => {
+                self.begun = true;
+                Ok(())
+            }
+            Err(error) => Err(fault_of(&error)),
+        }
+    }
+
+    /// Makes the tables in the open transaction, where nothing was made before.
+    fn make(&mut self) -> Result<(), BookFault>
+        requires { self.old.is_open ≡ true }
+        ensures { Makes result self.old.content self.old self.new }
+    {
+        let Form::Unused = self.form else {
+            return Ok(());
+        };
+        match create(&mut self.conn) {
+            Ok(()) => {
+                self.form = Form::Making;
+                Ok(())
+            }
+            Err(error) => {
+                let _ = go_back(&mut self.conn);
+                self.begun = false;
+                Err(fault_of(&error))
+            }
+        }
+    }
+
+    /// Opens a transaction. Where nothing was made before, the tables are made in it.
+    pub fn begin(&mut self) -> Result<(), BookFault>
+        requires { self.old.is_open ≡ false }
+        ensures { Begins result self.old self.new }
+    {
+        if let Form::Other = self.form {
+            return Err(BookFault::Store);
+        }
+        match self.begin_as_is() {
+            Ok(()) => self.make(),
+            Err(fault) => Err(fault),
+        }
+    }
+
+    /// Keeps what the transaction did.
+    pub fn commit(&mut self) -> Result<(), BookFault>
+        requires { self.old.is_open ≡ true }
+        ensures { Ends result self.old self.new }
+    {
+        match self.conn.execute("COMMIT", &[]) {
+            Ok(_) => {
+                self.form = self.form.committed();
+                self.begun = false;
+                Ok(())
+            }
+            Err(error) => {
+                self.form = self.form.undone();
+                self.begun = false;
+                Err(fault_of(&error))
+            }
+        }
+    }
+
+    /// Goes back to where the transaction began, if one is open.
+    pub fn back(&mut self)
+        ensures { Closes self.old.before self.old self.new }
+    {
+        let _ = go_back(&mut self.conn);
+        self.form = self.form.undone();
+        self.begun = false;
+    }
+}
+
+impl RowStore<MemStore> {
+    ghost use Rattle.tables.specs.Stored.{IsNew};
+
+    /// A store in memory, in which nothing was made.
+    pub fn in_memory(alloc: Global) -> Result<RowStore<MemStore>, BookFault>
+        ensures { IfOk result IsNew }
+    {
+        let conn = Connection::open_in_memory(alloc)?;
+        Ok(RowStore {
+            conn,
+            alloc,
+            form: Form::Unused,
+            begun: false,
+        })
+    }
+}
