@@ -8,6 +8,8 @@ mod likeness;
 mod nullable;
 mod number;
 mod record;
+#[cfg(test)]
+mod tests;
 mod transaction;
 
 pub use definition::define;

@@ -18,3 +18,5 @@ pub mod MessageLemmas
 pub mod TransferLemmas
 pub mod SchemaLemmas
 pub mod BalanceLemmas
+pub mod RowLemmas
+pub mod WholeLemmas

@@ -16,3 +16,4 @@ pub mod Decoding
 pub mod Readiness
 pub mod Statements
 pub mod Stored
+pub mod Whole

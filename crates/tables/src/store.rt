@@ -63,6 +63,7 @@ impl<S: Alter> RowStore<S> {
     ghost use Rattle.transactions.specs.States.{Begins, Closes, Ends, Finds, Makes, Stays};
     ghost use Rattle.tables.specs.Statements.{Alters, Asks};
     ghost use Rattle.tables.specs.Tables.{registry};
+    ghost use Rattle.tables.specs.Whole.{IsWhole};
 
     /// The records that the rows of a query show.
     pub(crate) fn select<R: Record>(
@@ -175,6 +176,13 @@ impl<S: Alter> RowStore<S> {
                 Err(fault_of(&error))
             }
         }
+    }
+
+    /// Does nothing. It tells a proof what always holds of the rows.
+    pub fn whole(&self)
+        ensures { self.now.is_clean ≡ true → IsWhole self.now.content }
+    {
+        let _schema = self.conn.schema();
     }
 
     /// Goes back to where the transaction began, if one is open.
