@@ -178,6 +178,13 @@ impl<S: Alter> RowStore<S> {
         }
     }
 
+    /// Whether a transaction is open.
+    pub fn is_open(&self) -> bool
+        ensures { result ≡ self.now.is_open }
+    {
+        self.begun
+    }
+
     /// Does nothing. It tells a proof what always holds of the rows.
     pub fn whole(&self)
         ensures { self.now.is_clean ≡ true → IsWhole self.now.content }
