@@ -10,3 +10,4 @@ pub mod Texts
 pub mod Above
 pub mod Contacts
 pub mod Domains
+pub mod Hosts

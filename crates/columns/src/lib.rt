@@ -8,6 +8,7 @@ mod above;
 mod code;
 mod contact;
 mod domain;
+mod host;
 mod line;
 mod message;
 mod moment;
@@ -29,6 +30,7 @@ pub use code::{
 };
 pub use contact::{contact_of_row, contact_row};
 pub use domain::{domain_of_row, domain_row};
+pub use host::host_of_row;
 pub use line::{line_of_row, line_row};
 pub use message::{message_of_row, message_row};
 pub use moment::{maybe_moment_column, maybe_moment_of_column, moment_column, moment_of_column};

@@ -1,0 +1,103 @@
+//! Hosts as rows. A host's addresses are rows of their own.
+ghost use Rattle.std.specs.Prelude.{◌≡◌, IfOk, string_bytes};
+ghost use Rattle.columns.specs.Above.{above};
+ghost use Rattle.columns.specs.Hosts as spec;
+ghost use Rattle.columns.specs.Texts.{statuses_in};
+
+use crate::above::above_column;
+use crate::moment::{maybe_moment_of_column, moment_of_column};
+use crate::number::maybe_registrar_of_column;
+use crate::roid::roid_of_columns;
+use crate::statuses::statuses_of_column;
+use basis::list::Seq;
+use basis::registrar::RegistrarNo;
+use basis::text::Text;
+use calendar::Moment;
+use objects::{Host, ObjectKind, Roid, Status};
+use std::alloc::{AllocError, Global};
+use tables::HostRow;
+
+/// Which host it is, who sponsors it outside the zone, and since when.
+#[derive(Clone, Copy, Drop)]
+pub(crate) struct HostColumns {
+    pub roid: Roid,
+    pub external_sponsor: Option<RegistrarNo>,
+    pub created: Moment,
+    pub updated: Option<Moment>,
+}
+
+/// The host of a row, if it's one's, with these addresses.
+pub fn host_of_row(
+    alloc: Global,
+    row: HostRow,
+    addresses: Seq<Text>,
+) -> Result<Option<Host>, AllocError>
+    ensures { IfOk result (λ host. host ≡ spec.host_in row addresses) }
+{
+    let statuses = statuses_of(alloc, &row)?;
+    let above = above_of(alloc, &row)?;
+    Ok(host_made(row, statuses, above, addresses))
+}
+
+fn statuses_of(alloc: Global, row: &HostRow) -> Result<Option<Seq<Status>>, AllocError>
+    ensures { IfOk result (λ read. read ≡ statuses_in row.now.statuses) }
+{
+    statuses_of_column(alloc, row.statuses.as_str())
+}
+
+fn above_of(alloc: Global, row: &HostRow) -> Result<Text, AllocError>
+    ensures { IfOk result (λ text. text ≡ above row.now.name) }
+{
+    Ok(Text::from_string(above_column(alloc, row.name.as_str())?))
+}
+
+/// The host of these parts, if all are there.
+fn host_made(
+    row: HostRow,
+    statuses: Option<Seq<Status>>,
+    above: Text,
+    addresses: Seq<Text>,
+) -> Option<Host>
+    ensures { result ≡ spec.host_made row statuses above addresses }
+{
+    let columns = columns_of(&row)?;
+    let statuses = statuses?;
+    if row.above.as_str() != above.as_str() {
+        return None;
+    }
+    Some(host_with(row, columns, statuses, addresses))
+}
+
+fn columns_of(row: &HostRow) -> Option<HostColumns>
+    ensures { result ≡ spec.columns_in row.now }
+{
+    let roid = roid_of_columns(ObjectKind::Host, row.creator, row.serial)?;
+    let external_sponsor = maybe_registrar_of_column(row.external_sponsor)?;
+    let created = moment_of_column(row.created)?;
+    let updated = maybe_moment_of_column(row.updated)?;
+    Some(HostColumns {
+        roid,
+        external_sponsor,
+        created,
+        updated,
+    })
+}
+
+fn host_with(
+    row: HostRow,
+    columns: HostColumns,
+    statuses: Seq<Status>,
+    addresses: Seq<Text>,
+) -> Host
+    ensures { result ≡ spec.host_with row columns statuses addresses }
+{
+    Host {
+        name: Text::from_string(row.name),
+        roid: columns.roid,
+        external_sponsor: columns.external_sponsor,
+        created: columns.created,
+        updated: columns.updated,
+        statuses,
+        addresses,
+    }
+}
