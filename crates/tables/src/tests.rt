@@ -265,13 +265,20 @@ fn put_accounts(store: &mut RowStore<MemStore>, alloc: Global) -> Result<(), Boo
     store.put_account(&account(alloc, 2, "beta")?)
 }
 
-/// Three contacts, of which the first is put anew.
-fn put_contacts(store: &mut RowStore<MemStore>, alloc: Global) -> Result<(), BookFault>
+/// Two contacts, of which one is due at 900.
+fn append_contacts(store: &mut RowStore<MemStore>, alloc: Global) -> Result<(), BookFault>
     requires { store.old.is_open ≡ true }
     ensures { OnOk result (store.new.is_open ≡ true) }
 {
     store.append_contact(&contact(alloc, 0, "c1", None)?)?;
-    store.append_contact(&contact(alloc, 0, "c2", Some(900))?)?;
+    store.append_contact(&contact(alloc, 0, "c2", Some(900))?)
+}
+
+/// A third contact, and the first put anew.
+fn put_contacts(store: &mut RowStore<MemStore>, alloc: Global) -> Result<(), BookFault>
+    requires { store.old.is_open ≡ true }
+    ensures { OnOk result (store.new.is_open ≡ true) }
+{
     store.append_contact(&contact(alloc, 0, "c3", Some(500))?)?;
     store.put_contact(&contact(alloc, 1, "new", None)?)
 }
@@ -338,13 +345,22 @@ fn append_transfers(store: &mut RowStore<MemStore>) -> Result<(), BookFault>
     store.append_transfer(&transfer(None, Some(2)))
 }
 
-/// Accounts, contacts and domains.
-fn with_objects(alloc: Global) -> Result<RowStore<MemStore>, BookFault>
+/// Accounts and contacts.
+fn with_contacts(alloc: Global) -> Result<RowStore<MemStore>, BookFault>
     ensures { IfOk result (λ store. store.is_open ≡ true) }
 {
     let mut store = opened(alloc)?;
     put_accounts(&mut store, alloc)?;
+    append_contacts(&mut store, alloc)?;
     put_contacts(&mut store, alloc)?;
+    Ok(store)
+}
+
+/// Accounts, contacts and domains.
+fn with_objects(alloc: Global) -> Result<RowStore<MemStore>, BookFault>
+    ensures { IfOk result (λ store. store.is_open ≡ true) }
+{
+    let mut store = with_contacts(alloc)?;
     put_domains(&mut store, alloc)?;
     Ok(store)
 }

@@ -1,2 +1,0 @@
-//! A book in a database.
-#![tactic(auto)]
