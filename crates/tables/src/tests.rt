@@ -265,13 +265,25 @@ fn put_accounts(store: &mut RowStore<MemStore>, alloc: Global) -> Result<(), Boo
     store.put_account(&account(alloc, 2, "beta")?)
 }
 
+/// Whether the transaction is still open, as a fault if it isn't.
+fn still_open(store: &RowStore<MemStore>) -> Result<(), BookFault>
+    ensures { OnOk result (store.now.is_open ≡ true) }
+{
+    if store.is_open() {
+        Ok(())
+    } else {
+        Err(BookFault::Store)
+    }
+}
+
 /// Two contacts, of which one is due at 900.
 fn append_contacts(store: &mut RowStore<MemStore>, alloc: Global) -> Result<(), BookFault>
     requires { store.old.is_open ≡ true }
     ensures { OnOk result (store.new.is_open ≡ true) }
 {
     store.append_contact(&contact(alloc, 0, "c1", None)?)?;
-    store.append_contact(&contact(alloc, 0, "c2", Some(900))?)
+    store.append_contact(&contact(alloc, 0, "c2", Some(900))?)?;
+    still_open(store)
 }
 
 /// A third contact, and the first put anew.
@@ -280,7 +292,8 @@ fn put_contacts(store: &mut RowStore<MemStore>, alloc: Global) -> Result<(), Boo
     ensures { OnOk result (store.new.is_open ≡ true) }
 {
     store.append_contact(&contact(alloc, 0, "c3", Some(500))?)?;
-    store.put_contact(&contact(alloc, 1, "new", None)?)
+    store.put_contact(&contact(alloc, 1, "new", None)?)?;
+    still_open(store)
 }
 
 /// Two domains, of which the first is put anew.
