@@ -20,3 +20,4 @@ pub mod SchemaLemmas
 pub mod BalanceLemmas
 pub mod RowLemmas
 pub mod WholeLemmas
+pub mod AdoptionLemmas

@@ -17,3 +17,4 @@ pub mod Readiness
 pub mod Statements
 pub mod Stored
 pub mod Whole
+pub mod Adoption

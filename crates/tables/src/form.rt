@@ -1,5 +1,7 @@
 //! What a database is to a store of rows.
 
+use transactions::Ready;
+
 /// What a database is to a store of rows.
 #[derive(Clone, Copy, Debug, PartialEq, Eq, Drop)]
 pub enum Form {
@@ -15,7 +17,18 @@ pub enum Form {
 
 impl Form {
     ghost use Rattle.std.specs.Prelude.{◌≡◌};
-    ghost use Rattle.tables.specs.Stored.{committed, has_rows, undone};
+    ghost use Rattle.tables.specs.Stored.{committed, has_rows, readiness_of, undone};
+
+    /// Whether a book is in it that was kept before.
+    pub fn readiness(self) -> Ready
+        ensures { result ≡ readiness_of self }
+    {
+        match self {
+            Form::Unused | Form::Making => Ready::Empty,
+            Form::Made => Ready::Used,
+            Form::Other => Ready::Other,
+        }
+    }
 
     /// Whether the ten tables are there.
     pub fn has_rows(self) -> bool

@@ -4,6 +4,7 @@
 
 mod account;
 mod address;
+mod adoption;
 mod balance;
 mod contact;
 mod domain;
@@ -22,6 +23,7 @@ mod transfer;
 
 pub use account::AccountRow;
 pub use address::AddressRow;
+pub use adoption::reread;
 pub use balance::{balance_of_bytes, bytes_of_balance};
 pub use contact::{ContactRow, PostalRow};
 pub use domain::DomainRow;

@@ -9,7 +9,7 @@ use sqlite::types::ValueRef;
 use sqlite::{Alter, Connection, Error, ErrorCode, MemStore, Row};
 use std::alloc::Global;
 use std::marker::Model;
-use transactions::BookFault;
+use transactions::{BookFault, Ready};
 
 /// The ten tables in a database, as rows.
 #[derive(Drop)]
@@ -35,7 +35,7 @@ impl<S: Alter> Model for RowStore<S> {
 }
 
 /// What an error of the database is to a book.
-fn fault_of(error: &Error) -> BookFault {
+pub(crate) fn fault_of(error: &Error) -> BookFault {
     match error {
         Error::SqliteFailure(ErrorCode::OutOfMemory) => BookFault::Memory,
         _ => BookFault::Store,
@@ -183,6 +183,13 @@ impl<S: Alter> RowStore<S> {
         ensures { result ≡ self.now.is_open }
     {
         self.begun
+    }
+
+    /// Whether a book is in it.
+    pub fn ready(&mut self) -> Result<Ready, BookFault>
+        ensures { Finds result self.old.readiness self.old self.new }
+    {
+        Ok(self.form.readiness())
     }
 
     /// Does nothing. It tells a proof what always holds of the rows.

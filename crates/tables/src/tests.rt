@@ -4,13 +4,13 @@ ghost use Rattle.std.specs.Prelude.{◌≡◌, true, OnOk, IfOk};
 use crate::form::Form;
 use crate::{
     AccountRow, AddressRow, ContactRow, DomainRow, HostRow, LineRow, LinkRow, MessageRow, MetaRow,
-    PostalRow, RowStore, TransferRow, balance_of_bytes, bytes_of_balance, create, form_of,
+    PostalRow, RowStore, TransferRow, balance_of_bytes, bytes_of_balance, create, form_of, reread,
 };
 use rows::Number;
 use sqlite::{Alter, Connection, Error, MemStore};
 use std::alloc::{AllocError, Global};
 use std::process::Abort;
-use transactions::BookFault;
+use transactions::{BookFault, Ready};
 
 /// A row with a number of its own.
 trait Numbered {
@@ -632,6 +632,7 @@ fn keeps_what_is_committed_alone(rt: HostRuntime) -> Result<(), BookFault> {
     store.put_meta(&meta(alloc)?)?;
     store.commit()?;
     store.whole();
+    assert!(rt; store.ready()? == Ready::Used);
     store.begin()?;
     put_accounts(&mut store, alloc)?;
     store.back();
@@ -668,6 +669,14 @@ fn tells_a_registry_by_its_tables(rt: HostRuntime) -> Result<(), Error> {
     let alloc = rt.alloc();
     let mut conn = Connection::open_in_memory(alloc)?;
     tell(&rt, &mut conn, alloc)
+}
+
+#[test]
+fn reads_a_database_anew(rt: HostRuntime) -> Result<(), BookFault> {
+    let alloc = rt.alloc();
+    let conn = reread(Connection::open_in_memory(alloc)?, alloc)?;
+    assert!(rt; conn.is_autocommit());
+    Ok(())
 }
 
 #[test]

@@ -1,0 +1,232 @@
+-- What one row more means for the accounts.
+use Rattle.std.proofs.Common.{◌≡◌, ℕ, ℤ, pos, negsuc, Bool, true, false, cond, ◌&&◌, length, List, [], ◌∷◌, Option, Some, None, refl, sym, ap, ◌∙◌, int_eq, true≢false}
+use Rattle.std.proofs.lemmas.Bool.{and_parts}
+use Rattle.std.specs.Cmp.{eq_by_cmp_equiv, int_cmp_total, nat_cmp_total, tied_itself, Equal-is}
+use Rattle.std.specs.FinMap.{find, get, get-from_entries, get-insert, insert, same_map, nat_cmp-IsAntisymmetric}
+use Rattle.std.specs.List.{list_all}
+use Rattle.std.specs.Option.{option_map, option_map_or, unwrap_or}
+use Rattle.std.specs.Ordering.{eq_by_cmp, is_eq, nat_cmp}
+use Rattle.sqlite_keyed.specs.Keyed.{get_by, insert_by}
+use Rattle.sqlite_keyed.proofs.KeyedLemmas.{key-get_by, same_int}
+use Rattle.accounts.specs.declared.account.Account.{Account}
+use Rattle.accounts.specs.Account.{empty_account}
+use Rattle.accounts.specs.Lines.{balance}
+use Rattle.columns.specs.Numbers.{exact_in, is_exact, is_place, registrar_in}
+use Rattle.tables.specs.Account as table
+use Rattle.tables.specs.Content.{Content, accounts_to}
+use Rattle.sqlaccounts.specs.Accounts.{account_in, accounts_of, balance_in, entries_of, has_right_sums, is_right, lines_of, queue_of, row_of, standing, standing_of, sums_are_right}
+use Rattle.sqlaccounts.specs.Changes.{AreOthersKept, IsChange, IsCounted, counters_in, counters_of, with_counters}
+use Rattle.sqlaccounts.specs.declared.counting.Counters.{Counters}
+use Rattle.sqlaccounts.proofs.RowLemmas.{all-insert_by, all_with, get_by-insert_by}
+
+abbrev magnitude : ℤ → ℕ
+magnitude (pos n) = n
+magnitude (negsuc n) = n
+
+abbrev key : table.Account → ℤ
+key = table.accounts.key
+
+tied-apart : (a b : ℕ) (c d : Bool) → eq_by_cmp nat_cmp a b ≡ c → int_eq (pos a) (pos b) ≡ d → d ≡ c
+tied-apart a b true true e f = refl
+tied-apart a b false false e f = refl
+tied-apart a b true false e f =
+    absurd (true≢false (sym (ap is_eq (tied_itself int_cmp_total (pos b))) ∙ sym (ap (λ n. int_eq (pos n) (pos b)) (nat_cmp-IsAntisymmetric a b ((Equal-is (nat_cmp a b)).0 e))) ∙ f))
+tied-apart a b false true e f =
+    absurd (true≢false (sym (ap is_eq (tied_itself nat_cmp_total b)) ∙ sym (ap (λ z. eq_by_cmp nat_cmp (magnitude z) b) (same_int (pos a) (pos b) f)) ∙ e))
+
+-- numbers are told apart as places are
+nat-int : (a b : ℕ) → int_eq (pos a) (pos b) ≡ eq_by_cmp nat_cmp a b
+nat-int a b = tied-apart a b _ _ refl refl
+
+-- the account of a place, by its row
+abbrev pub account_at : Content → ℕ → Option table.Account → Option Account
+account_at xs q row = cond (is_place q) (option_map (account_in xs) row) None
+
+find-entries : (xs : Content) (rows : List table.Account) (q : ℕ) → find nat_cmp q (entries_of xs rows) ≡ account_at xs q (get_by key rows (pos q))
+find-entries xs [] q = go (is_place q)
+  where
+    go : (b : Bool) → ◌≡◌ {A = Option Account} None (cond b None None)
+    go true = refl
+    go false = refl
+find-entries xs (row ∷ rows) q = go row.id refl (find-entries xs rows q)
+  where
+    here : (n : ℕ) (b p : Bool) → row.id ≡ pos n → is_place n ≡ p → eq_by_cmp nat_cmp q n ≡ b → find nat_cmp q (entries_of xs rows) ≡ account_at xs q (get_by key rows (pos q))
+        → find nat_cmp q (option_map_or (λ place. (place, account_in xs row) ∷ entries_of xs rows) (cond p (Some n) None) (entries_of xs rows)) ≡ account_at xs q (cond b (Some row) (get_by key rows (pos q)))
+    here n true true at p e more =
+        let same : q ≡ n = nat_cmp-IsAntisymmetric q n ((Equal-is (nat_cmp q n)).0 e) in
+        ap (λ t. cond t (Some (account_in xs row)) (find nat_cmp q (entries_of xs rows))) e ∙ sym (ap (λ t. cond t (Some (account_in xs row)) None) (ap is_place same ∙ p))
+    here n true false at p e more =
+        let same : q ≡ n = nat_cmp-IsAntisymmetric q n ((Equal-is (nat_cmp q n)).0 e) in
+        more ∙ ap (λ t. cond t (option_map (account_in xs) (get_by key rows (pos q))) None) (ap is_place same ∙ p) ∙ sym (ap (λ t. cond t (Some (account_in xs row)) None) (ap is_place same ∙ p))
+    here n false true at p e more = ap (λ t. cond t (Some (account_in xs row)) (find nat_cmp q (entries_of xs rows))) e ∙ more
+    here n false false at p e more = more
+
+    go : (id : ℤ) → row.id ≡ id → find nat_cmp q (entries_of xs rows) ≡ account_at xs q (get_by key rows (pos q)) → find nat_cmp q (entries_of xs (row ∷ rows)) ≡ account_at xs q (get_by key (row ∷ rows) (pos q))
+    go (pos n) at more =
+        (λ i. find nat_cmp q (option_map_or (λ place. (place, account_in xs row) ∷ entries_of xs rows) (registrar_in (at i)) (entries_of xs rows)))
+        ∙ here n (eq_by_cmp nat_cmp q n) (is_place n) at refl refl more
+        ∙ ap (λ b. account_at xs q (cond b (Some row) (get_by key rows (pos q)))) ((eq_by_cmp_equiv nat_cmp_total).symm q n ∙ sym (nat-int n q) ∙ sym (ap (λ k. int_eq k (pos q)) at))
+    go (negsuc n) at more =
+        (λ i. find nat_cmp q (option_map_or (λ place. (place, account_in xs row) ∷ entries_of xs rows) (registrar_in (at i)) (entries_of xs rows)))
+        ∙ more ∙ ap (λ b. account_at xs q (cond b (Some row) (get_by key rows (pos q)))) (sym (ap (λ k. int_eq k (pos q)) at))
+
+pub get-accounts_of : (xs : Content) (q : ℕ) → get (accounts_of xs) q ≡ account_at xs q (row_of xs (pos q))
+get-accounts_of xs q = get-from_entries nat_cmp_total (entries_of xs xs.accounts) q ∙ find-entries xs xs.accounts q
+
+-- a row that is there
+pub get-found : (xs : Content) (q : ℕ) (row : table.Account) → is_place q ≡ true → row_of xs (pos q) ≡ Some row → get (accounts_of xs) q ≡ Some (account_in xs row)
+get-found xs q row place found = get-accounts_of xs q ∙ (λ i. cond (place i) (option_map (account_in xs) (found i)) None)
+
+-- ---- what a row says of the account
+
+module _ (xs : Content) (q : ℕ) (place : is_place q ≡ true) where
+  get-place : get (accounts_of xs) q ≡ option_map (account_in xs) (row_of xs (pos q))
+  get-place = get-accounts_of xs q ∙ ap (λ b. cond b (option_map (account_in xs) (row_of xs (pos q))) None) place
+
+  counters-row : (row : Option table.Account) → counters_in row ≡ counters_of (unwrap_or (option_map (account_in xs) row) empty_account)
+  counters-row None = refl
+  counters-row (Some row) = refl
+
+  pub counters-found : (row : Option table.Account) → row ≡ row_of xs (pos q) → counters_in row ≡ counters_of (unwrap_or (get (accounts_of xs) q) empty_account)
+  counters-found row is = ap counters_in is ∙ counters-row (row_of xs (pos q)) ∙ sym (ap (λ a. counters_of (unwrap_or a empty_account)) get-place)
+
+  no_lines : pos 0 ≡ balance []
+  unfolding balance
+  no_lines = refl
+
+  balance-row : (row : Option table.Account) → option_map_or (is_right xs) row true ≡ true
+      → option_map_or (λ (r : table.Account). balance_in r.balance) row (pos 0) ≡ balance (unwrap_or (option_map (account_in xs) row) empty_account).lines
+  balance-row None right = no_lines
+  balance-row (Some row) right = same_int _ _ (and_parts _ _ right).0
+
+  right-there : (row : Option table.Account) → row_of xs (pos q) ≡ row → sums_are_right xs ≡ true → option_map_or (is_right xs) row true ≡ true
+  right-there None is sums = refl
+  right-there (Some row) is sums =
+      sym (ap (λ r. option_map_or (is_right xs) r true) is) ∙ (and_parts _ _ (all_with key (has_right_sums xs) xs.accounts (pos q) row is ∙ sums)).0
+
+  pub balance-found : (row : Option table.Account) → row ≡ row_of xs (pos q) → sums_are_right xs ≡ true
+      → option_map_or (λ (r : table.Account). balance_in r.balance) row (pos 0) ≡ balance (unwrap_or (get (accounts_of xs) q) empty_account).lines
+  balance-found row is sums =
+      balance-row row (right-there row (sym is) sums)
+      ∙ ap (λ r. balance (unwrap_or (option_map (account_in xs) r) empty_account).lines) is
+      ∙ sym (ap (λ a. balance (unwrap_or a empty_account).lines) get-place)
+
+  exact-is : (n m : ℕ) (b : Bool) → cond b (Some m) None ≡ Some n → n ≡ m
+  exact-is n m true e = sym (ap (λ o. unwrap_or o n) e)
+  exact-is n m false e = cc
+
+  waiting-row : (row : Option table.Account) (n : ℕ) → option_map_or (is_right xs) row true ≡ true
+      → exact_in (option_map_or (λ (r : table.Account). r.waiting) row (pos 0)) ≡ Some n
+      → n ≡ length (unwrap_or (option_map (account_in xs) row) empty_account).queue
+  waiting-row None n right e = exact-is n 0 (is_exact 0) e
+  waiting-row (Some row) n right e =
+      let is : row.waiting ≡ pos (length (queue_of xs row.id)) = same_int _ _ (and_parts _ _ right).1 in
+      exact-is n (length (queue_of xs row.id)) (is_exact (length (queue_of xs row.id))) (sym (ap exact_in is) ∙ e)
+
+  pub waiting-found : (row : Option table.Account) (n : ℕ) → row ≡ row_of xs (pos q) → sums_are_right xs ≡ true
+      → exact_in (option_map_or (λ (r : table.Account). r.waiting) row (pos 0)) ≡ Some n
+      → n ≡ length (unwrap_or (get (accounts_of xs) q) empty_account).queue
+  waiting-found row n is sums e =
+      waiting-row row n (right-there row (sym is) sums) e
+      ∙ ap (λ r. length (unwrap_or (option_map (account_in xs) r) empty_account).queue) is
+      ∙ sym (ap (λ a. length (unwrap_or a empty_account).queue) get-place)
+
+-- ---- one row in the place of another
+
+module _ (xs ys : Content) (r : ℕ) (f : Account → Account) (row new : table.Account)
+    (place : is_place r ≡ true) (found : row_of xs (pos r) ≡ Some row) (put : ys.accounts ≡ insert_by key xs.accounts new) (same : new.id ≡ row.id)
+    (stands : standing new ≡ standing row)
+    (lines : (id : ℤ) → int_eq (pos r) id ≡ false → lines_of ys id ≡ lines_of xs id)
+    (queues : (id : ℤ) → int_eq (pos r) id ≡ false → queue_of ys id ≡ queue_of xs id)
+    (here : account_in ys new ≡ f (account_in xs row)) (right : is_right ys new ≡ is_right xs row) (others : AreOthersKept xs ys) where
+  at : new.id ≡ pos r
+  at = same ∙ key-get_by key xs.accounts (pos r) row found
+
+  row_now : (id : ℤ) → row_of ys id ≡ cond (int_eq (pos r) id) (Some new) (row_of xs id)
+  row_now id = ap (λ rows. get_by key rows id) put ∙ get_by-insert_by key xs.accounts new id ∙ ap (λ k. cond (int_eq k id) (Some new) (row_of xs id)) at
+
+  row_here : (id : ℤ) → int_eq (pos r) id ≡ true → row_of ys id ≡ Some new
+  row_here id e = row_now id ∙ ap (λ b. cond b (Some new) (row_of xs id)) e
+
+  row_there : (id : ℤ) → int_eq (pos r) id ≡ false → row_of ys id ≡ row_of xs id
+  row_there id e = row_now id ∙ ap (λ b. cond b (Some new) (row_of xs id)) e
+
+  row_was : (id : ℤ) → int_eq (pos r) id ≡ true → row_of xs id ≡ Some row
+  row_was id e = ap (row_of xs) (sym (same_int (pos r) id e)) ∙ found
+
+  apart : (id : ℤ) (x : table.Account) → row_of xs id ≡ Some x → int_eq (pos r) id ≡ false → int_eq (pos r) x.id ≡ false
+  apart id x is e = ap (int_eq (pos r)) (key-get_by key xs.accounts id x is) ∙ e
+
+  account-there : (o : Option table.Account) (id : ℤ) → row_of xs id ≡ o → int_eq (pos r) id ≡ false → option_map (account_in ys) o ≡ option_map (account_in xs) o
+  account-there None id is e = refl
+  account-there (Some x) id is e =
+      λ i. Some (record (account_in xs x) { lines = lines x.id (apart id x is e) i; queue = queues x.id (apart id x is e) i })
+
+  right-elsewhere : (o : Option table.Account) (id : ℤ) → row_of xs id ≡ o → int_eq (pos r) id ≡ false → option_map_or (is_right ys) o true ≡ option_map_or (is_right xs) o true
+  right-elsewhere None id is e = refl
+  right-elsewhere (Some x) id is e =
+      λ i. int_eq (balance_in x.balance) (balance (lines x.id (apart id x is e) i)) && int_eq x.waiting (pos (length (queues x.id (apart id x is e) i)))
+
+  value : Account
+  value = f (unwrap_or (get (accounts_of xs) r) empty_account)
+
+  value_is : account_in ys new ≡ value
+  unfolding value
+  value_is = here ∙ sym (ap (λ a. f (unwrap_or a empty_account)) (get-found xs r row place found))
+
+  account-at : (q : ℕ) (b : Bool) → int_eq (pos r) (pos q) ≡ b → eq_by_cmp nat_cmp q r ≡ b
+      → account_at ys q (row_of ys (pos q)) ≡ cond b (Some value) (get (accounts_of xs) q)
+  account-at q true e tied =
+      ap (account_at ys q) (row_here (pos q) e)
+      ∙ ap (λ b. cond b (Some (account_in ys new)) None) (ap is_place (nat_cmp-IsAntisymmetric q r ((Equal-is (nat_cmp q r)).0 tied)) ∙ place)
+      ∙ ap Some value_is
+  account-at q false e tied =
+      ap (account_at ys q) (row_there (pos q) e)
+      ∙ ap (λ a. cond (is_place q) a None) (account-there (row_of xs (pos q)) (pos q) refl e)
+      ∙ sym (get-accounts_of xs q)
+
+  tied : (q : ℕ) → int_eq (pos r) (pos q) ≡ eq_by_cmp nat_cmp q r
+  tied q = nat-int r q ∙ (eq_by_cmp_equiv nat_cmp_total).symm r q
+
+  accounts-now : accounts_of ys ≡ insert (accounts_of xs) r value
+  accounts-now = same_map nat_cmp_total nat_cmp-IsAntisymmetric _ _ (λ q.
+      get-accounts_of ys q ∙ account-at q (eq_by_cmp nat_cmp q r) (tied q) refl ∙ sym (get-insert nat_cmp_total (accounts_of xs) r value q))
+
+  rights : (id : ℤ) (b : Bool) → int_eq (pos r) id ≡ b → has_right_sums ys id ≡ has_right_sums xs id
+  rights id true e = ap (λ o. option_map_or (is_right ys) o true) (row_here id e) ∙ right ∙ sym (ap (λ o. option_map_or (is_right xs) o true) (row_was id e))
+  rights id false e = ap (λ o. option_map_or (is_right ys) o true) (row_there id e) ∙ right-elsewhere (row_of xs id) id refl e
+
+  sums-now : sums_are_right ys ≡ sums_are_right xs
+  sums-now =
+      ap (list_all (λ x. has_right_sums ys (key x))) put
+      ∙ all-insert_by key (has_right_sums ys) xs.accounts new
+      ∙ (λ i. rights new.id _ refl i && list_all (λ (x : table.Account). rights x.id _ refl i) xs.accounts)
+      ∙ ap (λ k. has_right_sums xs k && list_all (λ x. has_right_sums xs (key x)) xs.accounts) at
+      ∙ all_with key (has_right_sums xs) xs.accounts (pos r) row found
+
+  standing-at : (id : ℤ) (b : Bool) → int_eq (pos r) id ≡ b → standing_of ys id ≡ standing_of xs id
+  standing-at id true e = ap (option_map standing) (row_here id e) ∙ ap Some stands ∙ sym (ap (option_map standing) (row_was id e))
+  standing-at id false e = ap (option_map standing) (row_there id e)
+
+  pub changed : IsChange r f xs ys
+  unfolding value
+  changed = record {
+    there = (account_in xs row, get-found xs r row place found);
+    accounts = accounts-now;
+    sums = sums-now;
+    standings = λ id. standing-at id _ refl;
+    others = others;
+  }
+
+-- the counters alone
+pub counted : (xs : Content) (r : ℕ) (x : Counters) (row new : table.Account) → is_place r ≡ true → Some row ≡ row_of xs (pos r) → IsCounted x row new
+    → IsChange r (with_counters x) xs (accounts_to (λ rows. insert_by key rows new) xs)
+counted xs r x row new place found it =
+    let ys : Content = accounts_to (λ rows. insert_by key rows new) xs in
+    let id : new.id ≡ row.id = ap (λ (a : table.Account). a.id) it.rest in
+    let waiting : new.waiting ≡ row.waiting = ap (λ (a : table.Account). a.waiting) it.rest in
+    let cents : new.balance ≡ row.balance = ap (λ (a : table.Account). a.balance) it.rest in
+    changed xs ys r (with_counters x) row new place (sym found) refl id (ap standing it.rest) (λ id e. refl) (λ id e. refl)
+    (λ i. record { lines = lines_of xs (id i); queue = queue_of xs (id i); commands = (it.back i).commands; messages = (it.back i).messages; serial = (it.back i).serial })
+    (λ i. int_eq (balance_in (cents i)) (balance (lines_of xs (id i))) && int_eq (waiting i) (pos (length (queue_of xs (id i)))))
+    (record { metas = refl; contacts = refl; domains = refl; hosts = refl; addresses = refl; links = refl; transfers = refl })

@@ -1,0 +1,3 @@
+pub mod RowLemmas
+pub mod AccountLemmas
+pub mod CallLemmas

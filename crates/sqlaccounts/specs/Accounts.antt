@@ -1,0 +1,86 @@
+-- The accounts that rows of the tables mean.
+use Rattle.std.specs.Prelude.{◌&&◌, ℕ, ℤ, pos, Bool, true, List, [], ◌∷◌, ◌++◌, fold, length, codes, decimal, Option, Some, None}
+use Rattle.std.specs.FinMap.{FinMap, from_entries}
+use Rattle.std.specs.Int.{cast_signed, from_be_bytes, w128}
+use Rattle.std.specs.List.{filter, filter_map, list_all}
+use Rattle.std.specs.Option.{option_map, option_map_or}
+use Rattle.std.specs.Ordering.{int_eq, nat_cmp}
+use Rattle.sqlite_keyed.specs.Keyed.{get_by}
+use Rattle.accounts.specs.declared.account.Account.{Account}
+use Rattle.accounts.specs.declared.line.Line.{Line}
+use Rattle.accounts.specs.declared.message.Message.{Message}
+use Rattle.accounts.specs.Lines.{balance, in_order}
+use Rattle.accounts.specs.Queue.{put}
+use Rattle.basis.specs.Bag.{bag_of}
+use Rattle.columns.specs.Lines.{line_in}
+use Rattle.columns.specs.Messages.{message_in}
+use Rattle.columns.specs.Numbers.{counter_in, registrar_column, registrar_in}
+use Rattle.tables.specs.Account as account_table
+use Rattle.tables.specs.Content.{Content}
+use Rattle.tables.specs.Line.{line_with_account}
+use Rattle.tables.specs.Message.{message_with_account}
+
+-- the lines under an account's number, of the rows that read
+abbrev pub lines_of : Content → ℤ → List Line
+lines_of xs id = bag_of in_order (filter_map line_in (filter (line_with_account id) xs.lines))
+
+-- the messages, each put where it belongs
+abbrev pub put_all : List Message → List Message
+put_all messages = fold (λ queue m. put m queue) [] messages
+
+-- the messages under an account's number, of the rows that read
+abbrev pub queue_of : Content → ℤ → List Message
+queue_of xs id = put_all (filter_map message_in (filter (message_with_account id) xs.messages))
+
+-- the account of a row
+abbrev pub account_in : Content → account_table.Account → Account
+account_in xs row = record {
+  lines = lines_of xs row.id;
+  queue = queue_of xs row.id;
+  commands = counter_in row.commands;
+  messages = counter_in row.messages;
+  serial = counter_in row.serial;
+}
+
+-- the accounts of the rows whose number is a registrar's place
+abbrev pub entries_of : Content → List account_table.Account → List (ℕ × Account)
+entries_of xs [] = []
+entries_of xs (row ∷ rows) = option_map_or (λ place. (place, account_in xs row) ∷ entries_of xs rows) (registrar_in row.id) (entries_of xs rows)
+
+abbrev pub accounts_of : Content → FinMap nat_cmp Account
+accounts_of xs = from_entries (entries_of xs xs.accounts)
+
+-- the first row with a number
+abbrev pub row_of : Content → ℤ → Option account_table.Account
+row_of xs id = get_by account_table.accounts.key xs.accounts id
+
+-- ---- the sums that a row keeps
+
+-- the cents of sixteen bytes, two's complement, the highest first
+abbrev pub balance_in : List ℕ → ℤ
+balance_in bytes = cast_signed w128 (from_be_bytes w128 bytes)
+
+-- the columns are what the lines add up to, and how many messages wait
+abbrev pub is_right : Content → account_table.Account → Bool
+is_right xs row = int_eq (balance_in row.balance) (balance (lines_of xs row.id)) && int_eq row.waiting (pos (length (queue_of xs row.id)))
+
+-- those of the row with a number, if there is one
+abbrev pub has_right_sums : Content → ℤ → Bool
+has_right_sums xs id = option_map_or (is_right xs) (row_of xs id) true
+
+-- all accounts' sums are right
+abbrev pub sums_are_right : Content → Bool
+sums_are_right xs = list_all (λ (row : account_table.Account). has_right_sums xs row.id) xs.accounts
+
+-- ---- what a row keeps besides
+
+-- who it is, and how many domains are its own
+abbrev pub standing : account_table.Account → List ℕ × ℤ
+standing row = (row.ident, row.held)
+
+abbrev pub standing_of : Content → ℤ → Option (List ℕ × ℤ)
+standing_of xs id = option_map standing (row_of xs id)
+
+-- the ident of an account that was opened and has no id yet: # and its place
+abbrev pub place_ident : ℕ → List ℕ
+place_ident place = codes "#" ++ decimal place

@@ -1,0 +1,79 @@
+//! What an account counts.
+ghost use Rattle.std.specs.Prelude.{◌≡◌, true};
+ghost use Rattle.std.specs.FinMap.{get};
+ghost use Rattle.std.specs.Option.{unwrap_or};
+ghost use Rattle.accounts.specs.Account.{empty_account};
+ghost use Rattle.sqlaccounts.specs.Accounts.{accounts_of};
+ghost use Rattle.sqlaccounts.specs.Changes.{IsChange, IsCounted, counters_in, counters_of, with_counters};
+ghost use Rattle.sqlaccounts.specs.Words.{Tells, Turns};
+ghost use Rattle.columns.specs.Numbers.{registrar_column};
+ghost use Rattle.tables.specs.Account.{Account};
+
+use crate::account::{found_row, maybe_row};
+use basis::registrar::RegistrarNo;
+use columns::{counter_column, counter_of_column};
+use sqlite::Alter;
+use tables::{AccountRow, RowStore};
+use transactions::BookFault;
+
+/// What an account counts: commands that were answered, messages that commands brought, and objects
+/// that the registrar created.
+#[derive(Clone, Copy, Debug, PartialEq, Eq, Drop)]
+pub struct Counters {
+    pub commands: u64,
+    pub messages: u64,
+    pub serial: u64,
+}
+
+/// What a registrar's account counts: 0 where it was never opened.
+pub fn counts<S: Alter>(
+    store: &mut RowStore<S>,
+    registrar: RegistrarNo,
+) -> Result<Counters, BookFault>
+    ensures { Tells result (λ xs. counters_of (unwrap_or (get (accounts_of xs) registrar) empty_account)) store.old store.new }
+{
+    let row = maybe_row(store, registrar)?;
+    Ok(counted(row))
+}
+
+fn counted(row: Option<AccountRow>) -> Counters
+    ensures { result ≡ counters_in row }
+{
+    let Some(row) = row else {
+        return Counters {
+            commands: 0,
+            messages: 0,
+            serial: 0,
+        };
+    };
+    Counters {
+        commands: counter_of_column(row.commands),
+        messages: counter_of_column(row.messages),
+        serial: counter_of_column(row.serial),
+    }
+}
+
+/// Gives a registrar's account other counters.
+pub fn set_counters<S: Alter>(
+    store: &mut RowStore<S>,
+    registrar: RegistrarNo,
+    counters: Counters,
+) -> Result<(), BookFault>
+    requires { store.old.is_open ≡ true }
+    ensures { Turns result (IsChange registrar (with_counters counters)) store.old store.new }
+{
+    let row = found_row(store, registrar)?;
+    let row = with_counters(row, counters);
+    store.put_account(&row)?;
+    Ok(())
+}
+
+fn with_counters(row: AccountRow, counters: Counters) -> AccountRow
+    ensures { IsCounted counters row result }
+{
+    let mut row = row;
+    row.commands = counter_column(counters.commands);
+    row.messages = counter_column(counters.messages);
+    row.serial = counter_column(counters.serial);
+    row
+}

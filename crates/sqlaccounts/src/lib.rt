@@ -1,0 +1,15 @@
+//! The accounts of registrars over the rows of a database: what they count, their lines, their
+//! balances and the messages that wait.
+//!
+//! Each account keeps its balance, and how many messages wait, in its own row. No call adds up lines.
+//! A question is answered where these sums are right, and each change keeps them right.
+#![tactic(auto)]
+
+mod account;
+mod counting;
+mod line;
+mod message;
+
+pub use counting::{Counters, counts, set_counters};
+pub use line::balance;
+pub use message::waiting;

@@ -1,0 +1,32 @@
+//! Lines of accounts, and what they add up to.
+ghost use Rattle.std.specs.Prelude.{◌≡◌, pos};
+ghost use Rattle.std.specs.FinMap.{get};
+ghost use Rattle.std.specs.Option.{option_map_or, unwrap_or};
+ghost use Rattle.tables.specs.Account.{Account};
+ghost use Rattle.accounts.specs.Account.{empty_account};
+ghost use Rattle.accounts.specs.Lines as lines;
+ghost use Rattle.sqlaccounts.specs.Accounts.{accounts_of, balance_in};
+ghost use Rattle.sqlaccounts.specs.Words.{Tells};
+
+use crate::account::maybe_row;
+use basis::registrar::RegistrarNo;
+use sqlite::Alter;
+use tables::{AccountRow, RowStore};
+use transactions::BookFault;
+
+/// What a registrar's account has, in whole cents: 0 where it was never opened.
+pub fn balance<S: Alter>(store: &mut RowStore<S>, registrar: RegistrarNo) -> Result<i128, BookFault>
+    ensures { Tells result (λ xs. lines.balance (unwrap_or (get (accounts_of xs) registrar) empty_account).lines) store.old store.new }
+{
+    let row = maybe_row(store, registrar)?;
+    Ok(cents_of(row))
+}
+
+fn cents_of(row: Option<AccountRow>) -> i128
+    ensures { result ≡ option_map_or (λ (row : Account). balance_in row.balance) row (pos 0) }
+{
+    let Some(row) = row else {
+        return 0;
+    };
+    i128::from_be_bytes(row.balance)
+}

@@ -1,0 +1,36 @@
+//! Messages that wait.
+ghost use Rattle.std.specs.Prelude.{◌≡◌, Some, pos, length, IfOk};
+ghost use Rattle.std.specs.FinMap.{get};
+ghost use Rattle.std.specs.Option.{option_map_or, unwrap_or};
+ghost use Rattle.accounts.specs.Account.{empty_account};
+ghost use Rattle.columns.specs.Numbers.{exact_in};
+ghost use Rattle.sqlaccounts.specs.Accounts.{accounts_of};
+ghost use Rattle.sqlaccounts.specs.Words.{Tells};
+ghost use Rattle.tables.specs.Account.{Account};
+
+use crate::account::maybe_row;
+use basis::registrar::RegistrarNo;
+use columns::exact_of_column;
+use sqlite::Alter;
+use tables::{AccountRow, RowStore};
+use transactions::BookFault;
+
+/// How many messages wait for a registrar: none where its account was never opened.
+pub fn waiting<S: Alter>(store: &mut RowStore<S>, registrar: RegistrarNo) -> Result<u64, BookFault>
+    ensures { Tells result (λ xs. length (unwrap_or (get (accounts_of xs) registrar) empty_account).queue) store.old store.new }
+{
+    let row = maybe_row(store, registrar)?;
+    match exact_of_column(waiting_of(row)) {
+        Some(count) => Ok(count),
+        None => Err(BookFault::Store),
+    }
+}
+
+fn waiting_of(row: Option<AccountRow>) -> i64
+    ensures { result ≡ option_map_or (λ (row : Account). row.waiting) row (pos 0) }
+{
+    let Some(row) = row else {
+        return 0;
+    };
+    row.waiting
+}

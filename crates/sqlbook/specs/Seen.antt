@@ -1,0 +1,37 @@
+-- What holds rows, as a book sees it: what the rows mean, and whether the sums that are stored beside
+-- them were right when the transaction began.
+use Rattle.std.specs.Prelude.{◌≡◌, Bool, true, false, ◌&&◌, map, Result, Ok, Err}
+use Rattle.transactions.specs.declared.fault.BookFault.{BookFault}
+use Rattle.transactions.specs.States.{Reads, StateOf, Stays}
+
+abbrev pub seen : {C X : Type 0} → (C → X) → (C → Bool) → StateOf C → StateOf X
+seen means right s = record {
+  content = means s.content;
+  before = means s.before;
+  is_open = s.is_open;
+  is_clean = s.is_clean && right s.before;
+  readiness = s.readiness;
+  crash_leaves = map means s.crash_leaves;
+}
+
+-- the sums are as right as they were when the transaction began
+abbrev pub AreKept : {C : Type 0} → (C → Bool) → StateOf C → Type 0
+AreKept right s = s.is_clean ≡ true → right s.content ≡ right s.before
+
+-- a question of rows whose answer is this if the sums are right
+abbrev pub Tells : {A C : Type 0} → Result A BookFault → Bool → A → StateOf C → StateOf C → Type 0
+Tells (Ok it) right value old new = Reads old new × (new.is_clean ≡ true → right ≡ true → it ≡ value)
+Tells (Err fault) right value old new = Stays old new
+
+-- rows that mean this now, in the open transaction, with sums as right as they were
+pub record Turns {C X : Type 0} (means : C → X) (right : C → Bool) (held : X) (old new : StateOf C) : Type 0 where
+  pub clean : new.is_clean ≡ true → old.is_clean ≡ true
+  pub before : new.is_clean ≡ true → new.before ≡ old.before
+  pub opened : new.is_open ≡ true
+  pub content : new.is_clean ≡ true → means new.content ≡ held
+  pub sums : new.is_clean ≡ true → right new.content ≡ right old.content
+
+-- a change of rows
+abbrev pub Alters : {A C X : Type 0} → Result A BookFault → (C → X) → (C → Bool) → X → StateOf C → StateOf C → Type 0
+Alters (Ok done) means right held old new = Turns means right held old new
+Alters (Err fault) means right held old new = Stays old new

@@ -1,0 +1,2 @@
+//! A book in a database.
+#![tactic(auto)]

@@ -1,0 +1,17 @@
+-- One question after another.
+use Rattle.std.proofs.Common.{◌≡◌, true, Result, Ok, Err, ◌∙◌}
+use Rattle.transactions.specs.declared.fault.BookFault.{BookFault}
+use Rattle.transactions.specs.States.{Finds, Meets, Reads, StateOf}
+
+pub reads-on : {X : Type 0} (s m t : StateOf X) → Reads s m → Reads m t → Reads s t
+reads-on s m t a b = record {
+  clean = λ e. a.clean (b.clean e);
+  before = λ e. b.before e ∙ a.before (b.clean e);
+  opened = b.opened ∙ a.opened;
+  content = λ e. b.content e ∙ a.content (b.clean e);
+}
+
+-- a question behind another
+pub finds-on : {A X : Type 0} (r : Result A BookFault) (s m t : StateOf X) (g h : A) → Reads s m → (m.is_clean ≡ true → g ≡ h) → Finds r g m t → Finds r h s t
+finds-on (Ok it) s m t g h read same found = (reads-on s m t read found.0, λ e. found.1 e ∙ same (found.0.clean e))
+finds-on (Err fault) s m t g h read same found = record { clean = λ e. read.clean (found.clean e); before = λ e. found.before e ∙ read.before (found.clean e) }

@@ -1,0 +1,89 @@
+//! Contacts, by name.
+ghost use Rattle.std.specs.Prelude.{◌≡◌, IfOk, Some, is_some};
+ghost use Rattle.std.specs.FinMap.{get};
+ghost use Rattle.columns.specs.Contacts.{contact_in};
+ghost use Rattle.transactions.specs.States.{Finds, Meets};
+ghost use Rattle.sqlobjects.specs.Objects as spec;
+ghost use Rattle.sqlobjects.specs.Read.{first_read};
+
+use crate::only::{only, or_fault};
+use basis::list::Seq;
+use basis::text::Text;
+use columns::{contact_of_row, transfer_of_row};
+use objects::{Contact, Transfer};
+use rows::Number;
+use sqlite::Alter;
+use std::alloc::Global;
+use tables::{ContactRow, RowStore, TransferRow};
+use transactions::BookFault;
+
+/// The contact of this name.
+pub fn contact<S: Alter>(
+    store: &mut RowStore<S>,
+    alloc: Global,
+    name: &Text,
+) -> Result<Option<Contact>, BookFault>
+    ensures { Finds result (get (spec.contacts_of store.old.content) name.now) store.old store.new }
+{
+    let rows = store.contacts_by_name(name.as_str())?;
+    first_contact(store, alloc, rows)
+}
+
+/// The contact of the one of these rows, if there is one.
+fn first_contact<S: Alter>(
+    store: &mut RowStore<S>,
+    alloc: Global,
+    rows: Seq<ContactRow>,
+) -> Result<Option<Contact>, BookFault>
+    ensures { Finds result (first_read (spec.contact_of store.old.content) rows) store.old store.new }
+{
+    let Some(row) = only(rows)? else {
+        return Ok(None);
+    };
+    Ok(Some(contact_of(store, alloc, row)?))
+}
+
+fn contact_of<S: Alter>(
+    store: &mut RowStore<S>,
+    alloc: Global,
+    row: ContactRow,
+) -> Result<Contact, BookFault>
+    ensures { Meets result (λ contact. spec.contact_of store.old.content row ≡ Some contact) store.old store.new }
+{
+    let transfers = store.transfers_by_contact(Number::new(row.id))?;
+    let transfer = last_transfer(transfers)?;
+    read_contact(alloc, row, transfer)
+}
+
+/// The last transfer, if there was one, of the object whose transfers these rows are.
+fn last_transfer(rows: Seq<TransferRow>) -> Result<Option<Transfer>, BookFault>
+    ensures { IfOk result (λ transfer. spec.last_transfer rows ≡ Some transfer) }
+{
+    let Some(row) = only(rows)? else {
+        return Ok(None);
+    };
+    let transfer = or_fault(transfer_of_row(&row))?;
+    Ok(Some(transfer))
+}
+
+fn read_contact(
+    alloc: Global,
+    row: ContactRow,
+    transfer: Option<Transfer>,
+) -> Result<Contact, BookFault>
+    ensures { IfOk result (λ contact. contact_in row transfer ≡ Some contact) }
+{
+    or_fault(contact_of_row(alloc, row, transfer)?)
+}
+
+/// Whether there is a contact of this name.
+pub fn has_contact<S: Alter>(
+    store: &mut RowStore<S>,
+    alloc: Global,
+    name: &Text,
+) -> Result<bool, BookFault>
+    ensures { Finds result (is_some (get (spec.contacts_of store.old.content) name.now)) store.old store.new }
+{
+    let contact = contact(store, alloc, name)?;
+    Ok(contact.is_some())
+}

@@ -1,0 +1,112 @@
+//! Hosts, by name.
+ghost use Rattle.std.specs.Prelude.{◌≡◌, IfOk, Some, is_some, option_map};
+ghost use Rattle.std.specs.FinMap.{get};
+ghost use Rattle.columns.specs.Hosts.{host_in};
+ghost use Rattle.transactions.specs.States.{Finds, Meets};
+ghost use Rattle.sqlobjects.specs.Objects as spec;
+ghost use Rattle.sqlobjects.specs.Read.{first_read};
+
+use crate::only::{only, or_fault};
+use basis::list::Seq;
+use basis::text::Text;
+use columns::host_of_row;
+use objects::Host;
+use rows::Number;
+use sqlite::Alter;
+use std::alloc::{AllocError, Global};
+use tables::{AddressRow, HostRow, RowStore};
+use transactions::BookFault;
+
+/// The host of this name.
+pub fn host<S: Alter>(
+    store: &mut RowStore<S>,
+    alloc: Global,
+    name: &Text,
+) -> Result<Option<Host>, BookFault>
+    ensures { Finds result (get (spec.hosts_of store.old.content) name.now) store.old store.new }
+{
+    let rows = store.hosts_by_name(name.as_str())?;
+    first_host(store, alloc, rows)
+}
+
+/// The host of the one of these rows, if there is one.
+fn first_host<S: Alter>(
+    store: &mut RowStore<S>,
+    alloc: Global,
+    rows: Seq<HostRow>,
+) -> Result<Option<Host>, BookFault>
+    ensures { Finds result (first_read (spec.host_of store.old.content) rows) store.old store.new }
+{
+    let Some(row) = only(rows)? else {
+        return Ok(None);
+    };
+    Ok(Some(host_of(store, alloc, row)?))
+}
+
+fn host_of<S: Alter>(
+    store: &mut RowStore<S>,
+    alloc: Global,
+    row: HostRow,
+) -> Result<Host, BookFault>
+    ensures { Meets result (λ host. spec.host_of store.old.content row ≡ Some host) store.old store.new }
+{
+    let number = number_of(&row);
+    let addresses = store.addresses_by_host(number)?;
+    let addresses = texts_of(alloc, addresses)?;
+    read_host(alloc, row, addresses)
+}
+
+fn number_of(row: &HostRow) -> Number
+    ensures { result ≡ row.now.id }
+{
+    Number::new(row.id)
+}
+
+fn texts_of(alloc: Global, rows: Seq<AddressRow>) -> Result<Seq<Text>, AllocError>
+    ensures { IfOk result (λ texts. texts ≡ spec.texts_of rows) }
+{
+    let mut texts = Seq::new(alloc);
+    for row in rows.into_vec() {
+        texts.push(Text::from_string(row.address))?;
+    }
+    Ok(texts)
+}
+
+fn read_host(alloc: Global, row: HostRow, addresses: Seq<Text>) -> Result<Host, BookFault>
+    ensures { IfOk result (λ host. host_in row addresses ≡ Some host) }
+{
+    or_fault(host_of_row(alloc, row, addresses)?)
+}
+
+/// Whether there is a host of this name.
+pub fn has_host<S: Alter>(
+    store: &mut RowStore<S>,
+    alloc: Global,
+    name: &Text,
+) -> Result<bool, BookFault>
+    ensures { Finds result (is_some (get (spec.hosts_of store.old.content) name.now)) store.old store.new }
+{
+    let host = host(store, alloc, name)?;
+    Ok(host.is_some())
+}
+
+/// The addresses of the host of this name.
+pub fn host_addresses<S: Alter>(
+    store: &mut RowStore<S>,
+    alloc: Global,
+    name: &Text,
+) -> Result<Option<Seq<Text>>, BookFault>
+    ensures { Finds result (option_map (λ h. h.addresses) (get (spec.hosts_of store.old.content) name.now)) store.old store.new }
+{
+    let host = host(store, alloc, name)?;
+    Ok(addresses_in(host))
+}
+
+fn addresses_in(host: Option<Host>) -> Option<Seq<Text>>
+    ensures { result ≡ option_map (λ h. h.addresses) host }
+{
+    match host {
+        None => None,
+        Some(host) => Some(host.addresses),
+    }
+}

@@ -1,0 +1,11 @@
+//! Contacts and hosts over the store of rows: what rows mean is said in `specs/Objects.antt`, and each
+//! call answers from the rows that its name or number finds, or refuses (`BookFault::Store`) where one of
+//! them doesn't read.
+#![tactic(auto)]
+
+mod contacts;
+mod hosts;
+mod only;
+
+pub use contacts::{contact, has_contact};
+pub use hosts::{has_host, host, host_addresses};
