@@ -17,7 +17,7 @@ use Rattle.tables.specs.Content.{Content, accounts_to}
 use Rattle.sqlaccounts.specs.Accounts.{account_in, accounts_of, balance_in, entries_of, has_right_sums, is_right, lines_of, queue_of, row_of, standing, standing_of, sums_are_right}
 use Rattle.sqlaccounts.specs.Changes.{AreOthersKept, IsChange, IsCounted, counters_in, counters_of, with_counters}
 use Rattle.sqlaccounts.specs.declared.counting.Counters.{Counters}
-use Rattle.sqlaccounts.proofs.RowLemmas.{all-insert_by, all_with, get_by-insert_by}
+use Rattle.meanings.proofs.RowLemmas.{all-insert_by, all_with, get_by-insert_by}
 
 abbrev magnitude : ℤ → ℕ
 magnitude (pos n) = n

@@ -1,4 +1,2 @@
 pub mod Accounts
-pub mod Rows
 pub mod Changes
-pub mod Words

@@ -2,12 +2,11 @@
 ghost use Rattle.std.specs.Prelude.{◌≡◌, true, Some, IfOk};
 ghost use Rattle.columns.specs.Numbers.{is_place, registrar_column};
 ghost use Rattle.sqlaccounts.specs.Accounts.{row_of};
-ghost use Rattle.sqlaccounts.specs.Rows.{HoldsOne};
 ghost use Rattle.transactions.specs.States.{Finds, Meets};
 
-use basis::list::Seq;
 use basis::registrar::RegistrarNo;
 use columns::registrar_column;
+use meanings::only;
 use rows::Number;
 use sqlite::Alter;
 use tables::{AccountRow, RowStore};
@@ -34,7 +33,7 @@ pub(crate) fn maybe_row<S: Alter>(
 {
     let id = number_of(registrar)?;
     let rows = store.accounts_by_id(id)?;
-    at_most_one(rows)
+    only(rows)
 }
 
 /// The row of a registrar who has one.
@@ -48,18 +47,5 @@ pub(crate) fn found_row<S: Alter>(
     match maybe_row(store, registrar)? {
         Some(row) => Ok(row),
         None => Err(BookFault::Store),
-    }
-}
-
-/// The one item of a list, if it has any.
-pub(crate) fn at_most_one<T: Drop>(items: Seq<T>) -> Result<Option<T>, BookFault>
-    ensures { IfOk result (HoldsOne items) }
-{
-    let mut items = items.into_vec();
-    let item = items.pop();
-    if items.is_empty() {
-        Ok(item)
-    } else {
-        Err(BookFault::Store)
     }
 }

@@ -5,8 +5,8 @@ ghost use Rattle.std.specs.Option.{option_map_or, unwrap_or};
 ghost use Rattle.tables.specs.Account.{Account};
 ghost use Rattle.accounts.specs.Account.{empty_account};
 ghost use Rattle.accounts.specs.Lines as lines;
-ghost use Rattle.sqlaccounts.specs.Accounts.{accounts_of, balance_in};
-ghost use Rattle.sqlaccounts.specs.Words.{Tells};
+ghost use Rattle.sqlaccounts.specs.Accounts.{accounts_of, balance_in, sums_are_right};
+ghost use Rattle.meanings.specs.Calls.{Tells};
 
 use crate::account::maybe_row;
 use basis::registrar::RegistrarNo;
@@ -16,7 +16,7 @@ use transactions::BookFault;
 
 /// What a registrar's account has, in whole cents: 0 where it was never opened.
 pub fn balance<S: Alter>(store: &mut RowStore<S>, registrar: RegistrarNo) -> Result<i128, BookFault>
-    ensures { Tells result (λ xs. lines.balance (unwrap_or (get (accounts_of xs) registrar) empty_account).lines) store.old store.new }
+    ensures { Tells result (sums_are_right store.old.content) (lines.balance (unwrap_or (get (accounts_of store.old.content) registrar) empty_account).lines) store.old store.new }
 {
     let row = maybe_row(store, registrar)?;
     Ok(cents_of(row))

@@ -2,7 +2,8 @@
 use Rattle.std.proofs.Common.{◌≡◌, Bool, true, false, ◌&&◌, Result, Ok, Err, ◌∙◌, refl, sym, ap}
 use Rattle.transactions.specs.declared.fault.BookFault.{BookFault}
 use Rattle.transactions.specs.States.{Begins, Closes, Ends, Finds, Makes, Reads, Starts, StateOf, Stays, Writes}
-use Rattle.sqlbook.specs.Seen.{Alters, AreKept, Tells, Turns, seen}
+use Rattle.meanings.specs.Calls.{Tells}
+use Rattle.sqlbook.specs.Seen.{Alters, AreKept, Turns, seen}
 
 both : (a b : Bool) → a && b ≡ true → (a ≡ true) × (b ≡ true)
 both true b e = (refl, e)

@@ -18,11 +18,6 @@ seen means right s = record {
 abbrev pub AreKept : {C : Type 0} → (C → Bool) → StateOf C → Type 0
 AreKept right s = s.is_clean ≡ true → right s.content ≡ right s.before
 
--- a question of rows whose answer is this if the sums are right
-abbrev pub Tells : {A C : Type 0} → Result A BookFault → Bool → A → StateOf C → StateOf C → Type 0
-Tells (Ok it) right value old new = Reads old new × (new.is_clean ≡ true → right ≡ true → it ≡ value)
-Tells (Err fault) right value old new = Stays old new
-
 -- rows that mean this now, in the open transaction, with sums as right as they were
 pub record Turns {C X : Type 0} (means : C → X) (right : C → Bool) (held : X) (old new : StateOf C) : Type 0 where
   pub clean : new.is_clean ≡ true → old.is_clean ≡ true

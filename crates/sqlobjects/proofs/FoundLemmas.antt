@@ -12,9 +12,9 @@ use Rattle.tables.specs.Host as host_table
 use Rattle.transactions.specs.declared.fault.BookFault.{BookFault}
 use Rattle.transactions.specs.States.{Finds, Meets, StateOf}
 use Rattle.sqlobjects.specs.Objects.{contact_of, contacts_of, host_of, hosts_of, texts_of}
-use Rattle.sqlobjects.specs.Read.{first_read}
+use Rattle.meanings.specs.Read.{first_read}
 use Rattle.sqlobjects.proofs.NameLemmas.{contact-named, host-named}
-use Rattle.sqlobjects.proofs.StateLemmas.{finds-on}
+use Rattle.meanings.proofs.StateLemmas.{finds-on}
 
 module _ (s m t : StateOf Content) (given name : List ℕ) (same : given ≡ name) where
   pub contact-found : (r : Result (Option Contact) BookFault) (rows : List contact_table.Contact) → Finds {A = List contact_table.Contact} (Ok rows) (filter (contact_table.contact_with_name given) s.content.contacts) s m

@@ -1,3 +1,2 @@
-pub mod StateLemmas
 pub mod NameLemmas
 pub mod FoundLemmas

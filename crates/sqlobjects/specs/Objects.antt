@@ -18,7 +18,7 @@ use Rattle.tables.specs.Content.{Content}
 use Rattle.tables.specs.Host as host_table
 use Rattle.tables.specs.Transfer.{transfer_with_contact}
 use Rattle.tables.specs.Transfer as transfer_table
-use Rattle.sqlobjects.specs.Read.{named}
+use Rattle.meanings.specs.Read.{named}
 
 -- ---- contacts
 

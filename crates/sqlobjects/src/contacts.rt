@@ -4,12 +4,12 @@ ghost use Rattle.std.specs.FinMap.{get};
 ghost use Rattle.columns.specs.Contacts.{contact_in};
 ghost use Rattle.transactions.specs.States.{Finds, Meets};
 ghost use Rattle.sqlobjects.specs.Objects as spec;
-ghost use Rattle.sqlobjects.specs.Read.{first_read};
+ghost use Rattle.meanings.specs.Read.{first_read};
 
-use crate::only::{only, or_fault};
 use basis::list::Seq;
 use basis::text::Text;
 use columns::{contact_of_row, transfer_of_row};
+use meanings::{only, or_fault};
 use objects::{Contact, Transfer};
 use rows::Number;
 use sqlite::Alter;

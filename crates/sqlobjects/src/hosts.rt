@@ -4,12 +4,12 @@ ghost use Rattle.std.specs.FinMap.{get};
 ghost use Rattle.columns.specs.Hosts.{host_in};
 ghost use Rattle.transactions.specs.States.{Finds, Meets};
 ghost use Rattle.sqlobjects.specs.Objects as spec;
-ghost use Rattle.sqlobjects.specs.Read.{first_read};
+ghost use Rattle.meanings.specs.Read.{first_read};
 
-use crate::only::{only, or_fault};
 use basis::list::Seq;
 use basis::text::Text;
 use columns::host_of_row;
+use meanings::{only, or_fault};
 use objects::Host;
 use rows::Number;
 use sqlite::Alter;

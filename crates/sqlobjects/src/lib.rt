@@ -5,7 +5,6 @@
 
 mod contacts;
 mod hosts;
-mod only;
 
 pub use contacts::{contact, has_contact};
 pub use hosts::{has_host, host, host_addresses};

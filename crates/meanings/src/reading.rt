@@ -1,12 +1,12 @@
 //! Rows of which there is one at most.
 ghost use Rattle.std.specs.Prelude.{◌≡◌, IfOk, Some};
-ghost use Rattle.sqlobjects.specs.Read.{rows_of};
+ghost use Rattle.meanings.specs.Read.{rows_of};
 
 use basis::list::Seq;
 use transactions::BookFault;
 
 /// The row that these are, if there is one; more are refused.
-pub(crate) fn only<R: Drop>(rows: Seq<R>) -> Result<Option<R>, BookFault>
+pub fn only<R: Drop>(rows: Seq<R>) -> Result<Option<R>, BookFault>
     ensures { IfOk result (λ row. rows ≡ rows_of row) }
 {
     let mut rows = rows.into_vec();
@@ -18,7 +18,7 @@ pub(crate) fn only<R: Drop>(rows: Seq<R>) -> Result<Option<R>, BookFault>
 }
 
 /// What a row reads as; one that doesn't is refused.
-pub(crate) fn or_fault<X: Drop>(read: Option<X>) -> Result<X, BookFault>
+pub fn or_fault<X: Drop>(read: Option<X>) -> Result<X, BookFault>
     ensures { IfOk result (λ x. read ≡ Some x) }
 {
     match read {

@@ -5,7 +5,7 @@ use Rattle.std.specs.Ordering.{is_eq, match_ordering}
 use Rattle.std.proofs.lemmas.Int.{ints}
 use Rattle.sqlite_keyed.specs.Keyed.{get_by, insert_by}
 use Rattle.sqlite_keyed.proofs.KeyedLemmas.{lt_from_Less, same_int}
-use Rattle.sqlaccounts.specs.Rows.{list_of}
+use Rattle.meanings.specs.Read.{rows_of}
 
 -- ---- one row at most
 
@@ -21,12 +21,12 @@ find-filter p (x ∷ xs) = go (p x) (find-filter p xs)
     go true e = refl
     go false e = e
 
-head-list_of : {X : Type 0} (it : Option X) → head_of (list_of it) ≡ it
-head-list_of None = refl
-head-list_of (Some x) = refl
+head-rows_of : {X : Type 0} (it : Option X) → head_of (rows_of it) ≡ it
+head-rows_of None = refl
+head-rows_of (Some x) = refl
 
-pub find_one : {X : Type 0} (p : X → Bool) (xs rows : List X) (it : Option X) → rows ≡ filter p xs → rows ≡ list_of it → it ≡ find p xs
-find_one p xs rows it e f = sym (find-filter p xs ∙ ap head_of (sym e ∙ f) ∙ head-list_of it)
+pub find_one : {X : Type 0} (p : X → Bool) (xs rows : List X) (it : Option X) → rows ≡ filter p xs → rows ≡ rows_of it → it ≡ find p xs
+find_one p xs rows it e f = sym (find-filter p xs ∙ ap head_of (sym e ∙ f) ∙ head-rows_of it)
 
 -- ---- put in its place
 
