@@ -1,0 +1,58 @@
+-- What calls make of contacts and hosts.
+use Rattle.std.specs.Prelude.{◌≡◌, ℕ, ℤ, List, filter, Option, Some, None, option_map, Result, Ok, Err}
+use Rattle.std.specs.Cmp.Lexicographic.{slice_cmp}
+use Rattle.std.specs.FinMap.{FinMap, insert, remove}
+use Rattle.std.specs.Ordering.{nat_cmp}
+use Rattle.sqlite_keyed.specs.Keyed.{get_by}
+use Rattle.objects.specs.declared.contact.Contact.{Contact}
+use Rattle.objects.specs.declared.host.Host.{Host}
+use Rattle.tables.specs.Contact as contact_table
+use Rattle.tables.specs.Content.{Content}
+use Rattle.tables.specs.Host as host_table
+use Rattle.tables.specs.Transfer.{transfer_with_domain}
+use Rattle.tables.specs.Whole.{IsWhole}
+use Rattle.sqlobjects.specs.Objects.{contacts_of, hosts_of}
+
+-- under a name stands this, or nothing
+abbrev pub put : {X : Type 0} → FinMap (slice_cmp nat_cmp) X → List ℕ → Option X → FinMap (slice_cmp nat_cmp) X
+put m k None = remove m k
+put m k (Some x) = insert m k x
+
+-- the name of the first contact, or host, with a number, if there is one
+abbrev pub contact_name : Content → ℤ → Option (List ℕ)
+contact_name xs id = option_map (λ (row : contact_table.Contact). row.name) (get_by contact_table.contacts.key xs.contacts id)
+
+abbrev pub host_name : Content → ℤ → Option (List ℕ)
+host_name xs id = option_map (λ (row : host_table.Host). row.name) (get_by host_table.hosts.key xs.hosts id)
+
+-- Under a name stands this contact, or none. No other contact is changed, no host, no domain's
+-- transfer and no row of another table, and a number leads to no other name than before.
+pub record IsContactPut (name : List ℕ) (value : Option Contact) (old new : Content) : Type 0 where
+  pub contacts : contacts_of new ≡ put (contacts_of old) name value
+  pub hosts : hosts_of new ≡ hosts_of old
+  pub metas : new.metas ≡ old.metas
+  pub accounts : new.accounts ≡ old.accounts
+  pub domains : new.domains ≡ old.domains
+  pub host_rows : new.hosts ≡ old.hosts
+  pub addresses : new.addresses ≡ old.addresses
+  pub links : new.links ≡ old.links
+  pub lines : new.lines ≡ old.lines
+  pub messages : new.messages ≡ old.messages
+  pub transfers : (id : ℤ) → filter (transfer_with_domain id) new.transfers ≡ filter (transfer_with_domain id) old.transfers
+  pub names : (id : ℤ) (n m : List ℕ) → contact_name old id ≡ Some n → contact_name new id ≡ Some m → n ≡ m
+  pub whole : IsWhole old × IsWhole new
+
+-- The same of a host. No contact is changed, and no row of another table but those of addresses.
+pub record IsHostPut (name : List ℕ) (value : Option Host) (old new : Content) : Type 0 where
+  pub hosts : hosts_of new ≡ put (hosts_of old) name value
+  pub contacts : contacts_of new ≡ contacts_of old
+  pub metas : new.metas ≡ old.metas
+  pub accounts : new.accounts ≡ old.accounts
+  pub contact_rows : new.contacts ≡ old.contacts
+  pub domains : new.domains ≡ old.domains
+  pub links : new.links ≡ old.links
+  pub lines : new.lines ≡ old.lines
+  pub messages : new.messages ≡ old.messages
+  pub transfers : new.transfers ≡ old.transfers
+  pub names : (id : ℤ) (n m : List ℕ) → host_name old id ≡ Some n → host_name new id ≡ Some m → n ≡ m
+  pub whole : IsWhole old × IsWhole new
