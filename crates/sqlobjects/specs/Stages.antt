@@ -1,10 +1,10 @@
 -- What single steps of a change make.
-use Rattle.std.specs.Prelude.{◌≡◌, ℕ, ℤ, Bool, false, List, [], filter, Option, Some, Result, Ok, Err}
+use Rattle.std.specs.Prelude.{◌≡◌, ℕ, ℤ, Bool, false, List, [], ◌++◌, ◌∷◌, filter, fold, Option, Some, None, Result, Ok, Err}
 use Rattle.std.specs.Ordering.{int_eq}
+use Rattle.sqlite_keyed.specs.Lists.{delete_where}
 use Rattle.sqlite_rules.specs.Lists.{Has}
 use Rattle.sqlite_typed.specs.Tests.{bytes_eq}
 use Rattle.objects.specs.declared.contact.Contact.{Contact}
-use Rattle.objects.specs.declared.host.Host.{Host}
 use Rattle.objects.specs.declared.transfer.Transfer.{Transfer}
 use Rattle.columns.specs.Contacts.{contact_row}
 use Rattle.tables.specs.Contact as contact_table
@@ -27,32 +27,30 @@ AreOthersKept name n old new = (q : List ℕ) → bytes_eq q n ≡ false → fil
 
 -- ---- contacts
 
--- the contact, but for its transfer, is in the row with this number, and no other row is changed
-pub record IsContactPlaced (c : Contact) (id : ℤ) (old new : Content) : Type 0 where
-  pub row : contact_table.Contact
-  pub is : contact_row id c ≡ Some row
+-- no domain has another transfer than before, nor has a contact but the one with this number
+pub record AreOtherTransfersKept (id : ℤ) (old new : Content) : Type 0 where
+  pub contacts : (other : ℤ) → int_eq id other ≡ false → filter (transfer_with_contact other) new.transfers ≡ filter (transfer_with_contact other) old.transfers
+  pub domains : (domain : ℤ) → filter (transfer_with_domain domain) new.transfers ≡ filter (transfer_with_domain domain) old.transfers
+  pub rest : new ≡ record old { transfers = new.transfers }
+
+-- the contact with this number has no transfer
+pub record IsTransferCleared (id : ℤ) (old new : Content) : Type 0 where
+  pub none : filter (transfer_with_contact id) new.transfers ≡ []
+  pub others : AreOtherTransfersKept id old new
+
+-- the contact with this number has this as its last transfer
+pub record IsTransferPut (id : ℤ) (transfer : Option Transfer) (old new : Content) : Type 0 where
+  pub last : last_transfer (filter (transfer_with_contact id) new.transfers) ≡ Some transfer
+  pub others : AreOtherTransfersKept id old new
+
+-- the contact, but for its transfer, is in this row, and no other row is changed
+pub record IsContactPlaced (c : Contact) (row : contact_table.Contact) (old new : Content) : Type 0 where
+  pub is : contact_row row.id c ≡ Some row
   pub there : Has new.contacts row
   pub others : AreOthersKept (λ (r : contact_table.Contact). r.name) c.name old.contacts new.contacts
   pub rest : new ≡ record old { contacts = new.contacts }
 
--- the contact with this number has no transfer, and no other object's is changed
-pub record IsTransferCleared (id : ℤ) (old new : Content) : Type 0 where
-  pub none : filter (transfer_with_contact id) new.transfers ≡ []
-  pub others : (other : ℤ) → int_eq id other ≡ false → filter (transfer_with_contact other) new.transfers ≡ filter (transfer_with_contact other) old.transfers
-  pub domains : (domain : ℤ) → filter (transfer_with_domain domain) new.transfers ≡ filter (transfer_with_domain domain) old.transfers
-  pub rest : new ≡ record old { transfers = new.transfers }
-
--- the contact with this number has this as its last transfer, and no other object's is changed
-pub record IsTransferPut (id : ℤ) (transfer : Option Transfer) (old new : Content) : Type 0 where
-  pub last : last_transfer (filter (transfer_with_contact id) new.transfers) ≡ Some transfer
-  pub others : (other : ℤ) → int_eq id other ≡ false → filter (transfer_with_contact other) new.transfers ≡ filter (transfer_with_contact other) old.transfers
-  pub domains : (domain : ℤ) → filter (transfer_with_domain domain) new.transfers ≡ filter (transfer_with_domain domain) old.transfers
-  pub rest : new ≡ record old { transfers = new.transfers }
-
--- ---- hosts
-
--- the host with this number has these addresses, and no other has others than before
-pub record AreAddressesPut (id : ℤ) (addresses : List (List ℕ)) (old new : Content) : Type 0 where
-  pub here : addresses_of new id ≡ addresses
-  pub others : (other : ℤ) → int_eq id other ≡ false → addresses_of new other ≡ addresses_of old other
-  pub rest : new ≡ record old { addresses = new.addresses }
+-- the contact with this number, and its transfer, aren't there any more
+pub record IsContactRemoved (id : ℤ) (old new : Content) : Type 0 where
+  pub cleared : IsTransferCleared id old (record new { contacts = old.contacts })
+  pub contacts : new.contacts ≡ delete_where (contact_table.contact_with_id id) old.contacts
