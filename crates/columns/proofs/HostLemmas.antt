@@ -1,8 +1,7 @@
 -- A host is read from its row.
-use Rattle.std.proofs.Common.{◌≡◌, ℕ, ℤ, List, Bool, true, cond, Option, Some, None, sym, ap, ◌∙◌}
-use Rattle.std.specs.Cmp.{eq_by_cmp_equiv}
-use Rattle.std.specs.Cmp.Lexicographic.{nat_list_cmp_total}
+use Rattle.std.proofs.Common.{◌≡◌, ℕ, ℤ, List, Bool, true, cond, Option, Some, None, refl, sym, ap, ◌∙◌}
 use Rattle.std.specs.Str.{bytes_eq}
+use Rattle.std.proofs.lemmas.Slice.Eq.{bytes_eq-Decides}
 use Rattle.objects.specs.declared.host.Host.{Host}
 use Rattle.objects.specs.declared.roid.ObjectKind.TheVariants as kinds
 use Rattle.tables.specs.Host as table
@@ -16,7 +15,7 @@ use Rattle.columns.proofs.RoidLemmas.{roid_back}
 use Rattle.columns.proofs.TextLemmas.{statuses_back}
 
 same_bytes : (text : List ℕ) → bytes_eq text text ≡ true
-same_bytes text = (eq_by_cmp_equiv nat_list_cmp_total).refl text
+same_bytes text = (bytes_eq-Decides text text).1 refl
 
 -- what was written is read back
 pub host_back : (id : ℤ) (sponsor : Option ℤ) (h : Host) (row : table.Host) → IsHost h → host_row id sponsor h ≡ Some row → host_in row h.addresses ≡ Some h
