@@ -9,4 +9,5 @@ pub mod TextLemmas
 pub mod RegistrationLemmas
 pub mod ContactLemmas
 pub mod DomainLemmas
+pub mod HostLemmas
 pub mod AboveLemmas

@@ -1,17 +1,49 @@
 -- How a host lies in its row. Its addresses lie in rows of their own.
-use Rattle.std.specs.Prelude.{ℕ, ℤ, Bool, List, Option, Some, None, if◌then◌else◌}
+use Rattle.std.specs.Prelude.{ℕ, ℤ, Bool, List, Option, Some, None, IfSome, if◌then◌else◌}
 use Rattle.std.specs.Str.{bytes_eq}
+use Rattle.calendar.specs.Moment.{IsMoment}
 use Rattle.objects.specs.declared.host.Host.{Host}
 use Rattle.objects.specs.declared.roid.ObjectKind.TheVariants as kinds
 use Rattle.objects.specs.declared.roid.Roid.{Roid}
 use Rattle.objects.specs.declared.status.Status.{Status}
 use Rattle.tables.specs.Host as table
 use Rattle.columns.specs.declared.host.HostColumns.{HostColumns}
+use Rattle.columns.specs.declared.roid.RoidColumns.{RoidColumns}
 use Rattle.columns.specs.Above.{above}
-use Rattle.columns.specs.Numbers.{maybe_moment_in, maybe_registrar_in, moment_in}
-use Rattle.columns.specs.Roids.{roid_in}
+use Rattle.columns.specs.Numbers.{IsPlace, maybe_moment_column, maybe_moment_in, maybe_registrar_column, maybe_registrar_in, moment_column, moment_in}
+use Rattle.columns.specs.Roids.{IsRoid, roid_columns, roid_in}
 use Rattle.columns.specs.Steps.{◌>>=◌}
-use Rattle.columns.specs.Texts.{statuses_in}
+use Rattle.columns.specs.Texts.{statuses_column, statuses_in}
+
+pub record IsHost (h : Host) : Type 0 where
+  pub roid : IsRoid h.roid
+  pub external_sponsor : IfSome h.external_sponsor IsPlace
+  pub created : IsMoment h.created
+  pub updated : IfSome h.updated IsMoment
+
+-- ---- written
+
+abbrev pub row_with : ℤ → Option ℤ → Host → RoidColumns → table.Host
+row_with id sponsor h roid = record {
+  id = id;
+  name = h.name;
+  creator = roid.creator;
+  serial = roid.serial;
+  above = above h.name;
+  external_sponsor = maybe_registrar_column h.external_sponsor;
+  sponsor = sponsor;
+  created = moment_column h.created;
+  updated = maybe_moment_column h.updated;
+  statuses = statuses_column h.statuses;
+}
+
+-- the row of a host, under its number, which this account sponsors
+abbrev pub host_row : ℤ → Option ℤ → Host → Option table.Host
+host_row id sponsor h = do
+  roid ← roid_columns kinds.Host h.roid
+  Some (row_with id sponsor h roid)
+
+-- ---- read
 
 -- which host it is, who sponsors it outside the zone, and since when, if each column reads
 abbrev pub columns_in : table.Host → Option HostColumns

@@ -1,10 +1,11 @@
 //! Contacts as rows. A contact's transfer is a row of its own.
-ghost use Rattle.std.specs.Prelude.{◌≡◌, IfOk};
+ghost use Rattle.std.specs.Prelude.{◌≡◌, true, IfOk};
 ghost use Rattle.columns.specs.Contacts as spec;
 ghost use Rattle.columns.specs.Texts.{statuses_in, street_in};
 
 use crate::registration::{
-    Registration, RegistrationColumns, registration_columns, registration_of_columns,
+    Registration, RegistrationColumns, is_registration, registration_columns,
+    registration_of_columns,
 };
 use crate::statuses::{statuses_column, statuses_of_column};
 use crate::street::{street_column, street_of_column};
@@ -32,6 +33,13 @@ pub fn contact_row(
         return Ok(None);
     };
     Ok(Some(row_with(alloc, id, contact, columns, postal)?))
+}
+
+/// Whether a contact's registrars have places: such a contact is read back from its row.
+pub fn is_contact(contact: &Contact) -> bool
+    ensures { result ≡ true → spec.IsContact contact.now }
+{
+    is_registration(&registration_of(contact))
 }
 
 fn registration_of(contact: &Contact) -> Registration

@@ -1,12 +1,16 @@
 //! Domains as rows. A domain's links and its transfer are rows of their own.
-ghost use Rattle.std.specs.Prelude.{◌≡◌, IfOk, Some};
+ghost use Rattle.std.specs.Prelude.{◌≡◌, true, IfOk, IfSome, Some};
 ghost use Rattle.columns.specs.Domains as spec;
 ghost use Rattle.columns.specs.Texts.{statuses_in};
 
-use crate::moment::{maybe_moment_column, maybe_moment_of_column, moment_column, moment_of_column};
+use crate::moment::{
+    maybe_moment_column, maybe_moment_of_column, moment_column, moment_of_column,
+    show_maybe_moment, show_moment,
+};
 use crate::number::{years_column, years_of_column};
 use crate::registration::{
-    Registration, RegistrationColumns, registration_columns, registration_of_columns,
+    Registration, RegistrationColumns, is_registration, registration_columns,
+    registration_of_columns,
 };
 use crate::statuses::{statuses_column, statuses_of_column};
 use crate::text::text_column;
@@ -40,6 +44,25 @@ pub fn domain_row(
     };
     let deletion = deletion_columns(domain.deletion);
     Ok(Some(row_with(alloc, id, registrant, due, domain, columns, deletion)?))
+}
+
+/// Whether a domain's registrars have places: such a domain is read back from its row.
+pub fn is_domain(domain: &Domain) -> bool
+    ensures { result ≡ true → spec.IsDomain domain.now }
+{
+    let _years = domain.years;
+    show_deletion(domain.deletion);
+    is_registration(&registration_of(domain))
+}
+
+/// Tells a proof that its moments are within the range.
+fn show_deletion(deletion: Option<Deletion>)
+    ensures { IfSome deletion spec.IsDeletion }
+{
+    if let Some(deletion) = deletion {
+        show_moment(deletion.deleted);
+        show_maybe_moment(deletion.restore_requested);
+    }
 }
 
 fn registration_of(domain: &Domain) -> Registration

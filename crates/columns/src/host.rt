@@ -1,14 +1,18 @@
 //! Hosts as rows. A host's addresses are rows of their own.
-ghost use Rattle.std.specs.Prelude.{◌≡◌, IfOk, string_bytes};
+ghost use Rattle.std.specs.Prelude.{◌≡◌, true, IfOk};
 ghost use Rattle.columns.specs.Above.{above};
 ghost use Rattle.columns.specs.Hosts as spec;
 ghost use Rattle.columns.specs.Texts.{statuses_in};
 
 use crate::above::above_column;
-use crate::moment::{maybe_moment_of_column, moment_of_column};
-use crate::number::maybe_registrar_of_column;
-use crate::roid::roid_of_columns;
-use crate::statuses::statuses_of_column;
+use crate::moment::{
+    maybe_moment_column, maybe_moment_of_column, moment_column, moment_of_column,
+    show_maybe_moment, show_moment,
+};
+use crate::number::{is_maybe_place, maybe_registrar_column, maybe_registrar_of_column};
+use crate::roid::{RoidColumns, is_roid, roid_columns, roid_of_columns};
+use crate::statuses::{statuses_column, statuses_of_column};
+use crate::text::text_column;
 use basis::list::Seq;
 use basis::registrar::RegistrarNo;
 use basis::text::Text;
@@ -24,6 +28,54 @@ pub(crate) struct HostColumns {
     pub external_sponsor: Option<RegistrarNo>,
     pub created: Moment,
     pub updated: Option<Moment>,
+}
+
+/// The row of a host, under its number, which this account sponsors; none where its ROID is another
+/// kind's.
+pub fn host_row(
+    alloc: Global,
+    id: i64,
+    sponsor: Option<i64>,
+    host: &Host,
+) -> Result<Option<HostRow>, AllocError>
+    ensures { IfOk result (λ row. row ≡ spec.host_row id sponsor host.now) }
+{
+    let Some(roid) = roid_columns(ObjectKind::Host, &host.roid) else {
+        return Ok(None);
+    };
+    Ok(Some(row_with(alloc, id, sponsor, host, roid)?))
+}
+
+fn row_with(
+    alloc: Global,
+    id: i64,
+    sponsor: Option<i64>,
+    host: &Host,
+    roid: RoidColumns,
+) -> Result<HostRow, AllocError>
+    ensures { IfOk result (λ row. row ≡ spec.row_with id sponsor host.now roid) }
+{
+    Ok(HostRow {
+        id,
+        name: text_column(alloc, &host.name)?,
+        creator: roid.creator,
+        serial: roid.serial,
+        above: above_column(alloc, host.name.as_str())?,
+        external_sponsor: maybe_registrar_column(host.external_sponsor),
+        sponsor,
+        created: moment_column(host.created),
+        updated: maybe_moment_column(host.updated),
+        statuses: statuses_column(alloc, host.statuses.as_slice())?,
+    })
+}
+
+/// Whether a host's registrars have places: such a host is read back from its row.
+pub fn is_host(host: &Host) -> bool
+    ensures { result ≡ true → spec.IsHost host.now }
+{
+    show_moment(host.created);
+    show_maybe_moment(host.updated);
+    is_roid(&host.roid) && is_maybe_place(host.external_sponsor)
 }
 
 /// The host of a row, if it's one's, with these addresses.

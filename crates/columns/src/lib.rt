@@ -28,9 +28,9 @@ pub use code::{
     Role, kind_column, kind_of_column, role_column, role_of_column, state_column, state_of_column,
     subject_column, subject_of_column,
 };
-pub use contact::{contact_of_row, contact_row};
-pub use domain::{domain_of_row, domain_row};
-pub use host::host_of_row;
+pub use contact::{contact_of_row, contact_row, is_contact};
+pub use domain::{domain_of_row, domain_row, is_domain};
+pub use host::{host_of_row, host_row, is_host};
 pub use line::{line_of_row, line_row};
 pub use message::{message_of_row, message_row};
 pub use moment::{maybe_moment_column, maybe_moment_of_column, moment_column, moment_of_column};
@@ -44,4 +44,4 @@ pub use origin::{
 };
 pub use statuses::{statuses_column, statuses_of_column};
 pub use street::{street_column, street_of_column};
-pub use transfer::{transfer_of_row, transfer_row};
+pub use transfer::{is_transfer, transfer_of_row, transfer_row};

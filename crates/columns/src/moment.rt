@@ -5,6 +5,22 @@ ghost use Rattle.columns.specs.Numbers as spec;
 
 use calendar::Moment;
 
+/// Tells a proof that a moment is within the range.
+pub(crate) fn show_moment(moment: Moment)
+    ensures { IsMoment moment }
+{
+    let _secs = moment.secs();
+}
+
+/// The same where there may be none.
+pub(crate) fn show_maybe_moment(moment: Option<Moment>)
+    ensures { IfSome moment IsMoment }
+{
+    if let Some(moment) = moment {
+        show_moment(moment);
+    }
+}
+
 /// The seconds since 1970-01-01T00:00:00Z.
 pub fn moment_column(moment: Moment) -> i64
     ensures { result ≡ spec.moment_column moment }

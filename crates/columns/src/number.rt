@@ -1,8 +1,25 @@
 //! Numbers as columns: registrars' places, counters, years and cents.
-ghost use Rattle.std.specs.Prelude.{◌≡◌, ◌<◌, ◌^◌, ℕ, Option, Some, IfSome};
+ghost use Rattle.std.specs.Prelude.{◌≡◌, true, ◌<◌, ◌^◌, ℕ, Option, Some, IfSome};
 ghost use Rattle.columns.specs.Numbers as spec;
 
 use basis::registrar::RegistrarNo;
+
+/// Whether a registrar has a place.
+pub(crate) fn is_place(registrar: RegistrarNo) -> bool
+    ensures { result ≡ true → spec.IsPlace registrar }
+{
+    registrar.place() != 0
+}
+
+/// Whether a registrar, if there is one, has a place.
+pub(crate) fn is_maybe_place(registrar: Option<RegistrarNo>) -> bool
+    ensures { result ≡ true → IfSome registrar spec.IsPlace }
+{
+    match registrar {
+        None => true,
+        Some(registrar) => is_place(registrar),
+    }
+}
 
 /// The place of a registrar.
 pub fn registrar_column(registrar: RegistrarNo) -> i64

@@ -1,10 +1,13 @@
 //! The columns that contacts and domains have in common.
-ghost use Rattle.std.specs.Prelude.{◌≡◌};
+ghost use Rattle.std.specs.Prelude.{◌≡◌, true};
 ghost use Rattle.columns.specs.Registrations as spec;
 
-use crate::moment::{maybe_moment_column, maybe_moment_of_column, moment_column, moment_of_column};
-use crate::number::{registrar_column, registrar_of_column};
-use crate::roid::{roid_columns, roid_of_columns};
+use crate::moment::{
+    maybe_moment_column, maybe_moment_of_column, moment_column, moment_of_column,
+    show_maybe_moment, show_moment,
+};
+use crate::number::{is_place, registrar_column, registrar_of_column};
+use crate::roid::{is_roid, roid_columns, roid_of_columns};
 use basis::registrar::RegistrarNo;
 use calendar::Moment;
 use objects::{ObjectKind, Roid};
@@ -67,4 +70,14 @@ pub(crate) fn registration_of_columns(
         transferred,
         updated,
     })
+}
+
+/// Whether its creator and its sponsor have places.
+pub(crate) fn is_registration(registration: &Registration) -> bool
+    ensures { result ≡ true → spec.IsRegistration registration.now }
+{
+    show_moment(registration.created);
+    show_maybe_moment(registration.transferred);
+    show_maybe_moment(registration.updated);
+    is_roid(&registration.roid) && is_place(registration.sponsor)
 }

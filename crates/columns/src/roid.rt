@@ -1,8 +1,10 @@
 //! Repository object identifiers as columns. Their kind is the table's.
-ghost use Rattle.std.specs.Prelude.{◌≡◌};
+ghost use Rattle.std.specs.Prelude.{◌≡◌, true};
 ghost use Rattle.columns.specs.Roids as spec;
 
-use crate::number::{counter_column, counter_of_column, registrar_column, registrar_of_column};
+use crate::number::{
+    counter_column, counter_of_column, is_place, registrar_column, registrar_of_column,
+};
 use objects::{ObjectKind, Roid};
 
 /// The columns of a ROID.
@@ -41,4 +43,12 @@ pub(crate) fn roid_of_columns(kind: ObjectKind, creator: i64, serial: i64) -> Op
         creator,
         serial: counter_of_column(serial),
     })
+}
+
+/// Whether its creator has a place.
+pub(crate) fn is_roid(roid: &Roid) -> bool
+    ensures { result ≡ true → spec.IsRoid roid.now }
+{
+    let _serial = roid.serial;
+    is_place(roid.creator)
 }

@@ -1,11 +1,11 @@
 //! Transfers as rows.
-ghost use Rattle.std.specs.Prelude.{◌≡◌, Some, IfSome};
+ghost use Rattle.std.specs.Prelude.{◌≡◌, true, Some, IfSome};
 ghost use Rattle.objects.specs.declared.transfer.Transfer.{Transfer};
 ghost use Rattle.columns.specs.Transfers as spec;
 
 use crate::code::{state_column, state_of_column};
-use crate::moment::{moment_column, moment_of_column};
-use crate::number::{registrar_column, registrar_of_column};
+use crate::moment::{moment_column, moment_of_column, show_moment};
+use crate::number::{is_place, registrar_column, registrar_of_column};
 use basis::registrar::RegistrarNo;
 use calendar::Moment;
 use objects::{Transfer, TransferState};
@@ -31,6 +31,15 @@ pub fn transfer_row(
         state: state_column(transfer.state),
         due: due_column(transfer),
     }
+}
+
+/// Whether a transfer's registrars have places: such a transfer is read back from its row.
+pub fn is_transfer(transfer: &Transfer) -> bool
+    ensures { result ≡ true → spec.IsTransfer transfer.now }
+{
+    show_moment(transfer.requested);
+    show_moment(transfer.ac_date);
+    is_place(transfer.requester) && is_place(transfer.losing_registrar)
 }
 
 /// When the server approves it while it is pending, else NULL.
