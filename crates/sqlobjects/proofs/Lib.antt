@@ -1,3 +1,6 @@
 pub mod NameLemmas
 pub mod FoundLemmas
 pub mod PutLemmas
+pub mod StepLemmas
+pub mod TransferLemmas
+pub mod ContactLemmas

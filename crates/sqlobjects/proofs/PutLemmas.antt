@@ -5,6 +5,7 @@ use Rattle.std.specs.Cmp.Lexicographic.{nat_list_cmp_total, slice_cmp}
 use Rattle.std.specs.FinMap.{FinMap, from_entries, get, get-insert, get-remove, nat_cmp-IsAntisymmetric, same_map, slice_cmp-IsAntisymmetric}
 use Rattle.std.specs.List.{AllByRecursion}
 use Rattle.std.specs.Ordering.{match_ordering, nat_cmp}
+use Rattle.std.proofs.lemmas.Bool.Decides.{Decides-int_eq}
 use Rattle.std.proofs.lemmas.Int.{ints}
 use Rattle.sqlite_keyed.specs.Keyed.{IsKeyedBy, get_by, insert_by}
 use Rattle.sqlite_keyed.specs.Lists.{delete_where}
@@ -23,6 +24,13 @@ use Rattle.sqlobjects.specs.Stages.{AreOthersKept}
 
 pub bytes_is : (a b : List ℕ) → bytes_eq a b ≡ true → a ≡ b
 bytes_is a b e = slice_cmp-IsAntisymmetric nat_cmp-IsAntisymmetric a b ((Equal-is (slice_cmp nat_cmp a b)).0 e)
+
+pub bytes_apart : (m n q : List ℕ) → m ≡ n → bytes_eq q n ≡ false → bytes_eq m q ≡ false
+bytes_apart m n q same other = go (bytes_eq m q) refl
+  where
+    go : (b : Bool) → bytes_eq m q ≡ b → b ≡ false
+    go false e = refl
+    go true e = absurd (true≢false (sym (bytes_same q n (sym (bytes_is m q e) ∙ same)) ∙ other))
 
 no_clash : (b : Bool) → b ≡ true → b ≡ false → ⊥
 no_clash b t f = true≢false (sym t ∙ f)
@@ -173,6 +181,43 @@ module _ {P : Type 0} (key : P → ℤ) where
             sym p ∙ ap name (same_by_key key old x y up_old there (moved n b new old y (others b f) here q) tied) ∙ q
         go false d e f x y there here tied p q =
             sym p ∙ ap name (same_by_key key new x y up_new (moved n a old new x (sym (others a e)) there p) here tied) ∙ q
+
+-- ---- the row of a name, put, added and removed
+
+module _ {P : Type 0} (key : P → ℤ) (name : P → List ℕ) (n : List ℕ) (xs : List P) where
+  abbrev named_so : P → Bool
+  named_so r = bytes_eq (name r) n
+
+  abbrev numbered_so : ℤ → P → Bool
+  numbered_so id r = int_eq (key r) id
+
+  pub row_there : (row : P) → filter named_so xs ≡ row ∷ [] → Has xs row × (name row ≡ n)
+  row_there row found =
+      let it = has-filter named_so xs row (subst (λ l. Has l row) (sym found) (inl refl)) in
+      (it.0, bytes_is (name row) n it.1)
+
+  module _ (row : P) (found : filter named_so xs ≡ row ∷ []) (up : IsKeyedBy key xs) where
+    -- each row with its number has its name
+    tied : (q : List ℕ) → bytes_eq q n ≡ false → (x : P) → Has xs x → key x ≡ key row → bytes_eq (name x) q ≡ false
+    tied q other x there e =
+        let at = row_there row found in
+        bytes_apart (name x) n q (ap name (same_by_key key xs x row up there at.0 e) ∙ at.1) other
+
+    pub others-put : (new : P) → key new ≡ key row → name new ≡ n → AreOthersKept name n xs (insert_by key xs new)
+    others-put new id is q other =
+        filter-insert_by key (λ r. bytes_eq (name r) q) xs new (bytes_apart (name new) n q is other) (λ x there e. tied q other x there (e ∙ id))
+
+    pub others-removed : AreOthersKept name n xs (delete_where (numbered_so (key row)) xs)
+    others-removed q other =
+        filter-delete (λ r. bytes_eq (name r) q) (numbered_so (key row)) xs (λ x there e. tied q other x there (same_int (key x) (key row) e))
+
+    pub none-removed : IsNamedBy name xs → filter named_so (delete_where (numbered_so (key row)) xs) ≡ []
+    none-removed named = filter-deleted named_so (numbered_so (key row)) xs (λ x there e.
+        let at = row_there row found in
+        (Decides-int_eq (key x) (key row)).1 (ap key (named x row there at.0 (bytes_is (name x) n e ∙ sym at.1))))
+
+  pub others-added : (new : P) → name new ≡ n → AreOthersKept name n xs (xs ++ new ∷ [])
+  others-added new is q other = filter-append (λ r. bytes_eq (name r) q) xs new (bytes_apart (name new) n q is other)
 
 -- ---- what stands under names
 

@@ -54,3 +54,8 @@ pub record IsContactPlaced (c : Contact) (row : contact_table.Contact) (old new 
 pub record IsContactRemoved (id : ℤ) (old new : Content) : Type 0 where
   pub cleared : IsTransferCleared id old (record new { contacts = old.contacts })
   pub contacts : new.contacts ≡ delete_where (contact_table.contact_with_id id) old.contacts
+
+-- the same of the row that was found, if there was one
+abbrev pub IsContactDropped : Option contact_table.Contact → Content → Content → Type 0
+IsContactDropped None old new = new ≡ old
+IsContactDropped (Some row) old new = IsContactRemoved row.id old new

@@ -3,8 +3,12 @@
 //! them doesn't read.
 #![tactic(auto)]
 
+mod contact_changes;
+mod contact_rows;
 mod contacts;
 mod hosts;
+mod transfers;
 
+pub use contact_changes::drop_contact;
 pub use contacts::{contact, has_contact};
 pub use hosts::{has_host, host, host_addresses};
