@@ -1,5 +1,5 @@
 -- What single steps of a change make.
-use Rattle.std.specs.Prelude.{◌≡◌, ℕ, ℤ, Bool, false, List, [], ◌++◌, ◌∷◌, filter, fold, Option, Some, None, Result, Ok, Err}
+use Rattle.std.specs.Prelude.{◌≡◌, ℕ, ℤ, pos, Bool, false, List, [], ◌++◌, ◌∷◌, filter, fold, Option, Some, None, option_map, Result, Ok, Err}
 use Rattle.std.specs.Ordering.{int_eq}
 use Rattle.sqlite_keyed.specs.Lists.{delete_where}
 use Rattle.sqlite_rules.specs.Lists.{Has}
@@ -7,13 +7,18 @@ use Rattle.sqlite_typed.specs.Tests.{bytes_eq}
 use Rattle.objects.specs.declared.contact.Contact.{Contact}
 use Rattle.objects.specs.declared.transfer.Transfer.{Transfer}
 use Rattle.columns.specs.Contacts.{contact_row}
+use Rattle.columns.specs.Transfers.{transfer_row}
+use Rattle.rows.specs.Layouts.{appended}
 use Rattle.tables.specs.Contact as contact_table
 use Rattle.tables.specs.Content.{Content}
 use Rattle.tables.specs.Host as host_table
+use Rattle.tables.specs.Transfer as transfer_table
 use Rattle.tables.specs.Transfer.{transfer_with_contact, transfer_with_domain}
+use Rattle.tables.specs.Whole.{IsWhole}
 use Rattle.transactions.specs.declared.fault.BookFault.{BookFault}
 use Rattle.transactions.specs.States.{StateOf, Stays}
 use Rattle.meanings.specs.Calls.{Became}
+use Rattle.meanings.specs.Read.{rows_of}
 use Rattle.sqlobjects.specs.Objects.{addresses_of, last_transfer}
 
 -- a change in a way that hangs on what is answered
@@ -38,6 +43,15 @@ pub record IsTransferCleared (id : ℤ) (old new : Content) : Type 0 where
   pub none : filter (transfer_with_contact id) new.transfers ≡ []
   pub others : AreOtherTransfersKept id old new
 
+-- the row of a contact's transfer, if there is one, but for its number
+abbrev pub transfer_row_of : ℤ → Option Transfer → Option transfer_table.Transfer
+transfer_row_of id transfer = option_map (λ (t : Transfer). transfer_row (pos 0) (Some id) None t) transfer
+
+-- the rows, and after them this one, if there is one, under a number of its own
+abbrev pub with_added : Option transfer_table.Transfer → List transfer_table.Transfer → List transfer_table.Transfer
+with_added None rows = rows
+with_added (Some row) rows = appended transfer_table.transfers (λ id. record row { id = id }) rows
+
 -- the contact with this number has this as its last transfer
 pub record IsTransferPut (id : ℤ) (transfer : Option Transfer) (old new : Content) : Type 0 where
   pub last : last_transfer (filter (transfer_with_contact id) new.transfers) ≡ Some transfer
@@ -49,6 +63,11 @@ pub record IsContactPlaced (c : Contact) (row : contact_table.Contact) (old new 
   pub there : Has new.contacts row
   pub others : AreOthersKept (λ (r : contact_table.Contact). r.name) c.name old.contacts new.contacts
   pub rest : new ≡ record old { contacts = new.contacts }
+
+-- the same where it was this row, or none, that had its name
+abbrev pub IsContactPlacedAt : Option contact_table.Contact → Contact → contact_table.Contact → Content → Content → Type 0
+IsContactPlacedAt found c row old new =
+    IsWhole old → filter (contact_table.contact_with_name c.name) old.contacts ≡ rows_of found → IsContactPlaced c row old new
 
 -- the contact with this number, and its transfer, aren't there any more
 pub record IsContactRemoved (id : ℤ) (old new : Content) : Type 0 where

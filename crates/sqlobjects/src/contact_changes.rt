@@ -1,14 +1,47 @@
 //! Contacts put under their names and dropped.
-ghost use Rattle.std.specs.Prelude.{◌≡◌, true, Some, None};
+ghost use Rattle.std.specs.Prelude.{◌≡◌, true, Some, None, IfOk};
+ghost use Rattle.columns.specs.Contacts.{IsContact};
 ghost use Rattle.meanings.specs.Calls.{Turns};
 ghost use Rattle.sqlobjects.specs.Changes.{IsContactPut};
 
-use crate::contact_rows::{remove_found, row_named};
+use crate::contact_rows::{place, remove_found, row_named};
+use crate::transfers::put_transfer;
 use basis::text::Text;
+use columns::is_contact;
+use objects::Contact;
 use sqlite::Alter;
 use std::alloc::Global;
 use tables::RowStore;
 use transactions::BookFault;
+
+/// The contact stands under this name, which has to be its own.
+pub fn put_contact<S: Alter>(
+    store: &mut RowStore<S>,
+    alloc: Global,
+    name: Text,
+    contact: Contact,
+) -> Result<(), BookFault>
+    requires { store.old.is_open ≡ true }
+    ensures { Turns result (IsContactPut name (Some contact)) store.old store.new }
+{
+    check(&name, &contact)?;
+    store.whole();
+    let row = place(store, alloc, &contact)?;
+    put_transfer(store, &row, &contact.transfer)?;
+    store.whole();
+    Ok(())
+}
+
+/// Refuses a contact of another name, and one that wouldn't be read back.
+fn check(name: &Text, contact: &Contact) -> Result<(), BookFault>
+    ensures name { IfOk result (λ done. contact.now.name ≡ name.now) }
+    ensures is { IfOk result (λ done. IsContact contact.now) }
+{
+    if contact.name.as_str() != name.as_str() || !is_contact(contact) {
+        return Err(BookFault::Store);
+    }
+    Ok(())
+}
 
 /// No contact stands under this name.
 pub fn drop_contact<S: Alter>(

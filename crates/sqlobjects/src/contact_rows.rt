@@ -1,16 +1,21 @@
-//! Rows of contacts: found by name, and removed with their transfers.
-ghost use Rattle.std.specs.Prelude.{◌≡◌, true, filter};
+//! Rows of contacts: found by name, put, added, and removed with their transfers.
+ghost use Rattle.std.specs.Prelude.{◌≡◌, true, [], ◌∷◌, filter, Some, None, IfOk};
+ghost use Rattle.columns.specs.Contacts.{contact_row};
 ghost use Rattle.tables.specs.Contact.{contact_with_name};
+ghost use Rattle.tables.specs.Whole.{IsWhole};
 ghost use Rattle.transactions.specs.States.{Meets};
 ghost use Rattle.meanings.specs.Calls.{Turns};
 ghost use Rattle.meanings.specs.Read.{rows_of};
-ghost use Rattle.sqlobjects.specs.Stages.{IsContactDropped, IsContactRemoved};
+ghost use Rattle.sqlobjects.specs.Stages.{Brings, IsContactDropped, IsContactPlaced, IsContactPlacedAt, IsContactRemoved};
 
 use crate::transfers::clear_transfer;
 use basis::text::Text;
-use meanings::only;
+use columns::contact_row;
+use meanings::{only, or_fault};
+use objects::Contact;
 use rows::Number;
 use sqlite::Alter;
+use std::alloc::Global;
 use tables::{ContactRow, RowStore};
 use transactions::BookFault;
 
@@ -56,5 +61,70 @@ pub(crate) fn remove_found<S: Alter>(
     match row {
         None => Ok(()),
         Some(row) => remove_row(store, &row),
+    }
+}
+
+/// Puts a contact, but for its transfer, into the row of its name, or else into a new one, which is
+/// given back.
+pub(crate) fn place<S: Alter>(
+    store: &mut RowStore<S>,
+    alloc: Global,
+    contact: &Contact,
+) -> Result<ContactRow, BookFault>
+    requires { store.old.is_open ≡ true }
+    ensures { Brings result (λ row old new. IsWhole old → IsContactPlaced contact.now row old new) store.old store.new }
+{
+    match row_named(store, &contact.name)? {
+        None => add_row(store, alloc, contact),
+        Some(found) => put_row(store, alloc, &found, contact),
+    }
+}
+
+/// Puts a contact into the row of its name.
+fn put_row<S: Alter>(
+    store: &mut RowStore<S>,
+    alloc: Global,
+    found: &ContactRow,
+    contact: &Contact,
+) -> Result<ContactRow, BookFault>
+    requires { store.old.is_open ≡ true }
+    ensures { Brings result (λ row old new. IsContactPlacedAt (Some found.now) contact.now row old new) store.old store.new }
+{
+    let row = row_of(alloc, found.id, contact)?;
+    store.put_contact(&row)?;
+    Ok(row)
+}
+
+/// Puts a contact, whose name no row has, into a new row.
+fn add_row<S: Alter>(
+    store: &mut RowStore<S>,
+    alloc: Global,
+    contact: &Contact,
+) -> Result<ContactRow, BookFault>
+    requires { store.old.is_open ≡ true }
+    ensures { Brings result (λ row old new. IsContactPlacedAt None contact.now row old new) store.old store.new }
+{
+    let row = row_of(alloc, 0, contact)?;
+    store.append_contact(&row)?;
+    row_there(store, &contact.name)
+}
+
+/// A contact's row under this number, but for its transfer. One that can't be written is refused.
+fn row_of(alloc: Global, id: i64, contact: &Contact) -> Result<ContactRow, BookFault>
+    ensures { IfOk result (λ row. contact_row id contact.now ≡ Some row) }
+{
+    or_fault(contact_row(alloc, id, contact)?)
+}
+
+/// The row of the contact of this name.
+fn row_there<S: Alter>(
+    store: &mut RowStore<S>,
+    name: &Text,
+) -> Result<ContactRow, BookFault>
+    ensures { Meets result (λ row. filter (contact_with_name name.now) store.old.content.contacts ≡ row ∷ []) store.old store.new }
+{
+    match row_named(store, name)? {
+        None => Err(BookFault::Store),
+        Some(row) => Ok(row),
     }
 }

@@ -9,6 +9,6 @@ mod contacts;
 mod hosts;
 mod transfers;
 
-pub use contact_changes::drop_contact;
+pub use contact_changes::{drop_contact, put_contact};
 pub use contacts::{contact, has_contact};
 pub use hosts::{has_host, host, host_addresses};
