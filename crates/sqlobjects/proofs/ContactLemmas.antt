@@ -1,20 +1,28 @@
 -- What rows of contacts mean after a change.
-use Rattle.std.proofs.Common.{◌≡◌, ℕ, ℤ, Bool, true, false, List, [], ◌∷◌, filter, Option, Some, None, refl, sym, ap, subst, ◌∙◌, int_eq, inl}
+use Rattle.std.proofs.Common.{◌≡◌, ℕ, ℤ, pos, Bool, true, false, List, [], ◌∷◌, ◌++◌, filter, Option, Some, None, refl, sym, ap, subst, ◌∙◌, int_eq}
+use Rattle.rows.specs.Layouts.{appended}
+use Rattle.sqlite_keyed.specs.Keyed.{insert_by, next_key}
 use Rattle.sqlite_keyed.specs.Lists.{delete_where}
 use Rattle.sqlite_rules.specs.Lists.{Has}
 use Rattle.sqlite_typed.specs.Tests.{bytes_eq}
 use Rattle.objects.specs.declared.contact.Contact.{Contact}
-use Rattle.columns.specs.Contacts.{contact_in}
+use Rattle.objects.specs.declared.roid.ObjectKind.TheVariants as kinds
+use Rattle.objects.specs.declared.transfer.Transfer.{Transfer}
+use Rattle.columns.specs.Contacts.{IsContact, contact_in, contact_row, postal_row, registration_of, row_with}
+use Rattle.columns.specs.Registrations.{registration_columns}
 use Rattle.columns.specs.Steps.{◌>>=◌}
+use Rattle.columns.proofs.ContactLemmas.{contact_back}
+use Rattle.columns.proofs.ReadLemmas.{same_some, step}
 use Rattle.tables.specs.Contact as contact_table
 use Rattle.tables.specs.Content.{Content, contacts_to}
-use Rattle.tables.specs.Transfer.{transfer_with_domain}
+use Rattle.tables.specs.Transfer.{transfer_with_contact, transfer_with_domain}
 use Rattle.tables.specs.Whole.{IsWhole}
-use Rattle.meanings.specs.Read.{first_read, rows_of}
-use Rattle.sqlobjects.specs.Changes.{IsContactPut, put}
+use Rattle.tables.proofs.RowLemmas.{bytes_same}
+use Rattle.meanings.specs.Read.{first_read, or_else, rows_of}
+use Rattle.sqlobjects.specs.Changes.{IsContactPut}
 use Rattle.sqlobjects.specs.Objects.{contact_of, contacts_of, hosts_of, last_transfer}
-use Rattle.sqlobjects.specs.Stages.{AreOtherTransfersKept, AreOthersKept, IsContactDropped, IsContactRemoved, IsTransferCleared}
-use Rattle.sqlobjects.proofs.PutLemmas.{apart, changed, names_kept, none-removed, others-removed, row_there}
+use Rattle.sqlobjects.specs.Stages.{AreOtherTransfersKept, AreOthersKept, IsContactAdded, IsContactDropped, IsContactPlaced, IsContactPlacedAt, IsContactRemoved, IsTransferCleared, IsTransferPut}
+use Rattle.sqlobjects.proofs.PutLemmas.{apart, changed, filter-append_pass, has-append, has-insert_by, names_kept, none-removed, only_named, others-added, others-put, others-removed, row_there}
 
 abbrev name_of : contact_table.Contact → List ℕ
 name_of row = row.name
@@ -84,15 +92,104 @@ module _ (xs ys : Content) (name : List ℕ) (whole : IsWhole xs) (after : IsWho
   }
 
   removed : (row : contact_table.Contact) → filter (contact_table.contact_with_name name) xs.contacts ≡ row ∷ [] → IsContactRemoved row.id xs ys → IsContactPut name None xs ys
-  removed row found step =
+  removed row found gone =
       let at = row_there key name_of name xs.contacts row found in
       assembled xs ys name None row.id
-      (ap (first_read (contact_of ys)) (ap (filter (contact_table.contact_with_name name)) step.contacts ∙ none-removed key name_of name xs.contacts row found whole.keyed.contacts whole.named.contacts))
-      (λ q e. ap (filter (contact_table.contact_with_name q)) step.contacts ∙ others-removed key name_of name xs.contacts row found whole.keyed.contacts q e)
-      step.cleared.others
+      (ap (first_read (contact_of ys)) (ap (filter (contact_table.contact_with_name name)) gone.contacts ∙ none-removed key name_of name xs.contacts row found whole.keyed.contacts whole.named.contacts))
+      (λ q e. ap (filter (contact_table.contact_with_name q)) gone.contacts ∙ others-removed key name_of name xs.contacts row found whole.keyed.contacts q e)
+      gone.cleared.others
       (λ r was now e. apart key name_of xs.contacts row r name whole.keyed.contacts at.0 was at.1 e)
       whole after
 
   pub dropped : (row : Option contact_table.Contact) → filter (contact_table.contact_with_name name) xs.contacts ≡ rows_of row → IsContactDropped row xs ys → IsContactPut name None xs ys
   dropped None found same = none_there found same
   dropped (Some row) found step = removed row found step
+
+-- ---- written into a row
+
+record IsWritten (id : ℤ) (c : Contact) (row : contact_table.Contact) : Type 0 where
+  number : row.id ≡ id
+  name : row.name ≡ c.name
+  again : (k : ℤ) → contact_row k c ≡ Some (record row { id = k })
+
+written : (id : ℤ) (c : Contact) (row : contact_table.Contact) → contact_row id c ≡ Some row → IsWritten id c row
+written id c row e =
+    let columns = step (registration_columns kinds.Contact (registration_of c)) (λ x. postal_row c.postal >>= (λ p. Some (row_with id c x p))) row e in
+    let postal = step (postal_row c.postal) (λ p. Some (row_with id c columns.given p)) row columns.rest in
+    let same : row_with id c columns.given postal.given ≡ row = same_some (row_with id c columns.given postal.given) row postal.rest in
+    record {
+      number = sym (ap (λ (r : contact_table.Contact). r.id) same);
+      name = sym (ap (λ (r : contact_table.Contact). r.name) same);
+      again = λ k. (λ i. columns.is i >>= (λ x. postal.is i >>= (λ p. Some (row_with k c x p)))) ∙ ap (λ (r : contact_table.Contact). Some (record r { id = k })) same;
+    }
+
+-- into the row of its name
+pub placed-put : (xs : Content) (c : Contact) (found row : contact_table.Contact) → contact_row found.id c ≡ Some row
+    → IsContactPlacedAt (Some found) c row xs (contacts_to (λ rows. insert_by contact_table.contacts.key rows row) xs)
+placed-put xs c found row e whole there =
+    let w = written found.id c row e in
+    record {
+      is = ap (λ k. contact_row k c) w.number ∙ e;
+      there = has-insert_by key xs.contacts row;
+      others = others-put key name_of c.name xs.contacts found there whole.keyed.contacts row w.number w.name;
+      rest = refl;
+    }
+
+-- under a number of its own, after the others
+pub added : (xs : Content) (c : Contact) (row : contact_table.Contact) → contact_row (pos 0) c ≡ Some row → IsContactAdded c xs (contacts_to (appended contact_table.contacts (λ id. record row { id = id })) xs)
+added xs c row e =
+    let k = next_key contact_table.contacts.key xs.contacts in
+    record { row = record row { id = k }; is = (written (pos 0) c row e).again k; content = refl }
+
+pub placed-added : (xs m : Content) (c : Contact) (row : contact_table.Contact) → IsContactAdded c xs m → filter (contact_table.contact_with_name c.name) m.contacts ≡ row ∷ [] → IsContactPlacedAt None c row xs m
+placed-added xs m c row add found whole none =
+    let w = written add.row.id c add.row add.is in
+    let rows : m.contacts ≡ xs.contacts ++ add.row ∷ [] = ap (λ (x : Content). x.contacts) add.content in
+    let alone : filter (contact_table.contact_with_name c.name) m.contacts ≡ add.row ∷ [] =
+        ap (filter (contact_table.contact_with_name c.name)) rows
+        ∙ filter-append_pass (contact_table.contact_with_name c.name) xs.contacts add.row (bytes_same add.row.name c.name w.name)
+        ∙ ap (λ l. l ++ add.row ∷ []) none in
+    let same : add.row ≡ row = first_same (sym alone ∙ found) in
+    subst (λ r. IsContactPlaced c r xs m) same (record {
+      is = add.is;
+      there = subst (λ l. Has l add.row) (sym rows) (has-append xs.contacts add.row);
+      others = λ q e. ap (filter (contact_table.contact_with_name q)) rows ∙ others-added key name_of c.name xs.contacts add.row w.name q e;
+      rest = add.content ∙ ap (λ l. record xs { contacts = l }) (sym rows);
+    })
+  where
+    first_same : {a b : contact_table.Contact} → a ∷ [] ≡ b ∷ [] → a ≡ b
+    first_same e = cc
+
+-- ---- put
+
+module _ (xs m ys : Content) (c : Contact) (row : contact_table.Contact) (whole : IsWhole xs) (after : IsWhole ys) (is : IsContact c)
+    (placed : IsContactPlaced c row xs m) (with : IsTransferPut row.id c.transfer m ys) where
+  rows_now : ys.contacts ≡ m.contacts
+  rows_now = ap (λ (x : Content). x.contacts) with.others.rest
+
+  there_now : Has ys.contacts row
+  there_now = subst (λ l. Has l row) (sym rows_now) placed.there
+
+  name_now : row.name ≡ c.name
+  name_now = (written row.id c row placed.is).name
+
+  alone_now : filter (contact_table.contact_with_name c.name) ys.contacts ≡ row ∷ []
+  alone_now = ap (λ n. filter (contact_table.contact_with_name n) ys.contacts) (sym name_now) ∙ only_named key name_of ys.contacts row after.keyed.contacts after.named.contacts there_now
+
+  reads_now : contact_of ys row ≡ Some c
+  reads_now = ap (λ (t : Option (Option Transfer)). t >>= (λ transfer. contact_in row transfer)) with.last ∙ contact_back row.id c row is placed.is
+
+  kept_now : AreOtherTransfersKept row.id xs (record ys { contacts = xs.contacts })
+  kept_now = record {
+    contacts = λ other e. with.others.contacts other e ∙ ap (λ (x : Content). filter (transfer_with_contact other) x.transfers) placed.rest;
+    domains = λ domain. with.others.domains domain ∙ ap (λ (x : Content). filter (transfer_with_domain domain) x.transfers) placed.rest;
+    rest = ap (λ (x : Content). record x { contacts = xs.contacts }) with.others.rest ∙ ap (λ (x : Content). record x { contacts = xs.contacts; transfers = ys.transfers }) placed.rest;
+  }
+
+  pub contact-put : IsContactPut c.name (Some c) xs ys
+  contact-put = assembled xs ys c.name (Some c) row.id
+      (ap (first_read (contact_of ys)) alone_now ∙ ap (λ o. or_else o None) reads_now)
+      (λ q e. ap (filter (contact_table.contact_with_name q)) rows_now ∙ placed.others q e)
+      kept_now
+      (λ r was now e. apart key name_of ys.contacts row r c.name after.keyed.contacts there_now now name_now e)
+      whole after

@@ -1,7 +1,9 @@
 -- One step of a change after another.
-use Rattle.std.proofs.Common.{◌≡◌, true, sym, subst, ◌∙◌}
-use Rattle.transactions.specs.States.{Reads, StateOf, Writes}
+use Rattle.std.proofs.Common.{◌≡◌, true, Result, Ok, Err, sym, subst, ◌∙◌}
+use Rattle.transactions.specs.declared.fault.BookFault.{BookFault}
+use Rattle.transactions.specs.States.{Meets, Reads, StateOf, Writes}
 use Rattle.meanings.specs.Calls.{Became}
+use Rattle.sqlobjects.specs.Stages.{Brings}
 
 pub asked-then : {C : Type 0} (step way : C → C → Type 0) (a b c : StateOf C) → Reads a b → Became step b c → (c.is_clean ≡ true → step a.content c.content → way a.content c.content) → Became way a c
 asked-then step way a b c asked made is = record {
@@ -11,6 +13,10 @@ asked-then step way a b c asked made is = record {
   content = λ e. is e (subst (λ x. step x c.content) (asked.content (made.clean e)) (made.content e));
 }
 
+-- a write alone
+pub made : {C : Type 0} (way : C → C → Type 0) (h : C → C) (a b : StateOf C) → Writes (h a.content) a b → way a.content (h a.content) → Became way a b
+made way h a b write is = record { clean = write.clean; before = write.before; opened = write.opened; content = λ e. subst (way a.content) (sym (write.content e)) is }
+
 -- one more write
 pub became-made : {C : Type 0} (step way : C → C → Type 0) (h : C → C) (a b c : StateOf C) → Became step a b → Writes (h b.content) b c
     → (b.is_clean ≡ true → step a.content b.content → way a.content (h b.content)) → Became way a c
@@ -19,4 +25,32 @@ became-made step way h a b c made write is = record {
   before = λ e. write.before e ∙ made.before (write.clean e);
   opened = write.opened;
   content = λ e. subst (way a.content) (sym (write.content e)) (is (write.clean e) (made.content (write.clean e)));
+}
+
+-- a question after it, whose answer is the change's
+pub became-met : {A C : Type 0} (r : Result A BookFault) (step : C → C → Type 0) (is : A → Type 0) (way : A → C → C → Type 0) (a b c : StateOf C) → Became step a b → Meets r is b c
+    → ((it : A) → step a.content b.content → is it → way it a.content b.content) → Brings r way a c
+became-met (Ok it) step is way a b c made met then = record {
+  clean = λ e. made.clean (met.0.clean e);
+  before = λ e. met.0.before e ∙ made.before (met.0.clean e);
+  opened = met.0.opened ∙ made.opened;
+  content = λ e. subst (way it a.content) (sym (met.0.content e)) (then it (made.content (met.0.clean e)) (met.1 e));
+}
+became-met (Err fault) step is way a b c made met then = record { clean = λ e. made.clean (met.clean e); before = λ e. met.before e ∙ made.before (met.clean e) }
+
+-- a change after a question, which answers for both
+pub asked-brings : {A C : Type 0} (r : Result A BookFault) (step way : A → C → C → Type 0) (a b c : StateOf C) → Reads a b → Brings r step b c
+    → ((it : A) → b.is_clean ≡ true → step it a.content c.content → way it a.content c.content) → Brings r way a c
+asked-brings (Ok it) step way a b c asked made is = asked-then (step it) (way it) a b c asked made (λ e. is it (made.clean e))
+asked-brings (Err fault) step way a b c asked made is = record { clean = λ e. asked.clean (made.clean e); before = λ e. made.before e ∙ asked.before (made.clean e) }
+
+-- one change after another, where something always holds before and after
+pub became-whole : {C : Type 0} (first second way : C → C → Type 0) (always : C → Type 0) (a b c : StateOf C) → Became first a b → Became second b c
+    → (a.is_clean ≡ true → always a.content) → (c.is_clean ≡ true → always c.content)
+    → (always a.content → always c.content → first a.content b.content → second b.content c.content → way a.content c.content) → Became way a c
+became-whole first second way always a b c one two before after is = record {
+  clean = λ e. one.clean (two.clean e);
+  before = λ e. two.before e ∙ one.before (two.clean e);
+  opened = two.opened;
+  content = λ e. is (before (one.clean (two.clean e))) (after e) (one.content (two.clean e)) (two.content e);
 }

@@ -1,16 +1,22 @@
 -- The transfer of a contact, removed and added.
-use Rattle.std.proofs.Common.{◌≡◌, ℤ, Bool, true, false, List, [], ◌∷◌, ◌++◌, filter, Option, Some, None, is_some, refl, sym, ap, subst, ◌∙◌, int_eq, true≢false}
+use Rattle.std.proofs.Common.{◌≡◌, ℤ, Bool, true, false, List, [], ◌∷◌, ◌++◌, filter, Option, Some, None, IfSome, is_some, option_map, refl, sym, ap, subst, ◌∙◌, int_eq, true≢false}
 use Rattle.std.specs.List.{list_any}
+use Rattle.std.proofs.lemmas.Bool.Decides.{Decides-int_eq}
+use Rattle.sqlite_keyed.specs.Keyed.{next_key}
 use Rattle.sqlite_keyed.specs.Lists.{delete_where}
 use Rattle.sqlite_keyed.specs.Rules.{points_to}
 use Rattle.sqlite_keyed.proofs.KeyedLemmas.{same_int}
 use Rattle.sqlite_keyed.proofs.ListLemmas.{none_from_any}
 use Rattle.sqlite_rules.specs.Lists.{Has}
+use Rattle.objects.specs.declared.transfer.Transfer as object
+use Rattle.columns.specs.Transfers.{IsTransfer, transfer_row}
+use Rattle.columns.proofs.TransferLemmas.{transfer_back}
 use Rattle.tables.specs.Content.{Content, transfers_to}
-use Rattle.tables.specs.Transfer.{Transfer, transfer_with_contact, transfer_with_domain}
+use Rattle.tables.specs.Transfer.{Transfer, transfer_with_contact, transfer_with_domain, transfers}
 use Rattle.tables.proofs.RowLemmas.{all_at}
-use Rattle.sqlobjects.specs.Stages.{IsTransferCleared}
-use Rattle.sqlobjects.proofs.PutLemmas.{filter-delete, filter-deleted, filter-has}
+use Rattle.sqlobjects.specs.Objects.{last_transfer}
+use Rattle.sqlobjects.specs.Stages.{IsTransferCleared, IsTransferPut, transfer_row_of, with_added}
+use Rattle.sqlobjects.proofs.PutLemmas.{filter-append, filter-append_pass, filter-delete, filter-deleted, filter-has}
 
 -- ---- removed
 
@@ -34,3 +40,34 @@ cleared id xs rows all alone = record {
     rest = refl;
   };
 }
+
+-- ---- added
+
+-- a row of the contact's after the others
+module _ (id : ℤ) (xs m : Content) (clear : IsTransferCleared id xs m) where
+  none-put : IsTransferPut id None xs m
+  none-put = record { last = ap last_transfer clear.none; others = clear.others }
+
+  one-put : (t : object.Transfer) → IsTransfer t → IsTransferPut id (Some t) xs (transfers_to (with_added (transfer_row_of id (Some t))) m)
+  one-put t is =
+      let k = next_key transfers.key m.transfers in
+      let row : Transfer = transfer_row k (Some id) None t in
+      record {
+        last =
+            ap last_transfer (filter-append_pass (transfer_with_contact id) m.transfers row ((Decides-int_eq id id).1 refl) ∙ ap (λ rows. rows ++ row ∷ []) clear.none)
+            ∙ ap (option_map Some) (transfer_back k (Some id) None t is);
+        others = record {
+          contacts = λ other apart. filter-append (transfer_with_contact other) m.transfers row apart ∙ clear.others.contacts other apart;
+          domains = λ domain. filter-append (transfer_with_domain domain) m.transfers row refl ∙ clear.others.domains domain;
+          rest = ap (transfers_to (with_added (transfer_row_of id (Some t)))) clear.others.rest;
+        };
+      }
+
+  some-put : (transfer : Option object.Transfer) → IfSome transfer IsTransfer → IsTransferPut id transfer xs (transfers_to (with_added (transfer_row_of id transfer)) m)
+  some-put None is = none-put
+  some-put (Some t) is = one-put t is
+
+pub transfer-put : (id number : ℤ) (xs m : Content) (transfer : Option object.Transfer) (row : Option Transfer) → number ≡ id → row ≡ transfer_row_of id transfer → IfSome transfer IsTransfer
+    → IsTransferCleared number xs m → IsTransferPut id transfer xs (transfers_to (with_added row) m)
+transfer-put id number xs m transfer row same given is clear =
+    subst (λ r. IsTransferPut id transfer xs (transfers_to (with_added r) m)) (sym given) (some-put id xs m (subst (λ k. IsTransferCleared k xs m) same clear) transfer is)

@@ -10,7 +10,7 @@ use Rattle.columns.specs.Contacts.{contact_row}
 use Rattle.columns.specs.Transfers.{transfer_row}
 use Rattle.rows.specs.Layouts.{appended}
 use Rattle.tables.specs.Contact as contact_table
-use Rattle.tables.specs.Content.{Content}
+use Rattle.tables.specs.Content.{Content, contacts_to}
 use Rattle.tables.specs.Host as host_table
 use Rattle.tables.specs.Transfer as transfer_table
 use Rattle.tables.specs.Transfer.{transfer_with_contact, transfer_with_domain}
@@ -56,6 +56,12 @@ with_added (Some row) rows = appended transfer_table.transfers (λ id. record ro
 pub record IsTransferPut (id : ℤ) (transfer : Option Transfer) (old new : Content) : Type 0 where
   pub last : last_transfer (filter (transfer_with_contact id) new.transfers) ≡ Some transfer
   pub others : AreOtherTransfersKept id old new
+
+-- the contact, but for its transfer, is in a row after the others
+pub record IsContactAdded (c : Contact) (old new : Content) : Type 0 where
+  pub row : contact_table.Contact
+  pub is : contact_row row.id c ≡ Some row
+  pub content : new ≡ contacts_to (λ rows. rows ++ row ∷ []) old
 
 -- the contact, but for its transfer, is in this row, and no other row is changed
 pub record IsContactPlaced (c : Contact) (row : contact_table.Contact) (old new : Content) : Type 0 where

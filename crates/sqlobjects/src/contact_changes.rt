@@ -1,6 +1,5 @@
 //! Contacts put under their names and dropped.
-ghost use Rattle.std.specs.Prelude.{◌≡◌, true, Some, None, IfOk};
-ghost use Rattle.columns.specs.Contacts.{IsContact};
+ghost use Rattle.std.specs.Prelude.{◌≡◌, true, Some, None};
 ghost use Rattle.meanings.specs.Calls.{Turns};
 ghost use Rattle.sqlobjects.specs.Changes.{IsContactPut};
 
@@ -24,22 +23,28 @@ pub fn put_contact<S: Alter>(
     requires { store.old.is_open ≡ true }
     ensures { Turns result (IsContactPut name (Some contact)) store.old store.new }
 {
-    check(&name, &contact)?;
-    store.whole();
-    let row = place(store, alloc, &contact)?;
-    put_transfer(store, &row, &contact.transfer)?;
-    store.whole();
-    Ok(())
-}
-
-/// Refuses a contact of another name, and one that wouldn't be read back.
-fn check(name: &Text, contact: &Contact) -> Result<(), BookFault>
-    ensures name { IfOk result (λ done. contact.now.name ≡ name.now) }
-    ensures is { IfOk result (λ done. IsContact contact.now) }
-{
-    if contact.name.as_str() != name.as_str() || !is_contact(contact) {
+    if contact.name.as_str() != name.as_str() {
         return Err(BookFault::Store);
     }
+    put(store, alloc, &contact)
+}
+
+/// The contact stands under its name. One that wouldn't be read back is refused.
+fn put<S: Alter>(
+    store: &mut RowStore<S>,
+    alloc: Global,
+    contact: &Contact,
+) -> Result<(), BookFault>
+    requires { store.old.is_open ≡ true }
+    ensures { Turns result (IsContactPut contact.now.name (Some contact.now)) store.old store.new }
+{
+    if !is_contact(contact) {
+        return Err(BookFault::Store);
+    }
+    store.whole();
+    let row = place(store, alloc, contact)?;
+    put_transfer(store, &row, &contact.transfer)?;
+    store.whole();
     Ok(())
 }
 

@@ -6,7 +6,7 @@ ghost use Rattle.tables.specs.Whole.{IsWhole};
 ghost use Rattle.transactions.specs.States.{Meets};
 ghost use Rattle.meanings.specs.Calls.{Turns};
 ghost use Rattle.meanings.specs.Read.{rows_of};
-ghost use Rattle.sqlobjects.specs.Stages.{Brings, IsContactDropped, IsContactPlaced, IsContactPlacedAt, IsContactRemoved};
+ghost use Rattle.sqlobjects.specs.Stages.{Brings, IsContactAdded, IsContactDropped, IsContactPlaced, IsContactPlacedAt, IsContactRemoved};
 
 use crate::transfers::clear_transfer;
 use basis::text::Text;
@@ -74,7 +74,21 @@ pub(crate) fn place<S: Alter>(
     requires { store.old.is_open ≡ true }
     ensures { Brings result (λ row old new. IsWhole old → IsContactPlaced contact.now row old new) store.old store.new }
 {
-    match row_named(store, &contact.name)? {
+    let found = row_named(store, &contact.name)?;
+    place_at(store, alloc, found, contact)
+}
+
+/// The same, told the row that was found.
+fn place_at<S: Alter>(
+    store: &mut RowStore<S>,
+    alloc: Global,
+    found: Option<ContactRow>,
+    contact: &Contact,
+) -> Result<ContactRow, BookFault>
+    requires { store.old.is_open ≡ true }
+    ensures { Brings result (λ row old new. IsContactPlacedAt found contact.now row old new) store.old store.new }
+{
+    match found {
         None => add_row(store, alloc, contact),
         Some(found) => put_row(store, alloc, &found, contact),
     }
@@ -90,7 +104,7 @@ fn put_row<S: Alter>(
     requires { store.old.is_open ≡ true }
     ensures { Brings result (λ row old new. IsContactPlacedAt (Some found.now) contact.now row old new) store.old store.new }
 {
-    let row = row_of(alloc, found.id, contact)?;
+    let row = row_again(alloc, found, contact)?;
     store.put_contact(&row)?;
     Ok(row)
 }
@@ -104,9 +118,22 @@ fn add_row<S: Alter>(
     requires { store.old.is_open ≡ true }
     ensures { Brings result (λ row old new. IsContactPlacedAt None contact.now row old new) store.old store.new }
 {
+    append(store, alloc, contact)?;
+    row_there(store, &contact.name)
+}
+
+/// Adds a contact's row after the others.
+fn append<S: Alter>(
+    store: &mut RowStore<S>,
+    alloc: Global,
+    contact: &Contact,
+) -> Result<(), BookFault>
+    requires { store.old.is_open ≡ true }
+    ensures { Turns result (IsContactAdded contact.now) store.old store.new }
+{
     let row = row_of(alloc, 0, contact)?;
     store.append_contact(&row)?;
-    row_there(store, &contact.name)
+    Ok(())
 }
 
 /// A contact's row under this number, but for its transfer. One that can't be written is refused.
@@ -114,6 +141,17 @@ fn row_of(alloc: Global, id: i64, contact: &Contact) -> Result<ContactRow, BookF
     ensures { IfOk result (λ row. contact_row id contact.now ≡ Some row) }
 {
     or_fault(contact_row(alloc, id, contact)?)
+}
+
+/// The same under the number of a row that is there.
+fn row_again(
+    alloc: Global,
+    found: &ContactRow,
+    contact: &Contact,
+) -> Result<ContactRow, BookFault>
+    ensures { IfOk result (λ row. contact_row found.now.id contact.now ≡ Some row) }
+{
+    row_of(alloc, found.id, contact)
 }
 
 /// The row of the contact of this name.

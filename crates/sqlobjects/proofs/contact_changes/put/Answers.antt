@@ -1,0 +1,19 @@
+use Rattle.std.proofs.Common.{Some}
+use Rattle.tables.specs.Whole.{IsWhole}
+use Rattle.meanings.proofs.StateLemmas.{then-became}
+use Rattle.sqlobjects.specs.Changes.{IsContactPut}
+use Rattle.sqlobjects.specs.Stages.{IsContactPlaced, IsTransferPut}
+use Rattle.sqlobjects.proofs.ContactLemmas.{contact-put}
+use Rattle.sqlobjects.proofs.StepLemmas.{became-whole}
+use Rattle.sqlobjects.proofs.contact_changes.put.Goals as goal
+
+pub returns : goal.returns
+returns g c =
+    let old = c.args.store.now in
+    let middle = c.place.new.store in
+    let new = c.put_transfer.new.store in
+    let contact = c.args.contact.now in
+    let row = c.in_ok-row.row in
+    became-whole (λ a b. IsWhole a → IsContactPlaced contact row a b) (IsTransferPut row.id contact.transfer) (IsContactPut contact.name (Some contact)) IsWhole old middle new
+    c.in_ok-row.ensures (c.in_ok-put_transfer.ensures {u = tt}) c.whole.ensures c.whole-2.ensures
+    (λ whole after placed with. contact-put old.content middle.content new.content contact row whole after (c.is_contact.ensures c.if-not-is_contact.false) (placed whole) with)
