@@ -17,12 +17,11 @@ use Rattle.tables.specs.Contact as contact_table
 use Rattle.tables.specs.Content.{Content, contacts_to}
 use Rattle.tables.specs.Transfer.{transfer_with_contact, transfer_with_domain}
 use Rattle.tables.specs.Whole.{IsWhole}
-use Rattle.tables.proofs.RowLemmas.{bytes_same}
 use Rattle.meanings.specs.Read.{first_read, or_else, rows_of}
 use Rattle.sqlobjects.specs.Changes.{IsContactPut}
 use Rattle.sqlobjects.specs.Objects.{contact_of, contacts_of, hosts_of, last_transfer}
-use Rattle.sqlobjects.specs.Stages.{AreOtherTransfersKept, AreOthersKept, IsContactAdded, IsContactDropped, IsContactPlaced, IsContactPlacedAt, IsContactRemoved, IsTransferCleared, IsTransferPut}
-use Rattle.sqlobjects.proofs.PutLemmas.{apart, changed, filter-append_pass, has-append, has-insert_by, names_kept, none-removed, only_named, others-added, others-put, others-removed, row_there}
+use Rattle.sqlobjects.specs.Stages.{AreOtherTransfersKept, AreOthersKept, IsContactAdded, IsContactDropped, IsContactPlaced, IsContactPlacedAt, IsContactRemoved, IsPlaced, IsTransferCleared, IsTransferPut}
+use Rattle.sqlobjects.proofs.PutLemmas.{apart, changed, found-added, names_kept, none-removed, only_placed, others-removed, placed-added, placed-put, row_there}
 
 abbrev name_of : contact_table.Contact → List ℕ
 name_of row = row.name
@@ -124,14 +123,13 @@ written id c row e =
     }
 
 -- into the row of its name
-pub placed-put : (xs : Content) (c : Contact) (found row : contact_table.Contact) → contact_row found.id c ≡ Some row
+pub put-placed : (xs : Content) (c : Contact) (found row : contact_table.Contact) → contact_row found.id c ≡ Some row
     → IsContactPlacedAt (Some found) c row xs (contacts_to (λ rows. insert_by contact_table.contacts.key rows row) xs)
-placed-put xs c found row e whole there =
+put-placed xs c found row e whole there =
     let w = written found.id c row e in
     record {
       is = ap (λ k. contact_row k c) w.number ∙ e;
-      there = has-insert_by key xs.contacts row;
-      others = others-put key name_of c.name xs.contacts found there whole.keyed.contacts row w.number w.name;
+      rows = placed-put key name_of c.name xs.contacts found there whole.keyed.contacts row w.number w.name;
       rest = refl;
     }
 
@@ -141,40 +139,23 @@ added xs c row e =
     let k = next_key contact_table.contacts.key xs.contacts in
     record { row = record row { id = k }; is = (written (pos 0) c row e).again k; content = refl }
 
-pub placed-added : (xs m : Content) (c : Contact) (row : contact_table.Contact) → IsContactAdded c xs m → filter (contact_table.contact_with_name c.name) m.contacts ≡ row ∷ [] → IsContactPlacedAt None c row xs m
-placed-added xs m c row add found whole none =
-    let w = written add.row.id c add.row add.is in
+pub added-placed : (xs m : Content) (c : Contact) (row : contact_table.Contact) → IsContactAdded c xs m → filter (contact_table.contact_with_name c.name) m.contacts ≡ row ∷ [] → IsContactPlacedAt None c row xs m
+added-placed xs m c row add found whole none =
+    let name = (written add.row.id c add.row add.is).name in
     let rows : m.contacts ≡ xs.contacts ++ add.row ∷ [] = ap (λ (x : Content). x.contacts) add.content in
-    let alone : filter (contact_table.contact_with_name c.name) m.contacts ≡ add.row ∷ [] =
-        ap (filter (contact_table.contact_with_name c.name)) rows
-        ∙ filter-append_pass (contact_table.contact_with_name c.name) xs.contacts add.row (bytes_same add.row.name c.name w.name)
-        ∙ ap (λ l. l ++ add.row ∷ []) none in
-    let same : add.row ≡ row = first_same (sym alone ∙ found) in
+    let same : add.row ≡ row = found-added key name_of c.name xs.contacts add.row row name none (sym (ap (filter (contact_table.contact_with_name c.name)) rows) ∙ found) in
     subst (λ r. IsContactPlaced c r xs m) same (record {
       is = add.is;
-      there = subst (λ l. Has l add.row) (sym rows) (has-append xs.contacts add.row);
-      others = λ q e. ap (filter (contact_table.contact_with_name q)) rows ∙ others-added key name_of c.name xs.contacts add.row w.name q e;
+      rows = subst (IsPlaced name_of c.name add.row xs.contacts) (sym rows) (placed-added key name_of c.name xs.contacts add.row name);
       rest = add.content ∙ ap (λ l. record xs { contacts = l }) (sym rows);
     })
-  where
-    first_same : {a b : contact_table.Contact} → a ∷ [] ≡ b ∷ [] → a ≡ b
-    first_same e = cc
 
 -- ---- put
 
 module _ (xs m ys : Content) (c : Contact) (row : contact_table.Contact) (whole : IsWhole xs) (after : IsWhole ys) (is : IsContact c)
     (placed : IsContactPlaced c row xs m) (with : IsTransferPut row.id c.transfer m ys) where
-  rows_now : ys.contacts ≡ m.contacts
-  rows_now = ap (λ (x : Content). x.contacts) with.others.rest
-
-  there_now : Has ys.contacts row
-  there_now = subst (λ l. Has l row) (sym rows_now) placed.there
-
-  name_now : row.name ≡ c.name
-  name_now = (written row.id c row placed.is).name
-
-  alone_now : filter (contact_table.contact_with_name c.name) ys.contacts ≡ row ∷ []
-  alone_now = ap (λ n. filter (contact_table.contact_with_name n) ys.contacts) (sym name_now) ∙ only_named key name_of ys.contacts row after.keyed.contacts after.named.contacts there_now
+  rows_now : IsPlaced name_of c.name row xs.contacts ys.contacts
+  rows_now = subst (IsPlaced name_of c.name row xs.contacts) (sym (ap (λ (x : Content). x.contacts) with.others.rest)) placed.rows
 
   reads_now : contact_of ys row ≡ Some c
   reads_now = ap (λ (t : Option (Option Transfer)). t >>= (λ transfer. contact_in row transfer)) with.last ∙ contact_back row.id c row is placed.is
@@ -188,8 +169,8 @@ module _ (xs m ys : Content) (c : Contact) (row : contact_table.Contact) (whole 
 
   pub contact-put : IsContactPut c.name (Some c) xs ys
   contact-put = assembled xs ys c.name (Some c) row.id
-      (ap (first_read (contact_of ys)) alone_now ∙ ap (λ o. or_else o None) reads_now)
-      (λ q e. ap (filter (contact_table.contact_with_name q)) rows_now ∙ placed.others q e)
+      (ap (first_read (contact_of ys)) (only_placed key name_of c.name row xs.contacts ys.contacts rows_now after.keyed.contacts after.named.contacts) ∙ ap (λ o. or_else o None) reads_now)
+      rows_now.others
       kept_now
-      (λ r was now e. apart key name_of ys.contacts row r c.name after.keyed.contacts there_now now name_now e)
+      (λ r was now e. apart key name_of ys.contacts row r c.name after.keyed.contacts rows_now.there now rows_now.named e)
       whole after

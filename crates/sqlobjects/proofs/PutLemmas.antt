@@ -18,7 +18,7 @@ use Rattle.tables.proofs.RowLemmas.{all_at, bytes_same, same_by_key}
 use Rattle.meanings.specs.Read.{first_read, or_else}
 use Rattle.meanings.proofs.NameLemmas.{entries_of, stands}
 use Rattle.sqlobjects.specs.Changes.{put}
-use Rattle.sqlobjects.specs.Stages.{AreOthersKept}
+use Rattle.sqlobjects.specs.Stages.{AreOthersKept, IsPlaced}
 
 -- ---- names
 
@@ -203,9 +203,12 @@ module _ {P : Type 0} (key : P → ℤ) (name : P → List ℕ) (n : List ℕ) (
         let at = row_there row found in
         bytes_apart (name x) n q (ap name (same_by_key key xs x row up there at.0 e) ∙ at.1) other
 
-    pub others-put : (new : P) → key new ≡ key row → name new ≡ n → AreOthersKept name n xs (insert_by key xs new)
-    others-put new id is q other =
-        filter-insert_by key (λ r. bytes_eq (name r) q) xs new (bytes_apart (name new) n q is other) (λ x there e. tied q other x there (e ∙ id))
+    pub placed-put : (new : P) → key new ≡ key row → name new ≡ n → IsPlaced name n new xs (insert_by key xs new)
+    placed-put new id is = record {
+      named = is;
+      there = has-insert_by key xs new;
+      others = λ q other. filter-insert_by key (λ r. bytes_eq (name r) q) xs new (bytes_apart (name new) n q is other) (λ x there e. tied q other x there (e ∙ id));
+    }
 
     pub others-removed : AreOthersKept name n xs (delete_where (numbered_so (key row)) xs)
     others-removed q other =
@@ -216,8 +219,26 @@ module _ {P : Type 0} (key : P → ℤ) (name : P → List ℕ) (n : List ℕ) (
         let at = row_there row found in
         (Decides-int_eq (key x) (key row)).1 (ap key (named x row there at.0 (bytes_is (name x) n e ∙ sym at.1))))
 
-  pub others-added : (new : P) → name new ≡ n → AreOthersKept name n xs (xs ++ new ∷ [])
-  others-added new is q other = filter-append (λ r. bytes_eq (name r) q) xs new (bytes_apart (name new) n q is other)
+  pub placed-added : (new : P) → name new ≡ n → IsPlaced name n new xs (xs ++ new ∷ [])
+  placed-added new is = record {
+    named = is;
+    there = has-append xs new;
+    others = λ q other. filter-append (λ r. bytes_eq (name r) q) xs new (bytes_apart (name new) n q is other);
+  }
+
+  -- what is found by its name after it was added is the one that was added
+  pub found-added : (new row : P) → name new ≡ n → filter named_so xs ≡ [] → filter named_so (xs ++ new ∷ []) ≡ row ∷ [] → new ≡ row
+  found-added new row is none found =
+      first_same (sym (filter-append_pass named_so xs new (bytes_same (name new) n is) ∙ ap (λ l. l ++ new ∷ []) none) ∙ found)
+    where
+      first_same : new ∷ [] ≡ row ∷ [] → new ≡ row
+      first_same e = cc
+
+-- the row of a name is the only one
+pub only_placed : {P : Type 0} (key : P → ℤ) (name : P → List ℕ) (n : List ℕ) (row : P) (old new : List P) → IsPlaced name n row old new → IsKeyedBy key new → IsNamedBy name new
+    → filter (λ r. bytes_eq (name r) n) new ≡ row ∷ []
+only_placed key name n row old new placed up names =
+    ap (λ m. filter (λ r. bytes_eq (name r) m) new) (sym placed.named) ∙ only_named key name new row up names placed.there
 
 -- ---- what stands under names
 

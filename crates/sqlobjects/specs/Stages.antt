@@ -5,12 +5,14 @@ use Rattle.sqlite_keyed.specs.Lists.{delete_where}
 use Rattle.sqlite_rules.specs.Lists.{Has}
 use Rattle.sqlite_typed.specs.Tests.{bytes_eq}
 use Rattle.objects.specs.declared.contact.Contact.{Contact}
+use Rattle.objects.specs.declared.host.Host.{Host}
 use Rattle.objects.specs.declared.transfer.Transfer.{Transfer}
 use Rattle.columns.specs.Contacts.{contact_row}
+use Rattle.columns.specs.Hosts.{host_row}
 use Rattle.columns.specs.Transfers.{transfer_row}
 use Rattle.rows.specs.Layouts.{appended}
 use Rattle.tables.specs.Contact as contact_table
-use Rattle.tables.specs.Content.{Content, contacts_to}
+use Rattle.tables.specs.Content.{Content, contacts_to, hosts_to}
 use Rattle.tables.specs.Host as host_table
 use Rattle.tables.specs.Transfer as transfer_table
 use Rattle.tables.specs.Transfer.{transfer_with_contact, transfer_with_domain}
@@ -29,6 +31,12 @@ Brings (Err fault) way old new = Stays old new
 -- rows of other names than this are as they were
 abbrev pub AreOthersKept : {P : Type 0} → (P → List ℕ) → List ℕ → List P → List P → Type 0
 AreOthersKept name n old new = (q : List ℕ) → bytes_eq q n ≡ false → filter (λ r. bytes_eq (name r) q) new ≡ filter (λ r. bytes_eq (name r) q) old
+
+-- this row is there under a name, and rows of other names are as they were
+pub record IsPlaced {P : Type 0} (name : P → List ℕ) (n : List ℕ) (row : P) (old new : List P) : Type 0 where
+  pub named : name row ≡ n
+  pub there : Has new row
+  pub others : AreOthersKept name n old new
 
 -- ---- contacts
 
@@ -66,8 +74,7 @@ pub record IsContactAdded (c : Contact) (old new : Content) : Type 0 where
 -- the contact, but for its transfer, is in this row, and no other row is changed
 pub record IsContactPlaced (c : Contact) (row : contact_table.Contact) (old new : Content) : Type 0 where
   pub is : contact_row row.id c ≡ Some row
-  pub there : Has new.contacts row
-  pub others : AreOthersKept (λ (r : contact_table.Contact). r.name) c.name old.contacts new.contacts
+  pub rows : IsPlaced (λ (r : contact_table.Contact). r.name) c.name row old.contacts new.contacts
   pub rest : new ≡ record old { contacts = new.contacts }
 
 -- the same where it was this row, or none, that had its name
@@ -84,3 +91,52 @@ pub record IsContactRemoved (id : ℤ) (old new : Content) : Type 0 where
 abbrev pub IsContactDropped : Option contact_table.Contact → Content → Content → Type 0
 IsContactDropped None old new = new ≡ old
 IsContactDropped (Some row) old new = IsContactRemoved row.id old new
+
+-- ---- hosts
+
+-- no host but the one with this number has other addresses than before
+pub record AreOtherAddressesKept (id : ℤ) (old new : Content) : Type 0 where
+  pub hosts : (other : ℤ) → int_eq id other ≡ false → addresses_of new other ≡ addresses_of old other
+  pub rest : new ≡ record old { addresses = new.addresses }
+
+-- the host with this number has these addresses
+pub record AreAddressesPut (id : ℤ) (addresses : List (List ℕ)) (old new : Content) : Type 0 where
+  pub here : addresses_of new id ≡ addresses
+  pub others : AreOtherAddressesKept id old new
+
+-- it has these besides
+pub record AreAddressesAdded (id : ℤ) (addresses : List (List ℕ)) (old new : Content) : Type 0 where
+  pub here : addresses_of new id ≡ addresses_of old id ++ addresses
+  pub others : AreOtherAddressesKept id old new
+
+-- the row of a host under a number, with whatever account as its sponsor
+pub record IsHostRow (id : ℤ) (h : Host) (row : host_table.Host) : Type 0 where
+  pub sponsor : Option ℤ
+  pub is : host_row id sponsor h ≡ Some row
+
+-- the host, but for its addresses, is in a row after the others
+pub record IsHostAdded (h : Host) (old new : Content) : Type 0 where
+  pub row : host_table.Host
+  pub is : IsHostRow row.id h row
+  pub content : new ≡ hosts_to (λ rows. rows ++ row ∷ []) old
+
+-- the host, but for its addresses, is in this row, and no other row is changed
+pub record IsHostPlaced (h : Host) (row : host_table.Host) (old new : Content) : Type 0 where
+  pub is : IsHostRow row.id h row
+  pub rows : IsPlaced (λ (r : host_table.Host). r.name) h.name row old.hosts new.hosts
+  pub rest : new ≡ record old { hosts = new.hosts }
+
+-- the same where it was this row, or none, that had its name
+abbrev pub IsHostPlacedAt : Option host_table.Host → Host → host_table.Host → Content → Content → Type 0
+IsHostPlacedAt found h row old new =
+    IsWhole old → filter (host_table.host_with_name h.name) old.hosts ≡ rows_of found → IsHostPlaced h row old new
+
+-- the host with this number, and its addresses, aren't there any more
+pub record IsHostRemoved (id : ℤ) (old new : Content) : Type 0 where
+  pub cleared : AreAddressesPut id [] old (record new { hosts = old.hosts })
+  pub hosts : new.hosts ≡ delete_where (host_table.host_with_id id) old.hosts
+
+-- the same of the row that was found, if there was one
+abbrev pub IsHostDropped : Option host_table.Host → Content → Content → Type 0
+IsHostDropped None old new = new ≡ old
+IsHostDropped (Some row) old new = IsHostRemoved row.id old new

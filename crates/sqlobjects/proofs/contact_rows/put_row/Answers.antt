@@ -3,7 +3,7 @@ use Rattle.sqlite_keyed.specs.Keyed.{insert_by}
 use Rattle.tables.specs.Contact.{contacts}
 use Rattle.tables.specs.Content.{contacts_to}
 use Rattle.sqlobjects.specs.Stages.{IsContactPlacedAt}
-use Rattle.sqlobjects.proofs.ContactLemmas.{placed-put}
+use Rattle.sqlobjects.proofs.ContactLemmas.{put-placed}
 use Rattle.sqlobjects.proofs.StepLemmas.{made}
 use Rattle.sqlobjects.proofs.contact_rows.put_row.Goals as goal
 
@@ -13,4 +13,4 @@ returns g c =
     let found = c.args.found.now in
     let contact = c.args.contact.now in
     made (IsContactPlacedAt (Some found) contact row) (contacts_to (λ rows. insert_by contacts.key rows row)) c.args.store.now c.put_contact.new.self
-    (c.in_ok-put_contact.ensures {u = tt}) (placed-put c.args.store.now.content contact found row c.in_ok-row.ensures)
+    (c.in_ok-put_contact.ensures {u = tt}) (put-placed c.args.store.now.content contact found row c.in_ok-row.ensures)
