@@ -4,3 +4,4 @@ pub mod PutLemmas
 pub mod StepLemmas
 pub mod TransferLemmas
 pub mod ContactLemmas
+pub mod AddressLemmas

@@ -1,5 +1,5 @@
 -- One step of a change after another.
-use Rattle.std.proofs.Common.{◌≡◌, true, Result, Ok, Err, sym, subst, ◌∙◌}
+use Rattle.std.proofs.Common.{◌≡◌, true, Result, Ok, Err, refl, sym, subst, ◌∙◌}
 use Rattle.transactions.specs.declared.fault.BookFault.{BookFault}
 use Rattle.transactions.specs.States.{Meets, Reads, StateOf, Writes}
 use Rattle.meanings.specs.Calls.{Became}
@@ -54,3 +54,7 @@ became-whole first second way always a b c one two before after is = record {
   opened = two.opened;
   content = λ e. is (before (one.clean (two.clean e))) (after e) (one.content (two.clean e)) (two.content e);
 }
+
+-- nothing yet
+pub stood : {C : Type 0} (way : C → C → Type 0) (a : StateOf C) → a.is_open ≡ true → way a.content a.content → Became way a a
+stood way a open_ is = record { clean = λ e. e; before = λ e. refl; opened = open_; content = λ e. is }

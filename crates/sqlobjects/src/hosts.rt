@@ -56,7 +56,7 @@ fn host_of<S: Alter>(
     read_host(alloc, row, addresses)
 }
 
-fn number_of(row: &HostRow) -> Number
+pub(crate) fn number_of(row: &HostRow) -> Number
     ensures { result ≡ row.now.id }
 {
     Number::new(row.id)

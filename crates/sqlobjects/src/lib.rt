@@ -3,6 +3,7 @@
 //! them doesn't read.
 #![tactic(auto)]
 
+mod addresses;
 mod contact_changes;
 mod contact_rows;
 mod contacts;

@@ -1,0 +1,16 @@
+use Rattle.std.proofs.Common.{[], ◌∷◌}
+use Rattle.rows.specs.Layouts.{appended}
+use Rattle.tables.specs.Address.{addresses}
+use Rattle.tables.specs.Content.{addresses_to}
+use Rattle.sqlobjects.specs.Stages.{AreAddressesAdded}
+use Rattle.sqlobjects.proofs.AddressLemmas.{one-added}
+use Rattle.sqlobjects.proofs.StepLemmas.{made}
+use Rattle.sqlobjects.proofs.addresses.add_address.Goals as goal
+
+pub returns : goal.returns
+returns g c =
+    let id = c.args.host.now.id in
+    let text = c.args.address.now in
+    let row = c.in_ok-row.row in
+    made (AreAddressesAdded id (text ∷ [])) (addresses_to (appended addresses (λ k. record row { id = k }))) c.args.store.now c.append_address.new.self
+    (c.in_ok-append_address.ensures {u = tt}) (one-added id text c.args.store.now.content row c.in_ok-row.ensures.host c.in_ok-row.ensures.address)

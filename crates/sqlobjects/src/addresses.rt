@@ -1,0 +1,83 @@
+//! The addresses of a host, in their order.
+ghost use Rattle.std.specs.Prelude.{◌≡◌, true, pos, [], ◌∷◌, IfOk};
+ghost use Rattle.meanings.specs.Calls.{Turns};
+ghost use Rattle.sqlobjects.specs.Stages.{AreAddressesAdded, AreAddressesPut};
+
+use crate::hosts::number_of;
+use basis::text::Text;
+use rows::Number;
+use sqlite::Alter;
+use std::alloc::{AllocError, Global};
+use tables::{AddressRow, HostRow, RowStore};
+use transactions::BookFault;
+
+/// Removes the addresses of the host with this number.
+pub(crate) fn clear_addresses<S: Alter>(
+    store: &mut RowStore<S>,
+    host: Number,
+) -> Result<(), BookFault>
+    requires { store.old.is_open ≡ true }
+    ensures { Turns result (AreAddressesPut host []) store.old store.new }
+{
+    store.remove_addresses_by_host(host)?;
+    Ok(())
+}
+
+/// Gives a host, which lies in this row, these addresses in place of those that it had.
+pub(crate) fn put_addresses<S: Alter>(
+    store: &mut RowStore<S>,
+    alloc: Global,
+    host: &HostRow,
+    addresses: &[Text],
+) -> Result<(), BookFault>
+    requires { store.old.is_open ≡ true }
+    ensures { Turns result (AreAddressesPut host.now.id addresses.now) store.old store.new }
+{
+    let number = number_of(host);
+    clear_addresses(store, number)?;
+    add_addresses(store, alloc, host, addresses)?;
+    Ok(())
+}
+
+/// Adds addresses, one after another.
+fn add_addresses<S: Alter>(
+    store: &mut RowStore<S>,
+    alloc: Global,
+    host: &HostRow,
+    addresses: &[Text],
+) -> Result<(), BookFault>
+    requires { store.old.is_open ≡ true }
+    ensures { Turns result (AreAddressesAdded host.now.id addresses.now) store.old store.new }
+{
+    for address in addresses {
+        add_address(store, alloc, host, address)?;
+    }
+    Ok(())
+}
+
+/// Adds one address.
+fn add_address<S: Alter>(
+    store: &mut RowStore<S>,
+    alloc: Global,
+    host: &HostRow,
+    address: &Text,
+) -> Result<(), BookFault>
+    requires { store.old.is_open ≡ true }
+    ensures { Turns result (AreAddressesAdded host.now.id (address.now ∷ [])) store.old store.new }
+{
+    let row = row_of(alloc, host, address)?;
+    store.append_address(&row)?;
+    Ok(())
+}
+
+/// The row of a host's address, but for its number.
+fn row_of(alloc: Global, host: &HostRow, address: &Text) -> Result<AddressRow, AllocError>
+    ensures host { IfOk result (λ row. row.host ≡ host.now.id) }
+    ensures address { IfOk result (λ row. row.address ≡ address.now) }
+{
+    Ok(AddressRow {
+        id: 0,
+        host: host.id,
+        address: String::from_str(alloc, address.as_str())?,
+    })
+}
