@@ -5,3 +5,4 @@ pub mod StepLemmas
 pub mod TransferLemmas
 pub mod ContactLemmas
 pub mod AddressLemmas
+pub mod HostLemmas

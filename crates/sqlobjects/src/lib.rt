@@ -7,9 +7,12 @@ mod addresses;
 mod contact_changes;
 mod contact_rows;
 mod contacts;
+mod host_changes;
+mod host_rows;
 mod hosts;
 mod transfers;
 
 pub use contact_changes::{drop_contact, put_contact};
 pub use contacts::{contact, has_contact};
+pub use host_changes::{drop_host, put_host};
 pub use hosts::{has_host, host, host_addresses};

@@ -1,0 +1,169 @@
+-- What rows of hosts mean after a change.
+use Rattle.std.proofs.Common.{◌≡◌, ℕ, ℤ, pos, Bool, true, false, List, [], ◌∷◌, ◌++◌, filter, Option, Some, None, refl, sym, ap, subst, ◌∙◌, int_eq}
+use Rattle.rows.specs.Layouts.{appended}
+use Rattle.sqlite_keyed.specs.Keyed.{insert_by, next_key}
+use Rattle.sqlite_keyed.specs.Lists.{delete_where}
+use Rattle.sqlite_rules.specs.Lists.{Has}
+use Rattle.sqlite_typed.specs.Tests.{bytes_eq}
+use Rattle.objects.specs.declared.host.Host.{Host}
+use Rattle.objects.specs.declared.roid.ObjectKind.TheVariants as kinds
+use Rattle.columns.specs.Hosts.{IsHost, host_in, host_row, row_with}
+use Rattle.columns.specs.Roids.{roid_columns}
+use Rattle.columns.specs.Steps.{◌>>=◌}
+use Rattle.columns.proofs.HostLemmas.{host_back}
+use Rattle.columns.proofs.ReadLemmas.{same_some, step}
+use Rattle.tables.specs.Content.{Content, hosts_to}
+use Rattle.tables.specs.Host as host_table
+use Rattle.tables.specs.Whole.{IsWhole}
+use Rattle.meanings.specs.Read.{first_read, or_else, rows_of}
+use Rattle.sqlobjects.specs.Changes.{IsHostPut}
+use Rattle.sqlobjects.specs.Objects.{addresses_of, contacts_of, host_of, hosts_of}
+use Rattle.sqlobjects.specs.Stages.{AreAddressesPut, AreOtherAddressesKept, AreOthersKept, IsHostAdded, IsHostDropped, IsHostPlaced, IsHostPlacedAt, IsHostRemoved, IsHostRow, IsPlaced}
+use Rattle.sqlobjects.proofs.PutLemmas.{apart, changed, found-added, names_kept, none-removed, only_placed, others-removed, placed-added, placed-put, row_there}
+
+abbrev name_of : host_table.Host → List ℕ
+name_of row = row.name
+
+abbrev key : host_table.Host → ℤ
+key = host_table.hosts.key
+
+-- a host whose row and addresses are as they were is read as before
+reads-alike : (xs ys : Content) (id : ℤ) (r : host_table.Host) → AreOtherAddressesKept id xs (record ys { hosts = xs.hosts }) → int_eq id r.id ≡ false → host_of ys r ≡ host_of xs r
+reads-alike xs ys id r kept other = ap (host_in r) (kept.hosts r.id other)
+
+-- What the two lists of rows show, and the addresses, is all that a change of hosts needs.
+assembled : (xs ys : Content) (name : List ℕ) (value : Option Host) (id : ℤ)
+    → first_read (host_of ys) (filter (host_table.host_with_name name) ys.hosts) ≡ value
+    → AreOthersKept name_of name xs.hosts ys.hosts
+    → AreOtherAddressesKept id xs (record ys { hosts = xs.hosts })
+    → ((r : host_table.Host) → Has xs.hosts r → Has ys.hosts r → bytes_eq r.name name ≡ false → int_eq id r.id ≡ false)
+    → IsWhole xs → IsWhole ys → IsHostPut name value xs ys
+assembled xs ys name value id here others kept other whole after = record {
+  hosts = changed name_of name value (host_of xs) (host_of ys) xs.hosts ys.hosts here others (λ r was now e. reads-alike xs ys id r kept (other r was now e));
+  contacts = ap contacts_of kept.rest;
+  metas = ap (λ (x : Content). x.metas) kept.rest;
+  accounts = ap (λ (x : Content). x.accounts) kept.rest;
+  contact_rows = ap (λ (x : Content). x.contacts) kept.rest;
+  domains = ap (λ (x : Content). x.domains) kept.rest;
+  links = ap (λ (x : Content). x.links) kept.rest;
+  lines = ap (λ (x : Content). x.lines) kept.rest;
+  messages = ap (λ (x : Content). x.messages) kept.rest;
+  transfers = ap (λ (x : Content). x.transfers) kept.rest;
+  names = names_kept key name_of name xs.hosts ys.hosts whole.keyed.hosts after.keyed.hosts others;
+  whole = (whole, after);
+}
+
+-- ---- dropped
+
+pub removed-so : (id number : ℤ) (xs m : Content) → number ≡ id → AreAddressesPut number [] xs m → IsHostRemoved id xs (hosts_to (delete_where (host_table.host_with_id number)) m)
+removed-so id number xs m same clear =
+    subst (λ k. IsHostRemoved k xs (hosts_to (delete_where (host_table.host_with_id number)) m)) same (record {
+      cleared = record {
+        here = clear.here;
+        others = record { hosts = clear.others.hosts; rest = ap (λ (x : Content). record x { hosts = xs.hosts }) clear.others.rest };
+      };
+      hosts = ap (λ (x : Content). delete_where (host_table.host_with_id number) x.hosts) clear.others.rest;
+    })
+
+module _ (xs ys : Content) (name : List ℕ) (whole : IsWhole xs) (after : IsWhole ys) where
+  none_there : filter (host_table.host_with_name name) xs.hosts ≡ [] → ys ≡ xs → IsHostPut name None xs ys
+  none_there none same = record {
+    hosts = ap hosts_of same ∙ changed name_of name None (host_of xs) (host_of xs) xs.hosts xs.hosts (ap (first_read (host_of xs)) none) (λ q e. refl) (λ r h k e. refl);
+    contacts = ap contacts_of same;
+    metas = ap (λ (x : Content). x.metas) same;
+    accounts = ap (λ (x : Content). x.accounts) same;
+    contact_rows = ap (λ (x : Content). x.contacts) same;
+    domains = ap (λ (x : Content). x.domains) same;
+    links = ap (λ (x : Content). x.links) same;
+    lines = ap (λ (x : Content). x.lines) same;
+    messages = ap (λ (x : Content). x.messages) same;
+    transfers = ap (λ (x : Content). x.transfers) same;
+    names = names_kept key name_of name xs.hosts ys.hosts whole.keyed.hosts after.keyed.hosts (λ q e. ap (λ (x : Content). filter (host_table.host_with_name q) x.hosts) same);
+    whole = (whole, after);
+  }
+
+  removed : (row : host_table.Host) → filter (host_table.host_with_name name) xs.hosts ≡ row ∷ [] → IsHostRemoved row.id xs ys → IsHostPut name None xs ys
+  removed row found gone =
+      let at = row_there key name_of name xs.hosts row found in
+      assembled xs ys name None row.id
+      (ap (first_read (host_of ys)) (ap (filter (host_table.host_with_name name)) gone.hosts ∙ none-removed key name_of name xs.hosts row found whole.keyed.hosts whole.named.hosts))
+      (λ q e. ap (filter (host_table.host_with_name q)) gone.hosts ∙ others-removed key name_of name xs.hosts row found whole.keyed.hosts q e)
+      gone.cleared.others
+      (λ r was now e. apart key name_of xs.hosts row r name whole.keyed.hosts at.0 was at.1 e)
+      whole after
+
+  pub dropped : (row : Option host_table.Host) → filter (host_table.host_with_name name) xs.hosts ≡ rows_of row → IsHostDropped row xs ys → IsHostPut name None xs ys
+  dropped None found same = none_there found same
+  dropped (Some row) found gone = removed row found gone
+
+-- ---- written into a row
+
+record IsWritten (id : ℤ) (h : Host) (row : host_table.Host) : Type 0 where
+  number : row.id ≡ id
+  name : row.name ≡ h.name
+  again : (k : ℤ) → IsHostRow k h (record row { id = k })
+
+written : (id : ℤ) (h : Host) (row : host_table.Host) → IsHostRow id h row → IsWritten id h row
+written id h row e =
+    let roid = step (roid_columns kinds.Host h.roid) (λ x. Some (row_with id e.sponsor h x)) row e.is in
+    let same : row_with id e.sponsor h roid.given ≡ row = same_some (row_with id e.sponsor h roid.given) row roid.rest in
+    record {
+      number = sym (ap (λ (r : host_table.Host). r.id) same);
+      name = sym (ap (λ (r : host_table.Host). r.name) same);
+      again = λ k. record {
+        sponsor = e.sponsor;
+        is = (λ i. roid.is i >>= (λ x. Some (row_with k e.sponsor h x))) ∙ ap (λ (r : host_table.Host). Some (record r { id = k })) same;
+      };
+    }
+
+-- into the row of its name
+pub put-placed : (xs : Content) (h : Host) (found row : host_table.Host) → IsHostRow found.id h row
+    → IsHostPlacedAt (Some found) h row xs (hosts_to (λ rows. insert_by host_table.hosts.key rows row) xs)
+put-placed xs h found row e whole there =
+    let w = written found.id h row e in
+    record {
+      is = subst (λ k. IsHostRow k h row) (sym w.number) e;
+      rows = placed-put key name_of h.name xs.hosts found there whole.keyed.hosts row w.number w.name;
+      rest = refl;
+    }
+
+-- under a number of its own, after the others
+pub added : (xs : Content) (h : Host) (row : host_table.Host) → IsHostRow (pos 0) h row → IsHostAdded h xs (hosts_to (appended host_table.hosts (λ id. record row { id = id })) xs)
+added xs h row e =
+    let k = next_key host_table.hosts.key xs.hosts in
+    record { row = record row { id = k }; is = (written (pos 0) h row e).again k; content = refl }
+
+pub added-placed : (xs m : Content) (h : Host) (row : host_table.Host) → IsHostAdded h xs m → filter (host_table.host_with_name h.name) m.hosts ≡ row ∷ [] → IsHostPlacedAt None h row xs m
+added-placed xs m h row add found whole none =
+    let name = (written add.row.id h add.row add.is).name in
+    let rows : m.hosts ≡ xs.hosts ++ add.row ∷ [] = ap (λ (x : Content). x.hosts) add.content in
+    let same : add.row ≡ row = found-added key name_of h.name xs.hosts add.row row name none (sym (ap (filter (host_table.host_with_name h.name)) rows) ∙ found) in
+    subst (λ r. IsHostPlaced h r xs m) same (record {
+      is = add.is;
+      rows = subst (IsPlaced name_of h.name add.row xs.hosts) (sym rows) (placed-added key name_of h.name xs.hosts add.row name);
+      rest = add.content ∙ ap (λ l. record xs { hosts = l }) (sym rows);
+    })
+
+-- ---- put
+
+module _ (xs m ys : Content) (h : Host) (row : host_table.Host) (whole : IsWhole xs) (after : IsWhole ys) (is : IsHost h)
+    (placed : IsHostPlaced h row xs m) (with : AreAddressesPut row.id h.addresses m ys) where
+  rows_now : IsPlaced name_of h.name row xs.hosts ys.hosts
+  rows_now = subst (IsPlaced name_of h.name row xs.hosts) (sym (ap (λ (x : Content). x.hosts) with.others.rest)) placed.rows
+
+  reads_now : host_of ys row ≡ Some h
+  reads_now = ap (host_in row) with.here ∙ host_back row.id placed.is.sponsor h row is placed.is.is
+
+  kept_now : AreOtherAddressesKept row.id xs (record ys { hosts = xs.hosts })
+  kept_now = record {
+    hosts = λ other e. with.others.hosts other e ∙ ap (λ (x : Content). addresses_of x other) placed.rest;
+    rest = ap (λ (x : Content). record x { hosts = xs.hosts }) with.others.rest ∙ ap (λ (x : Content). record x { hosts = xs.hosts; addresses = ys.addresses }) placed.rest;
+  }
+
+  pub host-put : IsHostPut h.name (Some h) xs ys
+  host-put = assembled xs ys h.name (Some h) row.id
+      (ap (first_read (host_of ys)) (only_placed key name_of h.name row xs.hosts ys.hosts rows_now after.keyed.hosts after.named.hosts) ∙ ap (λ o. or_else o None) reads_now)
+      rows_now.others
+      kept_now
+      (λ r was now e. apart key name_of ys.hosts row r h.name after.keyed.hosts rows_now.there now rows_now.named e)
+      whole after

@@ -1,0 +1,14 @@
+use Rattle.rows.specs.Layouts.{appended}
+use Rattle.tables.specs.Content.{hosts_to}
+use Rattle.tables.specs.Host.{hosts}
+use Rattle.meanings.proofs.StateLemmas.{then-made}
+use Rattle.sqlobjects.specs.Stages.{IsHostAdded}
+use Rattle.sqlobjects.proofs.HostLemmas.{added}
+use Rattle.sqlobjects.proofs.host_rows.append.Goals as goal
+
+pub returns : goal.returns
+returns g c =
+    let row = c.in_ok-row.row in
+    let host = c.args.host.now in
+    then-made (hosts_to (appended hosts (λ id. record row { id = id }))) (IsHostAdded host) c.args.store.now c.row_of.new.store c.append_host.new.self
+    c.in_ok-row.ensures.0 (c.in_ok-append_host.ensures {u = tt}) (λ clean. added c.args.store.now.content host row (c.in_ok-row.ensures.1 clean))

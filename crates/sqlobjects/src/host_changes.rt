@@ -1,0 +1,57 @@
+//! Hosts put under their names and dropped.
+ghost use Rattle.std.specs.Prelude.{◌≡◌, true, Some, None};
+ghost use Rattle.meanings.specs.Calls.{Turns};
+ghost use Rattle.sqlobjects.specs.Changes.{IsHostPut};
+
+use crate::addresses::put_addresses;
+use crate::host_rows::{place, remove_found, row_named};
+use basis::text::Text;
+use columns::is_host;
+use objects::Host;
+use sqlite::Alter;
+use std::alloc::Global;
+use tables::RowStore;
+use transactions::BookFault;
+
+/// The host stands under its name.
+pub fn put_host<S: Alter>(
+    store: &mut RowStore<S>,
+    alloc: Global,
+    host: Host,
+) -> Result<(), BookFault>
+    requires { store.old.is_open ≡ true }
+    ensures { Turns result (IsHostPut host.name (Some host)) store.old store.new }
+{
+    put(store, alloc, &host)
+}
+
+/// The same of a host that is kept. One that wouldn't be read back is refused.
+fn put<S: Alter>(store: &mut RowStore<S>, alloc: Global, host: &Host) -> Result<(), BookFault>
+    requires { store.old.is_open ≡ true }
+    ensures { Turns result (IsHostPut host.now.name (Some host.now)) store.old store.new }
+{
+    if !is_host(host) {
+        return Err(BookFault::Store);
+    }
+    store.whole();
+    let row = place(store, alloc, host)?;
+    put_addresses(store, alloc, &row, host.addresses.as_slice())?;
+    store.whole();
+    Ok(())
+}
+
+/// No host stands under this name.
+pub fn drop_host<S: Alter>(
+    store: &mut RowStore<S>,
+    alloc: Global,
+    name: Text,
+) -> Result<(), BookFault>
+    requires { store.old.is_open ≡ true }
+    ensures { Turns result (IsHostPut name None) store.old store.new }
+{
+    store.whole();
+    let row = row_named(store, &name)?;
+    remove_found(store, row)?;
+    store.whole();
+    Ok(())
+}

@@ -1,0 +1,198 @@
+//! Rows of hosts: found by name, put, added, and removed with their addresses.
+ghost use Rattle.std.specs.Prelude.{◌≡◌, true, ⊤, [], ◌∷◌, filter, Some, None, IfOk};
+ghost use Rattle.tables.specs.Host.{host_with_name};
+ghost use Rattle.tables.specs.Whole.{IsWhole};
+ghost use Rattle.transactions.specs.States.{Meets};
+ghost use Rattle.meanings.specs.Calls.{Turns};
+ghost use Rattle.meanings.specs.Read.{rows_of};
+ghost use Rattle.sqlobjects.specs.Stages.{Brings, IsHostAdded, IsHostDropped, IsHostPlaced, IsHostPlacedAt, IsHostRemoved, IsHostRow};
+
+use crate::addresses::clear_addresses;
+use crate::hosts::number_of;
+use basis::text::Text;
+use columns::{above_column, host_row, registrar_column};
+use meanings::{only, or_fault};
+use objects::Host;
+use sqlite::Alter;
+use std::alloc::Global;
+use tables::{DomainRow, HostRow, RowStore};
+use transactions::BookFault;
+
+/// The row of the host of this name, if there is one.
+pub(crate) fn row_named<S: Alter>(
+    store: &mut RowStore<S>,
+    name: &Text,
+) -> Result<Option<HostRow>, BookFault>
+    ensures { Meets result (λ row. filter (host_with_name name.now) store.old.content.hosts ≡ rows_of row) store.old store.new }
+{
+    let rows = store.hosts_by_name(name.as_str())?;
+    only(rows)
+}
+
+/// Removes a host's row, and its addresses before.
+fn remove_row<S: Alter>(store: &mut RowStore<S>, row: &HostRow) -> Result<(), BookFault>
+    requires { store.old.is_open ≡ true }
+    ensures { Turns result (IsHostRemoved row.now.id) store.old store.new }
+{
+    let number = number_of(row);
+    clear_addresses(store, number)?;
+    store.remove_hosts_by_id(number)?;
+    Ok(())
+}
+
+/// The same of the row that was found, if there was one.
+pub(crate) fn remove_found<S: Alter>(
+    store: &mut RowStore<S>,
+    row: Option<HostRow>,
+) -> Result<(), BookFault>
+    requires { store.old.is_open ≡ true }
+    ensures { Turns result (IsHostDropped row) store.old store.new }
+{
+    match row {
+        None => Ok(()),
+        Some(row) => remove_row(store, &row),
+    }
+}
+
+/// Puts a host, but for its addresses, into the row of its name, or else into a new one, which is
+/// given back.
+pub(crate) fn place<S: Alter>(
+    store: &mut RowStore<S>,
+    alloc: Global,
+    host: &Host,
+) -> Result<HostRow, BookFault>
+    requires { store.old.is_open ≡ true }
+    ensures { Brings result (λ row old new. IsWhole old → IsHostPlaced host.now row old new) store.old store.new }
+{
+    let found = row_named(store, &host.name)?;
+    place_at(store, alloc, found, host)
+}
+
+/// The same, told the row that was found.
+fn place_at<S: Alter>(
+    store: &mut RowStore<S>,
+    alloc: Global,
+    found: Option<HostRow>,
+    host: &Host,
+) -> Result<HostRow, BookFault>
+    requires { store.old.is_open ≡ true }
+    ensures { Brings result (λ row old new. IsHostPlacedAt found host.now row old new) store.old store.new }
+{
+    match found {
+        None => add_row(store, alloc, host),
+        Some(found) => put_row(store, alloc, &found, host),
+    }
+}
+
+/// Puts a host into the row of its name.
+fn put_row<S: Alter>(
+    store: &mut RowStore<S>,
+    alloc: Global,
+    found: &HostRow,
+    host: &Host,
+) -> Result<HostRow, BookFault>
+    requires { store.old.is_open ≡ true }
+    ensures { Brings result (λ row old new. IsHostPlacedAt (Some found.now) host.now row old new) store.old store.new }
+{
+    let row = row_again(store, alloc, found, host)?;
+    store.put_host(&row)?;
+    Ok(row)
+}
+
+/// Puts a host, whose name no row has, into a new row.
+fn add_row<S: Alter>(
+    store: &mut RowStore<S>,
+    alloc: Global,
+    host: &Host,
+) -> Result<HostRow, BookFault>
+    requires { store.old.is_open ≡ true }
+    ensures { Brings result (λ row old new. IsHostPlacedAt None host.now row old new) store.old store.new }
+{
+    append(store, alloc, host)?;
+    row_there(store, &host.name)
+}
+
+/// Adds a host's row after the others.
+fn append<S: Alter>(
+    store: &mut RowStore<S>,
+    alloc: Global,
+    host: &Host,
+) -> Result<(), BookFault>
+    requires { store.old.is_open ≡ true }
+    ensures { Turns result (IsHostAdded host.now) store.old store.new }
+{
+    let row = row_of(store, alloc, 0, host)?;
+    store.append_host(&row)?;
+    Ok(())
+}
+
+/// A host's row under this number, but for its addresses. One that can't be written is refused.
+fn row_of<S: Alter>(
+    store: &mut RowStore<S>,
+    alloc: Global,
+    id: i64,
+    host: &Host,
+) -> Result<HostRow, BookFault>
+    ensures { Meets result (λ row. IsHostRow id host.now row) store.old store.new }
+{
+    let sponsor = sponsor_of(store, alloc, host)?;
+    row_with(alloc, id, sponsor, host)
+}
+
+fn row_with(
+    alloc: Global,
+    id: i64,
+    sponsor: Option<i64>,
+    host: &Host,
+) -> Result<HostRow, BookFault>
+    ensures { IfOk result (λ row. IsHostRow id host.now row) }
+{
+    or_fault(host_row(alloc, id, sponsor, host)?)
+}
+
+/// The same under the number of a row that is there.
+fn row_again<S: Alter>(
+    store: &mut RowStore<S>,
+    alloc: Global,
+    found: &HostRow,
+    host: &Host,
+) -> Result<HostRow, BookFault>
+    ensures { Meets result (λ row. IsHostRow found.now.id host.now row) store.old store.new }
+{
+    row_of(store, alloc, found.id, host)
+}
+
+/// The account that sponsors a host: its own sponsor outside the zone, or else that of the domain that
+/// it lies below, if there is one.
+fn sponsor_of<S: Alter>(
+    store: &mut RowStore<S>,
+    alloc: Global,
+    host: &Host,
+) -> Result<Option<i64>, BookFault>
+    ensures { Meets result (λ sponsor. ⊤) store.old store.new }
+{
+    if let Some(registrar) = host.external_sponsor {
+        return Ok(Some(registrar_column(registrar)));
+    }
+    let above = above_column(alloc, host.name.as_str())?;
+    let rows = store.domains_by_name(above.as_str())?;
+    let domain = only(rows)?;
+    Ok(sponsor_in(domain))
+}
+
+fn sponsor_in(domain: Option<DomainRow>) -> Option<i64> {
+    match domain {
+        None => None,
+        Some(domain) => Some(domain.sponsor),
+    }
+}
+
+/// The row of the host of this name.
+fn row_there<S: Alter>(store: &mut RowStore<S>, name: &Text) -> Result<HostRow, BookFault>
+    ensures { Meets result (λ row. filter (host_with_name name.now) store.old.content.hosts ≡ row ∷ []) store.old store.new }
+{
+    match row_named(store, name)? {
+        None => Err(BookFault::Store),
+        Some(row) => Ok(row),
+    }
+}
