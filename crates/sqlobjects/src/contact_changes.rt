@@ -30,11 +30,7 @@ pub fn put_contact<S: Alter>(
 }
 
 /// The contact stands under its name. One that wouldn't be read back is refused.
-fn put<S: Alter>(
-    store: &mut RowStore<S>,
-    alloc: Global,
-    contact: &Contact,
-) -> Result<(), BookFault>
+fn put<S: Alter>(store: &mut RowStore<S>, alloc: Global, contact: &Contact) -> Result<(), BookFault>
     requires { store.old.is_open ≡ true }
     ensures { Turns result (IsContactPut contact.now.name (Some contact.now)) store.old store.new }
 {

@@ -144,21 +144,14 @@ fn row_of(alloc: Global, id: i64, contact: &Contact) -> Result<ContactRow, BookF
 }
 
 /// The same under the number of a row that is there.
-fn row_again(
-    alloc: Global,
-    found: &ContactRow,
-    contact: &Contact,
-) -> Result<ContactRow, BookFault>
+fn row_again(alloc: Global, found: &ContactRow, contact: &Contact) -> Result<ContactRow, BookFault>
     ensures { IfOk result (λ row. contact_row found.now.id contact.now ≡ Some row) }
 {
     row_of(alloc, found.id, contact)
 }
 
 /// The row of the contact of this name.
-fn row_there<S: Alter>(
-    store: &mut RowStore<S>,
-    name: &Text,
-) -> Result<ContactRow, BookFault>
+fn row_there<S: Alter>(store: &mut RowStore<S>, name: &Text) -> Result<ContactRow, BookFault>
     ensures { Meets result (λ row. filter (contact_with_name name.now) store.old.content.contacts ≡ row ∷ []) store.old store.new }
 {
     match row_named(store, name)? {

@@ -113,11 +113,7 @@ fn add_row<S: Alter>(
 }
 
 /// Adds a host's row after the others.
-fn append<S: Alter>(
-    store: &mut RowStore<S>,
-    alloc: Global,
-    host: &Host,
-) -> Result<(), BookFault>
+fn append<S: Alter>(store: &mut RowStore<S>, alloc: Global, host: &Host) -> Result<(), BookFault>
     requires { store.old.is_open ≡ true }
     ensures { Turns result (IsHostAdded host.now) store.old store.new }
 {
@@ -139,12 +135,7 @@ fn row_of<S: Alter>(
     row_with(alloc, id, sponsor, host)
 }
 
-fn row_with(
-    alloc: Global,
-    id: i64,
-    sponsor: Option<i64>,
-    host: &Host,
-) -> Result<HostRow, BookFault>
+fn row_with(alloc: Global, id: i64, sponsor: Option<i64>, host: &Host) -> Result<HostRow, BookFault>
     ensures { IfOk result (λ row. IsHostRow id host.now row) }
 {
     or_fault(host_row(alloc, id, sponsor, host)?)

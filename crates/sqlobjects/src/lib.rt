@@ -10,6 +10,8 @@ mod contacts;
 mod host_changes;
 mod host_rows;
 mod hosts;
+#[cfg(test)]
+mod tests;
 mod transfers;
 
 pub use contact_changes::{drop_contact, put_contact};

@@ -67,10 +67,7 @@ fn row_of(
 }
 
 /// Adds a row, if there is one.
-fn add_row<S: Alter>(
-    store: &mut RowStore<S>,
-    row: Option<TransferRow>,
-) -> Result<(), BookFault>
+fn add_row<S: Alter>(store: &mut RowStore<S>, row: Option<TransferRow>) -> Result<(), BookFault>
     requires { store.old.is_open ≡ true }
     ensures { Makes result (transfers_to (with_added row) store.old.content) store.old store.new }
 {
