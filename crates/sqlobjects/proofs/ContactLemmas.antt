@@ -1,5 +1,5 @@
 -- What rows of contacts mean after a change.
-use Rattle.std.proofs.Common.{◌≡◌, ℕ, ℤ, pos, Bool, true, false, List, [], ◌∷◌, ◌++◌, filter, Option, Some, None, refl, sym, ap, subst, ◌∙◌, int_eq}
+use Rattle.std.proofs.Common.{◌≡◌, ℕ, ℤ, pos, false, List, [], ◌∷◌, ◌++◌, filter, Option, Some, None, refl, sym, ap, subst, ◌∙◌, int_eq}
 use Rattle.rows.specs.Layouts.{appended}
 use Rattle.sqlite_keyed.specs.Keyed.{insert_by, next_key}
 use Rattle.sqlite_keyed.specs.Lists.{delete_where}
@@ -19,7 +19,7 @@ use Rattle.tables.specs.Transfer.{transfer_with_contact, transfer_with_domain}
 use Rattle.tables.specs.Whole.{IsWhole}
 use Rattle.meanings.specs.Read.{first_read, or_else, rows_of}
 use Rattle.sqlobjects.specs.Changes.{IsContactPut}
-use Rattle.sqlobjects.specs.Objects.{contact_of, contacts_of, hosts_of, last_transfer}
+use Rattle.sqlobjects.specs.Objects.{contact_of, hosts_of, last_transfer}
 use Rattle.sqlobjects.specs.Stages.{AreOtherTransfersKept, AreOthersKept, IsContactAdded, IsContactDropped, IsContactPlaced, IsContactPlacedAt, IsContactRemoved, IsPlaced, IsTransferCleared, IsTransferPut}
 use Rattle.sqlobjects.proofs.PutLemmas.{apart, changed, found-added, names_kept, none-removed, only_placed, others-removed, placed-added, placed-put, row_there}
 
@@ -34,14 +34,14 @@ reads-alike : (xs ys : Content) (id : ℤ) (r : contact_table.Contact) → AreOt
 reads-alike xs ys id r kept other = λ i. last_transfer (kept.contacts r.id other i) >>= (λ transfer. contact_in r transfer)
 
 -- What the two lists of rows show, and the transfers, is all that a change of contacts needs.
-pub assembled : (xs ys : Content) (name : List ℕ) (value : Option Contact) (id : ℤ)
+assembled : (xs ys : Content) (name : List ℕ) (value : Option Contact) (id : ℤ)
     → first_read (contact_of ys) (filter (contact_table.contact_with_name name) ys.contacts) ≡ value
     → AreOthersKept name_of name xs.contacts ys.contacts
     → AreOtherTransfersKept id xs (record ys { contacts = xs.contacts })
-    → ((r : contact_table.Contact) → Has xs.contacts r → Has ys.contacts r → bytes_eq r.name name ≡ false → int_eq id r.id ≡ false)
+    → ((r : contact_table.Contact) → Has xs.contacts r → Has ys.contacts r → bytes_eq r.name name ≡ false → contact_of ys r ≡ contact_of xs r)
     → IsWhole xs → IsWhole ys → IsContactPut name value xs ys
-assembled xs ys name value id here others kept other whole after = record {
-  contacts = changed name_of name value (contact_of xs) (contact_of ys) xs.contacts ys.contacts here others (λ r was now e. reads-alike xs ys id r kept (other r was now e));
+assembled xs ys name value id here others kept reads whole after = record {
+  contacts = changed name_of name value (contact_of xs) (contact_of ys) xs.contacts ys.contacts here others reads;
   hosts = ap hosts_of kept.rest;
   metas = ap (λ (x : Content). x.metas) kept.rest;
   accounts = ap (λ (x : Content). x.accounts) kept.rest;
@@ -74,21 +74,10 @@ removed-so id number xs m same clear =
 
 module _ (xs ys : Content) (name : List ℕ) (whole : IsWhole xs) (after : IsWhole ys) where
   none_there : filter (contact_table.contact_with_name name) xs.contacts ≡ [] → ys ≡ xs → IsContactPut name None xs ys
-  none_there none same = record {
-    contacts = ap contacts_of same ∙ changed name_of name None (contact_of xs) (contact_of xs) xs.contacts xs.contacts (ap (first_read (contact_of xs)) none) (λ q e. refl) (λ r h k e. refl);
-    hosts = ap hosts_of same;
-    metas = ap (λ (x : Content). x.metas) same;
-    accounts = ap (λ (x : Content). x.accounts) same;
-    domains = ap (λ (x : Content). x.domains) same;
-    host_rows = ap (λ (x : Content). x.hosts) same;
-    addresses = ap (λ (x : Content). x.addresses) same;
-    links = ap (λ (x : Content). x.links) same;
-    lines = ap (λ (x : Content). x.lines) same;
-    messages = ap (λ (x : Content). x.messages) same;
-    transfers = λ id. ap (λ (x : Content). filter (transfer_with_domain id) x.transfers) same;
-    names = names_kept key name_of name xs.contacts ys.contacts whole.keyed.contacts after.keyed.contacts (λ q e. ap (λ (x : Content). filter (contact_table.contact_with_name q) x.contacts) same);
-    whole = (whole, after);
-  }
+  none_there none same =
+      let as_it_is : AreOtherTransfersKept (pos 0) xs xs = record { contacts = λ other e. refl; domains = λ domain. refl; rest = refl } in
+      subst (λ z. IsWhole z → IsContactPut name None xs z) (sym same)
+      (λ still. assembled xs xs name None (pos 0) (ap (first_read (contact_of xs)) none) (λ q e. refl) as_it_is (λ r was now e. refl) whole still) after
 
   removed : (row : contact_table.Contact) → filter (contact_table.contact_with_name name) xs.contacts ≡ row ∷ [] → IsContactRemoved row.id xs ys → IsContactPut name None xs ys
   removed row found gone =
@@ -97,7 +86,7 @@ module _ (xs ys : Content) (name : List ℕ) (whole : IsWhole xs) (after : IsWho
       (ap (first_read (contact_of ys)) (ap (filter (contact_table.contact_with_name name)) gone.contacts ∙ none-removed key name_of name xs.contacts row found whole.keyed.contacts whole.named.contacts))
       (λ q e. ap (filter (contact_table.contact_with_name q)) gone.contacts ∙ others-removed key name_of name xs.contacts row found whole.keyed.contacts q e)
       gone.cleared.others
-      (λ r was now e. apart key name_of xs.contacts row r name whole.keyed.contacts at.0 was at.1 e)
+      (λ r was now e. reads-alike xs ys row.id r gone.cleared.others (apart key name_of xs.contacts row r name whole.keyed.contacts at.0 was at.1 e))
       whole after
 
   pub dropped : (row : Option contact_table.Contact) → filter (contact_table.contact_with_name name) xs.contacts ≡ rows_of row → IsContactDropped row xs ys → IsContactPut name None xs ys
@@ -172,5 +161,5 @@ module _ (xs m ys : Content) (c : Contact) (row : contact_table.Contact) (whole 
       (ap (first_read (contact_of ys)) (only_placed key name_of c.name row xs.contacts ys.contacts rows_now after.keyed.contacts after.named.contacts) ∙ ap (λ o. or_else o None) reads_now)
       rows_now.others
       kept_now
-      (λ r was now e. apart key name_of ys.contacts row r c.name after.keyed.contacts rows_now.there now rows_now.named e)
+      (λ r was now e. reads-alike xs ys row.id r kept_now (apart key name_of ys.contacts row r c.name after.keyed.contacts rows_now.there now rows_now.named e))
       whole after

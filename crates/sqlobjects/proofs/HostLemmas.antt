@@ -1,5 +1,5 @@
 -- What rows of hosts mean after a change.
-use Rattle.std.proofs.Common.{◌≡◌, ℕ, ℤ, pos, Bool, true, false, List, [], ◌∷◌, ◌++◌, filter, Option, Some, None, refl, sym, ap, subst, ◌∙◌, int_eq}
+use Rattle.std.proofs.Common.{◌≡◌, ℕ, ℤ, pos, false, List, [], ◌∷◌, ◌++◌, filter, Option, Some, None, refl, sym, ap, subst, ◌∙◌, int_eq}
 use Rattle.rows.specs.Layouts.{appended}
 use Rattle.sqlite_keyed.specs.Keyed.{insert_by, next_key}
 use Rattle.sqlite_keyed.specs.Lists.{delete_where}
@@ -7,7 +7,7 @@ use Rattle.sqlite_rules.specs.Lists.{Has}
 use Rattle.sqlite_typed.specs.Tests.{bytes_eq}
 use Rattle.objects.specs.declared.host.Host.{Host}
 use Rattle.objects.specs.declared.roid.ObjectKind.TheVariants as kinds
-use Rattle.columns.specs.Hosts.{IsHost, host_in, host_row, row_with}
+use Rattle.columns.specs.Hosts.{IsHost, host_in, row_with}
 use Rattle.columns.specs.Roids.{roid_columns}
 use Rattle.columns.specs.Steps.{◌>>=◌}
 use Rattle.columns.proofs.HostLemmas.{host_back}
@@ -17,7 +17,7 @@ use Rattle.tables.specs.Host as host_table
 use Rattle.tables.specs.Whole.{IsWhole}
 use Rattle.meanings.specs.Read.{first_read, or_else, rows_of}
 use Rattle.sqlobjects.specs.Changes.{IsHostPut}
-use Rattle.sqlobjects.specs.Objects.{addresses_of, contacts_of, host_of, hosts_of}
+use Rattle.sqlobjects.specs.Objects.{addresses_of, contacts_of, host_of}
 use Rattle.sqlobjects.specs.Stages.{AreAddressesPut, AreOtherAddressesKept, AreOthersKept, IsHostAdded, IsHostDropped, IsHostPlaced, IsHostPlacedAt, IsHostRemoved, IsHostRow, IsPlaced}
 use Rattle.sqlobjects.proofs.PutLemmas.{apart, changed, found-added, names_kept, none-removed, only_placed, others-removed, placed-added, placed-put, row_there}
 
@@ -36,10 +36,10 @@ assembled : (xs ys : Content) (name : List ℕ) (value : Option Host) (id : ℤ)
     → first_read (host_of ys) (filter (host_table.host_with_name name) ys.hosts) ≡ value
     → AreOthersKept name_of name xs.hosts ys.hosts
     → AreOtherAddressesKept id xs (record ys { hosts = xs.hosts })
-    → ((r : host_table.Host) → Has xs.hosts r → Has ys.hosts r → bytes_eq r.name name ≡ false → int_eq id r.id ≡ false)
+    → ((r : host_table.Host) → Has xs.hosts r → Has ys.hosts r → bytes_eq r.name name ≡ false → host_of ys r ≡ host_of xs r)
     → IsWhole xs → IsWhole ys → IsHostPut name value xs ys
-assembled xs ys name value id here others kept other whole after = record {
-  hosts = changed name_of name value (host_of xs) (host_of ys) xs.hosts ys.hosts here others (λ r was now e. reads-alike xs ys id r kept (other r was now e));
+assembled xs ys name value id here others kept reads whole after = record {
+  hosts = changed name_of name value (host_of xs) (host_of ys) xs.hosts ys.hosts here others reads;
   contacts = ap contacts_of kept.rest;
   metas = ap (λ (x : Content). x.metas) kept.rest;
   accounts = ap (λ (x : Content). x.accounts) kept.rest;
@@ -67,20 +67,10 @@ removed-so id number xs m same clear =
 
 module _ (xs ys : Content) (name : List ℕ) (whole : IsWhole xs) (after : IsWhole ys) where
   none_there : filter (host_table.host_with_name name) xs.hosts ≡ [] → ys ≡ xs → IsHostPut name None xs ys
-  none_there none same = record {
-    hosts = ap hosts_of same ∙ changed name_of name None (host_of xs) (host_of xs) xs.hosts xs.hosts (ap (first_read (host_of xs)) none) (λ q e. refl) (λ r h k e. refl);
-    contacts = ap contacts_of same;
-    metas = ap (λ (x : Content). x.metas) same;
-    accounts = ap (λ (x : Content). x.accounts) same;
-    contact_rows = ap (λ (x : Content). x.contacts) same;
-    domains = ap (λ (x : Content). x.domains) same;
-    links = ap (λ (x : Content). x.links) same;
-    lines = ap (λ (x : Content). x.lines) same;
-    messages = ap (λ (x : Content). x.messages) same;
-    transfers = ap (λ (x : Content). x.transfers) same;
-    names = names_kept key name_of name xs.hosts ys.hosts whole.keyed.hosts after.keyed.hosts (λ q e. ap (λ (x : Content). filter (host_table.host_with_name q) x.hosts) same);
-    whole = (whole, after);
-  }
+  none_there none same =
+      let as_it_is : AreOtherAddressesKept (pos 0) xs xs = record { hosts = λ other e. refl; rest = refl } in
+      subst (λ z. IsWhole z → IsHostPut name None xs z) (sym same)
+      (λ still. assembled xs xs name None (pos 0) (ap (first_read (host_of xs)) none) (λ q e. refl) as_it_is (λ r was now e. refl) whole still) after
 
   removed : (row : host_table.Host) → filter (host_table.host_with_name name) xs.hosts ≡ row ∷ [] → IsHostRemoved row.id xs ys → IsHostPut name None xs ys
   removed row found gone =
@@ -89,7 +79,7 @@ module _ (xs ys : Content) (name : List ℕ) (whole : IsWhole xs) (after : IsWho
       (ap (first_read (host_of ys)) (ap (filter (host_table.host_with_name name)) gone.hosts ∙ none-removed key name_of name xs.hosts row found whole.keyed.hosts whole.named.hosts))
       (λ q e. ap (filter (host_table.host_with_name q)) gone.hosts ∙ others-removed key name_of name xs.hosts row found whole.keyed.hosts q e)
       gone.cleared.others
-      (λ r was now e. apart key name_of xs.hosts row r name whole.keyed.hosts at.0 was at.1 e)
+      (λ r was now e. reads-alike xs ys row.id r gone.cleared.others (apart key name_of xs.hosts row r name whole.keyed.hosts at.0 was at.1 e))
       whole after
 
   pub dropped : (row : Option host_table.Host) → filter (host_table.host_with_name name) xs.hosts ≡ rows_of row → IsHostDropped row xs ys → IsHostPut name None xs ys
@@ -165,5 +155,5 @@ module _ (xs m ys : Content) (h : Host) (row : host_table.Host) (whole : IsWhole
       (ap (first_read (host_of ys)) (only_placed key name_of h.name row xs.hosts ys.hosts rows_now after.keyed.hosts after.named.hosts) ∙ ap (λ o. or_else o None) reads_now)
       rows_now.others
       kept_now
-      (λ r was now e. apart key name_of ys.hosts row r h.name after.keyed.hosts rows_now.there now rows_now.named e)
+      (λ r was now e. reads-alike xs ys row.id r kept_now (apart key name_of ys.hosts row r h.name after.keyed.hosts rows_now.there now rows_now.named e))
       whole after

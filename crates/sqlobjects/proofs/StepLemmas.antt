@@ -57,4 +57,4 @@ became-whole first second way always a b c one two before after is = record {
 
 -- nothing yet
 pub stood : {C : Type 0} (way : C → C → Type 0) (a : StateOf C) → a.is_open ≡ true → way a.content a.content → Became way a a
-stood way a open_ is = record { clean = λ e. e; before = λ e. refl; opened = open_; content = λ e. is }
+stood way a begun is = record { clean = λ e. e; before = λ e. refl; opened = begun; content = λ e. is }

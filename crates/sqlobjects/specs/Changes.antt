@@ -1,5 +1,5 @@
 -- What calls make of contacts and hosts.
-use Rattle.std.specs.Prelude.{◌≡◌, ℕ, ℤ, List, filter, Option, Some, None, option_map, Result, Ok, Err}
+use Rattle.std.specs.Prelude.{◌≡◌, ℕ, ℤ, List, filter, Option, Some, None, option_map}
 use Rattle.std.specs.Cmp.Lexicographic.{slice_cmp}
 use Rattle.std.specs.FinMap.{FinMap, insert, remove}
 use Rattle.std.specs.Ordering.{nat_cmp}

@@ -1,6 +1,10 @@
 //! Contacts and hosts over the store of rows: what rows mean is said in `specs/Objects.antt`, and each
-//! call answers from the rows that its name or number finds, or refuses (`BookFault::Store`) where one of
-//! them doesn't read.
+//! question answers from the rows that its name or number finds, or refuses (`BookFault::Store`) where
+//! one of them doesn't read.
+//!
+//! Each change writes the row of one name and its children: a contact's transfer, a host's addresses
+//! (`specs/Changes.antt`). An object that wouldn't be read back is refused. What else stands is as it
+//! was, and no number leads to another name than before.
 #![tactic(auto)]
 
 mod addresses;

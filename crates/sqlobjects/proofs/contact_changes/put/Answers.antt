@@ -1,6 +1,5 @@
 use Rattle.std.proofs.Common.{Some}
 use Rattle.tables.specs.Whole.{IsWhole}
-use Rattle.meanings.proofs.StateLemmas.{then-became}
 use Rattle.sqlobjects.specs.Changes.{IsContactPut}
 use Rattle.sqlobjects.specs.Stages.{IsContactPlaced, IsTransferPut}
 use Rattle.sqlobjects.proofs.ContactLemmas.{contact-put}

@@ -1,4 +1,3 @@
-use Rattle.std.proofs.Common.{◌≡◌}
 use Rattle.tables.specs.Whole.{IsWhole}
 use Rattle.sqlobjects.specs.Stages.{IsContactPlaced, IsContactPlacedAt}
 use Rattle.sqlobjects.proofs.StepLemmas.{asked-brings}
