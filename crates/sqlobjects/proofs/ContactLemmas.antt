@@ -3,8 +3,6 @@ use Rattle.std.proofs.Common.{◌≡◌, ℕ, ℤ, pos, false, List, [], ◌∷�
 use Rattle.rows.specs.Layouts.{appended}
 use Rattle.sqlite_keyed.specs.Keyed.{insert_by, next_key}
 use Rattle.sqlite_keyed.specs.Lists.{delete_where}
-use Rattle.sqlite_rules.specs.Lists.{Has}
-use Rattle.sqlite_typed.specs.Tests.{bytes_eq}
 use Rattle.objects.specs.declared.contact.Contact.{Contact}
 use Rattle.objects.specs.declared.roid.ObjectKind.TheVariants as kinds
 use Rattle.objects.specs.declared.transfer.Transfer.{Transfer}
@@ -17,11 +15,11 @@ use Rattle.tables.specs.Contact as contact_table
 use Rattle.tables.specs.Content.{Content, contacts_to}
 use Rattle.tables.specs.Transfer.{transfer_with_contact, transfer_with_domain}
 use Rattle.tables.specs.Whole.{IsWhole}
-use Rattle.meanings.specs.Read.{first_read, or_else, rows_of}
-use Rattle.sqlobjects.specs.Changes.{IsContactPut}
-use Rattle.sqlobjects.specs.Objects.{contact_of, hosts_of, last_transfer}
+use Rattle.meanings.specs.Read.{rows_of}
+use Rattle.sqlobjects.specs.Changes.{IsContactPut, put}
+use Rattle.sqlobjects.specs.Objects.{contact_of, contacts_of, hosts_of, last_transfer}
 use Rattle.sqlobjects.specs.Stages.{AreOtherTransfersKept, AreOthersKept, IsContactAdded, IsContactDropped, IsContactPlaced, IsContactPlacedAt, IsContactRemoved, IsPlaced, IsTransferCleared, IsTransferPut}
-use Rattle.sqlobjects.proofs.PutLemmas.{apart, changed, found-added, names_kept, none-removed, only_placed, others-removed, placed-added, placed-put, row_there}
+use Rattle.sqlobjects.proofs.PutLemmas.{drop-stands, found-added, map_of, names_kept, none-stands, others-removed, placed-added, placed-put, put-stands}
 
 abbrev name_of : contact_table.Contact → List ℕ
 name_of row = row.name
@@ -33,15 +31,11 @@ key = contact_table.contacts.key
 reads-alike : (xs ys : Content) (id : ℤ) (r : contact_table.Contact) → AreOtherTransfersKept id xs (record ys { contacts = xs.contacts }) → int_eq id r.id ≡ false → contact_of ys r ≡ contact_of xs r
 reads-alike xs ys id r kept other = λ i. last_transfer (kept.contacts r.id other i) >>= (λ transfer. contact_in r transfer)
 
--- What the two lists of rows show, and the transfers, is all that a change of contacts needs.
-assembled : (xs ys : Content) (name : List ℕ) (value : Option Contact) (id : ℤ)
-    → first_read (contact_of ys) (filter (contact_table.contact_with_name name) ys.contacts) ≡ value
-    → AreOthersKept name_of name xs.contacts ys.contacts
-    → AreOtherTransfersKept id xs (record ys { contacts = xs.contacts })
-    → ((r : contact_table.Contact) → Has xs.contacts r → Has ys.contacts r → bytes_eq r.name name ≡ false → contact_of ys r ≡ contact_of xs r)
-    → IsWhole xs → IsWhole ys → IsContactPut name value xs ys
-assembled xs ys name value id here others kept reads whole after = record {
-  contacts = changed name_of name value (contact_of xs) (contact_of ys) xs.contacts ys.contacts here others reads;
+-- what else a change of contacts leaves
+assembled : (xs ys : Content) (name : List ℕ) (value : Option Contact) (id : ℤ) → contacts_of ys ≡ put (contacts_of xs) name value → AreOthersKept name_of name xs.contacts ys.contacts
+    → AreOtherTransfersKept id xs (record ys { contacts = xs.contacts }) → IsWhole xs → IsWhole ys → IsContactPut name value xs ys
+assembled xs ys name value id stands others kept whole after = record {
+  contacts = stands;
   hosts = ap hosts_of kept.rest;
   metas = ap (λ (x : Content). x.metas) kept.rest;
   accounts = ap (λ (x : Content). x.accounts) kept.rest;
@@ -77,16 +71,14 @@ module _ (xs ys : Content) (name : List ℕ) (whole : IsWhole xs) (after : IsWho
   none_there none same =
       let as_it_is : AreOtherTransfersKept (pos 0) xs xs = record { contacts = λ other e. refl; domains = λ domain. refl; rest = refl } in
       subst (λ z. IsWhole z → IsContactPut name None xs z) (sym same)
-      (λ still. assembled xs xs name None (pos 0) (ap (first_read (contact_of xs)) none) (λ q e. refl) as_it_is (λ r was now e. refl) whole still) after
+      (λ still. assembled xs xs name None (pos 0) (none-stands name_of (contact_of xs) name xs.contacts none) (λ q e. refl) as_it_is whole still) after
 
   removed : (row : contact_table.Contact) → filter (contact_table.contact_with_name name) xs.contacts ≡ row ∷ [] → IsContactRemoved row.id xs ys → IsContactPut name None xs ys
-  removed row found gone =
-      let at = row_there key name_of name xs.contacts row found in
-      assembled xs ys name None row.id
-      (ap (first_read (contact_of ys)) (ap (filter (contact_table.contact_with_name name)) gone.contacts ∙ none-removed key name_of name xs.contacts row found whole.keyed.contacts whole.named.contacts))
+  removed row found gone = assembled xs ys name None row.id
+      (ap (map_of name_of (contact_of ys)) gone.contacts
+      ∙ drop-stands key name_of (contact_of xs) (contact_of ys) name row xs.contacts found whole.keyed.contacts whole.named.contacts (λ r was e. reads-alike xs ys row.id r gone.cleared.others e))
       (λ q e. ap (filter (contact_table.contact_with_name q)) gone.contacts ∙ others-removed key name_of name xs.contacts row found whole.keyed.contacts q e)
       gone.cleared.others
-      (λ r was now e. reads-alike xs ys row.id r gone.cleared.others (apart key name_of xs.contacts row r name whole.keyed.contacts at.0 was at.1 e))
       whole after
 
   pub dropped : (row : Option contact_table.Contact) → filter (contact_table.contact_with_name name) xs.contacts ≡ rows_of row → IsContactDropped row xs ys → IsContactPut name None xs ys
@@ -158,8 +150,7 @@ module _ (xs m ys : Content) (c : Contact) (row : contact_table.Contact) (whole 
 
   pub contact-put : IsContactPut c.name (Some c) xs ys
   contact-put = assembled xs ys c.name (Some c) row.id
-      (ap (first_read (contact_of ys)) (only_placed key name_of c.name row xs.contacts ys.contacts rows_now after.keyed.contacts after.named.contacts) ∙ ap (λ o. or_else o None) reads_now)
+      (put-stands key name_of (contact_of xs) (contact_of ys) c.name row c xs.contacts ys.contacts rows_now after.keyed.contacts after.named.contacts reads_now (λ r was now e. reads-alike xs ys row.id r kept_now e))
       rows_now.others
       kept_now
-      (λ r was now e. reads-alike xs ys row.id r kept_now (apart key name_of ys.contacts row r c.name after.keyed.contacts rows_now.there now rows_now.named e))
       whole after

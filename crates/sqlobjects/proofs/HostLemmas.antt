@@ -3,8 +3,6 @@ use Rattle.std.proofs.Common.{◌≡◌, ℕ, ℤ, pos, false, List, [], ◌∷�
 use Rattle.rows.specs.Layouts.{appended}
 use Rattle.sqlite_keyed.specs.Keyed.{insert_by, next_key}
 use Rattle.sqlite_keyed.specs.Lists.{delete_where}
-use Rattle.sqlite_rules.specs.Lists.{Has}
-use Rattle.sqlite_typed.specs.Tests.{bytes_eq}
 use Rattle.objects.specs.declared.host.Host.{Host}
 use Rattle.objects.specs.declared.roid.ObjectKind.TheVariants as kinds
 use Rattle.columns.specs.Hosts.{IsHost, host_in, row_with}
@@ -15,11 +13,11 @@ use Rattle.columns.proofs.ReadLemmas.{same_some, step}
 use Rattle.tables.specs.Content.{Content, hosts_to}
 use Rattle.tables.specs.Host as host_table
 use Rattle.tables.specs.Whole.{IsWhole}
-use Rattle.meanings.specs.Read.{first_read, or_else, rows_of}
-use Rattle.sqlobjects.specs.Changes.{IsHostPut}
-use Rattle.sqlobjects.specs.Objects.{addresses_of, contacts_of, host_of}
+use Rattle.meanings.specs.Read.{rows_of}
+use Rattle.sqlobjects.specs.Changes.{IsHostPut, put}
+use Rattle.sqlobjects.specs.Objects.{addresses_of, contacts_of, host_of, hosts_of}
 use Rattle.sqlobjects.specs.Stages.{AreAddressesPut, AreOtherAddressesKept, AreOthersKept, IsHostAdded, IsHostDropped, IsHostPlaced, IsHostPlacedAt, IsHostRemoved, IsHostRow, IsPlaced}
-use Rattle.sqlobjects.proofs.PutLemmas.{apart, changed, found-added, names_kept, none-removed, only_placed, others-removed, placed-added, placed-put, row_there}
+use Rattle.sqlobjects.proofs.PutLemmas.{drop-stands, found-added, map_of, names_kept, none-stands, others-removed, placed-added, placed-put, put-stands}
 
 abbrev name_of : host_table.Host → List ℕ
 name_of row = row.name
@@ -31,15 +29,11 @@ key = host_table.hosts.key
 reads-alike : (xs ys : Content) (id : ℤ) (r : host_table.Host) → AreOtherAddressesKept id xs (record ys { hosts = xs.hosts }) → int_eq id r.id ≡ false → host_of ys r ≡ host_of xs r
 reads-alike xs ys id r kept other = ap (host_in r) (kept.hosts r.id other)
 
--- What the two lists of rows show, and the addresses, is all that a change of hosts needs.
-assembled : (xs ys : Content) (name : List ℕ) (value : Option Host) (id : ℤ)
-    → first_read (host_of ys) (filter (host_table.host_with_name name) ys.hosts) ≡ value
-    → AreOthersKept name_of name xs.hosts ys.hosts
-    → AreOtherAddressesKept id xs (record ys { hosts = xs.hosts })
-    → ((r : host_table.Host) → Has xs.hosts r → Has ys.hosts r → bytes_eq r.name name ≡ false → host_of ys r ≡ host_of xs r)
-    → IsWhole xs → IsWhole ys → IsHostPut name value xs ys
-assembled xs ys name value id here others kept reads whole after = record {
-  hosts = changed name_of name value (host_of xs) (host_of ys) xs.hosts ys.hosts here others reads;
+-- what else a change of hosts leaves
+assembled : (xs ys : Content) (name : List ℕ) (value : Option Host) (id : ℤ) → hosts_of ys ≡ put (hosts_of xs) name value → AreOthersKept name_of name xs.hosts ys.hosts
+    → AreOtherAddressesKept id xs (record ys { hosts = xs.hosts }) → IsWhole xs → IsWhole ys → IsHostPut name value xs ys
+assembled xs ys name value id stands others kept whole after = record {
+  hosts = stands;
   contacts = ap contacts_of kept.rest;
   metas = ap (λ (x : Content). x.metas) kept.rest;
   accounts = ap (λ (x : Content). x.accounts) kept.rest;
@@ -70,16 +64,14 @@ module _ (xs ys : Content) (name : List ℕ) (whole : IsWhole xs) (after : IsWho
   none_there none same =
       let as_it_is : AreOtherAddressesKept (pos 0) xs xs = record { hosts = λ other e. refl; rest = refl } in
       subst (λ z. IsWhole z → IsHostPut name None xs z) (sym same)
-      (λ still. assembled xs xs name None (pos 0) (ap (first_read (host_of xs)) none) (λ q e. refl) as_it_is (λ r was now e. refl) whole still) after
+      (λ still. assembled xs xs name None (pos 0) (none-stands name_of (host_of xs) name xs.hosts none) (λ q e. refl) as_it_is whole still) after
 
   removed : (row : host_table.Host) → filter (host_table.host_with_name name) xs.hosts ≡ row ∷ [] → IsHostRemoved row.id xs ys → IsHostPut name None xs ys
-  removed row found gone =
-      let at = row_there key name_of name xs.hosts row found in
-      assembled xs ys name None row.id
-      (ap (first_read (host_of ys)) (ap (filter (host_table.host_with_name name)) gone.hosts ∙ none-removed key name_of name xs.hosts row found whole.keyed.hosts whole.named.hosts))
+  removed row found gone = assembled xs ys name None row.id
+      (ap (map_of name_of (host_of ys)) gone.hosts
+      ∙ drop-stands key name_of (host_of xs) (host_of ys) name row xs.hosts found whole.keyed.hosts whole.named.hosts (λ r was e. reads-alike xs ys row.id r gone.cleared.others e))
       (λ q e. ap (filter (host_table.host_with_name q)) gone.hosts ∙ others-removed key name_of name xs.hosts row found whole.keyed.hosts q e)
       gone.cleared.others
-      (λ r was now e. reads-alike xs ys row.id r gone.cleared.others (apart key name_of xs.hosts row r name whole.keyed.hosts at.0 was at.1 e))
       whole after
 
   pub dropped : (row : Option host_table.Host) → filter (host_table.host_with_name name) xs.hosts ≡ rows_of row → IsHostDropped row xs ys → IsHostPut name None xs ys
@@ -152,8 +144,7 @@ module _ (xs m ys : Content) (h : Host) (row : host_table.Host) (whole : IsWhole
 
   pub host-put : IsHostPut h.name (Some h) xs ys
   host-put = assembled xs ys h.name (Some h) row.id
-      (ap (first_read (host_of ys)) (only_placed key name_of h.name row xs.hosts ys.hosts rows_now after.keyed.hosts after.named.hosts) ∙ ap (λ o. or_else o None) reads_now)
+      (put-stands key name_of (host_of xs) (host_of ys) h.name row h xs.hosts ys.hosts rows_now after.keyed.hosts after.named.hosts reads_now (λ r was now e. reads-alike xs ys row.id r kept_now e))
       rows_now.others
       kept_now
-      (λ r was now e. reads-alike xs ys row.id r kept_now (apart key name_of ys.hosts row r h.name after.keyed.hosts rows_now.there now rows_now.named e))
       whole after

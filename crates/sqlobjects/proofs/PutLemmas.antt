@@ -247,7 +247,7 @@ get-put m n None q = get-remove nat_list_cmp_total m n q
 get-put m n (Some x) q = get-insert nat_list_cmp_total m n x q
 
 module _ {P X : Type 0} (name : P → List ℕ) where
-  abbrev map_of : (P → Option X) → List P → FinMap (slice_cmp nat_cmp) X
+  abbrev pub map_of : (P → Option X) → List P → FinMap (slice_cmp nat_cmp) X
   map_of read rows = from_entries (entries_of name read rows)
 
   reads_alike : (f g : P → Option X) (rows : List P) → ((r : P) → Has rows r → g r ≡ f r) → first_read g rows ≡ first_read f rows
@@ -279,3 +279,26 @@ module _ {P X : Type 0} (name : P → List ℕ) where
           ∙ ap (first_read f) (others q e)
           ∙ stands name f q old
           ∙ sym (ap (λ b. cond b value (get (map_of f old) q)) e)
+
+module _ {P X : Type 0} (key : P → ℤ) (name : P → List ℕ) (f g : P → Option X) (n : List ℕ) (row : P) where
+  -- a row was put or added that reads as this, and each with another number reads as before
+  pub put-stands : (x : X) (old new : List P) → IsPlaced name n row old new → IsKeyedBy key new → IsNamedBy name new → g row ≡ Some x
+      → ((r : P) → Has old r → Has new r → int_eq (key row) (key r) ≡ false → g r ≡ f r) → map_of name g new ≡ put (map_of name f old) n (Some x)
+  put-stands x old new placed up names reads same = changed name n (Some x) f g old new
+      (ap (first_read g) (only_placed key name n row old new placed up names) ∙ ap (λ o. or_else o None) reads)
+      placed.others
+      (λ r was now e. same r was now (apart key name new row r n up placed.there now placed.named e))
+
+  -- the row of a name was removed, and each with another number reads as before
+  pub drop-stands : (old : List P) → filter (λ r. bytes_eq (name r) n) old ≡ row ∷ [] → IsKeyedBy key old → IsNamedBy name old
+      → ((r : P) → Has old r → int_eq (key row) (key r) ≡ false → g r ≡ f r) → map_of name g (delete_where (λ x. int_eq (key x) (key row)) old) ≡ put (map_of name f old) n None
+  drop-stands old found up names same =
+      let at = row_there key name n old row found in
+      changed name n None f g old (delete_where (λ x. int_eq (key x) (key row)) old)
+      (ap (first_read g) (none-removed key name n old row found up names))
+      (others-removed key name n old row found up)
+      (λ r was now e. same r was (apart key name old row r n up at.0 was at.1 e))
+
+-- no row has the name
+pub none-stands : {P X : Type 0} (name : P → List ℕ) (f : P → Option X) (n : List ℕ) (rows : List P) → filter (λ r. bytes_eq (name r) n) rows ≡ [] → map_of name f rows ≡ put (map_of name f rows) n None
+none-stands name f n rows none = changed name n None f f rows rows (ap (first_read f) none) (λ q e. refl) (λ r was now e. refl)
