@@ -9,7 +9,9 @@ mod account;
 mod counting;
 mod line;
 mod message;
+mod paying;
+mod writing;
 
 pub use counting::{Counters, counts, set_counters};
-pub use line::balance;
+pub use line::{add_line, balance};
 pub use message::waiting;

@@ -1,14 +1,21 @@
 //! Lines of accounts, and what they add up to.
-ghost use Rattle.std.specs.Prelude.{◌≡◌, pos};
+ghost use Rattle.std.specs.Prelude.{◌≡◌, true, pos};
 ghost use Rattle.std.specs.FinMap.{get};
 ghost use Rattle.std.specs.Option.{option_map_or, unwrap_or};
 ghost use Rattle.tables.specs.Account.{Account};
 ghost use Rattle.accounts.specs.Account.{empty_account};
+ghost use Rattle.accounts.specs.Entries.{with_lines};
 ghost use Rattle.accounts.specs.Lines as lines;
+ghost use Rattle.accounts.specs.Lines.{in_order};
+ghost use Rattle.basis.specs.Bag.{add};
 ghost use Rattle.sqlaccounts.specs.Accounts.{accounts_of, balance_in, sums_are_right};
-ghost use Rattle.meanings.specs.Calls.{Tells};
+ghost use Rattle.sqlaccounts.specs.Changes.{IsChange};
+ghost use Rattle.meanings.specs.Calls.{Tells, Turns};
 
-use crate::account::maybe_row;
+use crate::account::{found_row, maybe_row};
+use crate::paying::paid;
+use crate::writing::written;
+use accounts::Line;
 use basis::registrar::RegistrarNo;
 use sqlite::Alter;
 use tables::{AccountRow, RowStore};
@@ -29,4 +36,22 @@ fn cents_of(row: Option<AccountRow>) -> i128
         return 0;
     };
     i128::from_be_bytes(row.balance)
+}
+
+/// Adds a line to a registrar's account. One that was never opened is refused, and so is a line on
+/// another object than a domain.
+pub fn add_line<S: Alter>(
+    store: &mut RowStore<S>,
+    registrar: RegistrarNo,
+    line: Line,
+) -> Result<(), BookFault>
+    requires { store.old.is_open ≡ true }
+    ensures { Turns result (IsChange registrar (with_lines (add in_order line))) store.old store.new }
+{
+    let row = found_row(store, registrar)?;
+    let row = paid(row, line.amount())?;
+    let line = written(registrar, &line)?;
+    store.put_account(&row)?;
+    store.append_line(&line)?;
+    Ok(())
 }
