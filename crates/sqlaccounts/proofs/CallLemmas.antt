@@ -3,9 +3,7 @@ use Rattle.std.proofs.Common.{◌≡◌, true, sym, ap, subst, ◌∙◌}
 use Rattle.transactions.specs.States.{Reads, StateOf, Writes}
 use Rattle.sqlite_keyed.specs.Keyed.{insert_by}
 use Rattle.tables.specs.Account.{Account, accounts}
-use Rattle.tables.specs.Content.{Content, accounts_to, lines_to}
-use Rattle.tables.specs.Line.{Line, lines}
-use Rattle.rows.specs.Layouts.{appended}
+use Rattle.tables.specs.Content.{Content, accounts_to}
 use Rattle.meanings.specs.Calls.{Became}
 use Rattle.meanings.proofs.StateLemmas.{then-made}
 
@@ -17,14 +15,21 @@ then-put row new way a b c reads same makes is =
     then-made (accounts_to (λ rows. insert_by accounts.key rows row)) way a b c reads makes
     (λ e. subst (λ r. way a.content (accounts_to (λ rows. insert_by accounts.key rows r) a.content)) (sym same) (is e))
 
--- a row of account is put, and one of line added
-pub then-added : (row : Account) (line : Line) (way : Content → Content → Type 0) (a b c d : StateOf Content)
-    → Reads a b → Writes (accounts_to (λ rows. insert_by accounts.key rows row) b.content) b c → Writes (lines_to (appended lines (λ id. record line { id = id })) c.content) c d
-    → (b.is_clean ≡ true → way a.content (lines_to (appended lines (λ id. record line { id = id })) (accounts_to (λ rows. insert_by accounts.key rows row) a.content))) → Became way a d
-then-added row line way a b c d reads puts adds is = record {
-  clean = λ e. reads.clean (puts.clean (adds.clean e));
-  before = λ e. adds.before e ∙ puts.before (adds.clean e) ∙ reads.before (puts.clean (adds.clean e));
-  opened = adds.opened;
-  content = λ e. subst (way a.content) (sym (adds.content e ∙ ap (lines_to (appended lines (λ id. record line { id = id })))
-      (puts.content (adds.clean e) ∙ ap (accounts_to (λ rows. insert_by accounts.key rows row)) (reads.content (puts.clean (adds.clean e)))))) (is (puts.clean (adds.clean e)));
+-- two changes of what was looked at before
+pub then-twice : {C : Type 0} (h k : C → C) (way : C → C → Type 0) (a b c d : StateOf C)
+    → Reads a b → Writes (h b.content) b c → Writes (k c.content) c d → (b.is_clean ≡ true → way a.content (k (h a.content))) → Became way a d
+then-twice h k way a b c d reads one two is = record {
+  clean = λ e. reads.clean (one.clean (two.clean e));
+  before = λ e. two.before e ∙ one.before (two.clean e) ∙ reads.before (one.clean (two.clean e));
+  opened = two.opened;
+  content = λ e. subst (way a.content) (sym (two.content e ∙ ap k (one.content (two.clean e) ∙ ap h (reads.content (one.clean (two.clean e)))))) (is (one.clean (two.clean e)));
+}
+
+-- nothing is changed
+pub then-kept : {C : Type 0} (way : C → C → Type 0) (a b : StateOf C) → Reads a b → a.is_open ≡ true → (b.is_clean ≡ true → way a.content a.content) → Became way a b
+then-kept way a b reads begun is = record {
+  clean = reads.clean;
+  before = reads.before;
+  opened = reads.opened ∙ begun;
+  content = λ e. subst (way a.content) (sym (reads.content e)) (is e);
 }

@@ -25,6 +25,7 @@ use Rattle.tables.specs.Line.{line_with_account}
 use Rattle.sqlaccounts.specs.Accounts.{account_in, balance_in, is_right, lines_of, queue_of, row_of, standing}
 use Rattle.sqlaccounts.specs.Changes.{IsChange, IsPaid, IsWritten}
 use Rattle.sqlaccounts.proofs.AccountLemmas.{changed}
+use Rattle.sqlaccounts.proofs.FindingLemmas.{equal}
 
 -- ---- written
 
@@ -39,9 +40,6 @@ account_written id account line row e = account_of account row (domain_columns l
 
 -- ---- one line more
 
-equal : (a b : ℤ) → a ≡ b → int_eq a b ≡ true
-equal a b e = ap (λ z. int_eq z b) e ∙ ap is_eq (tied_itself int_cmp_total b)
-
 back_from : (x y a : ℤ) → x +ℤ a ≡ a +ℤ y → x ≡ y
 back_from x y a e = omega (arith, ints, e)
 
@@ -49,7 +47,7 @@ there_to : (x y a : ℤ) → x ≡ y → x +ℤ a ≡ a +ℤ y
 there_to x y a e = omega (arith, ints, e)
 
 -- two sums to which the same is added
-shifted : (x y a : ℤ) (b : Bool) → int_eq x y ≡ b → int_eq (x +ℤ a) (a +ℤ y) ≡ b
+pub shifted : (x y a : ℤ) (b : Bool) → int_eq x y ≡ b → int_eq (x +ℤ a) (a +ℤ y) ≡ b
 shifted x y a true e = equal _ _ (there_to x y a (same_int x y e))
 shifted x y a false e = int_eq_apart _ _ (λ s. true≢false (sym (equal x y (back_from x y a s)) ∙ e))
 

@@ -3,6 +3,8 @@ use Rattle.std.specs.Prelude.{◌≡◌, ℕ, ℤ, pos, ◌+ℤ◌, Bool, true, 
 use Rattle.std.specs.FinMap.{FinMap, get, insert}
 use Rattle.std.specs.Option.{option_map_or, unwrap_or}
 use Rattle.std.specs.Ordering.{int_eq, nat_cmp}
+use Rattle.sqlite_keyed.specs.Keyed.{insert_by}
+use Rattle.sqlite_keyed.specs.Lists.{delete_where}
 use Rattle.accounts.specs.declared.account.Account.{Account}
 use Rattle.accounts.specs.Account.{empty_account}
 use Rattle.accounts.specs.declared.line.Line.{Line}
@@ -10,7 +12,7 @@ use Rattle.columns.specs.Lines.{line_in}
 use Rattle.columns.specs.Numbers.{counter_column, counter_in, registrar_column}
 use Rattle.tables.specs.Account as account_table
 use Rattle.tables.specs.Balance.{balance_bytes}
-use Rattle.tables.specs.Content.{Content}
+use Rattle.tables.specs.Content.{Content, accounts_to, lines_to}
 use Rattle.tables.specs.Line as line_table
 use Rattle.sqlaccounts.specs.declared.counting.Counters.{Counters}
 use Rattle.sqlaccounts.specs.Accounts.{accounts_of, balance_in, place_ident, row_of, standing_of, sums_are_right}
@@ -78,9 +80,13 @@ pub record IsCounted (x : Counters) (row changed : account_table.Account) : Type
   pub rest : changed ≡ record row { commands = counter_column x.commands; messages = counter_column x.messages; serial = counter_column x.serial }
   pub back : counted_in changed ≡ x
 
--- ---- one row of line more
+-- ---- one row of line more, or less
 
 -- a row of the account's that reads as this line
 pub record IsWritten (r : ℕ) (line : Line) (row : line_table.Line) : Type 0 where
   pub account : row.account ≡ registrar_column r
   pub reads : line_in row ≡ Some line
+
+-- without the row of line that has this number, and with this row of account in its place
+abbrev pub without_line : ℤ → account_table.Account → Content → Content
+without_line id account xs = accounts_to (λ rows. insert_by account_table.accounts.key rows account) (lines_to (delete_where (line_table.line_with_id id)) xs)

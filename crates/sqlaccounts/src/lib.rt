@@ -7,11 +7,12 @@
 
 mod account;
 mod counting;
+mod finding;
 mod line;
 mod message;
 mod paying;
 mod writing;
 
 pub use counting::{Counters, counts, set_counters};
-pub use line::{add_line, balance};
+pub use line::{add_line, balance, take_line};
 pub use message::waiting;

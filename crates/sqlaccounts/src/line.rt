@@ -7,16 +7,19 @@ ghost use Rattle.accounts.specs.Account.{empty_account};
 ghost use Rattle.accounts.specs.Entries.{with_lines};
 ghost use Rattle.accounts.specs.Lines as lines;
 ghost use Rattle.accounts.specs.Lines.{in_order};
-ghost use Rattle.basis.specs.Bag.{add};
+ghost use Rattle.basis.specs.Bag.{add, taken};
 ghost use Rattle.sqlaccounts.specs.Accounts.{accounts_of, balance_in, sums_are_right};
-ghost use Rattle.sqlaccounts.specs.Changes.{IsChange};
+ghost use Rattle.sqlaccounts.specs.Changes.{IsChange, without_line};
 ghost use Rattle.meanings.specs.Calls.{Tells, Turns};
+ghost use Rattle.transactions.specs.States.{Makes};
 
 use crate::account::{found_row, maybe_row};
-use crate::paying::paid;
+use crate::finding::{number_of_line, rows_about};
+use crate::paying::{less, paid};
 use crate::writing::written;
 use accounts::Line;
 use basis::registrar::RegistrarNo;
+use rows::Number;
 use sqlite::Alter;
 use tables::{AccountRow, RowStore};
 use transactions::BookFault;
@@ -53,5 +56,40 @@ pub fn add_line<S: Alter>(
     let line = written(registrar, &line)?;
     store.put_account(&row)?;
     store.append_line(&line)?;
+    Ok(())
+}
+
+/// Takes a line out of a registrar's account, if it is there. One that was never opened is refused.
+pub fn take_line<S: Alter>(
+    store: &mut RowStore<S>,
+    registrar: RegistrarNo,
+    line: Line,
+) -> Result<(), BookFault>
+    requires { store.old.is_open ≡ true }
+    ensures { Turns result (IsChange registrar (with_lines (taken in_order line))) store.old store.new }
+{
+    let row = found_row(store, registrar)?;
+    let rows = rows_about(store, registrar, &line)?;
+    let Some(number) = number_of_line(rows.as_slice(), &line) else {
+        return Ok(());
+    };
+    let cents = less(line.amount())?;
+    let row = paid(row, cents)?;
+    store.whole();
+    remove(store, number, &row)?;
+    Ok(())
+}
+
+/// Removes the row of a line, and puts its account's row.
+fn remove<S: Alter>(
+    store: &mut RowStore<S>,
+    number: Number,
+    account: &AccountRow,
+) -> Result<(), BookFault>
+    requires { store.old.is_open ≡ true }
+    ensures { Makes result (without_line number account.now store.old.content) store.old store.new }
+{
+    store.remove_lines_by_id(number)?;
+    store.put_account(account)?;
     Ok(())
 }

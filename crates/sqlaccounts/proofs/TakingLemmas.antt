@@ -1,0 +1,144 @@
+-- What one line less means.
+use Rattle.std.proofs.Common.{◌≡◌, ℕ, ℤ, pos, ◌+ℤ◌, ◌-ℤ◌, Bool, true, false, cond, ◌&&◌, length, List, [], ◌∷◌, ◌++◌, filter, find, Option, Some, None, IfSome, refl, sym, ap, subst, ◌∙◌, arith, int_eq}
+use Rattle.std.proofs.lemmas.Int.{ints}
+use Rattle.std.proofs.lemmas.List.Elements.{filter-append, filter_map-append}
+use Rattle.std.specs.Cmp.{Equal-is, nat_cmp_total}
+use Rattle.std.specs.FinMap.{get, get-insert, nat_cmp-IsAntisymmetric, same_map}
+use Rattle.std.specs.List.{cons_option, filter_map, list_any}
+use Rattle.std.specs.Option.{option_map, unwrap_or}
+use Rattle.std.specs.Ordering.{eq_by_cmp, nat_cmp}
+use Rattle.sqlite_keyed.specs.Keyed.{IsKeyedBy}
+use Rattle.sqlite_keyed.proofs.KeyedLemmas.{key-get_by}
+use Rattle.accounts.specs.declared.account.Account.{Account}
+use Rattle.accounts.specs.declared.line.Line.{Line}
+use Rattle.accounts.specs.Account.{empty_account}
+use Rattle.accounts.specs.Entries.{with_lines}
+use Rattle.accounts.specs.Lines.{amount, balance, in_order}
+use Rattle.accounts.proofs.LineLaws.{balance-add, lines_in_order}
+use Rattle.basis.specs.Bag.{add, bag_of, same, taken}
+use Rattle.basis.proofs.BagLaws.{any-bag_of, taken-absent, taken-add}
+use Rattle.columns.specs.Lines.{line_in}
+use Rattle.columns.specs.Numbers.{counter_in, is_place}
+use Rattle.tables.specs.Account as account_table
+use Rattle.tables.specs.Content.{Content}
+use Rattle.tables.specs.Line as table
+use Rattle.tables.specs.Line.{line_with_account}
+use Rattle.tables.specs.Whole.{IsWhole}
+use Rattle.columns.proofs.ReadLemmas.{same_some}
+use Rattle.sqlaccounts.specs.Accounts.{account_in, accounts_of, balance_in, lines_of, queue_of, row_of, standing}
+use Rattle.sqlaccounts.specs.Changes.{IsChange, IsPaid, with_changed, without_line}
+use Rattle.sqlaccounts.specs.Finding.{IsDomainRoid, is_row_about, reads_as}
+use Rattle.sqlaccounts.proofs.AccountLemmas.{changed, get-found}
+use Rattle.sqlaccounts.proofs.BagLemmas.{bag-middle}
+use Rattle.sqlaccounts.proofs.FindingLemmas.{Parts, equal, found, none-there, own-row, parts, reads}
+use Rattle.sqlaccounts.proofs.LineLemmas.{shifted}
+
+-- ---- nothing changed
+
+module _ (xs : Content) (r : ℕ) (f : Account → Account) (row : account_table.Account) (place : is_place r ≡ true) (there : row_of xs (pos r) ≡ Some row) (still : f (account_in xs row) ≡ account_in xs row) where
+  value : Account
+  value = f (unwrap_or (get (accounts_of xs) r) empty_account)
+
+  value_is : get (accounts_of xs) r ≡ Some value
+  unfolding value
+  value_is = get-found xs r row place there ∙ ap Some (sym still ∙ sym (ap (λ a. f (unwrap_or a empty_account)) (get-found xs r row place there)))
+
+  same_at : (q : ℕ) (b : Bool) → eq_by_cmp nat_cmp q r ≡ b → get (accounts_of xs) q ≡ cond b (Some value) (get (accounts_of xs) q)
+  same_at q true e = ap (get (accounts_of xs)) (nat_cmp-IsAntisymmetric q r ((Equal-is (nat_cmp q r)).0 e)) ∙ value_is
+  same_at q false e = refl
+
+  kept_accounts : accounts_of xs ≡ with_changed f (accounts_of xs) r
+  unfolding value
+  kept_accounts = same_map nat_cmp_total nat_cmp-IsAntisymmetric _ _ (λ q. same_at q (eq_by_cmp nat_cmp q r) refl ∙ sym (get-insert nat_cmp_total (accounts_of xs) r value q))
+
+  -- an account that stays as it is
+  pub unchanged : IsChange r f xs xs
+  unchanged = record {
+    there = (account_in xs row, get-found xs r row place there);
+    accounts = kept_accounts;
+    sums = refl;
+    standings = λ id. refl;
+    others = record { metas = refl; contacts = refl; domains = refl; hosts = refl; addresses = refl; links = refl; transfers = refl };
+  }
+
+-- a line that isn't there
+pub not-taken : (xs : Content) (r : ℕ) (line : Line) (row : account_table.Account) → is_place r ≡ true → Some row ≡ row_of xs (pos r) → IfSome line.roid IsDomainRoid
+    → find (reads_as line) (filter (is_row_about r line.roid) xs.lines) ≡ None → IsChange r (with_lines (taken in_order line)) xs xs
+not-taken xs r line row place there is none =
+    let at : row.id ≡ pos r = key-get_by account_table.accounts.key xs.accounts (pos r) row (sym there) in
+    let absent : taken in_order line (lines_of xs row.id) ≡ lines_of xs row.id =
+        taken-absent in_order line (lines_of xs row.id) (ap (λ k. list_any (same in_order line) (lines_of xs k)) at ∙ any-bag_of in_order (same in_order line) _ ∙ none-there r line xs.lines is none) in
+    unchanged xs r (with_lines (taken in_order line)) row place (sym there) (ap (λ ls. record (account_in xs row) { lines = ls }) absent)
+
+-- ---- one row less
+
+skip : (p : table.Line → Bool) (front rest : List table.Line) (x : table.Line) → p x ≡ false → filter p (front ++ x ∷ rest) ≡ filter p (front ++ rest)
+skip p front rest x e =
+    filter-append p front (x ∷ rest) ∙ ap (λ b. filter p front ++ cond b (x ∷ filter p rest) (filter p rest)) e ∙ sym (filter-append p front rest)
+
+less : (p : table.Line → Bool) (front rest : List table.Line) (x : table.Line) (line : Line) → p x ≡ true → line_in x ≡ Some line
+    → bag_of in_order (filter_map line_in (filter p (front ++ x ∷ rest))) ≡ add in_order line (bag_of in_order (filter_map line_in (filter p (front ++ rest))))
+less p front rest x line e reads =
+    ap (λ ls. bag_of in_order (filter_map line_in ls)) (filter-append p front (x ∷ rest) ∙ ap (λ b. filter p front ++ cond b (x ∷ filter p rest) (filter p rest)) e)
+    ∙ ap (bag_of in_order) (filter_map-append line_in (filter p front) (x ∷ filter p rest) ∙ ap (λ o. filter_map line_in (filter p front) ++ cons_option o (filter_map line_in (filter p rest))) reads)
+    ∙ bag-middle in_order lines_in_order (filter_map line_in (filter p front)) line (filter_map line_in (filter p rest))
+    ∙ ap (λ ls. add in_order line (bag_of in_order ls)) (sym (filter_map-append line_in (filter p front) (filter p rest)) ∙ ap (filter_map line_in) (sym (filter-append p front rest)))
+
+-- two sums of which the same is taken off
+unshifted : (x y a : ℤ) → int_eq (x +ℤ (pos 0 -ℤ a)) y ≡ int_eq x (a +ℤ y)
+unshifted x y a =
+    let back : (x +ℤ (pos 0 -ℤ a)) +ℤ a ≡ x = omega (arith, ints) in
+    sym (shifted (x +ℤ (pos 0 -ℤ a)) y a _ refl) ∙ ap (λ z. int_eq z (a +ℤ y)) back
+
+pub removed : (xs : Content) (r : ℕ) (line : Line) (row new : account_table.Account) (it : table.Line) → IsKeyedBy (λ (x : table.Line). x.id) xs.lines → is_place r ≡ true → Some row ≡ row_of xs (pos r)
+    → IsPaid (pos 0 -ℤ amount line) row new → find (reads_as line) (filter (is_row_about r line.roid) xs.lines) ≡ Some it
+    → IsChange r (with_lines (taken in_order line)) xs (without_line it.id new xs)
+removed xs r line row new it up place there paid finds =
+    let ys : Content = without_line it.id new xs in
+    let seen = found (reads_as line) (is_row_about r line.roid) it xs.lines finds in
+    let read : line_in it ≡ Some line = reads line it (line_in it) refl seen.1 in
+    let owner : it.account ≡ pos r = own-row r line.roid it seen.2 in
+    let ps = parts (λ (x : table.Line). x.id) xs.lines it up seen.0 in
+    let id : new.id ≡ row.id = ap (λ (a : account_table.Account). a.id) paid.rest in
+    let at : row.id ≡ pos r = key-get_by account_table.accounts.key xs.accounts (pos r) row (sym there) in
+    let own : line_with_account row.id it ≡ true = equal _ _ (owner ∙ sym at) in
+    let before : lines_of xs row.id ≡ add in_order line (lines_of ys row.id) =
+        ap (λ ls. bag_of in_order (filter_map line_in (filter (line_with_account row.id) ls))) ps.whole
+        ∙ less (line_with_account row.id) ps.front ps.rest it line own read
+        ∙ ap (λ ls. add in_order line (bag_of in_order (filter_map line_in (filter (line_with_account row.id) ls)))) (sym ps.without) in
+    let lines : lines_of ys new.id ≡ taken in_order line (lines_of xs row.id) =
+        ap (lines_of ys) id ∙ sym (ap (taken in_order line) before ∙ taken-add in_order lines_in_order line (lines_of ys row.id)) in
+    let total : balance (lines_of xs row.id) ≡ amount line +ℤ balance (lines_of ys new.id) =
+        ap balance before ∙ balance-add line (lines_of ys row.id) ∙ ap (λ k. amount line +ℤ balance (lines_of ys k)) (sym id) in
+    let sums : int_eq (balance_in new.balance) (balance (lines_of ys new.id)) ≡ int_eq (balance_in row.balance) (balance (lines_of xs row.id)) =
+        ap (λ z. int_eq z (balance (lines_of ys new.id))) paid.sum ∙ unshifted _ _ (amount line) ∙ ap (int_eq (balance_in row.balance)) (sym total) in
+    changed xs ys r (with_lines (taken in_order line)) row new place (sym there) refl id (ap standing paid.rest)
+    (λ k e. ap (λ ls. bag_of in_order (filter_map line_in ls))
+        (ap (filter (line_with_account k)) ps.without ∙ sym (skip (line_with_account k) ps.front ps.rest it (ap (λ a. int_eq a k) owner ∙ e)) ∙ ap (filter (line_with_account k)) (sym ps.whole)))
+    (λ k e. refl)
+    (λ i. record { lines = lines i; queue = queue_of xs (id i); commands = counter_in (paid.rest i).commands; messages = counter_in (paid.rest i).messages; serial = counter_in (paid.rest i).serial })
+    (λ i. sums i && int_eq (paid.rest i).waiting (pos (length (queue_of xs (id i)))))
+    (record { metas = refl; contacts = refl; domains = refl; hosts = refl; addresses = refl; links = refl; transfers = refl })
+
+-- by its number
+pub taken-out : (xs : Content) (r : ℕ) (line : Line) (row new : account_table.Account) (rows : List table.Line) (id : ℤ) → IsWhole xs → is_place r ≡ true → Some row ≡ row_of xs (pos r)
+    → IsPaid (pos 0 -ℤ amount line) row new → rows ≡ filter (is_row_about r line.roid) xs.lines → Some id ≡ option_map (λ (x : table.Line). x.id) (find (reads_as line) rows)
+    → IsChange r (with_lines (taken in_order line)) xs (without_line id new xs)
+taken-out xs r line row new rows id whole place there paid are finds =
+    go (find (reads_as line) (filter (is_row_about r line.roid) xs.lines)) refl (finds ∙ ap (λ rs. option_map (λ (x : table.Line). x.id) (find (reads_as line) rs)) are)
+  where
+    go : (o : Option table.Line) → find (reads_as line) (filter (is_row_about r line.roid) xs.lines) ≡ o → Some id ≡ option_map (λ (x : table.Line). x.id) o
+        → IsChange r (with_lines (taken in_order line)) xs (without_line id new xs)
+    go None at e = cc
+    go (Some it) at e = subst (λ k. IsChange r (with_lines (taken in_order line)) xs (without_line k new xs)) (same_some it.id id (sym e)) (removed xs r line row new it whole.keyed.lines place there paid at)
+
+-- and not found
+pub left-there : (xs : Content) (r : ℕ) (line : Line) (row : account_table.Account) (rows : List table.Line) → is_place r ≡ true → Some row ≡ row_of xs (pos r) → IfSome line.roid IsDomainRoid
+    → rows ≡ filter (is_row_about r line.roid) xs.lines → None ≡ option_map (λ (x : table.Line). x.id) (find (reads_as line) rows) → IsChange r (with_lines (taken in_order line)) xs xs
+left-there xs r line row rows place there is are finds =
+    go (find (reads_as line) (filter (is_row_about r line.roid) xs.lines)) refl (finds ∙ ap (λ rs. option_map (λ (x : table.Line). x.id) (find (reads_as line) rs)) are)
+  where
+    go : (o : Option table.Line) → find (reads_as line) (filter (is_row_about r line.roid) xs.lines) ≡ o → None ≡ option_map (λ (x : table.Line). x.id) o
+        → IsChange r (with_lines (taken in_order line)) xs xs
+    go None at e = not-taken xs r line row place there is at
+    go (Some it) at e = cc
