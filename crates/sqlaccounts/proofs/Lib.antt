@@ -3,4 +3,7 @@ pub mod BagLemmas
 pub mod CallLemmas
 pub mod FindingLemmas
 pub mod LineLemmas
+pub mod LinesOnLemmas
+pub mod SwapLemmas
 pub mod TakingLemmas
+pub mod WholeLemmas

@@ -7,6 +7,7 @@
 
 mod account;
 mod counting;
+mod domain;
 mod finding;
 mod line;
 mod message;
@@ -14,5 +15,6 @@ mod paying;
 mod writing;
 
 pub use counting::{Counters, counts, set_counters};
+pub use domain::{lines_on, swaps};
 pub use line::{add_line, balance, take_line};
 pub use message::waiting;
