@@ -249,3 +249,31 @@ counted xs r x row new place found it =
     (λ i. record { lines = lines_of xs (id i); queue = queue_of xs (id i); commands = (it.back i).commands; messages = (it.back i).messages; serial = (it.back i).serial })
     (λ i. int_eq (balance_in (cents i)) (balance (lines_of xs (id i))) && int_eq (waiting i) (pos (length (queue_of xs (id i)))))
     (record { metas = refl; contacts = refl; domains = refl; hosts = refl; addresses = refl; links = refl; transfers = refl })
+
+-- ---- nothing changed
+
+module _ (xs : Content) (r : ℕ) (f : Account → Account) (row : table.Account) (place : is_place r ≡ true) (there : row_of xs (pos r) ≡ Some row) (still : f (account_in xs row) ≡ account_in xs row) where
+  stays : Account
+  stays = f (unwrap_or (get (accounts_of xs) r) empty_account)
+
+  stays_is : get (accounts_of xs) r ≡ Some stays
+  unfolding stays
+  stays_is = get-found xs r row place there ∙ ap Some (sym still ∙ sym (ap (λ a. f (unwrap_or a empty_account)) (get-found xs r row place there)))
+
+  stays_at : (q : ℕ) (b : Bool) → eq_by_cmp nat_cmp q r ≡ b → get (accounts_of xs) q ≡ cond b (Some stays) (get (accounts_of xs) q)
+  stays_at q true e = ap (get (accounts_of xs)) (nat_cmp-IsAntisymmetric q r ((Equal-is (nat_cmp q r)).0 e)) ∙ stays_is
+  stays_at q false e = refl
+
+  pub kept_accounts : accounts_of xs ≡ with_changed f (accounts_of xs) r
+  unfolding stays
+  kept_accounts = same_map nat_cmp_total nat_cmp-IsAntisymmetric _ _ (λ q. stays_at q (eq_by_cmp nat_cmp q r) refl ∙ sym (get-insert nat_cmp_total (accounts_of xs) r stays q))
+
+  -- an account that stays as it is
+  pub unchanged : IsChange r f xs xs
+  unchanged = record {
+    there = (account_in xs row, get-found xs r row place there);
+    accounts = kept_accounts;
+    sums = refl;
+    standings = λ id. refl;
+    others = record { metas = refl; contacts = refl; domains = refl; hosts = refl; addresses = refl; links = refl; transfers = refl };
+  }

@@ -4,6 +4,7 @@ pub mod CallLemmas
 pub mod FindingLemmas
 pub mod LineLemmas
 pub mod LinesOnLemmas
+pub mod OpeningLemmas
 pub mod SwapLemmas
 pub mod TakingLemmas
 pub mod WholeLemmas

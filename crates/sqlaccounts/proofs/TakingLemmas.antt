@@ -2,16 +2,11 @@
 use Rattle.std.proofs.Common.{◌≡◌, ℕ, ℤ, pos, ◌+ℤ◌, ◌-ℤ◌, Bool, true, false, cond, ◌&&◌, length, List, [], ◌∷◌, ◌++◌, filter, find, Option, Some, None, IfSome, refl, sym, ap, subst, ◌∙◌, arith, int_eq}
 use Rattle.std.proofs.lemmas.Int.{ints}
 use Rattle.std.proofs.lemmas.List.Elements.{filter-append, filter_map-append}
-use Rattle.std.specs.Cmp.{Equal-is, nat_cmp_total}
-use Rattle.std.specs.FinMap.{get, get-insert, nat_cmp-IsAntisymmetric, same_map}
 use Rattle.std.specs.List.{cons_option, filter_map, list_any}
-use Rattle.std.specs.Option.{option_map, unwrap_or}
-use Rattle.std.specs.Ordering.{eq_by_cmp, nat_cmp}
+use Rattle.std.specs.Option.{option_map}
 use Rattle.sqlite_keyed.specs.Keyed.{IsKeyedBy}
 use Rattle.sqlite_keyed.proofs.KeyedLemmas.{key-get_by}
-use Rattle.accounts.specs.declared.account.Account.{Account}
 use Rattle.accounts.specs.declared.line.Line.{Line}
-use Rattle.accounts.specs.Account.{empty_account}
 use Rattle.accounts.specs.Entries.{with_lines}
 use Rattle.accounts.specs.Lines.{amount, balance, in_order}
 use Rattle.accounts.proofs.LineLaws.{balance-add, lines_in_order}
@@ -25,41 +20,13 @@ use Rattle.tables.specs.Line as table
 use Rattle.tables.specs.Line.{line_with_account}
 use Rattle.tables.specs.Whole.{IsWhole}
 use Rattle.columns.proofs.ReadLemmas.{same_some}
-use Rattle.sqlaccounts.specs.Accounts.{account_in, accounts_of, balance_in, lines_of, queue_of, row_of, standing}
-use Rattle.sqlaccounts.specs.Changes.{IsChange, IsPaid, with_changed, without_line}
+use Rattle.sqlaccounts.specs.Accounts.{account_in, balance_in, lines_of, queue_of, row_of, standing}
+use Rattle.sqlaccounts.specs.Changes.{IsChange, IsPaid, without_line}
 use Rattle.sqlaccounts.specs.Finding.{IsDomainRoid, is_row_about, reads_as}
-use Rattle.sqlaccounts.proofs.AccountLemmas.{changed, get-found}
+use Rattle.sqlaccounts.proofs.AccountLemmas.{changed, unchanged}
 use Rattle.sqlaccounts.proofs.BagLemmas.{bag-middle}
 use Rattle.sqlaccounts.proofs.FindingLemmas.{Parts, equal, found, none-there, own-row, parts, reads}
 use Rattle.sqlaccounts.proofs.LineLemmas.{shifted}
-
--- ---- nothing changed
-
-module _ (xs : Content) (r : ℕ) (f : Account → Account) (row : account_table.Account) (place : is_place r ≡ true) (there : row_of xs (pos r) ≡ Some row) (still : f (account_in xs row) ≡ account_in xs row) where
-  value : Account
-  value = f (unwrap_or (get (accounts_of xs) r) empty_account)
-
-  value_is : get (accounts_of xs) r ≡ Some value
-  unfolding value
-  value_is = get-found xs r row place there ∙ ap Some (sym still ∙ sym (ap (λ a. f (unwrap_or a empty_account)) (get-found xs r row place there)))
-
-  same_at : (q : ℕ) (b : Bool) → eq_by_cmp nat_cmp q r ≡ b → get (accounts_of xs) q ≡ cond b (Some value) (get (accounts_of xs) q)
-  same_at q true e = ap (get (accounts_of xs)) (nat_cmp-IsAntisymmetric q r ((Equal-is (nat_cmp q r)).0 e)) ∙ value_is
-  same_at q false e = refl
-
-  kept_accounts : accounts_of xs ≡ with_changed f (accounts_of xs) r
-  unfolding value
-  kept_accounts = same_map nat_cmp_total nat_cmp-IsAntisymmetric _ _ (λ q. same_at q (eq_by_cmp nat_cmp q r) refl ∙ sym (get-insert nat_cmp_total (accounts_of xs) r value q))
-
-  -- an account that stays as it is
-  pub unchanged : IsChange r f xs xs
-  unchanged = record {
-    there = (account_in xs row, get-found xs r row place there);
-    accounts = kept_accounts;
-    sums = refl;
-    standings = λ id. refl;
-    others = record { metas = refl; contacts = refl; domains = refl; hosts = refl; addresses = refl; links = refl; transfers = refl };
-  }
 
 -- a line that isn't there
 pub not-taken : (xs : Content) (r : ℕ) (line : Line) (row : account_table.Account) → is_place r ≡ true → Some row ≡ row_of xs (pos r) → IfSome line.roid IsDomainRoid

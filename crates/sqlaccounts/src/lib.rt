@@ -11,6 +11,7 @@ mod domain;
 mod finding;
 mod line;
 mod message;
+mod opening;
 mod paying;
 mod writing;
 
@@ -18,3 +19,4 @@ pub use counting::{Counters, counts, set_counters};
 pub use domain::{lines_on, swaps};
 pub use line::{add_line, balance, take_line};
 pub use message::waiting;
+pub use opening::open_account;
