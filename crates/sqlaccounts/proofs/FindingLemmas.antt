@@ -53,11 +53,11 @@ module _ (roid : Roid) (is : IsDomainRoid roid) where
       let parts = roid_read Domain c s x read in
       alike _ _
       (λ e. let it : x ≡ roid = same-roids x roid e in and_from (int_eq c (registrar_column roid.creator)) (int_eq s (counter_column roid.serial))
-          (equal c _ (sym (registrar_written c x.creator parts.creator_is) ∙ ap (λ (r : Roid). registrar_column r.creator) it))
-          (equal s _ (sym (serial_written s x.serial parts.serial_is) ∙ ap (λ (r : Roid). counter_column r.serial) it)))
+      (equal c _ (sym (registrar_written c x.creator parts.creator_is) ∙ ap (λ (r : Roid). registrar_column r.creator) it))
+      (equal s _ (sym (serial_written s x.serial parts.serial_is) ∙ ap (λ (r : Roid). counter_column r.serial) it)))
       (λ e. let both = and_parts (int_eq c (registrar_column roid.creator)) (int_eq s (counter_column roid.serial)) e in
-          let it : x ≡ roid = same_some x roid (sym read ∙ (λ i. roid_in Domain (same_int c (registrar_column roid.creator) both.0 i) (same_int s (counter_column roid.serial) both.1 i)) ∙ here) in
-          ap (λ r. is_same_roid r roid) it ∙ itself-roid roid)
+      let it : x ≡ roid = same_some x roid (sym read ∙ (λ i. roid_in Domain (same_int c (registrar_column roid.creator) both.0 i) (same_int s (counter_column roid.serial) both.1 i)) ∙ here) in
+      ap (λ r. is_same_roid r roid) it ∙ itself-roid roid)
 
   of_columns : (c s : Option ℤ) (o : Option Roid) → maybe_domain_in c s ≡ Some o → is_of roid o ≡ (points_to c (registrar_column roid.creator) && points_to s (counter_column roid.serial))
   of_columns None None None e = refl
@@ -139,7 +139,7 @@ pub none-there : (r : ℕ) (line : Line) (rows : List table.Line) → IfSome lin
 none-there r line rows is e =
     missed line (reads_as line) (is_row_about r line.roid) (line_with_account (registrar_column r))
     (λ x own l reads s. let it : line_in x ≡ Some line = reads ∙ ap Some (sym (same-in_order line l s)) in
-        (about r line.roid x line refl is own it, ap (λ (o : Option Line). option_map_or (is_line line) o false) reads ∙ line-told line l ∙ s))
+    (about r line.roid x line refl is own it, ap (λ (o : Option Line). option_map_or (is_line line) o false) reads ∙ line-told line l ∙ s))
     rows e
 
 -- what reads as a line

@@ -71,7 +71,7 @@ added xs r line row new it place found paid written =
     let own : int_eq it.account new.id ≡ true = equal _ _ (written.account ∙ sym (id ∙ at)) in
     let lines : lines_of ys new.id ≡ add in_order line (lines_of xs row.id) = more (line_with_account new.id) xs.lines _ line own written.reads ∙ ap (λ k. add in_order line (lines_of xs k)) id in
     let sums : int_eq (balance_in new.balance) (balance (lines_of ys new.id)) ≡ int_eq (balance_in row.balance) (balance (lines_of xs row.id)) =
-        (λ i. int_eq (paid.sum i) ((ap balance lines ∙ balance-add line (lines_of xs row.id)) i)) ∙ shifted _ _ (amount line) _ refl in
+    (λ i. int_eq (paid.sum i) ((ap balance lines ∙ balance-add line (lines_of xs row.id)) i)) ∙ shifted _ _ (amount line) _ refl in
     changed xs ys r (with_lines (add in_order line)) row new place (sym found) refl id (ap standing paid.rest)
     (λ k e. ap (λ ls. bag_of in_order (filter_map line_in ls)) (kept (line_with_account k) xs.lines _ (ap (λ a. int_eq a k) written.account ∙ e)))
     (λ k e. refl)

@@ -82,7 +82,7 @@ pub lines-read : (xs : Content) (r : ℕ) (roid : Roid) → IsWhole xs → is_pl
     → bag_of in_order (filter_map line_in (filter (is_row_on r roid) xs.lines)) ≡ filter (is_on roid) (account_of xs r).lines
 lines-read xs r roid whole place is =
     ap (bag_of in_order) (sym (part (is_on roid) (line_with_account (registrar_column r)) (is_row_on r roid)
-        (λ x l e. ap (λ c. line_with_account (registrar_column r) x && c) (sym (on-row roid is x l e))) xs.lines))
+    (λ x l e. ap (λ c. line_with_account (registrar_column r) x && c) (sym (on-row roid is x l e))) xs.lines))
     ∙ sym (filter-bag_of in_order lines_in_order (is_on roid) (filter_map line_in (filter (line_with_account (registrar_column r)) xs.lines)))
     ∙ ap (filter (is_on roid)) (sym (lines-there xs r whole place))
 

@@ -34,7 +34,7 @@ pub not-taken : (xs : Content) (r : ℕ) (line : Line) (row : account_table.Acco
 not-taken xs r line row place there is none =
     let at : row.id ≡ pos r = key-get_by account_table.accounts.key xs.accounts (pos r) row (sym there) in
     let absent : taken in_order line (lines_of xs row.id) ≡ lines_of xs row.id =
-        taken-absent in_order line (lines_of xs row.id) (ap (λ k. list_any (same in_order line) (lines_of xs k)) at ∙ any-bag_of in_order (same in_order line) _ ∙ none-there r line xs.lines is none) in
+    taken-absent in_order line (lines_of xs row.id) (ap (λ k. list_any (same in_order line) (lines_of xs k)) at ∙ any-bag_of in_order (same in_order line) _ ∙ none-there r line xs.lines is none) in
     unchanged xs r (with_lines (taken in_order line)) row place (sym there) (ap (λ ls. record (account_in xs row) { lines = ls }) absent)
 
 -- ---- one row less
@@ -70,18 +70,18 @@ removed xs r line row new it up place there paid finds =
     let at : row.id ≡ pos r = key-get_by account_table.accounts.key xs.accounts (pos r) row (sym there) in
     let own : line_with_account row.id it ≡ true = equal _ _ (owner ∙ sym at) in
     let before : lines_of xs row.id ≡ add in_order line (lines_of ys row.id) =
-        ap (λ ls. bag_of in_order (filter_map line_in (filter (line_with_account row.id) ls))) ps.whole
-        ∙ less (line_with_account row.id) ps.front ps.rest it line own read
-        ∙ ap (λ ls. add in_order line (bag_of in_order (filter_map line_in (filter (line_with_account row.id) ls)))) (sym ps.without) in
+    ap (λ ls. bag_of in_order (filter_map line_in (filter (line_with_account row.id) ls))) ps.whole
+    ∙ less (line_with_account row.id) ps.front ps.rest it line own read
+    ∙ ap (λ ls. add in_order line (bag_of in_order (filter_map line_in (filter (line_with_account row.id) ls)))) (sym ps.without) in
     let lines : lines_of ys new.id ≡ taken in_order line (lines_of xs row.id) =
-        ap (lines_of ys) id ∙ sym (ap (taken in_order line) before ∙ taken-add in_order lines_in_order line (lines_of ys row.id)) in
+    ap (lines_of ys) id ∙ sym (ap (taken in_order line) before ∙ taken-add in_order lines_in_order line (lines_of ys row.id)) in
     let total : balance (lines_of xs row.id) ≡ amount line +ℤ balance (lines_of ys new.id) =
-        ap balance before ∙ balance-add line (lines_of ys row.id) ∙ ap (λ k. amount line +ℤ balance (lines_of ys k)) (sym id) in
+    ap balance before ∙ balance-add line (lines_of ys row.id) ∙ ap (λ k. amount line +ℤ balance (lines_of ys k)) (sym id) in
     let sums : int_eq (balance_in new.balance) (balance (lines_of ys new.id)) ≡ int_eq (balance_in row.balance) (balance (lines_of xs row.id)) =
-        ap (λ z. int_eq z (balance (lines_of ys new.id))) paid.sum ∙ unshifted _ _ (amount line) ∙ ap (int_eq (balance_in row.balance)) (sym total) in
+    ap (λ z. int_eq z (balance (lines_of ys new.id))) paid.sum ∙ unshifted _ _ (amount line) ∙ ap (int_eq (balance_in row.balance)) (sym total) in
     changed xs ys r (with_lines (taken in_order line)) row new place (sym there) refl id (ap standing paid.rest)
     (λ k e. ap (λ ls. bag_of in_order (filter_map line_in ls))
-        (ap (filter (line_with_account k)) ps.without ∙ sym (skip (line_with_account k) ps.front ps.rest it (ap (λ a. int_eq a k) owner ∙ e)) ∙ ap (filter (line_with_account k)) (sym ps.whole)))
+    (ap (filter (line_with_account k)) ps.without ∙ sym (skip (line_with_account k) ps.front ps.rest it (ap (λ a. int_eq a k) owner ∙ e)) ∙ ap (filter (line_with_account k)) (sym ps.whole)))
     (λ k e. refl)
     (λ i. record { lines = lines i; queue = queue_of xs (id i); commands = counter_in (paid.rest i).commands; messages = counter_in (paid.rest i).messages; serial = counter_in (paid.rest i).serial })
     (λ i. sums i && int_eq (paid.rest i).waiting (pos (length (queue_of xs (id i)))))

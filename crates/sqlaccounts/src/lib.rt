@@ -13,6 +13,8 @@ mod line;
 mod message;
 mod opening;
 mod paying;
+#[cfg(test)]
+mod tests;
 mod writing;
 
 pub use counting::{Counters, counts, set_counters};
