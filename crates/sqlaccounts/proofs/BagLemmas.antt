@@ -3,6 +3,10 @@ use Rattle.std.proofs.Common.{◌≡◌, Bool, true, false, cond, not, List, [],
 use Rattle.basis.specs.Bag.{IsLinear, add, bag_of}
 use Rattle.basis.proofs.BagLaws.{add-add}
 
+pub bag-nil : {A : Type 0} (le : A → A → Bool) → bag_of le [] ≡ []
+unfolding bag_of
+bag-nil le = refl
+
 module _ {A : Type 0} (le : A → A → Bool) (h : IsLinear le) where
   add-at : (x y : A) (ys zs : List A) (b : Bool) → bag_of le (add le x ys ++ zs) ≡ add le x (bag_of le (ys ++ zs))
       → bag_of le (cond b (x ∷ y ∷ ys) (y ∷ add le x ys) ++ zs) ≡ add le x (add le y (bag_of le (ys ++ zs)))

@@ -23,9 +23,9 @@ use Rattle.tables.specs.Whole.{IsWhole}
 use Rattle.sqlaccounts.specs.Accounts.{account_in, account_of, accounts_of, lines_of, row_of}
 use Rattle.sqlaccounts.specs.Finding.{IsDomainRoid, is_row_on}
 use Rattle.sqlaccounts.proofs.AccountLemmas.{get-accounts_of, get-found}
-use Rattle.sqlaccounts.proofs.BagLemmas.{bag-again}
+use Rattle.sqlaccounts.proofs.BagLemmas.{bag-again, bag-nil}
 use Rattle.sqlaccounts.proofs.FindingLemmas.{on-row}
-use Rattle.sqlaccounts.proofs.WholeLemmas.{none_refers}
+use Rattle.sqlaccounts.proofs.WholeLemmas.{lines-of-none}
 
 -- one row more
 pub read-more : (rows : List table.Line) (row : table.Line) (line : Line) → line_in row ≡ Some line
@@ -64,22 +64,18 @@ module _ (p : Line → Bool) (a b : table.Line → Bool) (agree : (x : table.Lin
 
 -- ---- of an account, also where there is none
 
-no_lines : bag_of in_order [] ≡ []
-unfolding bag_of
-no_lines = refl
-
-lines-at : (xs : Content) (r : ℕ) (o : Option account_table.Account) → IsWhole xs → is_place r ≡ true → row_of xs (pos r) ≡ o → (account_of xs r).lines ≡ lines_of xs (pos r)
+lines-at : (xs : Content) (r : ℕ) (o : Option account_table.Account) → IsWhole xs → is_place r ≡ true → row_of xs (pos r) ≡ o → (account_of r xs).lines ≡ lines_of xs (pos r)
 lines-at xs r (Some row) whole place at =
     ap (λ a. (unwrap_or a empty_account).lines) (get-found xs r row place at) ∙ ap (lines_of xs) (key-get_by account_table.accounts.key xs.accounts (pos r) row at)
 lines-at xs r None whole place at =
     ap (λ a. (unwrap_or a empty_account).lines) (get-accounts_of xs r ∙ (λ i. cond (place i) (option_map (account_in xs) (at i)) None))
-    ∙ sym (ap (λ rows. bag_of in_order (filter_map line_in rows)) (none_refers account_table.accounts.key (λ (x : table.Line). x.account) xs.lines xs.accounts (pos r) whole.linked.line_account at) ∙ no_lines)
+    ∙ sym (lines-of-none xs (pos r) whole at)
 
-lines-there : (xs : Content) (r : ℕ) → IsWhole xs → is_place r ≡ true → (account_of xs r).lines ≡ lines_of xs (pos r)
+lines-there : (xs : Content) (r : ℕ) → IsWhole xs → is_place r ≡ true → (account_of r xs).lines ≡ lines_of xs (pos r)
 lines-there xs r whole place = lines-at xs r (row_of xs (pos r)) whole place refl
 
 pub lines-read : (xs : Content) (r : ℕ) (roid : Roid) → IsWhole xs → is_place r ≡ true → IsDomainRoid roid
-    → bag_of in_order (filter_map line_in (filter (is_row_on r roid) xs.lines)) ≡ filter (is_on roid) (account_of xs r).lines
+    → bag_of in_order (filter_map line_in (filter (is_row_on r roid) xs.lines)) ≡ filter (is_on roid) (account_of r xs).lines
 lines-read xs r roid whole place is =
     ap (bag_of in_order) (sym (part (is_on roid) (line_with_account (registrar_column r)) (is_row_on r roid)
     (λ x l e. ap (λ c. line_with_account (registrar_column r) x && c) (sym (on-row roid is x l e))) xs.lines))
@@ -90,9 +86,9 @@ lines-read xs r roid whole place is =
 bag-at : (xs : Content) (b : Bool) (o : Option account_table.Account)
     → bag_of in_order (unwrap_or (cond b (option_map (account_in xs) o) None) empty_account).lines ≡ (unwrap_or (cond b (option_map (account_in xs) o) None) empty_account).lines
 bag-at xs true (Some row) = bag-again in_order lines_in_order (filter_map line_in (filter (line_with_account row.id) xs.lines))
-bag-at xs true None = no_lines
-bag-at xs false o = no_lines
+bag-at xs true None = bag-nil in_order
+bag-at xs false o = bag-nil in_order
 
-pub lines-bag : (xs : Content) (r : ℕ) → bag_of in_order (account_of xs r).lines ≡ (account_of xs r).lines
+pub lines-bag : (xs : Content) (r : ℕ) → bag_of in_order (account_of r xs).lines ≡ (account_of r xs).lines
 lines-bag xs r =
     subst (λ (a : Option Account). bag_of in_order (unwrap_or a empty_account).lines ≡ (unwrap_or a empty_account).lines) (sym (get-accounts_of xs r)) (bag-at xs (is_place r) (row_of xs (pos r)))

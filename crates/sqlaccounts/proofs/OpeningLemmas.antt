@@ -1,30 +1,20 @@
 -- What an account that is opened means.
 use Rattle.std.proofs.Common.{◌≡◌, ℕ, pos, Bool, true, false, cond, ◌&&◌, length, List, [], filter, Option, Some, None, is_some, refl, sym, ap, ◌∙◌, int_eq}
 use Rattle.std.specs.FinMap.{get}
-use Rattle.std.specs.List.{filter_map}
 use Rattle.std.specs.Option.{option_map, option_map_or, unwrap_or}
 use Rattle.sqlite_keyed.specs.Keyed.{insert_by}
 use Rattle.accounts.specs.declared.account.Account.{Account}
 use Rattle.accounts.specs.Account.{empty_account}
-use Rattle.accounts.specs.Lines.{balance, in_order}
-use Rattle.basis.specs.Bag.{bag_of}
-use Rattle.columns.specs.Lines.{line_in}
-use Rattle.columns.specs.Messages.{message_in}
+use Rattle.accounts.specs.Lines.{balance}
 use Rattle.columns.specs.Numbers.{is_place}
 use Rattle.tables.specs.Account as account_table
 use Rattle.tables.specs.Content.{Content, accounts_to}
-use Rattle.tables.specs.Line.{Line}
-use Rattle.tables.specs.Message.{Message}
 use Rattle.tables.specs.Whole.{IsWhole}
-use Rattle.sqlaccounts.specs.Accounts.{account_in, accounts_of, balance_in, has_right_sums, is_right, lines_of, put_all, queue_of, row_of}
+use Rattle.sqlaccounts.specs.Accounts.{account_in, accounts_of, balance_in, has_right_sums, is_right, row_of}
 use Rattle.sqlaccounts.specs.Changes.{IsOpened, opened_row}
 use Rattle.sqlaccounts.proofs.AccountLemmas.{accounts-put, get-accounts_of, kept_accounts, row_here, row_there, sums-put}
 use Rattle.sqlaccounts.proofs.FindingLemmas.{equal}
-use Rattle.sqlaccounts.proofs.WholeLemmas.{none_refers}
-
-no_lines : bag_of in_order [] ≡ []
-unfolding bag_of
-no_lines = refl
+use Rattle.sqlaccounts.proofs.WholeLemmas.{lines-of-none, queue-of-none}
 
 no_cents : int_eq (balance_in (opened_row 0).balance) (balance []) ≡ true
 unfolding balance
@@ -37,16 +27,8 @@ module _ (xs : Content) (r : ℕ) (whole : IsWhole xs) (place : is_place r ≡ t
   abbrev ys : Content
   ys = accounts_to (λ rows. insert_by account_table.accounts.key rows new) xs
 
-  lines : lines_of xs (pos r) ≡ []
-  lines =
-      ap (λ rows. bag_of in_order (filter_map line_in rows)) (none_refers account_table.accounts.key (λ (x : Line). x.account) xs.lines xs.accounts (pos r) whole.linked.line_account none)
-      ∙ no_lines
-
-  queue : queue_of xs (pos r) ≡ []
-  queue = ap (λ rows. put_all (filter_map message_in rows)) (none_refers account_table.accounts.key (λ (x : Message). x.account) xs.messages xs.accounts (pos r) whole.linked.message_account none)
-
   empty : account_in ys new ≡ empty_account
-  empty = λ i. record { lines = lines i; queue = queue i; commands = 0; messages = 0; serial = 0 }
+  empty = λ i. record { lines = lines-of-none xs (pos r) whole none i; queue = queue-of-none xs (pos r) whole none i; commands = 0; messages = 0; serial = 0 }
 
   nothing : get (accounts_of xs) r ≡ None
   nothing = get-accounts_of xs r ∙ (λ i. cond (place i) (option_map (account_in xs) (none i)) None)
@@ -56,7 +38,7 @@ module _ (xs : Content) (r : ℕ) (whole : IsWhole xs) (place : is_place r ≡ t
 
   right : is_right ys new ≡ has_right_sums xs (pos r)
   right =
-      (λ i. int_eq (balance_in new.balance) (balance (lines i)) && int_eq (pos 0) (pos (length (queue i))))
+      (λ i. int_eq (balance_in new.balance) (balance (lines-of-none xs (pos r) whole none i)) && int_eq (pos 0) (pos (length (queue-of-none xs (pos r) whole none i))))
       ∙ ap (λ b. b && true) no_cents ∙ sym (ap (λ o. option_map_or (is_right xs) o true) none)
 
   -- where it wasn't there

@@ -1,8 +1,6 @@
 -- What one line less means.
-use Rattle.std.proofs.Common.{◌≡◌, ℕ, ℤ, pos, ◌+ℤ◌, ◌-ℤ◌, Bool, true, false, cond, ◌&&◌, length, List, [], ◌∷◌, ◌++◌, filter, find, Option, Some, None, IfSome, refl, sym, ap, subst, ◌∙◌, arith, int_eq}
-use Rattle.std.proofs.lemmas.Int.{ints}
-use Rattle.std.proofs.lemmas.List.Elements.{filter-append, filter_map-append}
-use Rattle.std.specs.List.{cons_option, filter_map, list_any}
+use Rattle.std.proofs.Common.{◌≡◌, ℕ, ℤ, pos, ◌+ℤ◌, ◌-ℤ◌, Bool, true, false, cond, ◌&&◌, length, List, [], ◌∷◌, ◌++◌, filter, find, Option, Some, None, IfSome, refl, sym, ap, subst, ◌∙◌, int_eq}
+use Rattle.std.specs.List.{filter_map, list_any}
 use Rattle.std.specs.Option.{option_map}
 use Rattle.sqlite_keyed.specs.Keyed.{IsKeyedBy}
 use Rattle.sqlite_keyed.proofs.KeyedLemmas.{key-get_by}
@@ -23,10 +21,9 @@ use Rattle.columns.proofs.ReadLemmas.{same_some}
 use Rattle.sqlaccounts.specs.Accounts.{account_in, balance_in, lines_of, queue_of, row_of, standing}
 use Rattle.sqlaccounts.specs.Changes.{IsChange, IsPaid, without_line}
 use Rattle.sqlaccounts.specs.Finding.{IsDomainRoid, is_row_about, reads_as}
-use Rattle.sqlaccounts.proofs.AccountLemmas.{changed, unchanged}
-use Rattle.sqlaccounts.proofs.BagLemmas.{bag-middle}
+use Rattle.sqlaccounts.proofs.AccountLemmas.{unchanged}
 use Rattle.sqlaccounts.proofs.FindingLemmas.{Parts, equal, found, none-there, own-row, parts, reads}
-use Rattle.sqlaccounts.proofs.LineLemmas.{shifted}
+use Rattle.sqlaccounts.proofs.LineLemmas.{both-less, filter-without, lines-with, repaid}
 
 -- a line that isn't there
 pub not-taken : (xs : Content) (r : ℕ) (line : Line) (row : account_table.Account) → is_place r ≡ true → Some row ≡ row_of xs (pos r) → IfSome line.roid IsDomainRoid
@@ -39,52 +36,23 @@ not-taken xs r line row place there is none =
 
 -- ---- one row less
 
-skip : (p : table.Line → Bool) (front rest : List table.Line) (x : table.Line) → p x ≡ false → filter p (front ++ x ∷ rest) ≡ filter p (front ++ rest)
-skip p front rest x e =
-    filter-append p front (x ∷ rest) ∙ ap (λ b. filter p front ++ cond b (x ∷ filter p rest) (filter p rest)) e ∙ sym (filter-append p front rest)
-
-less : (p : table.Line → Bool) (front rest : List table.Line) (x : table.Line) (line : Line) → p x ≡ true → line_in x ≡ Some line
-    → bag_of in_order (filter_map line_in (filter p (front ++ x ∷ rest))) ≡ add in_order line (bag_of in_order (filter_map line_in (filter p (front ++ rest))))
-less p front rest x line e reads =
-    ap (λ ls. bag_of in_order (filter_map line_in ls)) (filter-append p front (x ∷ rest) ∙ ap (λ b. filter p front ++ cond b (x ∷ filter p rest) (filter p rest)) e)
-    ∙ ap (bag_of in_order) (filter_map-append line_in (filter p front) (x ∷ filter p rest) ∙ ap (λ o. filter_map line_in (filter p front) ++ cons_option o (filter_map line_in (filter p rest))) reads)
-    ∙ bag-middle in_order lines_in_order (filter_map line_in (filter p front)) line (filter_map line_in (filter p rest))
-    ∙ ap (λ ls. add in_order line (bag_of in_order ls)) (sym (filter_map-append line_in (filter p front) (filter p rest)) ∙ ap (filter_map line_in) (sym (filter-append p front rest)))
-
--- two sums of which the same is taken off
-unshifted : (x y a : ℤ) → int_eq (x +ℤ (pos 0 -ℤ a)) y ≡ int_eq x (a +ℤ y)
-unshifted x y a =
-    let back : (x +ℤ (pos 0 -ℤ a)) +ℤ a ≡ x = omega (arith, ints) in
-    sym (shifted (x +ℤ (pos 0 -ℤ a)) y a _ refl) ∙ ap (λ z. int_eq z (a +ℤ y)) back
-
-pub removed : (xs : Content) (r : ℕ) (line : Line) (row new : account_table.Account) (it : table.Line) → IsKeyedBy (λ (x : table.Line). x.id) xs.lines → is_place r ≡ true → Some row ≡ row_of xs (pos r)
+removed : (xs : Content) (r : ℕ) (line : Line) (row new : account_table.Account) (it : table.Line) → IsKeyedBy (λ (x : table.Line). x.id) xs.lines → is_place r ≡ true → Some row ≡ row_of xs (pos r)
     → IsPaid (pos 0 -ℤ amount line) row new → find (reads_as line) (filter (is_row_about r line.roid) xs.lines) ≡ Some it
     → IsChange r (with_lines (taken in_order line)) xs (without_line it.id new xs)
 removed xs r line row new it up place there paid finds =
     let ys : Content = without_line it.id new xs in
     let seen = found (reads_as line) (is_row_about r line.roid) it xs.lines finds in
-    let read : line_in it ≡ Some line = reads line it (line_in it) refl seen.1 in
     let owner : it.account ≡ pos r = own-row r line.roid it seen.2 in
     let ps = parts (λ (x : table.Line). x.id) xs.lines it up seen.0 in
-    let id : new.id ≡ row.id = ap (λ (a : account_table.Account). a.id) paid.rest in
-    let at : row.id ≡ pos r = key-get_by account_table.accounts.key xs.accounts (pos r) row (sym there) in
-    let own : line_with_account row.id it ≡ true = equal _ _ (owner ∙ sym at) in
-    let before : lines_of xs row.id ≡ add in_order line (lines_of ys row.id) =
-    ap (λ ls. bag_of in_order (filter_map line_in (filter (line_with_account row.id) ls))) ps.whole
-    ∙ less (line_with_account row.id) ps.front ps.rest it line own read
-    ∙ ap (λ ls. add in_order line (bag_of in_order (filter_map line_in (filter (line_with_account row.id) ls)))) (sym ps.without) in
-    let lines : lines_of ys new.id ≡ taken in_order line (lines_of xs row.id) =
-    ap (lines_of ys) id ∙ sym (ap (taken in_order line) before ∙ taken-add in_order lines_in_order line (lines_of ys row.id)) in
-    let total : balance (lines_of xs row.id) ≡ amount line +ℤ balance (lines_of ys new.id) =
-    ap balance before ∙ balance-add line (lines_of ys row.id) ∙ ap (λ k. amount line +ℤ balance (lines_of ys k)) (sym id) in
-    let sums : int_eq (balance_in new.balance) (balance (lines_of ys new.id)) ≡ int_eq (balance_in row.balance) (balance (lines_of xs row.id)) =
-    ap (λ z. int_eq z (balance (lines_of ys new.id))) paid.sum ∙ unshifted _ _ (amount line) ∙ ap (int_eq (balance_in row.balance)) (sym total) in
-    changed xs ys r (with_lines (taken in_order line)) row new place (sym there) refl id (ap standing paid.rest)
-    (λ k e. ap (λ ls. bag_of in_order (filter_map line_in ls))
-    (ap (filter (line_with_account k)) ps.without ∙ sym (skip (line_with_account k) ps.front ps.rest it (ap (λ a. int_eq a k) owner ∙ e)) ∙ ap (filter (line_with_account k)) (sym ps.whole)))
-    (λ k e. refl)
-    (λ i. record { lines = lines i; queue = queue_of xs (id i); commands = counter_in (paid.rest i).commands; messages = counter_in (paid.rest i).messages; serial = counter_in (paid.rest i).serial })
-    (λ i. sums i && int_eq (paid.rest i).waiting (pos (length (queue_of xs (id i)))))
+    let before : lines_of xs (pos r) ≡ add in_order line (lines_of ys (pos r)) =
+        ap (λ rows. bag_of in_order (filter_map line_in (filter (line_with_account (pos r)) rows))) ps.whole
+        ∙ lines-with (line_with_account (pos r)) ps.front ps.rest it line (equal _ _ owner) (reads line it (line_in it) refl seen.1)
+        ∙ ap (λ rows. add in_order line (bag_of in_order (filter_map line_in (filter (line_with_account (pos r)) rows)))) (sym ps.without) in
+    repaid xs ys r (taken in_order line) (pos 0 -ℤ amount line) row new place there paid refl refl
+    (λ k e. ap (λ rows. bag_of in_order (filter_map line_in rows))
+        (ap (filter (line_with_account k)) ps.without ∙ sym (filter-without (line_with_account k) ps.front ps.rest it (ap (λ a. int_eq a k) owner ∙ e)) ∙ ap (filter (line_with_account k)) (sym ps.whole)))
+    (sym (ap (taken in_order line) before ∙ taken-add in_order lines_in_order line (lines_of ys (pos r))))
+    (both-less (balance_in row.balance) (balance (lines_of ys (pos r))) (amount line) ∙ ap (int_eq (balance_in row.balance)) (sym (ap balance before ∙ balance-add line (lines_of ys (pos r)))))
     (record { metas = refl; contacts = refl; domains = refl; hosts = refl; addresses = refl; links = refl; transfers = refl })
 
 -- by its number

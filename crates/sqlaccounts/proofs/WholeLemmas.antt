@@ -1,11 +1,21 @@
 -- No row leads to an account that isn't there.
 use Rattle.std.proofs.Common.{◌≡◌, inl, inr, ℤ, Bool, true, false, cond, List, [], ◌∷◌, filter, Option, Some, None, refl, sym, ap, ◌∙◌, int_eq}
-use Rattle.std.specs.List.{AllByRecursion}
+use Rattle.std.specs.List.{AllByRecursion, filter_map}
 use Rattle.sqlite_keyed.specs.Keyed.{get_by}
 use Rattle.sqlite_keyed.proofs.KeyedLemmas.{same_int}
 use Rattle.sqlite_keyed.proofs.ListLemmas.{filter_none}
 use Rattle.sqlite_rules.specs.Lists.{Has}
-use Rattle.tables.specs.Whole.{LeadsTo}
+use Rattle.accounts.specs.Lines.{in_order}
+use Rattle.basis.specs.Bag.{bag_of}
+use Rattle.columns.specs.Lines.{line_in}
+use Rattle.columns.specs.Messages.{message_in}
+use Rattle.tables.specs.Account as account_table
+use Rattle.tables.specs.Content.{Content}
+use Rattle.tables.specs.Line.{Line}
+use Rattle.tables.specs.Message.{Message}
+use Rattle.tables.specs.Whole.{IsWhole, LeadsTo}
+use Rattle.sqlaccounts.specs.Accounts.{lines_of, put_all, queue_of, row_of}
+use Rattle.sqlaccounts.proofs.BagLemmas.{bag-nil}
 use Rattle.sqlaccounts.proofs.FindingLemmas.{equal}
 
 all_from : {X : Type 0} (P : X → Type 0) (xs : List X) → ((x : X) → Has xs x → P x) → AllByRecursion P xs
@@ -30,7 +40,11 @@ module _ {X Y : Type 0} (key : Y → ℤ) (column : X → ℤ) where
       apart x h false e = e
       apart x h true e = let it = leads x h id (ap Some (same_int (column x) id e)) in absurd (there ys it.0 id it.1 it.2 none)
 
--- of no row there is none that refers to it
-pub none_refers : {X Y : Type 0} (key : Y → ℤ) (column : X → ℤ) (xs : List X) (ys : List Y) (id : ℤ) → LeadsTo xs (λ x. Some (column x)) ys key → get_by key ys id ≡ None
-    → filter (λ x. int_eq (column x) id) xs ≡ []
-none_refers key column xs ys id leads none = none-with key column xs ys id leads none
+-- ---- of an account that isn't there
+
+module _ (xs : Content) (id : ℤ) (whole : IsWhole xs) (none : row_of xs id ≡ None) where
+  pub lines-of-none : lines_of xs id ≡ []
+  lines-of-none = ap (λ rows. bag_of in_order (filter_map line_in rows)) (none-with account_table.accounts.key (λ (x : Line). x.account) xs.lines xs.accounts id whole.linked.line_account none) ∙ bag-nil in_order
+
+  pub queue-of-none : queue_of xs id ≡ []
+  queue-of-none = ap (λ rows. put_all (filter_map message_in rows)) (none-with account_table.accounts.key (λ (x : Message). x.account) xs.messages xs.accounts id whole.linked.message_account none)

@@ -52,8 +52,8 @@ abbrev pub accounts_of : Content → FinMap nat_cmp Account
 accounts_of xs = from_entries (entries_of xs xs.accounts)
 
 -- what a registrar's account has: nothing where it was never opened
-abbrev pub account_of : Content → ℕ → Account
-account_of xs r = unwrap_or (get (accounts_of xs) r) empty_account
+abbrev pub account_of : ℕ → Content → Account
+account_of r xs = unwrap_or (get (accounts_of xs) r) empty_account
 
 -- the first row with a number
 abbrev pub row_of : Content → ℤ → Option account_table.Account

@@ -15,7 +15,7 @@ returns g c = (
   c.in_ok-lines.ensures.0,
   λ clean.
       let xs = c.args.store.now.content in
-      let lines : List Line = (account_of xs c.args.registrar).lines in
+      let lines : List Line = (account_of c.args.registrar xs).lines in
       let change = g.C.LineChange.changed c.args.change.now in
       let found : c.in_ok-lines.lines ≡ filter (is_on c.domain-roid.result) lines = c.in_ok-lines.ensures.1 clean in
       ap (λ (swaps : List LineSwap). swapped_all swaps lines) c.from_vec.ensures
