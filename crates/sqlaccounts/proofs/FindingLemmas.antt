@@ -1,5 +1,5 @@
 -- Which rows of lines are found, and what is left without one of them.
-use Rattle.std.proofs.Common.{◌≡◌, ◌⊎◌, inl, inr, ℕ, ℤ, pos, ◌<ℤ◌, Bool, true, false, cond, not, ◌&&◌, ◌||◌, List, [], ◌∷◌, ◌++◌, filter, find, Option, Some, None, IfSome, refl, sym, ap, subst, ◌∙◌, arith, int_eq, true≢false}
+use Rattle.std.proofs.Common.{◌≡◌, inl, inr, ℕ, ℤ, ◌<ℤ◌, Bool, true, false, cond, not, ◌&&◌, ◌||◌, List, [], ◌∷◌, ◌++◌, filter, find, Option, Some, None, IfSome, refl, sym, ap, ◌∙◌, arith, int_eq, true≢false}
 use Rattle.std.proofs.lemmas.Bool.{and_from, and_parts}
 use Rattle.std.proofs.lemmas.Int.{ints}
 use Rattle.std.specs.Cmp.{int_cmp_total, tied_itself}
@@ -9,7 +9,7 @@ use Rattle.std.specs.Ordering.{is_eq}
 use Rattle.sqlite_keyed.specs.Keyed.{IsKeyedBy}
 use Rattle.sqlite_keyed.specs.Lists.{delete_where}
 use Rattle.sqlite_keyed.specs.Rules.{points_to}
-use Rattle.sqlite_keyed.proofs.KeyedLemmas.{int_eq_apart, same_int}
+use Rattle.sqlite_keyed.proofs.KeyedLemmas.{same_int}
 use Rattle.sqlite_keyed.proofs.ListLemmas.{all_weaker, filter_all}
 use Rattle.sqlite_rules.specs.Lists.{Has}
 use Rattle.objects.specs.declared.roid.ObjectKind.TheVariants.{Domain}
@@ -29,7 +29,7 @@ use Rattle.columns.proofs.RoidLemmas.{roid_read}
 use Rattle.tables.specs.Line as table
 use Rattle.tables.specs.Line.{line_with_account}
 use Rattle.tables.proofs.RowLemmas.{all_at}
-use Rattle.sqlaccounts.specs.Finding.{IsDomainRoid, is_row_about, is_row_on, reads_as}
+use Rattle.sqlaccounts.specs.Finding.{IsDomainRoid, is_row_about, reads_as}
 
 pub equal : (a b : ℤ) → a ≡ b → int_eq a b ≡ true
 equal a b e = ap (λ z. int_eq z b) e ∙ ap is_eq (tied_itself int_cmp_total b)

@@ -87,7 +87,7 @@ repaid xs ys r change cents row new place found paid put messages elsewhere here
     let lines : lines_of ys new.id ≡ change (lines_of xs row.id) = ap (lines_of ys) now ∙ here ∙ ap (λ k. change (lines_of xs k)) (sym at) in
     let queue : queue_of ys new.id ≡ queue_of xs row.id = λ i. put_all (filter_map message_in (filter (message_with_account (id i)) (messages i))) in
     let right : int_eq (balance_in new.balance) (balance (lines_of ys new.id)) ≡ int_eq (balance_in row.balance) (balance (lines_of xs row.id)) =
-        (λ i. int_eq (paid.sum i) (balance (lines_of ys (now i)))) ∙ sums ∙ ap (λ k. int_eq (balance_in row.balance) (balance (lines_of xs k))) (sym at) in
+    (λ i. int_eq (paid.sum i) (balance (lines_of ys (now i)))) ∙ sums ∙ ap (λ k. int_eq (balance_in row.balance) (balance (lines_of xs k))) (sym at) in
     changed xs ys r (with_lines change) row new place (sym found) put id (ap standing paid.rest) elsewhere
     (λ k e. ap (λ ms. put_all (filter_map message_in (filter (message_with_account k) ms))) messages)
     (λ i. record { lines = lines i; queue = queue i; commands = counter_in (paid.rest i).commands; messages = counter_in (paid.rest i).messages; serial = counter_in (paid.rest i).serial })
@@ -103,11 +103,11 @@ added xs r line row new it place found paid written =
     let x : table.Line = record it { id = next_key (λ (y : table.Line). y.id) xs.lines } in
     let ys : Content = lines_to (appended table.lines (λ id. record it { id = id })) (accounts_to (λ rows. insert_by account_table.accounts.key rows new) xs) in
     let lines : lines_of ys (pos r) ≡ add in_order line (lines_of xs (pos r)) =
-        lines-with (line_with_account (pos r)) xs.lines [] x line (equal _ _ written.account) written.reads
-        ∙ ap (λ rows. add in_order line (bag_of in_order (filter_map line_in (filter (line_with_account (pos r)) rows)))) (append-nil xs.lines) in
+    lines-with (line_with_account (pos r)) xs.lines [] x line (equal _ _ written.account) written.reads
+    ∙ ap (λ rows. add in_order line (bag_of in_order (filter_map line_in (filter (line_with_account (pos r)) rows)))) (append-nil xs.lines) in
     repaid xs ys r (add in_order line) (amount line) row new place found paid refl refl
     (λ k e. ap (λ rows. bag_of in_order (filter_map line_in rows))
-        (filter-without (line_with_account k) xs.lines [] x (ap (λ a. int_eq a k) written.account ∙ e) ∙ ap (filter (line_with_account k)) (append-nil xs.lines)))
+    (filter-without (line_with_account k) xs.lines [] x (ap (λ a. int_eq a k) written.account ∙ e) ∙ ap (filter (line_with_account k)) (append-nil xs.lines)))
     lines
     (ap (int_eq (balance_in row.balance +ℤ amount line)) (ap balance lines ∙ balance-add line (lines_of xs (pos r))) ∙ both-added (balance_in row.balance) (balance (lines_of xs (pos r))) (amount line))
     (record { metas = refl; contacts = refl; domains = refl; hosts = refl; addresses = refl; links = refl; transfers = refl })

@@ -1,7 +1,6 @@
 -- The lines that rows of one domain read as.
 use Rattle.std.proofs.Common.{◌≡◌, ℕ, pos, Bool, true, false, cond, ◌&&◌, List, [], ◌∷◌, ◌++◌, filter, Option, Some, None, refl, sym, ap, subst, ◌∙◌}
 use Rattle.std.proofs.lemmas.List.Elements.{filter_map-append}
-use Rattle.std.specs.FinMap.{get}
 use Rattle.std.specs.List.{cons_option, filter_map}
 use Rattle.std.specs.Option.{option_map, unwrap_or}
 use Rattle.sqlite_keyed.proofs.KeyedLemmas.{key-get_by}
@@ -20,7 +19,7 @@ use Rattle.tables.specs.Content.{Content}
 use Rattle.tables.specs.Line as table
 use Rattle.tables.specs.Line.{line_with_account}
 use Rattle.tables.specs.Whole.{IsWhole}
-use Rattle.sqlaccounts.specs.Accounts.{account_in, account_of, accounts_of, lines_of, row_of}
+use Rattle.sqlaccounts.specs.Accounts.{account_in, account_of, lines_of, row_of}
 use Rattle.sqlaccounts.specs.Finding.{IsDomainRoid, is_row_on}
 use Rattle.sqlaccounts.proofs.AccountLemmas.{get-accounts_of, get-found}
 use Rattle.sqlaccounts.proofs.BagLemmas.{bag-again, bag-nil}

@@ -1,9 +1,8 @@
 -- What an account that is opened means.
-use Rattle.std.proofs.Common.{◌≡◌, ℕ, pos, Bool, true, false, cond, ◌&&◌, length, List, [], filter, Option, Some, None, is_some, refl, sym, ap, ◌∙◌, int_eq}
+use Rattle.std.proofs.Common.{◌≡◌, ℕ, pos, true, false, cond, ◌&&◌, length, [], Option, Some, None, is_some, refl, sym, ap, ◌∙◌, int_eq}
 use Rattle.std.specs.FinMap.{get}
 use Rattle.std.specs.Option.{option_map, option_map_or, unwrap_or}
 use Rattle.sqlite_keyed.specs.Keyed.{insert_by}
-use Rattle.accounts.specs.declared.account.Account.{Account}
 use Rattle.accounts.specs.Account.{empty_account}
 use Rattle.accounts.specs.Lines.{balance}
 use Rattle.columns.specs.Numbers.{is_place}

@@ -1,5 +1,5 @@
 -- What one line less means.
-use Rattle.std.proofs.Common.{◌≡◌, ℕ, ℤ, pos, ◌+ℤ◌, ◌-ℤ◌, Bool, true, false, cond, ◌&&◌, length, List, [], ◌∷◌, ◌++◌, filter, find, Option, Some, None, IfSome, refl, sym, ap, subst, ◌∙◌, int_eq}
+use Rattle.std.proofs.Common.{◌≡◌, ℕ, ℤ, pos, ◌-ℤ◌, true, List, filter, find, Option, Some, None, IfSome, refl, sym, ap, subst, ◌∙◌, int_eq}
 use Rattle.std.specs.List.{filter_map, list_any}
 use Rattle.std.specs.Option.{option_map}
 use Rattle.sqlite_keyed.specs.Keyed.{IsKeyedBy}
@@ -11,18 +11,18 @@ use Rattle.accounts.proofs.LineLaws.{balance-add, lines_in_order}
 use Rattle.basis.specs.Bag.{add, bag_of, same, taken}
 use Rattle.basis.proofs.BagLaws.{any-bag_of, taken-absent, taken-add}
 use Rattle.columns.specs.Lines.{line_in}
-use Rattle.columns.specs.Numbers.{counter_in, is_place}
+use Rattle.columns.specs.Numbers.{is_place}
 use Rattle.tables.specs.Account as account_table
 use Rattle.tables.specs.Content.{Content}
 use Rattle.tables.specs.Line as table
 use Rattle.tables.specs.Line.{line_with_account}
 use Rattle.tables.specs.Whole.{IsWhole}
 use Rattle.columns.proofs.ReadLemmas.{same_some}
-use Rattle.sqlaccounts.specs.Accounts.{account_in, balance_in, lines_of, queue_of, row_of, standing}
+use Rattle.sqlaccounts.specs.Accounts.{account_in, balance_in, lines_of, row_of}
 use Rattle.sqlaccounts.specs.Changes.{IsChange, IsPaid, without_line}
 use Rattle.sqlaccounts.specs.Finding.{IsDomainRoid, is_row_about, reads_as}
 use Rattle.sqlaccounts.proofs.AccountLemmas.{unchanged}
-use Rattle.sqlaccounts.proofs.FindingLemmas.{Parts, equal, found, none-there, own-row, parts, reads}
+use Rattle.sqlaccounts.proofs.FindingLemmas.{equal, found, none-there, own-row, parts, reads}
 use Rattle.sqlaccounts.proofs.LineLemmas.{both-less, filter-without, lines-with, repaid}
 
 -- a line that isn't there
@@ -45,12 +45,12 @@ removed xs r line row new it up place there paid finds =
     let owner : it.account ≡ pos r = own-row r line.roid it seen.2 in
     let ps = parts (λ (x : table.Line). x.id) xs.lines it up seen.0 in
     let before : lines_of xs (pos r) ≡ add in_order line (lines_of ys (pos r)) =
-        ap (λ rows. bag_of in_order (filter_map line_in (filter (line_with_account (pos r)) rows))) ps.whole
-        ∙ lines-with (line_with_account (pos r)) ps.front ps.rest it line (equal _ _ owner) (reads line it (line_in it) refl seen.1)
-        ∙ ap (λ rows. add in_order line (bag_of in_order (filter_map line_in (filter (line_with_account (pos r)) rows)))) (sym ps.without) in
+    ap (λ rows. bag_of in_order (filter_map line_in (filter (line_with_account (pos r)) rows))) ps.whole
+    ∙ lines-with (line_with_account (pos r)) ps.front ps.rest it line (equal _ _ owner) (reads line it (line_in it) refl seen.1)
+    ∙ ap (λ rows. add in_order line (bag_of in_order (filter_map line_in (filter (line_with_account (pos r)) rows)))) (sym ps.without) in
     repaid xs ys r (taken in_order line) (pos 0 -ℤ amount line) row new place there paid refl refl
     (λ k e. ap (λ rows. bag_of in_order (filter_map line_in rows))
-        (ap (filter (line_with_account k)) ps.without ∙ sym (filter-without (line_with_account k) ps.front ps.rest it (ap (λ a. int_eq a k) owner ∙ e)) ∙ ap (filter (line_with_account k)) (sym ps.whole)))
+    (ap (filter (line_with_account k)) ps.without ∙ sym (filter-without (line_with_account k) ps.front ps.rest it (ap (λ a. int_eq a k) owner ∙ e)) ∙ ap (filter (line_with_account k)) (sym ps.whole)))
     (sym (ap (taken in_order line) before ∙ taken-add in_order lines_in_order line (lines_of ys (pos r))))
     (both-less (balance_in row.balance) (balance (lines_of ys (pos r))) (amount line) ∙ ap (int_eq (balance_in row.balance)) (sym (ap balance before ∙ balance-add line (lines_of ys (pos r)))))
     (record { metas = refl; contacts = refl; domains = refl; hosts = refl; addresses = refl; links = refl; transfers = refl })

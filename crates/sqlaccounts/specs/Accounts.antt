@@ -1,5 +1,5 @@
 -- The accounts that rows of the tables mean.
-use Rattle.std.specs.Prelude.{◌&&◌, ℕ, ℤ, pos, Bool, true, List, [], ◌∷◌, ◌++◌, fold, length, codes, decimal, Option, Some, None}
+use Rattle.std.specs.Prelude.{◌&&◌, ℕ, ℤ, pos, Bool, true, List, [], ◌∷◌, ◌++◌, fold, length, codes, decimal, Option}
 use Rattle.std.specs.FinMap.{FinMap, from_entries, get}
 use Rattle.std.specs.Int.{cast_signed, from_be_bytes, w128}
 use Rattle.std.specs.List.{filter, filter_map, list_all}
@@ -15,7 +15,7 @@ use Rattle.accounts.specs.Queue.{put}
 use Rattle.basis.specs.Bag.{bag_of}
 use Rattle.columns.specs.Lines.{line_in}
 use Rattle.columns.specs.Messages.{message_in}
-use Rattle.columns.specs.Numbers.{counter_in, registrar_column, registrar_in}
+use Rattle.columns.specs.Numbers.{counter_in, registrar_in}
 use Rattle.tables.specs.Account as account_table
 use Rattle.tables.specs.Content.{Content}
 use Rattle.tables.specs.Line.{line_with_account}

@@ -3,6 +3,9 @@
 //!
 //! Each account keeps its balance, and how many messages wait, in its own row. No call adds up lines.
 //! A question is answered where these sums are right, and each change keeps them right.
+//!
+//! Each call is some statements by an index. The lines on a domain are found by its columns, and no
+//! call but the taking out of a deposit goes over all lines of an account.
 #![tactic(auto)]
 
 mod account;

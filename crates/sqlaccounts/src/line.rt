@@ -1,14 +1,12 @@
 //! Lines of accounts, and what they add up to.
 ghost use Rattle.std.specs.Prelude.{◌≡◌, true, pos};
-ghost use Rattle.std.specs.FinMap.{get};
-ghost use Rattle.std.specs.Option.{option_map_or, unwrap_or};
+ghost use Rattle.std.specs.Option.{option_map_or};
 ghost use Rattle.tables.specs.Account.{Account};
-ghost use Rattle.accounts.specs.Account.{empty_account};
 ghost use Rattle.accounts.specs.Entries.{with_lines};
 ghost use Rattle.accounts.specs.Lines as lines;
 ghost use Rattle.accounts.specs.Lines.{in_order};
 ghost use Rattle.basis.specs.Bag.{add, taken};
-ghost use Rattle.sqlaccounts.specs.Accounts.{accounts_of, balance_in, sums_are_right};
+ghost use Rattle.sqlaccounts.specs.Accounts.{account_of, balance_in, sums_are_right};
 ghost use Rattle.sqlaccounts.specs.Changes.{IsChange, without_line};
 ghost use Rattle.meanings.specs.Calls.{Tells, Turns};
 ghost use Rattle.transactions.specs.States.{Makes};
@@ -26,7 +24,7 @@ use transactions::BookFault;
 
 /// What a registrar's account has, in whole cents: 0 where it was never opened.
 pub fn balance<S: Alter>(store: &mut RowStore<S>, registrar: RegistrarNo) -> Result<i128, BookFault>
-    ensures { Tells result (sums_are_right store.old.content) (lines.balance (unwrap_or (get (accounts_of store.old.content) registrar) empty_account).lines) store.old store.new }
+    ensures { Tells result (sums_are_right store.old.content) (lines.balance (account_of registrar store.old.content).lines) store.old store.new }
 {
     let row = maybe_row(store, registrar)?;
     Ok(cents_of(row))
@@ -41,8 +39,9 @@ fn cents_of(row: Option<AccountRow>) -> i128
     i128::from_be_bytes(row.balance)
 }
 
-/// Adds a line to a registrar's account. One that was never opened is refused, and so is a line on
-/// another object than a domain.
+/// Adds a line to a registrar's account, and what it is worth to the balance. Refused are an account
+/// that was never opened, and a line that no row can have: on another object than a domain, or of
+/// 2 ^ 63 cents or more.
 pub fn add_line<S: Alter>(
     store: &mut RowStore<S>,
     registrar: RegistrarNo,
@@ -59,7 +58,9 @@ pub fn add_line<S: Alter>(
     Ok(())
 }
 
-/// Takes a line out of a registrar's account, if it is there. One that was never opened is refused.
+/// Takes a line out of a registrar's account, if it is there, and what it is worth off the balance. An
+/// account that was never opened is refused. It looks at the lines on the line's domain alone, and of
+/// a deposit at all lines of the account.
 pub fn take_line<S: Alter>(
     store: &mut RowStore<S>,
     registrar: RegistrarNo,

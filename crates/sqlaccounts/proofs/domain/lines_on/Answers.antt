@@ -1,4 +1,4 @@
-use Rattle.std.proofs.Common.{◌≡◌, ap, subst, ◌∙◌}
+use Rattle.std.proofs.Common.{ap, subst, ◌∙◌}
 use Rattle.std.specs.List.{filter_map}
 use Rattle.accounts.specs.Lines.{in_order}
 use Rattle.basis.specs.Bag.{bag_of}

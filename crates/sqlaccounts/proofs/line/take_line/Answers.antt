@@ -1,4 +1,4 @@
-use Rattle.std.proofs.Common.{rules, ◌≡◌, ℤ, pos, ◌-ℤ◌, List, filter, subst, ap, sym, ◌∙◌, true, FitsSigned, to_z-of_z}
+use Rattle.std.proofs.Common.{rules, ◌≡◌, pos, ◌-ℤ◌, filter, subst, ap, sym, ◌∙◌, true, FitsSigned, to_z-of_z}
 use Rattle.std.specs.Int.{w128}
 use Rattle.accounts.specs.Lines.{amount}
 use Rattle.meanings.proofs.StateLemmas.{reads-on, then-made}

@@ -1,6 +1,5 @@
-use Rattle.std.proofs.Common.{rules, ◌≡◌, ◌∙◌, FitsSigned, ◌+ℤ◌, ℤ, pos, subst, sym, ap, to_z-of_z}
+use Rattle.std.proofs.Common.{rules, ◌∙◌, FitsSigned, ◌+ℤ◌, subst, sym, ap, to_z-of_z}
 use Rattle.std.specs.Int.{w128}
-use Rattle.sqlaccounts.specs.Accounts.{balance_in}
 use Rattle.tables.specs.Balance.{balance_bytes}
 use Rattle.tables.proofs.BalanceLemmas.{balance_read}
 use Rattle.sqlaccounts.proofs.paying.balance_after.Goals as goal
