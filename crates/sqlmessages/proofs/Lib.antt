@@ -1,0 +1,4 @@
+pub mod ColumnLemmas
+pub mod MessageLemmas
+pub mod QueueLemmas
+pub mod SortLemmas
