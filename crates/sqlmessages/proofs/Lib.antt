@@ -1,3 +1,4 @@
+pub mod CallLemmas
 pub mod ColumnLemmas
 pub mod MessageLemmas
 pub mod QueueLemmas

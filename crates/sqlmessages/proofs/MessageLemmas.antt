@@ -1,11 +1,12 @@
 -- What rows of messages mean for an account, and what one row more or less does.
-use Rattle.std.proofs.Common.{◌≡◌, ◌⊎◌, ℕ, ◌+◌, ℤ, pos, negsuc, ◌+ℤ◌, Bool, true, false, cond, not, ◌&&◌, ◌||◌, length, List, [], ◌∷◌, ◌++◌, filter, Option, Some, None, inl, inr, refl, sym, ap, subst, ◌∙◌, int_eq, arith, true≢false}
-use Rattle.std.proofs.lemmas.Bool.Decides.{Decides-int_eq}
+use Rattle.std.proofs.Common.{◌≡◌, ◌⊎◌, ℕ, ◌+◌, ℤ, pos, negsuc, ◌+ℤ◌, ◌<ℤ◌, Bool, true, false, cond, not, ◌&&◌, ◌||◌, length, List, [], ◌∷◌, ◌++◌, filter, Option, Some, None, inl, inr, refl, sym, ap, subst, ◌∙◌, int_eq, arith, true≢false}
+use Rattle.std.proofs.lemmas.Bool.Decides.{Decides-int_eq, nat_tests}
 use Rattle.std.proofs.lemmas.Int.{ints}
 use Rattle.std.proofs.lemmas.List.Elements.{filter-append, filter_map-append}
 use Rattle.std.proofs.lemmas.Map.Made.{length-remove_key}
-use Rattle.std.specs.Prelude.{slice_get}
+use Rattle.std.specs.Prelude.{slice_get, ◌==◌}
 use Rattle.std.specs.Cmp.{Equal-is, nat_cmp_total}
+use Rattle.std.proofs.lemmas.List.{append-nil}
 use Rattle.std.specs.FinMap.{get, get-insert, insert, same_map, nat_cmp-IsAntisymmetric}
 use Rattle.std.specs.List.{AllByRecursion, cons_option, filter_map, list_any}
 use Rattle.std.specs.Option.{option_map, unwrap_or}
@@ -34,6 +35,8 @@ use Rattle.tables.specs.Whole.{IsWhole}
 use Rattle.sqlaccounts.specs.Accounts.{account_in, accounts_of, balance_in, is_right, lines_of, put_all, queue_of, row_of, standing}
 use Rattle.sqlaccounts.specs.Changes.{AreOthersKept, IsChange}
 use Rattle.sqlaccounts.proofs.AccountLemmas.{changed, get-accounts_of, get-found}
+use Rattle.sqlmessages.specs.declared.queue.Found.{Found}
+use Rattle.sqlmessages.specs.Found.{IsFound}
 use Rattle.sqlmessages.specs.Rows.{IsWaitingMore, IsWritten}
 use Rattle.sqlmessages.proofs.ColumnLemmas.{message_first, row_cmp, row_cmp_total, same_columns, same_read}
 use Rattle.sqlmessages.proofs.QueueLemmas.{dropped-lacking, first-put_all, has-put_all, length-put, put-there, put_all-push, put_all-without, tie, tied, without}
@@ -185,7 +188,7 @@ requeued xs ms r f row new step place found more elsewhere here count =
     (λ i. int_eq (balance_in (cents i)) (balance (lines_of xs (same i))) && counted i)
     (record { metas = refl; contacts = refl; domains = refl; hosts = refl; addresses = refl; links = refl; transfers = refl })
 
--- ---- one row more
+-- ---- whether a message waits
 
 -- the rows of a message, under an account's number
 module _ (w : table.Message) (r : ℤ) (m : Message) (written : IsWritten r m w) where
@@ -213,3 +216,160 @@ module _ (w : table.Message) (r : ℤ) (m : Message) (written : IsWritten r m w)
       go [] none false is c e = absurd (true≢false (sym is))
       go (x ∷ rest) some true is c e = absurd (true≢false is)
       go (x ∷ rest) some false is c e = sym e ∙ said_there rows x (subst (λ rows. Has rows x) (sym some) (inl refl))
+
+nil_or : {X : Type 0} (xs : List X) (b : Bool) → (length xs == 0) ≡ b → b ≡ is_nil xs
+nil_or [] b e = sym e
+nil_or (x ∷ xs) true e = absurd (grind (arith, nat_tests))
+nil_or (x ∷ xs) false e = refl
+
+-- ---- a message is put
+
+module _ (xs : Content) (r : ℕ) (m : Message) (it : Found) (found : IsFound xs r m it) where
+  at : it.account.id ≡ pos r
+  at = key-get_by account_table.accounts.key xs.accounts (pos r) it.account (sym found.account)
+
+  waits : (b : Bool) → b ≡ is_nil it.same → list_any (tie m) (messages_in (of_account (pos r) xs.messages)) ≡ not b
+  waits b is = said it.row (pos r) m found.written xs.messages b (is ∙ ap is_nil found.same)
+
+  pub put_again : (length it.same == 0) ≡ false → IsChange r (with_queue (put m)) xs xs
+  put_again some =
+      unchanged xs r (with_queue (put m)) it.account found.place found.account
+      (λ i. record (account_in xs it.account) { queue = (ap (λ id. put m (queue_of xs id)) at ∙ put-there m (messages_in (of_account (pos r) xs.messages)) (waits false (nil_or it.same false some)) ∙ ap (queue_of xs) (sym at)) i })
+
+  pub nothing_taken : it.same ≡ [] → IsChange r (with_queue (dropped m)) xs xs
+  nothing_taken none =
+      let lacks : has m (queue_of xs (pos r)) ≡ false = has-put_all m (messages_in (of_account (pos r) xs.messages)) ∙ waits true (sym (ap is_nil none)) in
+      unchanged xs r (with_queue (dropped m)) it.account found.place found.account
+      (λ i. record (account_in xs it.account) { queue = (ap (λ id. dropped m (queue_of xs id)) at ∙ dropped-lacking m (queue_of xs (pos r)) lacks ∙ ap (queue_of xs) (sym at)) i })
+
+  -- the rows with one more
+  one : ℤ → table.Message
+  one id = record it.row { id = id }
+
+  key_now : ℤ
+  key_now = next_key table.messages.key xs.messages
+
+  elsewhere : (id : ℤ) → int_eq (pos r) id ≡ false → of_account id (one key_now ∷ []) ≡ []
+  unfolding one
+  elsewhere id apart = ap (λ b. cond b (one key_now ∷ []) []) (ap (λ a. int_eq a id) found.written.account ∙ apart)
+
+  here : of_account (pos r) (one key_now ∷ []) ≡ one key_now ∷ []
+  unfolding one
+  here = ap (λ b. cond b (one key_now ∷ []) []) ((Decides-int_eq it.row.account (pos r)).1 found.written.account)
+
+  pub put_in : (new : account_table.Account) → (length it.same == 0) ≡ true → IsWaitingMore (pos 1) it.account new
+      → IsChange r (with_queue (put m)) xs (accounts_to (λ rows. insert_by account_table.accounts.key rows new) (messages_to (appended table.messages (λ id. record it.row { id = id })) xs))
+  unfolding one key_now
+  put_in new none more =
+      let ms : List table.Message = xs.messages ++ one key_now ∷ [] in
+      let before : List Message = messages_in (of_account (pos r) xs.messages) in
+      let lacks : has m (queue_of xs (pos r)) ≡ false = has-put_all m before ∙ waits true (nil_or it.same true none) in
+      requeued xs ms r (put m) it.account new (pos 1) found.place found.account more
+      (λ id apart.
+          ap (λ rows. put_all (messages_in rows)) (filter-append (table.message_with_account id) xs.messages (one key_now ∷ []) ∙ ap (λ rows. of_account id xs.messages ++ rows) (elsewhere id apart))
+          ∙ ap (λ rows. put_all (messages_in rows)) (append-nil (of_account id xs.messages)))
+      (ap (λ rows. put_all (messages_in rows)) (filter-append (table.message_with_account (pos r)) xs.messages (one key_now ∷ []) ∙ ap (λ rows. of_account (pos r) xs.messages ++ rows) here)
+          ∙ ap put_all (filter_map-append message_in (of_account (pos r) xs.messages) (one key_now ∷ []) ∙ ap (λ o. before ++ cons_option o []) found.written.reads)
+          ∙ put_all-push before m)
+      (ap pos (length-put m (queue_of xs (pos r)) lacks))
+
+-- ---- a message is taken
+
+not_below : (a b : ℤ) → a ≡ b → a <ℤ b → ⊥
+not_below a b e below = grind (arith, ints)
+
+one_key : (xs : List table.Message) (y f : table.Message) → IsKeyedBy table.messages.key xs → Has xs y → Has xs f → y.id ≡ f.id → y ≡ f
+one_key [] y f keyed has also same = absurd has
+one_key (x ∷ xs) y f keyed (inl e) (inl g) same = e ∙ sym g
+one_key (x ∷ xs) y f keyed (inl e) (inr also) same =
+    let below : x.id <ℤ f.id = all_has (λ (z : table.Message). x.id <ℤ z.id) xs f keyed.0 also in
+    absurd (not_below y.id f.id same (subst (λ (z : table.Message). z.id <ℤ f.id) (sym e) below))
+one_key (x ∷ xs) y f keyed (inr has) (inl g) same =
+    let below : x.id <ℤ y.id = all_has (λ (z : table.Message). x.id <ℤ z.id) xs y keyed.0 has in
+    absurd (not_below f.id y.id (sym same) (subst (λ (z : table.Message). z.id <ℤ y.id) (sym g) below))
+one_key (x ∷ xs) y f keyed (inr has) (inr also) same = one_key xs y f keyed.1 has also same
+
+filter_alike : {X : Type 0} (p q : X → Bool) (xs : List X) → ((x : X) → Has xs x → p x ≡ q x) → filter p xs ≡ filter q xs
+filter_alike p q [] alike = refl
+filter_alike p q (x ∷ xs) alike =
+    ap (λ b. cond b (x ∷ filter p xs) (filter p xs)) (alike x (inl refl))
+    ∙ ap (λ rest. cond (q x) (x ∷ rest) rest) (filter_alike p q xs (λ y has. alike y (inr has)))
+
+one_test : (a b : Bool) → (a ≡ true → b ≡ true) → (b ≡ true → a ≡ true) → a ≡ b
+one_test true true f g = refl
+one_test false false f g = refl
+one_test true false f g = sym (f refl)
+one_test false true f g = g refl
+
+module _ (xs : Content) (r : ℕ) (m : Message) (it : Found) (found : IsFound xs r m it) (whole : IsWhole xs) (f : table.Message) (only_one : it.same ≡ f ∷ []) where
+  abbrev is_it : table.Message → Bool
+  is_it y = table.is_same_message it.row y
+
+  all_of_it : filter is_it xs.messages ≡ f ∷ []
+  all_of_it = sym found.same ∙ only_one
+
+  f_there : Has xs.messages f × (is_it f ≡ true)
+  f_there = has_filtered is_it xs.messages f (subst (λ rows. Has rows f) (sym all_of_it) (inl refl))
+
+  only_f : (y : table.Message) → (y ≡ f) ⊎ ⊥ → y ≡ f
+  only_f y (inl e) = e
+  only_f y (inr e) = absurd e
+
+  -- the row with its number is the one with its columns
+  same_removed : delete_where (table.message_with_id f.id) xs.messages ≡ delete_where is_it xs.messages
+  same_removed = filter_alike (λ y. not (table.message_with_id f.id y)) (λ y. not (is_it y)) xs.messages (λ y has. ap not (one_test (table.message_with_id f.id y) (is_it y)
+      (λ e. ap is_it (one_key xs.messages y f whole.keyed.messages has f_there.0 ((Decides-int_eq y.id f.id).0 e)) ∙ f_there.1)
+      (λ e. (Decides-int_eq y.id f.id).1 (ap (λ (z : table.Message). z.id) (only_f y (subst (λ rows. Has rows y) all_of_it (has_kept is_it xs.messages y has e)))))))
+
+  apart : (id : ℤ) (y : table.Message) → int_eq (pos r) id ≡ false → table.message_with_account id y ≡ true → not (is_it y) ≡ true
+  apart id y e mine = go (is_it y) refl
+    where
+      go : (b : Bool) → is_it y ≡ b → not b ≡ true
+      go false is = refl
+      go true is = absurd (true≢false (sym (ap (λ a. int_eq a id) (sym ((same_read it.row y m found.written.reads is).1 ∙ found.written.account)) ∙ mine) ∙ e))
+
+  -- others' messages stay, and one's own but this
+  kept_elsewhere : (id : ℤ) → int_eq (pos r) id ≡ false → of_account id (delete_where is_it xs.messages) ≡ of_account id xs.messages
+  kept_elsewhere id e = filter-filter (table.message_with_account id) (λ y. not (is_it y)) (λ y mine. apart id y e mine) xs.messages
+
+  left : (rows : List table.Message) → messages_in (of_account (pos r) (delete_where is_it rows)) ≡ without m (messages_in (of_account (pos r) rows))
+  left [] = refl
+  left (y ∷ ys) = go (table.message_with_account (pos r) y) (is_it y) (message_in y) refl refl refl (left ys)
+    where
+      go : (mine same : Bool) (o : Option Message) → table.message_with_account (pos r) y ≡ mine → is_it y ≡ same → message_in y ≡ o
+          → messages_in (of_account (pos r) (delete_where is_it ys)) ≡ without m (messages_in (of_account (pos r) ys))
+          → messages_in (of_account (pos r) (cond (not same) (y ∷ delete_where is_it ys) (delete_where is_it ys))) ≡ without m (messages_in (cond mine (y ∷ of_account (pos r) ys) (of_account (pos r) ys)))
+      go false true o a b e more = more
+      go false false o a b e more = ap (λ t. messages_in (cond t (y ∷ of_account (pos r) (delete_where is_it ys)) (of_account (pos r) (delete_where is_it ys)))) a ∙ more
+      go true true o a b e more =
+          more ∙ sym (ap (λ n. without m (cons_option n (messages_in (of_account (pos r) ys)))) (same_read it.row y m found.written.reads b).0 ∙ ap (λ t. cond (not t) (m ∷ without m (messages_in (of_account (pos r) ys))) (without m (messages_in (of_account (pos r) ys)))) (tied m))
+      go true false None a b e more =
+          ap (λ t. messages_in (cond t (y ∷ of_account (pos r) (delete_where is_it ys)) (of_account (pos r) (delete_where is_it ys)))) a
+          ∙ ap (λ n. cons_option n (messages_in (of_account (pos r) (delete_where is_it ys)))) e ∙ more
+          ∙ sym (ap (λ n. without m (cons_option n (messages_in (of_account (pos r) ys)))) e)
+      go true false (Some n) a b e more =
+          ap (λ t. messages_in (cond t (y ∷ of_account (pos r) (delete_where is_it ys)) (of_account (pos r) (delete_where is_it ys)))) a
+          ∙ ap (λ n. cons_option n (messages_in (of_account (pos r) (delete_where is_it ys)))) e ∙ ap (λ ms. n ∷ ms) more
+          ∙ sym (ap (λ n. without m (cons_option n (messages_in (of_account (pos r) ys)))) e
+              ∙ ap (λ t. cond (not t) (n ∷ without m (messages_in (of_account (pos r) ys))) (without m (messages_in (of_account (pos r) ys)))) (untied (tie m n) refl))
+        where
+          untied : (t : Bool) → tie m n ≡ t → tie m n ≡ false
+          untied false is = is
+          untied true is =
+              let one : m ≡ n = message_cmp_only m n ((Equal-is (message_cmp m n)).0 is) in
+              let columns : is_it y ≡ true = same_columns it.row y m ((Decides-int_eq y.account (pos r)).0 a ∙ sym found.written.account) found.written.reads (e ∙ ap Some (sym one)) in
+              absurd (true≢false (sym columns ∙ b))
+
+  fewer : (q : ℕ) (n : ℕ) → q + 1 ≡ n → pos q ≡ pos n +ℤ negsuc 0
+  fewer q n e = omega (arith, ints, e)
+
+  pub taken : (new : account_table.Account) → IsWaitingMore (negsuc 0) it.account new
+      → IsChange r (with_queue (dropped m)) xs (accounts_to (λ rows. insert_by account_table.accounts.key rows new) (messages_to (delete_where (table.message_with_id f.id)) xs))
+  taken new more =
+      let ms : List table.Message = delete_where (table.message_with_id f.id) xs.messages in
+      let before : List Message = messages_in (of_account (pos r) xs.messages) in
+      let there : list_any (tie m) before ≡ true = said it.row (pos r) m found.written xs.messages false (sym (ap is_nil all_of_it)) in
+      requeued xs ms r (dropped m) it.account new (negsuc 0) found.place found.account more
+      (λ id e. ap (λ rows. put_all (messages_in (of_account id rows))) same_removed ∙ ap (λ rows. put_all (messages_in rows)) (kept_elsewhere id e))
+      (ap (λ rows. put_all (messages_in (of_account (pos r) rows))) same_removed ∙ ap put_all (left xs.messages) ∙ put_all-without m before)
+      (fewer (length (dropped m (queue_of xs (pos r)))) (length (queue_of xs (pos r))) (length-remove_key (tie m) (queue_of xs (pos r)) (has-put_all m before ∙ there)))
