@@ -1,19 +1,15 @@
 -- What a message is in the columns of its row, and the order of rows.
-use Rattle.std.proofs.Common.{◌≡◌, ◌⊎◌, ℕ, ℤ, pos, Bool, true, false, cond, ◌&&◌, List, [], ◌∷◌, Option, Some, None, inl, inr, refl, sym, ap, subst, ◌∙◌, int_cmp, int_eq, nat_lt, nat_eq, arith, true≢false}
+use Rattle.std.proofs.Common.{◌≡◌, ℕ, ℤ, pos, Bool, true, false, cond, ◌&&◌, List, Option, Some, None, refl, sym, ap, subst, ◌∙◌, int_cmp, int_eq, nat_lt, nat_eq, arith}
 use Rattle.std.proofs.lemmas.Bool.{and_from, and_parts}
 use Rattle.std.proofs.lemmas.Bool.Decides.{Decides-int_eq, nat_tests}
-use Rattle.std.specs.Prelude.{slice_get}
 use Rattle.std.specs.declared.cmp.Ordering.{Ordering}
 use Rattle.std.specs.declared.cmp.Ordering.TheVariants.{Less, Equal, Greater}
-use Rattle.std.specs.Cmp.{Equal-is, IsTotalOrder, alike_right, int_cmp_total, nat_cmp_total, on_total, then_total, tied_itself}
+use Rattle.std.specs.Cmp.{Equal-is, IsTotalOrder, int_cmp_total, on_total, then_total, tied_itself}
 use Rattle.std.specs.Cmp.Lexicographic.{nat_list_cmp_total, slice_cmp}
 use Rattle.std.specs.FinMap.{nat_cmp-IsAntisymmetric, slice_cmp-IsAntisymmetric}
-use Rattle.std.specs.Ordering.{is_eq, is_gt, nat_cmp, ordering_reverse, ordering_then}
-use Rattle.sqlite_keyed.specs.Lists.{insert_sorted, sort_by}
-use Rattle.sqlite_rules.specs.Lists.{Has}
+use Rattle.std.specs.Ordering.{is_eq, is_gt, nat_cmp, ordering_then}
 use Rattle.sqlite_typed.specs.Tests.{bytes_eq}
 use Rattle.calendar.specs.Moment.{IsMoment}
-use Rattle.accounts.specs.declared.message.CommandNotice.{CommandNotice}
 use Rattle.accounts.specs.declared.message.Message.{Message}
 use Rattle.accounts.specs.declared.message.Origin.{Origin}
 use Rattle.accounts.specs.declared.message.Origin.TheVariants.{Lapse, Command}
@@ -184,17 +180,17 @@ row_order a b m n e f =
     let x = shown a m e in
     let y = shown b n f in
     (λ i. ordering_then (int_cmp (x.moment i) (y.moment i))
-        (ordering_then (int_cmp (x.class i) (y.class i))
-        (ordering_then (int_cmp (x.number i) (y.number i))
-        (ordering_then (slice_cmp nat_cmp (x.name i) (y.name i))
-        (ordering_then (int_cmp (x.subject i) (y.subject i))
-        (ordering_then (int_cmp (x.notice i) (y.notice i)) (int_cmp a.id b.id)))))))
+    (ordering_then (int_cmp (x.class i) (y.class i))
+    (ordering_then (int_cmp (x.number i) (y.number i))
+    (ordering_then (slice_cmp nat_cmp (x.name i) (y.name i))
+    (ordering_then (int_cmp (x.subject i) (y.subject i))
+    (ordering_then (int_cmp (x.notice i) (y.notice i)) (int_cmp a.id b.id)))))))
     ∙ (λ i. ordering_then (number_cmp m.moment n.moment i)
-        (ordering_then (number_cmp (class_of m.origin) (class_of n.origin) i)
-        (ordering_then (number_cmp (number_of m.origin) (number_of n.origin) i)
-        (ordering_then (slice_cmp nat_cmp m.name n.name)
-        (ordering_then (number_cmp (subject_rank m.subject) (subject_rank n.subject) i)
-        (ordering_then (number_cmp (tie_of m.origin) (tie_of n.origin) i) (int_cmp a.id b.id)))))))
+    (ordering_then (number_cmp (class_of m.origin) (class_of n.origin) i)
+    (ordering_then (number_cmp (number_of m.origin) (number_of n.origin) i)
+    (ordering_then (slice_cmp nat_cmp m.name n.name)
+    (ordering_then (number_cmp (subject_rank m.subject) (subject_rank n.subject) i)
+    (ordering_then (number_cmp (tie_of m.origin) (tie_of n.origin) i) (int_cmp a.id b.id)))))))
     ∙ all_parts (nat_cmp m.moment n.moment) (nat_cmp (class_of m.origin) (class_of n.origin)) (nat_cmp (number_of m.origin) (number_of n.origin)) (slice_cmp nat_cmp m.name n.name)
     (nat_cmp (subject_rank m.subject) (subject_rank n.subject)) (nat_cmp (tie_of m.origin) (tie_of n.origin)) (int_cmp a.id b.id)
 

@@ -1,5 +1,5 @@
 -- What rows of messages mean for an account, and what one row more or less does.
-use Rattle.std.proofs.Common.{◌≡◌, ◌⊎◌, ℕ, ◌+◌, ℤ, pos, negsuc, ◌+ℤ◌, ◌<ℤ◌, Bool, true, false, cond, not, ◌&&◌, ◌||◌, length, List, [], ◌∷◌, ◌++◌, filter, Option, Some, None, inl, inr, refl, sym, ap, subst, ◌∙◌, int_eq, arith, true≢false}
+use Rattle.std.proofs.Common.{◌≡◌, ◌⊎◌, ℕ, ◌+◌, ℤ, pos, negsuc, ◌+ℤ◌, ◌<ℤ◌, Bool, true, false, cond, not, ◌&&◌, length, List, [], ◌∷◌, ◌++◌, filter, Option, Some, None, inl, inr, refl, sym, ap, subst, ◌∙◌, int_eq, arith, true≢false}
 use Rattle.std.proofs.lemmas.Bool.Decides.{Decides-int_eq, nat_tests}
 use Rattle.std.proofs.lemmas.Int.{ints}
 use Rattle.std.proofs.lemmas.List.Elements.{filter-append, filter_map-append}
@@ -7,10 +7,10 @@ use Rattle.std.proofs.lemmas.Map.Made.{length-remove_key}
 use Rattle.std.specs.Prelude.{slice_get, ◌==◌}
 use Rattle.std.specs.Cmp.{Equal-is, nat_cmp_total}
 use Rattle.std.proofs.lemmas.List.{append-nil}
-use Rattle.std.specs.FinMap.{get, get-insert, insert, same_map, nat_cmp-IsAntisymmetric}
-use Rattle.std.specs.List.{AllByRecursion, cons_option, filter_map, list_any}
+use Rattle.std.specs.FinMap.{get, get-insert, same_map, nat_cmp-IsAntisymmetric}
+use Rattle.std.specs.List.{cons_option, filter_map, list_any}
 use Rattle.std.specs.Option.{option_map, unwrap_or}
-use Rattle.std.specs.Ordering.{eq_by_cmp, is_gt, nat_cmp}
+use Rattle.std.specs.Ordering.{eq_by_cmp, nat_cmp}
 use Rattle.sqlite_keyed.specs.Keyed.{IsKeyedBy, get_by, insert_by, next_key}
 use Rattle.sqlite_keyed.specs.Lists.{delete_where}
 use Rattle.sqlite_keyed.proofs.KeyedLemmas.{key-get_by}
@@ -32,8 +32,8 @@ use Rattle.tables.specs.Account as account_table
 use Rattle.tables.specs.Content.{Content, accounts_to, messages_to}
 use Rattle.tables.specs.Message as table
 use Rattle.tables.specs.Whole.{IsWhole}
-use Rattle.sqlaccounts.specs.Accounts.{account_in, accounts_of, balance_in, is_right, lines_of, put_all, queue_of, row_of, standing}
-use Rattle.sqlaccounts.specs.Changes.{AreOthersKept, IsChange}
+use Rattle.sqlaccounts.specs.Accounts.{account_in, accounts_of, balance_in, lines_of, put_all, queue_of, row_of, standing}
+use Rattle.sqlaccounts.specs.Changes.{IsChange}
 use Rattle.sqlaccounts.proofs.AccountLemmas.{changed, get-accounts_of, get-found}
 use Rattle.sqlmessages.specs.declared.queue.Found.{Found}
 use Rattle.sqlmessages.specs.Found.{IsFound}
@@ -181,8 +181,8 @@ requeued xs ms r f row new step place found more elsewhere here count =
     let cents : new.balance ≡ row.balance = ap (λ (a : account_table.Account). a.balance) more.rest in
     let waiting : new.waiting ≡ row.waiting +ℤ step = ap (λ (a : account_table.Account). a.waiting) more.rest in
     let counted : int_eq new.waiting (pos (length (queue_of ys new.id))) ≡ int_eq row.waiting (pos (length (queue_of xs row.id))) =
-        (λ i. int_eq (waiting i) (pos (length (queue i)))) ∙ ap (int_eq (row.waiting +ℤ step)) (ap (λ id. pos (length (f (queue_of xs id)))) at ∙ count ∙ sym (ap (λ id. pos (length (queue_of xs id)) +ℤ step) at))
-        ∙ shifted row.waiting (pos (length (queue_of xs row.id))) step in
+    (λ i. int_eq (waiting i) (pos (length (queue i)))) ∙ ap (int_eq (row.waiting +ℤ step)) (ap (λ id. pos (length (f (queue_of xs id)))) at ∙ count ∙ sym (ap (λ id. pos (length (queue_of xs id)) +ℤ step) at))
+    ∙ shifted row.waiting (pos (length (queue_of xs row.id))) step in
     changed xs ys r (with_queue f) row new place (sym found) refl same (ap standing more.rest) (λ id e. refl) elsewhere
     (λ i. record { lines = lines_of xs (same i); queue = queue i; commands = (account_in xs (more.rest i)).commands; messages = (account_in xs (more.rest i)).messages; serial = (account_in xs (more.rest i)).serial })
     (λ i. int_eq (balance_in (cents i)) (balance (lines_of xs (same i))) && counted i)
@@ -266,11 +266,11 @@ module _ (xs : Content) (r : ℕ) (m : Message) (it : Found) (found : IsFound xs
       let lacks : has m (queue_of xs (pos r)) ≡ false = has-put_all m before ∙ waits true (nil_or it.same true none) in
       requeued xs ms r (put m) it.account new (pos 1) found.place found.account more
       (λ id apart.
-          ap (λ rows. put_all (messages_in rows)) (filter-append (table.message_with_account id) xs.messages (one key_now ∷ []) ∙ ap (λ rows. of_account id xs.messages ++ rows) (elsewhere id apart))
-          ∙ ap (λ rows. put_all (messages_in rows)) (append-nil (of_account id xs.messages)))
+      ap (λ rows. put_all (messages_in rows)) (filter-append (table.message_with_account id) xs.messages (one key_now ∷ []) ∙ ap (λ rows. of_account id xs.messages ++ rows) (elsewhere id apart))
+      ∙ ap (λ rows. put_all (messages_in rows)) (append-nil (of_account id xs.messages)))
       (ap (λ rows. put_all (messages_in rows)) (filter-append (table.message_with_account (pos r)) xs.messages (one key_now ∷ []) ∙ ap (λ rows. of_account (pos r) xs.messages ++ rows) here)
-          ∙ ap put_all (filter_map-append message_in (of_account (pos r) xs.messages) (one key_now ∷ []) ∙ ap (λ o. before ++ cons_option o []) found.written.reads)
-          ∙ put_all-push before m)
+      ∙ ap put_all (filter_map-append message_in (of_account (pos r) xs.messages) (one key_now ∷ []) ∙ ap (λ o. before ++ cons_option o []) found.written.reads)
+      ∙ put_all-push before m)
       (ap pos (length-put m (queue_of xs (pos r)) lacks))
 
 -- ---- a message is taken
@@ -351,7 +351,7 @@ module _ (xs : Content) (r : ℕ) (m : Message) (it : Found) (found : IsFound xs
           ap (λ t. messages_in (cond t (y ∷ of_account (pos r) (delete_where is_it ys)) (of_account (pos r) (delete_where is_it ys)))) a
           ∙ ap (λ n. cons_option n (messages_in (of_account (pos r) (delete_where is_it ys)))) e ∙ ap (λ ms. n ∷ ms) more
           ∙ sym (ap (λ n. without m (cons_option n (messages_in (of_account (pos r) ys)))) e
-              ∙ ap (λ t. cond (not t) (n ∷ without m (messages_in (of_account (pos r) ys))) (without m (messages_in (of_account (pos r) ys)))) (untied (tie m n) refl))
+          ∙ ap (λ t. cond (not t) (n ∷ without m (messages_in (of_account (pos r) ys))) (without m (messages_in (of_account (pos r) ys)))) (untied (tie m n) refl))
         where
           untied : (t : Bool) → tie m n ≡ t → tie m n ≡ false
           untied false is = is

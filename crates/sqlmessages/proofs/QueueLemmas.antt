@@ -1,10 +1,10 @@
 -- The queue that messages make is the set of them, in their order.
-use Rattle.std.proofs.Common.{◌≡◌, ℕ, suc, ◌+◌, Bool, true, false, cond, not, ◌&&◌, ◌||◌, T, length, List, [], ◌∷◌, ◌++◌, map, fold, filter, Option, Some, None, is_some, inl, inr, refl, sym, ap, subst, ◌∙◌, arith, true≢false}
+use Rattle.std.proofs.Common.{◌≡◌, ◌+◌, Bool, true, false, cond, not, ◌&&◌, ◌||◌, T, length, List, [], ◌∷◌, ◌++◌, map, fold, filter, Option, Some, None, is_some, inl, inr, refl, sym, ap, ◌∙◌, arith, true≢false}
 use Rattle.std.specs.Prelude.{slice_get}
 use Rattle.std.proofs.lemmas.List.Sums.{fold-append}
 use Rattle.std.specs.declared.cmp.Ordering.{Ordering}
 use Rattle.std.specs.declared.cmp.Ordering.TheVariants.{Less, Equal, Greater}
-use Rattle.std.specs.Cmp.{Equal-is, alike_right, tied_itself}
+use Rattle.std.specs.Cmp.{Equal-is, tied_itself}
 use Rattle.std.specs.FinMap.Entries as entries
 use Rattle.std.specs.FinMap.Entries.{by_order, below_all, find, find-put, find-where_key, is_some-find, is_sorted, is_sorted-put, is_sorted-where_key, same_entries, where_key}
 use Rattle.std.specs.List.{list_any}
@@ -183,11 +183,11 @@ put_all-without m ms =
     let kept : List (Message × Unit {0}) = where_key message_cmp (λ k. not (tie m k)) (set_of ms) in
     sym (queue_is (without m ms))
     ∙ ap names (same_sets (set_of (without m ms)) kept (sorted (without m ms)) (is_sorted-where_key message_cmp (λ k. not (tie m k)) (set_of ms) (sorted ms)) (λ q.
-        found-marked q [] (without m ms)
-        ∙ ap mark_if (any-without m q ms)
-        ∙ split (not (tie m q)) (list_any (tie q) ms)
-        ∙ ap (λ o. cond (not (tie m q)) o None) (sym (found-marked q [] ms))
-        ∙ sym (find-where_key message_cmp (λ k. not (tie m k)) q (alike m q) (set_of ms))))
+    found-marked q [] (without m ms)
+    ∙ ap mark_if (any-without m q ms)
+    ∙ split (not (tie m q)) (list_any (tie q) ms)
+    ∙ ap (λ o. cond (not (tie m q)) o None) (sym (found-marked q [] ms))
+    ∙ sym (find-where_key message_cmp (λ k. not (tie m k)) q (alike m q) (set_of ms))))
     ∙ names-without m (set_of ms) (sorted ms)
     ∙ ap (dropped m) (queue_is ms)
 

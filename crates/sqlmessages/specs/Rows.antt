@@ -1,5 +1,5 @@
 -- The row of a message, and that of its account.
-use Rattle.std.specs.Prelude.{◌≡◌, ℤ, ◌+ℤ◌, pos, Some}
+use Rattle.std.specs.Prelude.{◌≡◌, ℤ, ◌+ℤ◌, Some}
 use Rattle.accounts.specs.declared.message.Message.{Message}
 use Rattle.columns.specs.Messages.{message_in}
 use Rattle.tables.specs.Account as account_table

@@ -5,5 +5,7 @@
 mod account;
 mod message;
 mod queue;
+#[cfg(test)]
+mod tests;
 
 pub use queue::{oldest, put_message, take_message};

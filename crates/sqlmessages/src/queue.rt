@@ -49,10 +49,7 @@ pub fn oldest<S: Alter>(
 }
 
 /// The first row of a queue, if there is one.
-fn first_row<S: Alter>(
-    store: &mut RowStore<S>,
-    id: Number,
-) -> Result<Option<MessageRow>, BookFault>
+fn first_row<S: Alter>(store: &mut RowStore<S>, id: Number) -> Result<Option<MessageRow>, BookFault>
     ensures { Finds result (slice_get (table.queue_of id store.old.content.messages) 0) store.old store.new }
 {
     let rows = store.first_messages_by_account(id)?;

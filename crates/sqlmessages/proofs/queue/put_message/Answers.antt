@@ -1,4 +1,4 @@
-use Rattle.std.proofs.Common.{◌≡◌, true, sym, ◌∙◌}
+use Rattle.std.proofs.Common.{sym, ◌∙◌}
 use Rattle.sqlite_keyed.specs.Keyed.{insert_by}
 use Rattle.rows.specs.Layouts.{appended}
 use Rattle.tables.specs.Account.{accounts}
