@@ -1,5 +1,5 @@
 //! Ids given to accounts.
-ghost use Rattle.std.specs.Prelude.{◌≡◌, true};
+ghost use Rattle.std.specs.Prelude.{◌≡◌, true, IfOk};
 ghost use Rattle.meanings.specs.Calls.{Turns};
 ghost use Rattle.sqlterms.specs.Changes.{IsRenaming};
 
@@ -7,8 +7,8 @@ use basis::text::Text;
 use meanings::only;
 use rows::Number;
 use sqlite::Alter;
-use std::alloc::Global;
-use tables::RowStore;
+use std::alloc::{AllocError, Global};
+use tables::{AccountRow, RowStore};
 use transactions::BookFault;
 
 /// Gives the accounts with the numbers from 1 on these ids. An account that isn't there is refused.
@@ -46,8 +46,15 @@ fn name_account<S: Alter>(
     let Some(row) = only(rows)? else {
         return Err(BookFault::Store);
     };
+    let named = with_ident(alloc, row, id)?;
+    store.put_account(&named)?;
+    Ok(())
+}
+
+fn with_ident(alloc: Global, row: AccountRow, id: &Text) -> Result<AccountRow, AllocError>
+    ensures { IfOk result (λ named. named ≡ record row { ident = id.now }) }
+{
     let mut row = row;
     row.ident = String::from_str(alloc, id.as_str())?;
-    store.put_account(&row)?;
-    Ok(())
+    Ok(row)
 }
