@@ -1,5 +1,6 @@
 -- What another row of meta means.
 use Rattle.std.proofs.Common.{◌≡◌, ℕ, ℤ, List, [], ◌∷◌, Option, Some, None, refl, sym, ap, ◌∙◌, int_cmp}
+use Rattle.std.proofs.lemmas.Bool.{leb-true}
 use Rattle.std.specs.Prelude.{slice_get}
 use Rattle.std.specs.Cmp.{int_cmp_total, tied_itself}
 use Rattle.std.specs.Option.{unwrap_or}
@@ -19,6 +20,10 @@ use Rattle.sqlterms.specs.Changes.{IsClockSet}
 use Rattle.sqlterms.specs.Clock.{clock_in, clock_of}
 use Rattle.sqlterms.specs.Meta.{meta_or_new, with_clock, with_terms}
 use Rattle.sqlterms.specs.Terms.{terms_at, terms_in}
+
+-- the first moment is one
+pub first_moment : IsMoment blank.clock
+first_moment = (leb-true 946_684_800 946_684_800 refl, leb-true 946_684_800 7_258_118_399 refl)
 
 first_row : (o : Option Meta) → slice_get (rows_of o) 0 ≡ o
 first_row None = refl
