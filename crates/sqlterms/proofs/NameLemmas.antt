@@ -1,6 +1,5 @@
 -- Accounts that have other idents.
-use Rattle.std.proofs.Common.{◌≡◌, ◌&&◌, ℕ, ℤ, ◌<ℤ◌, Bool, true, false, cond, List, [], ◌∷◌, map, filter, find, Option, Some, None, refl, sym, ap, subst, ◌∙◌, int_cmp, int_eq}
-use Rattle.std.proofs.lemmas.Bool.Decides.{Decides-int_eq}
+use Rattle.std.proofs.Common.{◌≡◌, ◌&&◌, ℕ, ℤ, ◌<ℤ◌, Bool, true, false, cond, List, [], ◌∷◌, map, filter, Option, Some, None, refl, sym, ap, ◌∙◌, int_cmp, int_eq}
 use Rattle.std.specs.Cmp.{int_cmp_total, tied_itself}
 use Rattle.std.specs.FinMap.{from_entries}
 use Rattle.std.specs.List.{filter_map, list_all}
@@ -8,7 +7,7 @@ use Rattle.std.specs.Option.{option_map, option_map_or}
 use Rattle.std.specs.Ordering.{match_ordering}
 use Rattle.std.specs.declared.cmp.Ordering.{Ordering}
 use Rattle.sqlite_keyed.specs.Keyed.{IsKeyedBy, get_by, insert_by}
-use Rattle.sqlite_keyed.proofs.KeyedLemmas.{Less-from_lt, key-get_by}
+use Rattle.sqlite_keyed.proofs.KeyedLemmas.{Less-from_lt}
 use Rattle.sqlite_rules.proofs.ListLemmas.{all_has, has_found}
 use Rattle.basis.specs.Bag.{bag_of}
 use Rattle.accounts.specs.Lines.{in_order}
@@ -17,8 +16,8 @@ use Rattle.columns.specs.Messages.{message_in}
 use Rattle.columns.specs.Numbers.{counter_in, registrar_in}
 use Rattle.tables.specs.Account.{Account, accounts}
 use Rattle.tables.specs.Content.{Content, accounts_to}
-use Rattle.tables.specs.Line.{Line, line_with_account}
-use Rattle.tables.specs.Message.{Message, message_with_account}
+use Rattle.tables.specs.Line.{line_with_account}
+use Rattle.tables.specs.Message.{message_with_account}
 use Rattle.sqlaccounts.specs.Accounts.{account_in, accounts_of, entries_of, has_right_sums, is_right, put_all, sums_are_right}
 use Rattle.sqlterms.specs.Changes.{IsRenaming, nameless}
 

@@ -1,5 +1,5 @@
 -- Other terms.
-use Rattle.std.proofs.Common.{◌≡◌, ℕ, List, Option, Some, refl, sym, ap, ◌∙◌}
+use Rattle.std.proofs.Common.{◌≡◌, ℕ, List, Option, Some, ap, ◌∙◌}
 use Rattle.std.specs.Prelude.{slice_get}
 use Rattle.sqlite_keyed.specs.Keyed.{insert_by}
 use Rattle.calendar.specs.Moment.{IsMoment}

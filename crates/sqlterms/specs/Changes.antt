@@ -1,5 +1,5 @@
 -- What calls make of the rows.
-use Rattle.std.specs.Prelude.{◌≡◌, ℕ, List, [], map, Some}
+use Rattle.std.specs.Prelude.{◌≡◌, ℕ, [], map, Some}
 use Rattle.policy.specs.declared.terms.Terms.{Terms}
 use Rattle.tables.specs.Account.{Account}
 use Rattle.tables.specs.Content.{Content}

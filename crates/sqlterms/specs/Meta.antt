@@ -1,5 +1,5 @@
 -- The one row of meta.
-use Rattle.std.specs.Prelude.{ℕ, ℤ, pos, List, [], Option, Some, None, slice_get}
+use Rattle.std.specs.Prelude.{ℕ, pos, List, [], Option, Some, None, slice_get}
 use Rattle.columns.specs.Numbers.{moment_column}
 use Rattle.model.specs.Registry.{blank}
 use Rattle.policy.specs.declared.terms.Terms.{Terms}

@@ -5,7 +5,7 @@ use Rattle.std.specs.Ordering.{int_eq}
 use Rattle.basis.specs.Sets.{Names}
 use Rattle.columns.specs.Numbers.{natural_in}
 use Rattle.columns.specs.Steps.{◌>>=◌}
-use Rattle.columns.specs.Texts.{street_in}
+use Rattle.columns.specs.Texts.{street_column, street_in}
 use Rattle.policy.specs.declared.days.Days.{Days}
 use Rattle.policy.specs.declared.prices.Prices.{Prices}
 use Rattle.policy.specs.declared.terms.Terms.{Terms}
@@ -51,6 +51,11 @@ prices_made create renew transfer = do
 
 abbrev pub prices_in : Meta → Option Prices
 prices_in row = prices_made (count_in row.price_create) (count_in row.price_renew) (count_in row.price_transfer)
+
+-- labels without a line feed, one in each line
+abbrev pub labels_column : List (List ℕ) → Option (List ℕ)
+labels_column [] = Some []
+labels_column (label ∷ labels) = street_column (label ∷ labels)
 
 -- the labels of a text, one in each line; an empty text is that of none
 abbrev pub labels_in : List ℕ → List (List ℕ)

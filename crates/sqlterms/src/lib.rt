@@ -8,6 +8,8 @@ mod labels;
 mod meta;
 mod naming;
 mod reading;
+#[cfg(test)]
+mod tests;
 mod writing;
 
 pub use reading::{clock, terms};

@@ -31,10 +31,7 @@ pub fn clock<S: Alter>(store: &mut RowStore<S>) -> Result<Moment, BookFault>
 }
 
 /// The terms that the registry is used under, if it was opened.
-pub fn terms<S: Alter>(
-    store: &mut RowStore<S>,
-    alloc: Global,
-) -> Result<Option<Terms>, BookFault>
+pub fn terms<S: Alter>(store: &mut RowStore<S>, alloc: Global) -> Result<Option<Terms>, BookFault>
     ensures { Finds result (spec.terms_of store.old.content) store.old store.new }
 {
     let Some(row) = maybe_meta(store)? else {

@@ -1,6 +1,5 @@
-use Rattle.std.proofs.Common.{◌≡◌, Some, sym, subst, ap, ◌∙◌, find}
+use Rattle.std.proofs.Common.{sym, subst, ap, ◌∙◌}
 use Rattle.sqlite_keyed.specs.Keyed.{insert_by}
-use Rattle.meanings.specs.Read.{rows_of}
 use Rattle.meanings.proofs.RowLemmas.{find_one}
 use Rattle.meanings.proofs.StateLemmas.{then-made}
 use Rattle.tables.specs.Account.{account_with_id, accounts}

@@ -1,10 +1,9 @@
-use Rattle.std.proofs.Common.{◌≡◌, true, Some, string_bytes, sym, ap, ◌∙◌}
+use Rattle.std.proofs.Common.{string_bytes, sym, ap, ◌∙◌}
 use Rattle.sqlite_keyed.specs.Keyed.{insert_by}
 use Rattle.tables.specs.Content.{Content, metas_to}
 use Rattle.tables.specs.Meta.{metas}
 use Rattle.sqlterms.specs.Changes.{IsRenaming}
 use Rattle.sqlterms.specs.Meta.{with_terms}
-use Rattle.sqlterms.specs.Terms.{terms_of}
 use Rattle.sqlterms.proofs.CallLemmas.{became-through}
 use Rattle.sqlterms.proofs.MetaLemmas.{first_moment}
 use Rattle.sqlterms.proofs.TermsLemmas.{terms_are_set}
