@@ -42,7 +42,7 @@ use Rattle.sqlmessages.proofs.ColumnLemmas.{message_first, row_cmp, row_cmp_tota
 use Rattle.sqlmessages.proofs.QueueLemmas.{dropped-lacking, first-put_all, has-put_all, length-put, put-there, put_all-push, put_all-without, tie, tied, without}
 use Rattle.sqlmessages.proofs.SortLemmas.{IsLeast, least-sort_by}
 
-abbrev pub is_nil : {X : Type 0} → List X → Bool
+abbrev is_nil : {X : Type 0} → List X → Bool
 is_nil [] = true
 is_nil (x ∷ xs) = false
 
@@ -135,7 +135,7 @@ oldest-found xs q it place whole is =
 
 -- ---- an account that stays as it is
 
-pub unchanged : (xs : Content) (r : ℕ) (f : Account → Account) (row : account_table.Account) → is_place r ≡ true → Some row ≡ row_of xs (pos r) → f (account_in xs row) ≡ account_in xs row → IsChange r f xs xs
+unchanged : (xs : Content) (r : ℕ) (f : Account → Account) (row : account_table.Account) → is_place r ≡ true → Some row ≡ row_of xs (pos r) → f (account_in xs row) ≡ account_in xs row → IsChange r f xs xs
 unchanged xs r f row place found same =
     let there : get (accounts_of xs) r ≡ Some (account_in xs row) = get-found xs r row place (sym found) in
     record {
@@ -167,7 +167,7 @@ shifted a b step = go (int_eq (a +ℤ step) (b +ℤ step)) (int_eq a b) refl ref
         absurd (true≢false (sym ((Decides-int_eq a b).1 is) ∙ f))
     go false true e f = absurd (true≢false (sym ((Decides-int_eq _ _).1 (ap (λ z. z +ℤ step) ((Decides-int_eq a b).0 f))) ∙ e))
 
-pub requeued : (xs : Content) (ms : List table.Message) (r : ℕ) (f : List Message → List Message) (row new : account_table.Account) (step : ℤ)
+requeued : (xs : Content) (ms : List table.Message) (r : ℕ) (f : List Message → List Message) (row new : account_table.Account) (step : ℤ)
     → is_place r ≡ true → Some row ≡ row_of xs (pos r) → IsWaitingMore step row new
     → ((id : ℤ) → int_eq (pos r) id ≡ false → put_all (messages_in (of_account id ms)) ≡ queue_of xs id)
     → put_all (messages_in (of_account (pos r) ms)) ≡ f (queue_of xs (pos r))
@@ -200,7 +200,7 @@ module _ (w : table.Message) (r : ℤ) (m : Message) (written : IsWritten r m w)
       some_from (tie m) (messages_in (of_account r rows)) m (has_read (of_account r rows) row m (has_kept (table.message_with_account r) rows row it.0 mine) read.0) (tied m)
 
   -- a row with these columns is there, so the message waits
-  pub said : (rows : List table.Message) (b : Bool) → b ≡ is_nil (filter (table.is_same_message w) rows) → list_any (tie m) (messages_in (of_account r rows)) ≡ not b
+  said : (rows : List table.Message) (b : Bool) → b ≡ is_nil (filter (table.is_same_message w) rows) → list_any (tie m) (messages_in (of_account r rows)) ≡ not b
   said rows b is = go (filter (table.is_same_message w) rows) refl b is (list_any (tie m) (messages_in (of_account r rows))) refl
     where
       go : (same : List table.Message) → filter (table.is_same_message w) rows ≡ same → (b : Bool) → b ≡ is_nil same

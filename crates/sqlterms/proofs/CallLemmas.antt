@@ -1,13 +1,7 @@
 -- What calls on the store, one after another, leave.
-use Rattle.std.proofs.Common.{◌≡◌, true, refl, sym, ap, subst, ◌∙◌}
-use Rattle.transactions.specs.States.{Reads, StateOf, Stays, Writes}
+use Rattle.std.proofs.Common.{◌≡◌, true, sym, ap, subst, ◌∙◌}
+use Rattle.transactions.specs.States.{Reads, StateOf, Writes}
 use Rattle.meanings.specs.Calls.{Became}
-
-pub became-stays : {X : Type 0} (way : X → X → Type 0) (a b c : StateOf X) → Became way a b → Stays b c → Stays a c
-became-stays way a b c became stays = record { clean = λ e. became.clean (stays.clean e); before = λ e. stays.before e ∙ became.before (stays.clean e) }
-
-pub became-itself : {X : Type 0} (way : X → X → Type 0) (a : StateOf X) → a.is_open ≡ true → way a.content a.content → Became way a a
-became-itself way a opened is = record { clean = λ e. e; before = λ e. refl; opened = opened; content = λ e. is }
 
 -- what was looked at is changed in two ways, and looked at again
 pub became-through : {X : Type 0} (mid way : X → X → Type 0) (h : X → X) (a b c d e : StateOf X)

@@ -35,7 +35,7 @@ insert_one (Some row) new e =
     ap (λ (r : Ordering). match_ordering r (row ∷ new ∷ []) (new ∷ []) (new ∷ row ∷ [])) (ap (int_cmp row.id) (sym e) ∙ tied_itself int_cmp_total row.id)
 
 module _ (xs : Content) (o : Option Meta) (is : xs.metas ≡ rows_of o) where
-  pub one_meta : (new : Meta) → (meta_or_new o).id ≡ new.id → insert_by metas.key xs.metas new ≡ new ∷ []
+  one_meta : (new : Meta) → (meta_or_new o).id ≡ new.id → insert_by metas.key xs.metas new ≡ new ∷ []
   one_meta new e = ap (λ rows. insert_by metas.key rows new) is ∙ insert_one o new e
 
   meta_was : slice_get xs.metas 0 ≡ o

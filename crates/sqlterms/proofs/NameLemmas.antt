@@ -27,7 +27,7 @@ key = accounts.key
 -- ---- one account
 
 -- a row in the place of one that differs in its ident
-pub put_renamed : (rows : List Account) (row new : Account) (id : ℤ) → IsKeyedBy key rows → get_by key rows id ≡ Some row → nameless new ≡ nameless row
+put_renamed : (rows : List Account) (row new : Account) (id : ℤ) → IsKeyedBy key rows → get_by key rows id ≡ Some row → nameless new ≡ nameless row
     → map nameless (insert_by key rows new) ≡ map nameless rows
 put_renamed [] row new id keyed found same = cc
 put_renamed (x ∷ xs) row new id keyed found same = go (int_eq x.id id) refl found (λ there. put_renamed xs row new id keyed.1 there same)
@@ -52,17 +52,6 @@ put_renamed (x ∷ xs) row new id keyed found same = go (int_eq x.id id) refl fo
 pub renamed_one : (xs : Content) (row new : Account) (id : ℤ) → IsKeyedBy key xs.accounts → get_by key xs.accounts id ≡ Some row → nameless new ≡ nameless row
     → IsRenaming xs (accounts_to (λ rows. insert_by key rows new) xs)
 renamed_one xs row new id keyed found same = record { rows = put_renamed xs.accounts row new id keyed found same; others = refl }
-
--- ---- one after another
-
-pub renamed_none : (xs : Content) → IsRenaming xs xs
-renamed_none xs = record { rows = refl; others = refl }
-
-pub renamed_more : (xs ys zs : Content) → IsRenaming xs ys → IsRenaming ys zs → IsRenaming xs zs
-renamed_more xs ys zs first second = record {
-  rows = second.rows ∙ first.rows;
-  others = ap (λ (s : Content). record s { accounts = xs.accounts }) second.others ∙ first.others;
-}
 
 -- ---- what accounts mean
 
