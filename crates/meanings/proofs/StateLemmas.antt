@@ -1,10 +1,18 @@
 -- One call after another.
-use Rattle.std.proofs.Common.{◌≡◌, Bool, true, List, filter, find, Option, Result, Ok, Err, IfOk, sym, ap, subst, ◌∙◌}
+use Rattle.std.proofs.Common.{◌≡◌, Bool, true, List, filter, find, Option, Result, Ok, Err, IfOk, refl, sym, ap, subst, ◌∙◌}
 use Rattle.transactions.specs.declared.fault.BookFault.{BookFault}
-use Rattle.transactions.specs.States.{Finds, Reads, StateOf, Writes}
+use Rattle.std.specs.Result.{IsErr}
+use Rattle.transactions.specs.States.{Finds, Meets, Reads, StateOf, Stays, Writes}
 use Rattle.meanings.specs.Calls.{Became}
 use Rattle.meanings.specs.Read.{rows_of}
 use Rattle.meanings.proofs.RowLemmas.{find_one}
+
+pub reads-same : {X : Type 0} (s : StateOf X) → Reads s s
+reads-same s = record { clean = λ e. e; before = λ e. refl; opened = refl; content = λ e. refl }
+
+-- what is read and then refused
+pub stays-on : {X : Type 0} (s m t : StateOf X) → Reads s m → Stays m t → Stays s t
+stays-on s m t a b = record { clean = λ e. a.clean (b.clean e); before = λ e. b.before e ∙ a.before (b.clean e) }
 
 pub reads-on : {X : Type 0} (s m t : StateOf X) → Reads s m → Reads m t → Reads s t
 reads-on s m t a b = record {
@@ -44,3 +52,8 @@ then-became first second whole a b c one two is = record {
   opened = two.opened;
   content = λ e. is (two.clean e) (one.content (two.clean e)) (two.content e);
 }
+
+-- whatever answer it is that has failed
+pub refused-meets : {A X : Type 0} (r : Result A BookFault) (is : A → Type 0) (old new : StateOf X) → IsErr r → Stays old new → Meets r is old new
+refused-meets (Err fault) is old new failed stays = stays
+refused-meets (Ok it) is old new failed stays = cc

@@ -2,7 +2,7 @@
 use Rattle.std.proofs.Common.{◌≡◌, ℕ, ℤ, pos, negsuc, Bool, true, false, cond, ◌&&◌, length, List, [], ◌∷◌, Option, Some, None, refl, sym, ap, ◌∙◌, int_eq, true≢false}
 use Rattle.std.proofs.lemmas.Bool.{and_parts}
 use Rattle.std.specs.Cmp.{eq_by_cmp_equiv, int_cmp_total, nat_cmp_total, tied_itself, Equal-is}
-use Rattle.std.specs.FinMap.{find, get, get-from_entries, get-insert, insert, same_map, nat_cmp-IsAntisymmetric}
+use Rattle.std.specs.FinMap.{find, get, get-from_entries, get-insert, same_map, nat_cmp-IsAntisymmetric}
 use Rattle.std.specs.List.{list_all}
 use Rattle.std.specs.Option.{option_map, option_map_or, unwrap_or}
 use Rattle.std.specs.Ordering.{eq_by_cmp, is_eq, nat_cmp}
@@ -15,7 +15,7 @@ use Rattle.columns.specs.Numbers.{exact_in, is_exact, is_place, registrar_in}
 use Rattle.tables.specs.Account as table
 use Rattle.tables.specs.Content.{Content, accounts_to}
 use Rattle.sqlaccounts.specs.Accounts.{account_in, accounts_of, balance_in, entries_of, has_right_sums, is_right, lines_of, queue_of, row_of, standing, standing_of, sums_are_right}
-use Rattle.sqlaccounts.specs.Changes.{AreOthersKept, IsChange, IsCounted, counters_in, counters_of, with_counters}
+use Rattle.sqlaccounts.specs.Changes.{AreOthersKept, IsChange, IsCounted, counters_in, counters_of, with_changed, with_counters}
 use Rattle.sqlaccounts.specs.declared.counting.Counters.{Counters}
 use Rattle.meanings.proofs.RowLemmas.{all-insert_by, all_with, get_by-insert_by}
 
@@ -131,29 +131,26 @@ module _ (xs : Content) (q : ℕ) (place : is_place q ≡ true) where
       ∙ ap (λ r. length (unwrap_or (option_map (account_in xs) r) empty_account).queue) is
       ∙ sym (ap (λ a. length (unwrap_or a empty_account).queue) get-place)
 
--- ---- one row in the place of another
+-- ---- one row in the place of another, or beside all others
 
-module _ (xs ys : Content) (r : ℕ) (f : Account → Account) (row new : table.Account)
-    (place : is_place r ≡ true) (found : row_of xs (pos r) ≡ Some row) (put : ys.accounts ≡ insert_by key xs.accounts new) (same : new.id ≡ row.id)
-    (stands : standing new ≡ standing row)
-    (lines : (id : ℤ) → int_eq (pos r) id ≡ false → lines_of ys id ≡ lines_of xs id)
-    (queues : (id : ℤ) → int_eq (pos r) id ≡ false → queue_of ys id ≡ queue_of xs id)
-    (here : account_in ys new ≡ f (account_in xs row)) (right : is_right ys new ≡ is_right xs row) (others : AreOthersKept xs ys) where
-  at : new.id ≡ pos r
-  at = same ∙ key-get_by key xs.accounts (pos r) row found
-
+module _ (xs ys : Content) (r : ℕ) (new : table.Account) (put : ys.accounts ≡ insert_by key xs.accounts new) (at : new.id ≡ pos r) where
   row_now : (id : ℤ) → row_of ys id ≡ cond (int_eq (pos r) id) (Some new) (row_of xs id)
   row_now id = ap (λ rows. get_by key rows id) put ∙ get_by-insert_by key xs.accounts new id ∙ ap (λ k. cond (int_eq k id) (Some new) (row_of xs id)) at
 
-  row_here : (id : ℤ) → int_eq (pos r) id ≡ true → row_of ys id ≡ Some new
+  pub row_here : (id : ℤ) → int_eq (pos r) id ≡ true → row_of ys id ≡ Some new
   row_here id e = row_now id ∙ ap (λ b. cond b (Some new) (row_of xs id)) e
 
-  row_there : (id : ℤ) → int_eq (pos r) id ≡ false → row_of ys id ≡ row_of xs id
+  pub row_there : (id : ℤ) → int_eq (pos r) id ≡ false → row_of ys id ≡ row_of xs id
   row_there id e = row_now id ∙ ap (λ b. cond b (Some new) (row_of xs id)) e
 
-  row_was : (id : ℤ) → int_eq (pos r) id ≡ true → row_of xs id ≡ Some row
-  row_was id e = ap (row_of xs) (sym (same_int (pos r) id e)) ∙ found
+tied : (r q : ℕ) → int_eq (pos r) (pos q) ≡ eq_by_cmp nat_cmp q r
+tied r q = nat-int r q ∙ (eq_by_cmp_equiv nat_cmp_total).symm r q
 
+module _ (xs ys : Content) (r : ℕ) (f : Account → Account) (new : table.Account)
+    (place : is_place r ≡ true) (put : ys.accounts ≡ insert_by key xs.accounts new) (at : new.id ≡ pos r)
+    (lines : (id : ℤ) → int_eq (pos r) id ≡ false → lines_of ys id ≡ lines_of xs id)
+    (queues : (id : ℤ) → int_eq (pos r) id ≡ false → queue_of ys id ≡ queue_of xs id)
+    (here : account_in ys new ≡ f (unwrap_or (get (accounts_of xs) r) empty_account)) (right : is_right ys new ≡ has_right_sums xs (pos r)) where
   apart : (id : ℤ) (x : table.Account) → row_of xs id ≡ Some x → int_eq (pos r) id ≡ false → int_eq (pos r) x.id ≡ false
   apart id x is e = ap (int_eq (pos r)) (key-get_by key xs.accounts id x is) ∙ e
 
@@ -172,48 +169,70 @@ module _ (xs ys : Content) (r : ℕ) (f : Account → Account) (row new : table.
 
   value_is : account_in ys new ≡ value
   unfolding value
-  value_is = here ∙ sym (ap (λ a. f (unwrap_or a empty_account)) (get-found xs r row place found))
+  value_is = here
 
   account-at : (q : ℕ) (b : Bool) → int_eq (pos r) (pos q) ≡ b → eq_by_cmp nat_cmp q r ≡ b
       → account_at ys q (row_of ys (pos q)) ≡ cond b (Some value) (get (accounts_of xs) q)
-  account-at q true e tied =
-      ap (account_at ys q) (row_here (pos q) e)
-      ∙ ap (λ b. cond b (Some (account_in ys new)) None) (ap is_place (nat_cmp-IsAntisymmetric q r ((Equal-is (nat_cmp q r)).0 tied)) ∙ place)
+  account-at q true e same =
+      ap (account_at ys q) (row_here xs ys r new put at (pos q) e)
+      ∙ ap (λ b. cond b (Some (account_in ys new)) None) (ap is_place (nat_cmp-IsAntisymmetric q r ((Equal-is (nat_cmp q r)).0 same)) ∙ place)
       ∙ ap Some value_is
-  account-at q false e tied =
-      ap (account_at ys q) (row_there (pos q) e)
+  account-at q false e same =
+      ap (account_at ys q) (row_there xs ys r new put at (pos q) e)
       ∙ ap (λ a. cond (is_place q) a None) (account-there (row_of xs (pos q)) (pos q) refl e)
       ∙ sym (get-accounts_of xs q)
 
-  tied : (q : ℕ) → int_eq (pos r) (pos q) ≡ eq_by_cmp nat_cmp q r
-  tied q = nat-int r q ∙ (eq_by_cmp_equiv nat_cmp_total).symm r q
-
-  accounts-now : accounts_of ys ≡ insert (accounts_of xs) r value
-  accounts-now = same_map nat_cmp_total nat_cmp-IsAntisymmetric _ _ (λ q.
-      get-accounts_of ys q ∙ account-at q (eq_by_cmp nat_cmp q r) (tied q) refl ∙ sym (get-insert nat_cmp_total (accounts_of xs) r value q))
+  pub accounts-put : accounts_of ys ≡ with_changed f (accounts_of xs) r
+  unfolding value
+  accounts-put = same_map nat_cmp_total nat_cmp-IsAntisymmetric _ _ (λ q.
+      get-accounts_of ys q ∙ account-at q (eq_by_cmp nat_cmp q r) (tied r q) refl ∙ sym (get-insert nat_cmp_total (accounts_of xs) r value q))
 
   rights : (id : ℤ) (b : Bool) → int_eq (pos r) id ≡ b → has_right_sums ys id ≡ has_right_sums xs id
-  rights id true e = ap (λ o. option_map_or (is_right ys) o true) (row_here id e) ∙ right ∙ sym (ap (λ o. option_map_or (is_right xs) o true) (row_was id e))
-  rights id false e = ap (λ o. option_map_or (is_right ys) o true) (row_there id e) ∙ right-elsewhere (row_of xs id) id refl e
+  rights id true e =
+      ap (λ o. option_map_or (is_right ys) o true) (row_here xs ys r new put at id e) ∙ right ∙ ap (has_right_sums xs) (same_int (pos r) id e)
+  rights id false e =
+      ap (λ o. option_map_or (is_right ys) o true) (row_there xs ys r new put at id e) ∙ right-elsewhere (row_of xs id) id refl e
 
-  sums-now : sums_are_right ys ≡ sums_are_right xs
-  sums-now =
+  own : (o : Option table.Account) → row_of xs (pos r) ≡ o
+      → (has_right_sums xs (pos r) && list_all (λ x. has_right_sums xs (key x)) xs.accounts) ≡ list_all (λ x. has_right_sums xs (key x)) xs.accounts
+  own None e = ap (λ o. option_map_or (is_right xs) o true && list_all (λ x. has_right_sums xs (key x)) xs.accounts) e
+  own (Some row) e = all_with key (has_right_sums xs) xs.accounts (pos r) row e
+
+  pub sums-put : sums_are_right ys ≡ sums_are_right xs
+  sums-put =
       ap (list_all (λ x. has_right_sums ys (key x))) put
       ∙ all-insert_by key (has_right_sums ys) xs.accounts new
       ∙ (λ i. rights new.id _ refl i && list_all (λ (x : table.Account). rights x.id _ refl i) xs.accounts)
       ∙ ap (λ k. has_right_sums xs k && list_all (λ x. has_right_sums xs (key x)) xs.accounts) at
-      ∙ all_with key (has_right_sums xs) xs.accounts (pos r) row found
+      ∙ own (row_of xs (pos r)) refl
+
+module _ (xs ys : Content) (r : ℕ) (f : Account → Account) (row new : table.Account)
+    (place : is_place r ≡ true) (found : row_of xs (pos r) ≡ Some row) (put : ys.accounts ≡ insert_by key xs.accounts new) (same : new.id ≡ row.id)
+    (stands : standing new ≡ standing row)
+    (lines : (id : ℤ) → int_eq (pos r) id ≡ false → lines_of ys id ≡ lines_of xs id)
+    (queues : (id : ℤ) → int_eq (pos r) id ≡ false → queue_of ys id ≡ queue_of xs id)
+    (here : account_in ys new ≡ f (account_in xs row)) (right : is_right ys new ≡ is_right xs row) (others : AreOthersKept xs ys) where
+  at : new.id ≡ pos r
+  at = same ∙ key-get_by key xs.accounts (pos r) row found
+
+  value_here : account_in ys new ≡ f (unwrap_or (get (accounts_of xs) r) empty_account)
+  value_here = here ∙ sym (ap (λ a. f (unwrap_or a empty_account)) (get-found xs r row place found))
+
+  right_here : is_right ys new ≡ has_right_sums xs (pos r)
+  right_here = right ∙ sym (ap (λ o. option_map_or (is_right xs) o true) found)
+
+  row_was : (id : ℤ) → int_eq (pos r) id ≡ true → row_of xs id ≡ Some row
+  row_was id e = ap (row_of xs) (sym (same_int (pos r) id e)) ∙ found
 
   standing-at : (id : ℤ) (b : Bool) → int_eq (pos r) id ≡ b → standing_of ys id ≡ standing_of xs id
-  standing-at id true e = ap (option_map standing) (row_here id e) ∙ ap Some stands ∙ sym (ap (option_map standing) (row_was id e))
-  standing-at id false e = ap (option_map standing) (row_there id e)
+  standing-at id true e = ap (option_map standing) (row_here xs ys r new put at id e) ∙ ap Some stands ∙ sym (ap (option_map standing) (row_was id e))
+  standing-at id false e = ap (option_map standing) (row_there xs ys r new put at id e)
 
   pub changed : IsChange r f xs ys
-  unfolding value
   changed = record {
     there = (account_in xs row, get-found xs r row place found);
-    accounts = accounts-now;
-    sums = sums-now;
+    accounts = accounts-put xs ys r f new place put at lines queues value_here right_here;
+    sums = sums-put xs ys r f new place put at lines queues value_here right_here;
     standings = λ id. standing-at id _ refl;
     others = others;
   }
@@ -230,3 +249,31 @@ counted xs r x row new place found it =
     (λ i. record { lines = lines_of xs (id i); queue = queue_of xs (id i); commands = (it.back i).commands; messages = (it.back i).messages; serial = (it.back i).serial })
     (λ i. int_eq (balance_in (cents i)) (balance (lines_of xs (id i))) && int_eq (waiting i) (pos (length (queue_of xs (id i)))))
     (record { metas = refl; contacts = refl; domains = refl; hosts = refl; addresses = refl; links = refl; transfers = refl })
+
+-- ---- nothing changed
+
+module _ (xs : Content) (r : ℕ) (f : Account → Account) (row : table.Account) (place : is_place r ≡ true) (there : row_of xs (pos r) ≡ Some row) (still : f (account_in xs row) ≡ account_in xs row) where
+  stays : Account
+  stays = f (unwrap_or (get (accounts_of xs) r) empty_account)
+
+  stays_is : get (accounts_of xs) r ≡ Some stays
+  unfolding stays
+  stays_is = get-found xs r row place there ∙ ap Some (sym still ∙ sym (ap (λ a. f (unwrap_or a empty_account)) (get-found xs r row place there)))
+
+  stays_at : (q : ℕ) (b : Bool) → eq_by_cmp nat_cmp q r ≡ b → get (accounts_of xs) q ≡ cond b (Some stays) (get (accounts_of xs) q)
+  stays_at q true e = ap (get (accounts_of xs)) (nat_cmp-IsAntisymmetric q r ((Equal-is (nat_cmp q r)).0 e)) ∙ stays_is
+  stays_at q false e = refl
+
+  pub kept_accounts : accounts_of xs ≡ with_changed f (accounts_of xs) r
+  unfolding stays
+  kept_accounts = same_map nat_cmp_total nat_cmp-IsAntisymmetric _ _ (λ q. stays_at q (eq_by_cmp nat_cmp q r) refl ∙ sym (get-insert nat_cmp_total (accounts_of xs) r stays q))
+
+  -- an account that stays as it is
+  pub unchanged : IsChange r f xs xs
+  unchanged = record {
+    there = (account_in xs row, get-found xs r row place there);
+    accounts = kept_accounts;
+    sums = refl;
+    standings = λ id. refl;
+    others = record { metas = refl; contacts = refl; domains = refl; hosts = refl; addresses = refl; links = refl; transfers = refl };
+  }

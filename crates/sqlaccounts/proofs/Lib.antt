@@ -1,2 +1,10 @@
 pub mod AccountLemmas
+pub mod BagLemmas
 pub mod CallLemmas
+pub mod FindingLemmas
+pub mod LineLemmas
+pub mod LinesOnLemmas
+pub mod OpeningLemmas
+pub mod SwapLemmas
+pub mod TakingLemmas
+pub mod WholeLemmas

@@ -1,20 +1,21 @@
 -- The accounts that rows of the tables mean.
-use Rattle.std.specs.Prelude.{◌&&◌, ℕ, ℤ, pos, Bool, true, List, [], ◌∷◌, ◌++◌, fold, length, codes, decimal, Option, Some, None}
-use Rattle.std.specs.FinMap.{FinMap, from_entries}
+use Rattle.std.specs.Prelude.{◌&&◌, ℕ, ℤ, pos, Bool, true, List, [], ◌∷◌, ◌++◌, fold, length, codes, decimal, Option}
+use Rattle.std.specs.FinMap.{FinMap, from_entries, get}
 use Rattle.std.specs.Int.{cast_signed, from_be_bytes, w128}
 use Rattle.std.specs.List.{filter, filter_map, list_all}
-use Rattle.std.specs.Option.{option_map, option_map_or}
+use Rattle.std.specs.Option.{option_map, option_map_or, unwrap_or}
 use Rattle.std.specs.Ordering.{int_eq, nat_cmp}
 use Rattle.sqlite_keyed.specs.Keyed.{get_by}
 use Rattle.accounts.specs.declared.account.Account.{Account}
 use Rattle.accounts.specs.declared.line.Line.{Line}
 use Rattle.accounts.specs.declared.message.Message.{Message}
+use Rattle.accounts.specs.Account.{empty_account}
 use Rattle.accounts.specs.Lines.{balance, in_order}
 use Rattle.accounts.specs.Queue.{put}
 use Rattle.basis.specs.Bag.{bag_of}
 use Rattle.columns.specs.Lines.{line_in}
 use Rattle.columns.specs.Messages.{message_in}
-use Rattle.columns.specs.Numbers.{counter_in, registrar_column, registrar_in}
+use Rattle.columns.specs.Numbers.{counter_in, registrar_in}
 use Rattle.tables.specs.Account as account_table
 use Rattle.tables.specs.Content.{Content}
 use Rattle.tables.specs.Line.{line_with_account}
@@ -49,6 +50,10 @@ entries_of xs (row ∷ rows) = option_map_or (λ place. (place, account_in xs ro
 
 abbrev pub accounts_of : Content → FinMap nat_cmp Account
 accounts_of xs = from_entries (entries_of xs xs.accounts)
+
+-- what a registrar's account has: nothing where it was never opened
+abbrev pub account_of : ℕ → Content → Account
+account_of r xs = unwrap_or (get (accounts_of xs) r) empty_account
 
 -- the first row with a number
 abbrev pub row_of : Content → ℤ → Option account_table.Account

@@ -1,16 +1,21 @@
 -- What calls make of the rows.
-use Rattle.std.specs.Prelude.{◌≡◌, ℕ, ℤ, ◌+ℤ◌, Bool, true, false, List, Option, Some}
+use Rattle.std.specs.Prelude.{◌≡◌, ℕ, ℤ, pos, ◌+ℤ◌, false, Option, Some}
 use Rattle.std.specs.FinMap.{FinMap, get, insert}
 use Rattle.std.specs.Option.{option_map_or, unwrap_or}
 use Rattle.std.specs.Ordering.{int_eq, nat_cmp}
 use Rattle.sqlite_keyed.specs.Keyed.{insert_by}
+use Rattle.sqlite_keyed.specs.Lists.{delete_where}
 use Rattle.accounts.specs.declared.account.Account.{Account}
 use Rattle.accounts.specs.Account.{empty_account}
-use Rattle.columns.specs.Numbers.{counter_column, counter_in}
+use Rattle.accounts.specs.declared.line.Line.{Line}
+use Rattle.columns.specs.Lines.{line_in}
+use Rattle.columns.specs.Numbers.{counter_column, counter_in, registrar_column}
 use Rattle.tables.specs.Account as account_table
-use Rattle.tables.specs.Content.{Content, accounts_to}
+use Rattle.tables.specs.Balance.{balance_bytes}
+use Rattle.tables.specs.Content.{Content, accounts_to, lines_to}
+use Rattle.tables.specs.Line as line_table
 use Rattle.sqlaccounts.specs.declared.counting.Counters.{Counters}
-use Rattle.sqlaccounts.specs.Accounts.{accounts_of, balance_in, row_of, standing_of, sums_are_right}
+use Rattle.sqlaccounts.specs.Accounts.{accounts_of, balance_in, place_ident, row_of, standing_of, sums_are_right}
 
 -- the accounts, where a registrar's is changed; what was never opened is opened
 abbrev pub with_changed : (Account → Account) → FinMap nat_cmp Account → ℕ → FinMap nat_cmp Account
@@ -41,6 +46,28 @@ pub record IsChange (r : ℕ) (f : Account → Account) (old new : Content) : Ty
   pub standings : (id : ℤ) → standing_of new id ≡ standing_of old id
   pub others : AreOthersKept old new
 
+-- the row of an account that was just opened
+abbrev pub opened_row : ℕ → account_table.Account
+opened_row r = record { id = registrar_column r; ident = place_ident r; commands = pos 0; messages = pos 0; serial = pos 0; waiting = pos 0; balance = balance_bytes (pos 0); held = pos 0 }
+
+-- A registrar has an account. A row that was there stays as it is, and where its own wasn't there is
+-- one of an account that was just opened.
+pub record IsOpened (r : ℕ) (old new : Content) : Type 0 where
+  pub accounts : accounts_of new ≡ with_changed (λ a. a) (accounts_of old) r
+  pub sums : sums_are_right new ≡ sums_are_right old
+  pub own : row_of new (registrar_column r) ≡ Some (unwrap_or (row_of old (registrar_column r)) (opened_row r))
+  pub rows : (id : ℤ) → int_eq (registrar_column r) id ≡ false → row_of new id ≡ row_of old id
+  pub others : AreOthersKept old new
+  pub lines : new.lines ≡ old.lines
+  pub messages : new.messages ≡ old.messages
+
+-- ---- one row of account put for another
+
+-- the balance alone is another, by so many cents
+pub record IsPaid (cents : ℤ) (row changed : account_table.Account) : Type 0 where
+  pub rest : changed ≡ record row { balance = changed.balance }
+  pub sum : balance_in changed.balance ≡ balance_in row.balance +ℤ cents
+
 abbrev pub counted_in : account_table.Account → Counters
 counted_in row = record { commands = counter_in row.commands; messages = counter_in row.messages; serial = counter_in row.serial }
 
@@ -52,3 +79,14 @@ counters_in row = option_map_or counted_in row (record { commands = 0; messages 
 pub record IsCounted (x : Counters) (row changed : account_table.Account) : Type 0 where
   pub rest : changed ≡ record row { commands = counter_column x.commands; messages = counter_column x.messages; serial = counter_column x.serial }
   pub back : counted_in changed ≡ x
+
+-- ---- one row of line more, or less
+
+-- a row of the account's that reads as this line
+pub record IsWritten (r : ℕ) (line : Line) (row : line_table.Line) : Type 0 where
+  pub account : row.account ≡ registrar_column r
+  pub reads : line_in row ≡ Some line
+
+-- without the row of line that has this number, and with this row of account in its place
+abbrev pub without_line : ℤ → account_table.Account → Content → Content
+without_line id account xs = accounts_to (λ rows. insert_by account_table.accounts.key rows account) (lines_to (delete_where (line_table.line_with_id id)) xs)

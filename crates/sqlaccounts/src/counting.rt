@@ -1,9 +1,6 @@
 //! What an account counts.
 ghost use Rattle.std.specs.Prelude.{◌≡◌, true};
-ghost use Rattle.std.specs.FinMap.{get};
-ghost use Rattle.std.specs.Option.{unwrap_or};
-ghost use Rattle.accounts.specs.Account.{empty_account};
-ghost use Rattle.sqlaccounts.specs.Accounts.{accounts_of, sums_are_right};
+ghost use Rattle.sqlaccounts.specs.Accounts.{account_of, sums_are_right};
 ghost use Rattle.sqlaccounts.specs.Changes.{IsChange, IsCounted, counters_in, counters_of, with_counters};
 ghost use Rattle.meanings.specs.Calls.{Tells, Turns};
 ghost use Rattle.columns.specs.Numbers.{registrar_column};
@@ -30,7 +27,7 @@ pub fn counts<S: Alter>(
     store: &mut RowStore<S>,
     registrar: RegistrarNo,
 ) -> Result<Counters, BookFault>
-    ensures { Tells result (sums_are_right store.old.content) (counters_of (unwrap_or (get (accounts_of store.old.content) registrar) empty_account)) store.old store.new }
+    ensures { Tells result (sums_are_right store.old.content) (counters_of (account_of registrar store.old.content)) store.old store.new }
 {
     let row = maybe_row(store, registrar)?;
     Ok(counted(row))

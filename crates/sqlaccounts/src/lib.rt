@@ -3,13 +3,25 @@
 //!
 //! Each account keeps its balance, and how many messages wait, in its own row. No call adds up lines.
 //! A question is answered where these sums are right, and each change keeps them right.
+//!
+//! Each call is some statements by an index. The lines on a domain are found by its columns, and no
+//! call but the taking out of a deposit goes over all lines of an account.
 #![tactic(auto)]
 
 mod account;
 mod counting;
+mod domain;
+mod finding;
 mod line;
 mod message;
+mod opening;
+mod paying;
+#[cfg(test)]
+mod tests;
+mod writing;
 
 pub use counting::{Counters, counts, set_counters};
-pub use line::balance;
+pub use domain::{lines_on, swaps};
+pub use line::{add_line, balance, take_line};
 pub use message::waiting;
+pub use opening::open_account;

@@ -1,22 +1,30 @@
 //! Lines of accounts, and what they add up to.
-ghost use Rattle.std.specs.Prelude.{◌≡◌, pos};
-ghost use Rattle.std.specs.FinMap.{get};
-ghost use Rattle.std.specs.Option.{option_map_or, unwrap_or};
+ghost use Rattle.std.specs.Prelude.{◌≡◌, true, pos};
+ghost use Rattle.std.specs.Option.{option_map_or};
 ghost use Rattle.tables.specs.Account.{Account};
-ghost use Rattle.accounts.specs.Account.{empty_account};
+ghost use Rattle.accounts.specs.Entries.{with_lines};
 ghost use Rattle.accounts.specs.Lines as lines;
-ghost use Rattle.sqlaccounts.specs.Accounts.{accounts_of, balance_in, sums_are_right};
-ghost use Rattle.meanings.specs.Calls.{Tells};
+ghost use Rattle.accounts.specs.Lines.{in_order};
+ghost use Rattle.basis.specs.Bag.{add, taken};
+ghost use Rattle.sqlaccounts.specs.Accounts.{account_of, balance_in, sums_are_right};
+ghost use Rattle.sqlaccounts.specs.Changes.{IsChange, without_line};
+ghost use Rattle.meanings.specs.Calls.{Tells, Turns};
+ghost use Rattle.transactions.specs.States.{Makes};
 
-use crate::account::maybe_row;
+use crate::account::{found_row, maybe_row};
+use crate::finding::{number_of_line, rows_about};
+use crate::paying::{less, paid};
+use crate::writing::written;
+use accounts::Line;
 use basis::registrar::RegistrarNo;
+use rows::Number;
 use sqlite::Alter;
 use tables::{AccountRow, RowStore};
 use transactions::BookFault;
 
 /// What a registrar's account has, in whole cents: 0 where it was never opened.
 pub fn balance<S: Alter>(store: &mut RowStore<S>, registrar: RegistrarNo) -> Result<i128, BookFault>
-    ensures { Tells result (sums_are_right store.old.content) (lines.balance (unwrap_or (get (accounts_of store.old.content) registrar) empty_account).lines) store.old store.new }
+    ensures { Tells result (sums_are_right store.old.content) (lines.balance (account_of registrar store.old.content).lines) store.old store.new }
 {
     let row = maybe_row(store, registrar)?;
     Ok(cents_of(row))
@@ -29,4 +37,60 @@ fn cents_of(row: Option<AccountRow>) -> i128
         return 0;
     };
     i128::from_be_bytes(row.balance)
+}
+
+/// Adds a line to a registrar's account, and what it is worth to the balance. Refused are an account
+/// that was never opened, and a line that no row can have: on another object than a domain, or of
+/// 2 ^ 63 cents or more.
+pub fn add_line<S: Alter>(
+    store: &mut RowStore<S>,
+    registrar: RegistrarNo,
+    line: Line,
+) -> Result<(), BookFault>
+    requires { store.old.is_open ≡ true }
+    ensures { Turns result (IsChange registrar (with_lines (add in_order line))) store.old store.new }
+{
+    let row = found_row(store, registrar)?;
+    let row = paid(row, line.amount())?;
+    let line = written(registrar, &line)?;
+    store.put_account(&row)?;
+    store.append_line(&line)?;
+    Ok(())
+}
+
+/// Takes a line out of a registrar's account, if it is there, and what it is worth off the balance. An
+/// account that was never opened is refused. It looks at the lines on the line's domain alone, and of
+/// a deposit at all lines of the account.
+pub fn take_line<S: Alter>(
+    store: &mut RowStore<S>,
+    registrar: RegistrarNo,
+    line: Line,
+) -> Result<(), BookFault>
+    requires { store.old.is_open ≡ true }
+    ensures { Turns result (IsChange registrar (with_lines (taken in_order line))) store.old store.new }
+{
+    let row = found_row(store, registrar)?;
+    let rows = rows_about(store, registrar, &line)?;
+    let Some(number) = number_of_line(rows.as_slice(), &line) else {
+        return Ok(());
+    };
+    let cents = less(line.amount())?;
+    let row = paid(row, cents)?;
+    store.whole();
+    remove(store, number, &row)?;
+    Ok(())
+}
+
+/// Removes the row of a line, and puts its account's row.
+fn remove<S: Alter>(
+    store: &mut RowStore<S>,
+    number: Number,
+    account: &AccountRow,
+) -> Result<(), BookFault>
+    requires { store.old.is_open ≡ true }
+    ensures { Makes result (without_line number account.now store.old.content) store.old store.new }
+{
+    store.remove_lines_by_id(number)?;
+    store.put_account(account)?;
+    Ok(())
 }

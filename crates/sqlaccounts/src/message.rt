@@ -1,10 +1,8 @@
 //! Messages that wait.
 ghost use Rattle.std.specs.Prelude.{◌≡◌, Some, pos, length, IfOk};
-ghost use Rattle.std.specs.FinMap.{get};
-ghost use Rattle.std.specs.Option.{option_map_or, unwrap_or};
-ghost use Rattle.accounts.specs.Account.{empty_account};
+ghost use Rattle.std.specs.Option.{option_map_or};
 ghost use Rattle.columns.specs.Numbers.{exact_in};
-ghost use Rattle.sqlaccounts.specs.Accounts.{accounts_of, sums_are_right};
+ghost use Rattle.sqlaccounts.specs.Accounts.{account_of, sums_are_right};
 ghost use Rattle.meanings.specs.Calls.{Tells};
 ghost use Rattle.tables.specs.Account.{Account};
 
@@ -17,7 +15,7 @@ use transactions::BookFault;
 
 /// How many messages wait for a registrar: none where its account was never opened.
 pub fn waiting<S: Alter>(store: &mut RowStore<S>, registrar: RegistrarNo) -> Result<u64, BookFault>
-    ensures { Tells result (sums_are_right store.old.content) (length (unwrap_or (get (accounts_of store.old.content) registrar) empty_account).queue) store.old store.new }
+    ensures { Tells result (sums_are_right store.old.content) (length (account_of registrar store.old.content).queue) store.old store.new }
 {
     let row = maybe_row(store, registrar)?;
     match exact_of_column(waiting_of(row)) {

@@ -1,4 +1,4 @@
-use Rattle.std.proofs.Common.{◌≡◌, ◌∙◌, ap, subst, filter, Ok}
+use Rattle.std.proofs.Common.{subst, filter, Ok}
 use Rattle.columns.specs.Numbers.{registrar_column}
 use Rattle.tables.specs.Account.{account_with_id}
 use Rattle.transactions.specs.States.{Finds}

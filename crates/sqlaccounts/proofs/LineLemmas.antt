@@ -1,0 +1,113 @@
+-- What another balance means, and one line more.
+use Rattle.std.proofs.Common.{◌≡◌, ℕ, ℤ, pos, ◌+ℤ◌, ◌-ℤ◌, Bool, true, false, cond, ◌&&◌, length, List, [], ◌∷◌, ◌++◌, filter, Option, Some, None, refl, sym, ap, ◌∙◌, arith, int_eq, true≢false, append-nil}
+use Rattle.std.proofs.lemmas.Int.{ints}
+use Rattle.std.proofs.lemmas.List.Elements.{filter-append, filter_map-append}
+use Rattle.std.specs.List.{cons_option, filter_map}
+use Rattle.sqlite_keyed.specs.Keyed.{insert_by, next_key}
+use Rattle.sqlite_keyed.proofs.KeyedLemmas.{int_eq_apart, key-get_by, same_int}
+use Rattle.accounts.specs.declared.line.Line.{Line}
+use Rattle.accounts.specs.Entries.{with_lines}
+use Rattle.accounts.specs.Lines.{amount, balance, in_order}
+use Rattle.accounts.proofs.LineLaws.{balance-add, lines_in_order}
+use Rattle.basis.specs.Bag.{add, bag_of}
+use Rattle.columns.specs.Lines.{domain_columns, line_in, line_row, row_with}
+use Rattle.columns.specs.Messages.{message_in}
+use Rattle.columns.specs.Numbers.{counter_in, exact_column, is_place}
+use Rattle.columns.specs.Steps.{◌>>=◌}
+use Rattle.columns.proofs.ReadLemmas.{same_some}
+use Rattle.rows.specs.Layouts.{appended}
+use Rattle.tables.specs.Account as account_table
+use Rattle.tables.specs.Content.{Content, accounts_to, lines_to}
+use Rattle.tables.specs.Line as table
+use Rattle.tables.specs.Line.{line_with_account}
+use Rattle.tables.specs.Message.{message_with_account}
+use Rattle.sqlaccounts.specs.Accounts.{balance_in, lines_of, put_all, queue_of, row_of, standing}
+use Rattle.sqlaccounts.specs.Changes.{AreOthersKept, IsChange, IsPaid, IsWritten}
+use Rattle.sqlaccounts.proofs.AccountLemmas.{changed}
+use Rattle.sqlaccounts.proofs.BagLemmas.{bag-middle}
+use Rattle.sqlaccounts.proofs.FindingLemmas.{equal}
+
+-- ---- written
+
+account-made : {D : Type 0} (account : ℤ) (row : table.Line) (domain : Option D) (cents : Option ℤ) (make : D → ℤ → table.Line) → ((d : D) (c : ℤ) → (make d c).account ≡ account)
+    → (domain >>= (λ d. cents >>= (λ c. Some (make d c)))) ≡ Some row → row.account ≡ account
+account-made account row None cents make own e = cc
+account-made account row (Some d) None make own e = cc
+account-made account row (Some d) (Some c) make own e = sym (ap (λ (r : table.Line). r.account) (same_some (make d c) row e)) ∙ own d c
+
+pub account_written : (id account : ℤ) (line : Line) (row : table.Line) → line_row id account line ≡ Some row → row.account ≡ account
+account_written id account line row e = account-made account row (domain_columns line.roid) (exact_column line.cents) (λ d c. row_with id account line d c) (λ d c. refl) e
+
+-- ---- one row among others
+
+pub filter-without : (p : table.Line → Bool) (front rest : List table.Line) (x : table.Line) → p x ≡ false → filter p (front ++ x ∷ rest) ≡ filter p (front ++ rest)
+filter-without p front rest x e =
+    filter-append p front (x ∷ rest) ∙ ap (λ b. filter p front ++ cond b (x ∷ filter p rest) (filter p rest)) e ∙ sym (filter-append p front rest)
+
+pub lines-with : (p : table.Line → Bool) (front rest : List table.Line) (x : table.Line) (line : Line) → p x ≡ true → line_in x ≡ Some line
+    → bag_of in_order (filter_map line_in (filter p (front ++ x ∷ rest))) ≡ add in_order line (bag_of in_order (filter_map line_in (filter p (front ++ rest))))
+lines-with p front rest x line e reads =
+    ap (λ ls. bag_of in_order (filter_map line_in ls)) (filter-append p front (x ∷ rest) ∙ ap (λ b. filter p front ++ cond b (x ∷ filter p rest) (filter p rest)) e)
+    ∙ ap (bag_of in_order) (filter_map-append line_in (filter p front) (x ∷ filter p rest) ∙ ap (λ o. filter_map line_in (filter p front) ++ cons_option o (filter_map line_in (filter p rest))) reads)
+    ∙ bag-middle in_order lines_in_order (filter_map line_in (filter p front)) line (filter_map line_in (filter p rest))
+    ∙ ap (λ ls. add in_order line (bag_of in_order ls)) (sym (filter_map-append line_in (filter p front) (filter p rest)) ∙ ap (filter_map line_in) (sym (filter-append p front rest)))
+
+-- ---- sums
+
+back_from : (x y a : ℤ) → x +ℤ a ≡ a +ℤ y → x ≡ y
+back_from x y a e = omega (arith, ints, e)
+
+there_to : (x y a : ℤ) → x ≡ y → x +ℤ a ≡ a +ℤ y
+there_to x y a e = omega (arith, ints, e)
+
+added-at : (x y a : ℤ) (b : Bool) → int_eq x y ≡ b → int_eq (x +ℤ a) (a +ℤ y) ≡ b
+added-at x y a true e = equal _ _ (there_to x y a (same_int x y e))
+added-at x y a false e = int_eq_apart _ _ (λ s. true≢false (sym (equal x y (back_from x y a s)) ∙ e))
+
+-- two sums to which the same is added
+pub both-added : (x y a : ℤ) → int_eq (x +ℤ a) (a +ℤ y) ≡ int_eq x y
+both-added x y a = added-at x y a _ refl
+
+-- and of which the same is taken off
+pub both-less : (x y a : ℤ) → int_eq (x +ℤ (pos 0 -ℤ a)) y ≡ int_eq x (a +ℤ y)
+both-less x y a =
+    let back : (x +ℤ (pos 0 -ℤ a)) +ℤ a ≡ x = omega (arith, ints) in
+    sym (both-added (x +ℤ (pos 0 -ℤ a)) y a) ∙ ap (λ z. int_eq z (a +ℤ y)) back
+
+-- ---- another balance beside other lines
+
+pub repaid : (xs ys : Content) (r : ℕ) (change : List Line → List Line) (cents : ℤ) (row new : account_table.Account) → is_place r ≡ true → Some row ≡ row_of xs (pos r) → IsPaid cents row new
+    → ys.accounts ≡ insert_by account_table.accounts.key xs.accounts new → ys.messages ≡ xs.messages → ((id : ℤ) → int_eq (pos r) id ≡ false → lines_of ys id ≡ lines_of xs id)
+    → lines_of ys (pos r) ≡ change (lines_of xs (pos r)) → int_eq (balance_in row.balance +ℤ cents) (balance (lines_of ys (pos r))) ≡ int_eq (balance_in row.balance) (balance (lines_of xs (pos r)))
+    → AreOthersKept xs ys → IsChange r (with_lines change) xs ys
+repaid xs ys r change cents row new place found paid put messages elsewhere here sums others =
+    let id : new.id ≡ row.id = ap (λ (a : account_table.Account). a.id) paid.rest in
+    let at : row.id ≡ pos r = key-get_by account_table.accounts.key xs.accounts (pos r) row (sym found) in
+    let now : new.id ≡ pos r = id ∙ at in
+    let lines : lines_of ys new.id ≡ change (lines_of xs row.id) = ap (lines_of ys) now ∙ here ∙ ap (λ k. change (lines_of xs k)) (sym at) in
+    let queue : queue_of ys new.id ≡ queue_of xs row.id = λ i. put_all (filter_map message_in (filter (message_with_account (id i)) (messages i))) in
+    let right : int_eq (balance_in new.balance) (balance (lines_of ys new.id)) ≡ int_eq (balance_in row.balance) (balance (lines_of xs row.id)) =
+    (λ i. int_eq (paid.sum i) (balance (lines_of ys (now i)))) ∙ sums ∙ ap (λ k. int_eq (balance_in row.balance) (balance (lines_of xs k))) (sym at) in
+    changed xs ys r (with_lines change) row new place (sym found) put id (ap standing paid.rest) elsewhere
+    (λ k e. ap (λ ms. put_all (filter_map message_in (filter (message_with_account k) ms))) messages)
+    (λ i. record { lines = lines i; queue = queue i; commands = counter_in (paid.rest i).commands; messages = counter_in (paid.rest i).messages; serial = counter_in (paid.rest i).serial })
+    (λ i. right i && int_eq (paid.rest i).waiting (pos (length (queue i))))
+    others
+
+-- ---- one line more
+
+pub added : (xs : Content) (r : ℕ) (line : Line) (row new : account_table.Account) (it : table.Line) → is_place r ≡ true → Some row ≡ row_of xs (pos r)
+    → IsPaid (amount line) row new → IsWritten r line it
+    → IsChange r (with_lines (add in_order line)) xs (lines_to (appended table.lines (λ id. record it { id = id })) (accounts_to (λ rows. insert_by account_table.accounts.key rows new) xs))
+added xs r line row new it place found paid written =
+    let x : table.Line = record it { id = next_key (λ (y : table.Line). y.id) xs.lines } in
+    let ys : Content = lines_to (appended table.lines (λ id. record it { id = id })) (accounts_to (λ rows. insert_by account_table.accounts.key rows new) xs) in
+    let lines : lines_of ys (pos r) ≡ add in_order line (lines_of xs (pos r)) =
+    lines-with (line_with_account (pos r)) xs.lines [] x line (equal _ _ written.account) written.reads
+    ∙ ap (λ rows. add in_order line (bag_of in_order (filter_map line_in (filter (line_with_account (pos r)) rows)))) (append-nil xs.lines) in
+    repaid xs ys r (add in_order line) (amount line) row new place found paid refl refl
+    (λ k e. ap (λ rows. bag_of in_order (filter_map line_in rows))
+    (filter-without (line_with_account k) xs.lines [] x (ap (λ a. int_eq a k) written.account ∙ e) ∙ ap (filter (line_with_account k)) (append-nil xs.lines)))
+    lines
+    (ap (int_eq (balance_in row.balance +ℤ amount line)) (ap balance lines ∙ balance-add line (lines_of xs (pos r))) ∙ both-added (balance_in row.balance) (balance (lines_of xs (pos r))) (amount line))
+    (record { metas = refl; contacts = refl; domains = refl; hosts = refl; addresses = refl; links = refl; transfers = refl })

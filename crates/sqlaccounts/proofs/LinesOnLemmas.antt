@@ -1,0 +1,93 @@
+-- The lines that rows of one domain read as.
+use Rattle.std.proofs.Common.{◌≡◌, ℕ, pos, Bool, true, false, cond, ◌&&◌, List, [], ◌∷◌, ◌++◌, filter, Option, Some, None, refl, sym, ap, subst, ◌∙◌}
+use Rattle.std.proofs.lemmas.List.Elements.{filter_map-append}
+use Rattle.std.specs.List.{cons_option, filter_map}
+use Rattle.std.specs.Option.{option_map, unwrap_or}
+use Rattle.sqlite_keyed.proofs.KeyedLemmas.{key-get_by}
+use Rattle.objects.specs.declared.roid.Roid.{Roid}
+use Rattle.accounts.specs.declared.account.Account.{Account}
+use Rattle.accounts.specs.declared.line.Line.{Line}
+use Rattle.accounts.specs.Account.{empty_account}
+use Rattle.accounts.specs.Lines.{in_order, is_on}
+use Rattle.accounts.proofs.LineLaws.{lines_in_order}
+use Rattle.basis.specs.Bag.{add, bag_of}
+use Rattle.basis.proofs.BagLaws.{bag_of-push, filter-bag_of}
+use Rattle.columns.specs.Lines.{line_in}
+use Rattle.columns.specs.Numbers.{is_place, registrar_column}
+use Rattle.tables.specs.Account as account_table
+use Rattle.tables.specs.Content.{Content}
+use Rattle.tables.specs.Line as table
+use Rattle.tables.specs.Line.{line_with_account}
+use Rattle.tables.specs.Whole.{IsWhole}
+use Rattle.sqlaccounts.specs.Accounts.{account_in, account_of, lines_of, row_of}
+use Rattle.sqlaccounts.specs.Finding.{IsDomainRoid, is_row_on}
+use Rattle.sqlaccounts.proofs.AccountLemmas.{get-accounts_of, get-found}
+use Rattle.sqlaccounts.proofs.BagLemmas.{bag-again, bag-nil}
+use Rattle.sqlaccounts.proofs.FindingLemmas.{on-row}
+use Rattle.sqlaccounts.proofs.WholeLemmas.{lines-of-none}
+
+-- one row more
+pub read-more : (rows : List table.Line) (row : table.Line) (line : Line) → line_in row ≡ Some line
+    → bag_of in_order (filter_map line_in (rows ++ row ∷ [])) ≡ add in_order line (bag_of in_order (filter_map line_in rows))
+read-more rows row line e =
+    ap (bag_of in_order) (filter_map-append line_in rows (row ∷ []) ∙ ap (λ o. filter_map line_in rows ++ cons_option o []) e)
+    ∙ bag_of-push in_order lines_in_order (filter_map line_in rows) line
+
+-- ---- a part of the rows
+
+module _ (p : Line → Bool) (a b : table.Line → Bool) (agree : (x : table.Line) (l : Line) → line_in x ≡ Some l → b x ≡ (a x && p l)) where
+  unread : (x : table.Line) (c : Bool) (xs : List table.Line) → line_in x ≡ None → filter_map line_in (cond c (x ∷ xs) xs) ≡ filter_map line_in xs
+  unread x true xs e = ap (λ o. cons_option o (filter_map line_in xs)) e
+  unread x false xs e = refl
+
+  readable : (x : table.Line) (l : Line) (c : Bool) (xs : List table.Line) → line_in x ≡ Some l → filter_map line_in (cond c (x ∷ xs) xs) ≡ cond c (l ∷ filter_map line_in xs) (filter_map line_in xs)
+  readable x l true xs e = ap (λ o. cons_option o (filter_map line_in xs)) e
+  readable x l false xs e = refl
+
+  passes : (l : Line) (c : Bool) (ls ms : List Line) → filter p ls ≡ ms → filter p (cond c (l ∷ ls) ls) ≡ cond (c && p l) (l ∷ ms) ms
+  passes l true ls ms e = ap (λ ns. cond (p l) (l ∷ ns) ns) e
+  passes l false ls ms e = e
+
+  part-at : (x : table.Line) (xs : List table.Line) (o : Option Line) → line_in x ≡ o → filter p (filter_map line_in (filter a xs)) ≡ filter_map line_in (filter b xs)
+      → filter p (filter_map line_in (filter a (x ∷ xs))) ≡ filter_map line_in (filter b (x ∷ xs))
+  part-at x xs None e ih = ap (filter p) (unread x (a x) (filter a xs) e) ∙ ih ∙ sym (unread x (b x) (filter b xs) e)
+  part-at x xs (Some l) e ih =
+      ap (filter p) (readable x l (a x) (filter a xs) e)
+      ∙ passes l (a x) (filter_map line_in (filter a xs)) (filter_map line_in (filter b xs)) ih
+      ∙ ap (λ c. cond c (l ∷ filter_map line_in (filter b xs)) (filter_map line_in (filter b xs))) (sym (agree x l e))
+      ∙ sym (readable x l (b x) (filter b xs) e)
+
+  part : (xs : List table.Line) → filter p (filter_map line_in (filter a xs)) ≡ filter_map line_in (filter b xs)
+  part [] = refl
+  part (x ∷ xs) = part-at x xs (line_in x) refl (part xs)
+
+-- ---- of an account, also where there is none
+
+lines-at : (xs : Content) (r : ℕ) (o : Option account_table.Account) → IsWhole xs → is_place r ≡ true → row_of xs (pos r) ≡ o → (account_of r xs).lines ≡ lines_of xs (pos r)
+lines-at xs r (Some row) whole place at =
+    ap (λ a. (unwrap_or a empty_account).lines) (get-found xs r row place at) ∙ ap (lines_of xs) (key-get_by account_table.accounts.key xs.accounts (pos r) row at)
+lines-at xs r None whole place at =
+    ap (λ a. (unwrap_or a empty_account).lines) (get-accounts_of xs r ∙ (λ i. cond (place i) (option_map (account_in xs) (at i)) None))
+    ∙ sym (lines-of-none xs (pos r) whole at)
+
+lines-there : (xs : Content) (r : ℕ) → IsWhole xs → is_place r ≡ true → (account_of r xs).lines ≡ lines_of xs (pos r)
+lines-there xs r whole place = lines-at xs r (row_of xs (pos r)) whole place refl
+
+pub lines-read : (xs : Content) (r : ℕ) (roid : Roid) → IsWhole xs → is_place r ≡ true → IsDomainRoid roid
+    → bag_of in_order (filter_map line_in (filter (is_row_on r roid) xs.lines)) ≡ filter (is_on roid) (account_of r xs).lines
+lines-read xs r roid whole place is =
+    ap (bag_of in_order) (sym (part (is_on roid) (line_with_account (registrar_column r)) (is_row_on r roid)
+    (λ x l e. ap (λ c. line_with_account (registrar_column r) x && c) (sym (on-row roid is x l e))) xs.lines))
+    ∙ sym (filter-bag_of in_order lines_in_order (is_on roid) (filter_map line_in (filter (line_with_account (registrar_column r)) xs.lines)))
+    ∙ ap (filter (is_on roid)) (sym (lines-there xs r whole place))
+
+-- an account's lines are a bag
+bag-at : (xs : Content) (b : Bool) (o : Option account_table.Account)
+    → bag_of in_order (unwrap_or (cond b (option_map (account_in xs) o) None) empty_account).lines ≡ (unwrap_or (cond b (option_map (account_in xs) o) None) empty_account).lines
+bag-at xs true (Some row) = bag-again in_order lines_in_order (filter_map line_in (filter (line_with_account row.id) xs.lines))
+bag-at xs true None = bag-nil in_order
+bag-at xs false o = bag-nil in_order
+
+pub lines-bag : (xs : Content) (r : ℕ) → bag_of in_order (account_of r xs).lines ≡ (account_of r xs).lines
+lines-bag xs r =
+    subst (λ (a : Option Account). bag_of in_order (unwrap_or a empty_account).lines ≡ (unwrap_or a empty_account).lines) (sym (get-accounts_of xs r)) (bag-at xs (is_place r) (row_of xs (pos r)))

@@ -1,0 +1,75 @@
+-- What an account that is opened means.
+use Rattle.std.proofs.Common.{◌≡◌, ℕ, pos, true, false, cond, ◌&&◌, length, [], Option, Some, None, is_some, refl, sym, ap, ◌∙◌, int_eq}
+use Rattle.std.specs.FinMap.{get}
+use Rattle.std.specs.Option.{option_map, option_map_or, unwrap_or}
+use Rattle.sqlite_keyed.specs.Keyed.{insert_by}
+use Rattle.accounts.specs.Account.{empty_account}
+use Rattle.accounts.specs.Lines.{balance}
+use Rattle.columns.specs.Numbers.{is_place}
+use Rattle.tables.specs.Account as account_table
+use Rattle.tables.specs.Content.{Content, accounts_to}
+use Rattle.tables.specs.Whole.{IsWhole}
+use Rattle.sqlaccounts.specs.Accounts.{account_in, accounts_of, balance_in, has_right_sums, is_right, row_of}
+use Rattle.sqlaccounts.specs.Changes.{IsOpened, opened_row}
+use Rattle.sqlaccounts.proofs.AccountLemmas.{accounts-put, get-accounts_of, kept_accounts, row_here, row_there, sums-put}
+use Rattle.sqlaccounts.proofs.FindingLemmas.{equal}
+use Rattle.sqlaccounts.proofs.WholeLemmas.{lines-of-none, queue-of-none}
+
+no_cents : int_eq (balance_in (opened_row 0).balance) (balance []) ≡ true
+unfolding balance
+no_cents = refl
+
+module _ (xs : Content) (r : ℕ) (whole : IsWhole xs) (place : is_place r ≡ true) (none : row_of xs (pos r) ≡ None) where
+  abbrev new : account_table.Account
+  new = opened_row r
+
+  abbrev ys : Content
+  ys = accounts_to (λ rows. insert_by account_table.accounts.key rows new) xs
+
+  empty : account_in ys new ≡ empty_account
+  empty = λ i. record { lines = lines-of-none xs (pos r) whole none i; queue = queue-of-none xs (pos r) whole none i; commands = 0; messages = 0; serial = 0 }
+
+  nothing : get (accounts_of xs) r ≡ None
+  nothing = get-accounts_of xs r ∙ (λ i. cond (place i) (option_map (account_in xs) (none i)) None)
+
+  here : account_in ys new ≡ unwrap_or (get (accounts_of xs) r) empty_account
+  here = empty ∙ sym (ap (λ a. unwrap_or a empty_account) nothing)
+
+  right : is_right ys new ≡ has_right_sums xs (pos r)
+  right =
+      (λ i. int_eq (balance_in new.balance) (balance (lines-of-none xs (pos r) whole none i)) && int_eq (pos 0) (pos (length (queue-of-none xs (pos r) whole none i))))
+      ∙ ap (λ b. b && true) no_cents ∙ sym (ap (λ o. option_map_or (is_right xs) o true) none)
+
+  -- where it wasn't there
+  opened : IsOpened r xs ys
+  opened = record {
+    accounts = accounts-put xs ys r (λ a. a) new place refl refl (λ id e. refl) (λ id e. refl) here right;
+    sums = sums-put xs ys r (λ a. a) new place refl refl (λ id e. refl) (λ id e. refl) here right;
+    own = row_here xs ys r new refl refl (pos r) (equal (pos r) (pos r) refl) ∙ sym (ap (λ o. Some (unwrap_or o new)) none);
+    rows = λ id e. row_there xs ys r new refl refl id e;
+    others = record { metas = refl; contacts = refl; domains = refl; hosts = refl; addresses = refl; links = refl; transfers = refl };
+    lines = refl;
+    messages = refl;
+  }
+
+-- where it was there
+still : (xs : Content) (r : ℕ) (row : account_table.Account) → is_place r ≡ true → row_of xs (pos r) ≡ Some row → IsOpened r xs xs
+still xs r row place there = record {
+  accounts = kept_accounts xs r (λ a. a) row place there refl;
+  sums = refl;
+  own = there ∙ sym (ap (λ o. Some (unwrap_or o (opened_row r))) there);
+  rows = λ id e. refl;
+  others = record { metas = refl; contacts = refl; domains = refl; hosts = refl; addresses = refl; links = refl; transfers = refl };
+  lines = refl;
+  messages = refl;
+}
+
+-- by what is found of it
+pub still-open : (xs : Content) (r : ℕ) (o : Option account_table.Account) → is_place r ≡ true → o ≡ row_of xs (pos r) → is_some o ≡ true → IsOpened r xs xs
+still-open xs r None place found e = cc
+still-open xs r (Some row) place found e = still xs r row place (sym found)
+
+pub opened-now : (xs : Content) (r : ℕ) (o : Option account_table.Account) → IsWhole xs → is_place r ≡ true → o ≡ row_of xs (pos r) → is_some o ≡ false
+    → IsOpened r xs (accounts_to (λ rows. insert_by account_table.accounts.key rows (opened_row r)) xs)
+opened-now xs r None whole place found e = opened xs r whole place (sym found)
+opened-now xs r (Some row) whole place found e = cc

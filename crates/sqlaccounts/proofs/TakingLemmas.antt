@@ -1,0 +1,79 @@
+-- What one line less means.
+use Rattle.std.proofs.Common.{◌≡◌, ℕ, ℤ, pos, ◌-ℤ◌, true, List, filter, find, Option, Some, None, IfSome, refl, sym, ap, subst, ◌∙◌, int_eq}
+use Rattle.std.specs.List.{filter_map, list_any}
+use Rattle.std.specs.Option.{option_map}
+use Rattle.sqlite_keyed.specs.Keyed.{IsKeyedBy}
+use Rattle.sqlite_keyed.proofs.KeyedLemmas.{key-get_by}
+use Rattle.accounts.specs.declared.line.Line.{Line}
+use Rattle.accounts.specs.Entries.{with_lines}
+use Rattle.accounts.specs.Lines.{amount, balance, in_order}
+use Rattle.accounts.proofs.LineLaws.{balance-add, lines_in_order}
+use Rattle.basis.specs.Bag.{add, bag_of, same, taken}
+use Rattle.basis.proofs.BagLaws.{any-bag_of, taken-absent, taken-add}
+use Rattle.columns.specs.Lines.{line_in}
+use Rattle.columns.specs.Numbers.{is_place}
+use Rattle.tables.specs.Account as account_table
+use Rattle.tables.specs.Content.{Content}
+use Rattle.tables.specs.Line as table
+use Rattle.tables.specs.Line.{line_with_account}
+use Rattle.tables.specs.Whole.{IsWhole}
+use Rattle.columns.proofs.ReadLemmas.{same_some}
+use Rattle.sqlaccounts.specs.Accounts.{account_in, balance_in, lines_of, row_of}
+use Rattle.sqlaccounts.specs.Changes.{IsChange, IsPaid, without_line}
+use Rattle.sqlaccounts.specs.Finding.{IsDomainRoid, is_row_about, reads_as}
+use Rattle.sqlaccounts.proofs.AccountLemmas.{unchanged}
+use Rattle.sqlaccounts.proofs.FindingLemmas.{equal, found, none-there, own-row, parts, reads}
+use Rattle.sqlaccounts.proofs.LineLemmas.{both-less, filter-without, lines-with, repaid}
+
+-- a line that isn't there
+pub not-taken : (xs : Content) (r : ℕ) (line : Line) (row : account_table.Account) → is_place r ≡ true → Some row ≡ row_of xs (pos r) → IfSome line.roid IsDomainRoid
+    → find (reads_as line) (filter (is_row_about r line.roid) xs.lines) ≡ None → IsChange r (with_lines (taken in_order line)) xs xs
+not-taken xs r line row place there is none =
+    let at : row.id ≡ pos r = key-get_by account_table.accounts.key xs.accounts (pos r) row (sym there) in
+    let absent : taken in_order line (lines_of xs row.id) ≡ lines_of xs row.id =
+    taken-absent in_order line (lines_of xs row.id) (ap (λ k. list_any (same in_order line) (lines_of xs k)) at ∙ any-bag_of in_order (same in_order line) _ ∙ none-there r line xs.lines is none) in
+    unchanged xs r (with_lines (taken in_order line)) row place (sym there) (ap (λ ls. record (account_in xs row) { lines = ls }) absent)
+
+-- ---- one row less
+
+removed : (xs : Content) (r : ℕ) (line : Line) (row new : account_table.Account) (it : table.Line) → IsKeyedBy (λ (x : table.Line). x.id) xs.lines → is_place r ≡ true → Some row ≡ row_of xs (pos r)
+    → IsPaid (pos 0 -ℤ amount line) row new → find (reads_as line) (filter (is_row_about r line.roid) xs.lines) ≡ Some it
+    → IsChange r (with_lines (taken in_order line)) xs (without_line it.id new xs)
+removed xs r line row new it up place there paid finds =
+    let ys : Content = without_line it.id new xs in
+    let seen = found (reads_as line) (is_row_about r line.roid) it xs.lines finds in
+    let owner : it.account ≡ pos r = own-row r line.roid it seen.2 in
+    let ps = parts (λ (x : table.Line). x.id) xs.lines it up seen.0 in
+    let before : lines_of xs (pos r) ≡ add in_order line (lines_of ys (pos r)) =
+    ap (λ rows. bag_of in_order (filter_map line_in (filter (line_with_account (pos r)) rows))) ps.whole
+    ∙ lines-with (line_with_account (pos r)) ps.front ps.rest it line (equal _ _ owner) (reads line it (line_in it) refl seen.1)
+    ∙ ap (λ rows. add in_order line (bag_of in_order (filter_map line_in (filter (line_with_account (pos r)) rows)))) (sym ps.without) in
+    repaid xs ys r (taken in_order line) (pos 0 -ℤ amount line) row new place there paid refl refl
+    (λ k e. ap (λ rows. bag_of in_order (filter_map line_in rows))
+    (ap (filter (line_with_account k)) ps.without ∙ sym (filter-without (line_with_account k) ps.front ps.rest it (ap (λ a. int_eq a k) owner ∙ e)) ∙ ap (filter (line_with_account k)) (sym ps.whole)))
+    (sym (ap (taken in_order line) before ∙ taken-add in_order lines_in_order line (lines_of ys (pos r))))
+    (both-less (balance_in row.balance) (balance (lines_of ys (pos r))) (amount line) ∙ ap (int_eq (balance_in row.balance)) (sym (ap balance before ∙ balance-add line (lines_of ys (pos r)))))
+    (record { metas = refl; contacts = refl; domains = refl; hosts = refl; addresses = refl; links = refl; transfers = refl })
+
+-- by its number
+pub taken-out : (xs : Content) (r : ℕ) (line : Line) (row new : account_table.Account) (rows : List table.Line) (id : ℤ) → IsWhole xs → is_place r ≡ true → Some row ≡ row_of xs (pos r)
+    → IsPaid (pos 0 -ℤ amount line) row new → rows ≡ filter (is_row_about r line.roid) xs.lines → Some id ≡ option_map (λ (x : table.Line). x.id) (find (reads_as line) rows)
+    → IsChange r (with_lines (taken in_order line)) xs (without_line id new xs)
+taken-out xs r line row new rows id whole place there paid are finds =
+    go (find (reads_as line) (filter (is_row_about r line.roid) xs.lines)) refl (finds ∙ ap (λ rs. option_map (λ (x : table.Line). x.id) (find (reads_as line) rs)) are)
+  where
+    go : (o : Option table.Line) → find (reads_as line) (filter (is_row_about r line.roid) xs.lines) ≡ o → Some id ≡ option_map (λ (x : table.Line). x.id) o
+        → IsChange r (with_lines (taken in_order line)) xs (without_line id new xs)
+    go None at e = cc
+    go (Some it) at e = subst (λ k. IsChange r (with_lines (taken in_order line)) xs (without_line k new xs)) (same_some it.id id (sym e)) (removed xs r line row new it whole.keyed.lines place there paid at)
+
+-- and not found
+pub left-there : (xs : Content) (r : ℕ) (line : Line) (row : account_table.Account) (rows : List table.Line) → is_place r ≡ true → Some row ≡ row_of xs (pos r) → IfSome line.roid IsDomainRoid
+    → rows ≡ filter (is_row_about r line.roid) xs.lines → None ≡ option_map (λ (x : table.Line). x.id) (find (reads_as line) rows) → IsChange r (with_lines (taken in_order line)) xs xs
+left-there xs r line row rows place there is are finds =
+    go (find (reads_as line) (filter (is_row_about r line.roid) xs.lines)) refl (finds ∙ ap (λ rs. option_map (λ (x : table.Line). x.id) (find (reads_as line) rs)) are)
+  where
+    go : (o : Option table.Line) → find (reads_as line) (filter (is_row_about r line.roid) xs.lines) ≡ o → None ≡ option_map (λ (x : table.Line). x.id) o
+        → IsChange r (with_lines (taken in_order line)) xs xs
+    go None at e = not-taken xs r line row place there is at
+    go (Some it) at e = cc

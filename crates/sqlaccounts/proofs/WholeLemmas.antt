@@ -1,0 +1,50 @@
+-- No row leads to an account that isn't there.
+use Rattle.std.proofs.Common.{◌≡◌, inl, inr, ℤ, Bool, true, false, cond, List, [], ◌∷◌, filter, Some, None, refl, sym, ap, ◌∙◌, int_eq}
+use Rattle.std.specs.List.{AllByRecursion, filter_map}
+use Rattle.sqlite_keyed.specs.Keyed.{get_by}
+use Rattle.sqlite_keyed.proofs.KeyedLemmas.{same_int}
+use Rattle.sqlite_keyed.proofs.ListLemmas.{filter_none}
+use Rattle.sqlite_rules.specs.Lists.{Has}
+use Rattle.accounts.specs.Lines.{in_order}
+use Rattle.basis.specs.Bag.{bag_of}
+use Rattle.columns.specs.Lines.{line_in}
+use Rattle.columns.specs.Messages.{message_in}
+use Rattle.tables.specs.Account as account_table
+use Rattle.tables.specs.Content.{Content}
+use Rattle.tables.specs.Line.{Line}
+use Rattle.tables.specs.Message.{Message}
+use Rattle.tables.specs.Whole.{IsWhole, LeadsTo}
+use Rattle.sqlaccounts.specs.Accounts.{lines_of, put_all, queue_of, row_of}
+use Rattle.sqlaccounts.proofs.BagLemmas.{bag-nil}
+use Rattle.sqlaccounts.proofs.FindingLemmas.{equal}
+
+all_from : {X : Type 0} (P : X → Type 0) (xs : List X) → ((x : X) → Has xs x → P x) → AllByRecursion P xs
+all_from P [] each = tt
+all_from P (x ∷ xs) each = (each x (inl refl), all_from P xs (λ y h. each y (inr h)))
+
+module _ {X Y : Type 0} (key : Y → ℤ) (column : X → ℤ) where
+  -- what is there is found
+  there : (ys : List Y) (y : Y) (id : ℤ) → Has ys y → key y ≡ id → get_by key ys id ≡ None → ⊥
+  there [] y id h e none = absurd h
+  there (z ∷ ys) y id h e none = go (int_eq (key z) id) refl h none (λ k. there ys y id k e)
+    where
+      go : (b : Bool) → int_eq (key z) id ≡ b → Has (z ∷ ys) y → cond b (Some z) (get_by key ys id) ≡ None → (Has ys y → get_by key ys id ≡ None → ⊥) → ⊥
+      go true at k n later = cc
+      go false at (inl k) n later = let here : true ≡ false = sym (equal (key z) id (ap key (sym k) ∙ e)) ∙ at in cc
+      go false at (inr k) n later = later k n
+
+  none-with : (xs : List X) (ys : List Y) (id : ℤ) → LeadsTo xs (λ x. Some (column x)) ys key → get_by key ys id ≡ None → filter (λ x. int_eq (column x) id) xs ≡ []
+  none-with xs ys id leads none = filter_none (λ x. int_eq (column x) id) xs (all_from (λ x. int_eq (column x) id ≡ false) xs (λ x h. apart x h (int_eq (column x) id) refl))
+    where
+      apart : (x : X) → Has xs x → (b : Bool) → int_eq (column x) id ≡ b → int_eq (column x) id ≡ false
+      apart x h false e = e
+      apart x h true e = let it = leads x h id (ap Some (same_int (column x) id e)) in absurd (there ys it.0 id it.1 it.2 none)
+
+-- ---- of an account that isn't there
+
+module _ (xs : Content) (id : ℤ) (whole : IsWhole xs) (none : row_of xs id ≡ None) where
+  pub lines-of-none : lines_of xs id ≡ []
+  lines-of-none = ap (λ rows. bag_of in_order (filter_map line_in rows)) (none-with account_table.accounts.key (λ (x : Line). x.account) xs.lines xs.accounts id whole.linked.line_account none) ∙ bag-nil in_order
+
+  pub queue-of-none : queue_of xs id ≡ []
+  queue-of-none = ap (λ rows. put_all (filter_map message_in rows)) (none-with account_table.accounts.key (λ (x : Message). x.account) xs.messages xs.accounts id whole.linked.message_account none)

@@ -1,0 +1,9 @@
+use Rattle.std.proofs.Common.{◌≡◌, take}
+use Rattle.std.specs.List.{filter_map}
+use Rattle.accounts.specs.Lines.{in_order}
+use Rattle.basis.specs.Bag.{bag_of}
+use Rattle.columns.specs.Lines.{line_in}
+use Rattle.sqlaccounts.proofs.domain.read.Given as goal
+
+abbrev pub invariant-loop-row : goal.invariant-loop-row
+invariant-loop-row l = l.lines ≡ bag_of in_order (filter_map line_in (take l.row-index l.rows))

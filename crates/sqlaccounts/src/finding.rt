@@ -1,0 +1,148 @@
+//! Rows of lines that are looked for.
+ghost use Rattle.std.specs.Prelude.{◌≡◌, true, None, find, filter, option_map, IfOk, IfSome};
+ghost use Rattle.std.specs.Option.{option_copied};
+ghost use Rattle.accounts.specs.Lines as lines;
+ghost use Rattle.columns.specs.Numbers.{is_place};
+ghost use Rattle.sqlaccounts.specs.Finding.{IsDomainRoid, is_row_about, is_row_on, reads_as};
+ghost use Rattle.tables.specs.Line.{Line as Row};
+ghost use Rattle.transactions.specs.States.{Finds};
+
+use crate::account::number_of;
+use crate::writing::is_roid;
+use accounts::Line;
+use basis::list::Seq;
+use basis::registrar::RegistrarNo;
+use calendar::Moment;
+use columns::{counter_column, line_of_row};
+use objects::{ObjectKind, Roid};
+use rows::Number;
+use sqlite::Alter;
+use tables::{LineRow, RowStore};
+use transactions::BookFault;
+
+/// The rows of a registrar's lines on a domain. Another object than a domain is refused.
+pub(crate) fn rows_on<S: Alter>(
+    store: &mut RowStore<S>,
+    registrar: RegistrarNo,
+    roid: &Roid,
+) -> Result<Seq<LineRow>, BookFault>
+    ensures rows { Finds result (filter (is_row_on registrar roid.now) store.old.content.lines) store.old store.new }
+    ensures place { IfOk result (λ rows. is_place registrar ≡ true) }
+    ensures domain { IfOk result (λ rows. IsDomainRoid roid.now) }
+{
+    if !is_domain_roid(roid) {
+        return Err(BookFault::Store);
+    }
+    let account = number_of(registrar)?;
+    let creator = number_of(roid.creator)?;
+    let serial = Number::new(counter_column(roid.serial));
+    store.lines_by_object(account, creator, serial)
+}
+
+/// The rows among which those are that read as a line: of the registrar's lines those on its domain,
+/// and all where it has none.
+pub(crate) fn rows_about<S: Alter>(
+    store: &mut RowStore<S>,
+    registrar: RegistrarNo,
+    line: &Line,
+) -> Result<Seq<LineRow>, BookFault>
+    ensures rows { Finds result (filter (is_row_about registrar line.now.roid) store.old.content.lines) store.old store.new }
+    ensures place { IfOk result (λ rows. is_place registrar ≡ true) }
+    ensures domain { IfOk result (λ rows. IfSome line.now.roid IsDomainRoid) }
+{
+    match &line.roid {
+        Some(roid) => rows_on(store, registrar, roid),
+        None => all_rows(store, registrar),
+    }
+}
+
+/// The rows of a registrar's lines.
+fn all_rows<S: Alter>(
+    store: &mut RowStore<S>,
+    registrar: RegistrarNo,
+) -> Result<Seq<LineRow>, BookFault>
+    ensures rows { Finds result (filter (is_row_about registrar None) store.old.content.lines) store.old store.new }
+    ensures place { IfOk result (λ rows. is_place registrar ≡ true) }
+{
+    let account = number_of(registrar)?;
+    store.lines_by_account(account)
+}
+
+/// Whether an identifier is a domain's, and its creator has a place.
+fn is_domain_roid(roid: &Roid) -> bool
+    ensures { result ≡ true → IsDomainRoid roid.now }
+{
+    if roid.kind != ObjectKind::Domain {
+        return false;
+    }
+    is_roid(roid)
+}
+
+/// The number of the first of these rows that reads as a line.
+pub(crate) fn number_of_line(rows: &[LineRow], line: &Line) -> Option<Number>
+    ensures { result ≡ option_map (λ (row : Row). row.id) (find (reads_as line.now) rows.now) }
+{
+    match first_line(rows, line) {
+        Some(row) => Some(Number::new(row.id)),
+        None => None,
+    }
+}
+
+fn first_line<'a>(rows: &'a [LineRow], line: &Line) -> Option<&'a LineRow>
+    ensures { option_copied result ≡ find (reads_as line.now) rows.now }
+{
+    rows.iter().find(|row| reads_as(row, line))
+}
+
+/// Whether a row reads as this line.
+fn reads_as(row: &LineRow, line: &Line) -> bool
+    ensures { result ≡ reads_as line.now row.now }
+{
+    match line_of_row(row) {
+        Some(other) => is_line(line, &other),
+        None => false,
+    }
+}
+
+/// Whether two lines are the same in all that they say.
+#[tactic(auto, unfolding(accounts::specs::Lines::is_line))]
+fn is_line(a: &Line, b: &Line) -> bool
+    ensures { result ≡ lines.is_line a.now b.now }
+{
+    is_line_for(a, b)
+        && a.cents == b.cents
+        && is_same_moment(a.started, b.started)
+        && is_same_moment(a.refunded, b.refunded)
+}
+
+/// Whether two lines are for the same.
+#[tactic(auto, unfolding(accounts::specs::Lines::is_line_for))]
+fn is_line_for(a: &Line, b: &Line) -> bool
+    ensures { result ≡ lines.is_line_for a.now b.now }
+{
+    a.kind.is(b.kind)
+        && is_same_domain(&a.roid, b)
+        && a.recorded == b.recorded
+        && a.years == b.years
+}
+
+/// Whether a line is on this domain, or on none as well.
+fn is_same_domain(roid: &Option<Roid>, line: &Line) -> bool
+    ensures { result ≡ lines.is_same_domain roid.now line.now.roid }
+{
+    match roid {
+        None => line.roid.is_none(),
+        Some(roid) => line.is_on(roid),
+    }
+}
+
+/// Whether two moments are one, or there is neither.
+fn is_same_moment(a: Option<Moment>, b: Option<Moment>) -> bool
+    ensures { result ≡ lines.is_same_number a b }
+{
+    match (a, b) {
+        (None, None) => true,
+        (Some(a), Some(b)) => a == b,
+        _ => false,
+    }
+}

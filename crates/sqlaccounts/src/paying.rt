@@ -1,0 +1,38 @@
+//! Balances that change by so many cents.
+ghost use Rattle.std.specs.Prelude.{◌≡◌, ◌+ℤ◌, ◌-ℤ◌, pos, IfOk, IfSome};
+ghost use Rattle.sqlaccounts.specs.Accounts.{balance_in};
+ghost use Rattle.sqlaccounts.specs.Changes.{IsPaid};
+
+use tables::{AccountRow, bytes_of_balance};
+use transactions::BookFault;
+
+/// The row with so many cents more.
+pub(crate) fn paid(row: AccountRow, cents: i128) -> Result<AccountRow, BookFault>
+    ensures { IfOk result (IsPaid cents row) }
+{
+    let mut row = row;
+    let Some(balance) = balance_after(row.balance, cents) else {
+        return Err(BookFault::Store);
+    };
+    row.balance = balance;
+    Ok(row)
+}
+
+/// A balance with so many cents more, if it fits.
+#[tactic(auto, using(tables::proofs::BalanceLemmas::balance_read))]
+fn balance_after(balance: [u8; 16], cents: i128) -> Option<[u8; 16]>
+    ensures { IfSome result (λ after. balance_in after ≡ balance_in balance +ℤ cents) }
+{
+    let sum = i128::from_be_bytes(balance).checked_add(cents)?;
+    Some(bytes_of_balance(sum))
+}
+
+/// So many cents less.
+pub(crate) fn less(cents: i128) -> Result<i128, BookFault>
+    ensures { IfOk result (λ less. less ≡ pos 0 -ℤ cents) }
+{
+    match 0i128.checked_sub(cents) {
+        Some(less) => Ok(less),
+        None => Err(BookFault::Store),
+    }
+}

@@ -1,0 +1,24 @@
+-- What is found by name is what stands under the name.
+use Rattle.std.proofs.Common.{◌≡◌, ℕ, List, Option, Result, Ok, ap, ◌∙◌}
+use Rattle.std.specs.Prelude.{filter}
+use Rattle.std.specs.FinMap.{get}
+use Rattle.objects.specs.declared.domain.Domain.{Domain}
+use Rattle.tables.specs.Content.{Content}
+use Rattle.tables.specs.Domain as table
+use Rattle.transactions.specs.declared.fault.BookFault.{BookFault}
+use Rattle.transactions.specs.States.{Finds, StateOf}
+use Rattle.meanings.specs.Read.{first_read}
+use Rattle.meanings.proofs.NameLemmas.{stands}
+use Rattle.meanings.proofs.StateLemmas.{finds-on}
+use Rattle.sqldomains.specs.Domains.{domain_of, domains_of}
+
+pub domain-named : (xs : Content) (name : List ℕ) → first_read (domain_of xs) (filter (table.domain_with_name name) xs.domains) ≡ get (domains_of xs) name
+domain-named xs name = stands (λ (r : table.Domain). r.name) (domain_of xs) name xs.domains
+
+pub domain-found : (s m t : StateOf Content) (given name : List ℕ) (same : given ≡ name) (r : Result (Option Domain) BookFault) (rows : List table.Domain)
+    → Finds {A = List table.Domain} (Ok rows) (filter (table.domain_with_name given) s.content.domains) s m
+    → Finds r (first_read (domain_of m.content) rows) m t → Finds r (get (domains_of s.content) name) s t
+domain-found s m t given name same r rows asked found = finds-on r s m t (first_read (domain_of m.content) rows) (get (domains_of s.content) name) asked.0 (λ e.
+    (λ i. first_read (domain_of (asked.0.content e i)) (asked.1 e i))
+    ∙ ap (λ (n : List ℕ). first_read (domain_of s.content) (filter (table.domain_with_name n) s.content.domains)) same
+    ∙ domain-named s.content name) found

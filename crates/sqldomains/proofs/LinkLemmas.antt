@@ -1,0 +1,13 @@
+-- What rows of links lead to, one after another.
+use Rattle.std.proofs.Common.{◌≡◌, List, ◌∷◌, Option, Some, sym, ap, ◌∙◌}
+use Rattle.objects.specs.declared.domain.Links.{Links}
+use Rattle.columns.specs.Steps.{◌>>=◌}
+use Rattle.tables.specs.Content.{Content}
+use Rattle.tables.specs.Link.{Link}
+use Rattle.sqldomains.specs.Domains.{with_link, with_links}
+
+-- with the first of the rows that are left
+pub one-more : (xs ys : Content) (l m : Links) (row : Link) (rows rest : List Link) (all : Option Links) → ys ≡ xs → with_link ys l row ≡ Some m → rows ≡ row ∷ rest
+    → with_links xs l rows ≡ all → with_links xs m rest ≡ all
+one-more xs ys l m row rows rest all same e is before =
+    sym (ap (λ o. o >>= (λ n. with_links xs n rest)) (sym (ap (λ c. with_link c l row) same) ∙ e)) ∙ sym (ap (with_links xs l) is) ∙ before

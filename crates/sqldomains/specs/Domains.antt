@@ -1,0 +1,88 @@
+-- The domains that rows mean.
+use Rattle.std.specs.Prelude.{ℕ, ℤ, List, [], ◌∷◌, ◌++◌, filter, Option, Some, None, option_map}
+use Rattle.std.specs.Cmp.Lexicographic.{slice_cmp}
+use Rattle.std.specs.FinMap.{FinMap, from_entries}
+use Rattle.std.specs.List.{filter_map}
+use Rattle.std.specs.Ordering.{nat_cmp}
+use Rattle.sqlite_keyed.specs.Keyed.{get_by}
+use Rattle.objects.specs.declared.domain.Domain.{Domain}
+use Rattle.objects.specs.declared.domain.Links.{Links}
+use Rattle.columns.specs.declared.code.Role.{Role}
+use Rattle.columns.specs.declared.code.Role.TheVariants as roles
+use Rattle.columns.specs.Codes.{role_in}
+use Rattle.columns.specs.Domains.{domain_in}
+use Rattle.columns.specs.Steps.{◌>>=◌}
+use Rattle.tables.specs.Contact as contact_table
+use Rattle.tables.specs.Content.{Content}
+use Rattle.tables.specs.Domain as domain_table
+use Rattle.tables.specs.Host as host_table
+use Rattle.tables.specs.Link.{Link, link_with_domain}
+use Rattle.tables.specs.Transfer.{transfer_with_domain}
+use Rattle.meanings.specs.Read.{named}
+use Rattle.sqlobjects.specs.Objects.{last_transfer}
+
+-- ---- names by number
+
+abbrev pub contact_name : Content → ℤ → Option (List ℕ)
+contact_name xs id = option_map (λ (r : contact_table.Contact). r.name) (get_by contact_table.contacts.key xs.contacts id)
+
+abbrev pub host_name : Content → ℤ → Option (List ℕ)
+host_name xs id = option_map (λ (r : host_table.Host). r.name) (get_by host_table.hosts.key xs.hosts id)
+
+-- ---- what a domain names (RFC 5731, 1.1 and 2.2)
+
+-- with one thing more, in this role
+abbrev pub with_name : Links → Role → List ℕ → Links
+with_name l roles.Admin name = record l { admin = l.admin ++ name ∷ [] }
+with_name l roles.Tech name = record l { tech = l.tech ++ name ∷ [] }
+with_name l roles.Host name = record l { hosts = l.hosts ++ name ∷ [] }
+
+-- the name of what a row leads to: a host in the role of one, or else a contact
+abbrev pub linked_name : Content → Role → Option ℤ → Option ℤ → Option (List ℕ)
+linked_name xs roles.Host None (Some id) = host_name xs id
+linked_name xs roles.Admin (Some id) None = contact_name xs id
+linked_name xs roles.Tech (Some id) None = contact_name xs id
+linked_name xs roles.Host None None = None
+linked_name xs roles.Host (Some contact) host = None
+linked_name xs roles.Admin None host = None
+linked_name xs roles.Admin (Some contact) (Some host) = None
+linked_name xs roles.Tech None host = None
+linked_name xs roles.Tech (Some contact) (Some host) = None
+
+-- with what a row leads to, if it reads
+abbrev pub with_link : Content → Links → Link → Option Links
+with_link xs l row = do
+  role ← role_in row.role
+  name ← linked_name xs role row.contact row.host
+  Some (with_name l role name)
+
+-- with what rows lead to, in their order, if all read
+abbrev pub with_links : Content → Links → List Link → Option Links
+with_links xs l [] = Some l
+with_links xs l (row ∷ rows) = do
+  l ← with_link xs l row
+  with_links xs l rows
+
+abbrev pub registrant_alone : List ℕ → Links
+registrant_alone name = record { registrant = name; admin = []; tech = []; hosts = [] }
+
+-- what the domain of a row names, if all rows of it read
+abbrev pub links_of : Content → domain_table.Domain → Option Links
+links_of xs row = do
+  registrant ← contact_name xs row.registrant
+  with_links xs (registrant_alone registrant) (filter (link_with_domain row.id) xs.links)
+
+-- ---- domains
+
+-- the domain of a row, if it, its links and its transfer read
+abbrev pub domain_of : Content → domain_table.Domain → Option Domain
+domain_of xs row = do
+  links ← links_of xs row
+  transfer ← last_transfer (filter (transfer_with_domain row.id) xs.transfers)
+  domain_in row links transfer
+
+abbrev pub domain_entry : Content → domain_table.Domain → Option (List ℕ × Domain)
+domain_entry xs row = named row.name (domain_of xs row)
+
+abbrev pub domains_of : Content → FinMap (slice_cmp nat_cmp) Domain
+domains_of xs = from_entries (filter_map (domain_entry xs) xs.domains)

@@ -1,0 +1,92 @@
+//! Domains, by name.
+ghost use Rattle.std.specs.Prelude.{◌≡◌, IfOk, Some, filter};
+ghost use Rattle.std.specs.FinMap.{get};
+ghost use Rattle.columns.specs.Domains.{domain_in};
+ghost use Rattle.meanings.specs.Read.{first_read};
+ghost use Rattle.sqldomains.specs.Domains as spec;
+ghost use Rattle.sqlobjects.specs.Objects as objects_spec;
+ghost use Rattle.tables.specs.Transfer.{transfer_with_domain};
+ghost use Rattle.transactions.specs.States.{Finds, Meets};
+
+use crate::links::{links_of, number_of};
+use basis::list::Seq;
+use basis::text::Text;
+use columns::{domain_of_row, transfer_of_row};
+use meanings::{only, or_fault};
+use objects::{Domain, Links, Transfer};
+use sqlite::Alter;
+use std::alloc::Global;
+use tables::{DomainRow, RowStore, TransferRow};
+use transactions::BookFault;
+
+/// The domain of this name.
+pub fn domain<S: Alter>(
+    store: &mut RowStore<S>,
+    alloc: Global,
+    name: &Text,
+) -> Result<Option<Domain>, BookFault>
+    ensures { Finds result (get (spec.domains_of store.old.content) name.now) store.old store.new }
+{
+    let rows = store.domains_by_name(name.as_str())?;
+    first_domain(store, alloc, rows)
+}
+
+/// The domain of the one of these rows, if there is one.
+fn first_domain<S: Alter>(
+    store: &mut RowStore<S>,
+    alloc: Global,
+    rows: Seq<DomainRow>,
+) -> Result<Option<Domain>, BookFault>
+    ensures { Finds result (first_read (spec.domain_of store.old.content) rows) store.old store.new }
+{
+    let Some(row) = only(rows)? else {
+        return Ok(None);
+    };
+    Ok(Some(domain_of(store, alloc, row)?))
+}
+
+/// The domain of a row.
+pub(crate) fn domain_of<S: Alter>(
+    store: &mut RowStore<S>,
+    alloc: Global,
+    row: DomainRow,
+) -> Result<Domain, BookFault>
+    ensures { Meets result (λ domain. spec.domain_of store.old.content row ≡ Some domain) store.old store.new }
+{
+    let links = links_of(store, alloc, &row)?;
+    let transfer = transfer_of(store, &row)?;
+    read_domain(alloc, row, links, transfer)
+}
+
+/// The last transfer of the domain of a row, if there was one.
+fn transfer_of<S: Alter>(
+    store: &mut RowStore<S>,
+    row: &DomainRow,
+) -> Result<Option<Transfer>, BookFault>
+    ensures { Meets result (λ transfer. objects_spec.last_transfer (filter (transfer_with_domain row.now.id) store.old.content.transfers) ≡ Some transfer) store.old store.new }
+{
+    let number = number_of(row);
+    let rows = store.transfers_by_domain(number)?;
+    last_transfer(rows)
+}
+
+fn last_transfer(rows: Seq<TransferRow>) -> Result<Option<Transfer>, BookFault>
+    ensures { IfOk result (λ transfer. objects_spec.last_transfer rows ≡ Some transfer) }
+{
+    let Some(row) = only(rows)? else {
+        return Ok(None);
+    };
+    let transfer = or_fault(transfer_of_row(&row))?;
+    Ok(Some(transfer))
+}
+
+fn read_domain(
+    alloc: Global,
+    row: DomainRow,
+    links: Links,
+    transfer: Option<Transfer>,
+) -> Result<Domain, BookFault>
+    ensures { IfOk result (λ domain. domain_in row links transfer ≡ Some domain) }
+{
+    or_fault(domain_of_row(alloc, row, links, transfer)?)
+}

@@ -1,0 +1,10 @@
+//! Domains over the store of rows: what rows mean is said in `specs/Domains.antt`, and each call answers
+//! from the rows that its name or number finds, or refuses (`BookFault::Store`) where one of them doesn't
+//! read.
+#![tactic(auto)]
+
+mod domains;
+mod links;
+mod names;
+
+pub use domains::domain;

@@ -1,0 +1,103 @@
+//! What domains name.
+ghost use Rattle.std.specs.Prelude.{◌≡◌, Some, IfOk};
+ghost use Rattle.transactions.specs.States.{Meets};
+ghost use Rattle.sqldomains.specs.Domains as spec;
+
+use crate::names::{contact_name, host_name};
+use basis::list::Seq;
+use basis::text::Text;
+use columns::{Role, role_of_column};
+use meanings::or_fault;
+use objects::Links;
+use rows::Number;
+use sqlite::Alter;
+use std::alloc::{AllocError, Global};
+use tables::{DomainRow, LinkRow, RowStore};
+use transactions::BookFault;
+
+/// What the domain of a row names.
+pub(crate) fn links_of<S: Alter>(
+    store: &mut RowStore<S>,
+    alloc: Global,
+    row: &DomainRow,
+) -> Result<Links, BookFault>
+    ensures { Meets result (λ links. spec.links_of store.old.content row.now ≡ Some links) store.old store.new }
+{
+    let registrant = contact_name(store, row.registrant)?;
+    let number = number_of(row);
+    let rows = store.links_by_domain(number)?;
+    with_links(store, registrant_alone(alloc, registrant), rows)
+}
+
+pub(crate) fn number_of(row: &DomainRow) -> Number
+    ensures { result ≡ row.now.id }
+{
+    Number::new(row.id)
+}
+
+fn registrant_alone(alloc: Global, registrant: Text) -> Links
+    ensures { result ≡ spec.registrant_alone registrant }
+{
+    Links {
+        registrant,
+        admin: Seq::new(alloc),
+        tech: Seq::new(alloc),
+        hosts: Seq::new(alloc),
+    }
+}
+
+/// With what the rows lead to, in their order.
+fn with_links<S: Alter>(
+    store: &mut RowStore<S>,
+    links: Links,
+    rows: Seq<LinkRow>,
+) -> Result<Links, BookFault>
+    ensures { Meets result (λ all. spec.with_links store.old.content links rows ≡ Some all) store.old store.new }
+{
+    let mut links = links;
+    for row in rows.into_vec() {
+        links = with_link(store, links, row)?;
+    }
+    Ok(links)
+}
+
+/// With what a row leads to.
+fn with_link<S: Alter>(
+    store: &mut RowStore<S>,
+    links: Links,
+    row: LinkRow,
+) -> Result<Links, BookFault>
+    ensures { Meets result (λ more. spec.with_link store.old.content links row ≡ Some more) store.old store.new }
+{
+    let role = or_fault(role_of_column(row.role))?;
+    let name = linked_name(store, role, row.contact, row.host)?;
+    Ok(with_name(links, role, name)?)
+}
+
+/// The name of what a row leads to.
+fn linked_name<S: Alter>(
+    store: &mut RowStore<S>,
+    role: Role,
+    contact: Option<i64>,
+    host: Option<i64>,
+) -> Result<Text, BookFault>
+    ensures { Meets result (λ name. spec.linked_name store.old.content role contact host ≡ Some name) store.old store.new }
+{
+    match (role, contact, host) {
+        (Role::Host, None, Some(id)) => host_name(store, id),
+        (Role::Admin | Role::Tech, Some(id), None) => contact_name(store, id),
+        _ => Err(BookFault::Store),
+    }
+}
+
+fn with_name(links: Links, role: Role, name: Text) -> Result<Links, AllocError>
+    ensures { IfOk result (λ more. more ≡ spec.with_name links role name) }
+{
+    let mut links = links;
+    match role {
+        Role::Admin => links.admin.push(name)?,
+        Role::Tech => links.tech.push(name)?,
+        Role::Host => links.hosts.push(name)?,
+    }
+    Ok(links)
+}

@@ -1,0 +1,4 @@
+pub mod CallLemmas
+pub mod MetaLemmas
+pub mod NameLemmas
+pub mod TermsLemmas

@@ -1,0 +1,72 @@
+-- What another row of meta means.
+use Rattle.std.proofs.Common.{◌≡◌, ℕ, List, [], ◌∷◌, Option, Some, None, refl, sym, ap, ◌∙◌, int_cmp}
+use Rattle.std.proofs.lemmas.Bool.{leb-true}
+use Rattle.std.specs.Prelude.{slice_get}
+use Rattle.std.specs.Cmp.{int_cmp_total, tied_itself}
+use Rattle.std.specs.Option.{unwrap_or}
+use Rattle.std.specs.Ordering.{match_ordering}
+use Rattle.std.specs.declared.cmp.Ordering.{Ordering}
+use Rattle.sqlite_keyed.specs.Keyed.{insert_by}
+use Rattle.calendar.specs.Moment.{IsMoment}
+use Rattle.columns.specs.Numbers.{moment_in}
+use Rattle.columns.proofs.NumberLemmas.{moment_back}
+use Rattle.meanings.specs.Read.{rows_of}
+use Rattle.model.specs.Registry.{blank}
+use Rattle.policy.specs.declared.terms.Terms.{Terms}
+use Rattle.tables.specs.Account.{Account}
+use Rattle.tables.specs.Content.{Content, metas_to}
+use Rattle.tables.specs.Meta.{Meta, metas}
+use Rattle.sqlterms.specs.Changes.{IsClockSet}
+use Rattle.sqlterms.specs.Clock.{clock_in, clock_of}
+use Rattle.sqlterms.specs.Meta.{meta_or_new, with_clock, with_terms}
+use Rattle.sqlterms.specs.Terms.{terms_at, terms_in}
+
+-- the first moment is one
+pub first_moment : IsMoment blank.clock
+first_moment = (leb-true 946_684_800 946_684_800 refl, leb-true 946_684_800 7_258_118_399 refl)
+
+first_row : (o : Option Meta) → slice_get (rows_of o) 0 ≡ o
+first_row None = refl
+first_row (Some row) = refl
+
+insert_one : (o : Option Meta) (new : Meta) → (meta_or_new o).id ≡ new.id → insert_by metas.key (rows_of o) new ≡ new ∷ []
+insert_one None new e = refl
+insert_one (Some row) new e =
+    ap (λ (r : Ordering). match_ordering r (row ∷ new ∷ []) (new ∷ []) (new ∷ row ∷ [])) (ap (int_cmp row.id) (sym e) ∙ tied_itself int_cmp_total row.id)
+
+module _ (xs : Content) (o : Option Meta) (is : xs.metas ≡ rows_of o) where
+  one_meta : (new : Meta) → (meta_or_new o).id ≡ new.id → insert_by metas.key xs.metas new ≡ new ∷ []
+  one_meta new e = ap (λ rows. insert_by metas.key rows new) is ∙ insert_one o new e
+
+  meta_was : slice_get xs.metas 0 ≡ o
+  meta_was = ap (λ rows. slice_get rows 0) is ∙ first_row o
+
+  same_clock : (o : Option Meta) → IsMoment blank.clock → clock_in (Some (meta_or_new o)) ≡ clock_in o
+  same_clock None first = ap (λ c. unwrap_or c blank.clock) (moment_back blank.clock first)
+  same_clock (Some row) first = refl
+
+  no_terms : (o : Option Meta) (accounts : List Account) → terms_at (meta_or_new o) accounts ≡ terms_in o accounts
+  no_terms None accounts = refl
+  no_terms (Some row) accounts = refl
+
+  -- the clock is another, and the terms aren't
+  pub clock_is_set : (m : ℕ) (new : Meta) → IsMoment m → new ≡ with_clock m (meta_or_new o) → IsClockSet m xs (metas_to (λ rows. insert_by metas.key rows new) xs)
+  clock_is_set m new range e =
+      let rows : insert_by metas.key xs.metas new ≡ new ∷ [] = one_meta new (ap (λ (r : Meta). r.id) (sym e)) in
+      record {
+        clock =
+            ap (λ rows. clock_in (slice_get rows 0)) rows ∙ ap (λ (r : Meta). unwrap_or (moment_in r.clock) blank.clock) e
+            ∙ ap (λ c. unwrap_or c blank.clock) (moment_back m range);
+        terms =
+            ap (λ rows. terms_in (slice_get rows 0) xs.accounts) rows ∙ ap (λ (r : Meta). terms_at r xs.accounts) e
+            ∙ no_terms o xs.accounts ∙ ap (λ o. terms_in o xs.accounts) (sym meta_was);
+        others = refl;
+      }
+
+  -- the terms are others, and the clock isn't
+  pub same_clock_of : (value : Terms) (labels : List ℕ) (new : Meta) → IsMoment blank.clock → new ≡ with_terms value labels (meta_or_new o)
+      → clock_of (metas_to (λ rows. insert_by metas.key rows new) xs) ≡ clock_of xs
+  same_clock_of value labels new first e =
+      ap (λ rows. clock_in (slice_get rows 0)) (one_meta new (ap (λ (r : Meta). r.id) (sym e)))
+      ∙ ap (λ (r : Meta). unwrap_or (moment_in r.clock) blank.clock) e
+      ∙ same_clock o first ∙ ap clock_in (sym meta_was)

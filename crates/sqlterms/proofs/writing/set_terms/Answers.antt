@@ -1,0 +1,26 @@
+use Rattle.std.proofs.Common.{string_bytes, sym, ap, ◌∙◌}
+use Rattle.sqlite_keyed.specs.Keyed.{insert_by}
+use Rattle.tables.specs.Content.{Content, metas_to}
+use Rattle.tables.specs.Meta.{metas}
+use Rattle.sqlterms.specs.Changes.{IsRenaming}
+use Rattle.sqlterms.specs.Meta.{with_terms}
+use Rattle.sqlterms.proofs.CallLemmas.{became-through}
+use Rattle.sqlterms.proofs.MetaLemmas.{first_moment}
+use Rattle.sqlterms.proofs.TermsLemmas.{terms_are_set}
+use Rattle.sqlterms.proofs.writing.set_terms.Goals as goal
+
+pub returns : goal.returns
+returns g c =
+    let e = c.in_ok-meta.ensures {u = tt} in
+    let read = c.in_ok-read.ensures {u = tt} in
+    let row = c.in_ok-row.row in
+    let written = c.in_ok-put_meta.ensures {u = tt} in
+    let named = c.in_ok-name_accounts.ensures {u = tt} in
+    let xs : Content = c.args.store.now.content in
+    became-through IsRenaming _ (λ xs. metas_to (λ rows. insert_by metas.key rows row) xs) c.args.store.now c.maybe_meta.new.store c.put_meta.new.self c.name_accounts.new.store c.terms.new.store
+    e.0 written named read.0
+    (λ clean renaming. terms_are_set xs c.name_accounts.new.store.content c.in_ok-meta.meta c.args.value.now (string_bytes c.in_ok-labels.labels) row first_moment
+    (e.1 (written.clean (named.clean (read.0.clean clean))))
+    (c.in_ok-row.ensures {u = tt} ∙ ap (with_terms c.args.value.now (string_bytes c.in_ok-labels.labels)) c.meta_or_new.ensures)
+    renaming
+    (sym (read.1 clean) ∙ c.are.ensures c.if-not-are.false))

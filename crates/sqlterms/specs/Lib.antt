@@ -1,0 +1,4 @@
+pub mod Clock
+pub mod Meta
+pub mod Terms
+pub mod Changes

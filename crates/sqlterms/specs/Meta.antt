@@ -1,0 +1,60 @@
+-- The one row of meta.
+use Rattle.std.specs.Prelude.{ℕ, pos, List, [], Option, Some, None, slice_get}
+use Rattle.columns.specs.Numbers.{moment_column}
+use Rattle.model.specs.Registry.{blank}
+use Rattle.policy.specs.declared.terms.Terms.{Terms}
+use Rattle.tables.specs.Content.{Content}
+use Rattle.tables.specs.Meta.{Meta}
+
+abbrev pub meta_of : Content → Option Meta
+meta_of xs = slice_get xs.metas 0
+
+-- ---- written
+
+-- the row of a registry without terms, at the clock of one that was never opened
+abbrev pub new_meta : Meta
+new_meta = record {
+  id = pos 1;
+  version = pos 1;
+  clock = moment_column blank.clock;
+  zone = [];
+  reserved = [];
+  days_add = pos 0;
+  days_auto_renew = pos 0;
+  days_renew = pos 0;
+  days_transfer = pos 0;
+  days_redemption = pos 0;
+  days_restore = pos 0;
+  days_pending_delete = pos 0;
+  days_answer = pos 0;
+  days_lock = pos 0;
+  price_create = pos 0;
+  price_renew = pos 0;
+  price_transfer = pos 0;
+}
+
+abbrev pub meta_or_new : Option Meta → Meta
+meta_or_new None = new_meta
+meta_or_new (Some row) = row
+
+abbrev pub with_clock : ℕ → Meta → Meta
+with_clock m row = record row { clock = moment_column m }
+
+-- the terms but for the registrars' ids, with the reserved labels as one text
+abbrev pub with_terms : Terms → List ℕ → Meta → Meta
+with_terms terms labels row = record row {
+  zone = terms.zone;
+  reserved = labels;
+  days_add = pos terms.days.add;
+  days_auto_renew = pos terms.days.auto_renew;
+  days_renew = pos terms.days.renew;
+  days_transfer = pos terms.days.transfer;
+  days_redemption = pos terms.days.redemption;
+  days_restore = pos terms.days.restore;
+  days_pending_delete = pos terms.days.pending_delete;
+  days_answer = pos terms.days.answer;
+  days_lock = pos terms.days.lock;
+  price_create = pos terms.prices.create;
+  price_renew = pos terms.prices.renew;
+  price_transfer = pos terms.prices.transfer;
+}

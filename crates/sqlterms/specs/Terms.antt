@@ -1,0 +1,107 @@
+-- The terms of a registry: in the row of meta, and in the idents of accounts.
+use Rattle.std.specs.Prelude.{ℕ, ◌+◌, ◌==◌, ℤ, pos, Bool, false, nat_lt, List, [], ◌∷◌, ◌++◌, length, Option, Some, None, if◌then◌else◌}
+use Rattle.std.specs.FinSet.{from_list}
+use Rattle.std.specs.Ordering.{int_eq}
+use Rattle.basis.specs.Sets.{Names}
+use Rattle.columns.specs.Numbers.{natural_in}
+use Rattle.columns.specs.Steps.{◌>>=◌}
+use Rattle.columns.specs.Texts.{street_column, street_in}
+use Rattle.policy.specs.declared.days.Days.{Days}
+use Rattle.policy.specs.declared.prices.Prices.{Prices}
+use Rattle.policy.specs.declared.terms.Terms.{Terms}
+use Rattle.tables.specs.Account.{Account}
+use Rattle.tables.specs.Content.{Content}
+use Rattle.tables.specs.Meta.{Meta}
+use Rattle.sqlterms.specs.Meta.{meta_of}
+
+-- ---- the columns of meta
+
+-- a number below 2 ^ 32
+abbrev pub is_count : ℕ → Bool
+is_count n = nat_lt n 4_294_967_296
+
+abbrev pub count_in : ℤ → Option ℕ
+count_in column = natural_in is_count column
+
+-- the days of these counts, if all are there
+abbrev pub days_made : Option ℕ → Option ℕ → Option ℕ → Option ℕ → Option ℕ → Option ℕ → Option ℕ → Option ℕ → Option ℕ → Option Days
+days_made add auto_renew renew transfer redemption restore pending_delete answer lock = do
+  a ← add
+  b ← auto_renew
+  c ← renew
+  d ← transfer
+  e ← redemption
+  f ← restore
+  g ← pending_delete
+  h ← answer
+  i ← lock
+  Some (record { add = a; auto_renew = b; renew = c; transfer = d; redemption = e; restore = f; pending_delete = g; answer = h; lock = i })
+
+abbrev pub days_in : Meta → Option Days
+days_in row =
+    days_made (count_in row.days_add) (count_in row.days_auto_renew) (count_in row.days_renew) (count_in row.days_transfer) (count_in row.days_redemption)
+    (count_in row.days_restore) (count_in row.days_pending_delete) (count_in row.days_answer) (count_in row.days_lock)
+
+abbrev pub prices_made : Option ℕ → Option ℕ → Option ℕ → Option Prices
+prices_made create renew transfer = do
+  c ← create
+  r ← renew
+  t ← transfer
+  Some (record { create = c; renew = r; transfer = t })
+
+abbrev pub prices_in : Meta → Option Prices
+prices_in row = prices_made (count_in row.price_create) (count_in row.price_renew) (count_in row.price_transfer)
+
+-- labels without a line feed, one in each line
+abbrev pub labels_column : List (List ℕ) → Option (List ℕ)
+labels_column [] = Some []
+labels_column (label ∷ labels) = street_column (label ∷ labels)
+
+-- the labels of a text, one in each line; an empty text is that of none
+abbrev pub labels_in : List ℕ → List (List ℕ)
+labels_in [] = []
+labels_in (b ∷ bs) = street_in (b ∷ bs)
+
+abbrev pub reserved_in : List ℕ → Names
+reserved_in text = from_list (labels_in text)
+
+-- ---- the idents of accounts
+
+-- no id of a registrar begins with #
+abbrev pub is_unnamed : List ℕ → Bool
+is_unnamed [] = false
+is_unnamed (b ∷ bs) = b == 35
+
+-- the ids behind these, whose accounts have the numbers that follow
+abbrev pub ids_behind : List (List ℕ) → List Account → Option (List (List ℕ))
+ids_behind ids [] = Some ids
+ids_behind ids (row ∷ rows) =
+    if is_unnamed row.ident then ids_behind ids rows
+    else (if int_eq row.id (pos (length ids + 1)) then ids_behind (ids ++ row.ident ∷ []) rows else None)
+
+-- The ids of the accounts that have one, which have the numbers from 1 on.
+abbrev pub ids_in : List Account → Option (List (List ℕ))
+ids_in rows = ids_behind [] rows
+
+-- ---- the terms
+
+-- the terms of these parts, if all are there
+abbrev pub terms_made : List ℕ → Names → Option Days → Option Prices → Option (List (List ℕ)) → Option Terms
+terms_made zone reserved days prices ids = do
+  d ← days
+  p ← prices
+  i ← ids
+  Some (record { zone = zone; reserved = reserved; days = d; prices = p; ids = i })
+
+abbrev pub terms_at : Meta → List Account → Option Terms
+terms_at row accounts =
+    if length row.zone == 0 then None
+    else terms_made row.zone (reserved_in row.reserved) (days_in row) (prices_in row) (ids_in accounts)
+
+-- none where there is no row, or it has no zone
+abbrev pub terms_in : Option Meta → List Account → Option Terms
+terms_in None accounts = None
+terms_in (Some row) accounts = terms_at row accounts
+
+abbrev pub terms_of : Content → Option Terms
+terms_of xs = terms_in (meta_of xs) xs.accounts

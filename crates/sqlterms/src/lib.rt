@@ -1,0 +1,16 @@
+//! The clock and the terms of a registry over the rows of a database: what the one row of `meta` says,
+//! and the registrars' ids, which are in the rows of their accounts.
+#![tactic(auto)]
+
+mod counts;
+mod ids;
+mod labels;
+mod meta;
+mod naming;
+mod reading;
+#[cfg(test)]
+mod tests;
+mod writing;
+
+pub use reading::{clock, terms};
+pub use writing::{set_clock, set_terms};

@@ -1,0 +1,100 @@
+//! The one row of `meta`.
+ghost use Rattle.std.specs.Prelude.{◌≡◌, IfOk, string_bytes};
+ghost use Rattle.calendar.specs.Moment.{IsMoment};
+ghost use Rattle.meanings.specs.Read.{rows_of};
+ghost use Rattle.sqlterms.specs.Meta as spec;
+ghost use Rattle.transactions.specs.States.{Meets};
+
+use calendar::Moment;
+use columns::moment_column;
+use meanings::only;
+use policy::Terms;
+use sqlite::Alter;
+use std::alloc::{AllocError, Global};
+use tables::{MetaRow, RowStore};
+use transactions::BookFault;
+
+/// The row, if there is one; more are refused.
+pub(crate) fn maybe_meta<S: Alter>(store: &mut RowStore<S>) -> Result<Option<MetaRow>, BookFault>
+    ensures { Meets result (λ row. store.old.content.metas ≡ rows_of row) store.old store.new }
+{
+    let rows = store.all_metas()?;
+    only(rows)
+}
+
+/// The row of a registry without terms, at the first moment.
+fn new_meta(alloc: Global) -> MetaRow
+    ensures { result ≡ spec.new_meta }
+{
+    MetaRow {
+        id: 1,
+        version: 1,
+        clock: 946_684_800,
+        zone: String::new(alloc),
+        reserved: String::new(alloc),
+        days_add: 0,
+        days_auto_renew: 0,
+        days_renew: 0,
+        days_transfer: 0,
+        days_redemption: 0,
+        days_restore: 0,
+        days_pending_delete: 0,
+        days_answer: 0,
+        days_lock: 0,
+        price_create: 0,
+        price_renew: 0,
+        price_transfer: 0,
+    }
+}
+
+pub(crate) fn meta_or_new(alloc: Global, meta: Option<MetaRow>) -> MetaRow
+    ensures { result ≡ spec.meta_or_new meta }
+{
+    match meta {
+        None => new_meta(alloc),
+        Some(row) => row,
+    }
+}
+
+pub(crate) fn with_clock(row: MetaRow, moment: Moment) -> MetaRow
+    ensures value { result ≡ spec.with_clock moment row }
+    ensures range { IsMoment moment }
+{
+    let mut row = row;
+    // Shows the prover that it is a moment.
+    row.clock = moment.secs();
+    row
+}
+
+/// The row with what it says of terms, and the reserved labels as one text.
+pub(crate) fn with_terms(
+    alloc: Global,
+    row: MetaRow,
+    terms: &Terms,
+    labels: String,
+) -> Result<MetaRow, AllocError>
+    ensures { IfOk result (λ changed. changed ≡ spec.with_terms terms.now (string_bytes labels) row) }
+{
+    let days = &terms.days;
+    let prices = &terms.prices;
+    let zone = String::from_str(alloc, terms.zone.as_str())?;
+    Ok(MetaRow {
+        id: row.id,
+        version: row.version,
+        clock: row.clock,
+        zone,
+        reserved: labels,
+        days_add: i64::from(days.add),
+        days_auto_renew: i64::from(days.auto_renew),
+        days_renew: i64::from(days.renew),
+        days_transfer: i64::from(days.transfer),
+        days_redemption: i64::from(days.redemption),
+        days_restore: i64::from(days.restore),
+        days_pending_delete: i64::from(days.pending_delete),
+        days_answer: i64::from(days.answer),
+        days_lock: i64::from(days.lock),
+        price_create: i64::from(prices.create),
+        price_renew: i64::from(prices.renew),
+        price_transfer: i64::from(prices.transfer),
+    })
+}

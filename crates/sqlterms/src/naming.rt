@@ -1,0 +1,60 @@
+//! Ids given to accounts.
+ghost use Rattle.std.specs.Prelude.{◌≡◌, true, IfOk};
+ghost use Rattle.meanings.specs.Calls.{Turns};
+ghost use Rattle.sqlterms.specs.Changes.{IsRenaming};
+
+use basis::text::Text;
+use meanings::only;
+use rows::Number;
+use sqlite::Alter;
+use std::alloc::{AllocError, Global};
+use tables::{AccountRow, RowStore};
+use transactions::BookFault;
+
+/// Gives the accounts with the numbers from 1 on these ids. An account that isn't there is refused.
+pub(crate) fn name_accounts<S: Alter>(
+    store: &mut RowStore<S>,
+    alloc: Global,
+    ids: &[Text],
+) -> Result<(), BookFault>
+    requires { store.old.is_open ≡ true }
+    ensures { Turns result IsRenaming store.old store.new }
+{
+    let mut place: u32 = 0;
+    for id in ids {
+        if place == u32::MAX {
+            return Err(BookFault::Store);
+        }
+        place += 1;
+        name_account(store, alloc, Number::new(i64::from(place)), id)?;
+    }
+    Ok(())
+}
+
+/// Gives an account an id.
+fn name_account<S: Alter>(
+    store: &mut RowStore<S>,
+    alloc: Global,
+    number: Number,
+    id: &Text,
+) -> Result<(), BookFault>
+    requires { store.old.is_open ≡ true }
+    ensures { Turns result IsRenaming store.old store.new }
+{
+    let rows = store.accounts_by_id(number)?;
+    store.whole();
+    let Some(row) = only(rows)? else {
+        return Err(BookFault::Store);
+    };
+    let named = with_ident(alloc, row, id)?;
+    store.put_account(&named)?;
+    Ok(())
+}
+
+fn with_ident(alloc: Global, row: AccountRow, id: &Text) -> Result<AccountRow, AllocError>
+    ensures { IfOk result (λ named. named ≡ record row { ident = id.now }) }
+{
+    let mut row = row;
+    row.ident = String::from_str(alloc, id.as_str())?;
+    Ok(row)
+}

@@ -1,0 +1,69 @@
+//! Another clock, and other terms.
+ghost use Rattle.std.specs.Prelude.{◌≡◌, true, Some};
+ghost use Rattle.meanings.specs.Calls.{Turns};
+ghost use Rattle.sqlterms.specs.Changes.{IsClockSet, IsTermsSet};
+
+use crate::labels::labels_column;
+use crate::meta::{maybe_meta, meta_or_new, with_clock, with_terms};
+use crate::naming::name_accounts;
+use crate::reading::terms;
+use basis::text::Text;
+use calendar::Moment;
+use meanings::or_fault;
+use policy::Terms;
+use sqlite::Alter;
+use std::alloc::Global;
+use tables::RowStore;
+use transactions::BookFault;
+
+/// Sets the clock.
+pub fn set_clock<S: Alter>(
+    store: &mut RowStore<S>,
+    alloc: Global,
+    moment: Moment,
+) -> Result<(), BookFault>
+    requires { store.old.is_open ≡ true }
+    ensures { Turns result (IsClockSet moment) store.old store.new }
+{
+    let meta = maybe_meta(store)?;
+    let row = with_clock(meta_or_new(alloc, meta), moment);
+    store.put_meta(&row)?;
+    Ok(())
+}
+
+/// Puts terms down: the row of `meta`, and the ident of each account whose registrar has a place among
+/// the ids. `labels` are those that the terms reserve, in whatever order. Refused are terms that don't
+/// read back as they are, such as those with other labels, with a label that has a line feed, or with an
+/// id of a registrar without an account.
+pub fn set_terms<S: Alter>(
+    store: &mut RowStore<S>,
+    alloc: Global,
+    value: &Terms,
+    labels: &[Text],
+) -> Result<(), BookFault>
+    requires { store.old.is_open ≡ true }
+    ensures { Turns result (IsTermsSet value.now) store.old store.new }
+{
+    let meta = maybe_meta(store)?;
+    let labels = or_fault(labels_column(alloc, labels)?)?;
+    let row = with_terms(alloc, meta_or_new(alloc, meta), value, labels)?;
+    store.put_meta(&row)?;
+    name_accounts(store, alloc, value.ids.as_slice())?;
+    let read = terms(store, alloc)?;
+    if !are(&read, value) {
+        return Err(BookFault::Store);
+    }
+    Ok(())
+}
+
+/// Whether what was read are these terms.
+fn are(read: &Option<Terms>, value: &Terms) -> bool
+    ensures { result ≡ true → read.now ≡ Some value.now }
+{
+    match read {
+        None => false,
+        Some(read) => {
+            read.continues(value) && read.ids.as_slice().len() == value.ids.as_slice().len()
+        }
+    }
+}
