@@ -1,2 +1,3 @@
 pub mod LinkLemmas
 pub mod FoundLemmas
+pub mod LinkedLemmas

@@ -1,10 +1,9 @@
 -- The domains that rows mean.
-use Rattle.std.specs.Prelude.{ℕ, ℤ, List, [], ◌∷◌, ◌++◌, filter, Option, Some, None, option_map}
+use Rattle.std.specs.Prelude.{ℕ, ℤ, List, [], ◌∷◌, ◌++◌, filter, Option, Some, None}
 use Rattle.std.specs.Cmp.Lexicographic.{slice_cmp}
 use Rattle.std.specs.FinMap.{FinMap, from_entries}
 use Rattle.std.specs.List.{filter_map}
 use Rattle.std.specs.Ordering.{nat_cmp}
-use Rattle.sqlite_keyed.specs.Keyed.{get_by}
 use Rattle.objects.specs.declared.domain.Domain.{Domain}
 use Rattle.objects.specs.declared.domain.Links.{Links}
 use Rattle.columns.specs.declared.code.Role.{Role}
@@ -12,22 +11,13 @@ use Rattle.columns.specs.declared.code.Role.TheVariants as roles
 use Rattle.columns.specs.Codes.{role_in}
 use Rattle.columns.specs.Domains.{domain_in}
 use Rattle.columns.specs.Steps.{◌>>=◌}
-use Rattle.tables.specs.Contact as contact_table
 use Rattle.tables.specs.Content.{Content}
 use Rattle.tables.specs.Domain as domain_table
-use Rattle.tables.specs.Host as host_table
 use Rattle.tables.specs.Link.{Link, link_with_domain}
 use Rattle.tables.specs.Transfer.{transfer_with_domain}
 use Rattle.meanings.specs.Read.{named}
+use Rattle.sqlobjects.specs.Changes.{contact_name, host_name}
 use Rattle.sqlobjects.specs.Objects.{last_transfer}
-
--- ---- names by number
-
-abbrev pub contact_name : Content → ℤ → Option (List ℕ)
-contact_name xs id = option_map (λ (r : contact_table.Contact). r.name) (get_by contact_table.contacts.key xs.contacts id)
-
-abbrev pub host_name : Content → ℤ → Option (List ℕ)
-host_name xs id = option_map (λ (r : host_table.Host). r.name) (get_by host_table.hosts.key xs.hosts id)
 
 -- ---- what a domain names (RFC 5731, 1.1 and 2.2)
 

@@ -1,1 +1,2 @@
 pub mod Domains
+pub mod Links
