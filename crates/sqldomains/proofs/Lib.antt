@@ -1,3 +1,4 @@
 pub mod LinkLemmas
 pub mod FoundLemmas
 pub mod LinkedLemmas
+pub mod AnswerLemmas

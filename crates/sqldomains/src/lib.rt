@@ -4,7 +4,9 @@
 #![tactic(auto)]
 
 mod domains;
+mod linked;
 mod links;
 mod names;
 
 pub use domains::domain;
+pub use linked::{is_linked_contact, is_linked_host};

@@ -63,7 +63,7 @@ fn name_of_host(row: Option<HostRow>) -> Result<Text, BookFault>
     }
 }
 
-fn number(id: i64) -> Number
+pub(crate) fn number(id: i64) -> Number
     ensures { result ≡ id }
 {
     Number::new(id)

@@ -1,0 +1,206 @@
+//! Whether domains name a contact or a host.
+ghost use Rattle.std.specs.Prelude.{◌≡◌, filter, option_map, take};
+ghost use Rattle.meanings.specs.Read.{rows_of};
+ghost use Rattle.sqlite_rules.specs.Lists.{Has};
+ghost use Rattle.tables.specs.Contact.{Contact};
+ghost use Rattle.tables.specs.Domain.{domain_with_registrant};
+ghost use Rattle.tables.specs.Host.{Host};
+ghost use Rattle.tables.specs.Link.{link_with_contact, link_with_host};
+ghost use Rattle.transactions.specs.States.{Finds, Meets};
+ghost use Rattle.objects.specs.Links as links;
+ghost use Rattle.sqldomains.specs.Links as spec;
+
+use crate::domains::domain_of;
+use crate::names::number;
+use basis::text::Text;
+use meanings::only;
+use sqlite::Alter;
+use std::alloc::Global;
+use tables::{ContactRow, DomainRow, HostRow, LinkRow, RowStore};
+use transactions::BookFault;
+
+/// Whether a domain names the contact of this name.
+pub fn is_linked_contact<S: Alter>(
+    store: &mut RowStore<S>,
+    alloc: Global,
+    name: &Text,
+) -> Result<bool, BookFault>
+    ensures { Finds result (spec.is_linked_contact store.old.content name.now) store.old store.new }
+{
+    store.whole();
+    let Some(id) = number_of_contact(store, name)? else {
+        return Ok(false);
+    };
+    let Some(row) = use_of_contact(store, id)? else {
+        return Ok(false);
+    };
+    naming_contact(store, alloc, row, name)?;
+    Ok(true)
+}
+
+/// The number of the contact of this name, if there is one.
+fn number_of_contact<S: Alter>(
+    store: &mut RowStore<S>,
+    name: &Text,
+) -> Result<Option<i64>, BookFault>
+    ensures { Meets result (spec.IsNumberOfContact store.old.content name.now) store.old store.new }
+{
+    let rows = store.contacts_by_name(name.as_str())?;
+    let row = only(rows)?;
+    Ok(id_of_contact(row))
+}
+
+fn id_of_contact(row: Option<ContactRow>) -> Option<i64>
+    ensures { result ≡ option_map (λ (r : Contact). r.id) row }
+{
+    match row {
+        None => None,
+        Some(row) => Some(row.id),
+    }
+}
+
+/// A domain's row, if any row refers to the contact with this number.
+fn use_of_contact<S: Alter>(
+    store: &mut RowStore<S>,
+    id: i64,
+) -> Result<Option<DomainRow>, BookFault>
+    ensures { Meets result (spec.IsUseOfContact store.old.content id) store.old store.new }
+{
+    if let Some(row) = registered_by(store, id)? {
+        return Ok(Some(row));
+    }
+    let Some(link) = link_to_contact(store, id)? else {
+        return Ok(None);
+    };
+    Ok(Some(domain_at(store, link.domain)?))
+}
+
+/// The first domain's row that has the contact with this number as its registrant.
+fn registered_by<S: Alter>(
+    store: &mut RowStore<S>,
+    id: i64,
+) -> Result<Option<DomainRow>, BookFault>
+    ensures { Meets result (λ row. take 1 (filter (domain_with_registrant id) store.old.content.domains) ≡ rows_of row) store.old store.new }
+{
+    let number = number(id);
+    let rows = store.first_domains_by_registrant(number)?;
+    only(rows)
+}
+
+/// The first link to the contact with this number.
+fn link_to_contact<S: Alter>(
+    store: &mut RowStore<S>,
+    id: i64,
+) -> Result<Option<LinkRow>, BookFault>
+    ensures { Meets result (λ row. take 1 (filter (link_with_contact id) store.old.content.links) ≡ rows_of row) store.old store.new }
+{
+    let number = number(id);
+    let rows = store.first_links_by_contact(number)?;
+    only(rows)
+}
+
+/// The domain's row with this number, to which a link belongs.
+fn domain_at<S: Alter>(store: &mut RowStore<S>, id: i64) -> Result<DomainRow, BookFault>
+    ensures { Meets result (λ row. Has store.old.content.domains row) store.old store.new }
+{
+    let number = number(id);
+    let rows = store.domains_by_id(number)?;
+    match only(rows)? {
+        None => Err(BookFault::Store),
+        Some(row) => Ok(row),
+    }
+}
+
+/// Reads the domain of a row, and refuses one that doesn't name the contact.
+fn naming_contact<S: Alter>(
+    store: &mut RowStore<S>,
+    alloc: Global,
+    row: DomainRow,
+    name: &Text,
+) -> Result<(), BookFault>
+    ensures { Meets result (λ done. spec.Passes store.old.content (λ d. links.names_contact name.now d.links) row) store.old store.new }
+{
+    let domain = domain_of(store, alloc, row)?;
+    if !domain.links.names_contact(name) {
+        return Err(BookFault::Store);
+    }
+    Ok(())
+}
+
+/// Whether a domain names the host of this name.
+pub fn is_linked_host<S: Alter>(
+    store: &mut RowStore<S>,
+    alloc: Global,
+    name: &Text,
+) -> Result<bool, BookFault>
+    ensures { Finds result (spec.is_linked_host store.old.content name.now) store.old store.new }
+{
+    store.whole();
+    let Some(id) = number_of_host(store, name)? else {
+        return Ok(false);
+    };
+    let Some(row) = use_of_host(store, id)? else {
+        return Ok(false);
+    };
+    naming_host(store, alloc, row, name)?;
+    Ok(true)
+}
+
+/// The number of the host of this name, if there is one.
+fn number_of_host<S: Alter>(
+    store: &mut RowStore<S>,
+    name: &Text,
+) -> Result<Option<i64>, BookFault>
+    ensures { Meets result (spec.IsNumberOfHost store.old.content name.now) store.old store.new }
+{
+    let rows = store.hosts_by_name(name.as_str())?;
+    let row = only(rows)?;
+    Ok(id_of_host(row))
+}
+
+fn id_of_host(row: Option<HostRow>) -> Option<i64>
+    ensures { result ≡ option_map (λ (r : Host). r.id) row }
+{
+    match row {
+        None => None,
+        Some(row) => Some(row.id),
+    }
+}
+
+/// A domain's row, if any row refers to the host with this number.
+fn use_of_host<S: Alter>(
+    store: &mut RowStore<S>,
+    id: i64,
+) -> Result<Option<DomainRow>, BookFault>
+    ensures { Meets result (spec.IsUseOfHost store.old.content id) store.old store.new }
+{
+    let Some(link) = link_to_host(store, id)? else {
+        return Ok(None);
+    };
+    Ok(Some(domain_at(store, link.domain)?))
+}
+
+/// The first link to the host with this number.
+fn link_to_host<S: Alter>(store: &mut RowStore<S>, id: i64) -> Result<Option<LinkRow>, BookFault>
+    ensures { Meets result (λ row. take 1 (filter (link_with_host id) store.old.content.links) ≡ rows_of row) store.old store.new }
+{
+    let number = number(id);
+    let rows = store.first_links_by_host(number)?;
+    only(rows)
+}
+
+/// Reads the domain of a row, and refuses one that doesn't name the host.
+fn naming_host<S: Alter>(
+    store: &mut RowStore<S>,
+    alloc: Global,
+    row: DomainRow,
+    name: &Text,
+) -> Result<(), BookFault>
+    ensures { Meets result (λ done. spec.Passes store.old.content (λ d. links.names_host name.now d.links) row) store.old store.new }
+{
+    let domain = domain_of(store, alloc, row)?;
+    if !domain.links.names_host(name) {
+        return Err(BookFault::Store);
+    }
+    Ok(())
+}
