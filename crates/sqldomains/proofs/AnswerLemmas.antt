@@ -126,3 +126,11 @@ module _ (xs : Content) (name : List ℕ) (whole : IsWhole xs) where
 
   pub host-used : (row : table.Domain) → Has xs.domains row → Passes xs (λ d. names_host name d.links) row → is_linked_host xs name ≡ true
   host-used row there passes = one-passes xs (λ d. names_host name d.links) whole row passes.0 there passes.1 passes.2
+
+-- ---- the same of states that are alike
+
+pub use-of-contact : (xs ys : Content) (a b : ℤ) (o p : Option table.Domain) → xs ≡ ys → a ≡ b → o ≡ p → IsUseOfContact xs a o → IsUseOfContact ys b p
+use-of-contact xs ys a b o p same alike is used = subst (IsUseOfContact ys b) is (subst (λ n. IsUseOfContact ys n o) alike (subst (λ c. IsUseOfContact c a o) same used))
+
+pub use-of-host : (xs ys : Content) (a b : ℤ) (o p : Option table.Domain) → xs ≡ ys → a ≡ b → o ≡ p → IsUseOfHost xs a o → IsUseOfHost ys b p
+use-of-host xs ys a b o p same alike is used = subst (IsUseOfHost ys b) is (subst (λ n. IsUseOfHost ys n o) alike (subst (λ c. IsUseOfHost c a o) same used))
