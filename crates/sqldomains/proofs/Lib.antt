@@ -2,3 +2,4 @@ pub mod LinkLemmas
 pub mod FoundLemmas
 pub mod LinkedLemmas
 pub mod AnswerLemmas
+pub mod TransferLemmas

@@ -1,2 +1,3 @@
 pub mod Domains
 pub mod Links
+pub mod Stages

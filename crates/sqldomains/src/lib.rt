@@ -7,6 +7,7 @@ mod domains;
 mod linked;
 mod links;
 mod names;
+mod transfers;
 
 pub use domains::domain;
 pub use linked::{is_linked_contact, is_linked_host};
