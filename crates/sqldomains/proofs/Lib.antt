@@ -3,3 +3,4 @@ pub mod FoundLemmas
 pub mod LinkedLemmas
 pub mod AnswerLemmas
 pub mod TransferLemmas
+pub mod LinkRowLemmas

@@ -155,7 +155,7 @@ module _ (xs : Content) (name : List ℕ) (l : Links) (row : Link) where
   host-more roles.Admin new e has = inl has
   host-more roles.Tech new e has = inl has
 
-registrant-more : (l : Links) (role : Role) (new : List ℕ) → (with_name l role new).registrant ≡ l.registrant
+pub registrant-more : (l : Links) (role : Role) (new : List ℕ) → (with_name l role new).registrant ≡ l.registrant
 registrant-more l roles.Admin new = refl
 registrant-more l roles.Tech new = refl
 registrant-more l roles.Host new = refl

@@ -4,6 +4,7 @@
 #![tactic(auto)]
 
 mod domains;
+mod link_rows;
 mod linked;
 mod links;
 mod names;

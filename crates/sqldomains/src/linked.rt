@@ -39,7 +39,7 @@ pub fn is_linked_contact<S: Alter>(
 }
 
 /// The number of the contact of this name, if there is one.
-fn number_of_contact<S: Alter>(
+pub(crate) fn number_of_contact<S: Alter>(
     store: &mut RowStore<S>,
     name: &Text,
 ) -> Result<Option<i64>, BookFault>
@@ -147,7 +147,7 @@ pub fn is_linked_host<S: Alter>(
 }
 
 /// The number of the host of this name, if there is one.
-fn number_of_host<S: Alter>(
+pub(crate) fn number_of_host<S: Alter>(
     store: &mut RowStore<S>,
     name: &Text,
 ) -> Result<Option<i64>, BookFault>
