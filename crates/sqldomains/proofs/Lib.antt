@@ -4,3 +4,4 @@ pub mod LinkedLemmas
 pub mod AnswerLemmas
 pub mod TransferLemmas
 pub mod LinkRowLemmas
+pub mod DomainLemmas

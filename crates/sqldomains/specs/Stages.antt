@@ -20,6 +20,7 @@ use Rattle.meanings.specs.Read.{rows_of}
 use Rattle.sqlobjects.specs.Changes.{contact_name, host_name}
 use Rattle.sqlobjects.specs.Objects.{last_transfer}
 use Rattle.sqlobjects.specs.Stages.{IsPlaced}
+use Rattle.sqldomains.specs.declared.domain_rows.Beside.{Beside}
 use Rattle.sqldomains.specs.Domains.{linked_name, registrant_alone, with_links, with_name}
 
 -- ---- transfers
@@ -97,3 +98,44 @@ pub record AreNamesAdded (id : ℤ) (role : Role) (names : List (List ℕ)) (old
 pub record AreLinksPut (id : ℤ) (links : Links) (old new : Content) : Type 0 where
   pub here : Names id links new
   pub others : AreOtherLinksKept id old new
+
+-- ---- rows of domains
+
+-- no domain but the one with this number has other rows of links and transfers, and no contact another
+-- transfer; but for those and for domains each table is as it was
+pub record AreOtherPartsKept (id : ℤ) (old new : Content) : Type 0 where
+  pub links : (other : ℤ) → int_eq id other ≡ false → filter (link_with_domain other) new.links ≡ filter (link_with_domain other) old.links
+  pub transfers : (other : ℤ) → int_eq id other ≡ false → filter (transfer_with_domain other) new.transfers ≡ filter (transfer_with_domain other) old.transfers
+  pub contacts : (contact : ℤ) → filter (transfer_with_contact contact) new.transfers ≡ filter (transfer_with_contact contact) old.transfers
+  pub rest : record new { domains = old.domains; links = old.links; transfers = old.transfers } ≡ old
+
+-- the row of a domain, with this beside it
+abbrev pub row_beside : ℤ → Beside → Domain → Option table.Domain
+row_beside id beside d = domain_row id beside.registrant beside.due d
+
+-- the domain, but for its links and its transfer, is in a row after the others
+pub record IsDomainAdded (d : Domain) (beside : Beside) (old new : Content) : Type 0 where
+  pub row : table.Domain
+  pub is : row_beside row.id beside d ≡ Some row
+  pub content : new ≡ domains_to (λ rows. rows ++ row ∷ []) old
+
+-- the domain, but for its links and its transfer, is in this row, and no other row is changed
+pub record IsDomainPlaced (d : Domain) (beside : Beside) (row : table.Domain) (old new : Content) : Type 0 where
+  pub is : row_beside row.id beside d ≡ Some row
+  pub rows : IsPlaced (λ (r : table.Domain). r.name) d.name row old.domains new.domains
+  pub rest : new ≡ record old { domains = new.domains }
+
+-- the same where it was this row, or none, that had its name
+abbrev pub IsDomainPlacedAt : Option table.Domain → Domain → Beside → table.Domain → Content → Content → Type 0
+IsDomainPlacedAt found d beside row old new =
+    IsWhole old → filter (table.domain_with_name d.name) old.domains ≡ rows_of found → IsDomainPlaced d beside row old new
+
+-- the domain with this number, its links and its transfer aren't there any more
+pub record IsDomainRemoved (id : ℤ) (old new : Content) : Type 0 where
+  pub kept : AreOtherPartsKept id old new
+  pub domains : new.domains ≡ delete_where (table.domain_with_id id) old.domains
+
+-- the same of the row that was found, if there was one
+abbrev pub IsDomainDropped : Option table.Domain → Content → Content → Type 0
+IsDomainDropped None old new = new ≡ old
+IsDomainDropped (Some row) old new = IsDomainRemoved row.id old new

@@ -3,6 +3,7 @@
 //! read.
 #![tactic(auto)]
 
+mod domain_rows;
 mod domains;
 mod link_rows;
 mod linked;
