@@ -3,6 +3,7 @@
 //! read.
 #![tactic(auto)]
 
+mod domain_changes;
 mod domain_rows;
 mod domains;
 mod link_rows;
@@ -11,5 +12,6 @@ mod links;
 mod names;
 mod transfers;
 
+pub use domain_changes::{drop_domain, put_domain};
 pub use domains::domain;
 pub use linked::{is_linked_contact, is_linked_host};
