@@ -8,11 +8,9 @@ use Rattle.sqlite_keyed.specs.Lists.{delete_where}
 use Rattle.sqlite_rules.specs.Lists.{Has}
 use Rattle.sqlite_typed.specs.Tests.{bytes_eq}
 use Rattle.objects.specs.declared.domain.Domain.{Domain}
-use Rattle.objects.specs.declared.domain.Links.{Links}
 use Rattle.objects.specs.declared.roid.ObjectKind.TheVariants as kinds
-use Rattle.objects.specs.declared.transfer.Transfer.{Transfer}
 use Rattle.columns.specs.Contacts.{contact_in}
-use Rattle.columns.specs.Domains.{IsDomain, deletion_columns, domain_in, domain_row, registration_of, row_with}
+use Rattle.columns.specs.Domains.{IsDomain, deletion_columns, domain_in, registration_of, row_with}
 use Rattle.columns.specs.Numbers.{moment_column}
 use Rattle.columns.specs.Registrations.{registration_columns}
 use Rattle.columns.specs.Steps.{◌>>=◌}
@@ -49,9 +47,9 @@ module _ (xs ys : Content) (id : ℤ) (kept : AreOtherPartsKept id xs ys) where
   pub reads-alike : (r : table.Domain) → int_eq id r.id ≡ false → domain_of ys r ≡ domain_of xs r
   reads-alike r other =
       let links : links_of ys r ≡ links_of xs r =
-          λ i. ap (λ (x : Content). contact_name x r.registrant) kept.rest i >>= (λ a.
-              (ap (with_links ys (registrant_alone a)) (kept.links r.id other)
-              ∙ links-alike xs ys (λ k. ap (λ (x : Content). contact_name x k) kept.rest) (λ k. ap (λ (x : Content). host_name x k) kept.rest) (filter (link_with_domain r.id) xs.links) (registrant_alone a)) i) in
+      λ i. ap (λ (x : Content). contact_name x r.registrant) kept.rest i >>= (λ a.
+      (ap (with_links ys (registrant_alone a)) (kept.links r.id other)
+      ∙ links-alike xs ys (λ k. ap (λ (x : Content). contact_name x k) kept.rest) (λ k. ap (λ (x : Content). host_name x k) kept.rest) (filter (link_with_domain r.id) xs.links) (registrant_alone a)) i) in
       λ i. links i >>= (λ l. last_transfer (kept.transfers r.id other i) >>= (λ transfer. domain_in r l transfer))
 
   contact-same : (row : contact_table.Contact) → contact_of ys row ≡ contact_of xs row

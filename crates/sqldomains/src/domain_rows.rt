@@ -153,7 +153,12 @@ fn row_of(alloc: Global, id: i64, beside: &Beside, domain: &Domain) -> Result<Do
 }
 
 /// The same under the number of a row that is there.
-fn row_again(alloc: Global, found: &DomainRow, beside: &Beside, domain: &Domain) -> Result<DomainRow, BookFault>
+fn row_again(
+    alloc: Global,
+    found: &DomainRow,
+    beside: &Beside,
+    domain: &Domain,
+) -> Result<DomainRow, BookFault>
     ensures { IfOk result (λ row. row_beside found.now.id beside.now domain.now ≡ Some row) }
 {
     row_of(alloc, found.id, beside, domain)

@@ -10,6 +10,8 @@ mod link_rows;
 mod linked;
 mod links;
 mod names;
+#[cfg(test)]
+mod tests;
 mod transfers;
 
 pub use domain_changes::{drop_domain, put_domain};

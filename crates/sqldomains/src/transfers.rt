@@ -51,10 +51,7 @@ pub(crate) fn put_transfer<S: Alter>(
 
 /// The row of a domain's transfer, but for its number. A transfer that wouldn't be read back is
 /// refused.
-fn row_of(
-    domain: &DomainRow,
-    transfer: &Option<Transfer>,
-) -> Result<Option<TransferRow>, BookFault>
+fn row_of(domain: &DomainRow, transfer: &Option<Transfer>) -> Result<Option<TransferRow>, BookFault>
     ensures row { IfOk result (λ row. row ≡ transfer_row_of domain.now.id transfer.now) }
     ensures is { IfOk result (λ row. IfSome transfer.now IsTransfer) }
 {

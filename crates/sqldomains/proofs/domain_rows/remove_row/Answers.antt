@@ -16,7 +16,7 @@ returns g c =
     let last = c.clear_transfer.new.store in
     let new = c.remove_domains_by_id.new.self in
     let rest = became-made (IsTransferCleared number) (λ b e. (a : Content) → AreLinksCleared number a b → IsDomainRemoved id a e) (domains_to (delete_where (domain_with_id number))) middle last new
-        (c.in_ok-clear_transfer.ensures {u = tt}) (c.in_ok-remove_domains_by_id.ensures {u = tt})
-        (λ clean step a links. removed-so id number a middle.content last.content c.number_of-number.ensures links step) in
+    (c.in_ok-clear_transfer.ensures {u = tt}) (c.in_ok-remove_domains_by_id.ensures {u = tt})
+    (λ clean step a links. removed-so id number a middle.content last.content c.number_of-number.ensures links step) in
     then-became (AreLinksCleared number) (λ b e. (a : Content) → AreLinksCleared number a b → IsDomainRemoved id a e) (IsDomainRemoved id) old middle new
     (c.in_ok-clear_links.ensures {u = tt}) rest (λ clean links more. more old.content links)

@@ -1,4 +1,4 @@
-use Rattle.std.proofs.Common.{rules, sym, subst, ◌∙◌, FitsSigned, w64, to_z-of_z}
+use Rattle.std.proofs.Common.{rules, sym, subst, FitsSigned, w64, to_z-of_z}
 use Rattle.meanings.proofs.StateLemmas.{reads-on}
 use Rattle.objects.specs.Links.{names_contact}
 use Rattle.sqldomains.specs.Links as spec
@@ -18,8 +18,7 @@ returns-in_default-2 g c =
     let second = c.in_ok-row.ensures {u = tt} in
     let xs = c.args.store.now.content in
     let name = c.args.name.now in
-    let fits : FitsSigned w64 c.in-Some.id = search rules in
-    (
+    let fits : FitsSigned w64 c.in-Some.id = search rules in (
       reads-on c.args.store.now c.number_of_contact.new.store c.use_of_contact.new.store first.0 second.0,
       λ e. sym (contact-unused xs name (c.whole.ensures (first.0.clean (second.0.clean e))) c.in-Some.id (subst (spec.IsNumberOfContact xs name) c.in-Some.is (first.1 (second.0.clean e)))
           (use-of-contact _ _ _ _ _ _ (first.0.content (second.0.clean e)) (to_z-of_z fits) c.in_default-2.is (second.1 e))),
@@ -33,8 +32,7 @@ returns g c =
     let xs = c.args.store.now.content in
     let name = c.args.name.now in
     let fits : FitsSigned w64 c.in-Some.id = search rules in
-    let both = reads-on c.args.store.now c.number_of_contact.new.store c.use_of_contact.new.store first.0 second.0 in
-    (
+    let both = reads-on c.args.store.now c.number_of_contact.new.store c.use_of_contact.new.store first.0 second.0 in (
       reads-on c.args.store.now c.use_of_contact.new.store c.naming_contact.new.store both third.0,
       λ clean. let e = third.0.clean clean in sym (contact-used xs name (c.whole.ensures (both.clean e)) c.in-Some-2.row (use-of-contact _ _ _ _ _ _ (first.0.content (second.0.clean e)) (to_z-of_z fits) c.in-Some-2.is (second.1 e))
           (subst (λ ys. spec.Passes ys (λ d. names_contact name d.links) c.in-Some-2.row) (both.content e) (third.1 clean))),
