@@ -5,3 +5,4 @@ pub mod AnswerLemmas
 pub mod TransferLemmas
 pub mod LinkRowLemmas
 pub mod DomainLemmas
+pub mod FrameLemmas

@@ -155,7 +155,7 @@ links-put id number l a b c d e same clear admin tech host =
 -- ---- numbers of names
 
 module _ {X : Type 0} (key : X → ℤ) where
-  get_by-has : (xs : List X) (row : X) → IsKeyedBy key xs → Has xs row → get_by key xs (key row) ≡ Some row
+  pub get_by-has : (xs : List X) (row : X) → IsKeyedBy key xs → Has xs row → get_by key xs (key row) ≡ Some row
   get_by-has [] row up there = absurd there
   get_by-has (x ∷ xs) row up (inl same) =
       ap (λ b. cond b (Some x) (get_by key xs (key row))) ((Decides-int_eq (key x) (key row)).1 (ap key (sym same))) ∙ ap Some (sym same)
