@@ -19,7 +19,7 @@ use Rattle.sqlobjects.proofs.PutLemmas.{bytes_is, filter-has, has-filter, has-ge
 use Rattle.sqldomains.specs.Links.{IsNoContact, IsNumberOfContact, IsNumberOfHost, IsUseOfContact, IsUseOfHost, Passes, is_linked_contact, is_linked_host}
 use Rattle.sqldomains.proofs.LinkedLemmas.{contact-unnamed, host-unnamed, one-passes}
 
-equal : (a b : ℤ) → a ≡ b → int_eq a b ≡ true
+pub equal : (a b : ℤ) → a ≡ b → int_eq a b ≡ true
 equal a b e = ap (λ z. int_eq z b) e ∙ ap is_eq (tied_itself int_cmp_total b)
 
 -- ---- rows of which one is taken
@@ -105,12 +105,12 @@ row-of-host xs name id e = go (get_by host_table.hosts.key xs.hosts id) refl e
     go (Some row) is f = (row, has-get_by host_table.hosts.key xs.hosts id row is, cc, key-get_by host_table.hosts.key xs.hosts id row is)
 
 module _ (xs : Content) (name : List ℕ) (whole : IsWhole xs) where
-  nowhere-host : IsNumberOfHost xs name None → (id : ℤ) → host_name xs id ≡ Some name → ⊥
+  pub nowhere-host : IsNumberOfHost xs name None → (id : ℤ) → host_name xs id ≡ Some name → ⊥
   nowhere-host none id e =
       let it = row-of-host xs name id e in
       subst (λ l. Has l it.0) none (filter-has (host_table.host_with_name name) xs.hosts it.0 it.1 (bytes_same it.0.name name it.2))
 
-  only-host : (id : ℤ) → IsNumberOfHost xs name (Some id) → (other : ℤ) → host_name xs other ≡ Some name → other ≡ id
+  pub only-host : (id : ℤ) → IsNumberOfHost xs name (Some id) → (other : ℤ) → host_name xs other ≡ Some name → other ≡ id
   only-host id it other e =
       let that = row-of-host xs name other e in
       sym that.3 ∙ ap (λ (r : host_table.Host). r.id) (whole.named.hosts that.0 it.0 that.1 it.1 (that.2 ∙ sym it.2)) ∙ it.3

@@ -6,3 +6,4 @@ pub mod TransferLemmas
 pub mod LinkRowLemmas
 pub mod DomainLemmas
 pub mod FrameLemmas
+pub mod NameOrderLemmas

@@ -36,7 +36,7 @@ use Rattle.sqldomains.proofs.FoundLemmas.{domain-named}
 
 -- ---- the domains that rows mean, one by one
 
-first-has : {R X : Type 0} (read : R → Option X) (rows : List R) (x : X) → first_read read rows ≡ Some x → (row : R) × Has rows row × (read row ≡ Some x)
+pub first-has : {R X : Type 0} (read : R → Option X) (rows : List R) (x : X) → first_read read rows ≡ Some x → (row : R) × Has rows row × (read row ≡ Some x)
 first-has read [] x e = cc
 first-has {R} {X} read (row ∷ rows) x e = go (read row) refl e (first-has read rows x)
   where
@@ -74,12 +74,12 @@ links-read row links transfer d e =
     let x = step (deletion_in row.deleted row.restore_requested) _ d s.rest in
     ap (λ (z : Domain). z.links) (same_some _ d x.rest)
 
-record Naming (xs : Content) (row : table.Domain) (links : Links) : Type 0 where
+pub record Naming (xs : Content) (row : table.Domain) (links : Links) : Type 0 where
   pub registrant : List ℕ
   pub registrant_is : contact_name xs row.registrant ≡ Some registrant
   pub all : with_links xs (registrant_alone registrant) (filter (link_with_domain row.id) xs.links) ≡ Some links
 
-naming : (xs : Content) (row : table.Domain) (d : Domain) → domain_of xs row ≡ Some d → Naming xs row d.links
+pub naming : (xs : Content) (row : table.Domain) (d : Domain) → domain_of xs row ≡ Some d → Naming xs row d.links
 naming xs row d e =
     let links = step (links_of xs row) _ d e in
     let transfer = step (last_transfer (filter (transfer_with_domain row.id) xs.transfers)) _ d links.rest in
@@ -143,7 +143,7 @@ module _ (xs : Content) (name : List ℕ) (l : Links) (row : Link) where
   tech-more roles.Admin new e has = inl has
   tech-more roles.Host new e has = inl has
 
-  host-more : (role : Role) (new : List ℕ) → linked_name xs role row.contact row.host ≡ Some new → has_name (with_name l role new).hosts name ≡ true → (has_name l.hosts name ≡ true) ⊎ LeadsToHost xs name row
+  pub host-more : (role : Role) (new : List ℕ) → linked_name xs role row.contact row.host ≡ Some new → has_name (with_name l role new).hosts name ≡ true → (has_name l.hosts name ≡ true) ⊎ LeadsToHost xs name row
   host-more roles.Host new e has = go (is_there name l.hosts new has)
     where
       go : (has_name l.hosts name ≡ true) ⊎ (new ≡ name) → (has_name l.hosts name ≡ true) ⊎ LeadsToHost xs name row

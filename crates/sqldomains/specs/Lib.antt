@@ -2,3 +2,4 @@ pub mod Domains
 pub mod Links
 pub mod Stages
 pub mod Changes
+pub mod Names

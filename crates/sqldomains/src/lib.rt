@@ -10,6 +10,7 @@ mod link_rows;
 mod linked;
 mod links;
 mod names;
+mod names_in_order;
 #[cfg(test)]
 mod tests;
 mod transfers;
@@ -17,3 +18,4 @@ mod transfers;
 pub use domain_changes::{drop_domain, put_domain};
 pub use domains::domain;
 pub use linked::{is_linked_contact, is_linked_host};
+pub use names_in_order::{domain_names, domains_naming};

@@ -1,0 +1,50 @@
+-- Names of domains, in the order of their bytes.
+use Rattle.std.specs.Prelude.{◌≡◌, ℕ, Bool, List, [], ◌∷◌, map, filter, Option, Some, None, if◌then◌else◌, option_map}
+use Rattle.std.specs.Cmp.Lexicographic.{slice_cmp}
+use Rattle.std.specs.FinMap.{FinMap, entries, insert, keys}
+use Rattle.std.specs.Ordering.{nat_cmp}
+use Rattle.sqlite_keyed.specs.Keyed.{get_by}
+use Rattle.objects.specs.declared.domain.Domain.{Domain}
+use Rattle.objects.specs.Links.{names_host}
+use Rattle.columns.specs.Steps.{◌>>=◌}
+use Rattle.tables.specs.Content.{Content}
+use Rattle.tables.specs.Domain as table
+use Rattle.tables.specs.Link.{Link}
+use Rattle.sqldomains.specs.Domains.{domain_of, domains_of}
+
+abbrev pub domain_names : Content → List (List ℕ)
+domain_names xs = keys (domains_of xs)
+
+-- the domains that name a host
+abbrev pub domains_naming : List ℕ → Content → List (List ℕ)
+domains_naming host xs = map (λ e. e.0) (filter (λ e. names_host host e.1.links) (entries (domains_of xs)))
+
+-- ---- read row by row
+
+abbrev pub NameSet : Type 0
+NameSet = FinMap (slice_cmp nat_cmp) (Unit {0})
+
+-- with a name, if there is one
+abbrev pub with_one : NameSet → Option (List ℕ) → Option NameSet
+with_one m o = option_map (λ n. insert m n tt) o
+
+-- with the names of these rows, if each gives one
+abbrev pub with_read : {R : Type 0} → (R → Option (List ℕ)) → NameSet → List R → Option NameSet
+with_read read m [] = Some m
+with_read read m (row ∷ rows) = do
+  m ← with_one m (read row)
+  with_read read m rows
+
+-- the name of the domain of a row, if it reads
+abbrev pub name_in : Content → table.Domain → Option (List ℕ)
+name_in xs row = option_map (λ (d : Domain). d.name) (domain_of xs row)
+
+abbrev pub if_named : List ℕ → Domain → Option (List ℕ)
+if_named host d = if names_host host d.links then Some d.name else None
+
+-- the name of the domain to which a link belongs, if it reads and names the host
+abbrev pub name_naming : List ℕ → Content → Link → Option (List ℕ)
+name_naming host xs link = do
+  row ← get_by table.domains.key xs.domains link.domain
+  d ← domain_of xs row
+  if_named host d
