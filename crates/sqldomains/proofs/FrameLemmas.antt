@@ -54,9 +54,9 @@ module _ (xs ys : Content) (links : ys.links ≡ xs.links) (domains : ys.domains
   reads-same : (row : table.Domain) → Has xs.domains row → domain_of ys row ≡ domain_of xs row
   reads-same row there =
       λ i. (registrants row there i >>= (λ a.
-          (ap (λ ls. with_links ys (registrant_alone a) (filter (link_with_domain row.id) ls)) links
-          ∙ links-where (filter (link_with_domain row.id) xs.links) (λ r h. (has-filter (link_with_domain row.id) xs.links r h).0) (registrant_alone a)) i))
-          >>= (λ l. last_transfer (transfers row.id i) >>= (λ transfer. domain_in row l transfer))
+      (ap (λ ls. with_links ys (registrant_alone a) (filter (link_with_domain row.id) ls)) links
+      ∙ links-where (filter (link_with_domain row.id) xs.links) (λ r h. (has-filter (link_with_domain row.id) xs.links r h).0) (registrant_alone a)) i))
+      >>= (λ l. last_transfer (transfers row.id i) >>= (λ transfer. domain_in row l transfer))
 
   domains-same : domains_of ys ≡ domains_of xs
   domains-same =

@@ -7,3 +7,4 @@ pub mod LinkRowLemmas
 pub mod DomainLemmas
 pub mod FrameLemmas
 pub mod NameOrderLemmas
+pub mod BelowLemmas

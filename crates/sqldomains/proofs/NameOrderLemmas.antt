@@ -1,5 +1,5 @@
 -- Names that rows give, gathered one by one, are those of the values that pass, in their order.
-use Rattle.std.proofs.Common.{◌≡◌, ◌⊎◌, inl, inr, ℕ, ℤ, Bool, true, false, cond, List, [], ◌∷◌, map, filter, Option, Some, None, option_map, refl, sym, ap, subst, ◌∙◌, int_eq, true≢false}
+use Rattle.std.proofs.Common.{◌≡◌, ◌⊎◌, inl, inr, ℕ, ℤ, Bool, true, false, cond, List, [], ◌∷◌, map, filter, Option, Some, None, option_map, refl, sym, ap, subst, ◌∙◌, true≢false}
 use Rattle.std.specs.Cmp.{eq_by_cmp_equiv}
 use Rattle.std.specs.Cmp.Lexicographic.{nat_list_cmp_total, slice_cmp}
 use Rattle.std.specs.FinMap.{FinMap, empty, entries, get, get-empty, get-insert, insert, keys, nat_cmp-IsAntisymmetric, same_map, slice_cmp-IsAntisymmetric}
@@ -15,7 +15,7 @@ use Rattle.basis.proofs.MapLemmas.{entries-from_entries, entries-map_values, get
 use Rattle.basis.proofs.SweepLaws.{entries-kept}
 use Rattle.objects.specs.declared.domain.Domain.{Domain}
 use Rattle.objects.specs.Links.{names_host}
-use Rattle.columns.specs.Domains.{columns_of, deletion_in, domain_in}
+use Rattle.columns.specs.Domains.{columns_of, deletion_in}
 use Rattle.columns.specs.Numbers.{years_in}
 use Rattle.columns.specs.Registrations.{registration_in}
 use Rattle.columns.specs.Steps.{◌>>=◌}
@@ -28,7 +28,6 @@ use Rattle.tables.specs.Link.{Link, link_with_domain, link_with_host}
 use Rattle.tables.specs.Transfer.{transfer_with_domain}
 use Rattle.tables.specs.Whole.{IsWhole}
 use Rattle.meanings.specs.Read.{first_read, or_else}
-use Rattle.sqlobjects.specs.Changes.{host_name}
 use Rattle.sqlobjects.specs.Objects.{last_transfer}
 use Rattle.sqlobjects.proofs.PutLemmas.{bytes_is, filter-has, has-filter, has-get_by, only_named}
 use Rattle.sqldomains.specs.Domains.{domain_of, domains_of, links_of}
@@ -205,10 +204,13 @@ names-listed xs names whole e =
     let d = given-name (domain_of xs row) n is in
     (d.0, ap (get (domains_of xs)) (sym d.2 ∙ name-read xs row d.0 d.1) ∙ stands-there xs row d.0 whole there d.1, refl))
     (λ n d is passes.
-    let row = row-under xs n d is in
-    (row.0, row.1, λ k reads.
-        let other = given-name (domain_of xs row.0) k reads in
-        sym other.2 ∙ name-read xs row.0 other.0 other.1 ∙ row.3))
+    let row = row-under xs n d is in (
+      row.0,
+      row.1,
+      λ k reads.
+          let other = given-name (domain_of xs row.0) k reads in
+          sym other.2 ∙ name-read xs row.0 other.0 other.1 ∙ row.3,
+    ))
     ∙ ap (map (λ (e : List ℕ × Domain). e.0)) (all-pass (entries (domains_of xs)))
 
 -- ---- domains that name a host
@@ -259,8 +261,7 @@ module _ (host : List ℕ) (xs : Content) (whole : IsWhole xs) where
           → (link : Link) × Has xs.links link × LeadsToHost xs host link × ((k : List ℕ) → name_naming host xs link ≡ Some k → k ≡ n)
       go row named (inl never) = absurd (true≢false (sym never))
       go row named (inr found) =
-          let link = has-filter (link_with_domain row.0.id) xs.links found.0 found.1 in
-          (
+          let link = has-filter (link_with_domain row.0.id) xs.links found.0 found.1 in (
             found.0,
             link.0,
             found.2,

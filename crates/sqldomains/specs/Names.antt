@@ -1,15 +1,17 @@
--- Names of domains, in the order of their bytes.
-use Rattle.std.specs.Prelude.{◌≡◌, ℕ, Bool, List, [], ◌∷◌, map, filter, Option, Some, None, if◌then◌else◌, option_map}
+-- Names of domains and hosts, in the order of their bytes.
+use Rattle.std.specs.Prelude.{ℕ, List, [], ◌∷◌, map, filter, Option, Some, None, if◌then◌else◌, is_some, option_map}
 use Rattle.std.specs.Cmp.Lexicographic.{slice_cmp}
-use Rattle.std.specs.FinMap.{FinMap, entries, insert, keys}
+use Rattle.std.specs.FinMap.{FinMap, entries, get, insert, keys}
 use Rattle.std.specs.Ordering.{nat_cmp}
 use Rattle.sqlite_keyed.specs.Keyed.{get_by}
 use Rattle.objects.specs.declared.domain.Domain.{Domain}
+use Rattle.objects.specs.Hosts.{is_below}
 use Rattle.objects.specs.Links.{names_host}
 use Rattle.columns.specs.Steps.{◌>>=◌}
 use Rattle.tables.specs.Content.{Content}
 use Rattle.tables.specs.Domain as table
 use Rattle.tables.specs.Link.{Link}
+use Rattle.sqlobjects.specs.Objects.{hosts_of}
 use Rattle.sqldomains.specs.Domains.{domain_of, domains_of}
 
 abbrev pub domain_names : Content → List (List ℕ)
@@ -48,3 +50,13 @@ name_naming host xs link = do
   row ← get_by table.domains.key xs.domains link.domain
   d ← domain_of xs row
   if_named host d
+
+-- ---- hosts
+
+-- the hosts below a domain
+abbrev pub hosts_below : List ℕ → Content → List (List ℕ)
+hosts_below domain xs = filter (is_below domain) (keys (hosts_of xs))
+
+-- the name, if a host stands under it
+abbrev pub host_standing : Content → List ℕ → Option (List ℕ)
+host_standing xs name = if is_some (get (hosts_of xs) name) then Some name else None

@@ -3,6 +3,7 @@
 //! read.
 #![tactic(auto)]
 
+mod below;
 mod domain_changes;
 mod domain_rows;
 mod domains;
@@ -15,6 +16,7 @@ mod names_in_order;
 mod tests;
 mod transfers;
 
+pub use below::hosts_below;
 pub use domain_changes::{drop_domain, put_domain};
 pub use domains::domain;
 pub use linked::{is_linked_contact, is_linked_host};

@@ -60,7 +60,7 @@ fn with_domain<S: Alter>(
     Ok(with_name(names, domain.name)?)
 }
 
-fn with_name(names: NameMap<()>, name: Text) -> Result<NameMap<()>, AllocError>
+pub(crate) fn with_name(names: NameMap<()>, name: Text) -> Result<NameMap<()>, AllocError>
     ensures { IfOk result (λ more. more ≡ insert names name tt) }
 {
     let mut names = names;
@@ -69,7 +69,7 @@ fn with_name(names: NameMap<()>, name: Text) -> Result<NameMap<()>, AllocError>
 }
 
 /// The names in their order.
-fn listed(alloc: Global, names: &NameMap<()>) -> Result<Seq<Text>, AllocError>
+pub(crate) fn listed(alloc: Global, names: &NameMap<()>) -> Result<Seq<Text>, AllocError>
     ensures { IfOk result (λ list. list ≡ keys names.now) }
 {
     let mut list = Seq::new(alloc);

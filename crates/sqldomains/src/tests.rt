@@ -1,6 +1,9 @@
 //! Each public call once, over tables in memory.
 
-use crate::{domain, drop_domain, is_linked_contact, is_linked_host, put_domain};
+use crate::{
+    domain, domain_names, domains_naming, drop_domain, hosts_below, is_linked_contact,
+    is_linked_host, put_domain,
+};
 use basis::list::Seq;
 use basis::registrar::RegistrarNo;
 use basis::text::Text;
@@ -20,7 +23,7 @@ fn opened(alloc: Global) -> Result<RowStore<MemStore>, BookFault> {
     add_account(&mut store, alloc, 2, "beta")?;
     add_contact(&mut store, alloc, "c-alfa")?;
     add_contact(&mut store, alloc, "c-beta")?;
-    add_host(&mut store, alloc)?;
+    add_host(&mut store, alloc, "ns.example")?;
     Ok(store)
 }
 
@@ -98,11 +101,11 @@ fn add_contact(store: &mut RowStore<MemStore>, alloc: Global, name: &str) -> Res
     put_contact(store, alloc, name, contact)
 }
 
-fn add_host(store: &mut RowStore<MemStore>, alloc: Global) -> Result<(), BookFault> {
+fn add_host(store: &mut RowStore<MemStore>, alloc: Global, name: &str) -> Result<(), BookFault> {
     if !store.is_open() {
         return Err(BookFault::Store);
     }
-    let name = Text::from_str(alloc, "ns.example")?;
+    let name = Text::from_str(alloc, name)?;
     put_host(
         store,
         alloc,
@@ -237,5 +240,42 @@ fn puts_and_drops_a_domain(rt: HostRuntime) -> Result<(), BookFault> {
     drop_named(&mut store, &name)?;
     drop_named(&mut store, &name)?;
     assert_eq!(rt; told(&mut store, alloc, &name)?, None);
+    Ok(())
+}
+
+/// Whether these are the names, in this order.
+fn are(found: &[Text], names: &[&str]) -> bool {
+    if found.len() != names.len() {
+        return false;
+    }
+    for (one, name) in found.iter().zip(names) {
+        if one.as_str() != *name {
+            return false;
+        }
+    }
+    true
+}
+
+#[test]
+fn lists_names_in_their_order(rt: HostRuntime) -> Result<(), BookFault> {
+    let alloc = rt.alloc();
+    let mut store = opened(alloc)?;
+    let (foo, bar, host) = (
+        Text::from_str(alloc, "foo.test")?,
+        Text::from_str(alloc, "bar.test")?,
+        Text::from_str(alloc, "ns.example")?,
+    );
+    let naming = links(alloc, &[], &["ns.example"])?;
+    put(&mut store, alloc, &foo, naming, None)?;
+    let silent = links(alloc, &[], &[])?;
+    put(&mut store, alloc, &bar, silent, None)?;
+    add_host(&mut store, alloc, "ns2.foo.test")?;
+    add_host(&mut store, alloc, "ns1.foo.test")?;
+    let all = domain_names(&mut store, alloc)?;
+    assert!(rt; are(all.as_slice(), &["bar.test", "foo.test"]));
+    let by_host = domains_naming(&mut store, alloc, &host)?;
+    assert!(rt; are(by_host.as_slice(), &["foo.test"]));
+    let below = hosts_below(&mut store, alloc, &foo)?;
+    assert!(rt; are(below.as_slice(), &["ns1.foo.test", "ns2.foo.test"]));
     Ok(())
 }

@@ -1,4 +1,4 @@
-use Rattle.std.proofs.Common.{◌≡◌, Some, ap, subst, ◌∙◌}
+use Rattle.std.proofs.Common.{◌≡◌, Some, subst, ◌∙◌}
 use Rattle.std.specs.FinMap.{empty}
 use Rattle.meanings.proofs.StateLemmas.{reads-on}
 use Rattle.sqldomains.specs.Names.{name_in, with_read}
@@ -10,8 +10,7 @@ returns g c =
     let xs = c.args.store.now.content in
     let names = c.in_ok-names.names in
     let asked = c.in_ok-rows.ensures in
-    let told = c.in_ok-names.ensures {u = tt} in
-    (
+    let told = c.in_ok-names.ensures {u = tt} in (
       reads-on c.args.store.now c.all_domains.new.self c.with_domains.new.store asked.0 told.0,
       λ e.
           let before = told.0.clean e in

@@ -1,4 +1,4 @@
-use Rattle.std.proofs.Common.{rules, ◌≡◌, Some, ap, subst, ◌∙◌, FitsSigned, w64, to_z-of_z}
+use Rattle.std.proofs.Common.{rules, ◌≡◌, Some, subst, ◌∙◌, FitsSigned, w64, to_z-of_z}
 use Rattle.std.specs.FinMap.{empty}
 use Rattle.std.specs.Prelude.{filter}
 use Rattle.tables.specs.Link.{link_with_host}
@@ -25,8 +25,7 @@ returns g c =
     let first = c.in_ok-id.ensures {u = tt} in
     let second = c.in_ok-rows.ensures {u = tt} in
     let third = c.in_ok-names.ensures {u = tt} in
-    let both = reads-on c.args.store.now c.number_of_host.new.store c.links_to.new.store first.0 second.0 in
-    (
+    let both = reads-on c.args.store.now c.number_of_host.new.store c.links_to.new.store first.0 second.0 in (
       reads-on c.args.store.now c.links_to.new.store c.with_links.new.store both third.0,
       λ e.
           let before = third.0.clean e in

@@ -1,0 +1,74 @@
+-- The hosts below a domain are found by the last two labels of their names.
+use Rattle.std.proofs.Common.{◌≡◌, inl, inr, ℕ, Bool, true, false, cond, List, [], ◌∷◌, map, filter, Option, Some, None, count_by, is_some, ◌==◌, refl, sym, ap, subst, ◌∙◌}
+use Rattle.std.specs.FinMap.{empty, entries, get, keys}
+use Rattle.std.specs.Str as str
+use Rattle.std.proofs.lemmas.Slice.Eq.{bytes_eq-Decides}
+use Rattle.sqlite_rules.specs.Lists.{Has}
+use Rattle.objects.specs.declared.host.Host.{Host}
+use Rattle.objects.specs.Hosts.{is_below}
+use Rattle.columns.specs.Above.{above}
+use Rattle.columns.specs.Hosts.{columns_in, host_with}
+use Rattle.columns.specs.Steps.{◌>>=◌}
+use Rattle.columns.specs.Texts.{statuses_in}
+use Rattle.columns.proofs.AboveLemmas.{below_above}
+use Rattle.columns.proofs.ReadLemmas as reading
+use Rattle.tables.specs.Content.{Content}
+use Rattle.tables.specs.Host as table
+use Rattle.tables.proofs.RowLemmas.{bytes_same}
+use Rattle.sqlobjects.specs.Objects.{addresses_of, host_of, hosts_of}
+use Rattle.sqlobjects.proofs.NameLemmas.{host-named}
+use Rattle.sqlobjects.proofs.PutLemmas.{bytes_is, filter-has, has-filter}
+use Rattle.sqldomains.specs.Names.{NameSet, host_standing, hosts_below, with_read}
+use Rattle.sqldomains.proofs.LinkedLemmas.{first-has}
+use Rattle.sqldomains.proofs.NameOrderLemmas.{by-rows}
+
+-- a host that reads lies below the last two labels of its name
+above-read : (xs : Content) (row : table.Host) (h : Host) → host_of xs row ≡ Some h → row.above ≡ above row.name
+above-read xs row h e =
+    let texts = addresses_of xs row.id in
+    let columns = reading.step (columns_in row) (λ c. statuses_in row.statuses >>= (λ s. cond (str.bytes_eq row.above (above row.name)) (Some (host_with row c s texts)) None)) h e in
+    let statuses = reading.step (statuses_in row.statuses) (λ s. cond (str.bytes_eq row.above (above row.name)) (Some (host_with row columns.given s texts)) None) h columns.rest in
+    (bytes_eq-Decides row.above (above row.name)).0 (reading.kept (host_with row columns.given statuses.given texts) h (str.bytes_eq row.above (above row.name)) statuses.rest).0
+
+has-map : {A B : Type 0} (f : A → B) (xs : List A) (x : A) → Has xs x → Has (map f xs) (f x)
+has-map f [] x there = absurd there
+has-map f (y ∷ ys) x (inl same) = inl (ap f same)
+has-map f (y ∷ ys) x (inr later) = inr (has-map f ys x later)
+
+some-is : {A : Type 0} (o : Option A) → is_some o ≡ true → (x : A) × (o ≡ Some x)
+some-is None e = cc
+some-is (Some x) e = (x, refl)
+
+keys-where : {X : Type 0} (p : List ℕ → Bool) (es : List (List ℕ × X)) → map (λ (e : List ℕ × X). e.0) (filter (λ (e : List ℕ × X). p e.0) es) ≡ filter p (map (λ (e : List ℕ × X). e.0) es)
+keys-where p [] = refl
+keys-where {X} p (e ∷ es) = go (p e.0) (keys-where p es)
+  where
+    go : (b : Bool) → map (λ (e : List ℕ × X). e.0) (filter (λ (e : List ℕ × X). p e.0) es) ≡ filter p (map (λ (e : List ℕ × X). e.0) es)
+        → map (λ (e : List ℕ × X). e.0) (cond b (e ∷ filter (λ (e : List ℕ × X). p e.0) es) (filter (λ (e : List ℕ × X). p e.0) es)) ≡ cond b (e.0 ∷ filter p (map (λ (e : List ℕ × X). e.0) es)) (filter p (map (λ (e : List ℕ × X). e.0) es))
+    go true more = ap (λ l. e.0 ∷ l) more
+    go false more = more
+
+module _ (xs : Content) (domain : List ℕ) (dots : count_by (λ b. b == 46) domain ≡ 1) where
+  abbrev found_below : List (List ℕ)
+  found_below = filter (is_below domain) (map (λ (r : table.Host). r.name) (filter (table.host_with_above domain) xs.hosts))
+
+  -- each host below it is among the rows that are found
+  is-found : (n : List ℕ) (h : Host) → get (hosts_of xs) n ≡ Some h → is_below domain n ≡ true → Has found_below n
+  is-found n h e below =
+      let it = first-has (host_of xs) (filter (table.host_with_name n) xs.hosts) h (host-named xs n ∙ e) in
+      let there = has-filter (table.host_with_name n) xs.hosts it.0 it.1 in
+      let name : it.0.name ≡ n = bytes_is it.0.name n there.1 in
+      let above_it : it.0.above ≡ domain = above-read xs it.0 h it.2 ∙ ap above name ∙ (below_above domain n dots below).0 in
+      let row = filter-has (table.host_with_above domain) xs.hosts it.0 there.0 (bytes_same it.0.above domain above_it) in
+      filter-has (is_below domain) (map (λ (r : table.Host). r.name) (filter (table.host_with_above domain) xs.hosts)) n
+      (subst (Has (map (λ (r : table.Host). r.name) (filter (table.host_with_above domain) xs.hosts))) name (has-map (λ (r : table.Host). r.name) (filter (table.host_with_above domain) xs.hosts) it.0 row)) below
+
+  pub below-listed : (names : NameSet) → with_read (host_standing xs) empty found_below ≡ Some names → keys names ≡ hosts_below domain xs
+  below-listed names e =
+      by-rows (host_standing xs) found_below names (hosts_of xs) (λ (h : List ℕ × Host). is_below domain h.0) e
+      (λ n there k reads.
+      let stands = reading.kept n k (is_some (get (hosts_of xs) n)) reads in
+      let it = some-is (get (hosts_of xs) n) stands.0 in
+      (it.0, ap (get (hosts_of xs)) (sym stands.1) ∙ it.1, ap (is_below domain) (sym stands.1) ∙ (has-filter (is_below domain) (map (λ (r : table.Host). r.name) (filter (table.host_with_above domain) xs.hosts)) n there).1))
+      (λ n h is below. (n, is-found n h is below, λ k reads. sym (reading.kept n k (is_some (get (hosts_of xs) n)) reads).1))
+      ∙ keys-where (is_below domain) (entries (hosts_of xs))

@@ -1,0 +1,92 @@
+//! The hosts below a domain.
+ghost use Rattle.std.specs.Prelude.{◌≡◌, ◌==◌, count_by, true, Some, IfOk, filter, map};
+ghost use Rattle.std.specs.FinMap.{empty};
+ghost use Rattle.objects.specs.Hosts as hosts;
+ghost use Rattle.tables.specs.Host.{Host};
+ghost use Rattle.transactions.specs.States.{Finds, Meets};
+ghost use Rattle.sqldomains.specs.Names as spec;
+
+use crate::names_in_order::{listed, with_name};
+use basis::list::Seq;
+use basis::maps::NameMap;
+use basis::text::Text;
+use objects::is_below;
+use sqlite::Alter;
+use sqlobjects::has_host;
+use std::alloc::{AllocError, Global};
+use tables::{HostRow, RowStore};
+use transactions::BookFault;
+
+/// The names of the hosts below a domain, in the order of their bytes. A text without exactly one dot is
+/// no domain's name, and is refused.
+pub fn hosts_below<S: Alter>(
+    store: &mut RowStore<S>,
+    alloc: Global,
+    domain: &Text,
+) -> Result<Seq<Text>, BookFault>
+    ensures { Finds result (spec.hosts_below domain.now store.old.content) store.old store.new }
+{
+    if !has_one_dot(domain) {
+        return Err(BookFault::Store);
+    }
+    let rows = store.hosts_by_above(domain.as_str())?;
+    let found = names_below(alloc, domain, rows)?;
+    let names = with_hosts(store, alloc, found)?;
+    Ok(listed(alloc, &names)?)
+}
+
+fn has_one_dot(domain: &Text) -> bool
+    ensures { result ≡ true → count_by (λ b. b == 46) domain.now ≡ 1 }
+{
+    let dots = domain
+        .as_str()
+        .as_bytes()
+        .iter()
+        .filter(|byte| **byte == b'.')
+        .count();
+    dots == 1
+}
+
+/// The names of these rows that lie below the domain.
+fn names_below(alloc: Global, domain: &Text, rows: Seq<HostRow>) -> Result<Seq<Text>, AllocError>
+    ensures { IfOk result (λ names. names ≡ filter (hosts.is_below domain.now) (map (λ (r : Host). r.name) rows)) }
+{
+    let mut names = Seq::new(alloc);
+    for row in rows.into_vec() {
+        let name = Text::from_string(row.name);
+        if is_below(domain, &name) {
+            names.push(name)?;
+        }
+    }
+    Ok(names)
+}
+
+/// These names, under which a host has to stand.
+fn with_hosts<S: Alter>(
+    store: &mut RowStore<S>,
+    alloc: Global,
+    found: Seq<Text>,
+) -> Result<NameMap<()>, BookFault>
+    ensures { Meets result (λ all. spec.with_read (spec.host_standing store.old.content) empty found ≡ Some all) store.old store.new }
+{
+    let mut names = NameMap::new(alloc);
+    for name in found.into_vec() {
+        names = with_host(store, alloc, names, name)?;
+    }
+    Ok(names)
+}
+
+fn with_host<S: Alter>(
+    store: &mut RowStore<S>,
+    alloc: Global,
+    names: NameMap<()>,
+    name: Text,
+) -> Result<NameMap<()>, BookFault>
+    ensures { Meets result (λ more. spec.with_one names (spec.host_standing store.old.content name) ≡ Some more) store.old store.new }
+{
+    let is_there = has_host(store, alloc, &name)?;
+    if !is_there {
+        return Err(BookFault::Store);
+    }
+    Ok(with_name(names, name)?)
+}
