@@ -1,0 +1,2 @@
+//! How many domains a registrar holds: the number that its account's row keeps.
+#![tactic(auto)]
