@@ -1,5 +1,5 @@
 -- How many domains each registrar holds, and the column that says so.
-use Rattle.std.specs.Prelude.{ℕ, pos, Bool, true, filter, length, cond, Option}
+use Rattle.std.specs.Prelude.{ℕ, ℤ, pos, Bool, true, filter, length, cond, Option}
 use Rattle.std.specs.FinMap.{values}
 use Rattle.std.specs.List.{list_all}
 use Rattle.std.specs.Option.{option_map_or}
@@ -20,12 +20,13 @@ held_of xs r = length (filter (λ d. is_party r d.sponsor d.transfer) (values (d
 abbrev pub is_held_right : Content → account_table.Account → Bool
 is_held_right xs row = option_map_or (λ place. int_eq row.held (pos (held_of xs place))) (registrar_in row.id) true
 
-abbrev pub has_right_held : Content → account_table.Account → Bool
-has_right_held xs row = option_map_or (is_held_right xs) (row_of xs row.id) true
+-- that of the row with a number, if there is one
+abbrev pub has_right_held : Content → ℤ → Bool
+has_right_held xs id = option_map_or (is_held_right xs) (row_of xs id) true
 
 -- all accounts' columns say it
 abbrev pub helds_are_right : Content → Bool
-helds_are_right xs = list_all (has_right_held xs) xs.accounts
+helds_are_right xs = list_all (λ (row : account_table.Account). has_right_held xs row.id) xs.accounts
 
 -- ---- one domain more, or less
 
