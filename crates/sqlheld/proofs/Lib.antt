@@ -1,2 +1,5 @@
 pub mod CountLemmas
 pub mod HeldLemmas
+pub mod LeavingLemmas
+pub mod PartyLemmas
+pub mod RecountLemmas

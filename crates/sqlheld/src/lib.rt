@@ -6,5 +6,8 @@
 
 mod account;
 mod holding;
+mod parties;
+mod recounting;
 
 pub use holding::holds_the_most;
+pub use recounting::recount;
