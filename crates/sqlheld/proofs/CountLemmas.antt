@@ -28,7 +28,7 @@ one : (b : Bool) → fold tick 0 (ticks b) ≡ counts_one b
 one true = refl
 one false = refl
 
-abbrev count : {X : Type 0} → (X → Bool) → List X → ℕ
+abbrev pub count : {X : Type 0} → (X → Bool) → List X → ℕ
 count p xs = length (filter p xs)
 
 module _ {K X : Type 0} (p : X → Bool) where

@@ -3,3 +3,4 @@ pub mod HeldLemmas
 pub mod LeavingLemmas
 pub mod PartyLemmas
 pub mod RecountLemmas
+pub mod KeptLemmas

@@ -3,13 +3,11 @@ use Rattle.std.proofs.Common.{◌≡◌, ◌⊎◌, inl, inr, ◌≢◌, ℕ, �
 use Rattle.std.proofs.lemmas.Bool.{eqb-true, eq-eqb}
 use Rattle.std.proofs.lemmas.Int.{ints}
 use Rattle.std.specs.FinMap.{get}
-use Rattle.std.specs.List.{list_all}
 use Rattle.std.specs.Option.{option_map_or, unwrap_or}
 use Rattle.sqlite_keyed.specs.Keyed.{insert_by}
 use Rattle.sqlite_keyed.proofs.KeyedLemmas.{key-get_by, same_int}
 use Rattle.accounts.specs.Account.{empty_account}
 use Rattle.columns.specs.Numbers.{is_place}
-use Rattle.meanings.proofs.RowLemmas.{all-insert_by, all_with}
 use Rattle.sqlaccounts.specs.Accounts.{account_in, accounts_of, has_right_sums, is_right, row_of}
 use Rattle.sqlaccounts.proofs.AccountLemmas.{accounts-put, get-found, kept_accounts, row_here, row_there, sums-put}
 use Rattle.sqlaccounts.proofs.FindingLemmas.{equal}
@@ -71,7 +69,6 @@ pub anew-itself : (xs : Content) → IsCountedAnew (λ r. 0) (λ r. 0) xs xs
 anew-itself xs = record {
   accounts = refl;
   sums = refl;
-  numbers = λ test. refl;
   rows = λ id. alike-itself (row_of xs id);
   helds = λ r. counted-itself (row_of xs (pos r));
   rest = refl;
@@ -81,7 +78,6 @@ pub anew-on : (l m p q : ℕ → ℕ) (xs ys zs : Content) → IsCountedAnew l m
 anew-on l m p q xs ys zs one two = record {
   accounts = two.accounts ∙ one.accounts;
   sums = two.sums ∙ one.sums;
-  numbers = λ test. two.numbers test ∙ one.numbers test;
   rows = λ id. alike-on (row_of xs id) (row_of ys id) (row_of zs id) (one.rows id) (two.rows id);
   helds = λ r. counted-on (l r) (m r) (p r) (q r) (row_of xs (pos r)) (row_of ys (pos r)) (row_of zs (pos r)) (one.helds r) (two.helds r);
   rest = two.rest ∙ ap (λ (c : Content). record c { accounts = zs.accounts }) one.rest;
@@ -92,7 +88,6 @@ pub anew-as : (l m p q : ℕ → ℕ) (xs ys : Content) → ((r : ℕ) → l r +
 anew-as l m p q xs ys same it = record {
   accounts = it.accounts;
   sums = it.sums;
-  numbers = it.numbers;
   rows = it.rows;
   helds = λ r. counted-as (l r) (m r) (p r) (q r) (row_of xs (pos r)) (row_of ys (pos r)) (same r) (it.helds r);
   rest = it.rest;
@@ -142,7 +137,6 @@ module _ (xs : Content) (r l m : ℕ) (row new : table.Account) (place : is_plac
   counted-anew = record {
     accounts = accounts-put xs ys r (λ a. a) new place refl at (λ id e. refl) (λ id e. refl) here right ∙ sym (kept_accounts xs r (λ a. a) row place (sym found) refl);
     sums = sums-put xs ys r (λ a. a) new place refl at (λ id e. refl) (λ id e. refl) here right;
-    numbers = λ test. all-insert_by key test xs.accounts new ∙ ap (λ k. test k && list_all (λ (x : table.Account). test x.id) xs.accounts) at ∙ all_with key test xs.accounts (pos r) row (sym found);
     rows = λ id. rows-at id _ refl;
     helds = λ q. helds-at q (r == q) (same-place r q);
     rest = refl;

@@ -1,6 +1,5 @@
 -- What counting anew makes of the accounts' rows.
-use Rattle.std.specs.Prelude.{◌≡◌, ⊤, ℕ, ℤ, pos, ◌+ℤ◌, Bool, Option, Some, None}
-use Rattle.std.specs.List.{list_all}
+use Rattle.std.specs.Prelude.{◌≡◌, ⊤, ℕ, ℤ, pos, ◌+ℤ◌, Option, Some, None}
 use Rattle.objects.specs.declared.domain.Domain.{Domain}
 use Rattle.sqlaccounts.specs.Accounts.{accounts_of, row_of, sums_are_right}
 use Rattle.sqlheld.specs.Held.{counts_where, is_held_by}
@@ -34,7 +33,6 @@ AreCounted less more (Some old) (Some new) = IsCounted less more old new
 pub record IsCountedAnew (less more : ℕ → ℕ) (old new : Content) : Type 0 where
   pub accounts : accounts_of new ≡ accounts_of old
   pub sums : sums_are_right new ≡ sums_are_right old
-  pub numbers : (test : ℤ → Bool) → list_all (λ (row : account_table.Account). test row.id) new.accounts ≡ list_all (λ (row : account_table.Account). test row.id) old.accounts
   pub rows : (id : ℤ) → AreAlike (row_of old id) (row_of new id)
   pub helds : (r : ℕ) → AreCounted (less r) (more r) (row_of old (pos r)) (row_of new (pos r))
   pub rest : new ≡ record old { accounts = new.accounts }

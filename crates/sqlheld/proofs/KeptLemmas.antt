@@ -1,0 +1,116 @@
+-- The columns are as right after a change as before.
+use Rattle.std.proofs.Common.{◌≡◌, ℕ, ℤ, pos, negsuc, ◌+◌, ◌+ℤ◌, Bool, true, false, cond, ◌&&◌, List, [], ◌∷◌, Option, Some, None, refl, sym, ap, subst, ◌∙◌, arith, int_eq}
+use Rattle.std.proofs.lemmas.Bool.{and_parts}
+use Rattle.std.proofs.lemmas.Int.{ints}
+use Rattle.std.specs.FinMap.{get, values}
+use Rattle.std.specs.List.{list_all}
+use Rattle.std.specs.Option.{option_map_or}
+use Rattle.sqlite_keyed.specs.Keyed.{get_by}
+use Rattle.sqlite_keyed.proofs.KeyedLemmas.{key-get_by, same_int}
+use Rattle.objects.specs.declared.domain.Domain.{Domain}
+use Rattle.columns.specs.Numbers.{is_place, registrar_in}
+use Rattle.meanings.proofs.RowLemmas.{all_with}
+use Rattle.sqlaccounts.specs.Accounts.{row_of}
+use Rattle.sqlaccounts.proofs.FindingLemmas.{equal}
+use Rattle.sqldomains.specs.Domains.{domains_of}
+use Rattle.sqlobjects.specs.Changes.{put}
+use Rattle.sqlheld.specs.Held.{counts_where, has_right_held, held_of, helds_are_right, is_held_by, is_held_right}
+use Rattle.sqlheld.specs.Recounts.{AreAlike, AreCounted, IsRecounted}
+use Rattle.sqlheld.proofs.CountLemmas.{count, count-put}
+use Rattle.tables.specs.Account as table
+use Rattle.tables.specs.Content.{Content}
+
+abbrev key : table.Account → ℤ
+key = table.accounts.key
+
+-- ---- all are right where that of each number is
+
+all-true : (test : ℤ → Bool) (rows : List table.Account) → ((id : ℤ) → test id ≡ true) → list_all (λ (row : table.Account). test row.id) rows ≡ true
+all-true test [] each = refl
+all-true test (row ∷ rows) each = ap (λ b. b && list_all (λ (x : table.Account). test x.id) rows) (each row.id) ∙ all-true test rows each
+
+each-right : (xs : Content) → helds_are_right xs ≡ true → (id : ℤ) → has_right_held xs id ≡ true
+each-right xs right id = go (row_of xs id) refl
+  where
+    go : (o : Option table.Account) → row_of xs id ≡ o → has_right_held xs id ≡ true
+    go None e = ap (λ o. option_map_or (is_held_right xs) o true) e
+    go (Some row) e = (and_parts _ _ (all_with key (has_right_held xs) xs.accounts id row e ∙ right)).0
+
+both-ways : (a b : Bool) → (a ≡ true → b ≡ true) → (b ≡ true → a ≡ true) → a ≡ b
+both-ways true true f g = refl
+both-ways true false f g = sym (f refl)
+both-ways false true f g = g refl
+both-ways false false f g = refl
+
+pub right-alike : (xs ys : Content) → ((id : ℤ) → has_right_held ys id ≡ has_right_held xs id) → helds_are_right ys ≡ helds_are_right xs
+right-alike xs ys same =
+    both-ways (helds_are_right ys) (helds_are_right xs)
+    (λ right. all-true (has_right_held xs) xs.accounts (λ id. sym (same id) ∙ each-right ys right id))
+    (λ right. all-true (has_right_held ys) ys.accounts (λ id. same id ∙ each-right xs right id))
+
+-- ---- the column and the count change by the same
+
+there : (a b : ℤ) (x y l m : ℕ) → b +ℤ pos l ≡ a +ℤ pos m → y + l ≡ x + m → a ≡ pos x → b ≡ pos y
+there a b x y l m e f g = omega (arith, ints, e, f, g)
+
+back : (a b : ℤ) (x y l m : ℕ) → b +ℤ pos l ≡ a +ℤ pos m → y + l ≡ x + m → b ≡ pos y → a ≡ pos x
+back a b x y l m e f g = omega (arith, ints, e, f, g)
+
+same-right : (a b : ℤ) (x y l m : ℕ) → b +ℤ pos l ≡ a +ℤ pos m → y + l ≡ x + m → int_eq b (pos y) ≡ int_eq a (pos x)
+same-right a b x y l m e f =
+    both-ways (int_eq b (pos y)) (int_eq a (pos x))
+    (λ is. equal a (pos x) (back a b x y l m e f (same_int b (pos y) is)))
+    (λ is. equal b (pos y) (there a b x y l m e f (same_int a (pos x) is)))
+
+-- a row's column, by its number
+right-at : (xs : Content) (id : ℤ) (row : table.Account) → row_of xs id ≡ Some row → is_held_right xs row ≡ option_map_or (λ r. int_eq row.held (pos (held_of xs r))) (registrar_in id) true
+right-at xs id row e = ap (λ k. option_map_or (λ r. int_eq row.held (pos (held_of xs r))) (registrar_in k) true) (key-get_by key xs.accounts id row e)
+
+module _ (xs ys : Content) (l m : ℕ → ℕ) (domains : (r : ℕ) → held_of ys r + l r ≡ held_of xs r + m r) where
+  at-place : (r : ℕ) (a b : table.Account) (p : Bool) → b.held +ℤ pos (l r) ≡ a.held +ℤ pos (m r)
+      → option_map_or (λ q. int_eq b.held (pos (held_of ys q))) (cond p (Some r) None) true ≡ option_map_or (λ q. int_eq a.held (pos (held_of xs q))) (cond p (Some r) None) true
+  at-place r a b true e = same-right a.held b.held (held_of xs r) (held_of ys r) (l r) (m r) e (domains r)
+  at-place r a b false e = refl
+
+  place-right : (r : ℕ) (o n : Option table.Account) → row_of xs (pos r) ≡ o → row_of ys (pos r) ≡ n → AreCounted (l r) (m r) o n
+      → option_map_or (is_held_right ys) n true ≡ option_map_or (is_held_right xs) o true
+  place-right r None None e f it = refl
+  place-right r None (Some b) e f it = absurd it
+  place-right r (Some a) None e f it = absurd it
+  place-right r (Some a) (Some b) e f it = right-at ys (pos r) b f ∙ at-place r a b (is_place r) it.held ∙ sym (right-at xs (pos r) a e)
+
+  other-right : (n : ℕ) (o p : Option table.Account) → row_of xs (negsuc n) ≡ o → row_of ys (negsuc n) ≡ p → AreAlike o p
+      → option_map_or (is_held_right ys) p true ≡ option_map_or (is_held_right xs) o true
+  other-right n None None e f it = refl
+  other-right n None (Some b) e f it = absurd it
+  other-right n (Some a) None e f it = absurd it
+  other-right n (Some a) (Some b) e f it = right-at ys (negsuc n) b f ∙ sym (right-at xs (negsuc n) a e)
+
+  counted-right : ((id : ℤ) → AreAlike (row_of xs id) (row_of ys id)) → ((r : ℕ) → AreCounted (l r) (m r) (row_of xs (pos r)) (row_of ys (pos r))) → helds_are_right ys ≡ helds_are_right xs
+  counted-right rows helds = right-alike xs ys each
+    where
+      each : (id : ℤ) → has_right_held ys id ≡ has_right_held xs id
+      each (pos r) = place-right r (row_of xs (pos r)) (row_of ys (pos r)) refl refl (helds r)
+      each (negsuc n) = other-right n (row_of xs (negsuc n)) (row_of ys (negsuc n)) refl refl (rows (negsuc n))
+
+-- ---- a domain in the place of another, or of none
+
+-- the registrars are counted anew, and then one domain, or none, is put in the place of the other
+pub held-kept : (old mid new : Content) (before after : Option Domain) (name : List ℕ)
+    → IsRecounted before after old mid → get (domains_of old) name ≡ before → domains_of new ≡ put (domains_of mid) name after → new.accounts ≡ mid.accounts
+    → helds_are_right new ≡ helds_are_right old
+held-kept old mid new before after name counted was is accounts =
+    counted-right old new (λ r. counts_where (is_held_by r) before) (λ r. counts_where (is_held_by r) after) domains
+    (λ id. subst (λ o. AreAlike (row_of old id) o) (sym (rows id)) (counted.rows id))
+    (λ r. subst (λ o. AreCounted (counts_where (is_held_by r) before) (counts_where (is_held_by r) after) (row_of old (pos r)) o) (sym (rows (pos r))) (counted.helds r))
+  where
+    rows : (id : ℤ) → row_of new id ≡ row_of mid id
+    rows id = ap (λ xs. get_by key xs id) accounts
+
+    mid-is : domains_of mid ≡ domains_of old
+    mid-is = ap domains_of counted.rest
+
+    domains : (r : ℕ) → held_of new r + counts_where (is_held_by r) before ≡ held_of old r + counts_where (is_held_by r) after
+    domains r =
+        (λ i. count (is_held_by r) (values ((is ∙ ap (λ m. put m name after) mid-is) i)) + counts_where (is_held_by r) (sym was i))
+        ∙ count-put (is_held_by r) (domains_of old) name after
