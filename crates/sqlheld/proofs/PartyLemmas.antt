@@ -69,7 +69,7 @@ leaving r (Some p) others = go p.incoming
         ∙ bits (p.sponsor == r) false (is_in p.sponsor others) false (is_in r others) false (λ e. ap (λ x. is_in x others) (eqb-true p.sponsor r e)) (λ e. cc) (λ e. cc)
     go (Some q) = (λ i. seat r p.sponsor (is_in p.sponsor others) i + seat r q ((p.sponsor == q) || is_in q others) i)
         ∙ bits (p.sponsor == r) (q == r) (is_in p.sponsor others) (is_in q others) (is_in r others) (p.sponsor == q)
-            (λ e. ap (λ x. is_in x others) (eqb-true p.sponsor r e)) (λ e. ap (λ x. is_in x others) (eqb-true q r e)) (λ e. ap (λ x. p.sponsor == x) (eqb-true q r e))
+        (λ e. ap (λ x. is_in x others) (eqb-true p.sponsor r e)) (λ e. ap (λ x. is_in x others) (eqb-true q r e)) (λ e. ap (λ x. p.sponsor == x) (eqb-true q r e))
 
 -- whoever leaves, and those of the others, are those who come, and those of the first
 pub balanced : (a b : Bool) → (counts_one (a && not b) + 0) + counts_one b ≡ (0 + counts_one (b && not a)) + counts_one a

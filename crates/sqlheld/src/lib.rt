@@ -8,6 +8,8 @@ mod account;
 mod holding;
 mod parties;
 mod recounting;
+#[cfg(test)]
+mod tests;
 
 pub use holding::holds_the_most;
 pub use recounting::recount;

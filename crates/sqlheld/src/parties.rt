@@ -71,7 +71,10 @@ fn is_in(registrar: RegistrarNo, parties: &Option<Parties>) -> bool
 }
 
 /// The sponsor among the first, where it isn't among the others.
-pub(crate) fn sponsor_without(parties: &Option<Parties>, others: &Option<Parties>) -> Option<RegistrarNo>
+pub(crate) fn sponsor_without(
+    parties: &Option<Parties>,
+    others: &Option<Parties>,
+) -> Option<RegistrarNo>
     ensures { result ≡ spec.sponsor_without parties.now others.now }
 {
     let Some(parties) = parties else {
@@ -85,7 +88,10 @@ pub(crate) fn sponsor_without(parties: &Option<Parties>, others: &Option<Parties
 
 /// The one to whom a pending transfer brings the domain of the first, where it is another than the
 /// sponsor, and isn't among the others.
-pub(crate) fn incoming_without(parties: &Option<Parties>, others: &Option<Parties>) -> Option<RegistrarNo>
+pub(crate) fn incoming_without(
+    parties: &Option<Parties>,
+    others: &Option<Parties>,
+) -> Option<RegistrarNo>
     ensures { result ≡ spec.incoming_without parties.now others.now }
 {
     let Some(parties) = parties else {
