@@ -4,3 +4,4 @@ pub mod LeavingLemmas
 pub mod PartyLemmas
 pub mod RecountLemmas
 pub mod KeptLemmas
+pub mod NobodyLemmas
