@@ -7,8 +7,10 @@ use Rattle.columns.specs.Numbers.{exact_in, is_exact, is_place, registrar_in}
 use Rattle.meanings.proofs.RowLemmas.{all_with}
 use Rattle.sqlaccounts.specs.Accounts.{row_of}
 use Rattle.sqlheld.specs.Held.{has_right_held, held_of, helds_are_right, is_held_right}
+use Rattle.sqlheld.proofs.NobodyLemmas.{holds-none}
 use Rattle.tables.specs.Account as table
 use Rattle.tables.specs.Content.{Content}
+use Rattle.tables.specs.Whole.{IsWhole}
 
 abbrev key : table.Account → ℤ
 key = table.accounts.key
@@ -29,6 +31,9 @@ exact-is : (n m : ℕ) (b : Bool) → cond b (Some m) None ≡ Some n → n ≡ 
 exact-is n m true e = sym (ap (λ o. unwrap_or o n) e)
 exact-is n m false e = cc
 
-pub count-found : (xs : Content) (r : ℕ) (row : table.Account) (n : ℕ) → is_place r ≡ true → Some row ≡ row_of xs (pos r) → helds_are_right xs ≡ true → exact_in row.held ≡ Some n → n ≡ held_of xs r
-count-found xs r row n place found right e =
+-- what the row says, if there is one
+pub count-found : (xs : Content) (r : ℕ) (row : Option table.Account) (n : ℕ) → IsWhole xs → is_place r ≡ true → row ≡ row_of xs (pos r) → helds_are_right xs ≡ true
+    → exact_in (option_map_or (λ (a : table.Account). a.held) row (pos 0)) ≡ Some n → n ≡ held_of xs r
+count-found xs r None n whole place found right e = exact-is n 0 (is_exact 0) e ∙ sym (holds-none xs r whole (sym found))
+count-found xs r (Some row) n whole place found right e =
     exact-is n (held_of xs r) (is_exact (held_of xs r)) (sym (ap exact_in (held-found xs r row place found right)) ∙ e)
