@@ -7,7 +7,7 @@ use Rattle.std.specs.Cmp.Lexicographic.{nat_list_cmp_total, slice_cmp}
 use Rattle.std.specs.FinMap.{FinMap, IsAntisymmetric, entries, get, insert, nat_cmp-IsAntisymmetric, remove, slice_cmp-IsAntisymmetric, values}
 use Rattle.std.specs.Option.{option_map_or}
 use Rattle.std.specs.Ordering.{nat_cmp}
-use Rattle.basis.specs.Sweeps.{given, given_list}
+use Rattle.basis.specs.Sweeps.{given_list}
 use Rattle.basis.proofs.ApartLaws.{given_apart, given_insert}
 use Rattle.sqlobjects.specs.Changes.{put}
 use Rattle.sqlheld.specs.Held.{counts_one, counts_where}

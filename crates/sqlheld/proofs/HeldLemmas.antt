@@ -1,5 +1,5 @@
 -- What an account's row says of the domains that its registrar holds.
-use Rattle.std.proofs.Common.{◌≡◌, ℕ, ℤ, pos, Bool, true, false, cond, ◌&&◌, Option, Some, None, refl, sym, ap, ◌∙◌, int_eq, nat_le}
+use Rattle.std.proofs.Common.{◌≡◌, ℕ, ℤ, pos, Bool, true, false, cond, Option, Some, None, sym, ap, ◌∙◌, int_eq}
 use Rattle.std.proofs.lemmas.Bool.{and_parts}
 use Rattle.std.specs.Option.{option_map_or, unwrap_or}
 use Rattle.sqlite_keyed.proofs.KeyedLemmas.{key-get_by, same_int}

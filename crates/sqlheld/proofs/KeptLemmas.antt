@@ -4,13 +4,16 @@ use Rattle.std.proofs.lemmas.Bool.{and_parts}
 use Rattle.std.proofs.lemmas.Int.{ints}
 use Rattle.std.specs.FinMap.{get, values}
 use Rattle.std.specs.List.{list_all}
-use Rattle.std.specs.Option.{option_map_or}
+use Rattle.std.specs.Option.{option_map, option_map_or, unwrap_or}
 use Rattle.sqlite_keyed.specs.Keyed.{get_by}
 use Rattle.sqlite_keyed.proofs.KeyedLemmas.{key-get_by, same_int}
 use Rattle.objects.specs.declared.domain.Domain.{Domain}
 use Rattle.columns.specs.Numbers.{is_place, registrar_in}
 use Rattle.meanings.proofs.RowLemmas.{all_with}
-use Rattle.sqlaccounts.specs.Accounts.{row_of}
+use Rattle.accounts.specs.declared.account.Account.{Account}
+use Rattle.columns.proofs.ReadLemmas.{same_some}
+use Rattle.sqlaccounts.specs.Accounts.{row_of, standing}
+use Rattle.sqlaccounts.specs.Changes.{AreOthersKept, IsChange, IsOpened, opened_row}
 use Rattle.sqlaccounts.proofs.FindingLemmas.{equal}
 use Rattle.sqldomains.specs.Domains.{domains_of}
 use Rattle.sqlobjects.specs.Changes.{put}
@@ -18,7 +21,9 @@ use Rattle.sqlheld.specs.Held.{counts_where, has_right_held, held_of, helds_are_
 use Rattle.sqlheld.specs.Recounts.{AreAlike, AreCounted, IsRecounted}
 use Rattle.sqlheld.proofs.CountLemmas.{count, count-put}
 use Rattle.tables.specs.Account as table
-use Rattle.tables.specs.Content.{Content}
+use Rattle.sqlheld.proofs.NobodyLemmas.{holds-none}
+use Rattle.tables.specs.Content.{Content, no_content}
+use Rattle.tables.specs.Whole.{IsWhole}
 
 abbrev key : table.Account → ℤ
 key = table.accounts.key
@@ -114,3 +119,87 @@ held-kept old mid new before after name counted was is accounts =
     domains r =
         (λ i. count (is_held_by r) (values ((is ∙ ap (λ m. put m name after) mid-is) i)) + counts_where (is_held_by r) (sym was i))
         ∙ count-put (is_held_by r) (domains_of old) name after
+
+-- the same where the domain is put first
+pub held-kept-behind : (old mid new : Content) (before after : Option Domain) (name : List ℕ)
+    → get (domains_of old) name ≡ before → domains_of mid ≡ put (domains_of old) name after → mid.accounts ≡ old.accounts → IsRecounted before after mid new
+    → helds_are_right new ≡ helds_are_right old
+held-kept-behind old mid new before after name was is accounts counted =
+    counted-right old new (λ r. counts_where (is_held_by r) before) (λ r. counts_where (is_held_by r) after) domains
+    (λ id. subst (λ o. AreAlike o (row_of new id)) (rows id) (counted.rows id))
+    (λ r. subst (λ o. AreCounted (counts_where (is_held_by r) before) (counts_where (is_held_by r) after) o (row_of new (pos r))) (rows (pos r)) (counted.helds r))
+  where
+    rows : (id : ℤ) → row_of mid id ≡ row_of old id
+    rows id = ap (λ xs. get_by key xs id) accounts
+
+    new-is : domains_of new ≡ domains_of mid
+    new-is = ap domains_of counted.rest
+
+    domains : (r : ℕ) → held_of new r + counts_where (is_held_by r) before ≡ held_of old r + counts_where (is_held_by r) after
+    domains r =
+        (λ i. count (is_held_by r) (values ((new-is ∙ is) i)) + counts_where (is_held_by r) (sym was i))
+        ∙ count-put (is_held_by r) (domains_of old) name after
+
+-- ---- other changes
+
+abbrev column : Option table.Account → Option ℤ
+column o = option_map (λ (row : table.Account). row.held) o
+
+-- the domains are the same, and the columns of each number
+module _ (xs ys : Content) (domains : domains_of ys ≡ domains_of xs) where
+  same-held : (r : ℕ) → held_of ys r ≡ held_of xs r
+  same-held r = ap (λ m. count (is_held_by r) (values m)) domains
+
+  column-right : (id : ℤ) (o n : Option table.Account) → row_of xs id ≡ o → row_of ys id ≡ n → column n ≡ column o → option_map_or (is_held_right ys) n true ≡ option_map_or (is_held_right xs) o true
+  column-right id None None e f same = refl
+  column-right id None (Some b) e f same = cc
+  column-right id (Some a) None e f same = cc
+  column-right id (Some a) (Some b) e f same =
+      right-at ys id b f ∙ (λ i. option_map_or (λ r. int_eq (same_some b.held a.held same i) (pos (same-held r i))) (registrar_in id) true) ∙ sym (right-at xs id a e)
+
+  pub columns-kept : ((id : ℤ) → column (row_of ys id) ≡ column (row_of xs id)) → helds_are_right ys ≡ helds_are_right xs
+  columns-kept same = right-alike xs ys (λ id. column-right id (row_of xs id) (row_of ys id) refl refl (same id))
+
+  pub accounts-kept : ys.accounts ≡ xs.accounts → helds_are_right ys ≡ helds_are_right xs
+  accounts-kept same = columns-kept (λ id. ap (λ rows. column (get_by key rows id)) same)
+
+domains-kept : (old new : Content) → AreOthersKept old new → domains_of new ≡ domains_of old
+domains-kept old new it = λ i. domains_of (record new { contacts = it.contacts i; domains = it.domains i; hosts = it.hosts i; links = it.links i; transfers = it.transfers i })
+
+-- an account is changed (what it counts, its lines, its messages)
+pub change-kept : (r : ℕ) (f : Account → Account) (old new : Content) → IsChange r f old new → helds_are_right new ≡ helds_are_right old
+change-kept r f old new it = columns-kept old new (domains-kept old new it.others) (λ id. held-of (row_of old id) (row_of new id) (it.standings id))
+  where
+    held-of : (o n : Option table.Account) → option_map standing n ≡ option_map standing o → column n ≡ column o
+    held-of None None e = refl
+    held-of None (Some b) e = cc
+    held-of (Some a) None e = cc
+    held-of (Some a) (Some b) e = ap (λ (s : List ℕ × ℤ). Some s.1) (same_some (standing b) (standing a) e)
+
+-- an account is opened
+module _ (old new : Content) (r : ℕ) (whole : IsWhole old) (it : IsOpened r old new) where
+  opened-held : held_of new r ≡ held_of old r
+  opened-held = same-held old new (domains-kept old new it.others) r
+
+  own-right : (p : Bool) → row_of old (pos r) ≡ None → option_map_or (λ q. int_eq (pos 0) (pos (held_of new q))) (cond p (Some r) None) true ≡ true
+  own-right true none = equal (pos 0) (pos (held_of new r)) (ap pos (sym (opened-held ∙ holds-none old r whole none)))
+  own-right false none = refl
+
+  opened-own : (o : Option table.Account) → row_of old (pos r) ≡ o → has_right_held new (pos r) ≡ option_map_or (is_held_right old) o true
+  opened-own None e =
+      let mine : row_of new (pos r) ≡ Some (opened_row r) = it.own ∙ ap (λ o. Some (unwrap_or o (opened_row r))) e in
+      ap (λ o. option_map_or (is_held_right new) o true) mine ∙ own-right (is_place r) e
+  opened-own (Some row) e =
+      let mine : row_of new (pos r) ≡ Some row = it.own ∙ ap (λ o. Some (unwrap_or o (opened_row r))) e in
+      column-right old new (domains-kept old new it.others) (pos r) (Some row) (row_of new (pos r)) e refl (ap column mine)
+
+  opened-at : (id : ℤ) (b : Bool) → int_eq (pos r) id ≡ b → has_right_held new id ≡ has_right_held old id
+  opened-at id true e = ap (has_right_held new) (sym (same_int (pos r) id e)) ∙ opened-own (row_of old (pos r)) refl ∙ ap (has_right_held old) (same_int (pos r) id e)
+  opened-at id false e = column-right old new (domains-kept old new it.others) id (row_of old id) (row_of new id) refl refl (ap column (it.rows id e))
+
+  pub opening-kept : helds_are_right new ≡ helds_are_right old
+  opening-kept = right-alike old new (λ id. opened-at id _ refl)
+
+-- where nothing is held
+pub nothing-right : helds_are_right no_content ≡ true
+nothing-right = refl

@@ -10,7 +10,7 @@ use Rattle.objects.specs.declared.roid.ObjectKind.TheVariants as kinds
 use Rattle.objects.specs.declared.transfer.Transfer.{Transfer}
 use Rattle.objects.specs.Transfers.{is_incoming, is_pending_state}
 use Rattle.columns.specs.Codes.{state_in}
-use Rattle.columns.specs.Domains.{columns_of, deletion_in, domain_in}
+use Rattle.columns.specs.Domains.{columns_of, deletion_in}
 use Rattle.columns.specs.Numbers.{is_place, maybe_moment_in, moment_in, registrar_in, years_in}
 use Rattle.columns.specs.Registrations.{registration_in}
 use Rattle.columns.specs.Roids.{roid_in}

@@ -4,11 +4,10 @@ use Rattle.std.proofs.lemmas.Bool.{eqb-true}
 use Rattle.std.specs.Option.{option_map_or}
 use Rattle.objects.specs.declared.domain.Domain.{Domain}
 use Rattle.objects.specs.declared.transfer.Transfer.{Transfer}
-use Rattle.objects.specs.Sight.{is_party}
 use Rattle.objects.specs.Transfers.{is_incoming, is_pending_state}
 use Rattle.sqlheld.specs.declared.parties.Parties.{Parties}
 use Rattle.sqlheld.specs.Held.{counts_one, counts_where, is_held_by}
-use Rattle.sqlheld.specs.Parties.{incoming_of, incoming_without, is_among, is_in, maybe_parties_of, parties_of, sponsor_without}
+use Rattle.sqlheld.specs.Parties.{incoming_of, incoming_without, is_in, maybe_parties_of, sponsor_without}
 
 -- ---- the parties of a domain hold it
 

@@ -1,5 +1,5 @@
 -- What one row counted anew means, and one after another.
-use Rattle.std.proofs.Common.{◌≡◌, ◌⊎◌, inl, inr, ◌≢◌, ℕ, ℤ, pos, negsuc, ◌+◌, ◌+ℤ◌, Bool, true, false, cond, ◌&&◌, ◌==◌, List, Option, Some, None, refl, sym, ap, subst, ◌∙◌, arith, int_eq, true≢false}
+use Rattle.std.proofs.Common.{◌≡◌, ℕ, ℤ, pos, negsuc, ◌+◌, ◌+ℤ◌, Bool, true, false, cond, ◌==◌, Option, Some, None, refl, sym, ap, subst, ◌∙◌, arith, int_eq, true≢false}
 use Rattle.std.proofs.lemmas.Bool.{eqb-true, eq-eqb}
 use Rattle.std.proofs.lemmas.Int.{ints}
 use Rattle.std.specs.FinMap.{get}
@@ -12,7 +12,7 @@ use Rattle.sqlaccounts.specs.Accounts.{account_in, accounts_of, has_right_sums, 
 use Rattle.sqlaccounts.proofs.AccountLemmas.{accounts-put, get-found, kept_accounts, row_here, row_there, sums-put}
 use Rattle.sqlaccounts.proofs.FindingLemmas.{equal}
 use Rattle.sqlheld.specs.Held.{counts_where}
-use Rattle.sqlheld.specs.Recounts.{AreAlike, AreCounted, IsAlike, IsCounted, IsCountedAnew}
+use Rattle.sqlheld.specs.Recounts.{AreAlike, AreCounted, IsCounted, IsCountedAnew}
 use Rattle.tables.specs.Account as table
 use Rattle.tables.specs.Content.{Content, accounts_to}
 
