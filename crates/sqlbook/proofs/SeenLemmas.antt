@@ -41,9 +41,12 @@ module _ {C X : Type 0} (means : C → X) (right : C → Bool) where
 
   -- a question answers what it finds where the sums are right
   pub tells-seen : {A : Type 0} (r : Result A BookFault) (value : A) (old new : StateOf C) → AreKept right old → Tells r (right old.content) value old new → Finds r value (seen means right old) (seen means right new)
-  tells-seen (Ok it) value old new kept told = (reads-seen old new told.0, λ e.
-      let clean = rows-clean new e in
-      told.1 clean (kept (told.0.clean clean) ∙ ap right (sym (told.0.before clean)) ∙ sums-right new e))
+  tells-seen (Ok it) value old new kept told = (
+    reads-seen old new told.0,
+    λ e.
+        let clean = rows-clean new e in
+        told.1 clean (kept (told.0.clean clean) ∙ ap right (sym (told.0.before clean)) ∙ sums-right new e),
+  )
   tells-seen (Err fault) value old new kept told = stays-seen old new told
 
   -- and so does one that needs no sums

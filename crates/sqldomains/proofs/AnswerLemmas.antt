@@ -1,24 +1,23 @@
 -- What is answered to whether a contact, or a host, is linked.
-use Rattle.std.proofs.Common.{◌≡◌, inl, inr, ℕ, ℤ, Bool, true, false, List, [], ◌∷◌, filter, Option, Some, None, option_map, refl, sym, ap, subst, ◌∙◌, int_eq, take}
+use Rattle.std.proofs.Common.{◌≡◌, inl, ℕ, ℤ, Bool, true, false, List, [], ◌∷◌, filter, Option, Some, None, option_map, refl, sym, ap, subst, ◌∙◌, int_eq, take}
 use Rattle.std.specs.Cmp.{int_cmp_total, tied_itself}
 use Rattle.std.specs.Ordering.{is_eq}
 use Rattle.sqlite_keyed.specs.Keyed.{get_by}
 use Rattle.sqlite_keyed.proofs.KeyedLemmas.{key-get_by}
 use Rattle.sqlite_rules.specs.Lists.{Has}
-use Rattle.objects.specs.declared.domain.Domain.{Domain}
 use Rattle.objects.specs.Links.{names_contact, names_host}
 use Rattle.tables.specs.Contact as contact_table
 use Rattle.tables.specs.Content.{Content}
 use Rattle.tables.specs.Domain as table
 use Rattle.tables.specs.Host as host_table
-use Rattle.tables.specs.Link.{Link, link_with_contact, link_with_host}
+use Rattle.tables.specs.Link.{link_with_contact, link_with_host}
 use Rattle.tables.specs.Whole.{IsWhole}
 use Rattle.tables.proofs.RowLemmas.{bytes_same}
 use Rattle.meanings.specs.Read.{rows_of}
 use Rattle.sqlobjects.specs.Changes.{contact_name, host_name}
 use Rattle.sqlobjects.proofs.PutLemmas.{bytes_is, filter-has, has-filter, has-get_by}
 use Rattle.sqldomains.specs.Links.{IsNoContact, IsNumberOfContact, IsNumberOfHost, IsUseOfContact, IsUseOfHost, Passes, is_linked_contact, is_linked_host}
-use Rattle.sqldomains.proofs.LinkedLemmas.{LeadsToContact, LeadsToHost, contact-unnamed, host-unnamed, one-passes}
+use Rattle.sqldomains.proofs.LinkedLemmas.{contact-unnamed, host-unnamed, one-passes}
 
 equal : (a b : ℤ) → a ≡ b → int_eq a b ≡ true
 equal a b e = ap (λ z. int_eq z b) e ∙ ap is_eq (tied_itself int_cmp_total b)
@@ -126,3 +125,11 @@ module _ (xs : Content) (name : List ℕ) (whole : IsWhole xs) where
 
   pub host-used : (row : table.Domain) → Has xs.domains row → Passes xs (λ d. names_host name d.links) row → is_linked_host xs name ≡ true
   host-used row there passes = one-passes xs (λ d. names_host name d.links) whole row passes.0 there passes.1 passes.2
+
+-- ---- the same of states that are alike
+
+pub use-of-contact : (xs ys : Content) (a b : ℤ) (o p : Option table.Domain) → xs ≡ ys → a ≡ b → o ≡ p → IsUseOfContact xs a o → IsUseOfContact ys b p
+use-of-contact xs ys a b o p same alike is used = subst (IsUseOfContact ys b) is (subst (λ n. IsUseOfContact ys n o) alike (subst (λ c. IsUseOfContact c a o) same used))
+
+pub use-of-host : (xs ys : Content) (a b : ℤ) (o p : Option table.Domain) → xs ≡ ys → a ≡ b → o ≡ p → IsUseOfHost xs a o → IsUseOfHost ys b p
+use-of-host xs ys a b o p same alike is used = subst (IsUseOfHost ys b) is (subst (λ n. IsUseOfHost ys n o) alike (subst (λ c. IsUseOfHost c a o) same used))

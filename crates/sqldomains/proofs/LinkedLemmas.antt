@@ -1,15 +1,12 @@
 -- Whether a domain names a contact or a host, by the rows that refer to it.
-use Rattle.std.proofs.Common.{◌≡◌, ◌⊎◌, inl, inr, ℕ, ℤ, Bool, true, false, cond, ◌||◌, List, [], ◌∷◌, ◌++◌, map, filter, Option, Some, None, option_map, refl, sym, ap, subst, ◌∙◌, int_eq, true≢false}
+use Rattle.std.proofs.Common.{◌≡◌, ◌⊎◌, inl, inr, ℕ, ℤ, Bool, true, false, ◌||◌, List, [], ◌∷◌, ◌++◌, map, filter, Option, Some, None, refl, sym, ap, subst, ◌∙◌, true≢false}
 use Rattle.std.proofs.lemmas.List.Folds.{list_any-append}
 use Rattle.std.proofs.lemmas.Slice.Eq.{bytes_eq-Decides}
-use Rattle.std.specs.Cmp.{int_cmp_total, tied_itself}
 use Rattle.std.specs.Cmp.Lexicographic.{nat_list_cmp_total, slice_cmp}
 use Rattle.std.specs.FinMap.{entries, get, nat_cmp-IsAntisymmetric, slice_cmp-IsAntisymmetric, values}
 use Rattle.std.specs.List.{list_any}
-use Rattle.std.specs.Ordering.{is_eq, nat_cmp}
+use Rattle.std.specs.Ordering.{nat_cmp}
 use Rattle.std.specs.Str as str
-use Rattle.sqlite_keyed.specs.Keyed.{get_by}
-use Rattle.sqlite_keyed.proofs.KeyedLemmas.{key-get_by}
 use Rattle.sqlite_rules.specs.Lists.{Has}
 use Rattle.basis.proofs.EntryLaws.{Each, among_values, each_entry}
 use Rattle.objects.specs.declared.domain.Domain.{Domain}
@@ -23,7 +20,7 @@ use Rattle.columns.specs.Numbers.{years_in}
 use Rattle.columns.specs.Registrations.{registration_in}
 use Rattle.columns.specs.Steps.{◌>>=◌}
 use Rattle.columns.specs.Texts.{statuses_in}
-use Rattle.columns.proofs.ReadLemmas.{Step, same_some, step}
+use Rattle.columns.proofs.ReadLemmas.{same_some, step}
 use Rattle.objects.specs.declared.roid.ObjectKind.TheVariants as kinds
 use Rattle.tables.specs.Content.{Content}
 use Rattle.tables.specs.Domain as table
@@ -155,7 +152,7 @@ module _ (xs : Content) (name : List ℕ) (l : Links) (row : Link) where
   host-more roles.Admin new e has = inl has
   host-more roles.Tech new e has = inl has
 
-registrant-more : (l : Links) (role : Role) (new : List ℕ) → (with_name l role new).registrant ≡ l.registrant
+pub registrant-more : (l : Links) (role : Role) (new : List ℕ) → (with_name l role new).registrant ≡ l.registrant
 registrant-more l roles.Admin new = refl
 registrant-more l roles.Tech new = refl
 registrant-more l roles.Host new = refl

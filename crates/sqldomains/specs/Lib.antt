@@ -1,2 +1,4 @@
 pub mod Domains
 pub mod Links
+pub mod Stages
+pub mod Changes

@@ -3,10 +3,17 @@
 //! read.
 #![tactic(auto)]
 
+mod domain_changes;
+mod domain_rows;
 mod domains;
+mod link_rows;
 mod linked;
 mod links;
 mod names;
+#[cfg(test)]
+mod tests;
+mod transfers;
 
+pub use domain_changes::{drop_domain, put_domain};
 pub use domains::domain;
 pub use linked::{is_linked_contact, is_linked_host};

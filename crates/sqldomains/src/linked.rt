@@ -39,7 +39,7 @@ pub fn is_linked_contact<S: Alter>(
 }
 
 /// The number of the contact of this name, if there is one.
-fn number_of_contact<S: Alter>(
+pub(crate) fn number_of_contact<S: Alter>(
     store: &mut RowStore<S>,
     name: &Text,
 ) -> Result<Option<i64>, BookFault>
@@ -76,10 +76,7 @@ fn use_of_contact<S: Alter>(
 }
 
 /// The first domain's row that has the contact with this number as its registrant.
-fn registered_by<S: Alter>(
-    store: &mut RowStore<S>,
-    id: i64,
-) -> Result<Option<DomainRow>, BookFault>
+fn registered_by<S: Alter>(store: &mut RowStore<S>, id: i64) -> Result<Option<DomainRow>, BookFault>
     ensures { Meets result (λ row. take 1 (filter (domain_with_registrant id) store.old.content.domains) ≡ rows_of row) store.old store.new }
 {
     let number = number(id);
@@ -88,10 +85,7 @@ fn registered_by<S: Alter>(
 }
 
 /// The first link to the contact with this number.
-fn link_to_contact<S: Alter>(
-    store: &mut RowStore<S>,
-    id: i64,
-) -> Result<Option<LinkRow>, BookFault>
+fn link_to_contact<S: Alter>(store: &mut RowStore<S>, id: i64) -> Result<Option<LinkRow>, BookFault>
     ensures { Meets result (λ row. take 1 (filter (link_with_contact id) store.old.content.links) ≡ rows_of row) store.old store.new }
 {
     let number = number(id);
@@ -147,7 +141,7 @@ pub fn is_linked_host<S: Alter>(
 }
 
 /// The number of the host of this name, if there is one.
-fn number_of_host<S: Alter>(
+pub(crate) fn number_of_host<S: Alter>(
     store: &mut RowStore<S>,
     name: &Text,
 ) -> Result<Option<i64>, BookFault>
@@ -168,10 +162,7 @@ fn id_of_host(row: Option<HostRow>) -> Option<i64>
 }
 
 /// A domain's row, if any row refers to the host with this number.
-fn use_of_host<S: Alter>(
-    store: &mut RowStore<S>,
-    id: i64,
-) -> Result<Option<DomainRow>, BookFault>
+fn use_of_host<S: Alter>(store: &mut RowStore<S>, id: i64) -> Result<Option<DomainRow>, BookFault>
     ensures { Meets result (spec.IsUseOfHost store.old.content id) store.old store.new }
 {
     let Some(link) = link_to_host(store, id)? else {

@@ -1,23 +1,39 @@
-use Rattle.std.proofs.Common.{rules, ◌≡◌, filter, option_map, take, ℕ, ◌+◌, ◌-◌, ◌*◌, ◌<◌, ◌≤◌, length, ◌/◌, ◌%◌, Bool, true, false, nat_eq, nat_lt, List, [], ◌∷◌, ◌++◌, slice_index_or, slice_set, bit_and, bit_or, Fits, w8, w32, w64, Bor, MutBor, ℤ, pos, ◌+ℤ◌, ◌-ℤ◌, ◌*ℤ◌, ◌≤ℤ◌, ◌<ℤ◌, FitsSigned, to_z, of_z}
-use Rattle.meanings.specs.Read.{rows_of}
-use Rattle.sqlite_rules.specs.Lists.{Has}
-use Rattle.tables.specs.Contact.{Contact}
-use Rattle.tables.specs.Domain.{domain_with_registrant}
-use Rattle.tables.specs.Host.{Host}
-use Rattle.tables.specs.Link.{link_with_contact, link_with_host}
-use Rattle.transactions.specs.States.{Finds, Meets}
-use Rattle.objects.specs.Links as links
+use Rattle.std.proofs.Common.{rules, sym, subst, FitsSigned, w64, to_z-of_z}
+use Rattle.meanings.proofs.StateLemmas.{reads-on}
+use Rattle.objects.specs.Links.{names_contact}
 use Rattle.sqldomains.specs.Links as spec
+use Rattle.sqldomains.proofs.AnswerLemmas.{contact-nowhere, contact-unused, contact-used, use-of-contact}
 use Rattle.sqldomains.proofs.linked.is_linked_contact.Goals as goal
 
--- src/linked.rt:32:9
 pub returns-in_default : goal.returns-in_default
-returns-in_default g c = ?
+returns-in_default g c =
+    let first = c.in_ok-id.ensures {u = tt} in
+    let xs = c.args.store.now.content in
+    let name = c.args.name.now in
+    (first.0, λ e. sym (contact-nowhere xs name (c.whole.ensures (first.0.clean e)) (subst (spec.IsNumberOfContact xs name) c.in_default.is (first.1 e))))
 
--- src/linked.rt:35:9
 pub returns-in_default-2 : goal.returns-in_default-2
-returns-in_default-2 g c = ?
+returns-in_default-2 g c =
+    let first = c.in_ok-id.ensures {u = tt} in
+    let second = c.in_ok-row.ensures {u = tt} in
+    let xs = c.args.store.now.content in
+    let name = c.args.name.now in
+    let fits : FitsSigned w64 c.in-Some.id = search rules in (
+      reads-on c.args.store.now c.number_of_contact.new.store c.use_of_contact.new.store first.0 second.0,
+      λ e. sym (contact-unused xs name (c.whole.ensures (first.0.clean (second.0.clean e))) c.in-Some.id (subst (spec.IsNumberOfContact xs name) c.in-Some.is (first.1 (second.0.clean e)))
+          (use-of-contact _ _ _ _ _ _ (first.0.content (second.0.clean e)) (to_z-of_z fits) c.in_default-2.is (second.1 e))),
+    )
 
--- src/linked.rt:23:1
 pub returns : goal.returns
-returns g c = ?
+returns g c =
+    let first = c.in_ok-id.ensures {u = tt} in
+    let second = c.in_ok-row.ensures {u = tt} in
+    let third = c.in_ok-naming_contact.ensures {u = tt} in
+    let xs = c.args.store.now.content in
+    let name = c.args.name.now in
+    let fits : FitsSigned w64 c.in-Some.id = search rules in
+    let both = reads-on c.args.store.now c.number_of_contact.new.store c.use_of_contact.new.store first.0 second.0 in (
+      reads-on c.args.store.now c.use_of_contact.new.store c.naming_contact.new.store both third.0,
+      λ clean. let e = third.0.clean clean in sym (contact-used xs name (c.whole.ensures (both.clean e)) c.in-Some-2.row (use-of-contact _ _ _ _ _ _ (first.0.content (second.0.clean e)) (to_z-of_z fits) c.in-Some-2.is (second.1 e))
+          (subst (λ ys. spec.Passes ys (λ d. names_contact name d.links) c.in-Some-2.row) (both.content e) (third.1 clean))),
+    )

@@ -1,15 +1,7 @@
-use Rattle.std.proofs.Common.{rules, ◌≡◌, filter, option_map, take, ℕ, ◌+◌, ◌-◌, ◌*◌, ◌<◌, ◌≤◌, length, ◌/◌, ◌%◌, Bool, true, false, nat_eq, nat_lt, List, [], ◌∷◌, ◌++◌, slice_index_or, slice_set, bit_and, bit_or, Fits, w8, w32, w64, Bor, MutBor}
-use Rattle.meanings.specs.Read.{rows_of}
-use Rattle.sqlite_rules.specs.Lists.{Has}
-use Rattle.tables.specs.Contact.{Contact}
-use Rattle.tables.specs.Domain.{domain_with_registrant}
-use Rattle.tables.specs.Host.{Host}
-use Rattle.tables.specs.Link.{link_with_contact, link_with_host}
-use Rattle.transactions.specs.States.{Finds, Meets}
-use Rattle.objects.specs.Links as links
-use Rattle.sqldomains.specs.Links as spec
+use Rattle.sqldomains.proofs.AnswerLemmas.{number-of-contact}
 use Rattle.sqldomains.proofs.linked.number_of_contact.Goals as goal
 
--- src/linked.rt:42:1
 pub returns : goal.returns
-returns g c = ?
+returns g c =
+    let asked = c.in_ok-rows.ensures {u = tt} in
+    (asked.0, λ e. number-of-contact c.args.store.now.content c.as_str.result.now c.args.name.now c.in_ok-rows.rows c.in_ok-row.row c.id_of_contact.result c.as_str.ensures (asked.1 e) (c.in_ok-row.ensures {u = tt}) c.id_of_contact.ensures)

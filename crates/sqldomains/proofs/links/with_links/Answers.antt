@@ -12,8 +12,7 @@ returns-in_err-links g c = refused-meets c.from_residual.result _ c.args.store.n
 
 pub loop-row-preserved : goal.loop-row-preserved
 loop-row-preserved g c =
-    let told = c.in_ok-links.ensures {u = tt} in
-    (
+    let told = c.in_ok-links.ensures {u = tt} in (
       reads-on c.args.store.now c.loop-row.store c.with_link.new.store c.loop-row.invariant.0 told.0,
       λ e. one-more c.args.store.now.content c.loop-row.store.content c.loop-row.links c.in_ok-links.links c.in-Some.row c.loop-row.row-iterator.rest.items c.next.new.self.rest.items _
           (c.loop-row.invariant.0.content (told.0.clean e)) (told.1 e) c.in-Some.ensures.steps.0 (c.loop-row.invariant.1 (told.0.clean e)),

@@ -1,0 +1,241 @@
+-- What rows of domains mean after a change.
+use Rattle.std.proofs.Common.{◌≡◌, ℕ, ℤ, pos, false, List, [], ◌∷◌, ◌++◌, filter, Option, Some, None, option_map, refl, sym, ap, subst, ◌∙◌, int_eq}
+use Rattle.std.specs.FinMap.{from_entries}
+use Rattle.std.specs.List.{filter_map}
+use Rattle.rows.specs.Layouts.{appended}
+use Rattle.sqlite_keyed.specs.Keyed.{insert_by, next_key}
+use Rattle.sqlite_keyed.specs.Lists.{delete_where}
+use Rattle.sqlite_rules.specs.Lists.{Has}
+use Rattle.sqlite_typed.specs.Tests.{bytes_eq}
+use Rattle.objects.specs.declared.domain.Domain.{Domain}
+use Rattle.objects.specs.declared.roid.ObjectKind.TheVariants as kinds
+use Rattle.columns.specs.Contacts.{contact_in}
+use Rattle.columns.specs.Domains.{IsDomain, deletion_columns, domain_in, registration_of, row_with}
+use Rattle.columns.specs.Numbers.{moment_column}
+use Rattle.columns.specs.Registrations.{registration_columns}
+use Rattle.columns.specs.Steps.{◌>>=◌}
+use Rattle.columns.proofs.DomainLemmas.{domain_back}
+use Rattle.columns.proofs.ReadLemmas.{same_some, step}
+use Rattle.tables.specs.Contact as contact_table
+use Rattle.tables.specs.Content.{Content, domains_to}
+use Rattle.tables.specs.Domain as table
+use Rattle.tables.specs.Link.{link_with_domain}
+use Rattle.tables.specs.Transfer.{transfer_with_contact, transfer_with_domain}
+use Rattle.tables.specs.Whole.{IsWhole}
+use Rattle.tables.proofs.RowLemmas.{bytes_same}
+use Rattle.meanings.specs.Read.{named, rows_of}
+use Rattle.sqlobjects.specs.Changes.{contact_name, host_name, put}
+use Rattle.sqlobjects.specs.Objects.{contact_entry, contact_of, contacts_of, hosts_of, last_transfer}
+use Rattle.sqlobjects.specs.Stages.{AreOthersKept, IsPlaced}
+use Rattle.sqlobjects.proofs.PutLemmas.{apart, drop-stands, found-added, map_of, none-stands, others-removed, placed-added, placed-put, none-removed, put-stands, row_there, filter-has}
+use Rattle.sqldomains.specs.declared.domain_rows.Beside.{Beside}
+use Rattle.sqldomains.specs.Changes.{IsDomainPut}
+use Rattle.sqldomains.specs.Domains.{domain_of, domains_of, links_of, registrant_alone, with_links}
+use Rattle.sqldomains.specs.Stages.{AreLinksCleared, AreLinksPut, AreOtherPartsKept, IsDomainAdded, IsDomainDropped, IsDomainPlaced, IsDomainPlacedAt, IsDomainRemoved, IsTransferCleared, IsTransferPut, row_beside}
+use Rattle.sqldomains.proofs.LinkRowLemmas.{links-alike}
+
+abbrev name_of : table.Domain → List ℕ
+name_of row = row.name
+
+abbrev key : table.Domain → ℤ
+key = table.domains.key
+
+-- ---- what else is as it was
+
+module _ (xs ys : Content) (id : ℤ) (kept : AreOtherPartsKept id xs ys) where
+  -- a domain whose row, links and transfer are as they were is read as before
+  pub reads-alike : (r : table.Domain) → int_eq id r.id ≡ false → domain_of ys r ≡ domain_of xs r
+  reads-alike r other =
+      let links : links_of ys r ≡ links_of xs r =
+      λ i. ap (λ (x : Content). contact_name x r.registrant) kept.rest i >>= (λ a.
+      (ap (with_links ys (registrant_alone a)) (kept.links r.id other)
+      ∙ links-alike xs ys (λ k. ap (λ (x : Content). contact_name x k) kept.rest) (λ k. ap (λ (x : Content). host_name x k) kept.rest) (filter (link_with_domain r.id) xs.links) (registrant_alone a)) i) in
+      λ i. links i >>= (λ l. last_transfer (kept.transfers r.id other i) >>= (λ transfer. domain_in r l transfer))
+
+  contact-same : (row : contact_table.Contact) → contact_of ys row ≡ contact_of xs row
+  contact-same row = λ i. last_transfer (kept.contacts row.id i) >>= (λ transfer. contact_in row transfer)
+
+  contacts-same : contacts_of ys ≡ contacts_of xs
+  contacts-same =
+      ap (λ (x : Content). from_entries (filter_map (contact_entry ys) x.contacts)) kept.rest
+      ∙ (λ i. from_entries (filter_map (λ (row : contact_table.Contact). named row.name (contact-same row i)) xs.contacts))
+
+  assembled : (name : List ℕ) (value : Option Domain) (due : Option ℕ) → domains_of ys ≡ put (domains_of xs) name value → AreOthersKept name_of name xs.domains ys.domains
+      → ((r : table.Domain) → Has xs.domains r → Has ys.domains r → bytes_eq r.name name ≡ false → int_eq id r.id ≡ false)
+      → ((r : table.Domain) → Has ys.domains r → r.name ≡ name → Some r.due ≡ option_map moment_column due)
+      → IsWhole xs → IsWhole ys → IsDomainPut name value due xs ys
+  assembled name value due stands others other_number due_then whole after = record {
+    domains = stands;
+    contacts = contacts-same;
+    hosts = ap hosts_of kept.rest;
+    metas = ap (λ (x : Content). x.metas) kept.rest;
+    accounts = ap (λ (x : Content). x.accounts) kept.rest;
+    contact_rows = ap (λ (x : Content). x.contacts) kept.rest;
+    host_rows = ap (λ (x : Content). x.hosts) kept.rest;
+    addresses = ap (λ (x : Content). x.addresses) kept.rest;
+    lines = ap (λ (x : Content). x.lines) kept.rest;
+    messages = ap (λ (x : Content). x.messages) kept.rest;
+    others = others;
+    readings = λ r was now e. reads-alike r (other_number r was now e);
+    due_is = due_then;
+    whole = (whole, after);
+  }
+
+-- no row has the name
+nobody : (name : List ℕ) (rows : List table.Domain) → filter (table.domain_with_name name) rows ≡ [] → (r : table.Domain) → Has rows r → r.name ≡ name → ⊥
+nobody name rows none r there is = subst (λ l. Has l r) none (filter-has (table.domain_with_name name) rows r there (bytes_same r.name name is))
+
+-- ---- dropped
+
+pub removed-so : (id number : ℤ) (xs b m : Content) → number ≡ id → AreLinksCleared number xs b → IsTransferCleared number b m → IsDomainRemoved id xs (domains_to (delete_where (table.domain_with_id number)) m)
+removed-so id number xs b m same links transfer =
+    subst (λ k. IsDomainRemoved k xs (domains_to (delete_where (table.domain_with_id number)) m)) same (record {
+      kept = record {
+        links = λ other e. ap (λ (x : Content). filter (link_with_domain other) x.links) transfer.others.rest ∙ links.others.domains other e;
+        transfers = λ other e. transfer.others.domains other e ∙ ap (λ (x : Content). filter (transfer_with_domain other) x.transfers) links.others.rest;
+        contacts = λ contact. transfer.others.contacts contact ∙ ap (λ (x : Content). filter (transfer_with_contact contact) x.transfers) links.others.rest;
+        rest =
+            ap (λ (x : Content). record x { domains = xs.domains; links = xs.links; transfers = xs.transfers }) transfer.others.rest
+            ∙ ap (λ (x : Content). record x { domains = xs.domains; links = xs.links; transfers = xs.transfers }) links.others.rest;
+      };
+      domains =
+          ap (λ (x : Content). delete_where (table.domain_with_id number) x.domains) transfer.others.rest
+          ∙ ap (λ (x : Content). delete_where (table.domain_with_id number) x.domains) links.others.rest;
+    })
+
+module _ (xs ys : Content) (name : List ℕ) (whole : IsWhole xs) (after : IsWhole ys) where
+  none_there : filter (table.domain_with_name name) xs.domains ≡ [] → ys ≡ xs → IsDomainPut name None None xs ys
+  none_there none same =
+      let as_it_is : AreOtherPartsKept (pos 0) xs xs = record { links = λ other e. refl; transfers = λ other e. refl; contacts = λ contact. refl; rest = refl } in
+      subst (λ z. IsWhole z → IsDomainPut name None None xs z) (sym same)
+      (λ still. record (unchanged as_it_is) { whole = (whole, still) }) after
+    where
+      unchanged : AreOtherPartsKept (pos 0) xs xs → IsDomainPut name None None xs xs
+      unchanged as_it_is = record {
+        domains = none-stands name_of (domain_of xs) name xs.domains none;
+        contacts = refl;
+        hosts = refl;
+        metas = refl;
+        accounts = refl;
+        contact_rows = refl;
+        host_rows = refl;
+        addresses = refl;
+        lines = refl;
+        messages = refl;
+        others = λ q e. refl;
+        readings = λ r was now e. refl;
+        due_is = λ r there is. absurd (nobody name xs.domains none r there is);
+        whole = (whole, whole);
+      }
+
+  removed : (row : table.Domain) → filter (table.domain_with_name name) xs.domains ≡ row ∷ [] → IsDomainRemoved row.id xs ys → IsDomainPut name None None xs ys
+  removed row found gone =
+      let at = row_there key name_of name xs.domains row found in
+      assembled xs ys row.id gone.kept name None None
+      (ap (map_of name_of (domain_of ys)) gone.domains
+      ∙ drop-stands key name_of (domain_of xs) (domain_of ys) name row xs.domains found whole.keyed.domains whole.named.domains (λ r was e. reads-alike xs ys row.id gone.kept r e))
+      (λ q e. ap (filter (table.domain_with_name q)) gone.domains ∙ others-removed key name_of name xs.domains row found whole.keyed.domains q e)
+      (λ r was now e. apart key name_of xs.domains row r name whole.keyed.domains at.0 was at.1 e)
+      (λ r there is. absurd (nobody name ys.domains (ap (filter (table.domain_with_name name)) gone.domains ∙ none-removed key name_of name xs.domains row found whole.keyed.domains whole.named.domains) r there is))
+      whole after
+
+  pub dropped : (row : Option table.Domain) → filter (table.domain_with_name name) xs.domains ≡ rows_of row → IsDomainDropped row xs ys → IsDomainPut name None None xs ys
+  dropped None found same = none_there found same
+  dropped (Some row) found step = removed row found step
+
+-- ---- written into a row
+
+record IsWritten (id : ℤ) (beside : Beside) (d : Domain) (row : table.Domain) : Type 0 where
+  number : row.id ≡ id
+  name : row.name ≡ d.name
+  registrant : row.registrant ≡ beside.registrant
+  due : row.due ≡ moment_column beside.due
+  again : (k : ℤ) → row_beside k beside d ≡ Some (record row { id = k })
+
+written : (id : ℤ) (beside : Beside) (d : Domain) (row : table.Domain) → row_beside id beside d ≡ Some row → IsWritten id beside d row
+written id beside d row e =
+    let columns = step (registration_columns kinds.Domain (registration_of d)) (λ x. Some (row_with id beside.registrant beside.due d x (deletion_columns d.deletion))) row e in
+    let same : row_with id beside.registrant beside.due d columns.given (deletion_columns d.deletion) ≡ row = same_some _ row columns.rest in
+    record {
+      number = sym (ap (λ (r : table.Domain). r.id) same);
+      name = sym (ap (λ (r : table.Domain). r.name) same);
+      registrant = sym (ap (λ (r : table.Domain). r.registrant) same);
+      due = sym (ap (λ (r : table.Domain). r.due) same);
+      again = λ k. (λ i. columns.is i >>= (λ x. Some (row_with k beside.registrant beside.due d x (deletion_columns d.deletion)))) ∙ ap (λ (r : table.Domain). Some (record r { id = k })) same;
+    }
+
+-- into the row of its name
+pub put-placed : (xs : Content) (beside : Beside) (d : Domain) (found row : table.Domain) → row_beside found.id beside d ≡ Some row
+    → IsDomainPlacedAt (Some found) d beside row xs (domains_to (λ rows. insert_by table.domains.key rows row) xs)
+put-placed xs beside d found row e whole there =
+    let w = written found.id beside d row e in
+    record {
+      is = ap (λ k. row_beside k beside d) w.number ∙ e;
+      rows = placed-put key name_of d.name xs.domains found there whole.keyed.domains row w.number w.name;
+      rest = refl;
+    }
+
+-- under a number of its own, after the others
+pub added : (xs : Content) (beside : Beside) (d : Domain) (row : table.Domain) → row_beside (pos 0) beside d ≡ Some row → IsDomainAdded d beside xs (domains_to (appended table.domains (λ id. record row { id = id })) xs)
+added xs beside d row e =
+    let k = next_key table.domains.key xs.domains in
+    record { row = record row { id = k }; is = (written (pos 0) beside d row e).again k; content = refl }
+
+pub added-placed : (xs m : Content) (beside : Beside) (d : Domain) (row : table.Domain) → IsDomainAdded d beside xs m → filter (table.domain_with_name d.name) m.domains ≡ row ∷ [] → IsDomainPlacedAt None d beside row xs m
+added-placed xs m beside d row add found whole none =
+    let name = (written add.row.id beside d add.row add.is).name in
+    let rows : m.domains ≡ xs.domains ++ add.row ∷ [] = ap (λ (x : Content). x.domains) add.content in
+    let same : add.row ≡ row = found-added key name_of d.name xs.domains add.row row name none (sym (ap (filter (table.domain_with_name d.name)) rows) ∙ found) in
+    subst (λ r. IsDomainPlaced d beside r xs m) same (record {
+      is = add.is;
+      rows = subst (IsPlaced name_of d.name add.row xs.domains) (sym rows) (placed-added key name_of d.name xs.domains add.row name);
+      rest = add.content ∙ ap (λ l. record xs { domains = l }) (sym rows);
+    })
+
+-- ---- put
+
+module _ (xs m b ys : Content) (beside : Beside) (d : Domain) (row : table.Domain) (whole : IsWhole xs) (after : IsWhole ys) (is : IsDomain d) (registrant : contact_name xs beside.registrant ≡ Some d.links.registrant)
+    (placed : IsDomainPlaced d beside row xs m) (named_by : AreLinksPut row.id d.links m b) (with : IsTransferPut row.id d.transfer b ys) where
+  rows_now : IsPlaced name_of d.name row xs.domains ys.domains
+  rows_now = subst (IsPlaced name_of d.name row xs.domains) (sym (ap (λ (x : Content). x.domains) with.others.rest ∙ ap (λ (x : Content). x.domains) named_by.others.rest)) placed.rows
+
+  -- names are as they were
+  contact_now : (k : ℤ) → contact_name ys k ≡ contact_name xs k
+  contact_now k = ap (λ (x : Content). contact_name x k) with.others.rest ∙ ap (λ (x : Content). contact_name x k) named_by.others.rest ∙ ap (λ (x : Content). contact_name x k) placed.rest
+
+  registrant_now : contact_name ys row.registrant ≡ Some d.links.registrant
+  registrant_now = ap (contact_name ys) (written row.id beside d row placed.is).registrant ∙ contact_now beside.registrant ∙ registrant
+
+  links_now : with_links ys (registrant_alone d.links.registrant) (filter (link_with_domain row.id) ys.links) ≡ Some d.links
+  links_now =
+      ap (λ (x : Content). with_links ys (registrant_alone d.links.registrant) (filter (link_with_domain row.id) x.links)) with.others.rest
+      ∙ links-alike b ys (λ k. ap (λ (x : Content). contact_name x k) with.others.rest) (λ k. ap (λ (x : Content). host_name x k) with.others.rest) (filter (link_with_domain row.id) b.links) (registrant_alone d.links.registrant)
+      ∙ named_by.here
+
+  reads_now : domain_of ys row ≡ Some d
+  reads_now =
+      (λ i. (registrant_now i >>= (λ a. with_links ys (registrant_alone a) (filter (link_with_domain row.id) ys.links))) >>= (λ l. last_transfer (filter (transfer_with_domain row.id) ys.transfers) >>= (λ transfer. domain_in row l transfer)))
+      ∙ (λ i. links_now i >>= (λ l. with.last i >>= (λ transfer. domain_in row l transfer)))
+      ∙ domain_back row.id beside.registrant beside.due d row is placed.is
+
+  kept_now : AreOtherPartsKept row.id xs ys
+  kept_now = record {
+    links = λ other e.
+        ap (λ (x : Content). filter (link_with_domain other) x.links) with.others.rest ∙ named_by.others.domains other e ∙ ap (λ (x : Content). filter (link_with_domain other) x.links) placed.rest;
+    transfers = λ other e.
+        with.others.domains other e ∙ ap (λ (x : Content). filter (transfer_with_domain other) x.transfers) named_by.others.rest ∙ ap (λ (x : Content). filter (transfer_with_domain other) x.transfers) placed.rest;
+    contacts = λ contact.
+        with.others.contacts contact ∙ ap (λ (x : Content). filter (transfer_with_contact contact) x.transfers) named_by.others.rest ∙ ap (λ (x : Content). filter (transfer_with_contact contact) x.transfers) placed.rest;
+    rest =
+        ap (λ (x : Content). record x { domains = xs.domains; links = xs.links; transfers = xs.transfers }) with.others.rest
+        ∙ ap (λ (x : Content). record x { domains = xs.domains; links = xs.links; transfers = xs.transfers }) named_by.others.rest
+        ∙ ap (λ (x : Content). record x { domains = xs.domains; links = xs.links; transfers = xs.transfers }) placed.rest;
+  }
+
+  pub domain-put : IsDomainPut d.name (Some d) (Some beside.due) xs ys
+  domain-put = assembled xs ys row.id kept_now d.name (Some d) (Some beside.due)
+      (put-stands key name_of (domain_of xs) (domain_of ys) d.name row d xs.domains ys.domains rows_now after.keyed.domains after.named.domains reads_now (λ r was now e. reads-alike xs ys row.id kept_now r e))
+      rows_now.others
+      (λ r was now e. apart key name_of ys.domains row r d.name after.keyed.domains rows_now.there now rows_now.named e)
+      (λ r there same. ap Some (ap (λ (x : table.Domain). x.due) (after.named.domains r row there rows_now.there (same ∙ sym rows_now.named)) ∙ (written row.id beside d row placed.is).due))
+      whole after

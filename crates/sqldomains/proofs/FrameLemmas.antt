@@ -1,0 +1,127 @@
+-- Domains are as they were where a contact or a host is put or dropped: what refers to one leads to the
+-- same name as before.
+use Rattle.std.proofs.Common.{◌≡◌, inl, inr, ℕ, ℤ, List, [], ◌∷◌, filter, Option, Some, None, option_map, refl, sym, ap, subst, ◌∙◌}
+use Rattle.std.specs.FinMap.{from_entries}
+use Rattle.std.specs.List.{cons_option, filter_map}
+use Rattle.sqlite_rules.specs.Lists.{Has}
+use Rattle.objects.specs.declared.contact.Contact.{Contact}
+use Rattle.objects.specs.declared.domain.Links.{Links}
+use Rattle.objects.specs.declared.host.Host.{Host}
+use Rattle.columns.specs.declared.code.Role.{Role}
+use Rattle.columns.specs.declared.code.Role.TheVariants as roles
+use Rattle.columns.specs.Codes.{role_in}
+use Rattle.columns.specs.Domains.{domain_in}
+use Rattle.columns.specs.Steps.{◌>>=◌}
+use Rattle.tables.specs.Contact as contact_table
+use Rattle.tables.specs.Content.{Content}
+use Rattle.tables.specs.Domain as table
+use Rattle.tables.specs.Host as host_table
+use Rattle.tables.specs.Link.{Link, link_with_domain}
+use Rattle.tables.specs.Transfer.{transfer_with_domain}
+use Rattle.tables.specs.Whole.{IsWhole, LeadsTo}
+use Rattle.meanings.specs.Read.{named}
+use Rattle.sqlobjects.specs.Changes.{IsContactPut, IsHostPut, contact_name, host_name}
+use Rattle.sqlobjects.specs.Objects.{last_transfer}
+use Rattle.sqlobjects.proofs.PutLemmas.{has-filter}
+use Rattle.sqldomains.specs.Domains.{domain_entry, domain_of, domains_of, linked_name, registrant_alone, with_links, with_name}
+use Rattle.sqldomains.proofs.LinkRowLemmas.{get_by-has}
+
+-- a row whose numbers lead to the same names
+name-where : (xs ys : Content) (role : Role) (contact host : Option ℤ) → ((id : ℤ) → contact ≡ Some id → contact_name ys id ≡ contact_name xs id) → ((id : ℤ) → host ≡ Some id → host_name ys id ≡ host_name xs id)
+    → linked_name ys role contact host ≡ linked_name xs role contact host
+name-where xs ys roles.Host None (Some id) contacts hosts = hosts id refl
+name-where xs ys roles.Host None None contacts hosts = refl
+name-where xs ys roles.Host (Some c) host contacts hosts = refl
+name-where xs ys roles.Admin (Some id) None contacts hosts = contacts id refl
+name-where xs ys roles.Admin (Some id) (Some h) contacts hosts = refl
+name-where xs ys roles.Admin None host contacts hosts = refl
+name-where xs ys roles.Tech (Some id) None contacts hosts = contacts id refl
+name-where xs ys roles.Tech (Some id) (Some h) contacts hosts = refl
+name-where xs ys roles.Tech None host contacts hosts = refl
+
+entries-where : {R E : Type 0} (f g : R → Option E) (rows : List R) → ((row : R) → Has rows row → f row ≡ g row) → filter_map f rows ≡ filter_map g rows
+entries-where f g [] same = refl
+entries-where f g (row ∷ rows) same = λ i. cons_option (same row (inl refl) i) (entries-where f g rows (λ r h. same r (inr h)) i)
+
+module _ (xs ys : Content) (links : ys.links ≡ xs.links) (domains : ys.domains ≡ xs.domains) (transfers : (id : ℤ) → filter (transfer_with_domain id) ys.transfers ≡ filter (transfer_with_domain id) xs.transfers)
+    (registrants : (row : table.Domain) → Has xs.domains row → contact_name ys row.registrant ≡ contact_name xs row.registrant)
+    (names : (row : Link) → Has xs.links row → (role : Role) → linked_name ys role row.contact row.host ≡ linked_name xs role row.contact row.host) where
+  links-where : (rows : List Link) → ((row : Link) → Has rows row → Has xs.links row) → (l : Links) → with_links ys l rows ≡ with_links xs l rows
+  links-where [] there l = refl
+  links-where (row ∷ rows) there l =
+      λ i. (role_in row.role >>= (λ r. names row (there row (inl refl)) r i >>= (λ n. Some (with_name l r n)))) >>= (λ n. links-where rows (λ r h. there r (inr h)) n i)
+
+  reads-same : (row : table.Domain) → Has xs.domains row → domain_of ys row ≡ domain_of xs row
+  reads-same row there =
+      λ i. (registrants row there i >>= (λ a.
+          (ap (λ ls. with_links ys (registrant_alone a) (filter (link_with_domain row.id) ls)) links
+          ∙ links-where (filter (link_with_domain row.id) xs.links) (λ r h. (has-filter (link_with_domain row.id) xs.links r h).0) (registrant_alone a)) i))
+          >>= (λ l. last_transfer (transfers row.id i) >>= (λ transfer. domain_in row l transfer))
+
+  domains-same : domains_of ys ≡ domains_of xs
+  domains-same =
+      ap (λ rows. from_entries (filter_map (domain_entry ys) rows)) domains
+      ∙ ap from_entries (entries-where (domain_entry ys) (domain_entry xs) xs.domains (λ row there. ap (named row.name) (reads-same row there)))
+
+-- ---- a contact put
+
+contact-there : (xs : Content) (row : contact_table.Contact) (id : ℤ) → IsWhole xs → Has xs.contacts row → row.id ≡ id → contact_name xs id ≡ Some row.name
+contact-there xs row id whole there is =
+    ap (contact_name xs) (sym is) ∙ ap (option_map (λ (r : contact_table.Contact). r.name)) (get_by-has contact_table.contacts.key xs.contacts row whole.keyed.contacts there)
+
+host-there : (xs : Content) (row : host_table.Host) (id : ℤ) → IsWhole xs → Has xs.hosts row → row.id ≡ id → host_name xs id ≡ Some row.name
+host-there xs row id whole there is =
+    ap (host_name xs) (sym is) ∙ ap (option_map (λ (r : host_table.Host). r.name)) (get_by-has host_table.hosts.key xs.hosts row whole.keyed.hosts there)
+
+module _ (name : List ℕ) (value : Option Contact) (xs ys : Content) (put : IsContactPut name value xs ys) where
+  -- a number that something refers to before and after
+  same-contact : {X : Type 0} (a b : List X) (column : X → Option ℤ) (x : X) (id : ℤ) → LeadsTo a column xs.contacts contact_table.contacts.key → LeadsTo b column ys.contacts contact_table.contacts.key → b ≡ a → Has a x → column x ≡ Some id
+      → contact_name ys id ≡ contact_name xs id
+  same-contact a b column x id was now same there is =
+      let old = was x there id is in
+      let new = now x (subst (λ l. Has l x) (sym same) there) id is in
+      let before = contact-there xs old.0 id put.whole.0 old.1 old.2 in
+      let after = contact-there ys new.0 id put.whole.1 new.1 new.2 in
+      after ∙ ap Some (sym (put.names id old.0.name new.0.name before after)) ∙ sym before
+
+  contact-registrants : (row : table.Domain) → Has xs.domains row → contact_name ys row.registrant ≡ contact_name xs row.registrant
+  contact-registrants row there =
+      same-contact xs.domains ys.domains (λ (x : table.Domain). Some x.registrant) row row.registrant put.whole.0.linked.domain_registrant put.whole.1.linked.domain_registrant put.domains there refl
+
+  contact-names : (row : Link) → Has xs.links row → (role : Role) → linked_name ys role row.contact row.host ≡ linked_name xs role row.contact row.host
+  contact-names row there role =
+      name-where xs ys role row.contact row.host
+      (λ id is. same-contact xs.links ys.links (λ (x : Link). x.contact) row id put.whole.0.linked.link_contact put.whole.1.linked.link_contact put.links there is)
+      (λ id is. ap (λ rows. host_name (record ys { hosts = rows }) id) put.host_rows)
+
+  pub contact-leaves-reading : (row : table.Domain) → Has xs.domains row → domain_of ys row ≡ domain_of xs row
+  contact-leaves-reading = reads-same xs ys put.links put.domains put.transfers contact-registrants contact-names
+
+  pub contact-leaves-domains : domains_of ys ≡ domains_of xs
+  contact-leaves-domains = domains-same xs ys put.links put.domains put.transfers contact-registrants contact-names
+
+-- ---- a host put
+
+module _ (name : List ℕ) (value : Option Host) (xs ys : Content) (put : IsHostPut name value xs ys) where
+  host-names : (row : Link) → Has xs.links row → (role : Role) → linked_name ys role row.contact row.host ≡ linked_name xs role row.contact row.host
+  host-names row there role =
+      name-where xs ys role row.contact row.host
+      (λ id is. ap (λ rows. contact_name (record ys { contacts = rows }) id) put.contact_rows)
+      (λ id is.
+      let old = put.whole.0.linked.link_host row there id is in
+      let new = put.whole.1.linked.link_host row (subst (λ l. Has l row) (sym put.links) there) id is in
+      let before = host-there xs old.0 id put.whole.0 old.1 old.2 in
+      let after = host-there ys new.0 id put.whole.1 new.1 new.2 in
+      after ∙ ap Some (sym (put.names id old.0.name new.0.name before after)) ∙ sym before)
+
+  host-registrants : (row : table.Domain) → Has xs.domains row → contact_name ys row.registrant ≡ contact_name xs row.registrant
+  host-registrants row there = ap (λ rows. contact_name (record ys { contacts = rows }) row.registrant) put.contact_rows
+
+  host-transfers : (id : ℤ) → filter (transfer_with_domain id) ys.transfers ≡ filter (transfer_with_domain id) xs.transfers
+  host-transfers id = ap (filter (transfer_with_domain id)) put.transfers
+
+  pub host-leaves-reading : (row : table.Domain) → Has xs.domains row → domain_of ys row ≡ domain_of xs row
+  host-leaves-reading = reads-same xs ys put.links put.domains host-transfers host-registrants host-names
+
+  pub host-leaves-domains : domains_of ys ≡ domains_of xs
+  host-leaves-domains = domains-same xs ys put.links put.domains host-transfers host-registrants host-names

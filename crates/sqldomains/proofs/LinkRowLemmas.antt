@@ -1,0 +1,172 @@
+-- Rows that lead from a domain, removed and added.
+use Rattle.std.proofs.Common.{◌≡◌, inl, inr, ◌+◌, ◌<◌, ◌<ℤ◌, get_or, length, take, ℕ, ℤ, cond, List, [], ◌∷◌, ◌++◌, filter, Option, Some, None, option_map, refl, sym, ap, subst, ◌∙◌, append_assoc, arith, int_eq}
+use Rattle.std.proofs.lemmas.Bool.Decides.{Decides-int_eq}
+use Rattle.std.proofs.lemmas.Int.{ints}
+use Rattle.std.proofs.lemmas.List.{append-nil, take_more}
+use Rattle.rows.specs.Layouts.{appended}
+use Rattle.sqlite_keyed.specs.Keyed.{IsKeyedBy, get_by, next_key}
+use Rattle.sqlite_keyed.specs.Lists.{delete_where}
+use Rattle.sqlite_keyed.proofs.KeyedLemmas.{int_eq_apart, same_int}
+use Rattle.sqlite_rules.specs.Lists.{Has}
+use Rattle.objects.specs.declared.domain.Links.{Links}
+use Rattle.columns.specs.declared.code.Role.{Role}
+use Rattle.columns.specs.declared.code.Role.TheVariants as roles
+use Rattle.columns.specs.Codes.{role_in}
+use Rattle.columns.specs.Steps.{◌>>=◌}
+use Rattle.columns.proofs.CodeLemmas.{role_back}
+use Rattle.tables.specs.Contact as contact_table
+use Rattle.tables.specs.Content.{Content, links_to}
+use Rattle.tables.specs.Host as host_table
+use Rattle.tables.specs.Link as table
+use Rattle.tables.specs.Link.{Link, link_with_domain}
+use Rattle.tables.specs.Whole.{IsWhole}
+use Rattle.tables.proofs.RowLemmas.{all_at}
+use Rattle.sqlobjects.specs.Changes.{contact_name, host_name}
+use Rattle.sqlobjects.proofs.PutLemmas.{filter-append, filter-append_pass, filter-delete, filter-deleted}
+use Rattle.sqldomains.specs.Domains.{linked_name, registrant_alone, with_link, with_links, with_name}
+use Rattle.sqldomains.specs.Links.{IsNumberOfContact, IsNumberOfHost}
+use Rattle.sqldomains.specs.Stages.{AreLinksCleared, AreLinksPut, AreNamesAdded, AreOtherLinksKept, IsLinkTo, Names, with_names}
+use Rattle.sqldomains.proofs.LinkedLemmas.{registrant-more}
+
+-- ---- rows read where names are alike
+
+module _ (xs ys : Content) (contacts : (id : ℤ) → contact_name ys id ≡ contact_name xs id) (hosts : (id : ℤ) → host_name ys id ≡ host_name xs id) where
+  name-alike : (role : Role) (contact host : Option ℤ) → linked_name ys role contact host ≡ linked_name xs role contact host
+  name-alike roles.Host None (Some id) = hosts id
+  name-alike roles.Host None None = refl
+  name-alike roles.Host (Some c) host = refl
+  name-alike roles.Admin (Some id) None = contacts id
+  name-alike roles.Admin (Some id) (Some h) = refl
+  name-alike roles.Admin None host = refl
+  name-alike roles.Tech (Some id) None = contacts id
+  name-alike roles.Tech (Some id) (Some h) = refl
+  name-alike roles.Tech None host = refl
+
+  link-alike : (l : Links) (row : Link) → with_link ys l row ≡ with_link xs l row
+  link-alike l row = λ i. role_in row.role >>= (λ r. name-alike r row.contact row.host i >>= (λ n. Some (with_name l r n)))
+
+  pub links-alike : (rows : List Link) (l : Links) → with_links ys l rows ≡ with_links xs l rows
+  links-alike [] l = refl
+  links-alike (row ∷ rows) l = λ i. link-alike l row i >>= (λ n. links-alike rows n i)
+
+-- ---- one row more
+
+bind-some : {A : Type 0} (o : Option A) → o >>= (λ x. Some x) ≡ o
+bind-some None = refl
+bind-some (Some x) = refl
+
+bind-assoc : {A B C : Type 0} (o : Option A) (f : A → Option B) (g : B → Option C) → (o >>= f) >>= g ≡ o >>= (λ x. f x >>= g)
+bind-assoc None f g = refl
+bind-assoc (Some x) f g = refl
+
+with-more : (xs : Content) (rows : List Link) (l : Links) (row : Link) → with_links xs l (rows ++ row ∷ []) ≡ with_links xs l rows >>= (λ m. with_link xs m row)
+with-more xs [] l row = bind-some (with_link xs l row)
+with-more xs (r ∷ rows) l row =
+    (λ i. with_link xs l r >>= (λ n. with-more xs rows n row i))
+    ∙ sym (bind-assoc (with_link xs l r) (λ n. with_links xs n rows) (λ m. with_link xs m row))
+
+one-leads : (xs : Content) (id k : ℤ) (role : Role) (name : List ℕ) (row : Link) (m : Links) → IsLinkTo xs id role name row → with_link xs m (record row { id = k }) ≡ Some (with_name m role name)
+one-leads xs id k role name row m is =
+    (λ i. (ap role_in is.role_is ∙ role_back role) i >>= (λ r. linked_name xs r row.contact row.host >>= (λ n. Some (with_name m r n))))
+    ∙ (λ i. is.leads i >>= (λ n. Some (with_name m role n)))
+
+pub name-added : (id : ℤ) (role : Role) (name : List ℕ) (xs : Content) (row : Link) → IsLinkTo xs id role name row
+    → AreNamesAdded id role (name ∷ []) xs (links_to (appended table.links (λ k. record row { id = k })) xs)
+name-added id role name xs row is =
+    let k = next_key table.links.key xs.links in
+    let new : Link = record row { id = k } in
+    let ys : Content = links_to (appended table.links (λ k. record row { id = k })) xs in
+    record {
+      here = λ l before.
+          ap (λ r. with_links ys (registrant_alone r) (filter (link_with_domain id) ys.links)) (registrant-more l role name)
+          ∙ links-alike xs ys (λ i. refl) (λ i. refl) (filter (link_with_domain id) ys.links) (registrant_alone l.registrant)
+          ∙ ap (with_links xs (registrant_alone l.registrant)) (filter-append_pass (link_with_domain id) xs.links new ((Decides-int_eq row.domain id).1 is.domain))
+          ∙ with-more xs (filter (link_with_domain id) xs.links) (registrant_alone l.registrant) new
+          ∙ ap (λ o. o >>= (λ m. with_link xs m new)) before
+          ∙ one-leads xs id k role name row l is;
+      others = record {
+        domains = λ other apart. filter-append (link_with_domain other) xs.links new (ap (λ n. int_eq n other) is.domain ∙ apart);
+        rest = refl;
+      };
+    }
+
+-- ---- several
+
+pub none-named : (id : ℤ) (role : Role) (xs : Content) → AreNamesAdded id role [] xs xs
+none-named id role xs = record { here = λ l is. is; others = record { domains = λ other apart. refl; rest = refl } }
+
+with_names-append : (role : Role) (ts us : List (List ℕ)) (l : Links) → with_names role l (ts ++ us) ≡ with_names role (with_names role l ts) us
+with_names-append role [] us l = refl
+with_names-append role (t ∷ ts) us l = with_names-append role ts us (with_name l role t)
+
+then-kept : (id : ℤ) (a b c : Content) → AreOtherLinksKept id a b → AreOtherLinksKept id b c → AreOtherLinksKept id a c
+then-kept id a b c one two = record {
+  domains = λ other apart. two.domains other apart ∙ one.domains other apart;
+  rest = two.rest ∙ ap (λ (x : Content). record x { links = c.links }) one.rest;
+}
+
+pub next-named : (id : ℤ) (role : Role) (ts : List (List ℕ)) (i : ℕ) (t : List ℕ) (a b c : Content) → i < length ts → t ≡ get_or ts i t → AreNamesAdded id role (take i ts) a b → AreNamesAdded id role (t ∷ []) b c
+    → AreNamesAdded id role (take (i + 1) ts) a c
+next-named id role ts i t a b c within is one two =
+    subst (λ l. AreNamesAdded id role l a c) (ap (λ x. take i ts ++ x ∷ []) is ∙ sym (take_more ts i t within)) (record {
+      here = λ l before. subst (λ m. Names id m c) (sym (with_names-append role (take i ts) (t ∷ []) l)) (two.here (with_names role l (take i ts)) (one.here l before));
+      others = then-kept id a b c one.others two.others;
+    })
+
+-- ---- all of them in place of others
+
+pub links-cleared : (id : ℤ) (xs : Content) → AreLinksCleared id xs (links_to (delete_where (link_with_domain id)) xs)
+links-cleared id xs = record {
+  none = filter-deleted (link_with_domain id) (link_with_domain id) xs.links (λ r h e. e);
+  others = record {
+    domains = λ other apart. filter-delete (link_with_domain other) (link_with_domain id) xs.links (λ r h is. ap (λ k. int_eq k other) (same_int r.domain id is) ∙ apart);
+    rest = refl;
+  };
+}
+
+admins : (names : List (List ℕ)) (l : Links) → with_names roles.Admin l names ≡ record l { admin = l.admin ++ names }
+admins [] l = λ i. record l { admin = sym (append-nil l.admin) i }
+admins (n ∷ ns) l = admins ns (with_name l roles.Admin n) ∙ (λ i. record l { admin = append_assoc l.admin (n ∷ []) ns i })
+
+techs : (names : List (List ℕ)) (l : Links) → with_names roles.Tech l names ≡ record l { tech = l.tech ++ names }
+techs [] l = λ i. record l { tech = sym (append-nil l.tech) i }
+techs (n ∷ ns) l = techs ns (with_name l roles.Tech n) ∙ (λ i. record l { tech = append_assoc l.tech (n ∷ []) ns i })
+
+all_hosts : (names : List (List ℕ)) (l : Links) → with_names roles.Host l names ≡ record l { hosts = l.hosts ++ names }
+all_hosts [] l = λ i. record l { hosts = sym (append-nil l.hosts) i }
+all_hosts (n ∷ ns) l = all_hosts ns (with_name l roles.Host n) ∙ (λ i. record l { hosts = append_assoc l.hosts (n ∷ []) ns i })
+
+in-all : (l : Links) → with_names roles.Host (with_names roles.Tech (with_names roles.Admin (registrant_alone l.registrant) l.admin) l.tech) l.hosts ≡ l
+in-all l =
+    ap (λ m. with_names roles.Host (with_names roles.Tech m l.tech) l.hosts) (admins l.admin (registrant_alone l.registrant))
+    ∙ ap (λ m. with_names roles.Host m l.hosts) (techs l.tech (record (registrant_alone l.registrant) { admin = l.admin }))
+    ∙ all_hosts l.hosts (record (registrant_alone l.registrant) { admin = l.admin; tech = l.tech })
+
+pub links-put : (id number : ℤ) (l : Links) (a b c d e : Content) → number ≡ id → AreLinksCleared number a b → AreNamesAdded id roles.Admin l.admin b c → AreNamesAdded id roles.Tech l.tech c d → AreNamesAdded id roles.Host l.hosts d e
+    → AreLinksPut id l a e
+links-put id number l a b c d e same clear admin tech host =
+    let cleared : AreLinksCleared id a b = subst (λ k. AreLinksCleared k a b) same clear in
+    let start : Names id (registrant_alone l.registrant) b = ap (with_links b (registrant_alone l.registrant)) cleared.none in
+    record {
+      here = subst (λ m. Names id m e) (in-all l) (host.here _ (tech.here _ (admin.here _ start)));
+      others = then-kept id a b e cleared.others (then-kept id b c e admin.others (then-kept id c d e tech.others host.others));
+    }
+
+-- ---- numbers of names
+
+module _ {X : Type 0} (key : X → ℤ) where
+  pub get_by-has : (xs : List X) (row : X) → IsKeyedBy key xs → Has xs row → get_by key xs (key row) ≡ Some row
+  get_by-has [] row up there = absurd there
+  get_by-has (x ∷ xs) row up (inl same) =
+      ap (λ b. cond b (Some x) (get_by key xs (key row))) ((Decides-int_eq (key x) (key row)).1 (ap key (sym same))) ∙ ap Some (sym same)
+  get_by-has (x ∷ xs) row up (inr there) =
+      let below : key x <ℤ key row = all_at (λ z. key x <ℤ key z) xs row up.0 there in
+      ap (λ b. cond b (Some x) (get_by key xs (key row))) (int_eq_apart (key x) (key row) (λ e. omega (arith, ints))) ∙ get_by-has xs row up.1 there
+
+pub contact-of-number : (xs : Content) (name : List ℕ) (id : ℤ) → IsWhole xs → IsNumberOfContact xs name (Some id) → contact_name xs id ≡ Some name
+contact-of-number xs name id whole it =
+    ap (contact_name xs) (sym it.3) ∙ ap (option_map (λ (r : contact_table.Contact). r.name)) (get_by-has contact_table.contacts.key xs.contacts it.0 whole.keyed.contacts it.1) ∙ ap Some it.2
+
+pub host-of-number : (xs : Content) (name : List ℕ) (id : ℤ) → IsWhole xs → IsNumberOfHost xs name (Some id) → host_name xs id ≡ Some name
+host-of-number xs name id whole it =
+    ap (host_name xs) (sym it.3) ∙ ap (option_map (λ (r : host_table.Host). r.name)) (get_by-has host_table.hosts.key xs.hosts it.0 whole.keyed.hosts it.1) ∙ ap Some it.2

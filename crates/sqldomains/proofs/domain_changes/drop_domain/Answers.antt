@@ -1,0 +1,18 @@
+use Rattle.std.proofs.Common.{None}
+use Rattle.sqlobjects.proofs.StepLemmas.{asked-then}
+use Rattle.sqldomains.specs.Changes.{IsDomainPut}
+use Rattle.sqldomains.specs.Stages.{IsDomainDropped}
+use Rattle.sqldomains.proofs.DomainLemmas.{dropped}
+use Rattle.sqldomains.proofs.domain_changes.drop_domain.Goals as goal
+
+pub returns : goal.returns
+returns g c =
+    let old = c.args.store.now in
+    let new = c.remove_found.new.store in
+    let row = c.in_ok-row.row in
+    let asked = c.in_ok-row.ensures in
+    let made = c.in_ok-remove_found.ensures {u = tt} in
+    asked-then (IsDomainDropped row) (IsDomainPut c.args.name None None) old c.row_named.new.store new asked.0 made
+    (λ clean step.
+    let before = made.clean clean in
+    dropped old.content new.content c.args.name (c.whole.ensures (asked.0.clean before)) (c.whole-2.ensures clean) row (asked.1 before) step)

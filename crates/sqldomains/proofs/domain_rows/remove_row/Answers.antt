@@ -1,0 +1,22 @@
+use Rattle.sqlite_keyed.specs.Lists.{delete_where}
+use Rattle.tables.specs.Content.{Content, domains_to}
+use Rattle.tables.specs.Domain.{domain_with_id}
+use Rattle.meanings.proofs.StateLemmas.{then-became}
+use Rattle.sqlobjects.proofs.StepLemmas.{became-made}
+use Rattle.sqldomains.specs.Stages.{AreLinksCleared, IsDomainRemoved, IsTransferCleared}
+use Rattle.sqldomains.proofs.DomainLemmas.{removed-so}
+use Rattle.sqldomains.proofs.domain_rows.remove_row.Goals as goal
+
+pub returns : goal.returns
+returns g c =
+    let number = c.number_of-number.result in
+    let id = c.args.row.now.id in
+    let old = c.args.store.now in
+    let middle = c.clear_links.new.store in
+    let last = c.clear_transfer.new.store in
+    let new = c.remove_domains_by_id.new.self in
+    let rest = became-made (IsTransferCleared number) (λ b e. (a : Content) → AreLinksCleared number a b → IsDomainRemoved id a e) (domains_to (delete_where (domain_with_id number))) middle last new
+    (c.in_ok-clear_transfer.ensures {u = tt}) (c.in_ok-remove_domains_by_id.ensures {u = tt})
+    (λ clean step a links. removed-so id number a middle.content last.content c.number_of-number.ensures links step) in
+    then-became (AreLinksCleared number) (λ b e. (a : Content) → AreLinksCleared number a b → IsDomainRemoved id a e) (IsDomainRemoved id) old middle new
+    (c.in_ok-clear_links.ensures {u = tt}) rest (λ clean links more. more old.content links)

@@ -1,0 +1,13 @@
+use Rattle.sqlite_keyed.specs.Lists.{delete_where}
+use Rattle.tables.specs.Content.{links_to}
+use Rattle.tables.specs.Link.{link_with_domain}
+use Rattle.sqlobjects.proofs.StepLemmas.{made}
+use Rattle.sqldomains.specs.Stages.{AreLinksCleared}
+use Rattle.sqldomains.proofs.LinkRowLemmas.{links-cleared}
+use Rattle.sqldomains.proofs.link_rows.clear_links.Goals as goal
+
+pub returns : goal.returns
+returns g c =
+    let domain = c.args.domain in
+    made (AreLinksCleared domain) (links_to (delete_where (link_with_domain domain))) c.args.store.now c.remove_links_by_domain.new.self
+    (c.in_ok-remove_links_by_domain.ensures {u = tt}) (links-cleared domain c.args.store.now.content)

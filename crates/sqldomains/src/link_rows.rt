@@ -1,0 +1,151 @@
+//! The rows that lead from a domain to what it names.
+ghost use Rattle.std.specs.Prelude.{◌≡◌, true, ◌∷◌, [], Some};
+ghost use Rattle.transactions.specs.States.{Meets};
+ghost use Rattle.meanings.specs.Calls.{Turns};
+ghost use Rattle.sqlobjects.specs.Changes as changes;
+ghost use Rattle.sqldomains.specs.Stages.{AreLinksCleared, AreLinksPut, AreNamesAdded, IsContactLinkTo, IsHostLinkTo, IsLinkTo};
+
+use crate::linked::{number_of_contact, number_of_host};
+use crate::links::number_of;
+use basis::text::Text;
+use columns::{Role, role_column};
+use objects::Links;
+use rows::Number;
+use sqlite::Alter;
+use tables::{DomainRow, LinkRow, RowStore};
+use transactions::BookFault;
+
+/// The domain that lies in this row names this, in place of what it named. Its registrant is in its row.
+pub(crate) fn put_links<S: Alter>(
+    store: &mut RowStore<S>,
+    domain: &DomainRow,
+    links: &Links,
+) -> Result<(), BookFault>
+    requires { store.old.is_open ≡ true }
+    ensures { Turns result (AreLinksPut domain.now.id links.now) store.old store.new }
+{
+    let number = number_of(domain);
+    clear_links(store, number)?;
+    add_names(store, domain, Role::Admin, links.admin.as_slice())?;
+    add_names(store, domain, Role::Tech, links.tech.as_slice())?;
+    add_names(store, domain, Role::Host, links.hosts.as_slice())?;
+    Ok(())
+}
+
+/// Removes what leads from the domain with this number.
+pub(crate) fn clear_links<S: Alter>(
+    store: &mut RowStore<S>,
+    domain: Number,
+) -> Result<(), BookFault>
+    requires { store.old.is_open ≡ true }
+    ensures { Turns result (AreLinksCleared domain) store.old store.new }
+{
+    store.remove_links_by_domain(domain)?;
+    Ok(())
+}
+
+/// The domain names these besides, in a role, one after another.
+fn add_names<S: Alter>(
+    store: &mut RowStore<S>,
+    domain: &DomainRow,
+    role: Role,
+    names: &[Text],
+) -> Result<(), BookFault>
+    requires { store.old.is_open ≡ true }
+    ensures { Turns result (AreNamesAdded domain.now.id role names.now) store.old store.new }
+{
+    for name in names {
+        add_name(store, domain, role, name)?;
+    }
+    Ok(())
+}
+
+/// The domain names one thing more. A name under which nothing stands is refused.
+fn add_name<S: Alter>(
+    store: &mut RowStore<S>,
+    domain: &DomainRow,
+    role: Role,
+    name: &Text,
+) -> Result<(), BookFault>
+    requires { store.old.is_open ≡ true }
+    ensures { Turns result (AreNamesAdded domain.now.id role (name.now ∷ [])) store.old store.new }
+{
+    let row = row_to(store, domain, role, name)?;
+    store.append_link(&row)?;
+    Ok(())
+}
+
+/// The row that leads to what has this name, but for its number.
+fn row_to<S: Alter>(
+    store: &mut RowStore<S>,
+    domain: &DomainRow,
+    role: Role,
+    name: &Text,
+) -> Result<LinkRow, BookFault>
+    ensures { Meets result (IsLinkTo store.old.content domain.now.id role name.now) store.old store.new }
+{
+    match role {
+        Role::Host => row_to_host(store, domain, name),
+        Role::Admin | Role::Tech => row_to_contact(store, domain, role, name),
+    }
+}
+
+fn row_to_host<S: Alter>(
+    store: &mut RowStore<S>,
+    domain: &DomainRow,
+    name: &Text,
+) -> Result<LinkRow, BookFault>
+    ensures { Meets result (IsHostLinkTo store.old.content domain.now.id name.now) store.old store.new }
+{
+    let id = host_number(store, name)?;
+    Ok(LinkRow {
+        id: 0,
+        domain: domain.id,
+        contact: None,
+        host: Some(id),
+        role: role_column(Role::Host),
+    })
+}
+
+fn row_to_contact<S: Alter>(
+    store: &mut RowStore<S>,
+    domain: &DomainRow,
+    role: Role,
+    name: &Text,
+) -> Result<LinkRow, BookFault>
+    ensures { Meets result (IsContactLinkTo store.old.content domain.now.id role name.now) store.old store.new }
+{
+    let id = contact_number(store, name)?;
+    Ok(LinkRow {
+        id: 0,
+        domain: domain.id,
+        contact: Some(id),
+        host: None,
+        role: role_column(role),
+    })
+}
+
+/// The number of the contact of this name, which has to be there.
+pub(crate) fn contact_number<S: Alter>(
+    store: &mut RowStore<S>,
+    name: &Text,
+) -> Result<i64, BookFault>
+    ensures { Meets result (λ id. changes.contact_name store.old.content id ≡ Some name.now) store.old store.new }
+{
+    store.whole();
+    match number_of_contact(store, name)? {
+        None => Err(BookFault::Store),
+        Some(id) => Ok(id),
+    }
+}
+
+/// The number of the host of this name, which has to be there.
+fn host_number<S: Alter>(store: &mut RowStore<S>, name: &Text) -> Result<i64, BookFault>
+    ensures { Meets result (λ id. changes.host_name store.old.content id ≡ Some name.now) store.old store.new }
+{
+    store.whole();
+    match number_of_host(store, name)? {
+        None => Err(BookFault::Store),
+        Some(id) => Ok(id),
+    }
+}
