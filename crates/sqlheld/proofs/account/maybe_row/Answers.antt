@@ -1,0 +1,12 @@
+use Rattle.std.proofs.Common.{subst, filter, Ok}
+use Rattle.columns.specs.Numbers.{registrar_column}
+use Rattle.tables.specs.Account.{account_with_id}
+use Rattle.transactions.specs.States.{Finds}
+use Rattle.meanings.proofs.StateLemmas.{one-asked}
+use Rattle.sqlheld.proofs.account.maybe_row.Goals as goal
+
+pub returns-clause-row : goal.returns-clause-row
+returns-clause-row g c =
+    one-asked c.only.result c.in_ok-rows.rows (account_with_id (registrar_column c.args.registrar)) c.args.store.now.content.accounts c.args.store.now c.accounts_by_id.new.self
+    c.only.ensures
+    (subst (λ v. Finds (Ok c.in_ok-rows.rows) (filter (account_with_id v) c.args.store.now.content.accounts) c.args.store.now c.accounts_by_id.new.self) c.in_ok-id.ensures.number c.in_ok-rows.ensures)

@@ -1,0 +1,39 @@
+//! How many domains a registrar holds.
+ghost use Rattle.std.specs.Prelude.{◌≡◌, nat_le, pos};
+ghost use Rattle.std.specs.Option.{option_map_or};
+ghost use Rattle.meanings.specs.Calls.{Tells};
+ghost use Rattle.sqlheld.specs.Held.{held_of, helds_are_right};
+ghost use Rattle.tables.specs.Account.{Account};
+
+use crate::account::maybe_row;
+use basis::registrar::RegistrarNo;
+use columns::exact_of_column;
+use sqlite::Alter;
+use tables::{AccountRow, RowStore};
+use transactions::BookFault;
+
+/// Whether a registrar sponsors, or gets by pending transfers, this many domains or more: none where
+/// its account was never opened.
+pub fn holds_the_most<S: Alter>(
+    store: &mut RowStore<S>,
+    registrar: RegistrarNo,
+    most: usize,
+) -> Result<bool, BookFault>
+    ensures { Tells result (helds_are_right store.old.content) (nat_le most (held_of store.old.content registrar)) store.old store.new }
+{
+    let row = maybe_row(store, registrar)?;
+    store.whole();
+    match exact_of_column(held_in(row)) {
+        Some(count) => Ok(most as u64 <= count),
+        None => Err(BookFault::Store),
+    }
+}
+
+fn held_in(row: Option<AccountRow>) -> i64
+    ensures { result ≡ option_map_or (λ (row : Account). row.held) row (pos 0) }
+{
+    let Some(row) = row else {
+        return 0;
+    };
+    row.held
+}
