@@ -13,7 +13,7 @@ use tables::{AccountRow, RowStore};
 use transactions::BookFault;
 
 /// The number of a registrar's row; no registrar has the place 0.
-pub(crate) fn number_of(registrar: RegistrarNo) -> Result<Number, BookFault>
+pub fn number_of(registrar: RegistrarNo) -> Result<Number, BookFault>
     ensures number { IfOk result (λ id. id ≡ registrar_column registrar) }
     ensures place { IfOk result (λ id. is_place registrar ≡ true) }
 {
@@ -24,7 +24,7 @@ pub(crate) fn number_of(registrar: RegistrarNo) -> Result<Number, BookFault>
 }
 
 /// A registrar's row, if there is one.
-pub(crate) fn maybe_row<S: Alter>(
+pub fn maybe_row<S: Alter>(
     store: &mut RowStore<S>,
     registrar: RegistrarNo,
 ) -> Result<Option<AccountRow>, BookFault>
@@ -37,7 +37,7 @@ pub(crate) fn maybe_row<S: Alter>(
 }
 
 /// The row of a registrar who has one.
-pub(crate) fn found_row<S: Alter>(
+pub fn found_row<S: Alter>(
     store: &mut RowStore<S>,
     registrar: RegistrarNo,
 ) -> Result<AccountRow, BookFault>

@@ -20,6 +20,7 @@ mod paying;
 mod tests;
 mod writing;
 
+pub use account::{found_row, maybe_row, number_of};
 pub use counting::{Counters, counts, set_counters};
 pub use domain::{lines_on, swaps};
 pub use line::{add_line, balance, take_line};

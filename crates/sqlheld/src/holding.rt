@@ -5,9 +5,9 @@ ghost use Rattle.meanings.specs.Calls.{Tells};
 ghost use Rattle.sqlheld.specs.Held.{held_of, helds_are_right};
 ghost use Rattle.tables.specs.Account.{Account};
 
-use crate::account::maybe_row;
 use basis::registrar::RegistrarNo;
 use columns::exact_of_column;
+use sqlaccounts::maybe_row;
 use sqlite::Alter;
 use tables::{AccountRow, RowStore};
 use transactions::BookFault;

@@ -4,7 +4,6 @@
 //! Each call is one or two statements by the account's number for each registrar concerned.
 #![tactic(auto)]
 
-mod account;
 mod holding;
 mod parties;
 mod recounting;

@@ -5,10 +5,10 @@ ghost use Rattle.sqlheld.specs.Held.{counts_one, counts_where};
 ghost use Rattle.sqlheld.specs.Parties.{is_in};
 ghost use Rattle.sqlheld.specs.Recounts.{IsCounted, IsCountedAnew, IsRecounted};
 
-use crate::account::found_row;
 use crate::parties::{Parties, incoming_without, parties_of, sponsor_without};
 use basis::registrar::RegistrarNo;
 use objects::Domain;
+use sqlaccounts::found_row;
 use sqlite::Alter;
 use tables::{AccountRow, RowStore};
 use transactions::BookFault;

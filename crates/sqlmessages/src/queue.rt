@@ -18,7 +18,7 @@ ghost use Rattle.tables.specs.Content.{accounts_to, messages_to};
 ghost use Rattle.tables.specs.Message as table;
 ghost use Rattle.transactions.specs.States.{Finds, Makes, Meets};
 
-use crate::account::{found_row, number_of, one_less, one_more};
+use crate::account::{one_less, one_more};
 use crate::message::written;
 use accounts::Message;
 use basis::list::Seq;
@@ -26,6 +26,7 @@ use basis::registrar::RegistrarNo;
 use columns::message_of_row;
 use meanings::{only, or_fault};
 use rows::Number;
+use sqlaccounts::{found_row, number_of};
 use sqlite::Alter;
 use std::alloc::Global;
 use tables::{AccountRow, MessageRow, RowStore};
