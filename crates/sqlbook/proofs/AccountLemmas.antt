@@ -1,0 +1,126 @@
+-- What a change of an account over rows is to a book.
+use Rattle.std.proofs.Common.{◌≡◌, ℕ, ℤ, ◌<ℤ◌, ◌+◌, ◌==◌, Bool, true, false, cond, ◌&&◌, length, List, [], ◌∷◌, ◌++◌, pos, Option, Some, None, option_map, inl, inr, refl, sym, ap, subst, ◌∙◌, arith, int_eq}
+use Rattle.std.proofs.lemmas.Bool.Decides.{Decides-int_eq}
+use Rattle.std.proofs.lemmas.Int.{by_lt_z, ints}
+use Rattle.std.specs.List.{AllByRecursion}
+use Rattle.sqlite_keyed.specs.Keyed.{IsKeyedBy, get_by}
+use Rattle.sqlite_keyed.proofs.KeyedLemmas.{int_eq_apart, key-get_by, same_int}
+use Rattle.sqlite_rules.specs.Lists.{Has}
+use Rattle.accounts.specs.declared.account.Account.{Account}
+use Rattle.columns.proofs.ReadLemmas.{same_some}
+use Rattle.store.specs.Tables.{given_to}
+use Rattle.tables.specs.Account as table
+use Rattle.tables.specs.Content.{Content}
+use Rattle.tables.specs.Meta.{Meta}
+use Rattle.tables.specs.Whole.{IsWhole}
+use Rattle.tables.proofs.RowLemmas.{all_at}
+use Rattle.sqlaccounts.specs.Accounts.{row_of, standing}
+use Rattle.sqlaccounts.specs.Changes.{AreOthersKept, IsChange}
+use Rattle.sqlheld.proofs.KeptLemmas.{change-kept}
+use Rattle.sqlobjects.proofs.PutLemmas.{has-get_by}
+use Rattle.sqlobjects.specs.Objects.{contacts_of, hosts_of}
+use Rattle.sqldomains.specs.Domains.{domains_of}
+use Rattle.sqlterms.specs.Clock.{clock_of}
+use Rattle.sqlterms.specs.Meta.{meta_of}
+use Rattle.sqlterms.specs.Terms.{days_in, ids_behind, ids_in, is_unnamed, prices_in, reserved_in, terms_in, terms_made, terms_of}
+use Rattle.sqlbook.specs.Meaning.{are_right, dues_are_right, registry_of, stored_of}
+
+abbrev key : table.Account → ℤ
+key = table.accounts.key
+
+abbrev stand : List table.Account → ℤ → Option (List ℕ × ℤ)
+stand rows id = option_map standing (get_by key rows id)
+
+-- ---- rows that are named alike give the same ids
+
+not-there : (k : ℤ) (rows : List table.Account) → AllByRecursion (λ z. k <ℤ key z) rows → get_by key rows k ≡ None
+not-there k [] up = refl
+not-there k (x ∷ rows) up =
+    let below : k <ℤ key x = up.0 in
+    ap (λ b. cond b (Some x) (get_by key rows k)) (int_eq_apart (key x) k (λ e. omega (arith, ints))) ∙ not-there k rows up.1
+
+some-row : (rows : List table.Account) (id : ℤ) (s : List ℕ × ℤ) → stand rows id ≡ Some s → (row : table.Account) × Has rows row × (row.id ≡ id)
+some-row rows id s e = go (get_by key rows id) refl e
+  where
+    go : (o : Option table.Account) → get_by key rows id ≡ o → option_map standing o ≡ Some s → (row : table.Account) × Has rows row × (row.id ≡ id)
+    go None is f = cc
+    go (Some row) is f = (row, has-get_by key rows id row is, key-get_by key rows id row is)
+
+here : (a : table.Account) (rows : List table.Account) → stand (a ∷ rows) a.id ≡ Some (standing a)
+here a rows = ap (λ b. option_map standing (cond b (Some a) (get_by key rows a.id))) ((Decides-int_eq a.id a.id).1 refl)
+
+-- no row of a list in order has a number below the first one's
+not-below : (a : table.Account) (rows : List table.Account) (row : table.Account) → IsKeyedBy key (a ∷ rows) → Has (a ∷ rows) row → (row.id <ℤ a.id → ⊥)
+not-below a rows row up (inl same) less =
+    let e : row.id ≡ a.id = ap (λ (r : table.Account). r.id) same in
+    omega (arith, ints)
+not-below a rows row up (inr there) less =
+    let more : a.id <ℤ row.id = all_at (λ z. a.id <ℤ key z) rows row up.0 there in
+    omega (arith, ints)
+
+pub same-ids : (xs bs : List table.Account) → IsKeyedBy key xs → IsKeyedBy key bs → ((id : ℤ) → stand xs id ≡ stand bs id) → (ids : List (List ℕ)) → ids_behind ids xs ≡ ids_behind ids bs
+same-ids [] [] ua ub same ids = refl
+same-ids [] (b ∷ bs) ua ub same ids = absurd (let never : ◌≡◌ {A = Option (List ℕ × ℤ)} None (Some (standing b)) = same b.id ∙ here b bs in cc)
+same-ids (a ∷ xs) [] ua ub same ids = absurd (let never : ◌≡◌ {A = Option (List ℕ × ℤ)} (Some (standing a)) None = sym (here a xs) ∙ same a.id in cc)
+same-ids (a ∷ xs) (b ∷ bs) ua ub same ids =
+    let in-b = some-row (b ∷ bs) a.id (standing a) (sym (same a.id) ∙ here a xs) in
+    let in-a = some-row (a ∷ xs) b.id (standing b) (same b.id ∙ here b bs) in
+    let one = not-below b bs in-b.0 ub in-b.1 in
+    let two = not-below a xs in-a.0 ua in-a.1 in
+    let number : a.id ≡ b.id = level a.id b.id (λ l. one (subst (λ k. k <ℤ b.id) (sym in-b.2) l)) (λ l. two (subst (λ k. k <ℤ a.id) (sym in-a.2) l)) in
+    let stands : standing a ≡ standing b = same_some (standing a) (standing b) (sym (here a xs) ∙ same a.id ∙ ap (stand (b ∷ bs)) number ∙ here b bs) in
+    let rest : (id : ℤ) → stand xs id ≡ stand bs id = tails number in
+    go (ap (λ (s : List ℕ × ℤ). s.0) stands) number (same-ids xs bs ua.1 ub.1 rest)
+  where
+    level : (x y : ℤ) → (x <ℤ y → ⊥) → (y <ℤ x → ⊥) → x ≡ y
+    level x y f g = by_lt_z x y (λ l. absurd (f l)) (λ up. by_lt_z y x (λ l. absurd (g l)) (λ down. omega (arith, ints, up, down)))
+
+    tails : a.id ≡ b.id → (id : ℤ) → stand xs id ≡ stand bs id
+    tails number id = at (int_eq a.id id) refl
+      where
+        at : (c : Bool) → int_eq a.id id ≡ c → stand xs id ≡ stand bs id
+        at true e =
+            let is : a.id ≡ id = same_int a.id id e in
+            ap (option_map standing) (ap (get_by key xs) (sym is) ∙ not-there a.id xs ua.0)
+            ∙ sym (ap (option_map standing) (ap (get_by key bs) (sym is ∙ number) ∙ not-there b.id bs ub.0))
+        at false e =
+            sym (ap (λ c. option_map standing (cond c (Some a) (get_by key xs id))) e) ∙ same id
+            ∙ ap (λ c. option_map standing (cond c (Some b) (get_by key bs id))) (ap (λ k. int_eq k id) (sym number) ∙ e)
+
+    go : a.ident ≡ b.ident → a.id ≡ b.id → ((ids : List (List ℕ)) → ids_behind ids xs ≡ ids_behind ids bs) → ids_behind ids (a ∷ xs) ≡ ids_behind ids (b ∷ bs)
+    go ident number more =
+        λ i. cond (is_unnamed (ident i)) (more ids i) (cond (int_eq (number i) (pos (length ids + 1))) (more (ids ++ ident i ∷ []) i) None)
+
+-- ---- an account is changed
+
+module _ (r : ℕ) (f : Account → Account) (old new : Content) (whole : IsWhole old) (after : IsWhole new) (it : IsChange r f old new) where
+  terms-kept : terms_of new ≡ terms_of old
+  terms-kept =
+      ap (λ metas. terms_of (record new { metas = metas })) it.others.metas
+      ∙ go (meta_of old)
+    where
+      ids : ids_in new.accounts ≡ ids_in old.accounts
+      ids = same-ids new.accounts old.accounts after.keyed.accounts whole.keyed.accounts it.standings []
+
+      go : (m : Option Meta) → terms_in m new.accounts ≡ terms_in m old.accounts
+      go None = refl
+      go (Some row) = λ i. cond (length row.zone == 0) None (terms_made row.zone (reserved_in row.reserved) (days_in row) (prices_in row) (ids i))
+
+  dues-kept : dues_are_right new ≡ dues_are_right old
+  dues-kept = λ i. dues_are_right (record new { metas = it.others.metas i; contacts = it.others.contacts i; domains = it.others.domains i; hosts = it.others.hosts i; links = it.others.links i; transfers = it.others.transfers i })
+
+  pub right-kept : are_right new ≡ are_right old
+  right-kept = λ i. it.sums i && (change-kept r f old new it i && dues-kept i)
+
+  -- what is held is the registry with that account changed
+  pub account-changed : stored_of new ≡ given_to r f (stored_of old)
+  account-changed = λ i. record {
+    registry = record {
+      contacts = contacts_of (record new { contacts = it.others.contacts i; transfers = it.others.transfers i });
+      hosts = hosts_of (record new { hosts = it.others.hosts i; addresses = it.others.addresses i });
+      domains = domains_of (record new { contacts = it.others.contacts i; domains = it.others.domains i; hosts = it.others.hosts i; links = it.others.links i; transfers = it.others.transfers i });
+      accounts = it.accounts i;
+      clock = clock_of (record new { metas = it.others.metas i });
+    };
+    terms = terms-kept i;
+  }
