@@ -1,2 +1,3 @@
 pub mod SeenLemmas
 pub mod AccountLemmas
+pub mod ObjectLemmas

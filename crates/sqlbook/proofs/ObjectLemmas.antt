@@ -1,0 +1,83 @@
+-- What a contact or a host put over rows is to a book.
+use Rattle.std.proofs.Common.{◌≡◌, inl, inr, ℕ, Bool, true, ◌&&◌, List, [], ◌∷◌, Option, Some, None, refl, sym, ap, ◌∙◌}
+use Rattle.std.specs.Cmp.Lexicographic.{slice_cmp}
+use Rattle.std.specs.FinMap.{FinMap}
+use Rattle.std.specs.List.{list_all}
+use Rattle.std.specs.Option.{option_map_or}
+use Rattle.std.specs.Ordering.{nat_cmp}
+use Rattle.std.specs.Prelude.{int_le, pos}
+use Rattle.sqlite_rules.specs.Lists.{Has}
+use Rattle.lifecycle.specs.Lapse.{due_at}
+use Rattle.objects.specs.declared.contact.Contact.{Contact}
+use Rattle.objects.specs.declared.host.Host.{Host}
+use Rattle.policy.specs.declared.days.Days.{Days}
+use Rattle.store.specs.Ledgers as store
+use Rattle.store.specs.Tables.{contact_put, host_put}
+use Rattle.tables.specs.Content.{Content}
+use Rattle.tables.specs.Domain as table
+use Rattle.sqlaccounts.specs.Accounts.{accounts_of, sums_are_right}
+use Rattle.sqldomains.specs.Domains.{domain_of}
+use Rattle.sqldomains.proofs.FrameLemmas.{contact-leaves-domains, contact-leaves-reading, host-leaves-domains, host-leaves-reading}
+use Rattle.sqlheld.specs.Held.{helds_are_right}
+use Rattle.sqlheld.proofs.KeptLemmas.{accounts-kept}
+use Rattle.sqlobjects.specs.Changes.{IsContactPut, IsHostPut, put}
+use Rattle.sqlterms.specs.Clock.{clock_of}
+use Rattle.sqlterms.specs.Terms.{terms_of}
+use Rattle.sqlbook.specs.Meaning.{are_right, days_of, dues_are_right, is_due_right, rules_with, stored_of}
+
+-- a put over rows is a put of a map by name
+same-put : {X : Type 0} (m : FinMap (slice_cmp nat_cmp) X) (name : List ℕ) (value : Option X) → put m name value ≡ store.put m name value
+same-put m name None = refl
+same-put m name (Some x) = refl
+
+all-where : {A : Type 0} (p q : A → Bool) (rows : List A) → ((row : A) → Has rows row → p row ≡ q row) → list_all p rows ≡ list_all q rows
+all-where p q [] same = refl
+all-where p q (row ∷ rows) same = λ i. same row (inl refl) i && all-where p q rows (λ r h. same r (inr h)) i
+
+-- the columns of domains are as right as they were where the rows are the same and read as before
+dues-where : (old new : Content) → new.metas ≡ old.metas → new.domains ≡ old.domains → ((row : table.Domain) → Has old.domains row → domain_of new row ≡ domain_of old row) → dues_are_right new ≡ dues_are_right old
+dues-where old new metas domains reads =
+    ap (λ m. option_map_or (λ days. list_all (is_due_right days new) new.domains) (days_of (record new { metas = m })) true) metas
+    ∙ go (days_of old)
+  where
+    go : (days : Option Days) → option_map_or (λ d. list_all (is_due_right d new) new.domains) days true ≡ option_map_or (λ d. list_all (is_due_right d old) old.domains) days true
+    go None = refl
+    go (Some days) =
+        ap (list_all (is_due_right days new)) domains
+        ∙ all-where (is_due_right days new) (is_due_right days old) old.domains (λ row there. ap (λ d. option_map_or (λ x. int_le row.due (pos (due_at (rules_with days) x))) d true) (reads row there))
+
+module _ (name : List ℕ) (value : Option Contact) (old new : Content) (it : IsContactPut name value old new) where
+  pub contact-right : are_right new ≡ are_right old
+  contact-right = λ i.
+      sums_are_right (record new { accounts = it.accounts i; lines = it.lines i; messages = it.messages i })
+      && (accounts-kept old new (contact-leaves-domains name value old new it) it.accounts i && dues-where old new it.metas it.domains (contact-leaves-reading name value old new it) i)
+
+  pub contact-changed : stored_of new ≡ contact_put name value (stored_of old)
+  contact-changed = λ i. record {
+    registry = record {
+      contacts = (it.contacts ∙ same-put _ name value) i;
+      hosts = it.hosts i;
+      domains = contact-leaves-domains name value old new it i;
+      accounts = accounts_of (record new { accounts = it.accounts i; lines = it.lines i; messages = it.messages i });
+      clock = clock_of (record new { metas = it.metas i });
+    };
+    terms = terms_of (record new { metas = it.metas i; accounts = it.accounts i });
+  }
+
+module _ (name : List ℕ) (value : Option Host) (old new : Content) (it : IsHostPut name value old new) where
+  pub host-right : are_right new ≡ are_right old
+  host-right = λ i.
+      sums_are_right (record new { accounts = it.accounts i; lines = it.lines i; messages = it.messages i })
+      && (accounts-kept old new (host-leaves-domains name value old new it) it.accounts i && dues-where old new it.metas it.domains (host-leaves-reading name value old new it) i)
+
+  pub host-changed : stored_of new ≡ host_put name value (stored_of old)
+  host-changed = λ i. record {
+    registry = record {
+      contacts = it.contacts i;
+      hosts = (it.hosts ∙ same-put _ name value) i;
+      domains = host-leaves-domains name value old new it i;
+      accounts = accounts_of (record new { accounts = it.accounts i; lines = it.lines i; messages = it.messages i });
+      clock = clock_of (record new { metas = it.metas i });
+    };
+    terms = terms_of (record new { metas = it.metas i; accounts = it.accounts i });
+  }
