@@ -14,8 +14,8 @@ use Rattle.tables.specs.Content.{Content}
 use Rattle.tables.specs.Meta.{Meta}
 use Rattle.tables.specs.Whole.{IsWhole}
 use Rattle.tables.proofs.RowLemmas.{all_at}
-use Rattle.sqlaccounts.specs.Accounts.{row_of, standing}
-use Rattle.sqlaccounts.specs.Changes.{AreOthersKept, IsChange}
+use Rattle.sqlaccounts.specs.Accounts.{standing}
+use Rattle.sqlaccounts.specs.Changes.{IsChange}
 use Rattle.sqlheld.proofs.KeptLemmas.{change-kept}
 use Rattle.sqlobjects.proofs.PutLemmas.{has-get_by}
 use Rattle.sqlobjects.specs.Objects.{contacts_of, hosts_of}
@@ -23,7 +23,7 @@ use Rattle.sqldomains.specs.Domains.{domains_of}
 use Rattle.sqlterms.specs.Clock.{clock_of}
 use Rattle.sqlterms.specs.Meta.{meta_of}
 use Rattle.sqlterms.specs.Terms.{days_in, ids_behind, ids_in, is_unnamed, prices_in, reserved_in, terms_in, terms_made, terms_of}
-use Rattle.sqlbook.specs.Meaning.{are_right, dues_are_right, registry_of, stored_of}
+use Rattle.sqlbook.specs.Meaning.{are_right, dues_are_right, stored_of}
 
 abbrev key : table.Account → ℤ
 key = table.accounts.key

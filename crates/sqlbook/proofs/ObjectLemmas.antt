@@ -1,5 +1,5 @@
 -- What a contact or a host put over rows is to a book.
-use Rattle.std.proofs.Common.{◌≡◌, inl, inr, ℕ, Bool, true, ◌&&◌, List, [], ◌∷◌, Option, Some, None, refl, sym, ap, ◌∙◌}
+use Rattle.std.proofs.Common.{◌≡◌, inl, inr, ℕ, Bool, true, ◌&&◌, List, [], ◌∷◌, Option, Some, None, refl, ap, ◌∙◌}
 use Rattle.std.specs.Cmp.Lexicographic.{slice_cmp}
 use Rattle.std.specs.FinMap.{FinMap}
 use Rattle.std.specs.List.{list_all}
@@ -18,7 +18,6 @@ use Rattle.tables.specs.Domain as table
 use Rattle.sqlaccounts.specs.Accounts.{accounts_of, sums_are_right}
 use Rattle.sqldomains.specs.Domains.{domain_of}
 use Rattle.sqldomains.proofs.FrameLemmas.{contact-leaves-domains, contact-leaves-reading, host-leaves-domains, host-leaves-reading}
-use Rattle.sqlheld.specs.Held.{helds_are_right}
 use Rattle.sqlheld.proofs.KeptLemmas.{accounts-kept}
 use Rattle.sqlobjects.specs.Changes.{IsContactPut, IsHostPut, put}
 use Rattle.sqlterms.specs.Clock.{clock_of}

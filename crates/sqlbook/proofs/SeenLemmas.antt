@@ -1,7 +1,7 @@
 -- What a call on rows is to a book that sees them.
 use Rattle.std.proofs.Common.{◌≡◌, Bool, true, false, ◌&&◌, Result, Ok, Err, ◌∙◌, refl, sym, ap}
 use Rattle.transactions.specs.declared.fault.BookFault.{BookFault}
-use Rattle.transactions.specs.States.{Begins, Closes, Ends, Finds, Makes, Reads, Starts, StateOf, Stays, Writes}
+use Rattle.transactions.specs.States.{Begins, Closes, Finds, Makes, Reads, Starts, StateOf, Stays}
 use Rattle.meanings.specs.Calls.{Tells}
 use Rattle.sqlbook.specs.Seen.{Alters, AreKept, Turns, seen}
 

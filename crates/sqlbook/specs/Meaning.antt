@@ -1,5 +1,5 @@
 -- What rows mean to a book, and when the sums that are stored beside them are right.
-use Rattle.std.specs.Prelude.{ℕ, pos, Bool, true, ◌&&◌, int_le, [], Option, option_and_then}
+use Rattle.std.specs.Prelude.{pos, Bool, true, ◌&&◌, int_le, [], Option, option_and_then}
 use Rattle.std.specs.FinSet.{from_list}
 use Rattle.std.specs.List.{list_all}
 use Rattle.std.specs.Option.{option_map_or}

@@ -1,8 +1,8 @@
 -- What holds rows, as a book sees it: what the rows mean, and whether the sums that are stored beside
 -- them were right when the transaction began.
-use Rattle.std.specs.Prelude.{◌≡◌, Bool, true, false, ◌&&◌, map, Result, Ok, Err}
+use Rattle.std.specs.Prelude.{◌≡◌, Bool, true, ◌&&◌, map, Result, Ok, Err}
 use Rattle.transactions.specs.declared.fault.BookFault.{BookFault}
-use Rattle.transactions.specs.States.{Reads, StateOf, Stays}
+use Rattle.transactions.specs.States.{StateOf, Stays}
 
 abbrev pub seen : {C X : Type 0} → (C → X) → (C → Bool) → StateOf C → StateOf X
 seen means right s = record {
