@@ -14,7 +14,7 @@ use Rattle.tables.specs.Content.{Content}
 use Rattle.tables.specs.Meta.{Meta}
 use Rattle.tables.specs.Whole.{IsWhole}
 use Rattle.tables.proofs.RowLemmas.{all_at}
-use Rattle.sqlaccounts.specs.Accounts.{standing}
+use Rattle.sqlaccounts.specs.Accounts.{row_of, standing}
 use Rattle.sqlaccounts.specs.Changes.{IsChange}
 use Rattle.sqlheld.proofs.KeptLemmas.{change-kept}
 use Rattle.sqlobjects.proofs.PutLemmas.{has-get_by}
@@ -28,8 +28,11 @@ use Rattle.sqlbook.specs.Meaning.{are_right, dues_are_right, stored_of}
 abbrev key : table.Account → ℤ
 key = table.accounts.key
 
-abbrev stand : List table.Account → ℤ → Option (List ℕ × ℤ)
-stand rows id = option_map standing (get_by key rows id)
+abbrev pub ident_in : Option table.Account → Option (List ℕ)
+ident_in o = option_map (λ (row : table.Account). row.ident) o
+
+abbrev stand : List table.Account → ℤ → Option (List ℕ)
+stand rows id = ident_in (get_by key rows id)
 
 -- ---- rows that are named alike give the same ids
 
@@ -39,15 +42,15 @@ not-there k (x ∷ rows) up =
     let below : k <ℤ key x = up.0 in
     ap (λ b. cond b (Some x) (get_by key rows k)) (int_eq_apart (key x) k (λ e. omega (arith, ints))) ∙ not-there k rows up.1
 
-some-row : (rows : List table.Account) (id : ℤ) (s : List ℕ × ℤ) → stand rows id ≡ Some s → (row : table.Account) × Has rows row × (row.id ≡ id)
+some-row : (rows : List table.Account) (id : ℤ) (s : List ℕ) → stand rows id ≡ Some s → (row : table.Account) × Has rows row × (row.id ≡ id)
 some-row rows id s e = go (get_by key rows id) refl e
   where
-    go : (o : Option table.Account) → get_by key rows id ≡ o → option_map standing o ≡ Some s → (row : table.Account) × Has rows row × (row.id ≡ id)
+    go : (o : Option table.Account) → get_by key rows id ≡ o → ident_in o ≡ Some s → (row : table.Account) × Has rows row × (row.id ≡ id)
     go None is f = cc
     go (Some row) is f = (row, has-get_by key rows id row is, key-get_by key rows id row is)
 
-here : (a : table.Account) (rows : List table.Account) → stand (a ∷ rows) a.id ≡ Some (standing a)
-here a rows = ap (λ b. option_map standing (cond b (Some a) (get_by key rows a.id))) ((Decides-int_eq a.id a.id).1 refl)
+here : (a : table.Account) (rows : List table.Account) → stand (a ∷ rows) a.id ≡ Some a.ident
+here a rows = ap (λ b. ident_in (cond b (Some a) (get_by key rows a.id))) ((Decides-int_eq a.id a.id).1 refl)
 
 -- no row of a list in order has a number below the first one's
 not-below : (a : table.Account) (rows : List table.Account) (row : table.Account) → IsKeyedBy key (a ∷ rows) → Has (a ∷ rows) row → (row.id <ℤ a.id → ⊥)
@@ -60,17 +63,17 @@ not-below a rows row up (inr there) less =
 
 pub same-ids : (xs bs : List table.Account) → IsKeyedBy key xs → IsKeyedBy key bs → ((id : ℤ) → stand xs id ≡ stand bs id) → (ids : List (List ℕ)) → ids_behind ids xs ≡ ids_behind ids bs
 same-ids [] [] ua ub same ids = refl
-same-ids [] (b ∷ bs) ua ub same ids = absurd (let never : ◌≡◌ {A = Option (List ℕ × ℤ)} None (Some (standing b)) = same b.id ∙ here b bs in cc)
-same-ids (a ∷ xs) [] ua ub same ids = absurd (let never : ◌≡◌ {A = Option (List ℕ × ℤ)} (Some (standing a)) None = sym (here a xs) ∙ same a.id in cc)
+same-ids [] (b ∷ bs) ua ub same ids = absurd (let never : ◌≡◌ {A = Option (List ℕ)} None (Some b.ident) = same b.id ∙ here b bs in cc)
+same-ids (a ∷ xs) [] ua ub same ids = absurd (let never : ◌≡◌ {A = Option (List ℕ)} (Some a.ident) None = sym (here a xs) ∙ same a.id in cc)
 same-ids (a ∷ xs) (b ∷ bs) ua ub same ids =
-    let in-b = some-row (b ∷ bs) a.id (standing a) (sym (same a.id) ∙ here a xs) in
-    let in-a = some-row (a ∷ xs) b.id (standing b) (same b.id ∙ here b bs) in
+    let in-b = some-row (b ∷ bs) a.id a.ident (sym (same a.id) ∙ here a xs) in
+    let in-a = some-row (a ∷ xs) b.id b.ident (same b.id ∙ here b bs) in
     let one = not-below b bs in-b.0 ub in-b.1 in
     let two = not-below a xs in-a.0 ua in-a.1 in
     let number : a.id ≡ b.id = level a.id b.id (λ l. one (subst (λ k. k <ℤ b.id) (sym in-b.2) l)) (λ l. two (subst (λ k. k <ℤ a.id) (sym in-a.2) l)) in
-    let stands : standing a ≡ standing b = same_some (standing a) (standing b) (sym (here a xs) ∙ same a.id ∙ ap (stand (b ∷ bs)) number ∙ here b bs) in
+    let stands : a.ident ≡ b.ident = same_some a.ident b.ident (sym (here a xs) ∙ same a.id ∙ ap (stand (b ∷ bs)) number ∙ here b bs) in
     let rest : (id : ℤ) → stand xs id ≡ stand bs id = tails number in
-    go (ap (λ (s : List ℕ × ℤ). s.0) stands) number (same-ids xs bs ua.1 ub.1 rest)
+    go stands number (same-ids xs bs ua.1 ub.1 rest)
   where
     level : (x y : ℤ) → (x <ℤ y → ⊥) → (y <ℤ x → ⊥) → x ≡ y
     level x y f g = by_lt_z x y (λ l. absurd (f l)) (λ up. by_lt_z y x (λ l. absurd (g l)) (λ down. omega (arith, ints, up, down)))
@@ -81,11 +84,11 @@ same-ids (a ∷ xs) (b ∷ bs) ua ub same ids =
         at : (c : Bool) → int_eq a.id id ≡ c → stand xs id ≡ stand bs id
         at true e =
             let is : a.id ≡ id = same_int a.id id e in
-            ap (option_map standing) (ap (get_by key xs) (sym is) ∙ not-there a.id xs ua.0)
-            ∙ sym (ap (option_map standing) (ap (get_by key bs) (sym is ∙ number) ∙ not-there b.id bs ub.0))
+            ap ident_in (ap (get_by key xs) (sym is) ∙ not-there a.id xs ua.0)
+            ∙ sym (ap ident_in (ap (get_by key bs) (sym is ∙ number) ∙ not-there b.id bs ub.0))
         at false e =
-            sym (ap (λ c. option_map standing (cond c (Some a) (get_by key xs id))) e) ∙ same id
-            ∙ ap (λ c. option_map standing (cond c (Some b) (get_by key bs id))) (ap (λ k. int_eq k id) (sym number) ∙ e)
+            sym (ap (λ c. ident_in (cond c (Some a) (get_by key xs id))) e) ∙ same id
+            ∙ ap (λ c. ident_in (cond c (Some b) (get_by key bs id))) (ap (λ k. int_eq k id) (sym number) ∙ e)
 
     go : a.ident ≡ b.ident → a.id ≡ b.id → ((ids : List (List ℕ)) → ids_behind ids xs ≡ ids_behind ids bs) → ids_behind ids (a ∷ xs) ≡ ids_behind ids (b ∷ bs)
     go ident number more =
@@ -99,8 +102,14 @@ module _ (r : ℕ) (f : Account → Account) (old new : Content) (whole : IsWhol
       ap (λ metas. terms_of (record new { metas = metas })) it.others.metas
       ∙ go (meta_of old)
     where
+      named-so : (n o : Option table.Account) → option_map standing n ≡ option_map standing o → ident_in n ≡ ident_in o
+      named-so None None e = refl
+      named-so None (Some b) e = cc
+      named-so (Some a) None e = cc
+      named-so (Some a) (Some b) e = ap (λ (s : List ℕ × ℤ). Some s.0) (same_some (standing a) (standing b) e)
+
       ids : ids_in new.accounts ≡ ids_in old.accounts
-      ids = same-ids new.accounts old.accounts after.keyed.accounts whole.keyed.accounts it.standings []
+      ids = same-ids new.accounts old.accounts after.keyed.accounts whole.keyed.accounts (λ id. named-so (row_of new id) (row_of old id) (it.standings id)) []
 
       go : (m : Option Meta) → terms_in m new.accounts ≡ terms_in m old.accounts
       go None = refl

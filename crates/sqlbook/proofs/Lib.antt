@@ -1,3 +1,4 @@
 pub mod SeenLemmas
 pub mod AccountLemmas
 pub mod ObjectLemmas
+pub mod DomainLemmas

@@ -25,7 +25,7 @@ use Rattle.sqlterms.specs.Terms.{terms_of}
 use Rattle.sqlbook.specs.Meaning.{are_right, days_of, dues_are_right, is_due_right, rules_with, stored_of}
 
 -- a put over rows is a put of a map by name
-same-put : {X : Type 0} (m : FinMap (slice_cmp nat_cmp) X) (name : List ℕ) (value : Option X) → put m name value ≡ store.put m name value
+pub same-put : {X : Type 0} (m : FinMap (slice_cmp nat_cmp) X) (name : List ℕ) (value : Option X) → put m name value ≡ store.put m name value
 same-put m name None = refl
 same-put m name (Some x) = refl
 
