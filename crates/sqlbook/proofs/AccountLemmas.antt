@@ -25,18 +25,18 @@ use Rattle.sqlterms.specs.Meta.{meta_of}
 use Rattle.sqlterms.specs.Terms.{days_in, ids_behind, ids_in, is_unnamed, prices_in, reserved_in, terms_in, terms_made, terms_of}
 use Rattle.sqlbook.specs.Meaning.{are_right, dues_are_right, stored_of}
 
-abbrev key : table.Account → ℤ
+abbrev pub key : table.Account → ℤ
 key = table.accounts.key
 
 abbrev pub ident_in : Option table.Account → Option (List ℕ)
 ident_in o = option_map (λ (row : table.Account). row.ident) o
 
-abbrev stand : List table.Account → ℤ → Option (List ℕ)
+abbrev pub stand : List table.Account → ℤ → Option (List ℕ)
 stand rows id = ident_in (get_by key rows id)
 
 -- ---- rows that are named alike give the same ids
 
-not-there : (k : ℤ) (rows : List table.Account) → AllByRecursion (λ z. k <ℤ key z) rows → get_by key rows k ≡ None
+pub not-there : (k : ℤ) (rows : List table.Account) → AllByRecursion (λ z. k <ℤ key z) rows → get_by key rows k ≡ None
 not-there k [] up = refl
 not-there k (x ∷ rows) up =
     let below : k <ℤ key x = up.0 in

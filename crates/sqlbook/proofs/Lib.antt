@@ -1,4 +1,5 @@
 pub mod SeenLemmas
 pub mod AccountLemmas
+pub mod OpeningLemmas
 pub mod ObjectLemmas
 pub mod DomainLemmas

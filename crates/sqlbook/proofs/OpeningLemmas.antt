@@ -1,0 +1,119 @@
+-- What an account that is opened over rows is to a book: a row without an id brings none.
+use Rattle.std.proofs.Common.{◌≡◌, ℕ, ℤ, ◌<ℤ◌, Bool, true, false, not, cond, ◌&&◌, ◌==◌, ◌+◌, length, List, [], ◌∷◌, ◌++◌, filter, pos, Option, Some, None, refl, sym, ap, ◌∙◌, int_eq}
+use Rattle.std.specs.List.{AllByRecursion}
+use Rattle.std.specs.Option.{unwrap_or}
+use Rattle.sqlite_keyed.specs.Keyed.{IsKeyedBy, get_by}
+use Rattle.sqlite_keyed.proofs.KeyedLemmas.{same_int}
+use Rattle.store.specs.Tables.{account_opened}
+use Rattle.tables.specs.Account as table
+use Rattle.tables.specs.Content.{Content}
+use Rattle.tables.specs.Meta.{Meta}
+use Rattle.tables.specs.Whole.{IsWhole}
+use Rattle.sqlaccounts.specs.Accounts.{row_of}
+use Rattle.sqlaccounts.specs.Changes.{IsOpened, opened_row}
+use Rattle.sqldomains.specs.Domains.{domains_of}
+use Rattle.sqlheld.proofs.KeptLemmas.{opening-kept}
+use Rattle.sqlobjects.specs.Objects.{contacts_of, hosts_of}
+use Rattle.sqlterms.specs.Clock.{clock_of}
+use Rattle.sqlterms.specs.Meta.{meta_of}
+use Rattle.sqlterms.specs.Terms.{days_in, ids_behind, ids_in, is_unnamed, prices_in, reserved_in, terms_in, terms_made, terms_of}
+use Rattle.sqlbook.specs.Meaning.{are_right, dues_are_right, stored_of}
+use Rattle.sqlbook.proofs.AccountLemmas.{ident_in, key, not-there, same-ids}
+
+abbrev is_named : table.Account → Bool
+is_named row = not (is_unnamed row.ident)
+
+abbrev named_alone : List table.Account → List table.Account
+named_alone rows = filter is_named rows
+
+-- rows without an id give none
+ids-named : (rows : List table.Account) (ids : List (List ℕ)) → ids_behind ids (named_alone rows) ≡ ids_behind ids rows
+ids-named [] ids = refl
+ids-named (row ∷ rows) ids = go (is_unnamed row.ident) refl (λ more. ids-named rows more)
+  where
+    go : (b : Bool) → is_unnamed row.ident ≡ b → ((more : List (List ℕ)) → ids_behind more (named_alone rows) ≡ ids_behind more rows)
+        → ids_behind ids (cond (not (is_unnamed row.ident)) (row ∷ named_alone rows) (named_alone rows)) ≡ cond (is_unnamed row.ident) (ids_behind ids rows) (cond (int_eq row.id (pos (length ids + 1))) (ids_behind (ids ++ row.ident ∷ []) rows) None)
+    go true e more =
+        ap (λ b. ids_behind ids (cond (not b) (row ∷ named_alone rows) (named_alone rows))) e ∙ more ids
+        ∙ sym (ap (λ b. cond b (ids_behind ids rows) (cond (int_eq row.id (pos (length ids + 1))) (ids_behind (ids ++ row.ident ∷ []) rows) None)) e)
+    go false e more =
+        ap (λ b. ids_behind ids (cond (not b) (row ∷ named_alone rows) (named_alone rows))) e
+        ∙ ap (λ b. cond b (ids_behind ids (named_alone rows)) (cond (int_eq row.id (pos (length ids + 1))) (ids_behind (ids ++ row.ident ∷ []) (named_alone rows)) None)) e
+        ∙ ap (λ t. cond (int_eq row.id (pos (length ids + 1))) t None) (more (ids ++ row.ident ∷ []))
+        ∙ sym (ap (λ b. cond b (ids_behind ids rows) (cond (int_eq row.id (pos (length ids + 1))) (ids_behind (ids ++ row.ident ∷ []) rows) None)) e)
+
+above-filter : (k : ℤ) (rows : List table.Account) → AllByRecursion (λ z. k <ℤ key z) rows → AllByRecursion (λ z. k <ℤ key z) (named_alone rows)
+above-filter k [] up = tt
+above-filter k (row ∷ rows) up = go (is_named row) (above-filter k rows up.1)
+  where
+    go : (b : Bool) → AllByRecursion (λ z. k <ℤ key z) (named_alone rows) → AllByRecursion (λ z. k <ℤ key z) (cond b (row ∷ named_alone rows) (named_alone rows))
+    go true rest = (up.0, rest)
+    go false rest = rest
+
+keyed-filter : (rows : List table.Account) → IsKeyedBy key rows → IsKeyedBy key (named_alone rows)
+keyed-filter [] up = tt
+keyed-filter (row ∷ rows) up = go (is_named row) (keyed-filter rows up.1)
+  where
+    go : (b : Bool) → IsKeyedBy key (named_alone rows) → IsKeyedBy key (cond b (row ∷ named_alone rows) (named_alone rows))
+    go true rest = (above-filter row.id rows up.0, rest)
+    go false rest = rest
+
+-- the row, if it is named
+abbrev if_named : Option table.Account → Option table.Account
+if_named None = None
+if_named (Some row) = cond (is_named row) (Some row) None
+
+get-filter : (rows : List table.Account) (id : ℤ) → IsKeyedBy key rows → get_by key (named_alone rows) id ≡ if_named (get_by key rows id)
+get-filter [] id up = refl
+get-filter (row ∷ rows) id up = go (is_named row) (int_eq row.id id) refl refl (get-filter rows id up.1)
+  where
+    go : (b c : Bool) → is_named row ≡ b → int_eq row.id id ≡ c → get_by key (named_alone rows) id ≡ if_named (get_by key rows id)
+        → get_by key (cond b (row ∷ named_alone rows) (named_alone rows)) id ≡ if_named (cond c (Some row) (get_by key rows id))
+    go true true e f more = ap (λ t. cond t (Some row) (get_by key (named_alone rows) id)) f ∙ sym (ap (λ t. cond t (Some row) None) e)
+    go true false e f more = ap (λ t. cond t (Some row) (get_by key (named_alone rows) id)) f ∙ more
+    go false true e f more =
+        more ∙ ap if_named (ap (get_by key rows) (sym (same_int row.id id f)) ∙ not-there row.id rows up.0) ∙ sym (ap (λ t. cond t (Some row) None) e)
+    go false false e f more = more
+
+module _ (r : ℕ) (old new : Content) (whole : IsWhole old) (after : IsWhole new) (it : IsOpened r old new) where
+  own-named : (o : Option table.Account) → ident_in (if_named (Some (unwrap_or o (opened_row r)))) ≡ ident_in (if_named o)
+  own-named None = refl
+  own-named (Some row) = refl
+
+  named-at : (id : ℤ) (b : Bool) → int_eq (pos r) id ≡ b → ident_in (if_named (row_of new id)) ≡ ident_in (if_named (row_of old id))
+  named-at id true e =
+      let is : pos r ≡ id = same_int (pos r) id e in
+      ap (λ k. ident_in (if_named (row_of new k))) (sym is) ∙ ap (λ o. ident_in (if_named o)) it.own ∙ own-named (row_of old (pos r)) ∙ ap (λ k. ident_in (if_named (row_of old k))) is
+  named-at id false e = ap (λ o. ident_in (if_named o)) (it.rows id e)
+
+  ids-opened : ids_in new.accounts ≡ ids_in old.accounts
+  ids-opened =
+      sym (ids-named new.accounts [])
+      ∙ same-ids (named_alone new.accounts) (named_alone old.accounts) (keyed-filter new.accounts after.keyed.accounts) (keyed-filter old.accounts whole.keyed.accounts)
+      (λ id. ap ident_in (get-filter new.accounts id after.keyed.accounts) ∙ named-at id (int_eq (pos r) id) refl ∙ sym (ap ident_in (get-filter old.accounts id whole.keyed.accounts))) []
+      ∙ ids-named old.accounts []
+
+  terms-opened : terms_of new ≡ terms_of old
+  terms-opened = ap (λ metas. terms_of (record new { metas = metas })) it.others.metas ∙ go (meta_of old)
+    where
+      go : (m : Option Meta) → terms_in m new.accounts ≡ terms_in m old.accounts
+      go None = refl
+      go (Some row) = λ i. cond (length row.zone == 0) None (terms_made row.zone (reserved_in row.reserved) (days_in row) (prices_in row) (ids-opened i))
+
+  dues-opened : dues_are_right new ≡ dues_are_right old
+  dues-opened = λ i. dues_are_right (record new { metas = it.others.metas i; contacts = it.others.contacts i; domains = it.others.domains i; hosts = it.others.hosts i; links = it.others.links i; transfers = it.others.transfers i })
+
+  pub opening-right : are_right new ≡ are_right old
+  opening-right = λ i. it.sums i && (opening-kept old new r whole it i && dues-opened i)
+
+  pub opening-changed : stored_of new ≡ account_opened r (stored_of old)
+  opening-changed = λ i. record {
+    registry = record {
+      contacts = contacts_of (record new { contacts = it.others.contacts i; transfers = it.others.transfers i });
+      hosts = hosts_of (record new { hosts = it.others.hosts i; addresses = it.others.addresses i });
+      domains = domains_of (record new { contacts = it.others.contacts i; domains = it.others.domains i; hosts = it.others.hosts i; links = it.others.links i; transfers = it.others.transfers i });
+      accounts = it.accounts i;
+      clock = clock_of (record new { metas = it.others.metas i });
+    };
+    terms = terms-opened i;
+  }
