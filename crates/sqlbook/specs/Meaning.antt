@@ -1,5 +1,5 @@
 -- What rows mean to a book, and when the sums that are stored beside them are right.
-use Rattle.std.specs.Prelude.{pos, Bool, true, ◌&&◌, int_le, [], Option, option_and_then}
+use Rattle.std.specs.Prelude.{pos, Bool, true, ◌&&◌, int_le, length, ◌==◌, if◌then◌else◌, [], Option, None, option_and_then}
 use Rattle.std.specs.FinSet.{from_list}
 use Rattle.std.specs.List.{list_all}
 use Rattle.std.specs.Option.{option_map_or}
@@ -10,6 +10,7 @@ use Rattle.policy.specs.Rules.{PolicyRules}
 use Rattle.store.specs.Book.{Stored}
 use Rattle.tables.specs.Content.{Content}
 use Rattle.tables.specs.Domain.{Domain}
+use Rattle.tables.specs.Meta.{Meta}
 use Rattle.sqlaccounts.specs.Accounts.{accounts_of, sums_are_right}
 use Rattle.sqldomains.specs.Domains.{domain_of, domains_of}
 use Rattle.sqlheld.specs.Held.{helds_are_right}
@@ -36,9 +37,12 @@ rules_with days = record {
   registrars = [];
 }
 
--- the days in the row of meta
+-- the days in the row of meta, where terms were put down in it
+abbrev pub days_at : Meta → Option Days
+days_at row = if length row.zone == 0 then None else days_in row
+
 abbrev pub days_of : Content → Option Days
-days_of xs = option_and_then days_in (meta_of xs)
+days_of xs = option_and_then days_at (meta_of xs)
 
 -- the column of a domain that reads is no later than the moment when time next changes it
 abbrev pub is_due_right : Days → Content → Domain → Bool
