@@ -3,3 +3,4 @@ pub mod AccountLemmas
 pub mod OpeningLemmas
 pub mod ObjectLemmas
 pub mod DomainLemmas
+pub mod AlteringLemmas

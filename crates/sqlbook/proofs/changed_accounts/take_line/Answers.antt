@@ -1,0 +1,14 @@
+use Rattle.std.proofs.Common.{Ok}
+use Rattle.accounts.specs.Entries.{with_lines}
+use Rattle.accounts.specs.Lines.{in_order}
+use Rattle.basis.specs.Bag.{taken}
+use Rattle.sqlaccounts.specs.Changes.{IsChange}
+use Rattle.sqlbook.proofs.AlteringLemmas.{alters, changed-there}
+use Rattle.sqlbook.proofs.changed_accounts.take_line.Goals as goal
+
+pub returns : goal.returns
+returns g c =
+    let old = c.args.store.now in
+    let new = c.take_line.new.store in
+    let made = c.in_ok-take_line.ensures {u = tt} in
+    alters {A = Unit {0}} (Ok tt) (IsChange c.args.registrar (with_lines (taken in_order c.args.line))) _ old new made (λ clean it. changed-there c.args.registrar (with_lines (taken in_order c.args.line)) old.content new.content (c.whole.ensures (made.clean clean)) (c.whole-2.ensures clean) it)

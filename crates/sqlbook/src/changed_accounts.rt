@@ -1,0 +1,89 @@
+//! Accounts, changed in a book over rows. One that has no row is refused.
+ghost use Rattle.std.specs.Prelude.{◌≡◌, true};
+ghost use Rattle.store.specs.Tables as tables;
+ghost use Rattle.sqlbook.specs.Meaning.{are_right, stored_of};
+ghost use Rattle.sqlbook.specs.Seen.{Alters};
+
+use accounts::{Line, Message};
+use basis::registrar::RegistrarNo;
+use sqlite::Alter;
+use std::alloc::Global;
+use tables::RowStore;
+use transactions::BookFault;
+
+/// The registrar has an account. One that it has stays as it is.
+pub fn open_account<S: Alter>(
+    store: &mut RowStore<S>,
+    alloc: Global,
+    registrar: RegistrarNo,
+) -> Result<(), BookFault>
+    requires { store.old.is_open ≡ true }
+    ensures { Alters result stored_of are_right (tables.account_opened registrar (stored_of store.old.content)) store.old store.new }
+{
+    store.whole();
+    sqlaccounts::open_account(store, alloc, registrar)?;
+    store.whole();
+    Ok(())
+}
+
+/// Adds a line to a registrar's account.
+pub fn add_line<S: Alter>(
+    store: &mut RowStore<S>,
+    registrar: RegistrarNo,
+    line: Line,
+) -> Result<(), BookFault>
+    requires { store.old.is_open ≡ true }
+    ensures { Alters result stored_of are_right (tables.line_added registrar line (stored_of store.old.content)) store.old store.new }
+{
+    store.whole();
+    sqlaccounts::add_line(store, registrar, line)?;
+    store.whole();
+    Ok(())
+}
+
+/// Takes a line out of a registrar's account, if it is there.
+pub fn take_line<S: Alter>(
+    store: &mut RowStore<S>,
+    registrar: RegistrarNo,
+    line: Line,
+) -> Result<(), BookFault>
+    requires { store.old.is_open ≡ true }
+    ensures { Alters result stored_of are_right (tables.line_taken registrar line (stored_of store.old.content)) store.old store.new }
+{
+    store.whole();
+    sqlaccounts::take_line(store, registrar, line)?;
+    store.whole();
+    Ok(())
+}
+
+/// Puts a message into a registrar's queue.
+pub fn put_message<S: Alter>(
+    store: &mut RowStore<S>,
+    alloc: Global,
+    registrar: RegistrarNo,
+    message: Message,
+) -> Result<(), BookFault>
+    requires { store.old.is_open ≡ true }
+    ensures { Alters result stored_of are_right (tables.message_put registrar message (stored_of store.old.content)) store.old store.new }
+{
+    store.whole();
+    sqlmessages::put_message(store, alloc, registrar, message)?;
+    store.whole();
+    Ok(())
+}
+
+/// Takes a message out of a registrar's queue, if it is there.
+pub fn take_message<S: Alter>(
+    store: &mut RowStore<S>,
+    alloc: Global,
+    registrar: RegistrarNo,
+    message: Message,
+) -> Result<(), BookFault>
+    requires { store.old.is_open ≡ true }
+    ensures { Alters result stored_of are_right (tables.message_taken registrar message (stored_of store.old.content)) store.old store.new }
+{
+    store.whole();
+    sqlmessages::take_message(store, alloc, registrar, message)?;
+    store.whole();
+    Ok(())
+}
