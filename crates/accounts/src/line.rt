@@ -103,7 +103,7 @@ fn is_same_roid(a: &Roid, b: &Roid) -> bool
 impl Line {
     /// Whether another line is the same in all that it says.
     #[tactic(auto, unfolding(crate::specs::Lines::is_line))]
-    pub(crate) fn is(&self, other: &Line) -> bool
+    pub fn is(&self, other: &Line) -> bool
         ensures { result ≡ spec.is_line self.now other.now }
     {
         self.is_for(other)

@@ -42,6 +42,13 @@ impl NameSet {
         NameSet { names }
     }
 
+    /// The names, in the order of their characters, each once.
+    pub fn names(&self) -> &[Text]
+        ensures { set.from_list result.now ≡ self.now }
+    {
+        &self.names
+    }
+
     pub fn contains(&self, name: &str) -> bool
         ensures { result ≡ set.contains self.now name.now }
     {

@@ -6,7 +6,7 @@ use Rattle.policy.specs.Reading.{policy_of}
 use Rattle.policy.specs.Rules.{PolicyRules}
 use Rattle.script.specs.declared.exit.Exit.{Exit}
 use Rattle.script.specs.declared.exit.Exit.TheVariants as exits
-use Rattle.script.specs.Runs.{Ends, EndsByFile, EndsUnder, start}
+use Rattle.script.specs.Runs.{Ends, EndsByFile, EndsIn, EndsUnder, start}
 use Rattle.model.specs.Registry.{Registry}
 
 -- what was pending is written, and flushed
@@ -17,51 +17,49 @@ Appends-joined (Some x) (Some y) None d bs bytes p q k = absurd q
 Appends-joined (Some x) (Some y) (Some z) None bs bytes p q k = absurd k
 Appends-joined (Some x) (Some y) (Some z) (Some w) bs bytes p q k = k ∙ q ∙ p ∙ ap (λ l. l ++ bytes) (append-nil x)
 
-Ends-written : (exit : Exit) (p : PolicyRules) (before : Registry) (input bs : List ℕ) (a b c d : Option (List ℕ))
-    → Ends p before input (append_known a []) (append_known b bs) exit → Appends b c bs → Keeps c d → Ends p before input a d exit
-Ends-written exits.Done p before input bs a b c d ends q k = (ends.0, (ends.1.0, Appends-joined a b c d bs _ ends.1.1 q k, ends.1.2))
-Ends-written (exits.Script n) p before input bs a b c d ends q k = (ends.0, Appends-joined a b c d bs _ ends.1 q k, ends.2)
-Ends-written exits.File p before input bs a b c d ends q k = tt
-Ends-written exits.Memory p before input bs a b c d ends q k = tt
-Ends-written exits.Usage p before input bs a b c d ends q k = absurd ends
-Ends-written (exits.Policy fault) p before input bs a b c d ends q k = absurd ends
-Ends-written (exits.Open fault) p before input bs a b c d ends q k = absurd ends
-Ends-written (exits.Registry fault) p before input bs a b c d ends q k = absurd ends
-Ends-written exits.Database p before input bs a b c d ends q k = absurd ends
-Ends-written exits.Network p before input bs a b c d ends q k = absurd ends
+Ends-written : (exit : Exit) (p : PolicyRules) (before after : Registry) (input bs : List ℕ) (a b c d : Option (List ℕ))
+    → EndsIn p before after input (append_known a []) (append_known b bs) exit → Appends b c bs → Keeps c d → EndsIn p before after input a d exit
+Ends-written exits.Done p before after input bs a b c d ends q k = (ends.0, Appends-joined a b c d bs _ ends.1 q k, ends.2)
+Ends-written (exits.Script n) p before after input bs a b c d ends q k = (ends.0, Appends-joined a b c d bs _ ends.1 q k, ends.2)
+Ends-written exits.File p before after input bs a b c d ends q k = tt
+Ends-written exits.Memory p before after input bs a b c d ends q k = tt
+Ends-written _ p before after input bs a b c d ends q k = absurd ends
 
-all_written : (exit : Exit) (p : PolicyRules) (before : Registry) (o a b c d : Option (List ℕ)) (bs : List ℕ)
-    → IfSome (prepend_known [] o) (λ input. Ends p before input (append_known a []) (append_known b bs) exit) → Appends b c bs → Keeps c d
-    → IfSome o (λ input. Ends p before input a d exit)
-all_written exit p before None a b c d bs ends q k = tt
-all_written exit p before (Some input) a b c d bs ends q k = Ends-written exit p before input bs a b c d ends q k
+all_written : (A : Type 0) (exit : Exit) (p : PolicyRules) (before after : Registry) (o a b c d : Option (List ℕ)) (bs : List ℕ)
+    → IfSome (prepend_known [] o) (λ input. A → EndsIn p before after input (append_known a []) (append_known b bs) exit) → Appends b c bs → Keeps c d
+    → IfSome o (λ input. A → EndsIn p before after input a d exit)
+all_written A exit p before after None a b c d bs ends q k = tt
+all_written A exit p before after (Some input) a b c d bs ends q k = λ (given : A). Ends-written exit p before after input bs a b c d (ends given) q k
 
 -- the same of a reader with a buffer that is empty, and of a writer with nothing pending
-pub Ends-buffered : (exit : Exit) (p : PolicyRules) (before : Registry) (capacity : ℕ) (buffer pending bs : List ℕ) (o unread a b c d : Option (List ℕ))
+pub Ends-buffered : (A : Type 0) (exit : Exit) (p : PolicyRules) (before after : Registry) (capacity : ℕ) (buffer pending bs : List ℕ) (o unread a b c d : Option (List ℕ))
     → capacity ≡ 8192 → buffer ≡ [] → o ≡ unread → pending ≡ []
-    → IfSome (cond (capacity == 0) None (prepend_known buffer o)) (λ input. Ends p before input (append_known a pending) (append_known b bs) exit)
-    → Appends b c bs → Keeps c d → IfSome unread (λ input. Ends p before input a d exit)
-Ends-buffered exit p before capacity buffer pending bs o unread a b c d room empty same none ends q k =
-    let P : List ℕ → List ℕ → Type 0 = λ l input. Ends p before input (append_known a l) (append_known b bs) exit in
+    → IfSome (cond (capacity == 0) None (prepend_known buffer o)) (λ input. A → EndsIn p before after input (append_known a pending) (append_known b bs) exit)
+    → Appends b c bs → Keeps c d → IfSome unread (λ input. A → EndsIn p before after input a d exit)
+Ends-buffered A exit p before after capacity buffer pending bs o unread a b c d room empty same none ends q k =
+    let P : List ℕ → List ℕ → Type 0 = λ l input. A → EndsIn p before after input (append_known a l) (append_known b bs) exit in
     let first : IfSome (prepend_known buffer o) (P pending) = subst (λ (n : ℕ). IfSome (cond (n == 0) None (prepend_known buffer o)) (P pending)) room ends in
     let second : IfSome (prepend_known [] o) (P pending) = subst (λ (l : List ℕ). IfSome (prepend_known l o) (P pending)) empty first in
     let third : IfSome (prepend_known [] unread) (P pending) = subst (λ (r : Option (List ℕ)). IfSome (prepend_known [] r) (P pending)) same second in
     let fourth : IfSome (prepend_known [] unread) (P []) = subst (λ (l : List ℕ). IfSome (prepend_known [] unread) (P l)) none third in
-    all_written exit p before unread a b c d bs fourth q k
+    all_written A exit p before after unread a b c d bs fourth q k
+
+-- a run over a book from which nothing wrong is taken ends as one does
+ends_in : (exit : Exit) (p : PolicyRules) (before after : Registry) (input : List ℕ) (old new : Option (List ℕ)) → EndsIn p before after input old new exit → Ends p before input old new exit
+ends_in exits.Done p before after input old new ends = (after, ends)
+ends_in (exits.Script n) p before after input old new ends = (ends.0, ends.1, ends.2.0)
+ends_in _ p before after input old new ends = ends
+
+pub Ends-clean : (A : Type 0) (exit : Exit) (p : PolicyRules) (before after : Registry) (o old new : Option (List ℕ))
+    → IfSome o (λ input. A → EndsIn p before after input old new exit) → A → IfSome o (λ input. Ends p before input old new exit)
+Ends-clean A exit p before after None old new ends clean = tt
+Ends-clean A exit p before after (Some input) old new ends clean = ends_in exit p before after input old new (ends clean)
 
 -- ---- under a policy
 
 ends_under : (exit : Exit) (p : PolicyRules) (input : List ℕ) (old new : Option (List ℕ)) → Ends p (start p) input old new exit → EndsUnder p input old new exit
-ends_under exits.Done p input old new ends = ends
-ends_under (exits.Script n) p input old new ends = ends
-ends_under exits.File p input old new ends = ends
-ends_under exits.Memory p input old new ends = ends
-ends_under exits.Usage p input old new ends = ends
-ends_under (exits.Policy fault) p input old new ends = ends
 ends_under (exits.Open fault) p input old new ends = absurd ends
-ends_under (exits.Registry fault) p input old new ends = ends
-ends_under exits.Database p input old new ends = absurd ends
-ends_under exits.Network p input old new ends = absurd ends
+ends_under _ p input old new ends = ends
 
 pub EndsUnder-opened : (exit : Exit) (p q : PolicyRules) (before : Registry) (a old new : Option (List ℕ)) → q ≡ p → before ≡ start p
     → IfSome a (λ input. Ends q before input old new exit) → IfSome a (λ input. EndsUnder p input old new exit)
@@ -71,16 +69,8 @@ EndsUnder-opened exit p q before (Some input) old new same at ends =
     ends_under exit p input old new (subst (λ (s : Registry). Ends p s input old new exit) at under)
 
 by_file : (exit : Exit) (policy : List ℕ) (p : PolicyRules) (input : List ℕ) (old new : Option (List ℕ)) → policy_of policy ≡ Ok p → EndsUnder p input old new exit → EndsByFile policy input old new exit
-by_file exits.Done policy p input old new read ends = (p, read, ends)
-by_file (exits.Script n) policy p input old new read ends = (p, read, ends)
-by_file exits.File policy p input old new read ends = (p, read, ends)
-by_file exits.Memory policy p input old new read ends = (p, read, ends)
-by_file exits.Usage policy p input old new read ends = absurd ends
 by_file (exits.Policy fault) policy p input old new read ends = absurd ends
-by_file (exits.Open fault) policy p input old new read ends = (p, read, ends)
-by_file (exits.Registry fault) policy p input old new read ends = absurd ends
-by_file exits.Database policy p input old new read ends = absurd ends
-by_file exits.Network policy p input old new read ends = absurd ends
+by_file _ policy p input old new read ends = (p, read, ends)
 
 pub EndsByFile-read : (exit : Exit) (policy : List ℕ) (p : PolicyRules) (a old new : Option (List ℕ)) → policy_of policy ≡ Ok p
     → IfSome a (λ input. EndsUnder p input old new exit) → IfSome a (λ input. EndsByFile policy input old new exit)

@@ -1,7 +1,7 @@
 -- Runs, line by line.
 use Rattle.std.proofs.Common.{◌≡◌, ◌+◌, ◌<◌, ◌==◌, ℕ, Bool, true, false, cond, List, [], ◌∷◌, ◌++◌, length, Some, None, IfSome, refl, sym, ap, subst, ◌∙◌, codes, append-nil, append_assoc, arith}
 use Rattle.std.proofs.lemmas.Grind.{common_steps, flat_map-append}
-use Rattle.std.proofs.KnownBytes.{Appends-kept, Appends-trans}
+use Rattle.std.proofs.KnownBytes.{Appends-kept, Appends-nil, Appends-trans}
 use Rattle.std.specs.Prelude.{Option}
 use Rattle.std.specs.declared.io.ErrorKind.{ErrorKind}
 use Rattle.std.specs.declared.io.ErrorKind.TheVariants.{OutOfMemory}
@@ -11,7 +11,8 @@ use Rattle.policy.specs.Rules.{PolicyRules}
 use Rattle.script.specs.declared.exit.Exit.{Exit}
 use Rattle.script.specs.declared.exit.Exit.TheVariants as exits
 use Rattle.script.specs.Exits.{exit_of}
-use Rattle.script.specs.Runs.{Answers, Ends, HaltsAt, Prints, TellsLine, begun_with, lines_of, printed}
+use Rattle.script.specs.Runs.{Answers, EndsIn, HaltsAt, LeavesAsWas, Prints, TellsLine, begun_with, kept, lines_of, printed}
+use Rattle.store.specs.Book.{BookState, Follows, Stored}
 use Rattle.model.specs.Registry.{Registry}
 
 -- ---- the lines of an input
@@ -107,69 +108,118 @@ TellsLine-one p [] text before after a b some answers wrote = absurd cc
 TellsLine-one p (byte ∷ bytes) text before after a b some answers wrote =
     (text ∷ [], (text, [], after, refl, answers, (refl, refl)), subst (Appends a b) (sym (append-nil _)) wrote)
 
+-- lines that are answered: the replies, and what of them is known to be written
+pub record AreTold (p : PolicyRules) (lines : List (List ℕ)) (before after : Registry) (old new : Option (List ℕ)) : Type 0 where
+  pub replies : List (List ℕ)
+  pub prints : Prints p lines before after replies
+  pub written : Appends old new (printed replies)
+
+-- no line
+pub AreTold-nil : (p : PolicyRules) (before : Registry) (a : Option (List ℕ)) → AreTold p [] before before a a
+AreTold-nil p before a = record { replies = []; prints = (refl, refl); written = Appends-nil a }
+
+-- one line more, where the policy and the line are known by equations
+pub AreTold-more : (p q : PolicyRules) (lines : List (List ℕ)) (line told : List ℕ) (before between after : Registry) (a b c : Option (List ℕ))
+    → q ≡ p → told ≡ line → AreTold p lines before between a b → TellsLine q told between after b c → AreTold p (lines ++ line ∷ []) before after a c
+AreTold-more p q lines line told before between after a b c same e first next = record {
+  replies = first.replies ++ next.0;
+  prints = Prints-told p q lines line told before between after first.replies next.0 same e first.prints next.1;
+  written = Appends-printed a b c first.replies next.0 first.written next.2;
+}
+
 -- ---- the end of a run
 
-pub Ends-fault : (kind : ErrorKind) (p : PolicyRules) (before : Registry) (input : List ℕ) (old new : Option (List ℕ)) → Ends p before input old new (exit_of kind)
-Ends-fault OutOfMemory p before input old new = tt
-Ends-fault _ p before input old new = tt
+-- what follows from what is given
+under : (A : Type 0) (o : Option (List ℕ)) (P : List ℕ → Type 0) → (A → IfSome o P) → IfSome o (λ input. A → P input)
+under A None P h = tt
+under A (Some input) P h = h
 
-pub Ends-done : (p : PolicyRules) (lines replies : List (List ℕ)) (before after : Registry) (a b old new : Option (List ℕ))
-    → Reads lines a b → IsAtEnd b → Prints p lines before after replies → Appends old new (printed replies) → IfSome a (λ input. Ends p before input old new exits.Done)
-Ends-done p lines replies before after None b old new r e prints wrote = tt
-Ends-done p lines replies before after (Some input) None old new r e prints wrote = absurd r
-Ends-done p lines replies before after (Some input) (Some rest) old new r e prints wrote =
+pub Ends-fault : (kind : ErrorKind) (p : PolicyRules) (before after : Registry) (input : List ℕ) (old new : Option (List ℕ)) → EndsIn p before after input old new (exit_of kind)
+Ends-fault OutOfMemory p before after input old new = tt
+Ends-fault _ p before after input old new = tt
+
+ends_done : (p : PolicyRules) (lines : List (List ℕ)) (before after : Registry) (a b old new : Option (List ℕ))
+    → Reads lines a b → IsAtEnd b → AreTold p lines before after old new → IfSome a (λ input. EndsIn p before after input old new exits.Done)
+ends_done p lines before after None b old new r e told = tt
+ends_done p lines before after (Some input) None old new r e told = absurd r
+ends_done p lines before after (Some input) (Some rest) old new r e told =
     let all : lines_of input ≡ lines = r ∙ ap (λ (x : List ℕ). lines ++ lines_of x) e ∙ append-nil lines in
-    (after, (printed replies, wrote, record { replies = replies; prints = subst (λ (ls : List (List ℕ)). Prints p ls before after replies) (sym all) prints; text = refl }))
+    (printed told.replies, told.written, record { replies = told.replies; prints = subst (λ (ls : List (List ℕ)). Prints p ls before after told.replies) (sym all) told.prints; text = refl })
+
+pub Ends-done : (A : Type 0) (p : PolicyRules) (lines : List (List ℕ)) (before after : Registry) (a b old new : Option (List ℕ))
+    → Reads lines a b → IsAtEnd b → (A → AreTold p lines before after old new) → IfSome a (λ input. A → EndsIn p before after input old new exits.Done)
+Ends-done A p lines before after a b old new r e told = under A a _ (λ given. ends_done p lines before after a b old new r e (told given))
 
 -- a fault of reading ends a run
-pub Ends-unread : (kind : ErrorKind) (exit : Exit) (p : PolicyRules) (before : Registry) (a old new : Option (List ℕ)) → exit ≡ exit_of kind → IfSome a (λ input. Ends p before input old new exit)
-Ends-unread kind exit p before None old new e = tt
-Ends-unread kind exit p before (Some input) old new e = subst (Ends p before input old new) (sym e) (Ends-fault kind p before input old new)
+pub Ends-unread : (A : Type 0) (kind : ErrorKind) (exit : Exit) (p : PolicyRules) (before after : Registry) (a old new : Option (List ℕ)) → exit ≡ exit_of kind → IfSome a (λ input. A → EndsIn p before after input old new exit)
+Ends-unread A kind exit p before after None old new e = tt
+Ends-unread A kind exit p before after (Some input) old new e = λ (given : A). subst (EndsIn p before after input old new) (sym e) (Ends-fault kind p before after input old new)
+
+-- what a line leaves that ends a run
+abbrev LeftBy : Exit → Registry → Registry → Type 0
+LeftBy (exits.Script n) before after = after ≡ before
+LeftBy _ before after = Unit {0}
+
+left_by : (exit : Exit) (old new : BookState) → LeavesAsWas old new exit → new.is_clean ≡ true → LeftBy exit (kept old) (kept new)
+left_by (exits.Script n) old new same clean = ap (λ (s : Stored). s.registry) (same.content clean)
+left_by _ old new same clean = tt
 
 -- a line ends a run, behind the lines that were answered
-Ends-line : (exit : Exit) (p : PolicyRules) (lines replies : List (List ℕ)) (text : List ℕ) (number : ℕ) (before after : Registry) (a b old between new : Option (List ℕ))
+ends_line : (exit : Exit) (p : PolicyRules) (lines : List (List ℕ)) (text : List ℕ) (number : ℕ) (before middle after : Registry) (a b old between new : Option (List ℕ))
     → Reads lines a b → IfSome b (λ xs. text ≡ take_through 10 xs) → 0 < length text → number ≡ length lines + 1
-    → Prints p lines before after replies → Appends old between (printed replies) → HaltsAt p (strip_last 10 text) number between new exit
-    → IfSome a (λ input. Ends p before input old new exit)
-Ends-line exit p lines replies text number before after None b old between new r t h count prints wrote halts = tt
-Ends-line exit p lines replies text number before after (Some input) None old between new r t h count prints wrote halts = absurd r
-Ends-line exits.Done p lines replies text number before after (Some input) (Some xs) old between new r t h count prints wrote halts = absurd halts
-Ends-line exits.Usage p lines replies text number before after (Some input) (Some xs) old between new r t h count prints wrote halts = absurd halts
-Ends-line (exits.Policy fault) p lines replies text number before after (Some input) (Some xs) old between new r t h count prints wrote halts = absurd halts
-Ends-line (exits.Open fault) p lines replies text number before after (Some input) (Some xs) old between new r t h count prints wrote halts = absurd halts
-Ends-line (exits.Registry fault) p lines replies text number before after (Some input) (Some xs) old between new r t h count prints wrote halts = absurd halts
-Ends-line exits.Database p lines replies text number before after (Some input) (Some xs) old between new r t h count prints wrote halts = absurd halts
-Ends-line exits.Network p lines replies text number before after (Some input) (Some xs) old between new r t h count prints wrote halts = absurd halts
-Ends-line exits.File p lines replies text number before after (Some input) (Some xs) old between new r t h count prints wrote halts = tt
-Ends-line exits.Memory p lines replies text number before after (Some input) (Some xs) old between new r t h count prints wrote halts = tt
-Ends-line (exits.Script n) p lines replies text number before after (Some input) (Some xs) old between new r t h count prints wrote halts =
+    → AreTold p lines before middle old between → HaltsAt p (strip_last 10 text) number between new exit → LeftBy exit middle after
+    → IfSome a (λ input. EndsIn p before after input old new exit)
+ends_line exit p lines text number before middle after None b old between new r t h count told halts left = tt
+ends_line exit p lines text number before middle after (Some input) None old between new r t h count told halts left = absurd r
+ends_line exits.File p lines text number before middle after (Some input) (Some xs) old between new r t h count told halts left = tt
+ends_line exits.Memory p lines text number before middle after (Some input) (Some xs) old between new r t h count told halts left = tt
+ends_line (exits.Script n) p lines text number before middle after (Some input) (Some xs) old between new r t h count told halts left =
     let some = subst (λ (t : List ℕ). 0 < length t) t h in
     let first : lines_of xs ≡ strip_last 10 text ∷ lines_of (drop_through 10 xs) =
     next_lines xs some ∙ ap (λ (t : List ℕ). strip_last 10 t ∷ lines_of (drop_through 10 xs)) (sym t) in (
-      printed replies,
-      Appends-kept old between new _ wrote halts.3,
-      record {
-        lines = lines;
-        line = strip_last 10 text;
-        others = lines_of (drop_through 10 xs);
-        split = r ∙ ap (λ ls. lines ++ ls) first;
-        number = halts.0 ∙ count;
-        some = halts.1;
-        bad = halts.2;
-        after = after;
-        replies = replies;
-        prints = prints;
-        text = refl;
-      },
+      printed told.replies,
+      Appends-kept old between new _ told.written halts.3,
+      (
+        record {
+          lines = lines;
+          line = strip_last 10 text;
+          others = lines_of (drop_through 10 xs);
+          split = r ∙ ap (λ ls. lines ++ ls) first;
+          number = halts.0 ∙ count;
+          some = halts.1;
+          bad = halts.2;
+          after = middle;
+          replies = told.replies;
+          prints = told.prints;
+          text = refl;
+        },
+        left,
+      ),
     )
+ends_line _ p lines text number before middle after (Some input) (Some xs) old between new r t h count told halts left = absurd halts
 
 -- the same, where the policy, the line and the end are known by equations
-pub Ends-halted : (p q : PolicyRules) (exit end : Exit) (lines replies : List (List ℕ)) (text line : List ℕ) (number : ℕ) (before after : Registry) (a b old between new : Option (List ℕ))
+ends_halted : (p q : PolicyRules) (exit end : Exit) (lines : List (List ℕ)) (text line : List ℕ) (number : ℕ) (before middle after : Registry) (a b old between new : Option (List ℕ))
     → q ≡ p → end ≡ exit → line ≡ strip_last 10 text → Reads lines a b → IfSome b (λ xs. text ≡ take_through 10 xs) → 0 < length text → number ≡ length lines + 1
-    → Prints p lines before after replies → Appends old between (printed replies) → HaltsAt q line number between new exit
-    → IfSome a (λ input. Ends p before input old new end)
-Ends-halted p q exit end lines replies text line number before after a b old between new same e l r t h count prints wrote halts =
-    let under : HaltsAt p line number between new exit = subst (λ (r : PolicyRules). HaltsAt r line number between new exit) same halts in
-    let at : HaltsAt p (strip_last 10 text) number between new exit = subst (λ (l : List ℕ). HaltsAt p l number between new exit) l under in
-    let ends = Ends-line exit p lines replies text number before after a b old between new r t h count prints wrote at in
-    subst (λ (x : Exit). IfSome a (λ input. Ends p before input old new x)) (sym e) ends
+    → AreTold p lines before middle old between → HaltsAt q line number between new exit → LeftBy exit middle after
+    → IfSome a (λ input. EndsIn p before after input old new end)
+ends_halted p q exit end lines text line number before middle after a b old between new same e l r t h count told halts left =
+    let here : HaltsAt p line number between new exit = subst (λ (r : PolicyRules). HaltsAt r line number between new exit) same halts in
+    let at : HaltsAt p (strip_last 10 text) number between new exit = subst (λ (l : List ℕ). HaltsAt p l number between new exit) l here in
+    let ends = ends_line exit p lines text number before middle after a b old between new r t h count told at left in
+    subst (λ (x : Exit). IfSome a (λ input. EndsIn p before after input old new x)) (sym e) ends
+
+pub Ends-halted : (p q : PolicyRules) (exit end : Exit) (lines : List (List ℕ)) (text line : List ℕ) (number : ℕ) (before : Registry) (middle after : BookState) (a b old between new : Option (List ℕ))
+    → q ≡ p → end ≡ exit → line ≡ strip_last 10 text → Reads lines a b → IfSome b (λ xs. text ≡ take_through 10 xs) → 0 < length text → number ≡ length lines + 1
+    → (middle.is_clean ≡ true → AreTold p lines before (kept middle) old between) → Follows middle after → HaltsAt q line number between new exit → LeavesAsWas middle after exit
+    → IfSome a (λ input. after.is_clean ≡ true → EndsIn p before (kept after) input old new end)
+Ends-halted p q exit end lines text line number before middle after a b old between new same e l r t h count told follows halts left =
+    under (after.is_clean ≡ true) a _ (λ clean. ends_halted p q exit end lines text line number before (kept middle) (kept after) a b old between new same e l r t h count (told (follows.clean clean)) halts (left_by exit middle after left clean))
+
+-- ---- books
+
+pub Follows-refl : (state : BookState) → Follows state state
+Follows-refl state = record { clean = λ clean. clean; counted = omega arith }
+
+pub Follows-trans : (old between new : BookState) → Follows old between → Follows between new → Follows old new
+Follows-trans old between new first next = record { clean = λ clean. first.clean (next.clean clean); counted = omega (arith, first.counted, next.counted) }

@@ -1,10 +1,10 @@
 -- How the program ends: its status, and the line of standard error.
-use Rattle.std.specs.Prelude.{ℕ, List, ◌++◌, Option, Some, None, Result, Ok, Err, codes, decimal, ⊤}
+use Rattle.std.specs.Prelude.{ℕ, Bool, true, false, List, ◌++◌, Option, Some, None, Result, Ok, Err, codes, decimal, ⊤}
 use Rattle.std.specs.declared.io.ErrorKind.{ErrorKind}
 use Rattle.std.specs.declared.io.ErrorKind.TheVariants.{OutOfMemory}
 use Rattle.policy.specs.declared.fault.PolicyFault.TheVariants as faults
 use Rattle.script.specs.declared.exit.Exit.{Exit}
-use Rattle.script.specs.declared.exit.Exit.TheVariants.{Done, Usage, Policy, Open, Registry, Database, Network, Script, File, Memory}
+use Rattle.script.specs.declared.exit.Exit.TheVariants.{Done, Refused, Usage, Policy, Open, Registry, Network, Script, File, Memory}
 
 abbrev pub status_of : Exit → ℕ
 status_of Done = 0
@@ -15,15 +15,20 @@ abbrev pub result_of : Exit → Result ⊤ Exit
 result_of Done = Ok tt
 result_of exit = Err exit
 
+abbrev pub has_line : Exit → Bool
+has_line Done = false
+has_line Refused = false
+has_line _ = true
+
 -- the line, where a fault of a policy, of a book or of a call doesn't word it
 abbrev pub text_of : Exit → Option (List ℕ)
 text_of Done = Some (codes "")
+text_of Refused = Some (codes "")
 text_of Usage = Some (codes "usage: tldreg run|serve|zone|deposit POLICY ...")
 text_of (Policy faults.Memory) = Some (codes "out of memory")
 text_of (Policy fault) = None
 text_of (Open fault) = None
 text_of (Registry fault) = None
-text_of Database = Some (codes "database: has to be :memory:")
 text_of Network = Some (codes "network fault")
 text_of (Script line) = Some (codes "script: line " ++ decimal line)
 text_of File = Some (codes "file fault")

@@ -1,3 +1,4 @@
 pub mod Lines
 pub mod Exits
 pub mod Runs
+pub mod Deposits

@@ -10,15 +10,14 @@ use Rattle.eppreplies.specs.Reply.{reply_text}
 use Rattle.policy.specs.declared.fault.PolicyFault.TheVariants as faults
 use Rattle.policy.specs.Reading.{policy_of}
 use Rattle.policy.specs.Rules.{PolicyRules}
-use Rattle.registry.specs.Execution.{IsGreetingStep, IsOrderStep, IsSettlement, IsStep, last_call}
+use Rattle.registry.specs.Execution.{IsGreetingStep, IsOrderStep, IsSettlement, IsStep, IsUnchanged, last_call}
 use Rattle.registry.specs.Opening.{opened}
 use Rattle.script.specs.declared.exit.Exit.{Exit}
 use Rattle.script.specs.declared.exit.Exit.TheVariants as exits
 use Rattle.script.specs.declared.line.Sender.{Sender}
 use Rattle.script.specs.declared.line.Sender.TheVariants.{Registrar, Operator}
 use Rattle.script.specs.Lines.{Asked, IsLine}
-use Rattle.store.specs.Book.{nothing}
-use Rattle.store.specs.Plain.{PlainBook, plain_state}
+use Rattle.store.specs.Book.{BookState, nothing}
 use Rattle.protocol.specs.declared.code.Code.{Code}
 use Rattle.protocol.specs.declared.code.Code.TheVariants.{Completed}
 use Rattle.protocol.specs.declared.command.Command.{Command}
@@ -31,8 +30,8 @@ use Rattle.protocol.specs.declared.session.InSession.TheVariants.{Hello, Ordinar
 use Rattle.model.specs.Registry.{Registry}
 
 -- the registry that a book holds
-abbrev pub kept : PlainBook → Registry
-kept b = (plain_state b).content.registry
+abbrev pub kept : BookState → Registry
+kept b = b.content.registry
 
 -- ---- one line
 
@@ -149,6 +148,11 @@ IsUnread sender payload number (exits.Script n) = (n ≡ number) × (Asks sender
 IsUnread sender payload number exits.Memory = Unit {0}
 IsUnread sender payload number _ = ⊥
 
+-- a line that isn't of the form changes nothing
+abbrev pub LeavesAsWas : BookState → BookState → Exit → Type 0
+LeavesAsWas old new (exits.Script n) = IsUnchanged old new
+LeavesAsWas old new _ = Unit {0}
+
 -- ---- the lines of a script
 
 -- a line ends with a line feed, or with the end of the input
@@ -222,6 +226,13 @@ Ends p before input old new (exits.Script n) = Writes old new (λ written. Stops
 Ends p before input old new exits.File = Unit {0}
 Ends p before input old new exits.Memory = Unit {0}
 Ends p before input old new _ = ⊥
+
+-- the same, and what a run leaves is what the lines leave that are answered
+abbrev pub EndsIn : PolicyRules → (before after : Registry) → List ℕ → Option (List ℕ) → Option (List ℕ) → Exit → Type 0
+EndsIn p before after input old new exits.Done = Writes old new (Finishes p before after input)
+EndsIn p before after input old new (exits.Script n) =
+    Writes old new (λ written. (stops : Stops p before input written n) × (after ≡ stops.after))
+EndsIn p before after input old new exit = Ends p before input old new exit
 
 -- a run that answers all its lines is done
 abbrev pub end_of : Result ⊤ Exit → Exit

@@ -2,7 +2,7 @@
 ghost use Rattle.std.specs.Prelude.{◌≡◌};
 ghost use Rattle.std.specs.IoError.{error_kind};
 ghost use Rattle.script.specs.declared.exit.Exit.TheVariants as exits;
-ghost use Rattle.script.specs.Exits.{exit_of, result_of, status_of, text_of};
+ghost use Rattle.script.specs.Exits.{exit_of, has_line, result_of, status_of, text_of};
 
 use policy::PolicyFault;
 use registry::{Fault, OpenFault};
@@ -10,10 +10,12 @@ use std::alloc::{AllocError, AllocFailed};
 use std::fmt;
 use std::io::{self, ErrorKind};
 
-/// How the program ends: each but `Done` has a line of standard error.
+/// How the program ends: each but `Done` and `Refused` has a line of standard error.
 #[derive(Drop)]
 pub enum Exit {
     Done,
+    /// An order was refused, as its answer says.
+    Refused,
     /// A wrong command line.
     Usage,
     /// The first fault of the policy file.
@@ -22,8 +24,6 @@ pub enum Exit {
     Open(OpenFault),
     /// A call of the registry gave up.
     Registry(Fault),
-    /// The database isn't `:memory:`, the one that there is.
-    Database,
     /// No port, or no connection on it.
     Network,
     /// A line of the script, counted from 1, that isn't of the form.
@@ -45,6 +45,13 @@ impl Exit {
         }
     }
 
+    /// Whether there is a line of standard error.
+    pub fn has_line(&self) -> bool
+        ensures { result ≡ has_line self.now }
+    {
+        !matches!(self, Exit::Done | Exit::Refused)
+    }
+
     /// An error, but where all was done.
     pub fn result(self) -> Result<(), Exit>
         ensures { result ≡ result_of self }
@@ -61,13 +68,12 @@ impl fmt::Display for Exit {
 
     fn fmt<W: fmt::Write>(&self, f: &mut fmt::Formatter<W>) -> fmt::Result {
         match self {
-            Exit::Done => Ok(()),
+            Exit::Done | Exit::Refused => Ok(()),
             Exit::Usage => f.write_str("usage: tldreg run|serve|zone|deposit POLICY ..."),
             Exit::Policy(PolicyFault::Memory) => f.write_str("out of memory"),
             Exit::Policy(fault) => write!(f, "policy: {fault}"),
             Exit::Open(fault) => write!(f, "{fault}"),
             Exit::Registry(fault) => write!(f, "{fault}"),
-            Exit::Database => f.write_str("database: has to be :memory:"),
             Exit::Network => f.write_str("network fault"),
             Exit::Script(line) => write!(f, "script: line {line}"),
             Exit::File => f.write_str("file fault"),

@@ -1,11 +1,14 @@
-//! Scripts: lines of commands and orders, answered one by one over a registry in memory.
+//! Scripts: lines of commands and orders, answered one by one over a registry.
 #![tactic(auto)]
 
 mod answer;
+mod deposit;
 mod exit;
 mod line;
+mod memory;
 mod script;
 
+pub use deposit::deposit_on;
 pub use exit::Exit;
 pub use line::{Line, Sender};
-pub use script::run_script;
+pub use script::{run_on, run_script};

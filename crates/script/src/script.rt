@@ -1,16 +1,18 @@
 //! The answers to a script's lines.
-ghost use Rattle.std.specs.Prelude.{◌≡◌, [], ◌++◌, codes, option_map, IfErr, IfOk, IfSome, OnOk};
+ghost use Rattle.std.specs.Prelude.{◌≡◌, [], ◌++◌, codes, option_map, true, IfErr, IfSome, OnOk};
 ghost use Rattle.std.specs.Io.BufRead.{strip_last};
 ghost use Rattle.std.specs.Io.KnownBytes.{Appends, append_known};
-ghost use Rattle.script.specs.Runs.{Ends, EndsByFile, EndsUnder, HaltsAt, TellsLine, end_of, kept, start, told_text};
+ghost use Rattle.script.specs.Runs.{Ends, EndsByFile, EndsIn, EndsUnder, HaltsAt, LeavesAsWas, TellsLine, end_of, kept, told_text};
+ghost use Rattle.store.specs.Book.{Follows};
 
 use crate::answer::answer;
 use crate::exit::Exit;
+use crate::memory::{ScriptBook, is_clean, open};
 use policy::Policy;
-use registry::{OpenFault, Registry};
+use registry::Registry;
 use std::alloc::Global;
 use std::io::{self, BufRead, BufReader, Read, Write};
-use store::PlainBook;
+use store::Book;
 
 /// What is answered where a call gave up, and where a command found no memory.
 const COMMAND_FAILED: &[u8] = b"{\"code\":2400,\"msg\":\"Command failed\",\"svTRID\":\"ANON\"}";
@@ -49,41 +51,49 @@ fn run_under<R: Read + Drop, W: Write>(
     }
 }
 
-/// A registry in memory that was never used.
-fn open(alloc: Global, policy: Policy) -> Result<Registry<PlainBook>, OpenFault>
-    ensures start { IfOk result (λ registry. kept registry.book ≡ start policy) }
-    ensures policy { IfOk result (λ registry. registry.policy ≡ policy) }
-{
-    match Registry::open(alloc, PlainBook::new(alloc), policy) {
-        Ok(registry) => Ok(registry),
-        Err((fault, _)) => Err(fault),
-    }
-}
-
-/// Answers a script over a registry.
+/// Answers a script over a registry in memory.
 fn run_over<R: Read + Drop, W: Write>(
     alloc: Global,
-    registry: Registry<PlainBook>,
+    registry: Registry<ScriptBook>,
     reader: R,
     writer: &mut W,
 ) -> Exit
-    ensures { IfSome (R.remaining reader) (λ input. Ends registry.policy (kept registry.book) input (W.contents writer.old) (W.contents writer.new) result) }
+    ensures { IfSome (R.remaining reader) (λ input. Ends registry.policy (kept (⟦<ScriptBook as Book>⟧.state registry.book)) input (W.contents writer.old) (W.contents writer.new) result) }
 {
     let mut registry = registry;
-    match answer_input(alloc, &mut registry, reader, writer) {
+    let exit = run_on(alloc, &mut registry, reader, writer);
+    is_clean(&registry);
+    exit
+}
+
+/// Answers a script line by line over a registry that is open, in which its lines are carried out. What
+/// was written before a fault stays, and so does what was carried out.
+pub fn run_on<B: Book + Drop, R: Read + Drop, W: Write>(
+    alloc: Global,
+    registry: &mut Registry<B>,
+    reader: R,
+    writer: &mut W,
+) -> Exit
+    ensures ends { IfSome (R.remaining reader) (λ input. (B.state registry.new.book).is_clean ≡ true → EndsIn registry.old.policy (kept (B.state registry.old.book)) (kept (B.state registry.new.book)) input (W.contents writer.old) (W.contents writer.new) result) }
+    ensures follows { Follows (B.state registry.old.book) (B.state registry.new.book) }
+    ensures policy { registry.new.policy ≡ registry.old.policy }
+{
+    match answer_input(alloc, registry, reader, writer) {
         Ok(()) => Exit::Done,
         Err(exit) => exit,
     }
 }
 
 /// Answers all lines of an input, and writes the replies in pieces of about `ROOM` bytes.
-fn answer_input<R: Read + Drop, W: Write>(
+fn answer_input<B: Book + Drop, R: Read + Drop, W: Write>(
     alloc: Global,
-    registry: &mut Registry<PlainBook>,
+    registry: &mut Registry<B>,
     reader: R,
     writer: &mut W,
 ) -> Result<(), Exit>
-    ensures { IfSome (R.remaining reader) (λ input. Ends registry.old.policy (kept registry.old.book) input (W.contents writer.old) (W.contents writer.new) (end_of result)) }
+    ensures ends { IfSome (R.remaining reader) (λ input. (B.state registry.new.book).is_clean ≡ true → EndsIn registry.old.policy (kept (B.state registry.old.book)) (kept (B.state registry.new.book)) input (W.contents writer.old) (W.contents writer.new) (end_of result)) }
+    ensures follows { Follows (B.state registry.old.book) (B.state registry.new.book) }
+    ensures policy { registry.new.policy ≡ registry.old.policy }
 {
     let mut reader = BufReader::new(alloc, reader)?;
     let mut pending = Vec::with_capacity(alloc, 2 * ROOM)?;
@@ -94,14 +104,16 @@ fn answer_input<R: Read + Drop, W: Write>(
 }
 
 /// Answers all lines. What isn't written yet is pending.
-fn answer_lines<R: BufRead, W: Write>(
+fn answer_lines<B: Book + Drop, R: BufRead, W: Write>(
     alloc: Global,
-    registry: &mut Registry<PlainBook>,
+    registry: &mut Registry<B>,
     reader: &mut R,
     pending: &mut Vec<u8>,
     writer: &mut W,
 ) -> Result<(), Exit>
-    ensures { IfSome (R.remaining reader.old) (λ input. Ends registry.old.policy (kept registry.old.book) input (append_known (W.contents writer.old) pending.old.items) (append_known (W.contents writer.new) pending.new.items) (end_of result)) }
+    ensures ends { IfSome (R.remaining reader.old) (λ input. (B.state registry.new.book).is_clean ≡ true → EndsIn registry.old.policy (kept (B.state registry.old.book)) (kept (B.state registry.new.book)) input (append_known (W.contents writer.old) pending.old.items) (append_known (W.contents writer.new) pending.new.items) (end_of result)) }
+    ensures follows { Follows (B.state registry.old.book) (B.state registry.new.book) }
+    ensures policy { registry.new.policy ≡ registry.old.policy }
 {
     let mut text = Vec::new(alloc);
     for number in 1..u64::MAX {
@@ -125,16 +137,18 @@ fn without_end(text: &[u8]) -> &[u8]
 }
 
 /// Prints what a line is answered, unless it is empty.
-fn print_answer<W: Write>(
+fn print_answer<B: Book + Drop, W: Write>(
     alloc: Global,
-    registry: &mut Registry<PlainBook>,
+    registry: &mut Registry<B>,
     number: u64,
     line: &[u8],
     pending: &mut Vec<u8>,
     writer: &mut W,
 ) -> Result<(), Exit>
-    ensures told { OnOk result (TellsLine registry.old.policy line.now (kept registry.old.book) (kept registry.new.book) (append_known (W.contents writer.old) pending.old.items) (append_known (W.contents writer.new) pending.new.items)) }
+    ensures told { OnOk result ((B.state registry.new.book).is_clean ≡ true → TellsLine registry.old.policy line.now (kept (B.state registry.old.book)) (kept (B.state registry.new.book)) (append_known (W.contents writer.old) pending.old.items) (append_known (W.contents writer.new) pending.new.items)) }
     ensures stopped { IfErr result (HaltsAt registry.old.policy line.now number (append_known (W.contents writer.old) pending.old.items) (append_known (W.contents writer.new) pending.new.items)) }
+    ensures left { IfErr result (LeavesAsWas (B.state registry.old.book) (B.state registry.new.book)) }
+    ensures follows { Follows (B.state registry.old.book) (B.state registry.new.book) }
     ensures policy { registry.new.policy ≡ registry.old.policy }
 {
     if line.is_empty() {

@@ -1,7 +1,6 @@
 //! Rows of lines that are looked for.
 ghost use Rattle.std.specs.Prelude.{◌≡◌, true, None, find, filter, option_map, IfOk, IfSome};
 ghost use Rattle.std.specs.Option.{option_copied};
-ghost use Rattle.accounts.specs.Lines as lines;
 ghost use Rattle.columns.specs.Numbers.{is_place};
 ghost use Rattle.sqlaccounts.specs.Finding.{IsDomainRoid, is_row_about, is_row_on, reads_as};
 ghost use Rattle.tables.specs.Line.{Line as Row};
@@ -12,7 +11,6 @@ use crate::writing::is_roid;
 use accounts::Line;
 use basis::list::Seq;
 use basis::registrar::RegistrarNo;
-use calendar::Moment;
 use columns::{counter_column, line_of_row};
 use objects::{ObjectKind, Roid};
 use rows::Number;
@@ -99,50 +97,7 @@ fn reads_as(row: &LineRow, line: &Line) -> bool
     ensures { result ≡ reads_as line.now row.now }
 {
     match line_of_row(row) {
-        Some(other) => is_line(line, &other),
+        Some(other) => line.is(&other),
         None => false,
-    }
-}
-
-/// Whether two lines are the same in all that they say.
-#[tactic(auto, unfolding(accounts::specs::Lines::is_line))]
-fn is_line(a: &Line, b: &Line) -> bool
-    ensures { result ≡ lines.is_line a.now b.now }
-{
-    is_line_for(a, b)
-        && a.cents == b.cents
-        && is_same_moment(a.started, b.started)
-        && is_same_moment(a.refunded, b.refunded)
-}
-
-/// Whether two lines are for the same.
-#[tactic(auto, unfolding(accounts::specs::Lines::is_line_for))]
-fn is_line_for(a: &Line, b: &Line) -> bool
-    ensures { result ≡ lines.is_line_for a.now b.now }
-{
-    a.kind.is(b.kind)
-        && is_same_domain(&a.roid, b)
-        && a.recorded == b.recorded
-        && a.years == b.years
-}
-
-/// Whether a line is on this domain, or on none as well.
-fn is_same_domain(roid: &Option<Roid>, line: &Line) -> bool
-    ensures { result ≡ lines.is_same_domain roid.now line.now.roid }
-{
-    match roid {
-        None => line.roid.is_none(),
-        Some(roid) => line.is_on(roid),
-    }
-}
-
-/// Whether two moments are one, or there is neither.
-fn is_same_moment(a: Option<Moment>, b: Option<Moment>) -> bool
-    ensures { result ≡ lines.is_same_number a b }
-{
-    match (a, b) {
-        (None, None) => true,
-        (Some(a), Some(b)) => a == b,
-        _ => false,
     }
 }

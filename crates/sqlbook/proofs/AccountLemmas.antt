@@ -20,10 +20,12 @@ use Rattle.sqlheld.proofs.KeptLemmas.{change-kept}
 use Rattle.sqlobjects.proofs.PutLemmas.{has-get_by}
 use Rattle.sqlobjects.specs.Objects.{contacts_of, hosts_of}
 use Rattle.sqldomains.specs.Domains.{domains_of}
+use Rattle.sqldomains.proofs.SponsorLemmas.{sponsors-kept}
 use Rattle.sqlterms.specs.Clock.{clock_of}
 use Rattle.sqlterms.specs.Meta.{meta_of}
 use Rattle.sqlterms.specs.Terms.{days_in, ids_behind, ids_in, is_unnamed, prices_in, reserved_in, terms_in, terms_made, terms_of}
-use Rattle.sqlbook.specs.Meaning.{are_right, dues_are_right, stored_of}
+use Rattle.sqldue.specs.Dues.{dues_are_right}
+use Rattle.sqlbook.specs.Meaning.{are_right, stored_of}
 
 abbrev pub key : table.Account → ℤ
 key = table.accounts.key
@@ -119,7 +121,7 @@ module _ (r : ℕ) (f : Account → Account) (old new : Content) (whole : IsWhol
   dues-kept = λ i. dues_are_right (record new { metas = it.others.metas i; contacts = it.others.contacts i; domains = it.others.domains i; hosts = it.others.hosts i; links = it.others.links i; transfers = it.others.transfers i })
 
   pub right-kept : are_right new ≡ are_right old
-  right-kept = λ i. it.sums i && (change-kept r f old new it i && dues-kept i)
+  right-kept = λ i. it.sums i && (change-kept r f old new it i && (dues-kept i && sponsors-kept old new it.others.hosts it.others.domains i))
 
   -- what is held is the registry with that account changed
   pub account-changed : stored_of new ≡ given_to r f (stored_of old)

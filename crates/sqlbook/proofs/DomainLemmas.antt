@@ -22,14 +22,16 @@ use Rattle.sqlaccounts.specs.Accounts.{accounts_of, row_of, sums_are_right}
 use Rattle.sqldomains.specs.Changes.{IsDomainPut}
 use Rattle.sqldomains.specs.Domains.{domain_of, domains_of}
 use Rattle.sqlheld.specs.Recounts.{AreAlike, IsRecounted}
+use Rattle.sqlheld.specs.Held.{helds_are_right}
 use Rattle.sqlheld.proofs.KeptLemmas.{held-kept}
 use Rattle.sqlobjects.specs.Objects.{contacts_of, hosts_of}
 use Rattle.sqlobjects.specs.Stages.{AreOthersKept}
 use Rattle.sqlobjects.proofs.PutLemmas.{bytes_is, filter-has, has-filter}
 use Rattle.sqlterms.specs.Clock.{clock_of}
 use Rattle.sqlterms.specs.Meta.{meta_of}
-use Rattle.sqlterms.specs.Terms.{days_in, ids_in, prices_in, reserved_in, terms_in, terms_made, terms_of}
-use Rattle.sqlbook.specs.Meaning.{are_right, days_of, dues_are_right, is_due_right, rules_with, stored_of}
+use Rattle.sqlterms.specs.Terms.{days_in, days_of, ids_in, prices_in, reserved_in, terms_in, terms_made, terms_of}
+use Rattle.sqldue.specs.Dues.{dues_are_right, is_due_right, rules_with}
+use Rattle.sqlbook.specs.Meaning.{stored_of}
 use Rattle.sqlbook.proofs.AccountLemmas.{ident_in, same-ids}
 use Rattle.sqlbook.proofs.ObjectLemmas.{same-put}
 
@@ -79,8 +81,8 @@ module _ (name : List ℕ) (old new : List table.Domain) (p q : table.Domain →
 -- What was there under the name had a right column, if it was there, and so has what is there now.
 module _ (name : List ℕ) (before after : Option Domain) (due : Option ℕ) (old mid new : Content) (whole : IsWhole old) (counted : IsRecounted before after old mid) (there : get (domains_of old) name ≡ before)
     (it : IsDomainPut name after due mid new)
-    (was : (days : Days) (row : table.Domain) → Has old.domains row → row.name ≡ name → is_due_right days old row ≡ true)
-    (is : (days : Days) (row : table.Domain) → Has new.domains row → row.name ≡ name → is_due_right days new row ≡ true) where
+    (was : (days : Days) → days_of old ≡ Some days → (row : table.Domain) → Has old.domains row → row.name ≡ name → is_due_right days old row ≡ true)
+    (is : (days : Days) → days_of old ≡ Some days → (row : table.Domain) → Has new.domains row → row.name ≡ name → is_due_right days new row ≡ true) where
   reads-mid : (row : table.Domain) → domain_of mid row ≡ domain_of old row
   reads-mid row = ap (λ (xs : Content). domain_of xs row) counted.rest
 
@@ -93,24 +95,28 @@ module _ (name : List ℕ) (before after : Option Domain) (due : Option ℕ) (ol
   dues-put : dues_are_right new ≡ dues_are_right old
   dues-put =
       ap (λ m. option_map_or (λ days. list_all (is_due_right days new) new.domains) (days_of (record new { metas = m })) true) metas-now
-      ∙ go (days_of old)
+      ∙ go (days_of old) refl
     where
-      one : (days : Days) → list_all (is_due_right days new) new.domains ≡ list_all (is_due_right days old) old.domains
-      one days =
+      one : (days : Days) → days_of old ≡ Some days → list_all (is_due_right days new) new.domains ≡ list_all (is_due_right days old) old.domains
+      one days here =
           same-verdict name old.domains new.domains (is_due_right days old) (is_due_right days new)
           (λ q e. it.others q e ∙ ap (filter (λ (r : table.Domain). bytes_eq r.name q)) domains-mid)
-          (λ row here now other. ap (λ d. option_map_or (λ x. int_le row.due (pos (due_at (rules_with days) x))) d true) (it.readings row (subst (λ l. Has l row) (sym domains-mid) here) now other ∙ reads-mid row))
-          (was days) (is days)
+          (λ row there now other. ap (λ d. option_map_or (λ x. int_le row.due (pos (due_at (rules_with days) x))) d true) (it.readings row (subst (λ l. Has l row) (sym domains-mid) there) now other ∙ reads-mid row))
+          (was days here) (is days here)
 
-      go : (days : Option Days) → option_map_or (λ d. list_all (is_due_right d new) new.domains) days true ≡ option_map_or (λ d. list_all (is_due_right d old) old.domains) days true
-      go None = refl
-      go (Some days) = one days
+      go : (days : Option Days) → days_of old ≡ days → option_map_or (λ d. list_all (is_due_right d new) new.domains) days true ≡ option_map_or (λ d. list_all (is_due_right d old) old.domains) days true
+      go None e = refl
+      go (Some days) e = one days e
 
   sums-put : sums_are_right new ≡ sums_are_right old
   sums-put = (λ i. sums_are_right (record new { accounts = it.accounts i; lines = it.lines i; messages = it.messages i })) ∙ counted.sums
 
-  pub domain-right : are_right new ≡ are_right old
-  domain-right = λ i. sums-put i && (held-kept old mid new before after name counted there it.domains it.accounts i && dues-put i)
+  held-put : helds_are_right new ≡ helds_are_right old
+  held-put = held-kept old mid new before after name counted there it.domains it.accounts
+
+  -- the sums, but for the sponsors of hosts
+  pub domain-right : (sums_are_right new && (helds_are_right new && dues_are_right new)) ≡ (sums_are_right old && (helds_are_right old && dues_are_right old))
+  domain-right = λ i. sums-put i && (held-put i && dues-put i)
 
   alike-ident : (o n : Option account_table.Account) → AreAlike o n → ident_in n ≡ ident_in o
   alike-ident None None e = refl

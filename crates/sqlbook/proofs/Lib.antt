@@ -1,6 +1,7 @@
-pub mod SeenLemmas
 pub mod AccountLemmas
 pub mod OpeningLemmas
 pub mod ObjectLemmas
 pub mod DomainLemmas
 pub mod AlteringLemmas
+pub mod TermLemmas
+pub mod ReplacingLemmas

@@ -18,11 +18,13 @@ use Rattle.tables.specs.Domain as table
 use Rattle.sqlaccounts.specs.Accounts.{accounts_of, sums_are_right}
 use Rattle.sqldomains.specs.Domains.{domain_of}
 use Rattle.sqldomains.proofs.FrameLemmas.{contact-leaves-domains, contact-leaves-reading, host-leaves-domains, host-leaves-reading}
+use Rattle.sqldomains.proofs.SponsorLemmas.{contact-sponsors, host-sponsors}
 use Rattle.sqlheld.proofs.KeptLemmas.{accounts-kept}
 use Rattle.sqlobjects.specs.Changes.{IsContactPut, IsHostPut, put}
 use Rattle.sqlterms.specs.Clock.{clock_of}
-use Rattle.sqlterms.specs.Terms.{terms_of}
-use Rattle.sqlbook.specs.Meaning.{are_right, days_of, dues_are_right, is_due_right, rules_with, stored_of}
+use Rattle.sqlterms.specs.Terms.{days_of, terms_of}
+use Rattle.sqldue.specs.Dues.{dues_are_right, is_due_right, rules_with}
+use Rattle.sqlbook.specs.Meaning.{are_right, stored_of}
 
 -- a put over rows is a put of a map by name
 pub same-put : {X : Type 0} (m : FinMap (slice_cmp nat_cmp) X) (name : List ℕ) (value : Option X) → put m name value ≡ store.put m name value
@@ -34,7 +36,7 @@ all-where p q [] same = refl
 all-where p q (row ∷ rows) same = λ i. same row (inl refl) i && all-where p q rows (λ r h. same r (inr h)) i
 
 -- the columns of domains are as right as they were where the rows are the same and read as before
-dues-where : (old new : Content) → new.metas ≡ old.metas → new.domains ≡ old.domains → ((row : table.Domain) → Has old.domains row → domain_of new row ≡ domain_of old row) → dues_are_right new ≡ dues_are_right old
+pub dues-where : (old new : Content) → new.metas ≡ old.metas → new.domains ≡ old.domains → ((row : table.Domain) → Has old.domains row → domain_of new row ≡ domain_of old row) → dues_are_right new ≡ dues_are_right old
 dues-where old new metas domains reads =
     ap (λ m. option_map_or (λ days. list_all (is_due_right days new) new.domains) (days_of (record new { metas = m })) true) metas
     ∙ go (days_of old)
@@ -49,7 +51,7 @@ module _ (name : List ℕ) (value : Option Contact) (old new : Content) (it : Is
   pub contact-right : are_right new ≡ are_right old
   contact-right = λ i.
       sums_are_right (record new { accounts = it.accounts i; lines = it.lines i; messages = it.messages i })
-      && (accounts-kept old new (contact-leaves-domains name value old new it) it.accounts i && dues-where old new it.metas it.domains (contact-leaves-reading name value old new it) i)
+      && (accounts-kept old new (contact-leaves-domains name value old new it) it.accounts i && (dues-where old new it.metas it.domains (contact-leaves-reading name value old new it) i && contact-sponsors name value old new it i))
 
   pub contact-changed : stored_of new ≡ contact_put name value (stored_of old)
   contact-changed = λ i. record {
@@ -67,7 +69,7 @@ module _ (name : List ℕ) (value : Option Host) (old new : Content) (it : IsHos
   pub host-right : are_right new ≡ are_right old
   host-right = λ i.
       sums_are_right (record new { accounts = it.accounts i; lines = it.lines i; messages = it.messages i })
-      && (accounts-kept old new (host-leaves-domains name value old new it) it.accounts i && dues-where old new it.metas it.domains (host-leaves-reading name value old new it) i)
+      && (accounts-kept old new (host-leaves-domains name value old new it) it.accounts i && (dues-where old new it.metas it.domains (host-leaves-reading name value old new it) i && host-sponsors name value old new it i))
 
   pub host-changed : stored_of new ≡ host_put name value (stored_of old)
   host-changed = λ i. record {

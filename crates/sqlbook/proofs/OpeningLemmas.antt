@@ -12,12 +12,14 @@ use Rattle.tables.specs.Whole.{IsWhole}
 use Rattle.sqlaccounts.specs.Accounts.{row_of}
 use Rattle.sqlaccounts.specs.Changes.{IsOpened, opened_row}
 use Rattle.sqldomains.specs.Domains.{domains_of}
+use Rattle.sqldomains.proofs.SponsorLemmas.{sponsors-kept}
 use Rattle.sqlheld.proofs.KeptLemmas.{opening-kept}
 use Rattle.sqlobjects.specs.Objects.{contacts_of, hosts_of}
 use Rattle.sqlterms.specs.Clock.{clock_of}
 use Rattle.sqlterms.specs.Meta.{meta_of}
 use Rattle.sqlterms.specs.Terms.{days_in, ids_behind, ids_in, is_unnamed, prices_in, reserved_in, terms_in, terms_made, terms_of}
-use Rattle.sqlbook.specs.Meaning.{are_right, dues_are_right, stored_of}
+use Rattle.sqldue.specs.Dues.{dues_are_right}
+use Rattle.sqlbook.specs.Meaning.{are_right, stored_of}
 use Rattle.sqlbook.proofs.AccountLemmas.{ident_in, key, not-there, same-ids}
 
 abbrev is_named : table.Account → Bool
@@ -104,7 +106,7 @@ module _ (r : ℕ) (old new : Content) (whole : IsWhole old) (after : IsWhole ne
   dues-opened = λ i. dues_are_right (record new { metas = it.others.metas i; contacts = it.others.contacts i; domains = it.others.domains i; hosts = it.others.hosts i; links = it.others.links i; transfers = it.others.transfers i })
 
   pub opening-right : are_right new ≡ are_right old
-  opening-right = λ i. it.sums i && (opening-kept old new r whole it i && dues-opened i)
+  opening-right = λ i. it.sums i && (opening-kept old new r whole it i && (dues-opened i && sponsors-kept old new it.others.hosts it.others.domains i))
 
   pub opening-changed : stored_of new ≡ account_opened r (stored_of old)
   opening-changed = λ i. record {

@@ -1,13 +1,16 @@
 //! Accounts, changed in a book over rows. One that has no row is refused.
 ghost use Rattle.std.specs.Prelude.{◌≡◌, true};
 ghost use Rattle.store.specs.Tables as tables;
+ghost use Rattle.sqlbook.specs.Counting.{counts_of};
 ghost use Rattle.sqlbook.specs.Meaning.{are_right, stored_of};
 ghost use Rattle.sqlbook.specs.Seen.{Alters};
 
 use accounts::{Line, Message};
 use basis::registrar::RegistrarNo;
+use sqlaccounts::Counters as Counts;
 use sqlite::Alter;
 use std::alloc::Global;
+use store::Counters;
 use tables::RowStore;
 use transactions::BookFault;
 
@@ -24,6 +27,31 @@ pub fn open_account<S: Alter>(
     sqlaccounts::open_account(store, alloc, registrar)?;
     store.whole();
     Ok(())
+}
+
+/// Gives a registrar's account other counters.
+pub fn set_counters<S: Alter>(
+    store: &mut RowStore<S>,
+    registrar: RegistrarNo,
+    counters: Counters,
+) -> Result<(), BookFault>
+    requires { store.old.is_open ≡ true }
+    ensures { Alters result stored_of are_right (tables.counters_set registrar counters (stored_of store.old.content)) store.old store.new }
+{
+    store.whole();
+    sqlaccounts::set_counters(store, registrar, counts_of(counters))?;
+    store.whole();
+    Ok(())
+}
+
+fn counts_of(counters: Counters) -> Counts
+    ensures { result ≡ counts_of counters }
+{
+    Counts {
+        commands: counters.commands,
+        messages: counters.messages,
+        serial: counters.serial,
+    }
 }
 
 /// Adds a line to a registrar's account.

@@ -2,10 +2,17 @@
 //! as they were. The book itself isn't here yet.
 #![tactic(auto)]
 
+mod asking;
+mod book;
 mod changed_accounts;
+mod changed_domains;
 mod changed_objects;
+mod changed_terms;
+mod origin;
+mod records;
 #[cfg(test)]
 mod tests;
 
-pub use changed_accounts::{add_line, open_account, put_message, take_line, take_message};
-pub use changed_objects::{drop_contact, drop_host, put_contact, put_host};
+pub use book::{SqlBook, adopt, in_memory};
+pub use origin::{Found, Made, Origin};
+pub use records::SqlRecords;

@@ -1,9 +1,7 @@
 //! Each public call once, over tables in memory.
 
-use crate::{
-    add_line, drop_contact, drop_host, open_account, put_contact, put_host, put_message, take_line,
-    take_message,
-};
+use crate::changed_accounts::{add_line, open_account, put_message, take_line, take_message};
+use crate::changed_objects::{drop_contact, drop_host, put_contact, put_host};
 use accounts::{LapseNotice, Line, LineKind, Message, Origin, Subject};
 use basis::list::Seq;
 use basis::registrar::RegistrarNo;

@@ -11,8 +11,9 @@ use Rattle.objects.specs.declared.domain.Domain.{Domain}
 use Rattle.objects.specs.declared.roid.ObjectKind.TheVariants as kinds
 use Rattle.columns.specs.Contacts.{contact_in}
 use Rattle.columns.specs.Domains.{IsDomain, deletion_columns, domain_in, registration_of, row_with}
-use Rattle.columns.specs.Numbers.{moment_column}
-use Rattle.columns.specs.Registrations.{registration_columns}
+use Rattle.columns.specs.Numbers.{maybe_registrar_column, moment_column, registrar_column}
+use Rattle.columns.specs.Registrations.{columns_with, registration_columns}
+use Rattle.columns.specs.Roids.{roid_columns}
 use Rattle.columns.specs.Steps.{◌>>=◌}
 use Rattle.columns.proofs.DomainLemmas.{domain_back}
 use Rattle.columns.proofs.ReadLemmas.{same_some, step}
@@ -29,7 +30,7 @@ use Rattle.sqlobjects.specs.Objects.{contact_entry, contact_of, contacts_of, hos
 use Rattle.sqlobjects.specs.Stages.{AreOthersKept, IsPlaced}
 use Rattle.sqlobjects.proofs.PutLemmas.{apart, drop-stands, found-added, map_of, none-stands, others-removed, placed-added, placed-put, none-removed, put-stands, row_there, filter-has}
 use Rattle.sqldomains.specs.declared.domain_rows.Beside.{Beside}
-use Rattle.sqldomains.specs.Changes.{IsDomainPut}
+use Rattle.sqldomains.specs.Changes.{IsDomainPut, sponsor_in}
 use Rattle.sqldomains.specs.Domains.{domain_of, domains_of, links_of, registrant_alone, with_links}
 use Rattle.sqldomains.specs.Stages.{AreLinksCleared, AreLinksPut, AreOtherPartsKept, IsDomainAdded, IsDomainDropped, IsDomainPlaced, IsDomainPlacedAt, IsDomainRemoved, IsTransferCleared, IsTransferPut, row_beside}
 use Rattle.sqldomains.proofs.LinkRowLemmas.{links-alike}
@@ -63,8 +64,9 @@ module _ (xs ys : Content) (id : ℤ) (kept : AreOtherPartsKept id xs ys) where
   assembled : (name : List ℕ) (value : Option Domain) (due : Option ℕ) → domains_of ys ≡ put (domains_of xs) name value → AreOthersKept name_of name xs.domains ys.domains
       → ((r : table.Domain) → Has xs.domains r → Has ys.domains r → bytes_eq r.name name ≡ false → int_eq id r.id ≡ false)
       → ((r : table.Domain) → Has ys.domains r → r.name ≡ name → Some r.due ≡ option_map moment_column due)
+      → ((r : table.Domain) → Has ys.domains r → r.name ≡ name → Some r.sponsor ≡ maybe_registrar_column (sponsor_in value))
       → IsWhole xs → IsWhole ys → IsDomainPut name value due xs ys
-  assembled name value due stands others other_number due_then whole after = record {
+  assembled name value due stands others other_number due_then sponsor_then whole after = record {
     domains = stands;
     contacts = contacts-same;
     hosts = ap hosts_of kept.rest;
@@ -78,6 +80,7 @@ module _ (xs ys : Content) (id : ℤ) (kept : AreOtherPartsKept id xs ys) where
     others = others;
     readings = λ r was now e. reads-alike r (other_number r was now e);
     due_is = due_then;
+    sponsor_is = sponsor_then;
     whole = (whole, after);
   }
 
@@ -125,18 +128,21 @@ module _ (xs ys : Content) (name : List ℕ) (whole : IsWhole xs) (after : IsWho
         others = λ q e. refl;
         readings = λ r was now e. refl;
         due_is = λ r there is. absurd (nobody name xs.domains none r there is);
+        sponsor_is = λ r there is. absurd (nobody name xs.domains none r there is);
         whole = (whole, whole);
       }
 
   removed : (row : table.Domain) → filter (table.domain_with_name name) xs.domains ≡ row ∷ [] → IsDomainRemoved row.id xs ys → IsDomainPut name None None xs ys
   removed row found gone =
       let at = row_there key name_of name xs.domains row found in
+      let none_now : filter (table.domain_with_name name) ys.domains ≡ [] = ap (filter (table.domain_with_name name)) gone.domains ∙ none-removed key name_of name xs.domains row found whole.keyed.domains whole.named.domains in
       assembled xs ys row.id gone.kept name None None
       (ap (map_of name_of (domain_of ys)) gone.domains
       ∙ drop-stands key name_of (domain_of xs) (domain_of ys) name row xs.domains found whole.keyed.domains whole.named.domains (λ r was e. reads-alike xs ys row.id gone.kept r e))
       (λ q e. ap (filter (table.domain_with_name q)) gone.domains ∙ others-removed key name_of name xs.domains row found whole.keyed.domains q e)
       (λ r was now e. apart key name_of xs.domains row r name whole.keyed.domains at.0 was at.1 e)
-      (λ r there is. absurd (nobody name ys.domains (ap (filter (table.domain_with_name name)) gone.domains ∙ none-removed key name_of name xs.domains row found whole.keyed.domains whole.named.domains) r there is))
+      (λ r there is. absurd (nobody name ys.domains none_now r there is))
+      (λ r there is. absurd (nobody name ys.domains none_now r there is))
       whole after
 
   pub dropped : (row : Option table.Domain) → filter (table.domain_with_name name) xs.domains ≡ rows_of row → IsDomainDropped row xs ys → IsDomainPut name None None xs ys
@@ -150,17 +156,21 @@ record IsWritten (id : ℤ) (beside : Beside) (d : Domain) (row : table.Domain) 
   name : row.name ≡ d.name
   registrant : row.registrant ≡ beside.registrant
   due : row.due ≡ moment_column beside.due
+  sponsor : row.sponsor ≡ registrar_column d.sponsor
   again : (k : ℤ) → row_beside k beside d ≡ Some (record row { id = k })
 
 written : (id : ℤ) (beside : Beside) (d : Domain) (row : table.Domain) → row_beside id beside d ≡ Some row → IsWritten id beside d row
 written id beside d row e =
     let columns = step (registration_columns kinds.Domain (registration_of d)) (λ x. Some (row_with id beside.registrant beside.due d x (deletion_columns d.deletion))) row e in
+    let roid = step (roid_columns kinds.Domain d.roid) (λ x. Some (columns_with (registration_of d) x)) columns.given columns.is in
+    let registered : columns_with (registration_of d) roid.given ≡ columns.given = same_some (columns_with (registration_of d) roid.given) columns.given roid.rest in
     let same : row_with id beside.registrant beside.due d columns.given (deletion_columns d.deletion) ≡ row = same_some _ row columns.rest in
     record {
       number = sym (ap (λ (r : table.Domain). r.id) same);
       name = sym (ap (λ (r : table.Domain). r.name) same);
       registrant = sym (ap (λ (r : table.Domain). r.registrant) same);
       due = sym (ap (λ (r : table.Domain). r.due) same);
+      sponsor = sym ((λ i. (registered i).sponsor) ∙ ap (λ (r : table.Domain). r.sponsor) same);
       again = λ k. (λ i. columns.is i >>= (λ x. Some (row_with k beside.registrant beside.due d x (deletion_columns d.deletion)))) ∙ ap (λ (r : table.Domain). Some (record r { id = k })) same;
     }
 
@@ -238,4 +248,5 @@ module _ (xs m b ys : Content) (beside : Beside) (d : Domain) (row : table.Domai
       rows_now.others
       (λ r was now e. apart key name_of ys.domains row r d.name after.keyed.domains rows_now.there now rows_now.named e)
       (λ r there same. ap Some (ap (λ (x : table.Domain). x.due) (after.named.domains r row there rows_now.there (same ∙ sym rows_now.named)) ∙ (written row.id beside d row placed.is).due))
+      (λ r there same. ap Some (ap (λ (x : table.Domain). x.sponsor) (after.named.domains r row there rows_now.there (same ∙ sym rows_now.named)) ∙ (written row.id beside d row placed.is).sponsor))
       whole after

@@ -1,8 +1,9 @@
 -- Domains are as they were where a contact or a host is put or dropped: what refers to one leads to the
 -- same name as before.
-use Rattle.std.proofs.Common.{◌≡◌, inl, inr, ℕ, ℤ, List, [], ◌∷◌, filter, Option, Some, None, option_map, refl, sym, ap, subst, ◌∙◌}
+use Rattle.std.proofs.Common.{◌≡◌, inl, inr, ℕ, ℤ, Bool, true, false, cond, int_eq, List, [], ◌∷◌, map, filter, Option, Some, None, option_map, refl, sym, ap, subst, ◌∙◌}
 use Rattle.std.specs.FinMap.{from_entries}
 use Rattle.std.specs.List.{cons_option, filter_map}
+use Rattle.sqlite_keyed.specs.Keyed.{get_by}
 use Rattle.sqlite_rules.specs.Lists.{Has}
 use Rattle.objects.specs.declared.contact.Contact.{Contact}
 use Rattle.objects.specs.declared.domain.Links.{Links}
@@ -11,7 +12,9 @@ use Rattle.columns.specs.declared.code.Role.{Role}
 use Rattle.columns.specs.declared.code.Role.TheVariants as roles
 use Rattle.columns.specs.Codes.{role_in}
 use Rattle.columns.specs.Domains.{domain_in}
+use Rattle.columns.specs.Numbers.{maybe_registrar_column}
 use Rattle.columns.specs.Steps.{◌>>=◌}
+use Rattle.columns.specs.Transfers.{is_same}
 use Rattle.tables.specs.Contact as contact_table
 use Rattle.tables.specs.Content.{Content}
 use Rattle.tables.specs.Domain as table
@@ -22,6 +25,7 @@ use Rattle.tables.specs.Whole.{IsWhole, LeadsTo}
 use Rattle.meanings.specs.Read.{named}
 use Rattle.sqlobjects.specs.Changes.{IsContactPut, IsHostPut, contact_name, host_name}
 use Rattle.sqlobjects.specs.Objects.{last_transfer}
+use Rattle.sqlobjects.specs.Sponsors.{IsFollowed, domain_sponsor, follows, with_sponsor}
 use Rattle.sqlobjects.proofs.PutLemmas.{has-filter}
 use Rattle.sqldomains.specs.Domains.{domain_entry, domain_of, domains_of, linked_name, registrant_alone, with_links, with_name}
 use Rattle.sqldomains.proofs.LinkRowLemmas.{get_by-has}
@@ -125,3 +129,49 @@ module _ (name : List ℕ) (value : Option Host) (xs ys : Content) (put : IsHost
 
   pub host-leaves-domains : domains_of ys ≡ domains_of xs
   host-leaves-domains = domains-same xs ys put.links put.domains host-transfers host-registrants host-names
+
+-- ---- hosts that follow a domain
+
+abbrev name_in : Option host_table.Host → Option (List ℕ)
+name_in o = option_map (λ (r : host_table.Host). r.name) o
+
+-- the rows have the numbers and names that they had
+names-kept : (above : List ℕ) (sponsor : Option ℤ) (rows : List host_table.Host) (id : ℤ)
+    → name_in (get_by host_table.hosts.key (map (with_sponsor above sponsor) rows) id) ≡ name_in (get_by host_table.hosts.key rows id)
+names-kept above sponsor [] id = refl
+names-kept above sponsor (row ∷ rows) id = go (follows above row) (names-kept above sponsor rows id)
+  where
+    at : (b : Bool) (r : host_table.Host) (o p : Option host_table.Host) → r.name ≡ row.name → name_in o ≡ name_in p → name_in (cond b (Some r) o) ≡ name_in (cond b (Some row) p)
+    at true r o p same more = ap Some same
+    at false r o p same more = more
+
+    go : (b : Bool) → name_in (get_by host_table.hosts.key (map (with_sponsor above sponsor) rows) id) ≡ name_in (get_by host_table.hosts.key rows id)
+        → name_in (cond (int_eq (cond b (record row { sponsor = sponsor }) row).id id) (Some (cond b (record row { sponsor = sponsor }) row)) (get_by host_table.hosts.key (map (with_sponsor above sponsor) rows) id))
+        ≡ name_in (cond (int_eq row.id id) (Some row) (get_by host_table.hosts.key rows id))
+    go true more = at (int_eq row.id id) (record row { sponsor = sponsor }) _ _ refl more
+    go false more = at (int_eq row.id id) row _ _ refl more
+
+module _ (above : List ℕ) (after : Option ℕ) (xs ys : Content) (it : IsFollowed above after xs ys) where
+  follow-names : (id : ℤ) → host_name ys id ≡ host_name xs id
+  follow-names id = go (is_same (domain_sponsor xs above) (maybe_registrar_column after)) refl
+    where
+      go : (b : Bool) → is_same (domain_sponsor xs above) (maybe_registrar_column after) ≡ b → host_name ys id ≡ host_name xs id
+      go true e = ap (λ rows. name_in (get_by host_table.hosts.key rows id)) (it.stays e)
+      go false e =
+          ap (λ rows. name_in (get_by host_table.hosts.key rows id)) (it.moves e).has
+          ∙ names-kept above (maybe_registrar_column after) xs.hosts id
+
+  follow-linked : (row : Link) → Has xs.links row → (role : Role) → linked_name ys role row.contact row.host ≡ linked_name xs role row.contact row.host
+  follow-linked row there role = name-where xs ys role row.contact row.host (λ id is. ap (λ (x : Content). contact_name x id) it.rest) (λ id is. follow-names id)
+
+  follow-registrants : (row : table.Domain) → Has xs.domains row → contact_name ys row.registrant ≡ contact_name xs row.registrant
+  follow-registrants row there = ap (λ (x : Content). contact_name x row.registrant) it.rest
+
+  follow-transfers : (id : ℤ) → filter (transfer_with_domain id) ys.transfers ≡ filter (transfer_with_domain id) xs.transfers
+  follow-transfers id = ap (λ (x : Content). filter (transfer_with_domain id) x.transfers) it.rest
+
+  pub follow-leaves-reading : (row : table.Domain) → Has xs.domains row → domain_of ys row ≡ domain_of xs row
+  follow-leaves-reading = reads-same xs ys (ap (λ (x : Content). x.links) it.rest) (ap (λ (x : Content). x.domains) it.rest) follow-transfers follow-registrants follow-linked
+
+  pub follow-leaves-domains : domains_of ys ≡ domains_of xs
+  follow-leaves-domains = domains-same xs ys (ap (λ (x : Content). x.links) it.rest) (ap (λ (x : Content). x.domains) it.rest) follow-transfers follow-registrants follow-linked

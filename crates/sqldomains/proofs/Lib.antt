@@ -8,3 +8,4 @@ pub mod DomainLemmas
 pub mod FrameLemmas
 pub mod NameOrderLemmas
 pub mod BelowLemmas
+pub mod SponsorLemmas

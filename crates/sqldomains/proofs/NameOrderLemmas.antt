@@ -168,7 +168,7 @@ by-rows {P} {X} read rows names m q e stands leads = picked m q names (λ n. her
 
 -- ---- domains
 
-name-read : (xs : Content) (row : table.Domain) (d : Domain) → domain_of xs row ≡ Some d → d.name ≡ row.name
+pub name-read : (xs : Content) (row : table.Domain) (d : Domain) → domain_of xs row ≡ Some d → d.name ≡ row.name
 name-read xs row d e =
     let links = step (links_of xs row) _ d e in
     let transfer = step (last_transfer (filter (transfer_with_domain row.id) xs.transfers)) _ d links.rest in
@@ -178,12 +178,12 @@ name-read xs row d e =
     let x = step (deletion_in row.deleted row.restore_requested) _ d s.rest in
     sym (ap (λ (z : Domain). z.name) (same_some _ d x.rest))
 
-stands-there : (xs : Content) (row : table.Domain) (d : Domain) → IsWhole xs → Has xs.domains row → domain_of xs row ≡ Some d → get (domains_of xs) row.name ≡ Some d
+pub stands-there : (xs : Content) (row : table.Domain) (d : Domain) → IsWhole xs → Has xs.domains row → domain_of xs row ≡ Some d → get (domains_of xs) row.name ≡ Some d
 stands-there xs row d whole there reads =
     sym (domain-named xs row.name) ∙ ap (first_read (domain_of xs)) (only_named table.domains.key (λ (r : table.Domain). r.name) xs.domains row whole.keyed.domains whole.named.domains there) ∙ ap (λ o. or_else o None) reads
 
 -- the row under a name
-row-under : (xs : Content) (n : List ℕ) (d : Domain) → get (domains_of xs) n ≡ Some d → (row : table.Domain) × Has xs.domains row × (domain_of xs row ≡ Some d) × (row.name ≡ n)
+pub row-under : (xs : Content) (n : List ℕ) (d : Domain) → get (domains_of xs) n ≡ Some d → (row : table.Domain) × Has xs.domains row × (domain_of xs row ≡ Some d) × (row.name ≡ n)
 row-under xs n d e =
     let it = first-has (domain_of xs) (filter (table.domain_with_name n) xs.domains) d (domain-named xs n ∙ e) in
     let there = has-filter (table.domain_with_name n) xs.domains it.0 it.1 in

@@ -46,7 +46,7 @@ fn first_domain<S: Alter>(
 }
 
 /// The domain of a row.
-pub(crate) fn domain_of<S: Alter>(
+pub fn domain_of<S: Alter>(
     store: &mut RowStore<S>,
     alloc: Global,
     row: DomainRow,

@@ -18,6 +18,6 @@ mod transfers;
 
 pub use below::hosts_below;
 pub use domain_changes::{drop_domain, put_domain};
-pub use domains::domain;
+pub use domains::{domain, domain_of};
 pub use linked::{is_linked_contact, is_linked_host};
 pub use names_in_order::{domain_names, domains_naming};

@@ -8,9 +8,10 @@ use basis::list::Seq;
 use basis::registrar::RegistrarNo;
 use basis::text::Text;
 use calendar::Moment;
+use meanings::only;
 use objects::{Contact, Domain, Host, Links, ObjectKind, Postal, Roid, Transfer, TransferState};
 use sqlite::MemStore;
-use sqlobjects::{put_contact, put_host};
+use sqlobjects::{follow, put_contact, put_host};
 use std::alloc::{AllocError, Global};
 use tables::{AccountRow, RowStore, bytes_of_balance};
 use transactions::BookFault;
@@ -102,6 +103,15 @@ fn add_contact(store: &mut RowStore<MemStore>, alloc: Global, name: &str) -> Res
 }
 
 fn add_host(store: &mut RowStore<MemStore>, alloc: Global, name: &str) -> Result<(), BookFault> {
+    add_sponsored_host(store, alloc, name, Some(RegistrarNo::of_place(1)))
+}
+
+fn add_sponsored_host(
+    store: &mut RowStore<MemStore>,
+    alloc: Global,
+    name: &str,
+    external_sponsor: Option<RegistrarNo>,
+) -> Result<(), BookFault> {
     if !store.is_open() {
         return Err(BookFault::Store);
     }
@@ -112,7 +122,7 @@ fn add_host(store: &mut RowStore<MemStore>, alloc: Global, name: &str) -> Result
         Host {
             name,
             roid: roid(ObjectKind::Host),
-            external_sponsor: Some(RegistrarNo::of_place(1)),
+            external_sponsor,
             created: Moment::first(),
             updated: None,
             statuses: Seq::new(alloc),
@@ -277,5 +287,57 @@ fn lists_names_in_their_order(rt: HostRuntime) -> Result<(), BookFault> {
     assert!(rt; are(by_host.as_slice(), &["foo.test"]));
     let below = hosts_below(&mut store, alloc, &foo)?;
     assert!(rt; are(below.as_slice(), &["ns1.foo.test", "ns2.foo.test"]));
+    Ok(())
+}
+
+/// The domain of this name is this registrar's, and the hosts below it follow; or there is none any more.
+fn sponsored(
+    store: &mut RowStore<MemStore>,
+    alloc: Global,
+    name: &Text,
+    registrar: Option<RegistrarNo>,
+) -> Result<(), BookFault> {
+    if !store.is_open() {
+        return Err(BookFault::Store);
+    }
+    follow(store, name, registrar)?;
+    let Some(registrar) = registrar else {
+        return drop_domain(store, name.clone()?);
+    };
+    let mut domain = domain_with(alloc, name.clone()?, links(alloc, &[], &[])?, None);
+    domain.sponsor = registrar;
+    let name = name.clone()?;
+    put_domain(store, alloc, name, domain, Moment::first())
+}
+
+/// The account in the column `sponsor` of the host of this name.
+fn sponsor_of(store: &mut RowStore<MemStore>, name: &str) -> Result<Option<i64>, BookFault> {
+    match only(store.hosts_by_name(name)?)? {
+        None => Err(BookFault::Store),
+        Some(row) => Ok(row.sponsor),
+    }
+}
+
+#[test]
+fn hosts_follow_their_domain(rt: HostRuntime) -> Result<(), BookFault> {
+    let alloc = rt.alloc();
+    let mut store = opened(alloc)?;
+    let name = Text::from_str(alloc, "foo.test")?;
+    let (first, second) = (
+        Some(RegistrarNo::of_place(1)),
+        Some(RegistrarNo::of_place(2)),
+    );
+    add_sponsored_host(&mut store, alloc, "ns1.foo.test", None)?;
+    add_sponsored_host(&mut store, alloc, "ns2.foo.test", first)?;
+    add_sponsored_host(&mut store, alloc, "ns1.bar.test", None)?;
+    assert_eq!(rt; sponsor_of(&mut store, "ns1.foo.test")?, None);
+    sponsored(&mut store, alloc, &name, first)?;
+    assert_eq!(rt; sponsor_of(&mut store, "ns1.foo.test")?, Some(1));
+    sponsored(&mut store, alloc, &name, second)?;
+    assert_eq!(rt; sponsor_of(&mut store, "ns1.foo.test")?, Some(2));
+    assert_eq!(rt; sponsor_of(&mut store, "ns2.foo.test")?, Some(1));
+    assert_eq!(rt; sponsor_of(&mut store, "ns1.bar.test")?, None);
+    sponsored(&mut store, alloc, &name, None)?;
+    assert_eq!(rt; sponsor_of(&mut store, "ns1.foo.test")?, None);
     Ok(())
 }

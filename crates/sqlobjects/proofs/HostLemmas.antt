@@ -1,8 +1,9 @@
 -- What rows of hosts mean after a change.
-use Rattle.std.proofs.Common.{◌≡◌, ℕ, ℤ, pos, false, List, [], ◌∷◌, ◌++◌, filter, Option, Some, None, refl, sym, ap, subst, ◌∙◌, int_eq}
+use Rattle.std.proofs.Common.{◌≡◌, ℕ, ℤ, pos, true, false, List, [], ◌∷◌, ◌++◌, filter, Option, Some, None, refl, sym, ap, subst, ◌∙◌, int_eq}
 use Rattle.rows.specs.Layouts.{appended}
 use Rattle.sqlite_keyed.specs.Keyed.{insert_by, next_key}
 use Rattle.sqlite_keyed.specs.Lists.{delete_where}
+use Rattle.sqlite_rules.specs.Lists.{Has}
 use Rattle.objects.specs.declared.host.Host.{Host}
 use Rattle.objects.specs.declared.roid.ObjectKind.TheVariants as kinds
 use Rattle.columns.specs.Hosts.{IsHost, host_in, row_with}
@@ -16,8 +17,10 @@ use Rattle.tables.specs.Whole.{IsWhole}
 use Rattle.meanings.specs.Read.{rows_of}
 use Rattle.sqlobjects.specs.Changes.{IsHostPut, put}
 use Rattle.sqlobjects.specs.Objects.{addresses_of, contacts_of, host_of, hosts_of}
+use Rattle.sqlobjects.specs.Sponsors.{is_sponsor_right, sponsor_of}
 use Rattle.sqlobjects.specs.Stages.{AreAddressesPut, AreOtherAddressesKept, AreOthersKept, IsHostAdded, IsHostDropped, IsHostPlaced, IsHostPlacedAt, IsHostRemoved, IsHostRow, IsPlaced}
-use Rattle.sqlobjects.proofs.PutLemmas.{drop-stands, found-added, map_of, names_kept, none-stands, others-removed, placed-added, placed-put, put-stands}
+use Rattle.sqlobjects.proofs.SponsorLemmas.{nobody, same-from, sponsor-kept}
+use Rattle.sqlobjects.proofs.PutLemmas.{drop-stands, found-added, map_of, names_kept, none-removed, none-stands, others-removed, placed-added, placed-put, put-stands}
 
 abbrev name_of : host_table.Host → List ℕ
 name_of row = row.name
@@ -31,8 +34,9 @@ reads-alike xs ys id r kept other = ap (host_in r) (kept.hosts r.id other)
 
 -- what else a change of hosts leaves
 assembled : (xs ys : Content) (name : List ℕ) (value : Option Host) (id : ℤ) → hosts_of ys ≡ put (hosts_of xs) name value → AreOthersKept name_of name xs.hosts ys.hosts
-    → AreOtherAddressesKept id xs (record ys { hosts = xs.hosts }) → IsWhole xs → IsWhole ys → IsHostPut name value xs ys
-assembled xs ys name value id stands others kept whole after = record {
+    → AreOtherAddressesKept id xs (record ys { hosts = xs.hosts }) → ((row : host_table.Host) → Has xs.hosts row → row.name ≡ name → is_sponsor_right xs row ≡ true)
+    → ((row : host_table.Host) → Has ys.hosts row → row.name ≡ name → is_sponsor_right ys row ≡ true) → IsWhole xs → IsWhole ys → IsHostPut name value xs ys
+assembled xs ys name value id stands others kept was is whole after = record {
   hosts = stands;
   contacts = ap contacts_of kept.rest;
   metas = ap (λ (x : Content). x.metas) kept.rest;
@@ -43,6 +47,9 @@ assembled xs ys name value id stands others kept whole after = record {
   lines = ap (λ (x : Content). x.lines) kept.rest;
   messages = ap (λ (x : Content). x.messages) kept.rest;
   transfers = ap (λ (x : Content). x.transfers) kept.rest;
+  others = others;
+  sponsor_was = was;
+  sponsor_is = is;
   names = names_kept key name_of name xs.hosts ys.hosts whole.keyed.hosts after.keyed.hosts others;
   whole = (whole, after);
 }
@@ -59,12 +66,12 @@ removed-so id number xs m same clear =
       hosts = ap (λ (x : Content). delete_where (host_table.host_with_id number) x.hosts) clear.others.rest;
     })
 
-module _ (xs ys : Content) (name : List ℕ) (whole : IsWhole xs) (after : IsWhole ys) where
+module _ (xs ys : Content) (name : List ℕ) (whole : IsWhole xs) (after : IsWhole ys) (was : (row : host_table.Host) → Has xs.hosts row → row.name ≡ name → is_sponsor_right xs row ≡ true) where
   none_there : filter (host_table.host_with_name name) xs.hosts ≡ [] → ys ≡ xs → IsHostPut name None xs ys
   none_there none same =
       let as_it_is : AreOtherAddressesKept (pos 0) xs xs = record { hosts = λ other e. refl; rest = refl } in
       subst (λ z. IsWhole z → IsHostPut name None xs z) (sym same)
-      (λ still. assembled xs xs name None (pos 0) (none-stands name_of (host_of xs) name xs.hosts none) (λ q e. refl) as_it_is whole still) after
+      (λ still. assembled xs xs name None (pos 0) (none-stands name_of (host_of xs) name xs.hosts none) (λ q e. refl) as_it_is was (λ row there is. absurd (nobody name xs.hosts none row there is)) whole still) after
 
   removed : (row : host_table.Host) → filter (host_table.host_with_name name) xs.hosts ≡ row ∷ [] → IsHostRemoved row.id xs ys → IsHostPut name None xs ys
   removed row found gone = assembled xs ys name None row.id
@@ -72,6 +79,8 @@ module _ (xs ys : Content) (name : List ℕ) (whole : IsWhole xs) (after : IsWho
       ∙ drop-stands key name_of (host_of xs) (host_of ys) name row xs.hosts found whole.keyed.hosts whole.named.hosts (λ r was e. reads-alike xs ys row.id r gone.cleared.others e))
       (λ q e. ap (filter (host_table.host_with_name q)) gone.hosts ∙ others-removed key name_of name xs.hosts row found whole.keyed.hosts q e)
       gone.cleared.others
+      was
+      (λ r there is. absurd (nobody name ys.hosts (ap (filter (host_table.host_with_name name)) gone.hosts ∙ none-removed key name_of name xs.hosts row found whole.keyed.hosts whole.named.hosts) r there is))
       whole after
 
   pub dropped : (row : Option host_table.Host) → filter (host_table.host_with_name name) xs.hosts ≡ rows_of row → IsHostDropped row xs ys → IsHostPut name None xs ys
@@ -80,44 +89,44 @@ module _ (xs ys : Content) (name : List ℕ) (whole : IsWhole xs) (after : IsWho
 
 -- ---- written into a row
 
-record IsWritten (id : ℤ) (h : Host) (row : host_table.Host) : Type 0 where
+record IsWritten (xs : Content) (id : ℤ) (h : Host) (row : host_table.Host) : Type 0 where
   number : row.id ≡ id
   name : row.name ≡ h.name
-  again : (k : ℤ) → IsHostRow k h (record row { id = k })
+  again : (k : ℤ) → IsHostRow xs k h (record row { id = k })
 
-written : (id : ℤ) (h : Host) (row : host_table.Host) → IsHostRow id h row → IsWritten id h row
-written id h row e =
-    let roid = step (roid_columns kinds.Host h.roid) (λ x. Some (row_with id e.sponsor h x)) row e.is in
-    let same : row_with id e.sponsor h roid.given ≡ row = same_some (row_with id e.sponsor h roid.given) row roid.rest in
+written : (xs : Content) (id : ℤ) (h : Host) (row : host_table.Host) → IsHostRow xs id h row → IsWritten xs id h row
+written xs id h row e =
+    let roid = step (roid_columns kinds.Host h.roid) (λ x. Some (row_with id row.sponsor h x)) row e.is in
+    let same : row_with id row.sponsor h roid.given ≡ row = same_some (row_with id row.sponsor h roid.given) row roid.rest in
     record {
       number = sym (ap (λ (r : host_table.Host). r.id) same);
       name = sym (ap (λ (r : host_table.Host). r.name) same);
       again = λ k. record {
+        is = (λ i. roid.is i >>= (λ x. Some (row_with k row.sponsor h x))) ∙ ap (λ (r : host_table.Host). Some (record r { id = k })) same;
         sponsor = e.sponsor;
-        is = (λ i. roid.is i >>= (λ x. Some (row_with k e.sponsor h x))) ∙ ap (λ (r : host_table.Host). Some (record r { id = k })) same;
       };
     }
 
 -- into the row of its name
-pub put-placed : (xs : Content) (h : Host) (found row : host_table.Host) → IsHostRow found.id h row
+pub put-placed : (xs : Content) (h : Host) (found row : host_table.Host) → IsHostRow xs found.id h row
     → IsHostPlacedAt (Some found) h row xs (hosts_to (λ rows. insert_by host_table.hosts.key rows row) xs)
 put-placed xs h found row e whole there =
-    let w = written found.id h row e in
+    let w = written xs found.id h row e in
     record {
-      is = subst (λ k. IsHostRow k h row) (sym w.number) e;
+      is = subst (λ k. IsHostRow xs k h row) (sym w.number) e;
       rows = placed-put key name_of h.name xs.hosts found there whole.keyed.hosts row w.number w.name;
       rest = refl;
     }
 
 -- under a number of its own, after the others
-pub added : (xs : Content) (h : Host) (row : host_table.Host) → IsHostRow (pos 0) h row → IsHostAdded h xs (hosts_to (appended host_table.hosts (λ id. record row { id = id })) xs)
+pub added : (xs : Content) (h : Host) (row : host_table.Host) → IsHostRow xs (pos 0) h row → IsHostAdded h xs (hosts_to (appended host_table.hosts (λ id. record row { id = id })) xs)
 added xs h row e =
     let k = next_key host_table.hosts.key xs.hosts in
-    record { row = record row { id = k }; is = (written (pos 0) h row e).again k; content = refl }
+    record { row = record row { id = k }; is = (written xs (pos 0) h row e).again k; content = refl }
 
 pub added-placed : (xs m : Content) (h : Host) (row : host_table.Host) → IsHostAdded h xs m → filter (host_table.host_with_name h.name) m.hosts ≡ row ∷ [] → IsHostPlacedAt None h row xs m
 added-placed xs m h row add found whole none =
-    let name = (written add.row.id h add.row add.is).name in
+    let name = (written xs add.row.id h add.row add.is).name in
     let rows : m.hosts ≡ xs.hosts ++ add.row ∷ [] = ap (λ (x : Content). x.hosts) add.content in
     let same : add.row ≡ row = found-added key name_of h.name xs.hosts add.row row name none (sym (ap (filter (host_table.host_with_name h.name)) rows) ∙ found) in
     subst (λ r. IsHostPlaced h r xs m) same (record {
@@ -129,12 +138,12 @@ added-placed xs m h row add found whole none =
 -- ---- put
 
 module _ (xs m ys : Content) (h : Host) (row : host_table.Host) (whole : IsWhole xs) (after : IsWhole ys) (is : IsHost h)
-    (placed : IsHostPlaced h row xs m) (with : AreAddressesPut row.id h.addresses m ys) where
+    (was : (r : host_table.Host) → Has xs.hosts r → r.name ≡ h.name → is_sponsor_right xs r ≡ true) (placed : IsHostPlaced h row xs m) (with : AreAddressesPut row.id h.addresses m ys) where
   rows_now : IsPlaced name_of h.name row xs.hosts ys.hosts
   rows_now = subst (IsPlaced name_of h.name row xs.hosts) (sym (ap (λ (x : Content). x.hosts) with.others.rest)) placed.rows
 
   reads_now : host_of ys row ≡ Some h
-  reads_now = ap (host_in row) with.here ∙ host_back row.id placed.is.sponsor h row is placed.is.is
+  reads_now = ap (host_in row) with.here ∙ host_back row.id row.sponsor h row is placed.is.is
 
   kept_now : AreOtherAddressesKept row.id xs (record ys { hosts = xs.hosts })
   kept_now = record {
@@ -142,9 +151,15 @@ module _ (xs m ys : Content) (h : Host) (row : host_table.Host) (whole : IsWhole
     rest = ap (λ (x : Content). record x { hosts = xs.hosts }) with.others.rest ∙ ap (λ (x : Content). record x { hosts = xs.hosts; addresses = ys.addresses }) placed.rest;
   }
 
+  right_now : (r : host_table.Host) → Has ys.hosts r → r.name ≡ h.name → is_sponsor_right ys r ≡ true
+  right_now r there same =
+      subst (λ x. is_sponsor_right ys x ≡ true) (sym (after.named.hosts r row there rows_now.there (same ∙ sym rows_now.named)))
+      (same-from row.sponsor (sponsor_of ys row) (placed.is.sponsor ∙ sym (sponsor-kept xs ys row (ap (λ (x : Content). x.domains) kept_now.rest))))
+
   pub host-put : IsHostPut h.name (Some h) xs ys
   host-put = assembled xs ys h.name (Some h) row.id
       (put-stands key name_of (host_of xs) (host_of ys) h.name row h xs.hosts ys.hosts rows_now after.keyed.hosts after.named.hosts reads_now (λ r was now e. reads-alike xs ys row.id r kept_now e))
       rows_now.others
       kept_now
+      was right_now
       whole after

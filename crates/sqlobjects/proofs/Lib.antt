@@ -5,4 +5,6 @@ pub mod StepLemmas
 pub mod TransferLemmas
 pub mod ContactLemmas
 pub mod AddressLemmas
+pub mod SponsorLemmas
 pub mod HostLemmas
+pub mod FollowLemmas

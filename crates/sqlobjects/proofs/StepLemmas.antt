@@ -2,7 +2,7 @@
 use Rattle.std.proofs.Common.{◌≡◌, true, Result, Ok, Err, refl, sym, subst, ◌∙◌}
 use Rattle.transactions.specs.declared.fault.BookFault.{BookFault}
 use Rattle.transactions.specs.States.{Meets, Reads, StateOf, Writes}
-use Rattle.meanings.specs.Calls.{Became}
+use Rattle.meanings.specs.Calls.{Became, Turns}
 use Rattle.sqlobjects.specs.Stages.{Brings}
 
 pub asked-then : {C : Type 0} (step way : C → C → Type 0) (a b c : StateOf C) → Reads a b → Became step b c → (c.is_clean ≡ true → step a.content c.content → way a.content c.content) → Became way a c
@@ -43,6 +43,12 @@ pub asked-brings : {A C : Type 0} (r : Result A BookFault) (step way : A → C �
     → ((it : A) → b.is_clean ≡ true → step it a.content c.content → way it a.content c.content) → Brings r way a c
 asked-brings (Ok it) step way a b c asked made is = asked-then (step it) (way it) a b c asked made (λ e. is it (made.clean e))
 asked-brings (Err fault) step way a b c asked made is = record { clean = λ e. asked.clean (made.clean e); before = λ e. made.before e ∙ asked.before (made.clean e) }
+
+-- the same where nothing is answered
+pub asked-turns : {A C : Type 0} (r : Result A BookFault) (step way : C → C → Type 0) (a b c : StateOf C) → Reads a b → Turns r step b c
+    → (b.is_clean ≡ true → step a.content c.content → way a.content c.content) → Turns r way a c
+asked-turns (Ok done) step way a b c asked made is = asked-then step way a b c asked made (λ e. is (made.clean e))
+asked-turns (Err fault) step way a b c asked made is = record { clean = λ e. asked.clean (made.clean e); before = λ e. made.before e ∙ asked.before (made.clean e) }
 
 -- one change after another, where something always holds before and after
 pub became-whole : {C : Type 0} (first second way : C → C → Type 0) (always : C → Type 0) (a b c : StateOf C) → Became first a b → Became second b c

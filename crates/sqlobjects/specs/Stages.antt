@@ -1,6 +1,7 @@
 -- What single steps of a change make.
-use Rattle.std.specs.Prelude.{◌≡◌, ℕ, ℤ, pos, false, List, [], ◌++◌, ◌∷◌, filter, Option, Some, None, option_map, Result, Ok, Err}
+use Rattle.std.specs.Prelude.{◌≡◌, ℕ, ℤ, pos, true, false, List, [], ◌++◌, ◌∷◌, filter, Option, Some, None, IfSome, is_some, option_map, if◌then◌else◌, Result, Ok, Err}
 use Rattle.std.specs.Ordering.{int_eq}
+use Rattle.sqlite_keyed.specs.Keyed.{insert_by}
 use Rattle.sqlite_keyed.specs.Lists.{delete_where}
 use Rattle.sqlite_rules.specs.Lists.{Has}
 use Rattle.sqlite_typed.specs.Tests.{bytes_eq}
@@ -9,7 +10,8 @@ use Rattle.objects.specs.declared.host.Host.{Host}
 use Rattle.objects.specs.declared.transfer.Transfer.{Transfer}
 use Rattle.columns.specs.Contacts.{contact_row}
 use Rattle.columns.specs.Hosts.{host_row}
-use Rattle.columns.specs.Transfers.{transfer_row}
+use Rattle.columns.specs.Steps.{◌>>=◌}
+use Rattle.columns.specs.Transfers.{is_same, transfer_row}
 use Rattle.rows.specs.Layouts.{appended}
 use Rattle.tables.specs.Contact as contact_table
 use Rattle.tables.specs.Content.{Content, contacts_to, hosts_to}
@@ -21,7 +23,9 @@ use Rattle.transactions.specs.declared.fault.BookFault.{BookFault}
 use Rattle.transactions.specs.States.{StateOf, Stays}
 use Rattle.meanings.specs.Calls.{Became}
 use Rattle.meanings.specs.Read.{rows_of}
+use Rattle.sqlobjects.specs.declared.following.Sponsors.{Sponsors}
 use Rattle.sqlobjects.specs.Objects.{addresses_of, last_transfer}
+use Rattle.sqlobjects.specs.Sponsors.{AreMoved, sponsor_of}
 
 -- a change in a way that hangs on what is answered
 abbrev pub Brings : {A C : Type 0} → Result A BookFault → (A → C → C → Type 0) → StateOf C → StateOf C → Type 0
@@ -109,20 +113,29 @@ pub record AreAddressesAdded (id : ℤ) (addresses : List (List ℕ)) (old new :
   pub here : addresses_of new id ≡ addresses_of old id ++ addresses
   pub others : AreOtherAddressesKept id old new
 
--- the row of a host under a number, with whatever account as its sponsor
-pub record IsHostRow (id : ℤ) (h : Host) (row : host_table.Host) : Type 0 where
-  pub sponsor : Option ℤ
-  pub is : host_row id sponsor h ≡ Some row
+-- its column says who sponsors the host
+abbrev pub HasRightSponsor : Content → host_table.Host → Type 0
+HasRightSponsor xs row = row.sponsor ≡ sponsor_of xs row
+
+-- the row of a host under a number
+pub record IsHostRow (xs : Content) (id : ℤ) (h : Host) (row : host_table.Host) : Type 0 where
+  pub is : host_row id row.sponsor h ≡ Some row
+  pub sponsor : HasRightSponsor xs row
+
+-- this row, or none, has the name, and who sponsors it is right
+pub record IsHostFound (xs : Content) (name : List ℕ) (found : Option host_table.Host) : Type 0 where
+  pub rows : filter (host_table.host_with_name name) xs.hosts ≡ rows_of found
+  pub sponsor : IfSome found (HasRightSponsor xs)
 
 -- the host, but for its addresses, is in a row after the others
 pub record IsHostAdded (h : Host) (old new : Content) : Type 0 where
   pub row : host_table.Host
-  pub is : IsHostRow row.id h row
+  pub is : IsHostRow old row.id h row
   pub content : new ≡ hosts_to (λ rows. rows ++ row ∷ []) old
 
 -- the host, but for its addresses, is in this row, and no other row is changed
 pub record IsHostPlaced (h : Host) (row : host_table.Host) (old new : Content) : Type 0 where
-  pub is : IsHostRow row.id h row
+  pub is : IsHostRow old row.id h row
   pub rows : IsPlaced (λ (r : host_table.Host). r.name) h.name row old.hosts new.hosts
   pub rest : new ≡ record old { hosts = new.hosts }
 
@@ -130,6 +143,12 @@ pub record IsHostPlaced (h : Host) (row : host_table.Host) (old new : Content) :
 abbrev pub IsHostPlacedAt : Option host_table.Host → Host → host_table.Host → Content → Content → Type 0
 IsHostPlacedAt found h row old new =
     IsWhole old → filter (host_table.host_with_name h.name) old.hosts ≡ rows_of found → IsHostPlaced h row old new
+
+-- and each row that had its name had the right sponsor
+pub record IsHostPlacedRight (h : Host) (row : host_table.Host) (old new : Content) : Type 0 where
+  pub found : Option host_table.Host
+  pub was : IsHostFound old h.name found
+  pub placed : IsWhole old → IsHostPlaced h row old new
 
 -- the host with this number, and its addresses, aren't there any more
 pub record IsHostRemoved (id : ℤ) (old new : Content) : Type 0 where
@@ -140,3 +159,32 @@ pub record IsHostRemoved (id : ℤ) (old new : Content) : Type 0 where
 abbrev pub IsHostDropped : Option host_table.Host → Content → Content → Type 0
 IsHostDropped None old new = new ≡ old
 IsHostDropped (Some row) old new = IsHostRemoved row.id old new
+
+-- ---- hosts that follow a domain
+
+-- a row had the sponsor before and has the one after
+pub record IsMoved (s : Sponsors) (row after : host_table.Host) : Type 0 where
+  pub had : is_same row.sponsor s.before ≡ true
+  pub has : after ≡ record row { sponsor = s.after }
+
+-- the rows, with this one written with its new sponsor, unless its host is sponsored outside the zone; none
+-- where it had another sponsor than the one before
+abbrev pub with_moved : Sponsors → List host_table.Host → host_table.Host → Option (List host_table.Host)
+with_moved s xs row =
+    if is_some row.external_sponsor then Some xs
+    else (if is_same row.sponsor s.before then Some (insert_by host_table.hosts.key xs (record row { sponsor = s.after })) else None)
+
+-- the same with each of these rows, one after another
+abbrev pub with_all_moved : Sponsors → List host_table.Host → List host_table.Host → Option (List host_table.Host)
+with_all_moved s xs [] = Some xs
+with_all_moved s xs (row ∷ rows) = with_moved s xs row >>= (λ ys. with_all_moved s ys rows)
+
+-- rows of hosts are these now, if there are any such, and nothing else is changed
+pub record AreWritten (made : List host_table.Host → Option (List host_table.Host)) (old new : Content) : Type 0 where
+  pub hosts : made old.hosts ≡ Some new.hosts
+  pub rest : new ≡ record old { hosts = new.hosts }
+
+-- the hosts that follow a domain have the sponsor after in place of the one before
+pub record AreHostsMoved (above : List ℕ) (s : Sponsors) (old new : Content) : Type 0 where
+  pub rows : AreMoved above s.before s.after old.hosts new.hosts
+  pub rest : new ≡ record old { hosts = new.hosts }

@@ -43,7 +43,8 @@ fn first_contact<S: Alter>(
     Ok(Some(contact_of(store, alloc, row)?))
 }
 
-fn contact_of<S: Alter>(
+/// The contact of a row.
+pub fn contact_of<S: Alter>(
     store: &mut RowStore<S>,
     alloc: Global,
     row: ContactRow,

@@ -4,7 +4,7 @@ ghost use Rattle.meanings.specs.Calls.{Turns};
 ghost use Rattle.sqlobjects.specs.Changes.{IsHostPut};
 
 use crate::addresses::put_addresses;
-use crate::host_rows::{place, remove_found, row_named};
+use crate::host_rows::{place, remove_found, row_to_change};
 use basis::text::Text;
 use columns::is_host;
 use objects::Host;
@@ -13,7 +13,7 @@ use std::alloc::Global;
 use tables::RowStore;
 use transactions::BookFault;
 
-/// The host stands under its name.
+/// The host stands under its name. Refused is what replaces a row with a wrong sponsor.
 pub fn put_host<S: Alter>(
     store: &mut RowStore<S>,
     alloc: Global,
@@ -40,7 +40,7 @@ fn put<S: Alter>(store: &mut RowStore<S>, alloc: Global, host: &Host) -> Result<
     Ok(())
 }
 
-/// No host stands under this name.
+/// No host stands under this name. Refused is what removes a row with a wrong sponsor.
 pub fn drop_host<S: Alter>(
     store: &mut RowStore<S>,
     alloc: Global,
@@ -50,7 +50,7 @@ pub fn drop_host<S: Alter>(
     ensures { Turns result (IsHostPut name None) store.old store.new }
 {
     store.whole();
-    let row = row_named(store, &name)?;
+    let row = row_to_change(store, &name)?;
     remove_found(store, row)?;
     store.whole();
     Ok(())

@@ -1,21 +1,22 @@
 //! Rows of hosts: found by name, put, added, and removed with their addresses.
-ghost use Rattle.std.specs.Prelude.{◌≡◌, true, ⊤, [], ◌∷◌, filter, Some, None, IfOk};
+ghost use Rattle.std.specs.Prelude.{◌≡◌, true, [], ◌∷◌, filter, Some, None, IfOk};
+ghost use Rattle.columns.specs.Hosts as hosts;
 ghost use Rattle.tables.specs.Host.{host_with_name};
-ghost use Rattle.tables.specs.Whole.{IsWhole};
 ghost use Rattle.transactions.specs.States.{Meets};
 ghost use Rattle.meanings.specs.Calls.{Turns};
 ghost use Rattle.meanings.specs.Read.{rows_of};
-ghost use Rattle.sqlobjects.specs.Stages.{Brings, IsHostAdded, IsHostDropped, IsHostPlaced, IsHostPlacedAt, IsHostRemoved, IsHostRow};
+ghost use Rattle.sqlobjects.specs.Stages.{Brings, IsHostAdded, IsHostDropped, IsHostFound, IsHostPlacedAt, IsHostPlacedRight, IsHostRemoved, IsHostRow};
 
 use crate::addresses::clear_addresses;
 use crate::hosts::number_of;
+use crate::sponsors::{check_sponsor, with_sponsor};
 use basis::text::Text;
-use columns::{above_column, host_row, registrar_column};
+use columns::host_row;
 use meanings::{only, or_fault};
 use objects::Host;
 use sqlite::Alter;
 use std::alloc::Global;
-use tables::{DomainRow, HostRow, RowStore};
+use tables::{HostRow, RowStore};
 use transactions::BookFault;
 
 /// The row of the host of this name, if there is one.
@@ -27,6 +28,19 @@ pub(crate) fn row_named<S: Alter>(
 {
     let rows = store.hosts_by_name(name.as_str())?;
     only(rows)
+}
+
+/// The same of a host that is to be changed. One whose row has another sponsor than it has to have is
+/// refused.
+pub(crate) fn row_to_change<S: Alter>(
+    store: &mut RowStore<S>,
+    name: &Text,
+) -> Result<Option<HostRow>, BookFault>
+    ensures { Meets result (IsHostFound store.old.content name.now) store.old store.new }
+{
+    let row = row_named(store, name)?;
+    check_sponsor(store, &row)?;
+    Ok(row)
 }
 
 /// Removes a host's row, and its addresses before.
@@ -62,9 +76,9 @@ pub(crate) fn place<S: Alter>(
     host: &Host,
 ) -> Result<HostRow, BookFault>
     requires { store.old.is_open ≡ true }
-    ensures { Brings result (λ row old new. IsWhole old → IsHostPlaced host.now row old new) store.old store.new }
+    ensures { Brings result (λ row old new. IsHostPlacedRight host.now row old new) store.old store.new }
 {
-    let found = row_named(store, &host.name)?;
+    let found = row_to_change(store, &host.name)?;
     place_at(store, alloc, found, host)
 }
 
@@ -129,16 +143,17 @@ fn row_of<S: Alter>(
     id: i64,
     host: &Host,
 ) -> Result<HostRow, BookFault>
-    ensures { Meets result (λ row. IsHostRow id host.now row) store.old store.new }
+    ensures { Meets result (λ row. IsHostRow store.old.content id host.now row) store.old store.new }
 {
-    let sponsor = sponsor_of(store, alloc, host)?;
-    row_with(alloc, id, sponsor, host)
+    let row = row_without(alloc, id, host)?;
+    with_sponsor(store, row)
 }
 
-fn row_with(alloc: Global, id: i64, sponsor: Option<i64>, host: &Host) -> Result<HostRow, BookFault>
-    ensures { IfOk result (λ row. IsHostRow id host.now row) }
+/// The same without a sponsor.
+fn row_without(alloc: Global, id: i64, host: &Host) -> Result<HostRow, BookFault>
+    ensures { IfOk result (λ row. hosts.host_row id None host.now ≡ Some row) }
 {
-    or_fault(host_row(alloc, id, sponsor, host)?)
+    or_fault(host_row(alloc, id, None, host)?)
 }
 
 /// The same under the number of a row that is there.
@@ -148,34 +163,9 @@ fn row_again<S: Alter>(
     found: &HostRow,
     host: &Host,
 ) -> Result<HostRow, BookFault>
-    ensures { Meets result (λ row. IsHostRow found.now.id host.now row) store.old store.new }
+    ensures { Meets result (λ row. IsHostRow store.old.content found.now.id host.now row) store.old store.new }
 {
     row_of(store, alloc, found.id, host)
-}
-
-/// The account that sponsors a host: its own sponsor outside the zone, or else that of the domain that
-/// it lies below, if there is one.
-fn sponsor_of<S: Alter>(
-    store: &mut RowStore<S>,
-    alloc: Global,
-    host: &Host,
-) -> Result<Option<i64>, BookFault>
-    ensures { Meets result (λ sponsor. ⊤) store.old store.new }
-{
-    if let Some(registrar) = host.external_sponsor {
-        return Ok(Some(registrar_column(registrar)));
-    }
-    let above = above_column(alloc, host.name.as_str())?;
-    let rows = store.domains_by_name(above.as_str())?;
-    let domain = only(rows)?;
-    Ok(sponsor_in(domain))
-}
-
-fn sponsor_in(domain: Option<DomainRow>) -> Option<i64> {
-    match domain {
-        None => None,
-        Some(domain) => Some(domain.sponsor),
-    }
 }
 
 /// The row of the host of this name.

@@ -5,20 +5,27 @@
 //! Each change writes the row of one name and its children: a contact's transfer, a host's addresses
 //! (`specs/Changes.antt`). An object that wouldn't be read back is refused. What else stands is as it
 //! was, and no number leads to another name than before.
+//!
+//! A host's row also says who sponsors the host (`specs/Sponsors.antt`): that is written with the host,
+//! and `follow` writes it where the domain above is to have another sponsor. A row in which it is wrong
+//! is refused, so that no change mends it unseen.
 #![tactic(auto)]
 
 mod addresses;
 mod contact_changes;
 mod contact_rows;
 mod contacts;
+mod following;
 mod host_changes;
 mod host_rows;
 mod hosts;
+mod sponsors;
 #[cfg(test)]
 mod tests;
 mod transfers;
 
 pub use contact_changes::{drop_contact, put_contact};
-pub use contacts::{contact, has_contact};
+pub use contacts::{contact, contact_of, has_contact};
+pub use following::follow;
 pub use host_changes::{drop_host, put_host};
 pub use hosts::{has_host, host, host_addresses};

@@ -1,8 +1,8 @@
 //! Each public call once, over tables in memory.
 
 use crate::{
-    contact, drop_contact, drop_host, has_contact, has_host, host, host_addresses, put_contact,
-    put_host,
+    contact, drop_contact, drop_host, follow, has_contact, has_host, host, host_addresses,
+    put_contact, put_host,
 };
 use basis::list::Seq;
 use basis::registrar::RegistrarNo;
@@ -304,8 +304,51 @@ fn sponsor_of(store: &mut RowStore<MemStore>, name: &Text) -> Result<Option<i64>
     }
 }
 
+/// The hosts below `foo.test` follow this registrar, or none.
+fn follow_registrar(
+    store: &mut RowStore<MemStore>,
+    alloc: Global,
+    after: Option<RegistrarNo>,
+) -> Result<(), BookFault> {
+    if !store.is_open() {
+        return Err(BookFault::Store);
+    }
+    let above = Text::from_str(alloc, "foo.test")?;
+    follow(store, &above, after)
+}
+
 #[test]
 fn writes_who_sponsors_a_host(rt: HostRuntime) -> Result<(), BookFault> {
+    let alloc = rt.alloc();
+    let mut store = opened(alloc)?;
+    let (contact, name, other) = (
+        Text::from_str(alloc, "c-alfa")?,
+        Text::from_str(alloc, "ns1.foo.test")?,
+        Text::from_str(alloc, "ns2.foo.test")?,
+    );
+    let (first, second) = (
+        Some(RegistrarNo::of_place(1)),
+        Some(RegistrarNo::of_place(2)),
+    );
+    put_named_host(&mut store, alloc, &name, None, &[])?;
+    assert_eq!(rt; sponsor_of(&mut store, &name)?, None);
+    put_named_contact(&mut store, alloc, &contact, None)?;
+    follow_registrar(&mut store, alloc, second)?;
+    append_domain(&mut store, alloc)?;
+    assert_eq!(rt; sponsor_of(&mut store, &name)?, Some(2));
+    put_named_host(&mut store, alloc, &other, None, &[])?;
+    assert_eq!(rt; sponsor_of(&mut store, &other)?, Some(2));
+    put_named_host(&mut store, alloc, &name, first, &[])?;
+    assert_eq!(rt; sponsor_of(&mut store, &name)?, Some(1));
+    follow_registrar(&mut store, alloc, second)?;
+    assert_eq!(rt; sponsor_of(&mut store, &other)?, Some(2));
+    follow_registrar(&mut store, alloc, first)?;
+    assert_eq!(rt; sponsor_of(&mut store, &other)?, Some(1));
+    Ok(())
+}
+
+#[test]
+fn refuses_to_change_a_host_with_a_wrong_sponsor(rt: HostRuntime) -> Result<(), BookFault> {
     let alloc = rt.alloc();
     let mut store = opened(alloc)?;
     let (contact, name) = (
@@ -313,13 +356,11 @@ fn writes_who_sponsors_a_host(rt: HostRuntime) -> Result<(), BookFault> {
         Text::from_str(alloc, "ns1.foo.test")?,
     );
     put_named_host(&mut store, alloc, &name, None, &[])?;
-    assert_eq!(rt; sponsor_of(&mut store, &name)?, None);
     put_named_contact(&mut store, alloc, &contact, None)?;
     append_domain(&mut store, alloc)?;
-    put_named_host(&mut store, alloc, &name, None, &[])?;
-    assert_eq!(rt; sponsor_of(&mut store, &name)?, Some(2));
-    let first = Some(RegistrarNo::of_place(1));
-    put_named_host(&mut store, alloc, &name, first, &[])?;
-    assert_eq!(rt; sponsor_of(&mut store, &name)?, Some(1));
+    assert!(rt; put_named_host(&mut store, alloc, &name, None, &[]).is_err());
+    assert!(rt; drop_named_host(&mut store, alloc, &name).is_err());
+    assert!(rt; follow_registrar(&mut store, alloc, None).is_err());
+    assert_eq!(rt; sponsor_of(&mut store, &name)?, None);
     Ok(())
 }

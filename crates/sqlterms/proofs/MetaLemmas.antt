@@ -1,7 +1,7 @@
 -- What another row of meta means.
 use Rattle.std.proofs.Common.{◌≡◌, ℕ, List, [], ◌∷◌, Option, Some, None, refl, sym, ap, ◌∙◌, int_cmp}
 use Rattle.std.proofs.lemmas.Bool.{leb-true}
-use Rattle.std.specs.Prelude.{slice_get}
+use Rattle.std.specs.Prelude.{option_and_then, slice_get}
 use Rattle.std.specs.Cmp.{int_cmp_total, tied_itself}
 use Rattle.std.specs.Option.{unwrap_or}
 use Rattle.std.specs.Ordering.{match_ordering}
@@ -19,7 +19,7 @@ use Rattle.tables.specs.Meta.{Meta, metas}
 use Rattle.sqlterms.specs.Changes.{IsClockSet}
 use Rattle.sqlterms.specs.Clock.{clock_in, clock_of}
 use Rattle.sqlterms.specs.Meta.{meta_or_new, with_clock, with_terms}
-use Rattle.sqlterms.specs.Terms.{terms_at, terms_in}
+use Rattle.sqlterms.specs.Terms.{days_at, terms_at, terms_in}
 
 -- the first moment is one
 pub first_moment : IsMoment blank.clock
@@ -49,6 +49,10 @@ module _ (xs : Content) (o : Option Meta) (is : xs.metas ≡ rows_of o) where
   no_terms None accounts = refl
   no_terms (Some row) accounts = refl
 
+  no_days : (o : Option Meta) → days_at (meta_or_new o) ≡ option_and_then days_at o
+  no_days None = refl
+  no_days (Some row) = refl
+
   -- the clock is another, and the terms aren't
   pub clock_is_set : (m : ℕ) (new : Meta) → IsMoment m → new ≡ with_clock m (meta_or_new o) → IsClockSet m xs (metas_to (λ rows. insert_by metas.key rows new) xs)
   clock_is_set m new range e =
@@ -60,6 +64,9 @@ module _ (xs : Content) (o : Option Meta) (is : xs.metas ≡ rows_of o) where
         terms =
             ap (λ rows. terms_in (slice_get rows 0) xs.accounts) rows ∙ ap (λ (r : Meta). terms_at r xs.accounts) e
             ∙ no_terms o xs.accounts ∙ ap (λ o. terms_in o xs.accounts) (sym meta_was);
+        days =
+            ap (λ rows. option_and_then days_at (slice_get rows 0)) rows ∙ ap days_at e
+            ∙ no_days o ∙ ap (option_and_then days_at) (sym meta_was);
         others = refl;
       }
 

@@ -5,12 +5,13 @@ use Rattle.tables.specs.Account.{Account}
 use Rattle.tables.specs.Content.{Content}
 use Rattle.sqlaccounts.specs.Accounts.{accounts_of, sums_are_right}
 use Rattle.sqlterms.specs.Clock.{clock_of}
-use Rattle.sqlterms.specs.Terms.{terms_of}
+use Rattle.sqlterms.specs.Terms.{days_of, terms_of}
 
 -- the clock is this, and but for the row of meta all is as it was
 pub record IsClockSet (m : ℕ) (old new : Content) : Type 0 where
   pub clock : clock_of new ≡ m
   pub terms : terms_of new ≡ terms_of old
+  pub days : days_of new ≡ days_of old
   pub others : record new { metas = old.metas } ≡ old
 
 -- what an account's row says besides who it is
@@ -25,6 +26,7 @@ pub record IsRenaming (old new : Content) : Type 0 where
 -- The terms are these. But for the row of meta and the accounts' idents all is as it was.
 pub record IsTermsSet (value : Terms) (old new : Content) : Type 0 where
   pub terms : terms_of new ≡ Some value
+  pub days : days_of new ≡ Some value.days
   pub clock : clock_of new ≡ clock_of old
   pub accounts : accounts_of new ≡ accounts_of old
   pub sums : sums_are_right new ≡ sums_are_right old

@@ -1,5 +1,5 @@
 -- The terms of a registry: in the row of meta, and in the idents of accounts.
-use Rattle.std.specs.Prelude.{ℕ, ◌+◌, ◌==◌, ℤ, pos, Bool, false, nat_lt, List, [], ◌∷◌, ◌++◌, length, Option, Some, None, if◌then◌else◌}
+use Rattle.std.specs.Prelude.{ℕ, ◌+◌, ◌==◌, ℤ, pos, Bool, false, nat_lt, List, [], ◌∷◌, ◌++◌, length, Option, Some, None, if◌then◌else◌, option_and_then}
 use Rattle.std.specs.FinSet.{from_list}
 use Rattle.std.specs.Ordering.{int_eq}
 use Rattle.basis.specs.Sets.{Names}
@@ -105,3 +105,10 @@ terms_in (Some row) accounts = terms_at row accounts
 
 abbrev pub terms_of : Content → Option Terms
 terms_of xs = terms_in (meta_of xs) xs.accounts
+
+-- the days of the periods, where terms were put down
+abbrev pub days_at : Meta → Option Days
+days_at row = if length row.zone == 0 then None else days_in row
+
+abbrev pub days_of : Content → Option Days
+days_of xs = option_and_then days_at (meta_of xs)

@@ -12,5 +12,5 @@ mod reading;
 mod tests;
 mod writing;
 
-pub use reading::{clock, terms};
+pub use reading::{clock, days, terms};
 pub use writing::{set_clock, set_terms};

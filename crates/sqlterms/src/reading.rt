@@ -30,6 +30,25 @@ pub fn clock<S: Alter>(store: &mut RowStore<S>) -> Result<Moment, BookFault>
     }
 }
 
+/// The days of the periods, if the registry was opened. Columns that are none are none of terms.
+pub fn days<S: Alter>(store: &mut RowStore<S>) -> Result<Option<Days>, BookFault>
+    ensures { Finds result (spec.days_of store.old.content) store.old store.new }
+{
+    let Some(row) = maybe_meta(store)? else {
+        return Ok(None);
+    };
+    Ok(days_at(&row))
+}
+
+fn days_at(row: &MetaRow) -> Option<Days>
+    ensures { result ≡ spec.days_at row.now }
+{
+    if row.zone.is_empty() {
+        return None;
+    }
+    days_of(row)
+}
+
 /// The terms that the registry is used under, if it was opened.
 pub fn terms<S: Alter>(store: &mut RowStore<S>, alloc: Global) -> Result<Option<Terms>, BookFault>
     ensures { Finds result (spec.terms_of store.old.content) store.old store.new }

@@ -1,7 +1,7 @@
 //! Each call on its happy path, over tables in memory.
 ghost use Rattle.std.specs.Prelude.{◌≡◌, true, IfOk};
 
-use crate::{clock, set_clock, set_terms, terms};
+use crate::{clock, days, set_clock, set_terms, terms};
 use basis::list::Seq;
 use basis::sets::NameSet;
 use basis::text::Text;
@@ -58,7 +58,7 @@ fn texts(alloc: Global, first: &str, second: &str) -> Result<Vec<Text>, AllocErr
     Ok(texts.into_vec())
 }
 
-fn days() -> Days {
+fn all_days() -> Days {
     Days {
         add: 1,
         auto_renew: 2,
@@ -76,7 +76,7 @@ fn value(alloc: Global) -> Result<Terms, AllocError> {
     Ok(Terms {
         zone: Text::from_str(alloc, "test")?,
         reserved: NameSet::of_list(texts(alloc, "www", "nic")?),
-        days: days(),
+        days: all_days(),
         prices: Prices {
             create: 800,
             renew: 700,
@@ -90,8 +90,7 @@ fn set(store: &mut RowStore<MemStore>, alloc: Global, value: &Terms) -> Result<(
     if !store.is_open() {
         return Err(BookFault::Store);
     }
-    let labels = texts(alloc, "nic", "www")?;
-    set_terms(store, alloc, value, &labels)
+    set_terms(store, alloc, value)
 }
 
 fn set_to(store: &mut RowStore<MemStore>, alloc: Global, moment: Moment) -> Result<(), BookFault> {
@@ -143,9 +142,11 @@ fn keeps_terms(rt: HostRuntime) -> Result<(), BookFault> {
     let alloc = rt.alloc();
     let mut store = with_accounts(alloc)?;
     assert!(rt; terms(&mut store, alloc)?.is_none());
+    assert!(rt; days(&mut store)?.is_none());
     let value = value(alloc)?;
     set(&mut store, alloc, &value)?;
     assert!(rt; has(&mut store, alloc, &value)?);
+    assert!(rt; days(&mut store)?.is_some());
     assert!(rt; is_named(&mut store, 2, "beta")?);
     Ok(())
 }

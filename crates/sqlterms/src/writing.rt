@@ -7,7 +7,6 @@ use crate::labels::labels_column;
 use crate::meta::{maybe_meta, meta_or_new, with_clock, with_terms};
 use crate::naming::name_accounts;
 use crate::reading::terms;
-use basis::text::Text;
 use calendar::Moment;
 use meanings::or_fault;
 use policy::Terms;
@@ -32,20 +31,18 @@ pub fn set_clock<S: Alter>(
 }
 
 /// Puts terms down: the row of `meta`, and the ident of each account whose registrar has a place among
-/// the ids. `labels` are those that the terms reserve, in whatever order. Refused are terms that don't
-/// read back as they are, such as those with other labels, with a label that has a line feed, or with an
-/// id of a registrar without an account.
+/// the ids. Refused are terms that don't read back as they are, such as those with a label that has a
+/// line feed, or with an id of a registrar without an account.
 pub fn set_terms<S: Alter>(
     store: &mut RowStore<S>,
     alloc: Global,
     value: &Terms,
-    labels: &[Text],
 ) -> Result<(), BookFault>
     requires { store.old.is_open ≡ true }
     ensures { Turns result (IsTermsSet value.now) store.old store.new }
 {
     let meta = maybe_meta(store)?;
-    let labels = or_fault(labels_column(alloc, labels)?)?;
+    let labels = or_fault(labels_column(alloc, value.reserved.names())?)?;
     let row = with_terms(alloc, meta_or_new(alloc, meta), value, labels)?;
     store.put_meta(&row)?;
     name_accounts(store, alloc, value.ids.as_slice())?;

@@ -50,7 +50,7 @@ fn make<R: Records>(records: &mut R, change: Change, policy: &Policy) -> Result<
             let name = domain.name.clone()?;
             records.put_domain(name, domain, policy)
         }
-        Change::DropDomain(name) => records.drop_domain(name),
+        Change::DropDomain(name) => records.drop_domain(name, policy),
         Change::PutHost(host) => records.put_host(host),
         Change::DropHost(name) => records.drop_host(name),
         Change::RenameHost { from, to } => rename(records, &from, &to, policy),
@@ -85,7 +85,7 @@ fn leave_domain<R: Records>(
     ensures { Makes result (domain_left name left (R.kept records.old).content) (R.kept records.old) (R.kept records.new) }
 {
     match left {
-        None => records.drop_domain(name),
+        None => records.drop_domain(name, policy),
         Some(domain) => records.put_domain(name, domain, policy),
     }
 }

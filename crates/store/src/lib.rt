@@ -27,4 +27,5 @@ pub use kept::Kept;
 pub use ledgers::Counters;
 pub use plain::{Plain, PlainBook};
 pub use records::Records;
+pub use renamed::with_host_renamed;
 pub use transactions::{BookFault, Ready};

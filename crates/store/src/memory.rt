@@ -221,7 +221,7 @@ impl Records for Plain {
         self.set_domain(name, domain, policy)
     }
 
-    fn drop_domain(&mut self, name: Text) -> Result<(), BookFault> {
+    fn drop_domain(&mut self, name: Text, _policy: &Policy) -> Result<(), BookFault> {
         self.set(Edit::Domain(name, None))
     }
 

@@ -196,7 +196,8 @@ pub trait Records {
         requires { (kept self.old).is_open ≡ true }
         ensures { Makes result (tables.domain_put name (Some domain) (kept self.old).content) (kept self.old) (kept self.new) };
 
-    fn drop_domain(&mut self, name: Text) -> Result<(), BookFault>
+    /// No domain stands under this name.
+    fn drop_domain(&mut self, name: Text, policy: &Policy) -> Result<(), BookFault>
         requires { (kept self.old).is_open ≡ true }
         ensures { Makes result (tables.domain_put name None (kept self.old).content) (kept self.old) (kept self.new) };
 

@@ -21,3 +21,5 @@ pub mod BalanceLemmas
 pub mod RowLemmas
 pub mod WholeLemmas
 pub mod AdoptionLemmas
+pub mod SoundLemmas
+pub mod AdoptedLemmas

@@ -1,10 +1,18 @@
 -- A database that was used before, read anew.
-use Rattle.std.specs.Prelude.{◌≡◌}
+use Rattle.std.specs.Prelude.{◌≡◌, false, true}
 use Rattle.std.specs.List.{AllByRecursion}
 use Rattle.sqlite_trees.specs.declared.store.Shape.TheVariants.{Table}
+use Rattle.sqlite_trees.specs.Tree.{Trees}
 use Rattle.sqlite_trees.specs.View.{IsShaped}
 use Rattle.sqlite.specs.Effect.{Database, IsDatabase}
-use Rattle.sqlite.specs.State.{State, Opens}
+use Rattle.sqlite.specs.State.{State, HasCleanDisk, Opens}
+use Rattle.transactions.specs.States.{StateOf}
+use Rattle.transactions.specs.declared.readiness.Ready.{Ready}
+use Rattle.transactions.specs.declared.readiness.Ready.TheVariants.{Empty, Used, Other}
+use Rattle.tables.specs.Content.{Content}
+use Rattle.tables.specs.Decoding.{contents}
+use Rattle.tables.specs.Readiness.{is_numbered}
+use Rattle.tables.specs.Stored.{fresh}
 
 -- the rows of each table lie in the order of their numbers
 abbrev pub IsInOrder : Database → Type 0
@@ -16,3 +24,29 @@ pub record IsReread (old new : State) : Type 0 where
   pub sound : IsDatabase new.now
   pub trees : new.now.trees ≡ old.committed.trees
   pub in_order : IsInOrder new.now
+
+-- what is known of a connection whose database was read anew
+abbrev pub IsFound : State → Type 0
+IsFound s = HasCleanDisk s → Opens s × IsDatabase s.now × IsInOrder s.now
+
+-- by the tables alone all rows are seen, or none
+abbrev pub IsSeenBy : Ready → Trees → Content → Type 0
+IsSeenBy Used trees content = content ≡ contents trees
+IsSeenBy Empty trees content = content ≡ fresh
+IsSeenBy Other trees content = content ≡ fresh
+
+pub record IsShown (trees : Trees) (s : StateOf Content) : Type 0 where
+  pub idle : s.is_open ≡ false
+  pub before : s.before ≡ s.content
+  pub content : s.is_clean ≡ true → IsSeenBy s.readiness trees s.content
+
+-- a registry's rows are seen where they have the number of this schema
+abbrev pub IsTakenAs : Ready → Trees → Content → Type 0
+IsTakenAs Used trees content = (content ≡ contents trees) × (is_numbered content.metas ≡ true)
+IsTakenAs Empty trees content = content ≡ fresh
+IsTakenAs Other trees content = content ≡ fresh
+
+pub record IsAdopted (trees : Trees) (s : StateOf Content) : Type 0 where
+  pub idle : s.is_open ≡ false
+  pub before : s.before ≡ s.content
+  pub content : s.is_clean ≡ true → IsTakenAs s.readiness trees s.content

@@ -16,7 +16,7 @@ use std::alloc::Global;
 pub const SCHEMA_NUMBER: i64 = 1;
 
 /// Whether the rows of `meta` are one, with the number of this schema.
-fn is_numbered(metas: &[MetaRow]) -> bool
+pub(crate) fn is_numbered(metas: &[MetaRow]) -> bool
     ensures { result ≡ is_numbered metas.now }
 {
     match metas {

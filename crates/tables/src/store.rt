@@ -1,7 +1,9 @@
 //! The ten tables in a database as rows, with transactions.
 ghost use Rattle.std.specs.Prelude.{◌≡◌, false, true, List, map, IfOk};
 
+use crate::adoption::reread;
 use crate::form::Form;
+use crate::readiness::{form_of, is_numbered};
 use crate::schema::create;
 use basis::list::Seq;
 use rows::{Record, go_back};
@@ -60,7 +62,7 @@ impl<S: Alter> RowStore<S> {
     ghost use Rattle.sqlite.specs.Listing.{understood};
     ghost use Rattle.sqlite.specs.Values.{bound};
     ghost use Rattle.tables.specs.Content.{Content};
-    ghost use Rattle.transactions.specs.States.{Begins, Closes, Ends, Finds, Makes, Stays};
+    ghost use Rattle.transactions.specs.States.{Begins, Closes, Ends, Finds, IsIdle, Makes, Stays};
     ghost use Rattle.tables.specs.Statements.{Alters, Asks};
     ghost use Rattle.tables.specs.Tables.{registry};
     ghost use Rattle.tables.specs.Whole.{IsWhole};
@@ -199,6 +201,13 @@ impl<S: Alter> RowStore<S> {
         let _schema = self.conn.schema();
     }
 
+    /// Does nothing. It tells a proof that where no transaction is open going back leads nowhere else.
+    pub fn rests(&self)
+        ensures { IsIdle self.now }
+    {
+        let _begun = self.begun;
+    }
+
     /// Goes back to where the transaction began, if one is open.
     pub fn back(&mut self)
         ensures { Closes self.old.before self.old self.new }
@@ -206,6 +215,58 @@ impl<S: Alter> RowStore<S> {
         let _ = go_back(&mut self.conn);
         self.form = self.form.undone();
         self.begun = false;
+    }
+}
+
+impl<S: Alter + Drop> RowStore<S> {
+    ghost use Rattle.sqlite.specs.Held.{state};
+    ghost use Rattle.sqlite.specs.State.{HasCleanDisk};
+    ghost use Rattle.sqlite_trees.specs.Tree.{Trees};
+    ghost use Rattle.tables.specs.Adoption.{IsAdopted, IsFound, IsShown};
+
+    /// A store of the rows of a database that was read anew, by its tables alone.
+    fn over(conn: Connection<S>, alloc: Global) -> Result<RowStore<S>, BookFault>
+        requires { IsFound (state S.Store conn) }
+        ensures { (trees : Trees) → (HasCleanDisk (state S.Store conn) → (state S.Store conn).now.trees ≡ trees) → IfOk result (IsShown trees) }
+    {
+        let form = match form_of(&conn, alloc) {
+            Ok(form) => form,
+            Err(error) => return Err(fault_of(&error)),
+        };
+        Ok(RowStore {
+            conn,
+            alloc,
+            form,
+            begun: false,
+        })
+    }
+
+    /// The same store. One whose row of `meta` has another number than this schema's shows no row.
+    fn numbered(store: RowStore<S>) -> Result<RowStore<S>, BookFault>
+        ensures { (trees : Trees) → IsShown trees store → IfOk result (IsAdopted trees) }
+    {
+        let Form::Made = store.form else {
+            return Ok(store);
+        };
+        let mut store = store;
+        let metas = store.all_metas()?;
+        if !is_numbered(metas.as_slice()) {
+            store.form = Form::Other;
+            return Ok(store);
+        }
+        match store.form {
+            Form::Made => Ok(store),
+            _ => Err(BookFault::Store),
+        }
+    }
+
+    /// A store of the rows of a database that was used before. It is read and checked anew, whole.
+    pub fn adopt(conn: Connection<S>, alloc: Global) -> Result<RowStore<S>, BookFault>
+        ensures { IfOk result (IsAdopted (state S.Store conn).committed.trees) }
+    {
+        let conn = reread(conn, alloc)?;
+        let store = RowStore::over(conn, alloc)?;
+        RowStore::numbered(store)
     }
 }
 
@@ -223,5 +284,12 @@ impl RowStore<MemStore> {
             form: Form::Unused,
             begun: false,
         })
+    }
+
+    /// Does nothing. It tells a proof that nothing wrong is ever taken from memory.
+    pub fn stays_clean(&self)
+        ensures { self.now.is_clean ≡ true }
+    {
+        let _begun = self.begun;
     }
 }

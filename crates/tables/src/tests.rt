@@ -680,6 +680,63 @@ fn reads_a_database_anew(rt: HostRuntime) -> Result<(), BookFault> {
 }
 
 #[test]
+fn adopts_a_database_that_was_never_used(rt: HostRuntime) -> Result<(), BookFault> {
+    let alloc = rt.alloc();
+    let mut store = RowStore::adopt(Connection::open_in_memory(alloc)?, alloc)?;
+    assert!(rt; store.ready()? == Ready::Empty);
+    Ok(())
+}
+
+/// A database with the tables, and a row of `meta` with this number.
+fn with_tables(alloc: Global, meta: &str) -> Result<Connection<MemStore>, Error> {
+    let mut conn = Connection::open_in_memory(alloc)?;
+    rows::begin(&mut conn)?;
+    create(&mut conn)?;
+    conn.execute_batch(meta)?;
+    conn.execute_batch("COMMIT")?;
+    Ok(conn)
+}
+
+const OURS: &str =
+    "INSERT INTO meta VALUES (1, 1, 946684800, 'test', '', 1, 1, 1, 1, 1, 1, 1, 1, 1, 0, 0, 0)";
+
+const LATER: &str =
+    "INSERT INTO meta VALUES (1, 2, 946684800, 'test', '', 1, 1, 1, 1, 1, 1, 1, 1, 1, 0, 0, 0)";
+
+fn ready_with(alloc: Global, meta: &str) -> Result<Ready, BookFault> {
+    let Ok(conn) = with_tables(alloc, meta) else {
+        return Err(BookFault::Store);
+    };
+    let mut store = RowStore::adopt(conn, alloc)?;
+    store.ready()
+}
+
+#[test]
+fn adopts_a_database_with_its_tables(rt: HostRuntime) -> Result<(), BookFault> {
+    let alloc = rt.alloc();
+    assert!(rt; ready_with(alloc, OURS)? == Ready::Used);
+    assert!(rt; ready_with(alloc, LATER)? == Ready::Other);
+    Ok(())
+}
+
+fn with_another(alloc: Global) -> Result<Connection<MemStore>, Error> {
+    let mut conn = Connection::open_in_memory(alloc)?;
+    conn.execute_batch("CREATE TABLE other (id INTEGER PRIMARY KEY)")?;
+    Ok(conn)
+}
+
+#[test]
+fn sees_no_row_of_anything_else(rt: HostRuntime) -> Result<(), BookFault> {
+    let alloc = rt.alloc();
+    let Ok(conn) = with_another(alloc) else {
+        return Err(BookFault::Store);
+    };
+    let mut store = RowStore::adopt(conn, alloc)?;
+    assert!(rt; store.ready()? == Ready::Other);
+    Ok(())
+}
+
+#[test]
 fn stores_a_balance_the_highest_byte_first(rt: HostRuntime) {
     let bytes = bytes_of_balance(-800);
     assert_eq!(rt; (bytes[0], bytes[14], bytes[15]), (0xff, 0xfc, 0xe0));

@@ -1,8 +1,7 @@
 //! Books that were used before.
 ghost use Rattle.std.specs.Prelude.{◌≡◌, true, false, IfOk, OnOk};
-ghost use Rattle.store.specs.Plain.{plain_state};
 
-use crate::fixtures::{POLICY, policy_of};
+use crate::fixtures::{POLICY, new_book, policy_of};
 use basis::list::Seq;
 use basis::registrar::RegistrarNo;
 use calendar::Moment;
@@ -10,8 +9,9 @@ use policy::Terms;
 use registry::{OpenFault, Registry};
 use rules::Change;
 use std::alloc::Global;
+use std::process::Abort;
 use std::test::Fail;
-use store::{Book, PlainBook};
+use store::Book;
 
 /// The terms of a policy's text.
 fn terms_of(alloc: Global, text: &str) -> Result<Terms, Fail> {
@@ -20,9 +20,9 @@ fn terms_of(alloc: Global, text: &str) -> Result<Terms, Fail> {
 }
 
 /// Puts terms down in a book.
-fn put_down(book: &mut PlainBook, terms: Terms) -> Result<(), Fail>
-    requires { (plain_state book.old).is_open ≡ false }
-    ensures { OnOk result ((plain_state book.new).is_open ≡ false) }
+fn put_down<B: Book>(book: &mut B, terms: Terms) -> Result<(), Fail>
+    requires { (B.state book.old).is_open ≡ false }
+    ensures { OnOk result ((B.state book.new).is_open ≡ false) }
 {
     book.begin()?;
     book.keep_terms(terms)?;
@@ -30,20 +30,28 @@ fn put_down(book: &mut PlainBook, terms: Terms) -> Result<(), Fail>
     Ok(())
 }
 
-/// A book that was used under a policy.
-fn used_under(alloc: Global, text: &str) -> Result<PlainBook, Fail>
-    ensures { IfOk result (λ book. (plain_state book).is_open ≡ false) }
+/// The book, used under a policy.
+fn used_under<B: Book + Drop>(alloc: Global, book: B, text: &str) -> Result<B, Fail>
+    requires { (B.state book).is_open ≡ false }
+    ensures { IfOk result (λ used. (B.state used).is_open ≡ false) }
 {
     let terms = terms_of(alloc, text)?;
-    let mut book = PlainBook::new(alloc);
+    let mut book = book;
     put_down(&mut book, terms)?;
     Ok(book)
 }
 
 /// What stops a book that was used under one policy from being opened under another.
-fn fault_of(alloc: Global, earlier: &str, later: &str) -> Result<Option<OpenFault>, Fail> {
+fn fault_of<B: Book + Drop>(
+    alloc: Global,
+    book: B,
+    earlier: &str,
+    later: &str,
+) -> Result<Option<OpenFault>, Fail>
+    requires { (B.state book).is_open ≡ false }
+{
     let policy = policy_of(alloc, later)?;
-    let book = used_under(alloc, earlier)?;
+    let book = used_under(alloc, book, earlier)?;
     match Registry::open(alloc, book, policy) {
         Ok(_) => Ok(None),
         Err((fault, _)) => Ok(Some(fault)),
@@ -54,8 +62,9 @@ fn fault_of(alloc: Global, earlier: &str, later: &str) -> Result<Option<OpenFaul
 fn used_books(rt: HostRuntime) -> Result<(), Fail> {
     let alloc = rt.alloc();
     let dearer = POLICY.replace(alloc, "create = 800", "create = 900")?;
-    assert!(rt; fault_of(alloc, POLICY, POLICY)?.is_none());
-    assert!(rt; fault_of(alloc, dearer.as_str(), POLICY)? == Some(OpenFault::Policy));
+    assert!(rt; fault_of(alloc, new_book(alloc), POLICY, POLICY)?.is_none());
+    let fault = fault_of(alloc, new_book(alloc), dearer.as_str(), POLICY)?;
+    assert!(rt; fault == Some(OpenFault::Policy));
     Ok(())
 }
 
@@ -77,9 +86,9 @@ fn changes(alloc: Global) -> Result<Seq<Change>, Fail> {
 }
 
 /// Makes the changes in an open transaction.
-fn change(alloc: Global, book: &mut PlainBook) -> Result<(), Fail>
-    requires { (plain_state book.old).is_open ≡ true }
-    ensures { OnOk result ((plain_state book.new).is_open ≡ true) }
+fn change<B: Book>(alloc: Global, book: &mut B) -> Result<(), Fail>
+    requires { (B.state book.old).is_open ≡ true }
+    ensures { OnOk result ((B.state book.new).is_open ≡ true) }
 {
     let policy = policy_of(alloc, POLICY)?;
     let changes = changes(alloc)?;
@@ -90,10 +99,12 @@ fn change(alloc: Global, book: &mut PlainBook) -> Result<(), Fail>
     }
 }
 
-#[test]
-fn a_book_goes_back(rt: HostRuntime) -> Result<(), Fail> {
+/// A book that is new goes back to where it began.
+fn goes_back<B: Book + Drop>(rt: &(impl Abort + AllocGlobal), book: B) -> Result<(), Fail>
+    requires { (B.state book).is_open ≡ false }
+{
     let alloc = rt.alloc();
-    let mut book = PlainBook::new(alloc);
+    let mut book = book;
     book.begin()?;
     change(alloc, &mut book)?;
     assert_eq!(rt; book.clock()?.secs(), 1_830_297_600);
@@ -101,4 +112,9 @@ fn a_book_goes_back(rt: HostRuntime) -> Result<(), Fail> {
     assert_eq!(rt; book.clock()?.secs(), 946_684_800);
     assert!(rt; book.terms()?.is_none());
     Ok(())
+}
+
+#[test]
+fn a_book_goes_back(rt: HostRuntime) -> Result<(), Fail> {
+    goes_back(&rt, new_book(rt.alloc()))
 }

@@ -1,18 +1,16 @@
 //! Sessions with a registry: the replies to the bytes of a connection, for what no contract says, that
 //! they succeed where memory is ample.
 
-use crate::fixtures::{POLICY, policy_of};
+use crate::fixtures::registry_of;
 use crate::frames::whole;
 use calendar::Moment;
 use eppframes::ListClock;
 use eppsessions::Connection;
-use registry::Registry;
 use sessions::{SessionEnd, serve_session};
 use std::alloc::Global;
 use std::collections::VecDeque;
 use std::io::Read;
 use std::test::Fail;
-use store::PlainBook;
 
 /// A moment of 2029, in seconds since 1970-01-01T00:00:00Z.
 const IN_2029: i64 = 1_861_920_000;
@@ -38,11 +36,7 @@ fn told_at<R: Read>(
     moments: &[i64],
 ) -> Result<(Vec<u8>, SessionEnd), Fail> {
     let mut clock = clock_of(alloc, moments)?;
-    let Ok(registry) = Registry::open(alloc, PlainBook::new(alloc), policy_of(alloc, POLICY)?)
-    else {
-        return Err(Fail::from("not opened"));
-    };
-    let mut connection = Connection::new(alloc, registry);
+    let mut connection = Connection::new(alloc, registry_of(alloc)?);
     let mut out = Vec::new(alloc);
     let end = serve_session(alloc, reader, &mut out, &mut clock, &mut connection);
     drop(connection.into_registry());

@@ -1,14 +1,15 @@
 //! What everyone may know of a registry, for what no contract says: that look-ups succeed where memory
 //! is ample.
 
-use crate::serving::registry_of;
+use crate::fixtures::registry_of;
 use basis::text::Text;
 use calendar::Moment;
 use names::{DomainName, HostName};
 use registry::Registry;
 use std::alloc::Global;
+use std::process::Abort;
 use std::test::Fail;
-use store::PlainBook;
+use store::Book;
 
 fn moment() -> Result<Moment, Fail> {
     let moment = Moment::of_secs(1_861_920_000).map_err(|_| "range")?;
@@ -16,7 +17,7 @@ fn moment() -> Result<Moment, Fail> {
 }
 
 /// Whether the look-up of a domain that isn't there succeeds.
-fn has_no_domain(alloc: Global, registry: &mut Registry<PlainBook>) -> Result<bool, Fail> {
+fn has_no_domain<B: Book + Drop>(alloc: Global, registry: &mut Registry<B>) -> Result<bool, Fail> {
     let moment = moment()?;
     let Ok(name) = DomainName::read(alloc, "foo.test", registry.policy().zone()) else {
         return Err(Fail::from("no name"));
@@ -28,7 +29,7 @@ fn has_no_domain(alloc: Global, registry: &mut Registry<PlainBook>) -> Result<bo
 }
 
 /// Whether the look-up of a host that isn't there succeeds.
-fn has_no_host(alloc: Global, registry: &mut Registry<PlainBook>) -> Result<bool, Fail> {
+fn has_no_host<B: Book + Drop>(alloc: Global, registry: &mut Registry<B>) -> Result<bool, Fail> {
     let moment = moment()?;
     let Ok(name) = HostName::read(alloc, "ns1.example.net", registry.policy().zone()) else {
         return Err(Fail::from("no name"));
@@ -40,7 +41,7 @@ fn has_no_host(alloc: Global, registry: &mut Registry<PlainBook>) -> Result<bool
 }
 
 /// Whether the look-up of a contact that isn't there succeeds.
-fn has_no_contact(alloc: Global, registry: &mut Registry<PlainBook>) -> Result<bool, Fail> {
+fn has_no_contact<B: Book + Drop>(alloc: Global, registry: &mut Registry<B>) -> Result<bool, Fail> {
     let moment = moment()?;
     let name = Text::from_str(alloc, "c-alfa")?;
     match registry.contact_face(&name, moment) {
@@ -50,7 +51,10 @@ fn has_no_contact(alloc: Global, registry: &mut Registry<PlainBook>) -> Result<b
 }
 
 /// Whether the pieces of a zone are told, of which there are none.
-fn has_an_empty_zone(alloc: Global, registry: &mut Registry<PlainBook>) -> Result<bool, Fail> {
+fn has_an_empty_zone<B: Book + Drop>(
+    alloc: Global,
+    registry: &mut Registry<B>,
+) -> Result<bool, Fail> {
     let moment = moment()?;
     let name = Text::from_str(alloc, "foo.test")?;
     let Ok(names) = registry.domain_names(moment) else {
@@ -65,13 +69,22 @@ fn has_an_empty_zone(alloc: Global, registry: &mut Registry<PlainBook>) -> Resul
     Ok(names.is_empty() && domain.is_none() && addresses.is_none())
 }
 
-#[test]
-fn of_a_new_registry(rt: HostRuntime) -> Result<(), Fail> {
+/// Nothing is found in a registry that is new.
+fn finds_nothing<B: Book + Drop>(
+    rt: &(impl Abort + AllocGlobal),
+    registry: Registry<B>,
+) -> Result<(), Fail> {
     let alloc = rt.alloc();
-    let mut registry = registry_of(alloc)?;
+    let mut registry = registry;
     assert!(rt; has_no_domain(alloc, &mut registry)?);
     assert!(rt; has_no_host(alloc, &mut registry)?);
     assert!(rt; has_no_contact(alloc, &mut registry)?);
     assert!(rt; has_an_empty_zone(alloc, &mut registry)?);
     Ok(())
+}
+
+#[test]
+fn of_a_new_registry(rt: HostRuntime) -> Result<(), Fail> {
+    let registry = registry_of(rt.alloc())?;
+    finds_nothing(&rt, registry)
 }

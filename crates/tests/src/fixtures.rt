@@ -1,7 +1,12 @@
 //! What the tests share.
+ghost use Rattle.std.specs.Prelude.{◌≡◌, false};
+ghost use Rattle.store.specs.Plain.{plain_state};
+
 use policy::Policy;
+use registry::Registry;
 use std::alloc::Global;
 use std::test::Fail;
+use store::{Book, PlainBook};
 
 /// A policy of two registrars, at whose prices each year costs eight units.
 pub const POLICY: &str = r#"zone = "test"
@@ -42,4 +47,27 @@ pub fn policy_of(alloc: Global, text: &str) -> Result<Policy, Fail> {
         Ok(policy) => Ok(policy),
         Err(_) => Err(Fail::from("no policy")),
     }
+}
+
+/// The book of the tests, which is new.
+pub fn new_book(alloc: Global) -> PlainBook
+    ensures { (plain_state result).is_open ≡ false }
+{
+    PlainBook::new(alloc)
+}
+
+/// A registry that is opened over a book.
+pub fn registry_over<B: Book + Drop>(alloc: Global, book: B) -> Result<Registry<B>, Fail>
+    requires { (B.state book).is_open ≡ false }
+{
+    let policy = policy_of(alloc, POLICY)?;
+    match Registry::open(alloc, book, policy) {
+        Ok(registry) => Ok(registry),
+        Err(_) => Err(Fail::from("not opened")),
+    }
+}
+
+/// A registry that is new, over the book of the tests.
+pub fn registry_of(alloc: Global) -> Result<Registry<PlainBook>, Fail> {
+    registry_over(alloc, new_book(alloc))
 }

@@ -2,7 +2,7 @@
 //! asked for.
 
 use crate::connections::framed;
-use crate::fixtures::{POLICY, policy_of};
+use crate::fixtures::registry_of;
 use crate::frames::whole;
 use basis::text::Text;
 use calendar::Moment;
@@ -16,7 +16,7 @@ use std::alloc::{AllocError, Global};
 use std::collections::VecDeque;
 use std::io::Read;
 use std::test::Fail;
-use store::PlainBook;
+use store::Book;
 
 /// What alfa sends, and when.
 type Line = (&'static str, &'static str);
@@ -101,21 +101,12 @@ fn frames_of(alloc: Global, lines: &[Line]) -> Result<Vec<u8>, Fail> {
     Ok(bytes)
 }
 
-/// A registry that is new.
-fn opened(alloc: Global) -> Result<Registry<PlainBook>, Fail> {
-    let policy = policy_of(alloc, POLICY)?;
-    match Registry::open(alloc, PlainBook::new(alloc), policy) {
-        Ok(registry) => Ok(registry),
-        Err(_) => Err(Fail::from("not opened")),
-    }
-}
-
 /// The registry in which an order was carried out.
-fn carried_out(
-    registry: Registry<PlainBook>,
+fn carried_out<B: Book + Drop>(
+    registry: Registry<B>,
     order: &Order,
     at: Moment,
-) -> Option<Registry<PlainBook>> {
+) -> Option<Registry<B>> {
     let mut registry = registry;
     match registry.operator(order, at) {
         Ok(_) => Some(registry),
@@ -123,14 +114,13 @@ fn carried_out(
     }
 }
 
-/// A registry that is new, in which alfa has paid.
-fn paid(alloc: Global) -> Result<Registry<PlainBook>, Fail> {
+/// The registry, once alfa has paid.
+fn paid<B: Book + Drop>(alloc: Global, registry: Registry<B>) -> Result<Registry<B>, Fail> {
     let start = moment(START)?;
     let order = Order::Deposit {
         registrar: Text::from_str(alloc, "alfa")?,
         cents: 100_000,
     };
-    let registry = opened(alloc)?;
     match carried_out(registry, &order, start) {
         Some(registry) => Ok(registry),
         None => Err(Fail::from("not paid")),
@@ -138,23 +128,27 @@ fn paid(alloc: Global) -> Result<Registry<PlainBook>, Fail> {
 }
 
 /// What a connection is told, and what it leaves.
-fn served<R: Read>(
+fn served<R: Read, B: Book + Drop>(
     alloc: Global,
     reader: &mut R,
     clock: ListClock,
-    registry: Registry<PlainBook>,
-) -> (Vec<u8>, Served<PlainBook>) {
+    registry: Registry<B>,
+) -> (Vec<u8>, Served<B>) {
     let mut clock = clock;
     let mut told = Vec::new(alloc);
     let served = serve_one(alloc, reader, &mut told, &mut clock, registry);
     (told, served)
 }
 
-/// The registry after a session of these lines.
-fn filled(alloc: Global, lines: &[Line]) -> Result<Registry<PlainBook>, Fail> {
+/// A registry that is new, after a session of these lines.
+fn filled<B: Book + Drop>(
+    alloc: Global,
+    registry: Registry<B>,
+    lines: &[Line],
+) -> Result<Registry<B>, Fail> {
     let asked = frames_of(alloc, lines)?;
     let clock = clock_of(alloc, lines)?;
-    let registry = paid(alloc)?;
+    let registry = paid(alloc, registry)?;
     let (_, served) = served(alloc, &mut whole(&asked), clock, registry);
     match served.end {
         ConnectionEnd::Session(SessionEnd::End) => Ok(served.registry),
@@ -175,7 +169,7 @@ fn answers(
     let clock = clock_of(alloc, &[(at, "")])?;
     let mut reader = whole(request);
     reader.step = step;
-    let registry = filled(alloc, lines)?;
+    let registry = filled(alloc, registry_of(alloc)?, lines)?;
     let (told, served) = served(alloc, &mut reader, clock, registry);
     Ok(told.as_slice() == wanted && served.end == ConnectionEnd::Http(end))
 }
@@ -430,7 +424,12 @@ const ZONES: &[(&[Line], &str, &str)] = &[
 ];
 
 /// Whether the zone of a registry is this text.
-fn has_zone(alloc: Global, registry: Registry<PlainBook>, at: Moment, wanted: &str) -> bool {
+fn has_zone<B: Book + Drop>(
+    alloc: Global,
+    registry: Registry<B>,
+    at: Moment,
+    wanted: &str,
+) -> bool {
     let mut registry = registry;
     let mut text = Vec::new(alloc);
     let written = zone_on(alloc, &mut registry, at, &mut text);
@@ -443,7 +442,7 @@ fn zones(rt: HostRuntime) -> Result<(), Fail> {
     let alloc = rt.alloc();
     for (lines, told, wanted) in ZONES.iter().copied() {
         let at = moment(told)?;
-        let registry = filled(alloc, lines)?;
+        let registry = filled(alloc, registry_of(alloc)?, lines)?;
         assert!(rt; has_zone(alloc, registry, at, wanted), "{told}");
     }
     Ok(())

@@ -7,6 +7,8 @@ mod books;
 #[cfg(test)]
 mod connections;
 #[cfg(test)]
+mod deposits;
+#[cfg(test)]
 mod faces;
 #[cfg(test)]
 mod fixtures;

@@ -1,11 +1,13 @@
 //! What no transcript can say: input and output that fail, lines that aren't text, and statuses.
 
-use crate::fixtures::POLICY;
-use script::{Exit, run_script};
+use crate::fixtures::{POLICY, registry_of};
+use registry::Registry;
+use script::{Exit, run_on, run_script};
 use std::alloc::Global;
 use std::io::{self, Read, Write};
 use std::process::Abort;
 use std::test::Fail;
+use store::Book;
 
 /// A line whose payload is empty, and what it is answered the first time.
 const LINE: &[u8] = b"2028-01-01T00:00:00Z alfa \n";
@@ -163,6 +165,30 @@ fn lines(rt: HostRuntime) -> Result<(), Fail> {
     Ok(())
 }
 
+/// A script goes on in the registry that the one before it left, also one that stopped.
+fn goes_on<B: Book + Drop>(
+    rt: &(impl Abort + AllocGlobal),
+    registry: Registry<B>,
+) -> Result<(), Fail> {
+    let alloc = rt.alloc();
+    let mut registry = registry;
+    let mut output = Vec::new(alloc);
+    let first = run_on(alloc, &mut registry, LINE, &mut output);
+    assert!(rt; matches!(first, Exit::Done) && output.as_slice() == REPLY);
+    let stopped = run_on(alloc, &mut registry, b"?".as_slice(), &mut output);
+    assert!(rt; matches!(stopped, Exit::Script(1)) && output.as_slice() == REPLY);
+    output.clear();
+    let next = run_on(alloc, &mut registry, LINE, &mut output);
+    assert!(rt; matches!(next, Exit::Done) && output.ends_with(b"\"alfa-2\"}\n"));
+    Ok(())
+}
+
+#[test]
+fn scripts_in_a_row(rt: HostRuntime) -> Result<(), Fail> {
+    let registry = registry_of(rt.alloc())?;
+    goes_on(&rt, registry)
+}
+
 /// A payload of more than 65,536 bytes is one command.
 #[test]
 fn long_lines(rt: HostRuntime) -> Result<(), Fail> {
@@ -196,12 +222,14 @@ fn statuses(rt: HostRuntime) -> Result<(), Fail> {
             2,
             "usage: tldreg run|serve|zone|deposit POLICY ...",
         ),
+        (Exit::Refused, 1, ""),
         (Exit::Script(18), 1, "script: line 18"),
         (Exit::File, 1, "file fault"),
         (Exit::Memory, 1, "out of memory"),
     ];
     for (exit, status, text) in rows {
         assert_eq!(&rt; exit.status(), status);
+        assert_eq!(&rt; exit.has_line(), !text.is_empty());
         assert!(&rt; format!(in alloc; "{exit}")?.as_str() == text);
     }
     Ok(())

@@ -2,7 +2,7 @@
 //! that go out, and that what one of them did is there in the next.
 
 use crate::connections::framed;
-use crate::fixtures::{POLICY, policy_of};
+use crate::fixtures::registry_of;
 use crate::frames::whole;
 use calendar::Moment;
 use eppframes::ListClock;
@@ -15,16 +15,7 @@ use std::io::{self, Read, Write};
 use std::net::{Ipv4Addr, Net, Shutdown, TcpListener, TcpStream};
 use std::process::Abort;
 use std::test::Fail;
-use store::PlainBook;
-
-/// A registry that is new.
-pub(crate) fn registry_of(alloc: Global) -> Result<Registry<PlainBook>, Fail> {
-    let policy = policy_of(alloc, POLICY)?;
-    match Registry::open(alloc, PlainBook::new(alloc), policy) {
-        Ok(registry) => Ok(registry),
-        Err(_) => Err(Fail::from("not opened")),
-    }
-}
+use store::Book;
 
 /// A clock that tells the same moment of 2029 for eight frames.
 fn clock_of(alloc: Global) -> Result<ListClock, Fail> {
@@ -112,12 +103,12 @@ where
 }
 
 /// Serves a connection over a socket, and then reads what came back.
-fn over_a_socket<R>(
+fn over_a_socket<R, B: Book + Drop>(
     rt: &R,
     listener: &TcpListener,
     exchange: Exchange,
-    registry: Registry<PlainBook>,
-) -> Registry<PlainBook>
+    registry: Registry<B>,
+) -> Registry<B>
 where
     R: Net<Listener = TcpListener, Stream = TcpStream> + Abort + AllocGlobal,
 {
@@ -135,23 +126,31 @@ where
     served.registry
 }
 
-#[test]
-fn loopback(rt: HostRuntime) -> Result<(), Fail> {
-    let listener = TcpListener::bind(&rt, (Ipv4Addr::LOCALHOST, 0))?;
-    let exchanges = exchanges(rt.alloc())?;
-    let mut registry = registry_of(rt.alloc())?;
-    for exchange in exchanges {
-        registry = over_a_socket(&rt, &listener, exchange, registry);
+/// Serves all connections over sockets.
+fn all_over_sockets<R, B: Book + Drop>(rt: &R, registry: Registry<B>) -> Result<(), Fail>
+where
+    R: Net<Listener = TcpListener, Stream = TcpStream> + Abort + AllocGlobal,
+{
+    let listener = TcpListener::bind(rt, (Ipv4Addr::LOCALHOST, 0))?;
+    let mut registry = registry;
+    for exchange in exchanges(rt.alloc())? {
+        registry = over_a_socket(rt, &listener, exchange, registry);
     }
     Ok(())
 }
 
+#[test]
+fn loopback(rt: HostRuntime) -> Result<(), Fail> {
+    let registry = registry_of(rt.alloc())?;
+    all_over_sockets(&rt, registry)
+}
+
 /// Serves a connection whose bytes come one a read.
-fn in_pieces<R: Abort + AllocGlobal>(
+fn in_pieces<R: Abort + AllocGlobal, B: Book + Drop>(
     rt: &R,
     exchange: Exchange,
-    registry: Registry<PlainBook>,
-) -> Registry<PlainBook> {
+    registry: Registry<B>,
+) -> Registry<B> {
     let mut clock = exchange.clock;
     let mut reader = whole(&exchange.asked);
     reader.step = 1;
@@ -162,14 +161,22 @@ fn in_pieces<R: Abort + AllocGlobal>(
     served.registry
 }
 
-#[test]
-fn one_byte_a_read(rt: HostRuntime) -> Result<(), Fail> {
-    let exchanges = exchanges(rt.alloc())?;
-    let mut registry = registry_of(rt.alloc())?;
-    for exchange in exchanges {
-        registry = in_pieces(&rt, exchange, registry);
+/// Serves all connections, one byte a read.
+fn all_in_pieces<R: Abort + AllocGlobal, B: Book + Drop>(
+    rt: &R,
+    registry: Registry<B>,
+) -> Result<(), Fail> {
+    let mut registry = registry;
+    for exchange in exchanges(rt.alloc())? {
+        registry = in_pieces(rt, exchange, registry);
     }
     Ok(())
+}
+
+#[test]
+fn one_byte_a_read(rt: HostRuntime) -> Result<(), Fail> {
+    let registry = registry_of(rt.alloc())?;
+    all_in_pieces(&rt, registry)
 }
 
 const ENDS: &[(&[u8], usize, ConnectionEnd)] = &[

@@ -24,6 +24,14 @@ pub enum Task {
         database: String,
         moment: Moment,
     },
+    /// `deposit POLICY DB MOMENT REGISTRAR CENTS`
+    Deposit {
+        policy: String,
+        database: String,
+        moment: Moment,
+        registrar: String,
+        cents: i64,
+    },
 }
 
 /// The task of the words behind the program's name.
@@ -49,6 +57,19 @@ pub fn read_task(rt: &(impl Env + AllocGlobal)) -> Result<Task, Exit> {
                 policy,
                 database,
                 moment: moment_of(moment.as_str())?,
+            }
+        }
+        "deposit" => {
+            let database = given(words.next())?;
+            let moment = given(words.next())?;
+            let registrar = given(words.next())?;
+            let cents = given(words.next())?;
+            Task::Deposit {
+                policy,
+                database,
+                moment: moment_of(moment.as_str())?,
+                registrar,
+                cents: cents_of(cents.as_str())?,
             }
         }
         _ => return Err(Exit::Usage),
@@ -80,5 +101,13 @@ fn moment_of(word: &str) -> Result<Moment, Exit> {
     match Moment::read(word) {
         Some(moment) => Ok(moment),
         None => Err(Exit::Usage),
+    }
+}
+
+/// A number of cents, whether so many can be deposited or not.
+fn cents_of(word: &str) -> Result<i64, Exit> {
+    match word.parse() {
+        Ok(cents) => Ok(cents),
+        Err(_) => Err(Exit::Usage),
     }
 }

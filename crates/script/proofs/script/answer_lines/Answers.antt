@@ -1,25 +1,36 @@
-use Rattle.std.proofs.Common.{◌≡◌, ◌∙◌, ◌<◌, ◌++◌, ◌∷◌, [], ap, length, length-append, IfSome, arith}
+use Rattle.std.proofs.Common.{◌≡◌, ◌∙◌, ◌<◌, ◌++◌, ◌∷◌, [], ap, refl, length, length-append, IfSome, arith}
 use Rattle.std.proofs.lemmas.Result.{err_from_is_err_and}
 use Rattle.std.specs.Io.BufRead.{strip_last, take_through}
 use Rattle.script.specs.Runs.{end_of}
-use Rattle.script.proofs.RunLemmas.{Appends-printed, Ends-done, Ends-halted, Prints-told, Reads-more}
+use Rattle.script.proofs.RunLemmas.{AreTold-more, AreTold-nil, Ends-done, Ends-halted, Follows-refl, Follows-trans, Reads-more, Reads-nil}
 use Rattle.script.proofs.script.answer_lines.Goals as goal
 
-pub returns-then-branch-eq0 : goal.returns-then-branch-eq0
-returns-then-branch-eq0 g c =
-    let before = c.loop-number.invariant in
-    Ends-done _ before.lines before.replies _ _ _ _ _ _ before.read (c.in_ok-read_until.ensures.end c.if-branch-eq0.true) before.prints before.written
+pub loop-number-init : goal.loop-number-init
+loop-number-init g c = record {
+  lines = [];
+  policy = refl;
+  count = refl;
+  read = Reads-nil _;
+  follows = Follows-refl _;
+  told = λ clean. AreTold-nil _ _ _;
+}
 
-pub returns-in_err-print_answer : goal.returns-in_err-print_answer
-returns-in_err-print_answer g c =
+pub returns-then-branch-eq0-clause-ends : goal.returns-then-branch-eq0-clause-ends
+returns-then-branch-eq0-clause-ends g c =
+    let before = c.loop-number.invariant in
+    Ends-done _ _ before.lines _ _ _ _ _ _ before.read (c.in_ok-read_until.ensures.end c.if-branch-eq0.true) before.told
+
+pub returns-in_err-print_answer-clause-ends : goal.returns-in_err-print_answer-clause-ends
+returns-in_err-print_answer-clause-ends g c =
     let before = c.loop-number.invariant in
     let text = c.read_until.new.buf.items in
     let line : c.without_end.result.now ≡ strip_last 10 text = c.without_end.ensures ∙ ap (strip_last 10) c.deref.ensures.value in
     let read : IfSome (g.R.Read.remaining c.loop-number.reader) (λ xs. text ≡ take_through 10 xs) = rw c.clear.ensures.items at c.in_ok-read_until.ensures.bytes in
     let some : 0 < length text = omega (arith, ap length c.deref.ensures.value, c.deref.ensures.len, c.in_ok-read_until.ensures.ok, c.clear.ensures.len) in
     let gave = err_from_is_err_and c.from_residual-in_err-print_answer.result c.from_residual-in_err-print_answer.ensures.1 in
-    Ends-halted _ _ c.in_err-print_answer.field-0.0 _ before.lines before.replies text _ c.loop-number.number _ _ _ _ _ _ _
-    before.policy (ap end_of gave.1 ∙ gave.2) line before.read read some before.count before.prints before.written c.in_err-print_answer.ensures.stopped
+    let halted = c.in_err-print_answer.ensures in
+    Ends-halted _ _ c.in_err-print_answer.field-0.0 _ before.lines text _ c.loop-number.number _ _ _ _ _ _ _ _
+    before.policy (ap end_of gave.1 ∙ gave.2) line before.read read some before.count before.told halted.follows halted.stopped halted.left
 
 pub loop-number-preserved : goal.loop-number-preserved
 loop-number-preserved g c =
@@ -28,13 +39,12 @@ loop-number-preserved g c =
     let line : c.without_end.result.now ≡ strip_last 10 text = c.without_end.ensures ∙ ap (strip_last 10) c.deref.ensures.value in
     let read : IfSome (g.R.Read.remaining c.loop-number.reader) (λ xs. text ≡ take_through 10 xs) = rw c.clear.ensures.items at c.in_ok-read_until.ensures.bytes in
     let some : 0 < length text = omega (arith, ap length c.deref.ensures.value, c.deref.ensures.len, c.in_ok-read_until.ensures.ok, c.clear.ensures.len) in
-    let told = c.in_ok-print_answer.ensures.told in
+    let told = c.in_ok-print_answer.ensures in
     record {
       lines = before.lines ++ strip_last 10 text ∷ [];
-      replies = before.replies ++ told.0;
-      policy = c.in_ok-print_answer.ensures.policy ∙ before.policy;
+      policy = told.policy ∙ before.policy;
       count = omega (arith, length-append before.lines (strip_last 10 text ∷ []));
       read = Reads-more before.lines _ _ _ text before.read read c.in_ok-read_until.ensures.rest some;
-      prints = Prints-told _ _ before.lines (strip_last 10 text) _ _ _ _ before.replies told.0 before.policy line before.prints told.1;
-      written = Appends-printed _ _ _ before.replies told.0 before.written told.2;
+      follows = Follows-trans _ _ _ before.follows told.follows;
+      told = λ clean. AreTold-more _ _ before.lines (strip_last 10 text) _ _ _ _ _ _ _ before.policy line (before.told (told.follows.clean clean)) (told.told clean);
     }

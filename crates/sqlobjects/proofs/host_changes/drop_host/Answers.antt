@@ -2,6 +2,7 @@ use Rattle.std.proofs.Common.{None}
 use Rattle.sqlobjects.specs.Changes.{IsHostPut}
 use Rattle.sqlobjects.specs.Stages.{IsHostDropped}
 use Rattle.sqlobjects.proofs.HostLemmas.{dropped}
+use Rattle.sqlobjects.proofs.SponsorLemmas.{found-right}
 use Rattle.sqlobjects.proofs.StepLemmas.{asked-then}
 use Rattle.sqlobjects.proofs.host_changes.drop_host.Goals as goal
 
@@ -12,7 +13,7 @@ returns g c =
     let row = c.in_ok-row.row in
     let asked = c.in_ok-row.ensures in
     let made = c.in_ok-remove_found.ensures {u = tt} in
-    asked-then (IsHostDropped row) (IsHostPut c.args.name None) old c.row_named.new.store new asked.0 made
+    asked-then (IsHostDropped row) (IsHostPut c.args.name None) old c.row_to_change.new.store new asked.0 made
     (λ clean step.
     let before = made.clean clean in
-    dropped old.content new.content c.args.name (c.whole.ensures (asked.0.clean before)) (c.whole-2.ensures clean) row (asked.1 before) step)
+    dropped old.content new.content c.args.name (c.whole.ensures (asked.0.clean before)) (c.whole-2.ensures clean) (found-right old.content c.args.name row (asked.1 before)) row (asked.1 before).rows step)

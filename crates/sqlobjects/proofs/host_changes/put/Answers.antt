@@ -2,8 +2,9 @@ use Rattle.std.proofs.Common.{Some, subst}
 use Rattle.tables.specs.Whole.{IsWhole}
 use Rattle.meanings.specs.Calls.{Became}
 use Rattle.sqlobjects.specs.Changes.{IsHostPut}
-use Rattle.sqlobjects.specs.Stages.{AreAddressesPut, IsHostPlaced}
+use Rattle.sqlobjects.specs.Stages.{AreAddressesPut, IsHostPlacedRight}
 use Rattle.sqlobjects.proofs.HostLemmas.{host-put}
+use Rattle.sqlobjects.proofs.SponsorLemmas.{found-right}
 use Rattle.sqlobjects.proofs.StepLemmas.{became-whole}
 use Rattle.sqlobjects.proofs.host_changes.put.Goals as goal
 
@@ -14,6 +15,6 @@ returns g c =
     let new = c.put_addresses.new.store in
     let host = c.args.host.now in
     let row = c.in_ok-row.row in
-    became-whole (λ a b. IsWhole a → IsHostPlaced host row a b) (AreAddressesPut row.id host.addresses) (IsHostPut host.name (Some host)) IsWhole old middle new
+    became-whole (IsHostPlacedRight host row) (AreAddressesPut row.id host.addresses) (IsHostPut host.name (Some host)) IsWhole old middle new
     c.in_ok-row.ensures (subst (λ texts. Became (AreAddressesPut row.id texts) middle new) c.as_slice.ensures (c.in_ok-put_addresses.ensures {u = tt})) c.whole.ensures c.whole-2.ensures
-    (λ whole after placed with. host-put old.content middle.content new.content host row whole after (c.is_host.ensures c.if-not-is_host.false) (placed whole) with)
+    (λ whole after placed with. host-put old.content middle.content new.content host row whole after (c.is_host.ensures c.if-not-is_host.false) (found-right old.content host.name placed.found placed.was) (placed.placed whole) with)

@@ -1,0 +1,12 @@
+use Rattle.meanings.proofs.StateLemmas.{then-became}
+use Rattle.sqldomains.specs.Changes.{IsDomainPut}
+use Rattle.sqlheld.specs.Recounts.{IsRecounted}
+use Rattle.sqlbook.specs.Replacing.{IsExchanged, due_with}
+use Rattle.sqlbook.proofs.changed_domains.exchange.Goals as goal
+
+pub returns : goal.returns
+returns g c =
+    let mid = c.recount.new.store in
+    then-became (IsRecounted c.args.before.now c.args.after) (IsDomainPut c.args.name c.args.after (due_with c.args.after c.args.due)) (IsExchanged c.args.name c.args.before.now c.args.after c.args.due)
+    c.args.store.now mid c.put.new.store (c.in_ok-recount.ensures {u = tt}) (c.in_ok-put.ensures {u = tt})
+    (λ e counted put. record { mid = mid.content; counted = counted; put = put })

@@ -1,0 +1,30 @@
+-- How a book over rows stands at the beginning.
+use Rattle.std.specs.Prelude.{◌≡◌, true, false}
+use Rattle.sqlite_trees.specs.Tree.{Trees}
+use Rattle.store.specs.Book.{BookState, Stored, nothing}
+use Rattle.tables.specs.Decoding.{contents}
+use Rattle.transactions.specs.declared.readiness.Ready.{Ready}
+use Rattle.transactions.specs.declared.readiness.Ready.TheVariants.{Empty, Used, Other}
+use Rattle.sqlbook.specs.Meaning.{stored_of}
+
+-- nothing is in it, it was never opened, and nothing wrong was taken
+pub record IsUnused (s : BookState) : Type 0 where
+  pub content : s.content ≡ nothing
+  pub before : s.before ≡ nothing
+  pub idle : s.is_open ≡ false
+  pub clean : s.is_clean ≡ true
+  pub refused : s.refused ≡ 0
+  pub empty : s.readiness ≡ Empty
+
+-- a registry of this program is what the rows mean, and of anything else nothing is seen
+abbrev pub IsTaken : Ready → Trees → Stored → Type 0
+IsTaken Used trees s = s ≡ stored_of (contents trees)
+IsTaken Empty trees s = s ≡ nothing
+IsTaken Other trees s = s ≡ nothing
+
+-- no transaction is open, and while nothing wrong was taken it holds what the database did
+pub record IsTakenFrom (trees : Trees) (s : BookState) : Type 0 where
+  pub idle : s.is_open ≡ false
+  pub before : s.before ≡ s.content
+  pub refused : s.refused ≡ 0
+  pub content : s.is_clean ≡ true → IsTaken s.readiness trees s.content

@@ -1,0 +1,162 @@
+//! Domains, put and dropped in a book over rows.
+ghost use Rattle.std.specs.Prelude.{◌≡◌, true, Some, None};
+ghost use Rattle.store.specs.Tables as tables;
+ghost use Rattle.meanings.specs.Calls.{Turns};
+ghost use Rattle.transactions.specs.States.{Meets};
+ghost use Rattle.sqlbook.specs.Meaning.{are_right, stored_of};
+ghost use Rattle.sqlbook.specs.Replacing.{IsExchanged, IsExchangedThere, IsReplaced, IsStanding, due_with};
+ghost use Rattle.sqlbook.specs.Seen.{Alters};
+ghost use Rattle.sqldomains.specs.Changes.{IsDomainPut, sponsor_in};
+
+use basis::registrar::RegistrarNo;
+use basis::text::Text;
+use calendar::Moment;
+use objects::Domain;
+use policy::Policy;
+use sqldue::{due_for, same_days, standing};
+use sqlheld::recount;
+use sqlite::Alter;
+use sqlobjects::follow;
+use std::alloc::Global;
+use store::with_host_renamed;
+use tables::RowStore;
+use transactions::BookFault;
+
+/// The domain stands under this name, which has to be its own. Refused is a policy with other days than
+/// those that were put down.
+pub fn put_domain<S: Alter>(
+    store: &mut RowStore<S>,
+    alloc: Global,
+    name: Text,
+    domain: Domain,
+    policy: &Policy,
+) -> Result<(), BookFault>
+    requires { store.old.is_open ≡ true }
+    ensures { Alters result stored_of are_right (tables.domain_put name (Some domain) (stored_of store.old.content)) store.old store.new }
+{
+    let due = due_for(&domain, policy);
+    replace(store, alloc, name, Some(domain), due, policy)
+}
+
+/// No domain stands under this name.
+pub fn drop_domain<S: Alter>(
+    store: &mut RowStore<S>,
+    alloc: Global,
+    name: Text,
+    policy: &Policy,
+) -> Result<(), BookFault>
+    requires { store.old.is_open ≡ true }
+    ensures { Alters result stored_of are_right (tables.domain_put name None (stored_of store.old.content)) store.old store.new }
+{
+    replace(store, alloc, name, None, Moment::first(), policy)
+}
+
+/// The domain that stands under a name, if there is one, names the host of the one name by the other.
+pub fn rename_host<S: Alter>(
+    store: &mut RowStore<S>,
+    alloc: Global,
+    domain: &Text,
+    from: &Text,
+    to: &Text,
+    policy: &Policy,
+) -> Result<(), BookFault>
+    requires { store.old.is_open ≡ true }
+    ensures { Alters result stored_of are_right (tables.host_renamed from.now to.now domain.now (stored_of store.old.content)) store.old store.new }
+{
+    let Some(before) = sqldomains::domain(store, alloc, domain)? else {
+        return Ok(());
+    };
+    let name = domain.clone()?;
+    let renamed = with_host_renamed(alloc, from, to, &before)?;
+    put_domain(store, alloc, name, renamed, policy)
+}
+
+/// The domain that stands under a name, whose row was right, under the days that were put down.
+fn found<S: Alter>(
+    store: &mut RowStore<S>,
+    alloc: Global,
+    name: &Text,
+    policy: &Policy,
+) -> Result<Option<Domain>, BookFault>
+    ensures { Meets result (IsStanding name.now policy.now.days store.old.content) store.old store.new }
+{
+    same_days(store, policy)?;
+    standing(store, alloc, name, policy)
+}
+
+/// One domain, or none, stands in the place of another, or of none, and the hosts below have its sponsor.
+fn replace<S: Alter>(
+    store: &mut RowStore<S>,
+    alloc: Global,
+    name: Text,
+    after: Option<Domain>,
+    due: Moment,
+    policy: &Policy,
+) -> Result<(), BookFault>
+    requires { store.old.is_open ≡ true }
+    ensures { Turns result (IsReplaced name policy.now.days after due) store.old store.new }
+{
+    follow(store, &name, sponsor_of(&after))?;
+    exchange_there(store, alloc, name, after, due, policy)?;
+    Ok(())
+}
+
+fn sponsor_of(domain: &Option<Domain>) -> Option<RegistrarNo>
+    ensures { result ≡ sponsor_in domain.now }
+{
+    match domain {
+        None => None,
+        Some(domain) => Some(domain.sponsor),
+    }
+}
+
+/// One domain, or none, stands in the place of that which stands under the name.
+fn exchange_there<S: Alter>(
+    store: &mut RowStore<S>,
+    alloc: Global,
+    name: Text,
+    after: Option<Domain>,
+    due: Moment,
+    policy: &Policy,
+) -> Result<(), BookFault>
+    requires { store.old.is_open ≡ true }
+    ensures { Turns result (IsExchangedThere name policy.now.days after due) store.old store.new }
+{
+    store.whole();
+    let before = found(store, alloc, &name, policy)?;
+    exchange(store, alloc, name, &before, after, due)?;
+    Ok(())
+}
+
+/// One domain, or none, stands in the place of another, or of none.
+fn exchange<S: Alter>(
+    store: &mut RowStore<S>,
+    alloc: Global,
+    name: Text,
+    before: &Option<Domain>,
+    after: Option<Domain>,
+    due: Moment,
+) -> Result<(), BookFault>
+    requires { store.old.is_open ≡ true }
+    ensures { Turns result (IsExchanged name before.now after due) store.old store.new }
+{
+    recount(store, before, &after)?;
+    put(store, alloc, name, after, due)?;
+    Ok(())
+}
+
+fn put<S: Alter>(
+    store: &mut RowStore<S>,
+    alloc: Global,
+    name: Text,
+    domain: Option<Domain>,
+    due: Moment,
+) -> Result<(), BookFault>
+    requires { store.old.is_open ≡ true }
+    ensures { Turns result (IsDomainPut name domain (due_with domain due)) store.old store.new }
+{
+    match domain {
+        Some(domain) => sqldomains::put_domain(store, alloc, name, domain, due),
+        None => sqldomains::drop_domain(store, name),
+    }
+}

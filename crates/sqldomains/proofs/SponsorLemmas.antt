@@ -1,0 +1,204 @@
+-- Whether stored sponsors of hosts are right is the same after a change as before.
+use Rattle.std.proofs.Common.{◌≡◌, inl, inr, ℕ, ℤ, Bool, true, false, not, cond, ◌&&◌, List, [], ◌∷◌, map, filter, Option, Some, None, is_some, refl, sym, ap, subst, ◌∙◌}
+use Rattle.std.specs.Cmp.Lexicographic.{nat_list_cmp_total}
+use Rattle.std.specs.FinMap.{get, get-insert}
+use Rattle.std.specs.List.{list_all}
+use Rattle.std.proofs.lemmas.Bool.{and_from, and_parts}
+use Rattle.sqlite_rules.specs.Lists.{Has}
+use Rattle.sqlite_typed.specs.Tests.{bytes_eq}
+use Rattle.objects.specs.declared.contact.Contact.{Contact}
+use Rattle.objects.specs.declared.domain.Domain.{Domain}
+use Rattle.objects.specs.declared.host.Host.{Host}
+use Rattle.objects.specs.declared.roid.ObjectKind.TheVariants as kinds
+use Rattle.columns.specs.Domains.{columns_of, deletion_in}
+use Rattle.columns.specs.Numbers.{maybe_moment_in, maybe_registrar_column, moment_in, registrar_column, registrar_in, years_in}
+use Rattle.columns.specs.Registrations.{registration_in}
+use Rattle.columns.specs.Roids.{roid_in}
+use Rattle.columns.specs.Texts.{statuses_in}
+use Rattle.columns.specs.Transfers.{is_same}
+use Rattle.columns.proofs.NumberLemmas.{registrar_written}
+use Rattle.columns.proofs.ReadLemmas.{same_some, step}
+use Rattle.tables.specs.Content.{Content}
+use Rattle.tables.specs.Domain as table
+use Rattle.tables.specs.Host as host_table
+use Rattle.tables.specs.Transfer.{transfer_with_domain}
+use Rattle.tables.proofs.RowLemmas.{bytes_same}
+use Rattle.meanings.specs.Read.{first_read, or_else}
+use Rattle.sqlobjects.specs.Changes.{IsContactPut, IsHostPut, put}
+use Rattle.sqlobjects.specs.Objects.{last_transfer}
+use Rattle.sqlobjects.specs.Sponsors.{AreMoved, IsFollowed, domain_sponsor, first_sponsor, follows, is_sponsor_right, sponsors_are_right, with_sponsor}
+use Rattle.sqlobjects.specs.Stages.{AreOthersKept}
+use Rattle.sqlobjects.proofs.PutLemmas.{bytes_is, filter-has, has-filter}
+use Rattle.sqlobjects.proofs.SponsorLemmas.{same-from, same-is, sponsor-kept}
+use Rattle.sqldomains.specs.Changes.{IsDomainPut, sponsor_in}
+use Rattle.sqldomains.specs.Domains.{domain_of, domains_of, links_of}
+use Rattle.sqldomains.proofs.FoundLemmas.{domain-named}
+
+-- ---- tests of all rows
+
+module _ {A : Type 0} (p : A → Bool) where
+  pub each-passes : (rows : List A) → list_all p rows ≡ true → (row : A) → Has rows row → p row ≡ true
+  each-passes [] all row there = absurd there
+  each-passes (x ∷ rows) all row (inl same) = ap p same ∙ (and_parts (p x) (list_all p rows) all).0
+  each-passes (x ∷ rows) all row (inr later) = each-passes rows (and_parts (p x) (list_all p rows) all).1 row later
+
+  pub all-pass : (rows : List A) → ((row : A) → Has rows row → p row ≡ true) → list_all p rows ≡ true
+  all-pass [] each = refl
+  all-pass (x ∷ rows) each = and_from (p x) (list_all p rows) (each x (inl refl)) (all-pass rows (λ r h. each r (inr h)))
+
+  -- rows that were changed one by one
+  pub all-changed : (q : A → Bool) (f : A → A) (rows : List A) → ((row : A) → Has rows row → q (f row) ≡ p row) → list_all q (map f rows) ≡ list_all p rows
+  all-changed q f [] same = refl
+  all-changed q f (x ∷ rows) same = λ i. same x (inl refl) i && all-changed q f rows (λ r h. same r (inr h)) i
+
+  pub all-alike : (q : A → Bool) (rows : List A) → ((row : A) → Has rows row → q row ≡ p row) → list_all q rows ≡ list_all p rows
+  all-alike q [] same = refl
+  all-alike q (x ∷ rows) same = λ i. same x (inl refl) i && all-alike q rows (λ r h. same r (inr h)) i
+
+both-or-none : (a b : Bool) → (a ≡ true → b ≡ true) → (b ≡ true → a ≡ true) → a ≡ b
+both-or-none true b f g = sym (f refl)
+both-or-none false true f g = g refl
+both-or-none false false f g = refl
+
+-- rows of one name, which pass, in the place of others, which passed
+module _ {P : Type 0} (name : P → List ℕ) (n : List ℕ) (old new : List P) (p q : P → Bool) (others : AreOthersKept name n old new)
+    (alike : (row : P) → Has old row → Has new row → bytes_eq (name row) n ≡ false → q row ≡ p row)
+    (was : (row : P) → Has old row → name row ≡ n → p row ≡ true) (is : (row : P) → Has new row → name row ≡ n → q row ≡ true) where
+  in-new : (row : P) → Has old row → bytes_eq (name row) n ≡ false → Has new row
+  in-new row there other =
+      (has-filter (λ r. bytes_eq (name r) (name row)) new row (subst (λ l. Has l row) (sym (others (name row) other)) (filter-has (λ r. bytes_eq (name r) (name row)) old row there (bytes_same (name row) (name row) refl)))).0
+
+  in-old : (row : P) → Has new row → bytes_eq (name row) n ≡ false → Has old row
+  in-old row there other =
+      (has-filter (λ r. bytes_eq (name r) (name row)) old row (subst (λ l. Has l row) (others (name row) other) (filter-has (λ r. bytes_eq (name r) (name row)) new row there (bytes_same (name row) (name row) refl)))).0
+
+  forth : list_all p old ≡ true → (row : P) → Has new row → (b : Bool) → bytes_eq (name row) n ≡ b → q row ≡ true
+  forth all row there true e = is row there (bytes_is (name row) n e)
+  forth all row there false e = alike row (in-old row there e) there e ∙ each-passes p old all row (in-old row there e)
+
+  back : list_all q new ≡ true → (row : P) → Has old row → (b : Bool) → bytes_eq (name row) n ≡ b → p row ≡ true
+  back all row there true e = was row there (bytes_is (name row) n e)
+  back all row there false e = sym (alike row there (in-new row there e) e) ∙ each-passes q new all row (in-new row there e)
+
+  pub same-verdict : list_all q new ≡ list_all p old
+  same-verdict = both-or-none (list_all q new) (list_all p old) (λ all. all-pass p old (λ row there. back all row there (bytes_eq (name row) n) refl)) (λ all. all-pass q new (λ row there. forth all row there (bytes_eq (name row) n) refl))
+
+-- ---- hosts and domains as they were
+
+pub sponsors-kept : (old new : Content) → new.hosts ≡ old.hosts → new.domains ≡ old.domains → sponsors_are_right new ≡ sponsors_are_right old
+sponsors-kept old new hosts domains = λ i. sponsors_are_right (record new { hosts = hosts i; domains = domains i })
+
+pub contact-sponsors : (name : List ℕ) (value : Option Contact) (old new : Content) → IsContactPut name value old new → sponsors_are_right new ≡ sponsors_are_right old
+contact-sponsors name value old new it = sponsors-kept old new it.host_rows it.domains
+
+-- ---- a host
+
+pub host-sponsors : (name : List ℕ) (value : Option Host) (old new : Content) → IsHostPut name value old new → sponsors_are_right new ≡ sponsors_are_right old
+host-sponsors name value old new it =
+    same-verdict (λ (r : host_table.Host). r.name) name old.hosts new.hosts (is_sponsor_right old) (is_sponsor_right new) it.others
+    (λ row here now other. ap (is_same row.sponsor) (sponsor-kept old new row it.domains)) it.sponsor_was it.sponsor_is
+
+-- ---- a domain
+
+-- the row of a domain has its sponsor
+pub sponsor-read : (xs : Content) (row : table.Domain) (d : Domain) → domain_of xs row ≡ Some d → row.sponsor ≡ registrar_column d.sponsor
+sponsor-read xs row d e =
+    let links = step (links_of xs row) _ d e in
+    let transfer = step (last_transfer (filter (transfer_with_domain row.id) xs.transfers)) _ d links.rest in
+    let r = step (registration_in kinds.Domain (columns_of row)) _ d transfer.rest in
+    let y = step (years_in row.years) _ d r.rest in
+    let s = step (statuses_in row.statuses) _ d y.rest in
+    let x = step (deletion_in row.deleted row.restore_requested) _ d s.rest in
+    let roid = step (roid_in kinds.Domain row.creator row.serial) _ r.given r.is in
+    let sponsor = step (registrar_in row.sponsor) _ r.given roid.rest in
+    let created = step (moment_in row.created) _ r.given sponsor.rest in
+    let transferred = step (maybe_moment_in row.transferred) _ r.given created.rest in
+    let updated = step (maybe_moment_in row.updated) _ r.given transferred.rest in
+    sym (registrar_written row.sponsor sponsor.given sponsor.is)
+    ∙ (λ i. registrar_column (same_some _ r.given updated.rest i).sponsor) ∙ (λ i. registrar_column (same_some _ d x.rest i).sponsor)
+
+-- the domain that is put has its sponsor as that of its row
+module _ (name : List ℕ) (value : Option Domain) (due : Option ℕ) (mid new : Content) (it : IsDomainPut name value due mid new) where
+  stands-now : (d : Domain) → value ≡ Some d → get (domains_of new) name ≡ Some d
+  stands-now d e =
+      ap (λ m. get m name) (it.domains ∙ ap (put (domains_of mid) name) e) ∙ get-insert nat_list_cmp_total (domains_of mid) name d name
+      ∙ ap (λ (b : Bool). cond b (Some d) (get (domains_of mid) name)) (bytes_same name name refl)
+
+  pub sponsor-put : domain_sponsor new name ≡ maybe_registrar_column (sponsor_in value)
+  sponsor-put = go (filter (table.domain_with_name name) new.domains) value refl refl
+    where
+      go : (rows : List table.Domain) (o : Option Domain) → filter (table.domain_with_name name) new.domains ≡ rows → value ≡ o → first_sponsor rows ≡ maybe_registrar_column (sponsor_in value)
+      go [] None e f = ap (λ v. maybe_registrar_column (sponsor_in v)) (sym f)
+      go [] (Some d) e f =
+          absurd (let never : ◌≡◌ {A = Option Domain} None (Some d) = ap (first_read (domain_of new)) (sym e) ∙ domain-named new name ∙ stands-now d f in cc)
+      go (row ∷ rows) o e f =
+          let there = has-filter (table.domain_with_name name) new.domains row (subst (λ l. Has l row) (sym e) (inl refl)) in
+          it.sponsor_is row there.0 (bytes_is row.name name there.1)
+
+-- Hosts follow, accounts are written, and then the domain is put or dropped.
+module _ (name : List ℕ) (value : Option Domain) (due : Option ℕ) (old mid counted new : Content) (followed : IsFollowed name (sponsor_in value) old mid) (accounts : counted ≡ record mid { accounts = counted.accounts })
+    (it : IsDomainPut name value due counted new) where
+  abbrev before : Option ℤ
+  before = domain_sponsor old name
+
+  abbrev after : Option ℤ
+  after = maybe_registrar_column (sponsor_in value)
+
+  rows_now : new.hosts ≡ mid.hosts
+  rows_now = it.host_rows ∙ ap (λ (xs : Content). xs.hosts) accounts
+
+  domains_then : counted.domains ≡ old.domains
+  domains_then = ap (λ (xs : Content). xs.domains) accounts ∙ ap (λ (xs : Content). xs.domains) followed.rest
+
+  other-sponsor : (q : List ℕ) → bytes_eq q name ≡ false → domain_sponsor new q ≡ domain_sponsor old q
+  other-sponsor q other = ap first_sponsor (it.others q other ∙ ap (filter (table.domain_with_name q)) domains_then)
+
+  own-sponsor : (q : List ℕ) → bytes_eq q name ≡ true → domain_sponsor new q ≡ after
+  own-sponsor q e = ap (domain_sponsor new) (bytes_is q name e) ∙ sponsor-put name value due counted new it
+
+  -- a host below whose domain nothing is changed
+  alike : (row : host_table.Host) → domain_sponsor new row.above ≡ domain_sponsor old row.above → is_sponsor_right new row ≡ is_sponsor_right old row
+  alike row same = ap (λ s. is_same row.sponsor (or_else row.external_sponsor s)) same
+
+  -- the sponsor stays
+  stays : is_same before after ≡ true → sponsors_are_right new ≡ sponsors_are_right old
+  stays e =
+      ap (list_all (is_sponsor_right new)) (rows_now ∙ followed.stays e)
+      ∙ all-alike (is_sponsor_right old) (is_sponsor_right new) old.hosts (λ row there. alike row (at row.above (bytes_eq row.above name) refl))
+    where
+      at : (q : List ℕ) (b : Bool) → bytes_eq q name ≡ b → domain_sponsor new q ≡ domain_sponsor old q
+      at q true f = own-sponsor q f ∙ sym (ap (domain_sponsor old) (bytes_is q name f) ∙ same-is before after e)
+      at q false f = other-sponsor q f
+
+  -- a host that follows had the one and has the other
+  moves : AreMoved name before after old.hosts mid.hosts → sponsors_are_right new ≡ sponsors_are_right old
+  moves moved =
+      ap (list_all (is_sponsor_right new)) (rows_now ∙ moved.has)
+      ∙ all-changed (is_sponsor_right old) (is_sponsor_right new) (with_sponsor name after) old.hosts (λ row there. each row there (bytes_eq row.above name) row.external_sponsor refl refl)
+    where
+      so : (row : host_table.Host) (a : Bool) (o : Option ℤ) → bytes_eq row.above name ≡ a → row.external_sponsor ≡ o → follows name row ≡ (a && not (is_some o))
+      so row a o e f = λ i. e i && not (is_some (f i))
+
+      chosen : (row : host_table.Host) (b : Bool) → follows name row ≡ b → with_sponsor name after row ≡ cond b (record row { sponsor = after }) row
+      chosen row b e = ap (λ (t : Bool). cond t (record row { sponsor = after }) row) e
+
+      external : (xs : Content) (row : host_table.Host) (s : ℤ) → row.external_sponsor ≡ Some s → is_sponsor_right xs row ≡ is_same row.sponsor (Some s)
+      external xs row s f = ap (λ o. is_same row.sponsor (or_else o (domain_sponsor xs row.above))) f
+
+      each : (row : host_table.Host) → Has old.hosts row → (a : Bool) (o : Option ℤ) → bytes_eq row.above name ≡ a → row.external_sponsor ≡ o
+          → is_sponsor_right new (with_sponsor name after row) ≡ is_sponsor_right old row
+      each row there false o e f =
+          ap (is_sponsor_right new) (chosen row false (so row false o e f)) ∙ alike row (other-sponsor row.above e)
+      each row there true (Some s) e f =
+          ap (is_sponsor_right new) (chosen row false (so row true (Some s) e f)) ∙ external new row s f ∙ sym (external old row s f)
+      each row there true None e f =
+          ap (is_sponsor_right new) (chosen row true (so row true None e f))
+          ∙ same-from after (or_else row.external_sponsor (domain_sponsor new row.above)) (sym (ap (λ o. or_else o (domain_sponsor new row.above)) f ∙ own-sponsor row.above e))
+          ∙ sym (ap (λ o. is_same row.sponsor (or_else o (domain_sponsor old row.above))) f ∙ ap (λ q. is_same row.sponsor (domain_sponsor old q)) (bytes_is row.above name e) ∙ moved.had row there (so row true None e f))
+
+  pub domain-sponsors : sponsors_are_right new ≡ sponsors_are_right old
+  domain-sponsors = go (is_same before after) refl
+    where
+      go : (b : Bool) → is_same before after ≡ b → sponsors_are_right new ≡ sponsors_are_right old
+      go true e = stays e
+      go false e = moves (followed.moves e)

@@ -1,0 +1,5 @@
+pub mod StandingLemmas
+pub mod OrderLemmas
+pub mod FoundLemmas
+pub mod DueLemmas
+pub mod AnswerLemmas

@@ -1,0 +1,15 @@
+//! When domains and contacts are due, over the rows of a database. The row of each has a column for it,
+//! and what is due by a moment is found by these columns, without a look at the others.
+//!
+//! A contact reads only where its column is right. A domain's column hangs on the days of the terms as
+//! well: it is no later than the moment when time next changes the domain, and each call here refuses
+//! other days than those that the rows were written under.
+#![tactic(auto)]
+
+mod checking;
+mod finding;
+mod length;
+
+pub use checking::{due_for, standing};
+pub use finding::due;
+pub use length::same_days;

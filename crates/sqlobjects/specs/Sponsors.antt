@@ -1,0 +1,56 @@
+-- Who sponsors a host, by rows alone, and whether its row says so.
+use Rattle.std.specs.Prelude.{◌≡◌, ℕ, ℤ, Bool, true, false, not, ◌&&◌, List, [], ◌∷◌, filter, map, Option, Some, None, is_some, if◌then◌else◌}
+use Rattle.std.specs.List.{list_all}
+use Rattle.sqlite_rules.specs.Lists.{Has}
+use Rattle.columns.specs.Numbers.{maybe_registrar_column}
+use Rattle.columns.specs.Transfers.{is_same}
+use Rattle.tables.specs.Content.{Content}
+use Rattle.tables.specs.Domain.{domain_with_name}
+use Rattle.tables.specs.Domain as domain_table
+use Rattle.tables.specs.Host.{Host, host_with_above}
+use Rattle.tables.specs.Whole.{IsWhole}
+use Rattle.meanings.specs.Read.{or_else}
+use Rattle.sqlobjects.specs.Objects.{hosts_of}
+
+abbrev pub first_sponsor : List domain_table.Domain → Option ℤ
+first_sponsor [] = None
+first_sponsor (row ∷ rows) = Some row.sponsor
+
+-- the account that sponsors the domain of this name, if there is one
+abbrev pub domain_sponsor : Content → List ℕ → Option ℤ
+domain_sponsor xs name = first_sponsor (filter (domain_with_name name) xs.domains)
+
+-- the account that sponsors a host outside the zone, or else the domain that the host lies below
+abbrev pub sponsor_of : Content → Host → Option ℤ
+sponsor_of xs row = or_else row.external_sponsor (domain_sponsor xs row.above)
+
+abbrev pub is_sponsor_right : Content → Host → Bool
+is_sponsor_right xs row = is_same row.sponsor (sponsor_of xs row)
+
+abbrev pub sponsors_are_right : Content → Bool
+sponsors_are_right xs = list_all (is_sponsor_right xs) xs.hosts
+
+-- ---- hosts that follow a domain
+
+-- a host lies below this domain, and nobody sponsors it outside the zone
+abbrev pub follows : List ℕ → Host → Bool
+follows above row = host_with_above above row && not (is_some row.external_sponsor)
+
+-- with this sponsor, if it follows the domain
+abbrev pub with_sponsor : List ℕ → Option ℤ → Host → Host
+with_sponsor above sponsor row = if follows above row then record row { sponsor = sponsor } else row
+
+-- each host that follows the domain had one sponsor, and has the other; no other column and no other
+-- row is changed
+pub record AreMoved (above : List ℕ) (before after : Option ℤ) (old new : List Host) : Type 0 where
+  pub had : (row : Host) → Has old row → follows above row ≡ true → is_same row.sponsor before ≡ true
+  pub has : new ≡ map (with_sponsor above after) old
+
+-- The hosts that follow the domain of this name have this registrar as their sponsor, or none, in place of
+-- the domain's. Where the two are the same no row is changed, whatever it has.
+pub record IsFollowed (above : List ℕ) (after : Option ℕ) (old new : Content) : Type 0 where
+  pub stays : is_same (domain_sponsor old above) (maybe_registrar_column after) ≡ true → new.hosts ≡ old.hosts
+  pub moves : is_same (domain_sponsor old above) (maybe_registrar_column after) ≡ false → AreMoved above (domain_sponsor old above) (maybe_registrar_column after) old.hosts new.hosts
+  pub hosts : hosts_of new ≡ hosts_of old
+  pub rest : new ≡ record old { hosts = new.hosts }
+  pub whole : IsWhole old × IsWhole new

@@ -1,0 +1,112 @@
+//! Hosts that follow the domain that they lie below: whoever sponsors it sponsors them.
+ghost use Rattle.std.specs.Prelude.{◌≡◌, true, IfOk};
+ghost use Rattle.columns.specs.Transfers as columns;
+ghost use Rattle.meanings.specs.Calls.{Turns};
+ghost use Rattle.sqlobjects.specs.Sponsors.{IsFollowed};
+ghost use Rattle.sqlobjects.specs.Stages.{AreHostsMoved, AreWritten, IsMoved, with_all_moved, with_moved};
+
+use crate::sponsors::{domain_sponsor, is_same};
+use basis::list::Seq;
+use basis::registrar::RegistrarNo;
+use basis::text::Text;
+use columns::maybe_registrar_column;
+use sqlite::Alter;
+use tables::{HostRow, RowStore};
+use transactions::BookFault;
+
+/// The accounts that sponsor hosts before and after, if there are such.
+#[derive(Clone, Copy, Drop)]
+pub(crate) struct Sponsors {
+    pub before: Option<i64>,
+    pub after: Option<i64>,
+}
+
+/// The hosts that lie below a domain, and that nobody sponsors outside the zone, have this registrar as
+/// their sponsor, or none, in place of the domain's. Where that is the same nothing is written. Refused
+/// is what would leave a row right that was wrong.
+pub fn follow<S: Alter>(
+    store: &mut RowStore<S>,
+    above: &Text,
+    after: Option<RegistrarNo>,
+) -> Result<(), BookFault>
+    requires { store.old.is_open ≡ true }
+    ensures { Turns result (IsFollowed above.now after) store.old store.new }
+{
+    store.whole();
+    let before = domain_sponsor(store, above.as_str())?;
+    let sponsors = Sponsors {
+        before,
+        after: maybe_registrar_column(after),
+    };
+    if sponsors.are_same() {
+        return Ok(());
+    }
+    move_hosts(store, above, &sponsors)?;
+    store.whole();
+    Ok(())
+}
+
+impl Sponsors {
+    fn are_same(&self) -> bool
+        ensures { result ≡ columns.is_same self.now.before self.now.after }
+    {
+        is_same(self.before, self.after)
+    }
+}
+
+/// The hosts that follow a domain have the sponsor that is to come in place of the one before.
+fn move_hosts<S: Alter>(
+    store: &mut RowStore<S>,
+    above: &Text,
+    sponsors: &Sponsors,
+) -> Result<(), BookFault>
+    requires { store.old.is_open ≡ true }
+    ensures { Turns result (AreHostsMoved above.now sponsors.now) store.old store.new }
+{
+    store.whole();
+    let rows = store.hosts_by_above(above.as_str())?;
+    move_all(store, rows, sponsors)
+}
+
+/// The same of these rows.
+fn move_all<S: Alter>(
+    store: &mut RowStore<S>,
+    rows: Seq<HostRow>,
+    sponsors: &Sponsors,
+) -> Result<(), BookFault>
+    requires { store.old.is_open ≡ true }
+    ensures { Turns result (AreWritten (λ xs. with_all_moved sponsors.now xs rows)) store.old store.new }
+{
+    for row in rows.into_vec() {
+        move_one(store, row, sponsors)?;
+    }
+    Ok(())
+}
+
+/// The same of one row, unless somebody sponsors the host outside the zone.
+fn move_one<S: Alter>(
+    store: &mut RowStore<S>,
+    row: HostRow,
+    sponsors: &Sponsors,
+) -> Result<(), BookFault>
+    requires { store.old.is_open ≡ true }
+    ensures { Turns result (AreWritten (λ xs. with_moved sponsors.now xs row)) store.old store.new }
+{
+    if row.external_sponsor.is_some() {
+        return Ok(());
+    }
+    let row = moved(row, sponsors)?;
+    store.put_host(&row)?;
+    Ok(())
+}
+
+fn moved(row: HostRow, sponsors: &Sponsors) -> Result<HostRow, BookFault>
+    ensures { IfOk result (λ after. IsMoved sponsors.now row after) }
+{
+    if !is_same(row.sponsor, sponsors.before) {
+        return Err(BookFault::Store);
+    }
+    let mut row = row;
+    row.sponsor = sponsors.after;
+    Ok(row)
+}

@@ -1,0 +1,77 @@
+//! The database of a command line: one in memory, or a file.
+ghost use Rattle.std.specs.Prelude.{◌≡◌, false};
+
+use policy::Policy;
+use registry::{OpenFault, Registry};
+use script::Exit;
+use sqlbook::{Found, Made, SqlBook};
+use sqlite::{Connection, Error, ErrorCode, File, FileStore, MemStore};
+use std::alloc::Global;
+use std::fs;
+use std::rt::Files;
+use store::{Book, BookFault};
+
+/// The name of a database in memory, which is new in each run.
+const IN_MEMORY: &str = ":memory:";
+
+pub fn is_in_memory(database: &str) -> bool {
+    database == IN_MEMORY
+}
+
+/// The policy of a file.
+pub fn policy_in(rt: &(impl Files + AllocGlobal), path: &str) -> Result<Policy, Exit> {
+    let text = fs::read(rt, path)?;
+    match Policy::read(rt.alloc(), &text) {
+        Ok(policy) => Ok(policy),
+        Err(fault) => Err(Exit::Policy(fault)),
+    }
+}
+
+/// A registry in memory that was never used.
+pub fn in_memory(alloc: Global, policy: Policy) -> Result<Registry<SqlBook<MemStore, Made>>, Exit> {
+    match sqlbook::in_memory(alloc) {
+        Ok(book) => open(alloc, book, policy),
+        Err(fault) => Err(exit_of(fault)),
+    }
+}
+
+/// The registry of a file, which is made where there is none.
+pub fn in_file(
+    rt: &HostRuntime,
+    path: &str,
+    policy: Policy,
+) -> Result<Registry<SqlBook<FileStore<File>, Found>>, Exit> {
+    let conn = match Connection::open(rt, path) {
+        Ok(conn) => conn,
+        Err(error) => return Err(exit_of(fault_of(&error))),
+    };
+    match sqlbook::adopt(conn, rt.alloc()) {
+        Ok(book) => open(rt.alloc(), book, policy),
+        Err(fault) => Err(exit_of(fault)),
+    }
+}
+
+/// A registry over a book in which no transaction is open.
+fn open<B: Book + Drop>(alloc: Global, book: B, policy: Policy) -> Result<Registry<B>, Exit>
+    requires { (B.state book).is_open ≡ false }
+{
+    match Registry::open(alloc, book, policy) {
+        Ok(registry) => Ok(registry),
+        Err((fault, _)) => Err(Exit::Open(fault)),
+    }
+}
+
+/// What an error of the database is to a book.
+fn fault_of(error: &Error) -> BookFault {
+    match error {
+        Error::SqliteFailure(ErrorCode::OutOfMemory) => BookFault::Memory,
+        _ => BookFault::Store,
+    }
+}
+
+fn exit_of(fault: BookFault) -> Exit {
+    match fault {
+        BookFault::Memory => Exit::Memory,
+        BookFault::Store => Exit::Open(OpenFault::Store),
+    }
+}
