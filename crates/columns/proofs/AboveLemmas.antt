@@ -101,6 +101,20 @@ below_above domain host one below =
       λ same. let even : length domain ≡ length (front.0 ++ 46 ∷ domain) = ap length (sym same ∙ front.1) in omega (arith, even, length-append front.0 (46 ∷ domain)),
     )
 
+last_of_more : (xs ys : List (List ℕ)) → 2 ≤ length ys → last_two (xs ++ ys) ≡ last_two ys
+last_of_more xs ys two =
+    ap (λ (n : ℕ). drop n (xs ++ ys)) (let at : length (xs ++ ys) - 2 ≡ length xs + (length ys - 2) = omega (arith, length-append xs ys) in at)
+    ∙ drop-append-add xs ys (length ys - 2)
+
+-- a host below a domain with a dot has the same name of two labels above it
+pub same_above : (domain host : List ℕ) → 1 ≤ count_by (λ b. b == 46) domain → is_below domain host ≡ true → above host ≡ above domain
+unfolding above
+same_above domain host dotted below =
+    let front = front_of domain host below in
+    ap above front.1
+    ∙ ap (λ (t : List (List ℕ)). join_with_byte 46 (last_two t)) (labels_append front.0 domain)
+    ∙ ap (join_with_byte 46) (last_of_more (labels_of front.0) (labels_of domain) (omega (arith, length-slice_split dot domain)))
+
 -- ---- back
 
 joined : (x : List ℕ) (xs : List (List ℕ)) (y : List ℕ) (ys : List (List ℕ)) → join_with_byte 46 ((x ∷ xs) ++ y ∷ ys) ≡ join_with_byte 46 (x ∷ xs) ++ 46 ∷ join_with_byte 46 (y ∷ ys)

@@ -18,8 +18,6 @@ mod registration;
 mod roid;
 mod statuses;
 mod street;
-#[cfg(test)]
-mod tests;
 mod text;
 mod transfer;
 

@@ -16,8 +16,6 @@ mod line;
 mod message;
 mod opening;
 mod paying;
-#[cfg(test)]
-mod tests;
 mod writing;
 
 pub use account::{found_row, maybe_row, number_of};

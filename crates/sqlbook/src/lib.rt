@@ -10,8 +10,6 @@ mod changed_objects;
 mod changed_terms;
 mod origin;
 mod records;
-#[cfg(test)]
-mod tests;
 
 pub use book::{SqlBook, adopt, in_memory};
 pub use origin::{Found, Made, Origin};

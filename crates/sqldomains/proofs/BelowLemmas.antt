@@ -1,7 +1,8 @@
--- The hosts below a domain are found by the last two labels of their names.
-use Rattle.std.proofs.Common.{◌≡◌, inl, inr, ℕ, Bool, true, false, cond, List, [], ◌∷◌, map, filter, Option, Some, None, count_by, is_some, ◌==◌, refl, sym, ap, subst, ◌∙◌}
+-- The hosts below a domain are found among those with its last two labels, if it has two.
+use Rattle.std.proofs.Common.{◌≡◌, inl, inr, ℕ, ◌≤◌, nat_lt, Bool, true, false, cond, List, [], ◌∷◌, map, filter, Option, Some, None, count_by, is_some, ◌==◌, refl, sym, ap, subst, ◌∙◌}
 use Rattle.std.specs.FinMap.{empty, entries, get, keys}
 use Rattle.std.specs.Str as str
+use Rattle.std.proofs.lemmas.Bool.{ltb-true}
 use Rattle.std.proofs.lemmas.Slice.Eq.{bytes_eq-Decides}
 use Rattle.sqlite_rules.specs.Lists.{Has}
 use Rattle.objects.specs.declared.host.Host.{Host}
@@ -10,7 +11,7 @@ use Rattle.columns.specs.Above.{above}
 use Rattle.columns.specs.Hosts.{columns_in, host_with}
 use Rattle.columns.specs.Steps.{◌>>=◌}
 use Rattle.columns.specs.Texts.{statuses_in}
-use Rattle.columns.proofs.AboveLemmas.{below_above}
+use Rattle.columns.proofs.AboveLemmas.{same_above}
 use Rattle.columns.proofs.ReadLemmas as reading
 use Rattle.tables.specs.Content.{Content}
 use Rattle.tables.specs.Host as table
@@ -18,7 +19,7 @@ use Rattle.tables.proofs.RowLemmas.{bytes_same}
 use Rattle.sqlobjects.specs.Objects.{addresses_of, host_of, hosts_of}
 use Rattle.sqlobjects.proofs.NameLemmas.{host-named}
 use Rattle.sqlobjects.proofs.PutLemmas.{bytes_is, filter-has, has-filter}
-use Rattle.sqldomains.specs.Names.{NameSet, host_standing, hosts_below, with_read}
+use Rattle.sqldomains.specs.Names.{NameSet, host_standing, hosts_below, is_dotted, rows_around, with_read}
 use Rattle.sqldomains.proofs.LinkedLemmas.{first-has}
 use Rattle.sqldomains.proofs.NameOrderLemmas.{by-rows}
 
@@ -48,20 +49,33 @@ keys-where {X} p (e ∷ es) = go (p e.0) (keys-where p es)
     go true more = ap (λ l. e.0 ∷ l) more
     go false more = more
 
-module _ (xs : Content) (domain : List ℕ) (dots : count_by (λ b. b == 46) domain ≡ 1) where
-  abbrev found_below : List (List ℕ)
-  found_below = filter (is_below domain) (map (λ (r : table.Host). r.name) (filter (table.host_with_above domain) xs.hosts))
+module _ (xs : Content) (domain : List ℕ) where
+  abbrev name_of : table.Host → List ℕ
+  name_of row = row.name
 
-  -- each host below it is among the rows that are found
+  abbrev found_below : List (List ℕ)
+  found_below = filter (is_below domain) (map name_of (rows_around domain xs))
+
+  -- the row of each host below it is among those that are looked at
+  is-around : (row : table.Host) (h : Host) → host_of xs row ≡ Some h → Has xs.hosts row → is_below domain row.name ≡ true → Has (rows_around domain xs) row
+  is-around row h reads there below = go (is_dotted domain) refl
+    where
+      go : (b : Bool) → is_dotted domain ≡ b → Has (cond b (filter (table.host_with_above (above domain)) xs.hosts) xs.hosts) row
+      go true e =
+          let dots : 1 ≤ count_by (λ b. b == 46) domain = ltb-true 0 (count_by (λ b. b == 46) domain) e in
+          let above_it : row.above ≡ above domain = above-read xs row h reads ∙ same_above domain row.name dots below in
+          filter-has (table.host_with_above (above domain)) xs.hosts row there (bytes_same row.above (above domain) above_it)
+      go false e = there
+
+  -- so each host below it is found
   is-found : (n : List ℕ) (h : Host) → get (hosts_of xs) n ≡ Some h → is_below domain n ≡ true → Has found_below n
   is-found n h e below =
       let it = first-has (host_of xs) (filter (table.host_with_name n) xs.hosts) h (host-named xs n ∙ e) in
       let there = has-filter (table.host_with_name n) xs.hosts it.0 it.1 in
       let name : it.0.name ≡ n = bytes_is it.0.name n there.1 in
-      let above_it : it.0.above ≡ domain = above-read xs it.0 h it.2 ∙ ap above name ∙ (below_above domain n dots below).0 in
-      let row = filter-has (table.host_with_above domain) xs.hosts it.0 there.0 (bytes_same it.0.above domain above_it) in
-      filter-has (is_below domain) (map (λ (r : table.Host). r.name) (filter (table.host_with_above domain) xs.hosts)) n
-      (subst (Has (map (λ (r : table.Host). r.name) (filter (table.host_with_above domain) xs.hosts))) name (has-map (λ (r : table.Host). r.name) (filter (table.host_with_above domain) xs.hosts) it.0 row)) below
+      let row = is-around it.0 h it.2 there.0 (ap (is_below domain) name ∙ below) in
+      filter-has (is_below domain) (map name_of (rows_around domain xs)) n
+      (subst (Has (map name_of (rows_around domain xs))) name (has-map name_of (rows_around domain xs) it.0 row)) below
 
   pub below-listed : (names : NameSet) → with_read (host_standing xs) empty found_below ≡ Some names → keys names ≡ hosts_below domain xs
   below-listed names e =
@@ -69,6 +83,6 @@ module _ (xs : Content) (domain : List ℕ) (dots : count_by (λ b. b == 46) dom
       (λ n there k reads.
       let stands = reading.kept n k (is_some (get (hosts_of xs) n)) reads in
       let it = some-is (get (hosts_of xs) n) stands.0 in
-      (it.0, ap (get (hosts_of xs)) (sym stands.1) ∙ it.1, ap (is_below domain) (sym stands.1) ∙ (has-filter (is_below domain) (map (λ (r : table.Host). r.name) (filter (table.host_with_above domain) xs.hosts)) n there).1))
+      (it.0, ap (get (hosts_of xs)) (sym stands.1) ∙ it.1, ap (is_below domain) (sym stands.1) ∙ (has-filter (is_below domain) (map name_of (rows_around domain xs)) n there).1))
       (λ n h is below. (n, is-found n h is below, λ k reads. sym (reading.kept n k (is_some (get (hosts_of xs) n)) reads).1))
       ∙ keys-where (is_below domain) (entries (hosts_of xs))

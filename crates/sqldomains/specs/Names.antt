@@ -1,5 +1,5 @@
 -- Names of domains and hosts, in the order of their bytes.
-use Rattle.std.specs.Prelude.{ℕ, List, [], ◌∷◌, map, filter, Option, Some, None, if◌then◌else◌, is_some, option_map}
+use Rattle.std.specs.Prelude.{ℕ, ◌==◌, nat_lt, Bool, count_by, List, [], ◌∷◌, map, filter, Option, Some, None, if◌then◌else◌, is_some, option_map}
 use Rattle.std.specs.Cmp.Lexicographic.{slice_cmp}
 use Rattle.std.specs.FinMap.{FinMap, entries, get, insert, keys}
 use Rattle.std.specs.Ordering.{nat_cmp}
@@ -7,9 +7,11 @@ use Rattle.sqlite_keyed.specs.Keyed.{get_by}
 use Rattle.objects.specs.declared.domain.Domain.{Domain}
 use Rattle.objects.specs.Hosts.{is_below}
 use Rattle.objects.specs.Links.{names_host}
+use Rattle.columns.specs.Above.{above}
 use Rattle.columns.specs.Steps.{◌>>=◌}
 use Rattle.tables.specs.Content.{Content}
 use Rattle.tables.specs.Domain as table
+use Rattle.tables.specs.Host.{Host, host_with_above}
 use Rattle.tables.specs.Link.{Link}
 use Rattle.sqlobjects.specs.Objects.{hosts_of}
 use Rattle.sqldomains.specs.Domains.{domain_of, domains_of}
@@ -56,6 +58,13 @@ name_naming host xs link = do
 -- the hosts below a domain
 abbrev pub hosts_below : List ℕ → Content → List (List ℕ)
 hosts_below domain xs = filter (is_below domain) (keys (hosts_of xs))
+
+abbrev pub is_dotted : List ℕ → Bool
+is_dotted name = nat_lt 0 (count_by (λ b. b == 46) name)
+
+-- the rows of all hosts that can be below a domain: these have its last two labels above them, if it has two
+abbrev pub rows_around : List ℕ → Content → List Host
+rows_around domain xs = if is_dotted domain then filter (host_with_above (above domain)) xs.hosts else xs.hosts
 
 -- the name, if a host stands under it
 abbrev pub host_standing : Content → List ℕ → Option (List ℕ)

@@ -1,5 +1,5 @@
 //! The hosts below a domain.
-ghost use Rattle.std.specs.Prelude.{◌≡◌, ◌==◌, count_by, true, Some, IfOk, filter, map};
+ghost use Rattle.std.specs.Prelude.{◌≡◌, Some, IfOk, filter, map};
 ghost use Rattle.std.specs.FinMap.{empty};
 ghost use Rattle.objects.specs.Hosts as hosts;
 ghost use Rattle.tables.specs.Host.{Host};
@@ -10,6 +10,7 @@ use crate::names_in_order::{listed, with_name};
 use basis::list::Seq;
 use basis::maps::NameMap;
 use basis::text::Text;
+use columns::above_column;
 use objects::is_below;
 use sqlite::Alter;
 use sqlobjects::has_host;
@@ -17,8 +18,7 @@ use std::alloc::{AllocError, Global};
 use tables::{HostRow, RowStore};
 use transactions::BookFault;
 
-/// The names of the hosts below a domain, in the order of their bytes. A text without exactly one dot is
-/// no domain's name, and is refused.
+/// The names of the hosts below a domain, in the order of their bytes.
 pub fn hosts_below<S: Alter>(
     store: &mut RowStore<S>,
     alloc: Global,
@@ -26,17 +26,30 @@ pub fn hosts_below<S: Alter>(
 ) -> Result<Seq<Text>, BookFault>
     ensures { Finds result (spec.hosts_below domain.now store.old.content) store.old store.new }
 {
-    if !has_one_dot(domain) {
-        return Err(BookFault::Store);
-    }
-    let rows = store.hosts_by_above(domain.as_str())?;
+    let rows = rows_around(store, alloc, domain)?;
     let found = names_below(alloc, domain, rows)?;
     let names = with_hosts(store, alloc, found)?;
     Ok(listed(alloc, &names)?)
 }
 
-fn has_one_dot(domain: &Text) -> bool
-    ensures { result ≡ true → count_by (λ b. b == 46) domain.now ≡ 1 }
+/// The rows of all hosts that can be below a domain. Below a name of one label, which is no domain's, it
+/// can be any.
+fn rows_around<S: Alter>(
+    store: &mut RowStore<S>,
+    alloc: Global,
+    domain: &Text,
+) -> Result<Seq<HostRow>, BookFault>
+    ensures { Finds result (spec.rows_around domain.now store.old.content) store.old store.new }
+{
+    if !is_dotted(domain) {
+        return store.all_hosts();
+    }
+    let above = above_column(alloc, domain.as_str())?;
+    store.hosts_by_above(above.as_str())
+}
+
+fn is_dotted(domain: &Text) -> bool
+    ensures { result ≡ spec.is_dotted domain.now }
 {
     let dots = domain
         .as_str()
@@ -44,7 +57,7 @@ fn has_one_dot(domain: &Text) -> bool
         .iter()
         .filter(|byte| **byte == b'.')
         .count();
-    dots == 1
+    dots > 0
 }
 
 /// The names of these rows that lie below the domain.

@@ -12,8 +12,6 @@ mod linked;
 mod links;
 mod names;
 mod names_in_order;
-#[cfg(test)]
-mod tests;
 mod transfers;
 
 pub use below::hosts_below;

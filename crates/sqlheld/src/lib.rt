@@ -7,8 +7,6 @@
 mod holding;
 mod parties;
 mod recounting;
-#[cfg(test)]
-mod tests;
 
 pub use holding::holds_the_most;
 pub use recounting::recount;

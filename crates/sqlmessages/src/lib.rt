@@ -5,7 +5,5 @@
 mod account;
 mod message;
 mod queue;
-#[cfg(test)]
-mod tests;
 
 pub use queue::{oldest, put_message, take_message};

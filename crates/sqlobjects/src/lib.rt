@@ -20,8 +20,6 @@ mod host_changes;
 mod host_rows;
 mod hosts;
 mod sponsors;
-#[cfg(test)]
-mod tests;
 mod transfers;
 
 pub use contact_changes::{drop_contact, put_contact};

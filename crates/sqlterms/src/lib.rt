@@ -8,8 +8,6 @@ mod labels;
 mod meta;
 mod naming;
 mod reading;
-#[cfg(test)]
-mod tests;
 mod writing;
 
 pub use reading::{clock, days, terms};

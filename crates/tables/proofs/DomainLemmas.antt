@@ -23,8 +23,8 @@ use Rattle.rows.proofs.PutLemmas.{puts}
 use Rattle.rows.proofs.AppendLemmas.{appends}
 use Rattle.rows.proofs.CastLemmas.{cast_int, cast_null, cast_text, cast_maybe_int, cast_maybe_text}
 use Rattle.rows.proofs.QuietLemmas.{quiet_if_idle}
-use Rattle.tables.specs.Tables.{domain, registry, domain_all, domain_by_id, domain_by_name, domain_by_sponsor, domain_first_by_registrant, domain_until_due, domain_put, domain_append, domain_remove_id}
-use Rattle.tables.specs.Domain.{Domain, domain_shown, domains, domain_with_id, domain_with_name, domain_with_sponsor, domain_with_registrant, domain_within_due, by_due, domains_by_due}
+use Rattle.tables.specs.Tables.{domain, registry, domain_all, domain_by_id, domain_by_name, domain_first_by_registrant, domain_until_due, domain_put, domain_append, domain_remove_id}
+use Rattle.tables.specs.Domain.{Domain, domain_shown, domains, domain_with_id, domain_with_name, domain_with_registrant, domain_within_due, by_due, domains_by_due}
 use Rattle.tables.specs.Content.{domains_to}
 use Rattle.tables.specs.Statements.{Alters, Asks}
 use Rattle.tables.proofs.TableLemmas.{asks_domains, alters_domains}
@@ -61,14 +61,6 @@ by_name_is = record { names = codes "id" ∷ codes "name" ∷ codes "creator" �
 pub by_name_asks : (v : List ℕ) → Asks domain_shown domain_by_name (Text v ∷ []) (λ c. filter (domain_with_name v) c.domains)
 by_name_asks v = asks_domains domain_shown domain_by_name (Text v ∷ []) _ (λ xs. filter (domain_with_name v) xs) by_name_is (λ db xs rows h answer.
     selects domains _ _ (Text v ∷ []) (domain_with_name v) domain_shown (λ x. last_term (at_texts false Eq x.name v)) (λ x. refl) db xs rows h answer)
-
-pub by_sponsor_is : IsSelect registry domain_by_sponsor (select_query 5 (op2 (Compare Eq Binary) (col 1 5) (col 0 0) ∷ []) columns)
-unfolding understood everything
-by_sponsor_is = record { names = codes "id" ∷ codes "name" ∷ codes "creator" ∷ codes "serial" ∷ codes "sponsor" ∷ codes "created" ∷ codes "years" ∷ codes "transferred" ∷ codes "updated" ∷ codes "statuses" ∷ codes "secret" ∷ codes "registrant" ∷ codes "deleted" ∷ codes "restore_requested" ∷ codes "due" ∷ []; command = refl; plain = (refl, refl); unlisted = refl }
-
-pub by_sponsor_asks : (v : ℤ) → Asks domain_shown domain_by_sponsor (Int v ∷ []) (λ c. filter (domain_with_sponsor v) c.domains)
-by_sponsor_asks v = asks_domains domain_shown domain_by_sponsor (Int v ∷ []) _ (λ xs. filter (domain_with_sponsor v) xs) by_sponsor_is (λ db xs rows h answer.
-    selects domains _ _ (Int v ∷ []) (domain_with_sponsor v) domain_shown (λ x. last_term (at_ints false Eq x.sponsor v)) (λ x. refl) db xs rows h answer)
 
 pub first_by_registrant_is : IsSelect registry domain_first_by_registrant (limited_query 5 (op2 (Compare Eq Binary) (col 1 12) (col 0 0) ∷ []) columns (pos 1))
 unfolding understood everything

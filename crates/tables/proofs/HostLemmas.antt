@@ -1,5 +1,5 @@
 -- What the statements on the table `host` mean.
-use Rattle.std.proofs.Common.{ap, drop, refl, List, [], ◌∷◌, ℕ, ℤ, filter, codes, false}
+use Rattle.std.proofs.Common.{ap, drop, refl, List, [], ◌∷◌, ℕ, ℤ, filter, codes, true, false, map, ◌∙◌}
 use Rattle.sqlite_value.specs.declared.value.Value.TheVariants.{Null, Int, Text}
 use Rattle.sqlite_value.specs.declared.keys.Collation.TheVariants.{Binary}
 use Rattle.sqlite_sql.specs.declared.ops.CompareOp.TheVariants.{Eq}
@@ -9,6 +9,7 @@ use Rattle.sqlite_schema.specs.declared.schema.Table.{Table}
 use Rattle.sqlite_typed.proofs.TestLemmas.{at_ints, at_texts, last_term}
 use Rattle.sqlite_keyed.specs.Keyed.{insert_by}
 use Rattle.sqlite_keyed.specs.Lists.{delete_where}
+use Rattle.sqlite_keyed.proofs.ListLemmas.{filter_all, all_of}
 use Rattle.sqlite.specs.Listing.{understood}
 use Rattle.sqlite_tied.specs.Compute.{everything}
 use Rattle.rows.specs.Layouts.{writes_tables, Listed, Gives, Numbers, IsSelect, IsPut, IsAppend, IsDelete, select_query, appended}
@@ -18,7 +19,7 @@ use Rattle.rows.proofs.PutLemmas.{puts}
 use Rattle.rows.proofs.AppendLemmas.{appends}
 use Rattle.rows.proofs.CastLemmas.{cast_int, cast_null, cast_text, cast_maybe_int, cast_maybe_text}
 use Rattle.rows.proofs.QuietLemmas.{quiet_if_idle}
-use Rattle.tables.specs.Tables.{host, registry, host_by_id, host_by_name, host_by_above, host_put, host_append, host_remove_id}
+use Rattle.tables.specs.Tables.{host, registry, host_all, host_by_id, host_by_name, host_by_above, host_put, host_append, host_remove_id}
 use Rattle.tables.specs.Host.{Host, host_shown, hosts, host_with_id, host_with_name, host_with_above}
 use Rattle.tables.specs.Content.{hosts_to}
 use Rattle.tables.specs.Statements.{Alters, Asks}
@@ -29,6 +30,14 @@ columns = col 1 0 ∷ col 1 2 ∷ col 1 3 ∷ col 1 4 ∷ col 1 5 ∷ col 1 6 �
 
 abbrev table : Table
 table = record host { tree = 7 }
+
+pub all_is : IsSelect registry host_all (select_query 7 ([]) columns)
+unfolding understood everything
+all_is = record { names = codes "id" ∷ codes "name" ∷ codes "creator" ∷ codes "serial" ∷ codes "above" ∷ codes "external_sponsor" ∷ codes "sponsor" ∷ codes "created" ∷ codes "updated" ∷ codes "statuses" ∷ []; command = refl; plain = (refl, refl); unlisted = refl }
+
+pub all_asks : Asks host_shown host_all [] (λ c. c.hosts)
+all_asks = asks_hosts host_shown host_all [] _ (λ xs. xs) all_is (λ db xs rows h answer.
+    selects hosts _ _ [] (λ _. true) host_shown (λ x. refl) (λ x. refl) db xs rows h answer ∙ ap (map host_shown) (filter_all (λ _. true) xs (all_of _ (λ x. refl) xs)))
 
 pub by_id_is : IsSelect registry host_by_id (select_query 7 (op2 (Compare Eq Binary) (col 1 0) (col 0 0) ∷ []) columns)
 unfolding understood everything

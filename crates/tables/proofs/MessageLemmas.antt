@@ -20,7 +20,7 @@ use Rattle.rows.proofs.WriteLemmas.{deletes}
 use Rattle.rows.proofs.AppendLemmas.{appends}
 use Rattle.rows.proofs.CastLemmas.{cast_int, cast_null, cast_text, cast_maybe_int, cast_maybe_text}
 use Rattle.rows.proofs.QuietLemmas.{quiet_if_idle}
-use Rattle.tables.specs.Tables.{message, registry, message_by_account, message_first_by_account, message_same, message_append, message_remove_id}
+use Rattle.tables.specs.Tables.{message, registry, message_first_by_account, message_same, message_append, message_remove_id}
 use Rattle.tables.specs.Message.{Message, message_shown, messages, message_with_account, message_with_id, is_same_message, message_order, queue_of}
 use Rattle.tables.specs.Content.{messages_to}
 use Rattle.tables.specs.Statements.{Alters, Asks}
@@ -42,14 +42,6 @@ queue_order : (x y : Message)
 queue_order x y =
     then_key (value_cmp-Int x.moment y.moment) (then_key (value_cmp-Int x.class y.class) (then_key (value_cmp-Int x.number y.number) (then_key (value_cmp-Text x.name y.name)
     (then_key (value_cmp-Int x.subject y.subject) (then_key (value_cmp-Int x.notice y.notice) (last_key (value_cmp-Int x.id y.id)))))))
-
-pub by_account_is : IsSelect registry message_by_account (sorted_query 12 (op2 (Compare Eq Binary) (col 1 2) (col 0 0) ∷ []) columns queue_columns (negsuc 0))
-unfolding understood everything
-by_account_is = record { names = codes "id" ∷ codes "account" ∷ codes "moment" ∷ codes "class" ∷ codes "number" ∷ codes "name" ∷ codes "subject" ∷ codes "notice" ∷ []; command = refl; plain = (refl, refl); unlisted = refl }
-
-pub by_account_asks : (v : ℤ) → Asks message_shown message_by_account (Int v ∷ []) (λ c. queue_of v c.messages)
-by_account_asks v = asks_messages message_shown message_by_account (Int v ∷ []) _ (λ xs. queue_of v xs) by_account_is (λ db xs rows h answer.
-    sorts messages _ columns queue_columns (negsuc 0) (Int v ∷ []) (message_with_account v) message_shown message_order (λ x. last_term (at_ints false Eq x.account v)) (λ x. refl) queue_order db xs rows h answer)
 
 pub first_by_account_is : IsSelect registry message_first_by_account (sorted_query 12 (op2 (Compare Eq Binary) (col 1 2) (col 0 0) ∷ []) columns queue_columns (pos 1))
 unfolding understood everything

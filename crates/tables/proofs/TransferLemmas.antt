@@ -16,8 +16,8 @@ use Rattle.rows.proofs.WriteLemmas.{deletes}
 use Rattle.rows.proofs.AppendLemmas.{appends}
 use Rattle.rows.proofs.CastLemmas.{cast_int, cast_null, cast_text, cast_maybe_int, cast_maybe_text}
 use Rattle.rows.proofs.QuietLemmas.{quiet_if_idle}
-use Rattle.tables.specs.Tables.{transfer, registry, transfer_by_contact, transfer_by_domain, transfer_by_requester, transfer_append, transfer_remove_contact, transfer_remove_domain}
-use Rattle.tables.specs.Transfer.{Transfer, transfer_shown, transfers, transfer_with_contact, transfer_with_domain, transfer_with_requester}
+use Rattle.tables.specs.Tables.{transfer, registry, transfer_by_contact, transfer_by_domain, transfer_append, transfer_remove_contact, transfer_remove_domain}
+use Rattle.tables.specs.Transfer.{Transfer, transfer_shown, transfers, transfer_with_contact, transfer_with_domain}
 use Rattle.tables.specs.Content.{transfers_to}
 use Rattle.tables.specs.Statements.{Alters, Asks}
 use Rattle.tables.proofs.TableLemmas.{asks_transfers, alters_transfers}
@@ -43,14 +43,6 @@ by_domain_is = record { names = codes "id" ∷ codes "contact" ∷ codes "domain
 pub by_domain_asks : (v : ℤ) → Asks transfer_shown transfer_by_domain (Int v ∷ []) (λ c. filter (transfer_with_domain v) c.transfers)
 by_domain_asks v = asks_transfers transfer_shown transfer_by_domain (Int v ∷ []) _ (λ xs. filter (transfer_with_domain v) xs) by_domain_is (λ db xs rows h answer.
     selects transfers _ _ (Int v ∷ []) (transfer_with_domain v) transfer_shown (λ x. last_term (at_points_to x.domain v)) (λ x. refl) db xs rows h answer)
-
-pub by_requester_is : IsSelect registry transfer_by_requester (select_query 13 (op2 (Compare Eq Binary) (col 1 4) (col 0 0) ∷ []) columns)
-unfolding understood everything
-by_requester_is = record { names = codes "id" ∷ codes "contact" ∷ codes "domain" ∷ codes "requester" ∷ codes "losing" ∷ codes "requested" ∷ codes "ac_date" ∷ codes "due" ∷ codes "state" ∷ []; command = refl; plain = (refl, refl); unlisted = refl }
-
-pub by_requester_asks : (v : ℤ) → Asks transfer_shown transfer_by_requester (Int v ∷ []) (λ c. filter (transfer_with_requester v) c.transfers)
-by_requester_asks v = asks_transfers transfer_shown transfer_by_requester (Int v ∷ []) _ (λ xs. filter (transfer_with_requester v) xs) by_requester_is (λ db xs rows h answer.
-    selects transfers _ _ (Int v ∷ []) (transfer_with_requester v) transfer_shown (λ x. last_term (at_ints false Eq x.requester v)) (λ x. refl) db xs rows h answer)
 
 listed : Listed transfers registry 9 table
 listed = record { is = refl; tree = refl; quiet = quiet_if_idle registry refl; uncounted = refl; unstamped = refl; casts = λ x. simp (cast_int, cast_null, cast_text, cast_maybe_int, cast_maybe_text) }

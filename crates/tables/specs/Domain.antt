@@ -43,9 +43,6 @@ domain_with_id v x = int_eq x.id v
 abbrev pub domain_with_name : List ℕ → Domain → Bool
 domain_with_name v x = bytes_eq x.name v
 
-abbrev pub domain_with_sponsor : ℤ → Domain → Bool
-domain_with_sponsor v x = int_eq x.sponsor v
-
 abbrev pub domain_with_registrant : ℤ → Domain → Bool
 domain_with_registrant v x = int_eq x.registrant v
 

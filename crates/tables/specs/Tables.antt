@@ -81,9 +81,6 @@ domain_by_id = codes "SELECT id, name, creator, serial, sponsor, created, years,
 abbrev pub domain_by_name : List ℕ
 domain_by_name = codes "SELECT id, name, creator, serial, sponsor, created, years, transferred, updated, statuses, secret, registrant, deleted, restore_requested, due FROM domain WHERE name = ?1 ORDER BY id"
 
-abbrev pub domain_by_sponsor : List ℕ
-domain_by_sponsor = codes "SELECT id, name, creator, serial, sponsor, created, years, transferred, updated, statuses, secret, registrant, deleted, restore_requested, due FROM domain WHERE sponsor = ?1 ORDER BY id"
-
 abbrev pub domain_first_by_registrant : List ℕ
 domain_first_by_registrant = codes "SELECT id, name, creator, serial, sponsor, created, years, transferred, updated, statuses, secret, registrant, deleted, restore_requested, due FROM domain WHERE registrant = ?1 ORDER BY id LIMIT 1"
 
@@ -106,6 +103,9 @@ host = keyed_table (codes "host") (filled (codes "name") Text ∷ filled (codes 
 
 abbrev pub host_create : List ℕ
 host_create = codes "CREATE TABLE host (id INTEGER PRIMARY KEY, name TEXT NOT NULL UNIQUE, creator INTEGER NOT NULL, serial INTEGER NOT NULL, above TEXT NOT NULL, external_sponsor INTEGER REFERENCES account (id), sponsor INTEGER REFERENCES account (id), created INTEGER NOT NULL, updated INTEGER, statuses TEXT NOT NULL) STRICT"
+
+abbrev pub host_all : List ℕ
+host_all = codes "SELECT id, name, creator, serial, above, external_sponsor, sponsor, created, updated, statuses FROM host ORDER BY id"
 
 abbrev pub host_by_id : List ℕ
 host_by_id = codes "SELECT id, name, creator, serial, above, external_sponsor, sponsor, created, updated, statuses FROM host WHERE id = ?1 ORDER BY id"
@@ -196,9 +196,6 @@ message = keyed_table (codes "message") (filled (codes "account") Integer ∷ fi
 abbrev pub message_create : List ℕ
 message_create = codes "CREATE TABLE message (id INTEGER PRIMARY KEY, account INTEGER NOT NULL REFERENCES account (id), moment INTEGER NOT NULL, class INTEGER NOT NULL, number INTEGER NOT NULL, name TEXT NOT NULL, subject INTEGER NOT NULL, notice INTEGER NOT NULL) STRICT"
 
-abbrev pub message_by_account : List ℕ
-message_by_account = codes "SELECT id, account, moment, class, number, name, subject, notice FROM message WHERE account = ?1 ORDER BY moment, class, number, name, subject, notice, id"
-
 abbrev pub message_first_by_account : List ℕ
 message_first_by_account = codes "SELECT id, account, moment, class, number, name, subject, notice FROM message WHERE account = ?1 ORDER BY moment, class, number, name, subject, notice, id LIMIT 1"
 
@@ -224,9 +221,6 @@ transfer_by_contact = codes "SELECT id, contact, domain, requester, losing, requ
 
 abbrev pub transfer_by_domain : List ℕ
 transfer_by_domain = codes "SELECT id, contact, domain, requester, losing, requested, ac_date, due, state FROM transfer WHERE domain = ?1 ORDER BY id"
-
-abbrev pub transfer_by_requester : List ℕ
-transfer_by_requester = codes "SELECT id, contact, domain, requester, losing, requested, ac_date, due, state FROM transfer WHERE requester = ?1 ORDER BY id"
 
 abbrev pub transfer_append : List ℕ
 transfer_append = codes "INSERT INTO transfer (contact, domain, requester, losing, requested, ac_date, due, state) VALUES (?1, ?2, ?3, ?4, ?5, ?6, ?7, ?8)"

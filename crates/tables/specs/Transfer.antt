@@ -35,5 +35,3 @@ transfer_with_contact v x = points_to x.contact v
 abbrev pub transfer_with_domain : ℤ → Transfer → Bool
 transfer_with_domain v x = points_to x.domain v
 
-abbrev pub transfer_with_requester : ℤ → Transfer → Bool
-transfer_with_requester v x = int_eq x.requester v

@@ -5,7 +5,7 @@ ghost use Rattle.sqlite_keyed.specs.Lists.{delete_where};
 ghost use Rattle.tables.specs.Content.{domains_to};
 ghost use Rattle.transactions.specs.States.{Finds, Makes};
 ghost use Rattle.rows.specs.Layouts.{appended};
-ghost use Rattle.tables.specs.Domain.{Domain, domains, domain_with_id, domain_with_name, domain_with_sponsor, domain_with_registrant, domain_within_due, domains_by_due};
+ghost use Rattle.tables.specs.Domain.{Domain, domains, domain_with_id, domain_with_name, domain_with_registrant, domain_within_due, domains_by_due};
 
 use crate::store::RowStore;
 use basis::list::Seq;
@@ -23,9 +23,6 @@ const BY_ID: &str =
 
 const BY_NAME: &str =
     "SELECT id, name, creator, serial, sponsor, created, years, transferred, updated, statuses, secret, registrant, deleted, restore_requested, due FROM domain WHERE name = ?1 ORDER BY id";
-
-const BY_SPONSOR: &str =
-    "SELECT id, name, creator, serial, sponsor, created, years, transferred, updated, statuses, secret, registrant, deleted, restore_requested, due FROM domain WHERE sponsor = ?1 ORDER BY id";
 
 const FIRST_BY_REGISTRANT: &str =
     "SELECT id, name, creator, serial, sponsor, created, years, transferred, updated, statuses, secret, registrant, deleted, restore_requested, due FROM domain WHERE registrant = ?1 ORDER BY id LIMIT 1";
@@ -160,13 +157,6 @@ impl<S: Alter> RowStore<S> {
         ensures { Finds result (filter (domain_with_name name.now) self.old.content.domains) self.old self.new }
     {
         self.select(BY_NAME, params![name])
-    }
-
-    /// Those whose `sponsor` is this.
-    pub fn domains_by_sponsor(&mut self, sponsor: Number) -> Result<Seq<DomainRow>, BookFault>
-        ensures { Finds result (filter (domain_with_sponsor sponsor) self.old.content.domains) self.old self.new }
-    {
-        self.select(BY_SPONSOR, params![sponsor])
     }
 
     /// The first of those whose `registrant` is this, by number, if there is any.

@@ -15,6 +15,9 @@ use sqlite::{Alter, Error, Row, params};
 use std::marker::Model;
 use transactions::BookFault;
 
+const ALL: &str =
+    "SELECT id, name, creator, serial, above, external_sponsor, sponsor, created, updated, statuses FROM host ORDER BY id";
+
 const BY_ID: &str =
     "SELECT id, name, creator, serial, above, external_sponsor, sponsor, created, updated, statuses FROM host WHERE id = ?1 ORDER BY id";
 
@@ -113,6 +116,13 @@ impl Record for HostRow {
 }
 
 impl<S: Alter> RowStore<S> {
+    /// All of them, by their numbers.
+    pub fn all_hosts(&mut self) -> Result<Seq<HostRow>, BookFault>
+        ensures { Finds result self.old.content.hosts self.old self.new }
+    {
+        self.select(ALL, &[])
+    }
+
     /// Those with this number.
     pub fn hosts_by_id(&mut self, id: Number) -> Result<Seq<HostRow>, BookFault>
         ensures { Finds result (filter (host_with_id id) self.old.content.hosts) self.old self.new }

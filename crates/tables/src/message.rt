@@ -14,9 +14,6 @@ use sqlite::{Alter, Error, Row, params};
 use std::marker::Model;
 use transactions::BookFault;
 
-const BY_ACCOUNT: &str =
-    "SELECT id, account, moment, class, number, name, subject, notice FROM message WHERE account = ?1 ORDER BY moment, class, number, name, subject, notice, id";
-
 const FIRST_BY_ACCOUNT: &str =
     "SELECT id, account, moment, class, number, name, subject, notice FROM message WHERE account = ?1 ORDER BY moment, class, number, name, subject, notice, id LIMIT 1";
 
@@ -103,13 +100,6 @@ impl Record for MessageRow {
 }
 
 impl<S: Alter> RowStore<S> {
-    /// Those whose `account` is this, in the order of its queue.
-    pub fn messages_by_account(&mut self, account: Number) -> Result<Seq<MessageRow>, BookFault>
-        ensures { Finds result (queue_of account self.old.content.messages) self.old self.new }
-    {
-        self.select(BY_ACCOUNT, params![account])
-    }
-
     /// The first of an account's queue alone, if it has any.
     pub fn first_messages_by_account(
         &mut self,

@@ -1,7 +1,7 @@
 use Rattle.std.proofs.Common.{◌≡◌, Some, ap, subst, ◌∙◌, filter, map}
 use Rattle.std.specs.FinMap.{empty}
 use Rattle.objects.specs.Hosts.{is_below}
-use Rattle.tables.specs.Host.{Host, host_with_above}
+use Rattle.tables.specs.Host.{Host}
 use Rattle.meanings.proofs.StateLemmas.{reads-on}
 use Rattle.sqldomains.specs.Names.{host_standing, with_read}
 use Rattle.sqldomains.proofs.BelowLemmas.{below-listed}
@@ -14,12 +14,12 @@ returns g c =
     let names = c.in_ok-names.names in
     let asked = c.in_ok-rows.ensures in
     let told = c.in_ok-names.ensures {u = tt} in (
-      reads-on c.args.store.now c.hosts_by_above.new.self c.with_hosts.new.store asked.0 told.0,
+      reads-on c.args.store.now c.rows_around.new.store c.with_hosts.new.store asked.0 told.0,
       λ e.
           let before = told.0.clean e in
           c.in_ok-listed.ensures {u = tt}
-          ∙ below-listed xs domain (c.has_one_dot.ensures c.if-not-has_one_dot.false) names
+          ∙ below-listed xs domain names
           (subst (λ found. with_read (host_standing xs) empty found ≡ Some names)
-          (c.in_ok-found.ensures {u = tt} ∙ ap (λ rows. filter (is_below domain) (map (λ (r : Host). r.name) rows)) (asked.1 before ∙ ap (λ d. filter (host_with_above d) xs.hosts) c.as_str.ensures))
+          (c.in_ok-found.ensures {u = tt} ∙ ap (λ rows. filter (is_below domain) (map (λ (r : Host). r.name) rows)) (asked.1 before))
           (subst (λ ys. with_read (host_standing ys) empty c.in_ok-found.found ≡ Some names) (asked.0.content before) (told.1 e))),
     )
