@@ -1,5 +1,5 @@
 -- The hosts below a domain are found among those with its last two labels, if it has two.
-use Rattle.std.proofs.Common.{◌≡◌, inl, inr, ℕ, ◌≤◌, nat_lt, Bool, true, false, cond, List, [], ◌∷◌, map, filter, Option, Some, None, count_by, is_some, ◌==◌, refl, sym, ap, subst, ◌∙◌}
+use Rattle.std.proofs.Common.{◌≡◌, inl, inr, ℕ, ◌≤◌, Bool, true, false, cond, List, [], ◌∷◌, map, filter, Option, Some, None, count_by, is_some, ◌==◌, refl, sym, ap, subst, ◌∙◌}
 use Rattle.std.specs.FinMap.{empty, entries, get, keys}
 use Rattle.std.specs.Str as str
 use Rattle.std.proofs.lemmas.Bool.{ltb-true}
