@@ -34,4 +34,3 @@ transfer_with_contact v x = points_to x.contact v
 
 abbrev pub transfer_with_domain : ℤ → Transfer → Bool
 transfer_with_domain v x = points_to x.domain v
-
