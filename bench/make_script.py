@@ -71,24 +71,31 @@ def transfers(line, lines):
 
 
 KINDS = {"checks": checks, "renewals": renewals, "refunds": refunds, "lapse": lapse, "transfers": transfers}
-kind = KINDS.get(sys.argv[2] if len(sys.argv) > 2 else "checks")
-if len(sys.argv) not in (2, 3) or not sys.argv[1].isdecimal() or kind is None:
-    sys.exit(__doc__)
-lines = int(sys.argv[1])
-if kind is transfers:
-    lines -= lines % 3
-if kind is refunds:
-    lines -= lines % 2
-for line in range(lines):
-    moment = START + timedelta(seconds=line)
-    part = (line - 3) // ((lines - 3) // 3) if kind is transfers else 0
-    if part > 0:
-        moment += timedelta(days=100)
-    if kind is lapse and line + 1 == lines:
-        moment = datetime(2030, 1, 1)
-    first = {0: {"order": "deposit", "registrar": "alfa", "cents": 1_000_000_000_000}, 1: CONTACT}
+
+
+def main(words):
+    kind = KINDS.get(words[1] if len(words) > 1 else "checks")
+    if len(words) not in (1, 2) or not words[0].isdecimal() or kind is None:
+        sys.exit(__doc__)
+    lines = int(words[0])
     if kind is transfers:
-        first[2] = {"order": "deposit", "registrar": "beta", "cents": 1_000_000_000_000}
-    caller = "operator" if "order" in first.get(line, {}) else "beta" if part == 1 else "alfa"
-    said = first[line] if line in first else kind(line, lines)
-    print(f"{moment:%Y-%m-%dT%H:%M:%SZ} {caller} {json.dumps(said, separators=(',', ':'))}")
+        lines -= lines % 3
+    if kind is refunds:
+        lines -= lines % 2
+    for line in range(lines):
+        moment = START + timedelta(seconds=line)
+        part = (line - 3) // ((lines - 3) // 3) if kind is transfers else 0
+        if part > 0:
+            moment += timedelta(days=100)
+        if kind is lapse and line + 1 == lines:
+            moment = datetime(2030, 1, 1)
+        first = {0: {"order": "deposit", "registrar": "alfa", "cents": 1_000_000_000_000}, 1: CONTACT}
+        if kind is transfers:
+            first[2] = {"order": "deposit", "registrar": "beta", "cents": 1_000_000_000_000}
+        caller = "operator" if "order" in first.get(line, {}) else "beta" if part == 1 else "alfa"
+        said = first[line] if line in first else kind(line, lines)
+        print(f"{moment:%Y-%m-%dT%H:%M:%SZ} {caller} {json.dumps(said, separators=(',', ':'))}")
+
+
+if __name__ == "__main__":
+    main(sys.argv[1:])

@@ -1,0 +1,33 @@
+"""Writes the statements of the tables as a C header: python3 statements.py > statements.h, from this folder.
+
+Each constant of crates/tables/src is there under the name of its table and its own, as DOMAIN_BY_NAME, and its
+text in TEXTS; the statements that make the tables are the list SCHEMA.
+"""
+import json
+import re
+from pathlib import Path
+
+SOURCES = Path(__file__).resolve().parents[2] / "crates" / "tables" / "src"
+TABLES = ["meta", "account", "contact", "domain", "host", "address", "link", "line", "message", "transfer"]
+CONSTANT = re.compile(r'^const ([A-Z_]+): &str =\s*"([^"]*)";', re.M)
+
+
+def texts_of(file):
+    return CONSTANT.findall((SOURCES / f"{file}.rt").read_text())
+
+
+def main():
+    found = [(f"{table.upper()}_{name}", text) for table in TABLES for name, text in texts_of(table)]
+    print("/* written by statements.py */")
+    print("enum statement { " + ", ".join(name for name, _ in found) + ", BEGIN, COMMIT, STATEMENTS };")
+    print("static const char *const TEXTS[] = {")
+    for _, text in [*found, ("", "BEGIN"), ("", "COMMIT")]:
+        print(f"    {json.dumps(text)},")
+    print("};")
+    print("static const char *const SCHEMA[] = {")
+    for _, text in texts_of("schema"):
+        print(f"    {json.dumps(text)},")
+    print("};")
+
+
+main()
