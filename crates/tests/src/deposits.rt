@@ -61,29 +61,53 @@ fn printed<B: Book + Drop>(
     }
 }
 
+/// What a deposit prints, where it tells this code.
+fn deposited<B: Book + Drop>(
+    alloc: Global,
+    registry: &mut Registry<B>,
+    row: Row,
+) -> Result<Option<Vec<u8>>, Fail> {
+    let (registrar, cents, code, _, _) = row;
+    let at = moment("2028-01-01T00:00:00Z")?;
+    let mut output = Vec::new(alloc);
+    match deposit_on(alloc, registry, at, registrar, cents, &mut output) {
+        Ok(found) if found == code => Ok(Some(output)),
+        _ => Ok(None),
+    }
+}
+
+/// What alfa is told of its balance.
+fn balance_told(alloc: Global, balance: &str) -> Result<String, Fail> {
+    let reply = format!(in alloc;
+        "{{\"code\":1000,\"data\":{{\"balance\":\"{balance}\"}},\"msg\":\"Command completed successfully\",\"svTRID\":\"alfa-1\"}}\n"
+    )?;
+    Ok(reply)
+}
+
+const BALANCE: &[u8] = b"2028-01-01T00:00:00Z alfa {\"cmd\":\"balance\"}\n";
+
+/// Whether this was printed.
+fn is_told(told: Option<Vec<u8>>, text: &str) -> bool {
+    match told {
+        Some(bytes) => bytes.as_slice() == text.as_bytes(),
+        None => false,
+    }
+}
+
 /// A deposit in a registry that is new, and then alfa's balance.
 fn check<B: Book + Drop>(
     rt: &(impl Abort + AllocGlobal),
     registry: Registry<B>,
     row: Row,
 ) -> Result<(), Fail> {
-    let (registrar, cents, code, answer, balance) = row;
+    let (_, _, _, answer, balance) = row;
     let alloc = rt.alloc();
     let mut registry = registry;
-    let mut output = Vec::new(alloc);
-    let at = moment("2028-01-01T00:00:00Z")?;
-    let told = deposit_on(alloc, &mut registry, at, registrar, cents, &mut output);
-    assert!(rt;
-        matches!(told, Ok(found) if found == code),
-        "{registrar} {cents}"
-    );
-    assert!(rt; output.as_slice() == answer.as_bytes());
-    let script = b"2028-01-01T00:00:00Z alfa {\"cmd\":\"balance\"}\n".as_slice();
-    let reply = format!(in alloc;
-        "{{\"code\":1000,\"data\":{{\"balance\":\"{balance}\"}},\"msg\":\"Command completed successfully\",\"svTRID\":\"alfa-1\"}}\n"
-    )?;
-    let found = printed(alloc, &mut registry, script);
-    assert!(rt; matches!(found, Some(text) if text.as_slice() == reply.as_bytes()));
+    let told = deposited(alloc, &mut registry, row)?;
+    assert!(rt; is_told(told, answer));
+    let reply = balance_told(alloc, balance)?;
+    let found = printed(alloc, &mut registry, BALANCE);
+    assert!(rt; is_told(found, reply.as_str()));
     Ok(())
 }
 
