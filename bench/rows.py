@@ -4,14 +4,16 @@ usage: python3 rows.py TLDREG FLOOR [DOMAINS..]     (the program; the floor, bui
 
 For each number of domains (1,000, 10,000 and 100,000 where none is given) it prints, in microseconds a command:
 
-memory   `tldreg run`: processor time of a script that fills the registry and then sends so many commands, less
-         that of the script that fills it alone; beside it what the floor says of a database in memory
-file     `tldreg serve` over a file, 1,000 frames written at once over loopback, wall time; beside it the floor's
-         on a file
+memory   `tldreg serve` over a database in memory, under the example policy with prices of 0, since no deposit can be
+         sent over a connection; no transfers, since the machine's clock doesn't reach the end of a lock
+file     the same over a file, with a deposit and prices
+
+Each command is a frame, 1,000 of them written at once over loopback, and the time is that until the last reply.
+Beside each stands what the floor says of such a database.
 """
 import json
 import os
-import resource
+import re
 import socket
 import subprocess
 import sys
@@ -52,50 +54,7 @@ def subjects(kind, domains):
     return [at * (domains // count) + 1 for at in range(count)]
 
 
-# ---- in memory
-
-def script(kind, domains):
-    start = datetime(2028, 1, 1)
-    lines = []
-
-    def line(seconds, caller, said):
-        moment = start + timedelta(seconds=seconds)
-        lines.append(f"{moment:%Y-%m-%dT%H:%M:%SZ} {caller} {json.dumps(said, separators=(',', ':'))}\n")
-
-    for registrar in ("alfa", "beta"):
-        line(0, "operator", {"order": "deposit", "registrar": registrar, "cents": 10 ** 12})
-    line(0, "alfa", make_script.CONTACT)
-    for number in range(1, domains + 1):
-        line(1, "alfa", make_script.create(number))
-    if kind is not None:
-        for number in subjects(kind, domains):
-            line(LATER, "beta" if kind == "request" else "alfa", payload(kind, number, "2029-01-01"))
-    return "".join(lines).encode()
-
-
-def processor_seconds(program, text):
-    with tempfile.TemporaryFile() as source:
-        source.write(text)
-        source.seek(0)
-        before = resource.getrusage(resource.RUSAGE_CHILDREN)
-        done = subprocess.run([program, "run", str(HERE.parent / "examples" / "policy.toml")], stdin=source,
-                              stdout=subprocess.PIPE, check=True)
-        after = resource.getrusage(resource.RUSAGE_CHILDREN)
-    refused = [reply for reply in done.stdout.splitlines() if json.loads(reply)["code"] >= 2000]
-    assert not refused, refused[:3]
-    return after.ru_utime + after.ru_stime - before.ru_utime - before.ru_stime
-
-
-def in_memory(program, domains):
-    filled = min(processor_seconds(program, script(None, domains)) for _ in range(2))
-    costs = {"(filling)": filled / domains}
-    for kind in KINDS:
-        most = min(processor_seconds(program, script(kind, domains)) for _ in range(2))
-        costs[kind] = (most - filled) / len(subjects(kind, domains))
-    return costs
-
-
-# ---- on a file
+# ---- the program
 
 class Client:
     def __init__(self, port, registrar):
@@ -106,7 +65,6 @@ class Client:
             except OSError:
                 time.sleep(0.05)
         self.stream = self.connection.makefile("rb")
-        self.reply()
         self.send([{"cmd": "login", "id": registrar, "pw": f"pass-{registrar}", "version": "1.0"}])
 
     def reply(self):
@@ -131,6 +89,30 @@ def served(program, policy, file, port):
     return subprocess.Popen([program, "serve", policy, file, str(port)])
 
 
+def fill_and_time(client, domains):
+    client.send([make_script.CONTACT])
+    begun = time.perf_counter()
+    client.send([make_script.create(number) for number in range(1, domains + 1)])
+    costs = {"(filling)": (time.perf_counter() - begun) / domains}
+    expires = f"{datetime.now(timezone.utc) + timedelta(days=365):%Y-%m-%d}"
+    for kind in KINDS[:-1]:
+        costs[kind] = timed(client, kind, domains, expires)
+    return costs
+
+
+def in_memory(program, domains, folder, port):
+    policy = os.path.join(folder, "free.toml")
+    text = (HERE.parent / "examples" / "policy.toml").read_text()
+    Path(policy).write_text(re.sub(r"^(create|renew|transfer) = 800$", r"\1 = 0", text, flags=re.M))
+    server = served(program, policy, ":memory:", port)
+    alfa = Client(port, "alfa")
+    costs = fill_and_time(alfa, domains)
+    alfa.close()
+    server.kill()
+    server.wait()
+    return costs
+
+
 def on_file(program, domains, folder, port):
     policy = str(HERE.parent / "examples" / "policy.toml")
     file = os.path.join(folder, f"{domains}.db")
@@ -140,13 +122,7 @@ def on_file(program, domains, folder, port):
                        stdout=subprocess.DEVNULL)
     server = served(program, policy, file, port)
     alfa = Client(port, "alfa")
-    alfa.send([make_script.CONTACT])
-    begun = time.perf_counter()
-    alfa.send([make_script.create(number) for number in range(1, domains + 1)])
-    costs = {"(filling)": (time.perf_counter() - begun) / domains}
-    expires = f"{datetime.now(timezone.utc) + timedelta(days=365):%Y-%m-%d}"
-    for kind in KINDS[:-1]:
-        costs[kind] = timed(alfa, kind, domains, expires)
+    costs = fill_and_time(alfa, domains)
     alfa.close()
     server.kill()
     server.wait()
@@ -156,7 +132,7 @@ def on_file(program, domains, folder, port):
     subprocess.run(["sqlite3", file, older], check=True)
     server = served(program, policy, file, port)
     beta = Client(port, "beta")
-    costs["request"] = timed(beta, "request", domains, expires)
+    costs["request"] = timed(beta, "request", domains, "")
     beta.close()
     server.kill()
     server.wait()
@@ -189,10 +165,11 @@ def main(words):
     program, beneath = words[:2]
     print("where   domains command        ours     floor  ratio")
     for place, domains in enumerate([int(word) for word in words[2:]] or [1000, 10000, 100000]):
-        show("memory", domains, in_memory(program, domains), floor(beneath, ":memory:", domains))
         with tempfile.TemporaryDirectory(dir="/var/tmp") as folder:
+            port = 7700 + 2 * place
+            show("memory", domains, in_memory(program, domains, folder, port), floor(beneath, ":memory:", domains))
             floors = floor(beneath, os.path.join(folder, "floor.db"), domains)
-            show("file", domains, on_file(program, domains, folder, 7700 + place), floors)
+            show("file", domains, on_file(program, domains, folder, port + 1), floors)
 
 
 if __name__ == "__main__":
