@@ -7,7 +7,6 @@ mod books;
 #[cfg(test)]
 mod connections;
 #[cfg(test)]
-mod deposits;
 #[cfg(test)]
 mod faces;
 #[cfg(test)]
