@@ -2,13 +2,17 @@
 """What the merge gate costs, crate by crate, in processor minutes.
 
     python3 bench/gate.py                    runs rt ci --anew and writes the table of bench/GATE.md; ends as rt ci ends
+    python3 bench/gate.py over FILE CRATE..  runs rt ci over those crates (all, where none is named) with what earlier runs kept,
+                                             and adds to FILE what each part took; where none is named, writes the table of FILE
     python3 bench/gate.py functions CRATE..  which functions cost the prover most, without tests and with them
     python3 bench/gate.py plants CRATE..     the counts of rt plant
 
 From the repository's root, with rt on the path, and nothing else running.
 """
+import fcntl
 import importlib.machinery
 import importlib.util
+import json
 import os
 import re
 import resource
@@ -32,8 +36,9 @@ def module(name, path):
     return made
 
 
-def gate():
-    """Runs rt ci --anew in this process, with each child's processor time put down under its crate."""
+def gate(anew=True, names=()):
+    """Runs rt ci in this process. Returns its status, each child's processor seconds under its crate and part, the edits of
+    each crate, and the wall time."""
     rt = module("rt_gate", RT)
     spent, edits, names, lock = {}, {}, {}, threading.Lock()
     started, waits = subprocess.Popen.__init__, os.waitpid
@@ -61,13 +66,35 @@ def gate():
 
     subprocess.Popen.__init__, os.waitpid, rt.add_edits = start, wait, count_edits
     began = time.time()
-    status = rt.ci(anew=True)
+    status = rt.ci(anew, names)
     subprocess.Popen.__init__, os.waitpid = started, waits
-    write_table(spent, edits, time.time() - began)
+    return status, spent, edits, time.time() - began
+
+
+def anew():
+    status, spent, edits, seconds = gate()
+    write_table(spent, edits, f"one `rt ci`, whose wall time was {seconds / 60:.0f} min on {os.cpu_count()} processors")
     return status
 
 
-def write_table(spent, edits, seconds):
+def over(path, names):
+    """Runs rt ci with what is kept, and adds what it took to the file: several such runs are one gate from nothing."""
+    status, spent, edits, _ = gate(False, names)
+    with open(path, "a+") as it:
+        fcntl.flock(it, fcntl.LOCK_EX)
+        it.seek(0)
+        sums = json.loads(it.read() or "{}")
+        for (crate, part), seconds in spent.items():
+            sums[f"{crate} {part}"] = sums.get(f"{crate} {part}", 0) + seconds
+        it.seek(0)
+        it.truncate()
+        json.dump(sums, it, indent=1, sort_keys=True)
+    if not names:
+        write_table({tuple(key.split(" ")): value for key, value in sums.items()}, edits, f"one `rt ci` from nothing, in parts that keep what they proved, on {os.cpu_count()} processors")
+    return status
+
+
+def write_table(spent, edits, what):
     crates = [line.split(":")[0] for line in open("crates.txt") if re.match(r"\w+.*:", line)]
     others = sorted({crate for crate, _ in spent} - set(crates))
     rows, sums = [], [0.0, 0.0, 0.0]
@@ -79,7 +106,7 @@ def write_table(spent, edits, seconds):
     head = [PART.format("crate", "proof", "tests", "edits", "sum", "count"), "| --- | --- | --- | --- | --- | --- |"]
     last = PART.format("all", *[f"{it:.1f}" for it in (*sums, sum(sums))], sum(edits.values()))
     table = "\n".join([*head, *rows, last])
-    said = f"Processor minutes of one `rt ci`, whose wall time was {seconds / 60:.0f} min on {os.cpu_count()} processors; linking and running the programs took {rest:.1f} more."
+    said = f"Processor minutes of {what}; linking and running the programs took {rest:.1f} more."
     put("gate", f"{said}\n\n{table}\n")
 
 
@@ -142,7 +169,9 @@ def main(words):
         return functions(words[1:])
     if words[:1] == ["plants"]:
         return plants(words[1:])
-    return gate()
+    if words[:1] == ["over"]:
+        return over(words[1], words[2:])
+    return anew()
 
 
 sys.exit(main(sys.argv[1:]))

@@ -42,4 +42,4 @@ pub use origin::{
 };
 pub use statuses::{statuses_column, statuses_of_column};
 pub use street::{street_column, street_of_column};
-pub use transfer::{is_transfer, transfer_of_row, transfer_row};
+pub use transfer::{is_same, is_transfer, transfer_of_row, transfer_row};

@@ -110,7 +110,8 @@ fn with_due(transfer: Option<Transfer>, due: Option<i64>) -> Option<Transfer>
     }
 }
 
-pub(crate) fn is_same(a: Option<i64>, b: Option<i64>) -> bool
+/// Two columns that may have no number are the same.
+pub fn is_same(a: Option<i64>, b: Option<i64>) -> bool
     ensures { result ≡ spec.is_same a b }
 {
     match (a, b) {

@@ -131,11 +131,15 @@ back_for found (Some (Public face)) = nothing
 abbrev pub back_asked : Lookups → Command → Option (Seen FullDomain DomainFace) → GivenBack
 back_asked found c seen = if asked false reads_refund c then back_for found seen else nothing
 
+-- the hosts below a domain that is there, where the command has to know them
+abbrev pub subordinate_asked : Lookups → Command → List ℕ → List (List ℕ)
+subordinate_asked found c name = if asked false reads_associations c && is_some (found.domain name) then found.hosts_below name else []
+
 abbrev pub domain_facts : Lookups → Command → List ℕ → DomainFacts
 domain_facts found c name = record {
   name = name;
   seen = found.domain name;
-  subordinate = if asked false reads_associations c then found.hosts_below name else [];
+  subordinate = subordinate_asked found c name;
   given_back = back_asked found c (found.domain name);
 }
 

@@ -98,6 +98,13 @@ impl<B: Book + Drop> Registry<B> {
         &self.policy
     }
 
+    /// Gives the book back, as it is.
+    pub fn into_book(self) -> B
+        ensures { result ≡ self.book }
+    {
+        self.book
+    }
+
     /// Answers a registrar's command at a moment; one before the clock counts as the clock.
     ///
     /// The reply, and what the registrar sees afterwards, are those in every registry that the

@@ -1,5 +1,5 @@
 -- The deletion of a domain keeps a registry well formed.
-use Rattle.std.proofs.Common.{◌≡◌, ◌≢◌, inl, inr, ℕ, Bool, true, false, not, List, Option, Some, None, IsSome, option_and_then, refl, sym, ap, subst, ◌∙◌, arith}
+use Rattle.std.proofs.Common.{◌≡◌, ◌≢◌, inl, inr, ℕ, Bool, true, false, not, List, [], Option, Some, None, IsSome, is_some, option_map, option_and_then, if◌then◌else◌, refl, sym, ap, subst, ◌∙◌, arith}
 use Rattle.std.specs.FinMap.{get}
 use Rattle.std.proofs.lemmas.Bool.{not-false, or_parts}
 use Rattle.accounts.specs.Account.{with_command}
@@ -21,10 +21,11 @@ use Rattle.policy.specs.Rules.{PolicyRules, IsRegistrar}
 use Rattle.protocol.specs.declared.command.Command.{Command}
 use Rattle.protocol.specs.declared.command.Command.TheVariants.{Asked}
 use Rattle.protocol.specs.declared.command.Request.TheVariants.{DeleteDomain}
-use Rattle.protocol.specs.Requests.{holds_of}
+use Rattle.protocol.specs.Requests.{holds_of, presented}
 use Rattle.facts.specs.declared.facts.DomainFacts.{DomainFacts}
 use Rattle.facts.specs.Facts.{domain_at, domain_facts, facts, lookups, subordinate}
 use Rattle.model.specs.Registry.{Registry}
+use Rattle.model.specs.View.{domain_sight}
 use Rattle.model.specs.WellFormed.{HasObjects}
 use Rattle.verdict.specs.declared.rules.Condition.TheVariants.{HasSubordinates, Shows}
 use Rattle.verdict.specs.Conditions.{domain_seen_shows, is_shown}
@@ -55,11 +56,16 @@ module _ (p : PolicyRules) (r : ℕ) (cl_trid : Option (List ℕ)) (s : Registry
   kept : HasObjects p counted
   kept = kept-counted p r cl_trid s place is
 
+  -- the hosts below a domain that is there are known
+  known-below : (d : Domain) → get s.domains (name_of name) ≡ Some d → known.subordinate ≡ subordinate s (name_of name)
+  known-below d at = ap (λ (o : Option Domain). if is_some (option_map (domain_sight p r s (presented asked (name_of name))) o) then subordinate s (name_of name) else []) at
+
   -- no host lies below it
-  alone : (host : List ℕ) → IsSome (get s.hosts host) → superordinate_of p.zone host ≢ Some (name_of name)
-  alone host there above =
+  alone : (d : Domain) → get s.domains (name_of name) ≡ Some d → (host : List ℕ) → IsSome (get s.hosts host) → superordinate_of p.zone host ≢ Some (name_of name)
+  alone d at host there above =
       let none : not (is_empty (subordinate s (name_of name))) ≡ false =
-      sym (ap (holds_of (λ (k : DomainFacts). not (is_empty k.subordinate))) (at-itself (name_of name) known))
+      sym (ap (λ (names : List (List ℕ)). not (is_empty names)) (known-below d at))
+      ∙ sym (ap (holds_of (λ (k : DomainFacts). not (is_empty k.subordinate))) (at-itself (name_of name) known))
       ∙ unrefused p r s.clock (DeleteDomain name) (facts p r asked s) taken HasSubordinates (search (inl, inr) depth 20) in
       let never : true ≡ false = sym (below-superordinate_of p.zone host (name_of name) above) ∙ name-fails (is_below (name_of name)) s.hosts host there (not-false (is_empty (subordinate s (name_of name))) none) in
       cc
@@ -75,7 +81,7 @@ module _ (p : PolicyRules) (r : ℕ) (cl_trid : Option (List ℕ)) (s : Registry
 
   -- it is gone, or stands deleted
   kept-ending : (d : Domain) → get s.domains (name_of name) ≡ Some d → is_pending d.transfer ≡ false → (at_once : Bool) → HasObjects p (changed p (ending at_once s.clock known d) counted)
-  kept-ending d at settled true = drop-domain p counted kept (name_of name) alone
+  kept-ending d at settled true = drop-domain p counted kept (name_of name) (alone d at)
   kept-ending d at settled false =
       let k = kept.domains (name_of name) d at in
       kept-put-domain p counted kept (name_of name) d (deleted_domain s.clock known.given_back.years d) at refl (record {
@@ -86,7 +92,7 @@ module _ (p : PolicyRules) (r : ℕ) (cl_trid : Option (List ℕ)) (s : Registry
         transferred = k.transferred;
         updated = omega arith;
         transfer = k.transfer;
-        deletion = record { deleted = omega arith; requested = tt; hosts = λ host there above. alone host there (above ∙ ap (λ (q : List ℕ). Some q) k.named); transfer = settled };
+        deletion = record { deleted = omega arith; requested = tt; hosts = λ host there above. alone d at host there (above ∙ ap (λ (q : List ℕ). Some q) k.named); transfer = settled };
         contacts = k.contacts;
         hosts = k.hosts;
       })

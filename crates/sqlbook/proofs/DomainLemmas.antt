@@ -1,10 +1,9 @@
 -- What a domain put over rows is to a book, with the domains that registrars hold counted anew before.
-use Rattle.std.proofs.Common.{◌≡◌, inl, inr, ℕ, Bool, true, false, ◌&&◌, ◌==◌, cond, length, List, [], ◌∷◌, filter, Option, Some, None, refl, sym, ap, subst, ◌∙◌}
+use Rattle.std.proofs.Common.{◌≡◌, ℕ, Bool, true, ◌&&◌, ◌==◌, cond, length, List, [], filter, Option, Some, None, refl, sym, ap, subst, ◌∙◌}
 use Rattle.std.specs.FinMap.{get}
 use Rattle.std.specs.List.{list_all}
 use Rattle.std.specs.Option.{option_map_or}
 use Rattle.std.specs.Prelude.{int_le, pos}
-use Rattle.std.proofs.lemmas.Bool.{and_from, and_parts}
 use Rattle.sqlite_rules.specs.Lists.{Has}
 use Rattle.sqlite_typed.specs.Tests.{bytes_eq}
 use Rattle.lifecycle.specs.Lapse.{due_at}
@@ -17,16 +16,14 @@ use Rattle.tables.specs.Content.{Content}
 use Rattle.tables.specs.Domain as table
 use Rattle.tables.specs.Meta.{Meta}
 use Rattle.tables.specs.Whole.{IsWhole}
-use Rattle.tables.proofs.RowLemmas.{bytes_same}
 use Rattle.sqlaccounts.specs.Accounts.{accounts_of, row_of, sums_are_right}
 use Rattle.sqldomains.specs.Changes.{IsDomainPut}
 use Rattle.sqldomains.specs.Domains.{domain_of, domains_of}
+use Rattle.sqldomains.proofs.SponsorLemmas.{same-verdict}
 use Rattle.sqlheld.specs.Recounts.{AreAlike, IsRecounted}
 use Rattle.sqlheld.specs.Held.{helds_are_right}
 use Rattle.sqlheld.proofs.KeptLemmas.{held-kept}
 use Rattle.sqlobjects.specs.Objects.{contacts_of, hosts_of}
-use Rattle.sqlobjects.specs.Stages.{AreOthersKept}
-use Rattle.sqlobjects.proofs.PutLemmas.{bytes_is, filter-has, has-filter}
 use Rattle.sqlterms.specs.Clock.{clock_of}
 use Rattle.sqlterms.specs.Meta.{meta_of}
 use Rattle.sqlterms.specs.Terms.{days_in, days_of, ids_in, prices_in, reserved_in, terms_in, terms_made, terms_of}
@@ -34,47 +31,6 @@ use Rattle.sqldue.specs.Dues.{dues_are_right, is_due_right, rules_with}
 use Rattle.sqlbook.specs.Meaning.{stored_of}
 use Rattle.sqlbook.proofs.AccountLemmas.{ident_in, same-ids}
 use Rattle.sqlbook.proofs.ObjectLemmas.{same-put}
-
--- ---- tests of all rows
-
-module _ {A : Type 0} (p : A → Bool) where
-  each-passes : (rows : List A) → list_all p rows ≡ true → (row : A) → Has rows row → p row ≡ true
-  each-passes [] all row there = absurd there
-  each-passes (x ∷ rows) all row (inl same) = ap p same ∙ (and_parts (p x) (list_all p rows) all).0
-  each-passes (x ∷ rows) all row (inr later) = each-passes rows (and_parts (p x) (list_all p rows) all).1 row later
-
-  all-pass : (rows : List A) → ((row : A) → Has rows row → p row ≡ true) → list_all p rows ≡ true
-  all-pass [] each = refl
-  all-pass (x ∷ rows) each = and_from (p x) (list_all p rows) (each x (inl refl)) (all-pass rows (λ r h. each r (inr h)))
-
-both-or-none : (a b : Bool) → (a ≡ true → b ≡ true) → (b ≡ true → a ≡ true) → a ≡ b
-both-or-none true b f g = sym (f refl)
-both-or-none false true f g = g refl
-both-or-none false false f g = refl
-
--- ---- rows of one name in the place of others
-
-module _ (name : List ℕ) (old new : List table.Domain) (p q : table.Domain → Bool) (others : AreOthersKept (λ (r : table.Domain). r.name) name old new)
-    (alike : (row : table.Domain) → Has old row → Has new row → bytes_eq row.name name ≡ false → q row ≡ p row)
-    (was : (row : table.Domain) → Has old row → row.name ≡ name → p row ≡ true) (is : (row : table.Domain) → Has new row → row.name ≡ name → q row ≡ true) where
-  in-new : (row : table.Domain) → Has old row → bytes_eq row.name name ≡ false → Has new row
-  in-new row there other =
-      (has-filter (λ (r : table.Domain). bytes_eq r.name row.name) new row (subst (λ l. Has l row) (sym (others row.name other)) (filter-has (λ (r : table.Domain). bytes_eq r.name row.name) old row there (bytes_same row.name row.name refl)))).0
-
-  in-old : (row : table.Domain) → Has new row → bytes_eq row.name name ≡ false → Has old row
-  in-old row there other =
-      (has-filter (λ (r : table.Domain). bytes_eq r.name row.name) old row (subst (λ l. Has l row) (others row.name other) (filter-has (λ (r : table.Domain). bytes_eq r.name row.name) new row there (bytes_same row.name row.name refl)))).0
-
-  forth : list_all p old ≡ true → (row : table.Domain) → Has new row → (b : Bool) → bytes_eq row.name name ≡ b → q row ≡ true
-  forth all row there true e = is row there (bytes_is row.name name e)
-  forth all row there false e = alike row (in-old row there e) there e ∙ each-passes p old all row (in-old row there e)
-
-  back : list_all q new ≡ true → (row : table.Domain) → Has old row → (b : Bool) → bytes_eq row.name name ≡ b → p row ≡ true
-  back all row there true e = was row there (bytes_is row.name name e)
-  back all row there false e = sym (alike row there (in-new row there e) e) ∙ each-passes q new all row (in-new row there e)
-
-  same-verdict : list_all q new ≡ list_all p old
-  same-verdict = both-or-none (list_all q new) (list_all p old) (λ all. all-pass p old (λ row there. back all row there (bytes_eq row.name name) refl)) (λ all. all-pass q new (λ row there. forth all row there (bytes_eq row.name name) refl))
 
 -- ---- a domain put
 
@@ -99,7 +55,7 @@ module _ (name : List ℕ) (before after : Option Domain) (due : Option ℕ) (ol
     where
       one : (days : Days) → days_of old ≡ Some days → list_all (is_due_right days new) new.domains ≡ list_all (is_due_right days old) old.domains
       one days here =
-          same-verdict name old.domains new.domains (is_due_right days old) (is_due_right days new)
+          same-verdict (λ (r : table.Domain). r.name) name old.domains new.domains (is_due_right days old) (is_due_right days new)
           (λ q e. it.others q e ∙ ap (filter (λ (r : table.Domain). bytes_eq r.name q)) domains-mid)
           (λ row there now other. ap (λ d. option_map_or (λ x. int_le row.due (pos (due_at (rules_with days) x))) d true) (it.readings row (subst (λ l. Has l row) (sym domains-mid) there) now other ∙ reads-mid row))
           (was days here) (is days here)

@@ -30,6 +30,15 @@ pub struct SqlRecords<S: Alter, O: Origin<S>> {
     ghost steady: { IsSteady O.is_made are_right store },
 }
 
+impl<S: Alter, O: Origin<S> + Drop> SqlRecords<S, O> {
+    /// Gives the rows back, as they are.
+    pub fn into_rows(self) -> RowStore<S>
+        ensures { result ≡ self.store }
+    {
+        self.store
+    }
+}
+
 /// Goes back to where the transaction began, if one is open.
 fn go_back<S: Alter, O: Origin<S>>(store: &mut RowStore<S>)
     ensures closes { Closes store.old.before store.old store.new }

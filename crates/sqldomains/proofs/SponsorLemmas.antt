@@ -100,9 +100,13 @@ host-sponsors name value old new it =
 
 -- ---- a domain
 
--- the row of a domain has its sponsor
-pub sponsor-read : (xs : Content) (row : table.Domain) (d : Domain) → domain_of xs row ≡ Some d → row.sponsor ≡ registrar_column d.sponsor
-sponsor-read xs row d e =
+-- what a domain has of its rows
+pub record Parts (xs : Content) (row : table.Domain) (d : Domain) : Type 0 where
+  pub sponsor : registrar_in row.sponsor ≡ Some d.sponsor
+  pub transfer : last_transfer (filter (transfer_with_domain row.id) xs.transfers) ≡ Some d.transfer
+
+pub parts : (xs : Content) (row : table.Domain) (d : Domain) → domain_of xs row ≡ Some d → Parts xs row d
+parts xs row d e =
     let links = step (links_of xs row) _ d e in
     let transfer = step (last_transfer (filter (transfer_with_domain row.id) xs.transfers)) _ d links.rest in
     let r = step (registration_in kinds.Domain (columns_of row)) _ d transfer.rest in
@@ -114,8 +118,14 @@ sponsor-read xs row d e =
     let created = step (moment_in row.created) _ r.given sponsor.rest in
     let transferred = step (maybe_moment_in row.transferred) _ r.given created.rest in
     let updated = step (maybe_moment_in row.updated) _ r.given transferred.rest in
-    sym (registrar_written row.sponsor sponsor.given sponsor.is)
-    ∙ (λ i. registrar_column (same_some _ r.given updated.rest i).sponsor) ∙ (λ i. registrar_column (same_some _ d x.rest i).sponsor)
+    record {
+      sponsor = sponsor.is ∙ (λ i. Some (same_some _ r.given updated.rest i).sponsor) ∙ ap (λ (z : Domain). Some z.sponsor) (same_some _ d x.rest);
+      transfer = transfer.is ∙ ap (λ (z : Domain). Some z.transfer) (same_some _ d x.rest);
+    }
+
+-- the row of a domain has its sponsor
+pub sponsor-read : (xs : Content) (row : table.Domain) (d : Domain) → domain_of xs row ≡ Some d → row.sponsor ≡ registrar_column d.sponsor
+sponsor-read xs row d e = sym (registrar_written row.sponsor d.sponsor (parts xs row d e).sponsor)
 
 -- the domain that is put has its sponsor as that of its row
 module _ (name : List ℕ) (value : Option Domain) (due : Option ℕ) (mid new : Content) (it : IsDomainPut name value due mid new) where

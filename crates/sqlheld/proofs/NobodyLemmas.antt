@@ -6,23 +6,19 @@ use Rattle.std.specs.List.{list_any}
 use Rattle.sqlite_keyed.specs.Keyed.{get_by}
 use Rattle.sqlite_rules.specs.Lists.{Has}
 use Rattle.objects.specs.declared.domain.Domain.{Domain}
-use Rattle.objects.specs.declared.roid.ObjectKind.TheVariants as kinds
 use Rattle.objects.specs.declared.transfer.Transfer.{Transfer}
 use Rattle.objects.specs.Transfers.{is_incoming, is_pending_state}
 use Rattle.columns.specs.Codes.{state_in}
-use Rattle.columns.specs.Domains.{columns_of, deletion_in}
-use Rattle.columns.specs.Numbers.{is_place, maybe_moment_in, moment_in, registrar_in, years_in}
-use Rattle.columns.specs.Registrations.{registration_in}
-use Rattle.columns.specs.Roids.{roid_in}
-use Rattle.columns.specs.Texts.{statuses_in}
+use Rattle.columns.specs.Numbers.{is_place, moment_in, registrar_in}
 use Rattle.columns.specs.Transfers.{transfer_in, transfer_made}
 use Rattle.columns.proofs.ReadLemmas.{kept, same_some, step}
 use Rattle.sqlaccounts.specs.Accounts.{row_of}
 use Rattle.sqlaccounts.proofs.FindingLemmas.{equal}
 use Rattle.sqlobjects.specs.Objects.{last_transfer}
 use Rattle.sqlobjects.proofs.PutLemmas.{has-filter}
-use Rattle.sqldomains.specs.Domains.{domain_of, domains_of, links_of}
+use Rattle.sqldomains.specs.Domains.{domain_of, domains_of}
 use Rattle.sqldomains.proofs.LinkedLemmas.{none-passes}
+use Rattle.sqldomains.proofs.SponsorLemmas.{parts}
 use Rattle.sqlheld.specs.Held.{held_of, is_held_by}
 use Rattle.tables.specs.Account as account_table
 use Rattle.tables.specs.Content.{Content}
@@ -36,28 +32,6 @@ use Rattle.tables.specs.Whole.{IsWhole}
 place-read : (column : ℤ) (q : ℕ) → registrar_in column ≡ Some q → column ≡ pos q
 place-read (pos n) q e = ap pos (kept n q (is_place n) e).1
 place-read (negsuc n) q e = cc
-
-record Parts (xs : Content) (row : table.Domain) (d : Domain) : Type 0 where
-  pub sponsor : registrar_in row.sponsor ≡ Some d.sponsor
-  pub transfer : last_transfer (filter (transfer_with_domain row.id) xs.transfers) ≡ Some d.transfer
-
-parts : (xs : Content) (row : table.Domain) (d : Domain) → domain_of xs row ≡ Some d → Parts xs row d
-parts xs row d e =
-    let links = step (links_of xs row) _ d e in
-    let transfer = step (last_transfer (filter (transfer_with_domain row.id) xs.transfers)) _ d links.rest in
-    let r = step (registration_in kinds.Domain (columns_of row)) _ d transfer.rest in
-    let y = step (years_in row.years) _ d r.rest in
-    let s = step (statuses_in row.statuses) _ d y.rest in
-    let x = step (deletion_in row.deleted row.restore_requested) _ d s.rest in
-    let roid = step (roid_in kinds.Domain row.creator row.serial) _ r.given r.is in
-    let sponsor = step (registrar_in row.sponsor) _ r.given roid.rest in
-    let created = step (moment_in row.created) _ r.given sponsor.rest in
-    let transferred = step (maybe_moment_in row.transferred) _ r.given created.rest in
-    let updated = step (maybe_moment_in row.updated) _ r.given transferred.rest in
-    record {
-      sponsor = sponsor.is ∙ (λ i. Some (same_some _ r.given updated.rest i).sponsor) ∙ ap (λ (z : Domain). Some z.sponsor) (same_some _ d x.rest);
-      transfer = transfer.is ∙ ap (λ (z : Domain). Some z.transfer) (same_some _ d x.rest);
-    }
 
 requested : (row : transfer_table.Transfer) (t : Transfer) → transfer_in row ≡ Some t → registrar_in row.requester ≡ Some t.requester
 requested row t e =

@@ -5,11 +5,11 @@ ghost use Rattle.meanings.specs.Calls.{Turns};
 ghost use Rattle.sqlobjects.specs.Sponsors.{IsFollowed};
 ghost use Rattle.sqlobjects.specs.Stages.{AreHostsMoved, AreWritten, IsMoved, with_all_moved, with_moved};
 
-use crate::sponsors::{domain_sponsor, is_same};
+use crate::sponsors::domain_sponsor;
 use basis::list::Seq;
 use basis::registrar::RegistrarNo;
 use basis::text::Text;
-use columns::maybe_registrar_column;
+use columns::{is_same, maybe_registrar_column};
 use sqlite::Alter;
 use tables::{HostRow, RowStore};
 use transactions::BookFault;

@@ -1,11 +1,11 @@
 //! Who sponsors a host, as its row has it.
 ghost use Rattle.std.specs.Prelude.{◌≡◌, true, IfSome};
-ghost use Rattle.columns.specs.Transfers as columns;
 ghost use Rattle.meanings.specs.Read.{rows_of};
 ghost use Rattle.sqlobjects.specs.Sponsors as spec;
 ghost use Rattle.sqlobjects.specs.Stages.{HasRightSponsor};
 ghost use Rattle.transactions.specs.States.{Meets};
 
+use columns::is_same;
 use meanings::only;
 use sqlite::Alter;
 use tables::{DomainRow, HostRow, RowStore};
@@ -77,14 +77,4 @@ fn check_row<S: Alter>(store: &mut RowStore<S>, row: &HostRow) -> Result<(), Boo
         return Err(BookFault::Store);
     }
     Ok(())
-}
-
-pub(crate) fn is_same(a: Option<i64>, b: Option<i64>) -> bool
-    ensures { result ≡ columns.is_same a b }
-{
-    match (a, b) {
-        (None, None) => true,
-        (Some(a), Some(b)) => a == b,
-        _ => false,
-    }
 }

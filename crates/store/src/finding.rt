@@ -241,8 +241,8 @@ fn domain_facts<R: Records>(
 {
     let own = name.clone()?;
     let presented = command.presented(name);
-    let subordinate = hosts_around(records, command, name)?;
     let seen = domain_seen(records, caller, policy, presented, name)?;
+    let subordinate = hosts_around(records, command, name, seen.is_some())?;
     let given_back = back_asked(records, caller, command, policy, seen.as_ref())?;
     Ok(DomainFacts {
         name: own,
@@ -353,15 +353,16 @@ fn back_for<R: Records>(
     Ok(given_back(Some(&account), &refund, policy))
 }
 
-/// The hosts below a domain, where the command asks.
+/// The hosts below a domain that is there, where the command asks.
 fn hosts_around<R: Records>(
     records: &mut R,
     command: &Command,
     domain: &Text,
+    is_there: bool,
 ) -> Result<Seq<Text>, BookFault>
-    ensures { Finds result (if requests.asked false requests.reads_associations command.now then facts.subordinate (R.kept records.old).content.registry domain.now else []) (R.kept records.old) (R.kept records.new) }
+    ensures { Finds result (if requests.asked false requests.reads_associations command.now && is_there then facts.subordinate (R.kept records.old).content.registry domain.now else []) (R.kept records.old) (R.kept records.new) }
 {
-    if command.reads_associations() {
+    if command.reads_associations() && is_there {
         records.hosts_below(domain)
     } else {
         Ok(Seq::new(records.alloc()))

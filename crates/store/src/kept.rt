@@ -37,6 +37,13 @@ impl<R> Kept<R> {
             refused: 0,
         }
     }
+
+    /// Gives the records back, as they are.
+    pub fn into_records(self) -> R
+        ensures { result ≡ self.records }
+    {
+        self.records
+    }
 }
 
 impl<R: Records> Kept<R> {

@@ -1,0 +1,97 @@
+//! A deposit that is given alone, in a registry that is open: what is printed, the code that is told, and
+//! alfa's balance afterwards.
+
+use crate::fixtures::{Rows, new_registry, printed};
+use calendar::Moment;
+use protocol::Code;
+use registry::Fault;
+use script::{Exit, deposit_on};
+use std::alloc::Global;
+use std::process::Abort;
+use std::test::Fail;
+
+const COMPLETED: &str = "{\"code\":1000,\"msg\":\"Command completed successfully\"}\n";
+
+const RANGE: &str = "{\"code\":2004,\"msg\":\"Parameter value range error\"}\n";
+
+const MISSING: &str = "{\"code\":2303,\"msg\":\"Object does not exist\"}\n";
+
+/// A registrar, cents, the code of the answer and its text, and alfa's balance after this deposit alone.
+type Row = (&'static str, i64, Code, &'static str, &'static str);
+
+const ROWS: &[Row] = &[
+    ("alfa", 100_000, Code::Completed, COMPLETED, "100000"),
+    ("beta", 100_000, Code::Completed, COMPLETED, "0"),
+    ("alfa", 1, Code::Completed, COMPLETED, "1"),
+    (
+        "alfa",
+        1_000_000_000_000,
+        Code::Completed,
+        COMPLETED,
+        "1000000000000",
+    ),
+    ("gamma", 100_000, Code::ObjectMissing, MISSING, "0"),
+    ("Alfa", 100_000, Code::ObjectMissing, MISSING, "0"),
+    ("operator", 100_000, Code::ObjectMissing, MISSING, "0"),
+    ("alfa", 0, Code::ParameterRange, RANGE, "0"),
+    ("alfa", -1, Code::ParameterRange, RANGE, "0"),
+    ("alfa", 1_000_000_000_001, Code::ParameterRange, RANGE, "0"),
+    ("gamma", 0, Code::ParameterRange, RANGE, "0"),
+];
+
+const BALANCE: &str = "2028-01-01T00:00:00Z alfa {\"cmd\":\"balance\"}\n";
+
+/// What a deposit prints, where it tells this code.
+fn deposited(
+    alloc: Global,
+    registry: &mut Rows,
+    at: &str,
+    (registrar, cents, code, _, _): Row,
+) -> Result<Option<Vec<u8>>, Fail> {
+    let Some(at) = Moment::read(at) else {
+        return Err(Fail::from("no moment"));
+    };
+    let mut output = Vec::new(alloc);
+    match deposit_on(alloc, registry, at, registrar, cents, &mut output) {
+        Ok(told) if told == code => Ok(Some(output)),
+        Err(Exit::Registry(Fault::Moment)) if output.is_empty() => Ok(None),
+        _ => Err(Fail::from("another code, or another fault")),
+    }
+}
+
+/// Whether alfa is told this balance.
+fn has_balance(alloc: Global, registry: &mut Rows, balance: &str) -> Result<bool, Fail> {
+    let reply = format!(in alloc;
+        "{{\"code\":1000,\"data\":{{\"balance\":\"{balance}\"}},\"msg\":\"Command completed successfully\",\"svTRID\":\"alfa-1\"}}\n"
+    )?;
+    let told = printed(alloc, registry, BALANCE)?;
+    Ok(told.as_slice() == reply.as_bytes())
+}
+
+#[test]
+fn deposits(rt: HostRuntime) -> Result<(), Fail> {
+    let alloc = rt.alloc();
+    for row in ROWS.iter().copied() {
+        let mut registry = new_registry(alloc)?;
+        let told = deposited(alloc, &mut registry, "2028-01-01T00:00:00Z", row)?;
+        let Some(told) = told else {
+            return Err(Fail::from("too late"));
+        };
+        assert!(rt; told.as_slice() == row.3.as_bytes());
+        let is_told = has_balance(alloc, &mut registry, row.4)?;
+        assert!(rt; is_told);
+    }
+    Ok(())
+}
+
+/// After the last moment nothing is printed, and the registry is as it was.
+#[test]
+fn a_deposit_after_the_last_moment(rt: HostRuntime) -> Result<(), Fail> {
+    let alloc = rt.alloc();
+    let mut registry = new_registry(alloc)?;
+    let told = deposited(alloc, &mut registry, "2100-01-01T00:00:00Z", ROWS[0])?;
+    assert!(rt; told.is_none());
+    let is_told = has_balance(alloc, &mut registry, "0")?;
+    assert!(rt; is_told);
+    Ok(())
+}
