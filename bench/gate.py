@@ -9,10 +9,8 @@
 
 From the repository's root, with rt on the path, and nothing else running.
 """
-import fcntl
 import importlib.machinery
 import importlib.util
-import json
 import os
 import re
 import resource
@@ -36,11 +34,11 @@ def module(name, path):
     return made
 
 
-def gate(anew=True, names=()):
+def gate(anew=True, names=(), note=lambda key, seconds: None):
     """Runs rt ci in this process. Returns its status, each child's processor seconds under its crate and part, the edits of
-    each crate, and the wall time."""
+    each crate, and the wall time; notes each child's seconds when it ends."""
     rt = module("rt_gate", RT)
-    spent, edits, names, lock = {}, {}, {}, threading.Lock()
+    spent, edits, names_of, lock = {}, {}, {}, threading.Lock()
     started, waits = subprocess.Popen.__init__, os.waitpid
 
     def start(self, args, *given, **named):
@@ -48,14 +46,15 @@ def gate(anew=True, names=()):
         words = [str(it) for it in args] if isinstance(args, (list, tuple)) else [str(args)]
         crate = words[words.index("--crate-name") + 1] if "--crate-name" in words else os.path.basename(str(named.get("cwd") or "rest"))
         part = "edits" if "rt-edit-" in str(named.get("cwd")) else "tests" if "--test" in words or crate.endswith("_tests") else "proof"
-        names[self.pid] = (crate.removesuffix("_tests"), part)
+        names_of[self.pid] = (crate.removesuffix("_tests"), part)
 
     def wait(pid, flags):
         found, status, used = os.wait4(pid, flags)
         if found:
             with lock:
-                key = names.pop(found, ("rest", "proof"))
-                spent[key] = spent.get(key, 0) + used.ru_utime + used.ru_stime
+                key, seconds = names_of.pop(found, ("rest", "proof")), used.ru_utime + used.ru_stime
+                spent[key] = spent.get(key, 0) + seconds
+                note(key, seconds)
         return found, status
 
     added = rt.add_edits
@@ -78,19 +77,21 @@ def anew():
 
 
 def over(path, names):
-    """Runs rt ci with what is kept, and adds what it took to the file: several such runs are one gate from nothing."""
-    status, spent, edits, _ = gate(False, names)
-    with open(path, "a+") as it:
-        fcntl.flock(it, fcntl.LOCK_EX)
-        it.seek(0)
-        sums = json.loads(it.read() or "{}")
-        for (crate, part), seconds in spent.items():
-            sums[f"{crate} {part}"] = sums.get(f"{crate} {part}", 0) + seconds
-        it.seek(0)
-        it.truncate()
-        json.dump(sums, it, indent=1, sort_keys=True)
+    """Runs rt ci with what is kept, and adds what each child took to the file, a line each: several such runs are one gate from
+    nothing."""
+    path = os.path.abspath(path)
+
+    def note(key, seconds):
+        with open(path, "a") as it:
+            print(*key, f"{seconds:.2f}", file=it)
+
+    status, _, edits, _ = gate(False, names, note)
     if not names:
-        write_table({tuple(key.split(" ")): value for key, value in sums.items()}, edits, f"one `rt ci` from nothing, in parts that keep what they proved, on {os.cpu_count()} processors")
+        spent = {}
+        for line in open(path):
+            crate, part, seconds = line.split()
+            spent[crate, part] = spent.get((crate, part), 0) + float(seconds)
+        write_table(spent, edits, f"one `rt ci` from nothing, in parts that keep what they proved, on {os.cpu_count()} processors")
     return status
 
 
