@@ -5,9 +5,12 @@ ghost use Rattle.transcripts.specs.declared.transcript.TheConstants.{LINE_FEED};
 
 use crate::line::{Line, Mark};
 use anyhow::{Context, Result, bail};
-use script::run_script;
+use policy::Policy;
+use registry::Registry;
+use script::{Exit, run_on, run_script};
 use std::alloc::Global;
 use std::str;
+use store::PlainBook;
 
 const LINE_FEED: u8 = b'\n';
 
@@ -96,7 +99,8 @@ pub struct Outcome {
     pub differences: Vec<u8>,
 }
 
-/// Runs a transcript under a policy, behind the lines of its prelude.
+/// Runs a transcript under a policy, behind the lines of its prelude, over both books: that in the rows of
+/// a database and that in ordered maps.
 pub fn run_transcript(
     alloc: Global,
     policy: &[u8],
@@ -106,17 +110,46 @@ pub fn run_transcript(
     let mut script = Vec::new(alloc);
     add_script(&mut script, prelude)?;
     add_script(&mut script, transcript.lines)?;
+    let before = replies_of(prelude);
+    let mut differences = Vec::new(alloc);
     let mut printed = Vec::new(alloc);
     let exit = run_script(alloc, policy, script.as_slice(), &mut printed);
-    let end = format!(in alloc; "{exit}")?;
-    let printed = after_replies(&printed, replies_of(prelude));
-    let mut differences = Vec::new(alloc);
-    let as_written = compare(alloc, transcript, printed, end.as_bytes(), &mut differences)?;
+    let over_rows = judge(alloc, transcript, before, &printed, exit, &mut differences)?;
+    let mut printed = Vec::new(alloc);
+    let exit = run_over_maps(alloc, policy, script.as_slice(), &mut printed);
+    let over_maps = judge(alloc, transcript, before, &printed, exit, &mut differences)?;
     Ok(Outcome {
         replies: replies_of(transcript.lines),
-        as_written,
+        as_written: over_rows.min(over_maps),
         differences,
     })
+}
+
+/// Answers a script over a registry in ordered maps, which starts empty.
+fn run_over_maps(alloc: Global, policy: &[u8], script: &[u8], printed: &mut Vec<u8>) -> Exit {
+    let policy = match Policy::read(alloc, policy) {
+        Ok(policy) => policy,
+        Err(fault) => return Exit::Policy(fault),
+    };
+    match Registry::open(alloc, PlainBook::new(alloc), policy) {
+        Ok(mut registry) => run_on(alloc, &mut registry, script, printed),
+        Err((fault, _)) => Exit::Open(fault),
+    }
+}
+
+/// How many replies of what was printed, behind so many of the prelude, are as written; what differs is
+/// added.
+fn judge(
+    alloc: Global,
+    transcript: Transcript<'_>,
+    before: usize,
+    printed: &[u8],
+    exit: Exit,
+    differences: &mut Vec<u8>,
+) -> Result<usize> {
+    let end = format!(in alloc; "{exit}")?;
+    let printed = after_replies(printed, before);
+    compare(alloc, transcript, printed, end.as_bytes(), differences)
 }
 
 /// Adds the lines of the script.
