@@ -1,12 +1,9 @@
-//! What a database is, and what a transaction keeps of it. The statements are run by the scripts of the
-//! crate `transcripts`, every one of them.
-ghost use Rattle.std.specs.Prelude.{◌≡◌, true, OnOk, IfOk};
+//! What a database is when it is taken up, and what a transaction keeps of it. The statements are run by
+//! the scripts of the crate `transcripts`, every one of them. A test makes a store once and lends it, since
+//! each place where one would fall costs the prover much.
+ghost use Rattle.std.specs.Prelude.{◌≡◌, true, false, OnOk};
 
-use crate::form::Form;
-use crate::{
-    AccountRow, LinkRow, MetaRow, RowStore, balance_of_bytes, bytes_of_balance, create, form_of,
-    reread,
-};
+use crate::{AccountRow, LinkRow, MetaRow, RowStore, balance_of_bytes, bytes_of_balance, create};
 use sqlite::{Alter, Connection, Error, MemStore};
 use std::alloc::{AllocError, Global};
 use std::process::Abort;
@@ -59,19 +56,10 @@ fn link(contact: Option<i64>, host: Option<i64>) -> LinkRow {
     }
 }
 
-// ---- tables with rows
-
-/// A store with an open transaction.
-fn opened(alloc: Global) -> Result<RowStore<MemStore>, BookFault>
-    ensures { IfOk result (λ store. store.is_open ≡ true) }
-{
-    let mut store = RowStore::in_memory(alloc)?;
-    store.begin()?;
-    Ok(store)
-}
+// ---- transactions
 
 /// Two accounts.
-fn put_accounts(store: &mut RowStore<MemStore>, alloc: Global) -> Result<(), BookFault>
+fn put_accounts<S: Alter>(store: &mut RowStore<S>, alloc: Global) -> Result<(), BookFault>
     requires { store.old.is_open ≡ true }
     ensures { OnOk result (store.new.is_open ≡ true) }
 {
@@ -79,79 +67,47 @@ fn put_accounts(store: &mut RowStore<MemStore>, alloc: Global) -> Result<(), Boo
     store.put_account(&account(alloc, 2, "beta")?)
 }
 
-// ---- transactions, and what a database is
-
-#[test]
-fn keeps_what_is_committed_alone(rt: HostRuntime) -> Result<(), BookFault> {
-    let alloc = rt.alloc();
-    let mut store = opened(alloc)?;
+/// Keeps a transaction, undoes one, and has a row refused that refers to none.
+fn keep<S: Alter>(rt: &impl Abort, store: &mut RowStore<S>, alloc: Global) -> Result<(), BookFault>
+    requires { store.old.is_open ≡ false }
+{
+    store.begin()?;
     store.put_meta(&meta(alloc)?)?;
     store.commit()?;
     store.whole();
     assert!(rt; store.ready()? == Ready::Used);
     store.begin()?;
-    put_accounts(&mut store, alloc)?;
+    put_accounts(store, alloc)?;
     store.back();
     assert!(rt; store.all_metas()?.as_slice().len() == 1);
     assert!(rt; store.all_accounts()?.as_slice().is_empty());
+    store.begin()?;
+    assert!(rt; store.append_link(&link(None, None)).is_err());
     Ok(())
 }
 
 #[test]
-fn holds_nothing_once_its_first_transaction_is_undone(rt: HostRuntime) -> Result<(), BookFault> {
-    let mut store = opened(rt.alloc())?;
+fn keeps_what_is_committed_alone(rt: HostRuntime) -> Result<(), BookFault> {
+    let mut store = RowStore::in_memory(rt.alloc())?;
+    keep(&rt, &mut store, rt.alloc())
+}
+
+fn undo<S: Alter>(rt: &impl Abort, store: &mut RowStore<S>) -> Result<(), BookFault>
+    requires { store.old.is_open ≡ false }
+{
+    store.begin()?;
     store.back();
     assert!(rt; store.all_accounts().is_err());
     Ok(())
 }
 
 #[test]
-fn refuses_a_row_that_refers_to_none(rt: HostRuntime) -> Result<(), BookFault> {
-    let mut store = opened(rt.alloc())?;
-    assert!(rt; store.append_link(&link(None, None)).is_err());
-    Ok(())
+fn holds_nothing_once_its_first_transaction_is_undone(rt: HostRuntime) -> Result<(), BookFault> {
+    let mut store = RowStore::in_memory(rt.alloc())?;
+    undo(&rt, &mut store)
 }
 
-fn tell<S: Alter>(rt: &impl Abort, conn: &mut Connection<S>, alloc: Global) -> Result<(), Error> {
-    assert!(rt; form_of(conn, alloc)? == Form::Unused);
-    rows::begin(conn)?;
-    create(conn)?;
-    assert!(rt; form_of(conn, alloc)? == Form::Made);
-    Ok(())
-}
-
-#[test]
-fn tells_a_registry_by_its_tables(rt: HostRuntime) -> Result<(), Error> {
-    let alloc = rt.alloc();
-    let mut conn = Connection::open_in_memory(alloc)?;
-    tell(&rt, &mut conn, alloc)
-}
-
-#[test]
-fn reads_a_database_anew(rt: HostRuntime) -> Result<(), BookFault> {
-    let alloc = rt.alloc();
-    let conn = reread(Connection::open_in_memory(alloc)?, alloc)?;
-    assert!(rt; conn.is_autocommit());
-    Ok(())
-}
-
-#[test]
-fn adopts_a_database_that_was_never_used(rt: HostRuntime) -> Result<(), BookFault> {
-    let alloc = rt.alloc();
-    let mut store = RowStore::adopt(Connection::open_in_memory(alloc)?, alloc)?;
-    assert!(rt; store.ready()? == Ready::Empty);
-    Ok(())
-}
-
-/// A database with the tables, and a row of `meta` with this number.
-fn with_tables(alloc: Global, meta: &str) -> Result<Connection<MemStore>, Error> {
-    let mut conn = Connection::open_in_memory(alloc)?;
-    rows::begin(&mut conn)?;
-    create(&mut conn)?;
-    conn.execute_batch(meta)?;
-    conn.execute_batch("COMMIT")?;
-    Ok(conn)
-}
+// ---- what a database is
 
 const OURS: &str =
     "INSERT INTO meta VALUES (1, 1, 946684800, 'test', '', 1, 1, 1, 1, 1, 1, 1, 1, 1, 0, 0, 0)";
@@ -159,36 +115,47 @@ const OURS: &str =
 const LATER: &str =
     "INSERT INTO meta VALUES (1, 2, 946684800, 'test', '', 1, 1, 1, 1, 1, 1, 1, 1, 1, 0, 0, 0)";
 
-fn ready_with(alloc: Global, meta: &str) -> Result<Ready, BookFault> {
-    let Ok(conn) = with_tables(alloc, meta) else {
-        return Err(BookFault::Store);
-    };
-    let mut store = RowStore::adopt(conn, alloc)?;
-    store.ready()
+const ANOTHER: &str = "CREATE TABLE other (id INTEGER PRIMARY KEY)";
+
+/// Whether a database has the tables, what was done with it besides, and what it is taken for.
+const ADOPTED: &[(bool, &[&str], Ready)] = &[
+    (false, &[], Ready::Empty),
+    (true, &[OURS], Ready::Used),
+    (true, &[LATER], Ready::Other),
+    (false, &[ANOTHER], Ready::Other),
+];
+
+fn make<S: Alter>(conn: &mut Connection<S>, has_tables: bool, texts: &[&str]) -> Result<(), Error> {
+    rows::begin(conn)?;
+    if has_tables {
+        create(conn)?;
+    }
+    for text in texts {
+        conn.execute_batch(text)?;
+    }
+    conn.execute_batch("COMMIT")
 }
 
-#[test]
-fn adopts_a_database_with_its_tables(rt: HostRuntime) -> Result<(), BookFault> {
-    let alloc = rt.alloc();
-    assert!(rt; ready_with(alloc, OURS)? == Ready::Used);
-    assert!(rt; ready_with(alloc, LATER)? == Ready::Other);
-    Ok(())
-}
-
-fn with_another(alloc: Global) -> Result<Connection<MemStore>, Error> {
+fn adopted(
+    alloc: Global,
+    has_tables: bool,
+    texts: &[&str],
+) -> Result<RowStore<MemStore>, BookFault> {
     let mut conn = Connection::open_in_memory(alloc)?;
-    conn.execute_batch("CREATE TABLE other (id INTEGER PRIMARY KEY)")?;
-    Ok(conn)
+    match make(&mut conn, has_tables, texts) {
+        Ok(()) => RowStore::adopt(conn, alloc),
+        Err(_) => Err(BookFault::Store),
+    }
 }
 
 #[test]
-fn sees_no_row_of_anything_else(rt: HostRuntime) -> Result<(), BookFault> {
-    let alloc = rt.alloc();
-    let Ok(conn) = with_another(alloc) else {
-        return Err(BookFault::Store);
-    };
-    let mut store = RowStore::adopt(conn, alloc)?;
-    assert!(rt; store.ready()? == Ready::Other);
+fn tells_what_it_adopts(rt: HostRuntime) -> Result<(), BookFault> {
+    for (has_tables, texts, ready) in ADOPTED {
+        let mut store = adopted(rt.alloc(), *has_tables, texts)?;
+        let told = store.ready();
+        drop(store);
+        assert!(rt; told? == *ready);
+    }
     Ok(())
 }
 
