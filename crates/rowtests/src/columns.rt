@@ -2,7 +2,7 @@
 //! account has, how many messages wait and how many domains it holds, who sponsors a domain and a host,
 //! and when a domain is due. What they have to be is worked out by hand.
 
-use crate::fixtures::{new_registry, printed};
+use crate::registries::{new_registry, printed};
 use sqlite::MemStore;
 use std::alloc::Global;
 use std::process::Abort;

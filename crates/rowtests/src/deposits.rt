@@ -1,7 +1,7 @@
 //! A deposit that is given alone, in a registry that is open: what is printed, the code that is told, and
 //! alfa's balance afterwards.
 
-use crate::fixtures::{Rows, new_registry, printed};
+use crate::registries::{Rows, new_registry, printed};
 use calendar::Moment;
 use protocol::Code;
 use registry::Fault;

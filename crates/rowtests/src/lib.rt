@@ -7,4 +7,4 @@ mod columns;
 #[cfg(test)]
 mod deposits;
 #[cfg(test)]
-mod fixtures;
+mod registries;

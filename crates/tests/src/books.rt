@@ -1,10 +1,10 @@
 //! Books that were used before.
 ghost use Rattle.std.specs.Prelude.{◌≡◌, true, false, IfOk, OnOk};
 
-use crate::fixtures::{POLICY, new_book, policy_of};
 use basis::list::Seq;
 use basis::registrar::RegistrarNo;
 use calendar::Moment;
+use fixtures::{POLICY, new_book, policy_of};
 use policy::Terms;
 use registry::{OpenFault, Registry};
 use rules::Change;

@@ -1,9 +1,9 @@
 //! What everyone may know of a registry, for what no contract says: that look-ups succeed where memory
 //! is ample.
 
-use crate::fixtures::registry_of;
 use basis::text::Text;
 use calendar::Moment;
+use fixtures::registry_of;
 use names::{DomainName, HostName};
 use registry::Registry;
 use std::alloc::Global;

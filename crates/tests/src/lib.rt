@@ -5,16 +5,7 @@
 #[cfg(test)]
 mod books;
 #[cfg(test)]
-mod connections;
-#[cfg(test)]
-#[cfg(test)]
 mod faces;
-#[cfg(test)]
-mod fixtures;
-#[cfg(test)]
-mod frames;
-#[cfg(test)]
-mod http;
 #[cfg(test)]
 mod messages;
 #[cfg(test)]
@@ -25,10 +16,6 @@ mod rdap_answers;
 mod replies;
 #[cfg(test)]
 mod scripts;
-#[cfg(test)]
-mod serving;
-#[cfg(test)]
-mod session_ends;
 #[cfg(test)]
 mod unicode;
 #[cfg(test)]

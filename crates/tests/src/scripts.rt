@@ -1,6 +1,6 @@
 //! What no transcript can say: input and output that fail, lines that aren't text, and statuses.
 
-use crate::fixtures::{POLICY, registry_of};
+use fixtures::{POLICY, registry_of};
 use registry::Registry;
 use script::{Exit, run_on, run_script};
 use std::alloc::Global;

@@ -1,5 +1,5 @@
 //! Names in Unicode (RFC 5891), as the public is told them.
-use crate::fixtures::{POLICY, policy_of};
+use fixtures::{POLICY, policy_of};
 use names::{DomainName, HostName};
 use std::test::Fail;
 

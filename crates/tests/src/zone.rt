@@ -1,11 +1,11 @@
 //! Zones of faces, with the lines that the standards give, and writes that fail.
 
-use crate::fixtures::{POLICY, policy_of};
 use basis::list::Seq;
 use basis::maps::NameMap;
 use basis::registrar::RegistrarNo;
 use basis::text::Text;
 use calendar::Moment;
+use fixtures::{POLICY, policy_of};
 use objects::{DomainFace, Graces, Links, ObjectKind, Phase, Roid, Standing, Status};
 use policy::Policy;
 use std::alloc::{AllocError, Global};

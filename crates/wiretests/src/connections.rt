@@ -1,11 +1,11 @@
 //! Sessions with a registry: the replies to the bytes of a connection, for what no contract says, that
 //! they succeed where memory is ample.
 
-use crate::fixtures::registry_of;
 use crate::frames::whole;
 use calendar::Moment;
 use eppframes::ListClock;
 use eppsessions::Connection;
+use fixtures::registry_of;
 use sessions::{SessionEnd, serve_session};
 use std::alloc::Global;
 use std::collections::VecDeque;

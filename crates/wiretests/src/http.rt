@@ -2,11 +2,11 @@
 //! asked for.
 
 use crate::connections::framed;
-use crate::fixtures::registry_of;
 use crate::frames::whole;
 use basis::text::Text;
 use calendar::Moment;
 use eppframes::ListClock;
+use fixtures::registry_of;
 use protocol::Order;
 use rdap::{Outcome, answer_without_object, response};
 use registry::Registry;

@@ -2,10 +2,10 @@
 //! that go out, and that what one of them did is there in the next.
 
 use crate::connections::framed;
-use crate::fixtures::registry_of;
 use crate::frames::whole;
 use calendar::Moment;
 use eppframes::ListClock;
+use fixtures::registry_of;
 use registry::Registry;
 use server::{ConnectionEnd, HttpEnd, MachineClock, Served, serve_one};
 use sessions::SessionEnd;

@@ -1,0 +1,14 @@
+//! What no contract says of frames, sessions and connections, and no transcript can show: bytes in
+//! whatever pieces, readers and writers that fail, and connections over loopback.
+#![tactic(auto)]
+
+#[cfg(test)]
+mod connections;
+#[cfg(test)]
+mod frames;
+#[cfg(test)]
+mod http;
+#[cfg(test)]
+mod serving;
+#[cfg(test)]
+mod session_ends;
