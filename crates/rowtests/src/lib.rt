@@ -3,8 +3,8 @@
 #![tactic(auto)]
 
 #[cfg(test)]
-mod columns;
-#[cfg(test)]
 mod deposits;
 #[cfg(test)]
 mod registries;
+#[cfg(test)]
+mod stored_sums;
