@@ -1,7 +1,7 @@
 -- One call on records after another.
 use Rattle.std.proofs.Common.{◌≡◌, true, Result, Ok, Err, ◌∙◌}
 use Rattle.transactions.specs.declared.fault.BookFault.{BookFault}
-use Rattle.transactions.specs.States.{Makes, Reads, StateOf}
+use Rattle.transactions.specs.States.{Finds, Makes, Reads, StateOf}
 
 pub reads-on : {X : Type 0} (s m t : StateOf X) → Reads s m → Reads m t → Reads s t
 reads-on s m t a b = record {
@@ -10,6 +10,11 @@ reads-on s m t a b = record {
   opened = b.opened ∙ a.opened;
   content = λ e. b.content e ∙ a.content (b.clean e);
 }
+
+-- a question behind another
+pub finds-on : {A X : Type 0} (r : Result A BookFault) (s m t : StateOf X) (g h : A) → Reads s m → (m.is_clean ≡ true → g ≡ h) → Finds r g m t → Finds r h s t
+finds-on (Ok it) s m t g h read same found = (reads-on s m t read found.0, λ e. found.1 e ∙ same (found.0.clean e))
+finds-on (Err fault) s m t g h read same found = record { clean = λ e. read.clean (found.clean e); before = λ e. found.before e ∙ read.before (found.clean e) }
 
 -- a change after a call that stays in the transaction
 pub makes-on : {A X : Type 0} (r : Result A BookFault) (s m t : StateOf X) (g h : X) → (m.is_clean ≡ true → s.is_clean ≡ true) → (m.is_clean ≡ true → m.before ≡ s.before)

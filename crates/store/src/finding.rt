@@ -239,9 +239,23 @@ fn domain_facts<R: Records>(
 ) -> Result<DomainFacts, BookFault>
     ensures { Finds result (facts.domain_facts (facts.lookups policy.now caller command.now (R.kept records.old).content.registry) command.now name.now) (R.kept records.old) (R.kept records.new) }
 {
-    let own = name.clone()?;
     let presented = command.presented(name);
     let seen = domain_seen(records, caller, policy, presented, name)?;
+    domain_known(records, caller, command, policy, name, seen)
+}
+
+/// The facts of a domain's name at which the registrar sees this, or nothing.
+fn domain_known<R: Records>(
+    records: &mut R,
+    caller: RegistrarNo,
+    command: &Command,
+    policy: &Policy,
+    name: &Text,
+    seen: Option<Seen<FullDomain, DomainFace>>,
+) -> Result<DomainFacts, BookFault>
+    ensures { Finds result (lookups.domain_known (facts.lookups policy.now caller command.now (R.kept records.old).content.registry) command.now name.now seen) (R.kept records.old) (R.kept records.new) }
+{
+    let own = name.clone()?;
     let subordinate = hosts_around(records, command, name, seen.is_some())?;
     let given_back = back_asked(records, caller, command, policy, seen.as_ref())?;
     Ok(DomainFacts {
