@@ -1,10 +1,13 @@
 //! What no contract says of a registry in the rows of a database, and no transcript can show: what
-//! lies in its columns after a script, and what is printed of a deposit that is given alone.
+//! lies in its columns after a script, what is printed of a deposit that is given alone, what a
+//! transaction keeps, and what a database is when it is taken up.
 #![tactic(auto)]
 
 #[cfg(test)]
 mod deposits;
 #[cfg(test)]
 mod registries;
+#[cfg(test)]
+mod row_stores;
 #[cfg(test)]
 mod stored_sums;

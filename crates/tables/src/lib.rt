@@ -17,8 +17,6 @@ mod meta;
 mod readiness;
 mod schema;
 mod store;
-#[cfg(test)]
-mod tests;
 mod transfer;
 
 pub use account::AccountRow;

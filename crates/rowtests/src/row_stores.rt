@@ -3,10 +3,10 @@
 //! each place where one would fall costs the prover much.
 ghost use Rattle.std.specs.Prelude.{◌≡◌, true, false, OnOk};
 
-use crate::{AccountRow, LinkRow, MetaRow, RowStore, balance_of_bytes, bytes_of_balance, create};
 use sqlite::{Alter, Connection, Error, MemStore};
 use std::alloc::{AllocError, Global};
 use std::process::Abort;
+use tables::{AccountRow, LinkRow, MetaRow, RowStore, balance_of_bytes, bytes_of_balance, create};
 use transactions::{BookFault, Ready};
 
 // ---- rows
