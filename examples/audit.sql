@@ -3,8 +3,8 @@
 --     sqlite3 -readonly registry.db < examples/audit.sql
 --
 -- Each stored sum or copy (docs/TABLES.md) is computed once more from the rows that it is of. What is printed
--- is a row whose column says otherwise, as table, name, column, what it says, what it should say; nothing is
--- printed of a file that only tldreg has written.
+-- behind the tool's own `ok` is a row whose column says otherwise, as table, name, column, what it says, what it
+-- should say: no row, of a file that only tldreg has written.
 
 PRAGMA integrity_check(1);
 PRAGMA foreign_key_check;
