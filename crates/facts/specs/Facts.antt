@@ -131,17 +131,17 @@ back_for found (Some (Public face)) = nothing
 abbrev pub back_asked : Lookups → Command → Option (Seen FullDomain DomainFace) → GivenBack
 back_asked found c seen = if asked false reads_refund c then back_for found seen else nothing
 
--- the hosts below a domain that is there, where the command has to know them
-abbrev pub subordinate_asked : Lookups → Command → List ℕ → List (List ℕ)
-subordinate_asked found c name = if asked false reads_associations c && is_some (found.domain name) then found.hosts_below name else []
+-- the facts of a domain's name at which this is seen, or nothing; the hosts below it where the command has to know them
+abbrev pub domain_facts_of : Lookups → Command → List ℕ → Option (Seen FullDomain DomainFace) → DomainFacts
+domain_facts_of found c name seen = record {
+  name = name;
+  seen = seen;
+  subordinate = if asked false reads_associations c && is_some seen then found.hosts_below name else [];
+  given_back = back_asked found c seen;
+}
 
 abbrev pub domain_facts : Lookups → Command → List ℕ → DomainFacts
-domain_facts found c name = record {
-  name = name;
-  seen = found.domain name;
-  subordinate = subordinate_asked found c name;
-  given_back = back_asked found c (found.domain name);
-}
+domain_facts found c name = domain_facts_of found c name (found.domain name)
 
 abbrev pub host_facts : Lookups → Command → List ℕ → HostFacts
 host_facts found c name = record {

@@ -8,8 +8,6 @@ mod likeness;
 mod nullable;
 mod number;
 mod record;
-#[cfg(test)]
-mod tests;
 mod transaction;
 
 pub use definition::define;

@@ -1,6 +1,6 @@
 //! What no contract says of a registry in the rows of a database, and no transcript can show: what
 //! lies in its columns after a script, what is printed of a deposit that is given alone, what a
-//! transaction keeps, and what a database is when it is taken up.
+//! transaction keeps, what a database is when it is taken up, and what typed rows are to it.
 #![tactic(auto)]
 
 #[cfg(test)]
@@ -11,3 +11,5 @@ mod registries;
 mod row_stores;
 #[cfg(test)]
 mod stored_sums;
+#[cfg(test)]
+mod typed_rows;

@@ -241,11 +241,11 @@ fn domain_facts<R: Records>(
 {
     let presented = command.presented(name);
     let seen = domain_seen(records, caller, policy, presented, name)?;
-    domain_known(records, caller, command, policy, name, seen)
+    domain_facts_of(records, caller, command, policy, name, seen)
 }
 
 /// The facts of a domain's name at which the registrar sees this, or nothing.
-fn domain_known<R: Records>(
+fn domain_facts_of<R: Records>(
     records: &mut R,
     caller: RegistrarNo,
     command: &Command,
@@ -253,7 +253,7 @@ fn domain_known<R: Records>(
     name: &Text,
     seen: Option<Seen<FullDomain, DomainFace>>,
 ) -> Result<DomainFacts, BookFault>
-    ensures { Finds result (lookups.domain_known (facts.lookups policy.now caller command.now (R.kept records.old).content.registry) command.now name.now seen) (R.kept records.old) (R.kept records.new) }
+    ensures { Finds result (facts.domain_facts_of (facts.lookups policy.now caller command.now (R.kept records.old).content.registry) command.now name.now seen) (R.kept records.old) (R.kept records.new) }
 {
     let own = name.clone()?;
     let subordinate = hosts_around(records, command, name, seen.is_some())?;

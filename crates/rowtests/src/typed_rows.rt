@@ -3,7 +3,7 @@
 ghost use Rattle.std.specs.Prelude.{[], ◌∷◌};
 ghost use Rattle.sqlite_value.specs.declared.value.Value.TheVariants.{Int};
 
-use crate::{
+use rows::{
     Number, Record, begin, commit, define, go_back, is_schema, is_unused, maybe_number, maybe_text,
     write,
 };
