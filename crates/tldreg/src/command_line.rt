@@ -12,22 +12,27 @@ pub enum Task {
     Run {
         policy: String,
     },
-    /// `serve POLICY DB PORT`
-    Serve {
+    /// `serve`, `zone` or `deposit` with `POLICY DB`, and what the job has besides
+    OnDatabase {
         policy: String,
         database: String,
+        job: Job,
+    },
+}
+
+/// What is done with the registry of a database.
+#[derive(Drop)]
+pub enum Job {
+    /// `serve POLICY DB PORT`
+    Serve {
         port: u16,
     },
     /// `zone POLICY DB MOMENT`
     Zone {
-        policy: String,
-        database: String,
         moment: Moment,
     },
     /// `deposit POLICY DB MOMENT REGISTRAR CENTS`
     Deposit {
-        policy: String,
-        database: String,
         moment: Moment,
         registrar: String,
         cents: i64,
@@ -39,40 +44,30 @@ pub fn read_task(rt: &(impl Env + AllocGlobal)) -> Result<Task, Exit> {
     let mut words = env::args(rt)?.skip(1);
     let word = given(words.next())?;
     let policy = given(words.next())?;
-    let task = match word.as_str() {
-        "run" => Task::Run { policy },
-        "serve" => {
-            let database = given(words.next())?;
-            let port = given(words.next())?;
-            Task::Serve {
-                policy,
-                database,
-                port: port_of(port.as_str())?,
-            }
+    let task = if word.as_str() == "run" {
+        Task::Run { policy }
+    } else {
+        let database = given(words.next())?;
+        let first = given(words.next())?;
+        let job = match word.as_str() {
+            "serve" => Job::Serve {
+                port: port_of(first.as_str())?,
+            },
+            "zone" => Job::Zone {
+                moment: moment_of(first.as_str())?,
+            },
+            "deposit" => Job::Deposit {
+                moment: moment_of(first.as_str())?,
+                registrar: given(words.next())?,
+                cents: cents_of(given(words.next())?.as_str())?,
+            },
+            _ => return Err(Exit::Usage),
+        };
+        Task::OnDatabase {
+            policy,
+            database,
+            job,
         }
-        "zone" => {
-            let database = given(words.next())?;
-            let moment = given(words.next())?;
-            Task::Zone {
-                policy,
-                database,
-                moment: moment_of(moment.as_str())?,
-            }
-        }
-        "deposit" => {
-            let database = given(words.next())?;
-            let moment = given(words.next())?;
-            let registrar = given(words.next())?;
-            let cents = given(words.next())?;
-            Task::Deposit {
-                policy,
-                database,
-                moment: moment_of(moment.as_str())?,
-                registrar,
-                cents: cents_of(cents.as_str())?,
-            }
-        }
-        _ => return Err(Exit::Usage),
     };
     match words.next() {
         None => Ok(task),

@@ -5,7 +5,7 @@ use policy::Policy;
 use registry::{OpenFault, Registry};
 use script::Exit;
 use sqlbook::{Found, Made, SqlBook};
-use sqlite::{Connection, Error, ErrorCode, File, FileStore, MemStore};
+use sqlite::{Connection, Error, ErrorCode, FileFrom, FileStore, MemStore, Start};
 use std::alloc::Global;
 use std::fs;
 use std::rt::Files;
@@ -13,6 +13,9 @@ use store::{Book, BookFault};
 
 /// The name of a database in memory, which is new in each run.
 const IN_MEMORY: &str = ":memory:";
+
+/// Whether each page of a new file ends in a sum, which the stock `sqlite3` would spoil when it writes.
+const WITH_SUMS: bool = false;
 
 pub fn is_in_memory(database: &str) -> bool {
     database == IN_MEMORY
@@ -35,15 +38,16 @@ pub fn in_memory(alloc: Global, policy: Policy) -> Result<Registry<SqlBook<MemSt
     }
 }
 
-/// The registry of a file, which is made where there is none.
-pub fn in_file(
+/// The registry of a file, which is made where there is none. `S` stands for what the file and its log hold.
+pub fn in_file<S: Start>(
     rt: &HostRuntime,
     path: &str,
+    start: S,
     policy: Policy,
-) -> Result<Registry<SqlBook<FileStore<File>, Found>>, Exit> {
-    let conn = match Connection::open(rt, path) {
+) -> Result<Registry<SqlBook<FileStore<FileFrom<S>>, Found>>, Exit> {
+    let conn = match Connection::open_from(rt, path, WITH_SUMS, start) {
         Ok(conn) => conn,
-        Err(error) => return Err(exit_of(fault_of(&error))),
+        Err((error, _)) => return Err(exit_of(fault_of(&error))),
     };
     match sqlbook::adopt(conn, rt.alloc()) {
         Ok(book) => open(rt.alloc(), book, policy),

@@ -5,12 +5,13 @@ mod command_line;
 mod database;
 
 use calendar::Moment;
-use command_line::{Task, read_task};
+use command_line::{Job, Task, read_task};
 use database::{in_file, in_memory, is_in_memory, policy_in};
 use protocol::Code;
 use registry::Registry;
 use script::{Exit, deposit_on, run_script};
 use server::{HandOverFault, MachineClock, serve_each, zone_on};
+use sqlite::Unknown;
 use std::net::{Ipv4Addr, TcpListener};
 use std::process::ExitCode;
 use std::rt::Files;
@@ -24,21 +25,30 @@ fn run(rt: &(impl Files + Input + Print + AllocGlobal), policy: &str) -> Result<
     run_script(rt.alloc(), &policy, rt.reader(), &mut io::writer(rt)).result()
 }
 
-/// Serves connections to a port of this machine, over the registry of a database.
-fn serve(rt: &HostRuntime, policy: &str, path: &str, port: u16) -> Result<(), Exit> {
+/// Does a job with the registry of a database.
+fn work_on(rt: &HostRuntime, policy: &str, database: &str, job: &Job) -> Result<(), Exit> {
     let policy = policy_in(rt, policy)?;
-    if is_in_memory(path) {
-        serve_over(rt, in_memory(rt.alloc(), policy)?, port)
+    if is_in_memory(database) {
+        do_job(rt, in_memory(rt.alloc(), policy)?, job)
     } else {
-        serve_over(rt, in_file(rt, path, policy)?, port)
+        do_job(rt, in_file(rt, database, Unknown, policy)?, job)
     }
 }
 
-fn serve_over<B: Book + Drop>(
-    rt: &HostRuntime,
-    registry: Registry<B>,
-    port: u16,
-) -> Result<(), Exit> {
+fn do_job<B: Book + Drop>(rt: &HostRuntime, registry: Registry<B>, job: &Job) -> Result<(), Exit> {
+    match job {
+        Job::Serve { port } => serve(rt, registry, *port),
+        Job::Zone { moment } => zone(rt, registry, *moment),
+        Job::Deposit {
+            moment,
+            registrar,
+            cents,
+        } => deposit(rt, registry, *moment, registrar.as_str(), *cents),
+    }
+}
+
+/// Serves connections to a port of this machine.
+fn serve<B: Book + Drop>(rt: &HostRuntime, registry: Registry<B>, port: u16) -> Result<(), Exit> {
     let Ok(listener) = TcpListener::bind(rt, (Ipv4Addr::LOCALHOST, port)) else {
         return Err(Exit::Network);
     };
@@ -46,17 +56,8 @@ fn serve_over<B: Book + Drop>(
     Err(Exit::Network)
 }
 
-/// Prints the zone of a database at a moment.
-fn zone(rt: &HostRuntime, policy: &str, path: &str, moment: Moment) -> Result<(), Exit> {
-    let policy = policy_in(rt, policy)?;
-    if is_in_memory(path) {
-        zone_of(rt, in_memory(rt.alloc(), policy)?, moment)
-    } else {
-        zone_of(rt, in_file(rt, path, policy)?, moment)
-    }
-}
-
-fn zone_of<B: Book + Drop>(
+/// Prints the zone at a moment.
+fn zone<B: Book + Drop>(
     rt: &HostRuntime,
     registry: Registry<B>,
     moment: Moment,
@@ -70,38 +71,16 @@ fn zone_of<B: Book + Drop>(
     }
 }
 
-/// What a registrar has paid, and when.
-#[derive(Drop)]
-struct Payment<'a> {
-    moment: Moment,
-    registrar: &'a str,
-    cents: i64,
-}
-
-/// Enters what a registrar has paid, in a database at a moment, and prints the answer.
-fn deposit(rt: &HostRuntime, policy: &str, path: &str, payment: &Payment<'_>) -> Result<(), Exit> {
-    let policy = policy_in(rt, policy)?;
-    if is_in_memory(path) {
-        enter(rt, in_memory(rt.alloc(), policy)?, payment)
-    } else {
-        enter(rt, in_file(rt, path, policy)?, payment)
-    }
-}
-
-fn enter<B: Book + Drop>(
+/// Enters what a registrar has paid at a moment, and prints the answer.
+fn deposit<B: Book + Drop>(
     rt: &HostRuntime,
     registry: Registry<B>,
-    payment: &Payment<'_>,
+    moment: Moment,
+    registrar: &str,
+    cents: i64,
 ) -> Result<(), Exit> {
-    let mut registry = registry;
-    match deposit_on(
-        rt.alloc(),
-        &mut registry,
-        payment.moment,
-        payment.registrar,
-        payment.cents,
-        &mut io::writer(rt),
-    )? {
+    let (mut registry, out) = (registry, &mut io::writer(rt));
+    match deposit_on(rt.alloc(), &mut registry, moment, registrar, cents, out)? {
         Code::Completed => Ok(()),
         _ => Err(Exit::Refused),
     }
@@ -110,30 +89,11 @@ fn enter<B: Book + Drop>(
 fn perform(rt: &HostRuntime) -> Result<(), Exit> {
     match read_task(rt)? {
         Task::Run { policy } => run(rt, policy.as_str()),
-        Task::Serve {
+        Task::OnDatabase {
             policy,
             database,
-            port,
-        } => serve(rt, policy.as_str(), database.as_str(), port),
-        Task::Zone {
-            policy,
-            database,
-            moment,
-        } => zone(rt, policy.as_str(), database.as_str(), moment),
-        Task::Deposit {
-            policy,
-            database,
-            moment,
-            registrar,
-            cents,
-        } => {
-            let payment = Payment {
-                moment,
-                registrar: registrar.as_str(),
-                cents,
-            };
-            deposit(rt, policy.as_str(), database.as_str(), &payment)
-        }
+            job,
+        } => work_on(rt, policy.as_str(), database.as_str(), &job),
     }
 }
 
