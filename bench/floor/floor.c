@@ -1,10 +1,11 @@
 /* The floor of the figures: the statements that a registry over rows runs for a command, in the same
  * transactions, over the stock library, and nothing else. No rule is looked at, and no JSON is read.
  *
- * usage: floor DB DOMAINS COMMANDS    (DB is a path where nothing is yet, or :memory:)
+ * usage: floor DB DOMAINS COMMANDS [each]    (DB is a path where nothing is yet, or :memory:)
  *
  * Fills a database with so many domains of the registrar 1 by creates, and then times so many of each
- * command, each in a transaction of its own. A file is in WAL mode with full synchronisation.
+ * command, each in a transaction of its own. A file is in WAL mode with full synchronisation. With 'each' it
+ * prints besides, of the creates alone, what each statement took and how often one create runs it.
  */
 #include <sqlite3.h>
 #include <stdarg.h>
@@ -130,7 +131,19 @@ static void read_columns(sqlite3_stmt *row) {
         }
 }
 
+static double now(void) {
+    struct timespec at;
+    clock_gettime(CLOCK_MONOTONIC, &at);
+    return (double)at.tv_sec + (double)at.tv_nsec / 1e9;
+}
+
+/* What each statement took, and how often it ran. */
+static int is_noted;
+static double spent[STATEMENTS];
+static int64_t runs[STATEMENTS];
+
 static void run(enum statement which, const struct subject *of) {
+    const double begun = is_noted ? now() : 0;
     if (made[which] == NULL)
         need(sqlite3_prepare_v3(db, TEXTS[which], -1, SQLITE_PREPARE_PERSISTENT, &made[which], NULL) == SQLITE_OK,
              TEXTS[which]);
@@ -140,17 +153,15 @@ static void run(enum statement which, const struct subject *of) {
         read_columns(made[which]);
     need(told == SQLITE_DONE, TEXTS[which]);
     sqlite3_reset(made[which]);
+    if (is_noted) {
+        spent[which] += now() - begun;
+        runs[which]++;
+    }
 }
 
 static void command(const enum statement *of, size_t bytes, const struct subject *subject) {
     for (size_t at = 0; at < bytes / sizeof *of; at++)
         run(of[at], subject);
-}
-
-static double now(void) {
-    struct timespec at;
-    clock_gettime(CLOCK_MONOTONIC, &at);
-    return (double)at.tv_sec + (double)at.tv_nsec / 1e9;
 }
 
 /* Times so many commands, on domains that lie spread over all that there are, or on new ones. */
@@ -165,7 +176,8 @@ static void timed(const char *word, const enum statement *of, size_t bytes, int6
 }
 
 int main(int words, char **word) {
-    need(words == 4, "usage: floor DB DOMAINS COMMANDS");
+    const int is_each = words == 5 && strcmp(word[4], "each") == 0;
+    need(words == 4 || is_each, "usage: floor DB DOMAINS COMMANDS [each]");
     const int64_t domains = atoll(word[2]), commands = atoll(word[3]);
     need(commands > 0 && domains >= commands, "at least as many domains as commands, and one");
     need(sqlite3_open(word[1], &db) == SQLITE_OK, word[1]);
@@ -186,8 +198,13 @@ int main(int words, char **word) {
     timed("check", CHECK, sizeof CHECK, domains, commands, 1, 0);
     timed("info", INFO, sizeof INFO, domains, commands, 1, 0);
     timed("balance", BALANCE, sizeof BALANCE, domains, commands, 1, 0);
+    is_noted = is_each;
     timed("create", CREATE, sizeof CREATE, domains, commands, 1, 1);
+    is_noted = 0;
     timed("renew", RENEW, sizeof RENEW, domains, commands, 1, 0);
     timed("request", REQUEST, sizeof REQUEST, domains, commands, 2, 0);
+    for (size_t at = 0; at < STATEMENTS; at++)
+        if (runs[at] > 0)
+            printf("statement %s %.1f %.2f\n", NAMES[at], (double)runs[at] / (double)commands, spent[at] * 1e6 / (double)runs[at]);
     return 0;
 }

@@ -1,7 +1,7 @@
 -- A host lies below a domain of two labels exactly where these are its last two and it isn't the domain.
-use Rattle.std.proofs.Common.{◌≡◌, ◌≢◌, ℕ, zero, suc, ◌+◌, ◌-◌, ◌<◌, ◌≤◌, ◌==◌, nat_eq, nat_lt, eqb, Bool, true, false, cond, ◌&&◌, List, [], ◌∷◌, ◌++◌, drop, take, length, get_or, slice_index, lit<, refl, sym, ap, subst, ◌∙◌, append_assoc, Bor, map, arith}
+use Rattle.std.proofs.Common.{◌≡◌, ◌≢◌, ℕ, ◌+◌, ◌-◌, ◌<◌, ◌≤◌, ◌==◌, nat_eq, nat_lt, eqb, Bool, true, false, cond, ◌&&◌, List, [], ◌∷◌, ◌++◌, drop, take, length, get_or, slice_index, refl, sym, ap, ◌∙◌, append_assoc, Bor, map, arith}
 use Rattle.std.specs.Cmp.Lexicographic.{pointwise}
-use Rattle.std.specs.List.{count_by, ends_with, join_by, join_with_byte, onto_first, slice_split}
+use Rattle.std.specs.List.{count_by, ends_with, join_by, join_with_byte, onto_first}
 use Rattle.std.proofs.Math.Seq.{drop-append-add, get_or-append_seam}
 use Rattle.std.proofs.lemmas.Bool.{and_parts, lt-ltb, ltb-true}
 use Rattle.std.proofs.lemmas.Bool.Decides.{Decides-eqb}

@@ -1,12 +1,9 @@
 -- A contact is read from its row and its transfer, and from no others.
-use Rattle.std.proofs.Common.{◌≡◌, ℕ, ℤ, List, Bool, cond, Option, Some, None, sym, ap, subst, ◌∙◌}
+use Rattle.std.proofs.Common.{◌≡◌, ℤ, cond, Option, Some, None, sym, ap, ◌∙◌}
 use Rattle.objects.specs.declared.contact.Contact.{Contact}
-use Rattle.objects.specs.declared.contact.Postal.{Postal}
 use Rattle.objects.specs.declared.roid.ObjectKind.TheVariants as kinds
 use Rattle.objects.specs.declared.transfer.Transfer.{Transfer}
 use Rattle.tables.specs.Contact as table
-use Rattle.columns.specs.declared.registration.Registration.{Registration}
-use Rattle.columns.specs.declared.registration.RegistrationColumns.{RegistrationColumns}
 use Rattle.columns.specs.Contacts.{IsContact, columns_of, contact_in, contact_row, contact_with, postal_in, postal_row, postal_with, registration_of, row_with}
 use Rattle.columns.specs.Registrations.{registration_columns, registration_in}
 use Rattle.columns.specs.Steps.{◌>>=◌}

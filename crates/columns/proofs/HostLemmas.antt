@@ -1,5 +1,5 @@
 -- A host is read from its row.
-use Rattle.std.proofs.Common.{◌≡◌, ℕ, ℤ, List, Bool, true, cond, Option, Some, None, refl, sym, ap, ◌∙◌}
+use Rattle.std.proofs.Common.{◌≡◌, ℕ, ℤ, List, true, cond, Option, Some, None, refl, sym, ap, ◌∙◌}
 use Rattle.std.specs.Str.{bytes_eq}
 use Rattle.std.proofs.lemmas.Slice.Eq.{bytes_eq-Decides}
 use Rattle.objects.specs.declared.host.Host.{Host}

@@ -1,10 +1,9 @@
 -- A line is read from its row, and from no other.
-use Rattle.std.proofs.Common.{◌≡◌, ℕ, ℤ, Option, Some, None, IfSome, refl, sym, ap, ◌∙◌}
+use Rattle.std.proofs.Common.{◌≡◌, ℤ, Option, Some, None, IfSome, refl, sym, ap, ◌∙◌}
 use Rattle.std.specs.Prelude.{option_map}
 use Rattle.objects.specs.declared.roid.ObjectKind.TheVariants.{Domain}
 use Rattle.objects.specs.declared.roid.Roid.{Roid}
 use Rattle.accounts.specs.declared.line.Line.{Line}
-use Rattle.accounts.specs.declared.line.LineKind.{LineKind}
 use Rattle.tables.specs.Line as table
 use Rattle.columns.specs.declared.line.DomainColumns.{DomainColumns}
 use Rattle.columns.specs.declared.roid.RoidColumns.{RoidColumns}

@@ -1,5 +1,5 @@
 -- A message is read from its row, and from no other.
-use Rattle.std.proofs.Common.{◌≡◌, ℕ, ℤ, pos, Bool, true, false, cond, ◌&&◌, List, Option, Some, None, refl, sym, ap, ◌∙◌}
+use Rattle.std.proofs.Common.{◌≡◌, ℤ, pos, Bool, true, false, cond, ◌&&◌, Option, Some, None, refl, sym, ap, ◌∙◌}
 use Rattle.std.proofs.lemmas.Bool.{and_parts}
 use Rattle.std.proofs.lemmas.Bool.Decides.{Decides-int_eq}
 use Rattle.std.specs.Ordering.{int_eq}
@@ -11,13 +11,12 @@ use Rattle.accounts.specs.declared.message.LapseNotice.TheVariants.{RenewedAutom
 use Rattle.accounts.specs.declared.message.Message.{Message}
 use Rattle.accounts.specs.declared.message.Origin.{Origin}
 use Rattle.accounts.specs.declared.message.Origin.TheVariants.{Lapse, Command}
-use Rattle.accounts.specs.declared.message.Subject.{Subject}
 use Rattle.tables.specs.Message as table
 use Rattle.columns.specs.declared.origin.OriginColumns.{OriginColumns}
 use Rattle.columns.specs.Codes.{subject_column, subject_in, with_code}
 use Rattle.columns.specs.Numbers.{exact_column, exact_in, moment_column, moment_in}
 use Rattle.columns.specs.Steps.{◌>>=◌}
-use Rattle.columns.specs.Messages.{all_command_notices, all_lapse_notices, command_columns, command_made, command_notice_column, command_notice_in, lapse_made, lapse_notice_column, lapse_notice_in, message_in, message_made, message_row, origin_columns, origin_in, origin_made}
+use Rattle.columns.specs.Messages.{all_command_notices, all_lapse_notices, command_made, command_notice_column, command_notice_in, lapse_made, lapse_notice_column, lapse_notice_in, message_in, message_made, message_row, origin_columns, origin_in}
 use Rattle.columns.proofs.CodeLemmas.{code_written, has_code, subject_back, subject_written}
 use Rattle.columns.proofs.NumberLemmas.{exact_back, exact_written, moment_back, moment_is, moment_written}
 use Rattle.columns.proofs.ReadLemmas.{same_some, step}

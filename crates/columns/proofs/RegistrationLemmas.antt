@@ -1,5 +1,5 @@
 -- What contacts and domains have in common is read from its columns, and from no others.
-use Rattle.std.proofs.Common.{◌≡◌, ℤ, Option, Some, sym, ap, ◌∙◌}
+use Rattle.std.proofs.Common.{◌≡◌, Some, sym, ap, ◌∙◌}
 use Rattle.objects.specs.declared.roid.ObjectKind.{ObjectKind}
 use Rattle.columns.specs.declared.registration.Registration.{Registration}
 use Rattle.columns.specs.declared.registration.RegistrationColumns.{RegistrationColumns}

@@ -1,12 +1,11 @@
 -- A transfer is read from its row, and from no other.
-use Rattle.std.proofs.Common.{◌≡◌, ℕ, ℤ, Bool, true, false, cond, Option, Some, None, refl, sym, ap, ◌∙◌}
+use Rattle.std.proofs.Common.{◌≡◌, ℤ, true, false, cond, Option, Some, None, refl, sym, ap, ◌∙◌}
 use Rattle.std.proofs.lemmas.Bool.{false≢true}
 use Rattle.std.proofs.lemmas.Bool.Decides.{Decides-int_eq}
-use Rattle.std.specs.Ordering.{int_eq}
 use Rattle.objects.specs.declared.transfer.Transfer.{Transfer}
 use Rattle.tables.specs.Transfer as table
-use Rattle.columns.specs.Codes.{state_column, state_in}
-use Rattle.columns.specs.Numbers.{moment_column, moment_in, registrar_column, registrar_in}
+use Rattle.columns.specs.Codes.{state_in}
+use Rattle.columns.specs.Numbers.{moment_in, registrar_in}
 use Rattle.columns.specs.Steps.{◌>>=◌}
 use Rattle.columns.specs.Transfers.{IsTransfer, due_column, is_same, transfer_in, transfer_made, transfer_row, with_due}
 use Rattle.columns.proofs.CodeLemmas.{state_back, state_written}

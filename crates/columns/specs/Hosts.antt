@@ -1,10 +1,9 @@
 -- How a host lies in its row. Its addresses lie in rows of their own.
-use Rattle.std.specs.Prelude.{ℕ, ℤ, Bool, List, Option, Some, None, IfSome, if◌then◌else◌}
+use Rattle.std.specs.Prelude.{ℕ, ℤ, List, Option, Some, None, IfSome, if◌then◌else◌}
 use Rattle.std.specs.Str.{bytes_eq}
 use Rattle.calendar.specs.Moment.{IsMoment}
 use Rattle.objects.specs.declared.host.Host.{Host}
 use Rattle.objects.specs.declared.roid.ObjectKind.TheVariants as kinds
-use Rattle.objects.specs.declared.roid.Roid.{Roid}
 use Rattle.objects.specs.declared.status.Status.{Status}
 use Rattle.tables.specs.Host as table
 use Rattle.columns.specs.declared.host.HostColumns.{HostColumns}

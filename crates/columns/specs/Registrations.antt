@@ -1,5 +1,5 @@
 -- How the columns lie that contacts and domains have in common.
-use Rattle.std.specs.Prelude.{ℕ, ℤ, Option, Some, IfSome}
+use Rattle.std.specs.Prelude.{Option, Some, IfSome}
 use Rattle.calendar.specs.Moment.{IsMoment}
 use Rattle.objects.specs.declared.roid.ObjectKind.{ObjectKind}
 use Rattle.columns.specs.declared.registration.Registration.{Registration}

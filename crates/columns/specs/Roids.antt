@@ -1,5 +1,5 @@
 -- How repository object identifiers lie in columns: their kind is the table's.
-use Rattle.std.specs.Prelude.{ℕ, ◌<◌, ◌^◌, ◌==◌, ℤ, Bool, Option, Some, None, if◌then◌else◌}
+use Rattle.std.specs.Prelude.{◌<◌, ◌^◌, ◌==◌, ℤ, Bool, Option, Some, None, if◌then◌else◌}
 use Rattle.objects.specs.declared.roid.ObjectKind.{ObjectKind}
 use Rattle.objects.specs.declared.roid.Roid.{Roid}
 use Rattle.accounts.specs.Lines.{object_rank}

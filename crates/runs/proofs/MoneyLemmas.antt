@@ -1,5 +1,5 @@
 -- Runs leave well formed registries, and their money follows.
-use Rattle.std.proofs.Common.{◌≡◌, ◌≤◌, ℕ, max, List, [], ◌∷◌, Ok, refl, sym, ap, subst, arith}
+use Rattle.std.proofs.Common.{◌≤◌, ℕ, List, [], ◌∷◌, Ok, refl, sym, ap, subst, arith}
 use Rattle.model.specs.Lapse.{lapsed, now}
 use Rattle.model.specs.Money.{MoneyFollows}
 use Rattle.model.specs.MoneyLaws.{AreCalls}

@@ -5,7 +5,7 @@ use Rattle.model.specs.Registry.{Registry}
 use Rattle.model.proofs.LapseLaws.{have-one-future, lapses-on}
 use Rattle.policy.specs.Rules.{PolicyRules}
 use Rattle.registry.specs.Execution.{IsSettlement}
-use Rattle.runs.specs.Runs.{Answer, Question, Turn, Follow, IsCall, IsLater, IsRun, IsSettledRun, answer_to, answers_of, call, effect_of, questions_of, settlement, settles_last}
+use Rattle.runs.specs.Runs.{Answer, Question, Turn, Follow, IsCall, IsLater, IsRun, answer_to, answers_of, call, effect_of, questions_of, settlement, settles_last}
 use Rattle.runs.specs.RunLaws.{AnswersAreDetermined, SettlementsGoUnnoticed, SettlementsMayBeLeftOut}
 
 is-later-itself : (p : PolicyRules) (s : Registry) → IsLater p s s

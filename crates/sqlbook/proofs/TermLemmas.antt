@@ -9,8 +9,7 @@ use Rattle.store.specs.Book.{with_terms}
 use Rattle.store.specs.Tables.{clock_set}
 use Rattle.tables.specs.Account as table
 use Rattle.tables.specs.Content.{Content}
-use Rattle.columns.proofs.ReadLemmas.{same_some}
-use Rattle.sqlaccounts.specs.Accounts.{accounts_of, row_of, sums_are_right}
+use Rattle.sqlaccounts.specs.Accounts.{accounts_of, sums_are_right}
 use Rattle.sqldomains.specs.Domains.{domains_of}
 use Rattle.sqlheld.specs.Held.{helds_are_right}
 use Rattle.sqlheld.proofs.KeptLemmas.{columns-kept}

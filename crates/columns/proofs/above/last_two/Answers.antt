@@ -1,4 +1,3 @@
-use Rattle.std.proofs.Common.{arith}
 use Rattle.columns.proofs.AboveLemmas.{last_two_is}
 use Rattle.columns.proofs.above.last_two.Goals as goal
 

@@ -1,5 +1,4 @@
-use Rattle.std.proofs.Common.{rules, ◌≡◌, IfSome, Some, FitsSigned, w64, to_z-of_z, subst, sym, ap, ◌∙◌}
-use Rattle.accounts.specs.declared.line.Line.{Line}
+use Rattle.std.proofs.Common.{rules, ◌≡◌, Some, FitsSigned, w64, to_z-of_z, sym, ap, ◌∙◌}
 use Rattle.tables.specs.Line as table
 use Rattle.columns.specs.Codes.{kind_in}
 use Rattle.columns.specs.Lines.{line_in, line_made, line_row}

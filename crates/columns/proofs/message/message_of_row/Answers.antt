@@ -1,4 +1,4 @@
-use Rattle.std.proofs.Common.{rules, ◌≡◌, Some, FitsSigned, string_bytes, w64, to_z, of_z, to_z-of_z, sym, ap, ◌∙◌}
+use Rattle.std.proofs.Common.{rules, ◌≡◌, Some, FitsSigned, w64, to_z, of_z, to_z-of_z, sym, ap, ◌∙◌}
 use Rattle.tables.specs.Message as table
 use Rattle.columns.specs.declared.origin.OriginColumns.{OriginColumns}
 use Rattle.columns.specs.Codes.{subject_in}

@@ -1,4 +1,4 @@
-use Rattle.std.proofs.Common.{rules, ◌≡◌, Option, Some, FitsSigned, w64, to_z-of_z, sym, ap, ◌∙◌}
+use Rattle.std.proofs.Common.{rules, ◌≡◌, Option, FitsSigned, w64, to_z-of_z, sym, ap, ◌∙◌}
 use Rattle.objects.specs.declared.transfer.Transfer.{Transfer}
 use Rattle.columns.specs.Codes.{state_in}
 use Rattle.columns.specs.Numbers.{moment_in, registrar_in}
