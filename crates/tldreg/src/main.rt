@@ -58,7 +58,7 @@ fn serve<B: Book + Drop>(rt: &HostRuntime, registry: Registry<B>, port: u16) -> 
 
 /// Prints the zone at a moment.
 fn zone<B: Book + Drop>(
-    rt: &HostRuntime,
+    rt: &(impl Print + AllocGlobal),
     registry: Registry<B>,
     moment: Moment,
 ) -> Result<(), Exit> {
@@ -73,7 +73,7 @@ fn zone<B: Book + Drop>(
 
 /// Enters what a registrar has paid at a moment, and prints the answer.
 fn deposit<B: Book + Drop>(
-    rt: &HostRuntime,
+    rt: &(impl Print + AllocGlobal),
     registry: Registry<B>,
     moment: Moment,
     registrar: &str,
