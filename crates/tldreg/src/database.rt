@@ -1,5 +1,5 @@
 //! The database of a command line: one in memory, or a file.
-ghost use Rattle.std.specs.Prelude.{◌≡◌, false};
+ghost use Rattle.std.specs.Prelude.{◌≡◌, false, IfOk};
 
 use policy::Policy;
 use registry::{OpenFault, Registry};
@@ -32,10 +32,7 @@ pub fn policy_in(rt: &(impl Files + AllocGlobal), path: &str) -> Result<Policy, 
 
 /// A registry in memory that was never used.
 pub fn in_memory(alloc: Global, policy: Policy) -> Result<Registry<SqlBook<MemStore, Made>>, Exit> {
-    match sqlbook::in_memory(alloc) {
-        Ok(book) => open(alloc, book, policy),
-        Err(fault) => Err(exit_of(fault)),
-    }
+    open(alloc, sqlbook::in_memory(alloc), policy)
 }
 
 /// The registry of a file, which is made where there is none. `S` stands for what the file and its log hold.
@@ -49,16 +46,21 @@ pub fn in_file<S: Start>(
         Ok(conn) => conn,
         Err((error, _)) => return Err(exit_of(fault_of(&error))),
     };
-    match sqlbook::adopt(conn, rt.alloc()) {
-        Ok(book) => open(rt.alloc(), book, policy),
-        Err(fault) => Err(exit_of(fault)),
-    }
+    open(rt.alloc(), sqlbook::adopt(conn, rt.alloc()), policy)
 }
 
-/// A registry over a book in which no transaction is open.
-fn open<B: Book + Drop>(alloc: Global, book: B, policy: Policy) -> Result<Registry<B>, Exit>
-    requires { (B.state book).is_open ≡ false }
+/// A registry over a book, if it was made, in which no transaction is open.
+fn open<B: Book + Drop>(
+    alloc: Global,
+    made: Result<B, BookFault>,
+    policy: Policy,
+) -> Result<Registry<B>, Exit>
+    requires { IfOk made (λ book. (B.state book).is_open ≡ false) }
 {
+    let book = match made {
+        Ok(book) => book,
+        Err(fault) => return Err(exit_of(fault)),
+    };
     match Registry::open(alloc, book, policy) {
         Ok(registry) => Ok(registry),
         Err((fault, _)) => Err(Exit::Open(fault)),

@@ -29,13 +29,20 @@ fn run(rt: &(impl Files + Input + Print + AllocGlobal), policy: &str) -> Result<
 fn work_on(rt: &HostRuntime, policy: &str, database: &str, job: &Job) -> Result<(), Exit> {
     let policy = policy_in(rt, policy)?;
     if is_in_memory(database) {
-        do_job(rt, in_memory(rt.alloc(), policy)?, job)
+        do_job(rt, in_memory(rt.alloc(), policy), job)
     } else {
-        do_job(rt, in_file(rt, database, Unknown, policy)?, job)
+        do_job(rt, in_file(rt, database, Unknown, policy), job)
     }
 }
 
-fn do_job<B: Book + Drop>(rt: &HostRuntime, registry: Registry<B>, job: &Job) -> Result<(), Exit> {
+/// Does a job with a registry, if it was opened. It takes what opening gave, so that no registry over a
+/// database of a kind is let go where its kind is known, which costs the prover much.
+fn do_job<B: Book + Drop>(
+    rt: &HostRuntime,
+    opened: Result<Registry<B>, Exit>,
+    job: &Job,
+) -> Result<(), Exit> {
+    let registry = opened?;
     match job {
         Job::Serve { port } => serve(rt, registry, *port),
         Job::Zone { moment } => zone(rt, registry, *moment),
