@@ -5,7 +5,7 @@ use policy::Policy;
 use registry::{OpenFault, Registry};
 use script::Exit;
 use sqlbook::{Found, Made, SqlBook};
-use sqlite::{Connection, Error, ErrorCode, FileFrom, FileStore, MemStore, Start};
+use sqlite::{Alter, Connection, Error, ErrorCode, FileFrom, FileStore, Leftover, MemStore, Start};
 use std::alloc::Global;
 use std::fs;
 use std::rt::Files;
@@ -36,17 +36,45 @@ pub fn in_memory(alloc: Global, policy: Policy) -> Result<Registry<SqlBook<MemSt
 }
 
 /// The registry of a file, which is made where there is none. `S` stands for what the file and its log hold.
+/// Each step takes what the one before it gave: where a connection or a book of a known kind could fall, the
+/// prover would look at all that is in it.
 pub fn in_file<S: Start>(
     rt: &HostRuntime,
     path: &str,
     start: S,
     policy: Policy,
 ) -> Result<Registry<SqlBook<FileStore<FileFrom<S>>, Found>>, Exit> {
-    let conn = match Connection::open_from(rt, path, WITH_SUMS, start) {
+    take_up(rt.alloc(), connect(rt, path, start), policy)
+}
+
+/// A connection to a file.
+fn connect<S: Start>(
+    rt: &HostRuntime,
+    path: &str,
+    start: S,
+) -> Result<Connection<FileStore<FileFrom<S>>>, BookFault> {
+    match Connection::open_from(rt, path, WITH_SUMS, start) {
+        Ok(conn) => Ok(conn),
+        Err(left) => Err(fault_of_opening(left)),
+    }
+}
+
+/// What stopped a file from being opened, which is let go.
+fn fault_of_opening<S: Start>(left: (Error, Option<Leftover<FileFrom<S>>>)) -> BookFault {
+    fault_of(&left.0)
+}
+
+/// The registry of the database of a connection, if there is one.
+fn take_up<S: Alter + Drop>(
+    alloc: Global,
+    conn: Result<Connection<S>, BookFault>,
+    policy: Policy,
+) -> Result<Registry<SqlBook<S, Found>>, Exit> {
+    let conn = match conn {
         Ok(conn) => conn,
-        Err((error, _)) => return Err(exit_of(fault_of(&error))),
+        Err(fault) => return Err(exit_of(fault)),
     };
-    open(rt.alloc(), sqlbook::adopt(conn, rt.alloc()), policy)
+    open(alloc, sqlbook::adopt(conn, alloc), policy)
 }
 
 /// A registry over a book, if it was made, in which no transaction is open.
