@@ -7,6 +7,7 @@ mod database;
 use calendar::Moment;
 use command_line::{Job, Task, read_task};
 use database::{in_file, in_memory, is_in_memory, policy_in};
+use policy::Policy;
 use protocol::Code;
 use registry::Registry;
 use script::{Exit, deposit_on, run_script};
@@ -29,10 +30,18 @@ fn run(rt: &(impl Files + Input + Print + AllocGlobal), policy: &str) -> Result<
 fn work_on(rt: &HostRuntime, policy: &str, database: &str, job: &Job) -> Result<(), Exit> {
     let policy = policy_in(rt, policy)?;
     if is_in_memory(database) {
-        do_job(rt, in_memory(rt.alloc(), policy), job)
+        work_in_memory(rt, policy, job)
     } else {
-        do_job(rt, in_file(rt, database, Unknown, policy), job)
+        work_in_file(rt, database, policy, job)
     }
+}
+
+fn work_in_memory(rt: &HostRuntime, policy: Policy, job: &Job) -> Result<(), Exit> {
+    do_job(rt, in_memory(rt.alloc(), policy), job)
+}
+
+fn work_in_file(rt: &HostRuntime, path: &str, policy: Policy, job: &Job) -> Result<(), Exit> {
+    do_job(rt, in_file(rt, path, Unknown, policy), job)
 }
 
 /// Does a job with a registry, if it was opened. It takes what opening gave, so that no registry over a
