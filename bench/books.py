@@ -2,8 +2,8 @@
 
 usage: python3 books.py TLDREG TRANSCRIPTS [LINES..]     (the programs as rt ci builds them)
 
-For each number of lines (2,000 and 20,000 where none is given) of creates and checks in turn and of transfers, under the
-example policy: `tldreg run` answers the script over rows in memory (SqlBook), and `transcripts` runs the same lines twice,
+For each number of lines (2,000 where none is given) of creates and checks in turn and of transfers, under the example
+policy: `tldreg run` answers the script over rows in memory (SqlBook), and `transcripts` runs the same lines twice,
 over rows and over ordered maps (PlainBook), with the replies that `tldreg` gave as what must follow. The two run in turn,
 five times each; of each the least processor time counts. What `transcripts` takes beyond `tldreg` is the run over ordered
 maps, with the comparison of the replies, which is small beside it.
@@ -39,23 +39,23 @@ def measured(tldreg, transcripts, kind, lines):
             subprocess.run([sys.executable, HERE / "make_script.py", str(lines), kind], stdout=out, check=True)
         run, both = [tldreg, "run", "policy.toml"], [transcripts, transcript.name]
         replies = seconds(run, folder, script)[1].splitlines()
-        asked = script.read_text().splitlines()
+        asked, count = script.read_text().splitlines(), len(replies)
         pairs = "".join(f"C: {line}\nS: {reply}\n" for line, reply in zip(asked, replies, strict=True))
         transcript.write_text(f"transcript: bench\npolicy: policy.toml\n\n{pairs}")
         alone, twice = [], []
         for _ in range(TURNS):
             alone.append(seconds(run, folder, script)[0])
             taken, said = seconds(both, folder, os.devnull)
-            assert said.endswith(f"{lines} of {lines} replies\n"), said[-200:]
+            assert said.endswith(f"{count} of {count} replies\n"), said[-200:]
             twice.append(taken)
-        return min(alone) / lines * 1e6, (min(twice) - min(alone)) / lines * 1e6
+        return min(alone) / count * 1e6, (min(twice) - min(alone)) / count * 1e6
 
 
 def main(words):
     tldreg, transcripts, *counts = words
     print("script      lines    rows  maps  ratio")
     for kind in ("checks", "transfers"):
-        for lines in [int(it) for it in counts] or [2000, 20000]:
+        for lines in [int(it) for it in counts] or [2000]:
             rows, maps = measured(os.path.abspath(tldreg), os.path.abspath(transcripts), kind, lines)
             print(f"{kind:10} {lines:6} {rows:7.0f} {maps:5.0f} {rows / maps:6.1f}", flush=True)
 

@@ -1,12 +1,13 @@
-"""Which statement of a create costs what, and beside each what the floor takes for it.
+"""Which statement of a create costs what, in ours and in the floor.
 
 usage: python3 statements.py TLDREG FLOOR     (the program as rt ci builds it; the floor, built by floor/build.sh; valgrind)
 
 For a database in memory and one on a file, with 1,000 domains, under the example policy with prices of 0: how often one
-create runs each statement, and what one run of it takes, in microseconds. The floor's is measured. Ours is the
-statement's share of the program's instructions (callgrind, 200 creates; all that is called in the crate `tables` for it,
-the reading of its rows with it) of the processor's time of a create. A statement that takes less than a microsecond of
-the create isn't printed, and the last lines are what lies outside of all statements, and the sum.
+create runs each statement, what one run of it takes, in microseconds, and its part of the create. First ours: a line
+stands for the calls from one function above the database into it (into the crates `tables` and `rows`, or into the
+library where these are compiled away), by callgrind's instructions of 200 creates, as a share of the processor's time of
+a create. What makes less than a hundredth isn't printed, and the last line is what lies outside. Then the floor's
+statements by their names, measured.
 """
 import os
 import re
@@ -21,23 +22,16 @@ import rows
 import shares
 
 
-def own_name(statement):
-    """The name in `tables` of the call for a statement of the floor."""
-    if statement in ("BEGIN", "COMMIT"):
-        return statement.lower()
-    table, rest = statement.lower().split("_", 1)
-    many = f"{table}es" if table == "address" else f"{table}s"
-    if rest in ("put", "append"):
-        return f"{rest}_{table}"
-    if rest.startswith("remove_"):
-        return f"remove_{many}_by_{rest.removeprefix('remove_')}"
-    if rest.startswith("first_"):
-        return f"first_{many}_{rest.removeprefix('first_')}"
-    return f"{rest}_{many}" if rest in ("all", "same") else f"{many}_{rest}"
+BELOW = re.compile(r"[<&]*(tables|rows|sqlite|sqlite_\w*)::")
+
+
+def bare(function):
+    """A function's path without the numbers of its types."""
+    return re.sub(r"(::)?<#[0-9a-f]+>", "", function)
 
 
 def counted(path):
-    """Of a file of callgrind's: all instructions, and by call of `tables` from above how often and how many."""
+    """Of a file of callgrind's: all instructions, and by call into the database how often and how many."""
     whole, calls, costs = 0, defaultdict(int), defaultdict(int)
     caller = callee = ""
     times = None
@@ -52,16 +46,20 @@ def counted(path):
             cost = int(line.split()[1])
             if times is None:
                 whole += cost
-            elif shares.crate_of(callee) == "tables" and shares.crate_of(caller) != "tables":
-                name = callee.split("::")[-1]
+            elif BELOW.match(callee) and not BELOW.match(caller):
+                name = bare(callee).split("::")[-1], bare(caller)
                 calls[name] += times
                 costs[name] += cost
             times = None
     return whole, calls, costs
 
 
+def control(word, server):
+    subprocess.run(["callgrind_control", word, str(server.pid)], stdout=subprocess.DEVNULL, stderr=subprocess.DEVNULL, check=True)
+
+
 def ours(program, file, port, folder):
-    """By call of `tables`: how often a create makes it, and what one takes; and the whole create, in microseconds."""
+    """By call into the database: how often a create makes it, and what one takes; and the whole create, in microseconds."""
     policy = shares.policy_of(folder)
     _, own, system = shares.timed(program, policy, file, port)["create"]
     out = os.path.join(folder, "callgrind")
@@ -71,41 +69,43 @@ def ours(program, file, port, folder):
     client = rows.Client(port + 1, "alfa")
     client.send([make_script.CONTACT])
     client.send(shares.payloads("create", 1, shares.DOMAINS))
-    subprocess.run(["callgrind_control", "--zero", str(server.pid)], stdout=subprocess.DEVNULL, check=True)
+    control("--zero", server)
     client.send(shares.payloads("create", shares.DOMAINS + 1, shares.COUNTED))
-    subprocess.run(["callgrind_control", "--dump", str(server.pid)], stdout=subprocess.DEVNULL, check=True)
+    control("--dump", server)
+    dump = max(Path(folder).glob("callgrind.*"), key=lambda it: int(it.suffix[1:]))
+    whole, calls, costs = counted(dump)
     client.close()
     server.kill()
     server.wait()
-    dump = max(Path(folder).glob("callgrind.*"), key=lambda it: it.stat().st_size)
-    whole, calls, costs = counted(dump)
-    of = (own + system) / whole
+    of = (own + system) * shares.COUNTED / whole
     return {name: (calls[name] / shares.COUNTED, costs[name] * of / calls[name]) for name in calls}, own + system
 
 
 def floor(program, database):
     ran = subprocess.run([program, database, str(shares.DOMAINS), str(shares.DOMAINS), "each"], check=True, text=True, stdout=subprocess.PIPE)
     told = [line.split()[1:] for line in ran.stdout.splitlines() if line.startswith("statement ")]
-    return {own_name(name): (float(runs), float(cost)) for name, runs, cost in told}
+    return {name: (float(runs), float(cost)) for name, runs, cost in told}
+
+
+def show(where, whose, found, whole):
+    rest = whole
+    for name, (runs, cost) in sorted(found.items(), key=lambda it: -it[1][0] * it[1][1]):
+        rest -= runs * cost
+        if runs * cost >= whole / 100:
+            text = name if isinstance(name, str) else f"{name[0]} from {name[1]}"
+            print(f"{where:7} {whose:6} {runs:5.1f} {cost:8.2f} {100 * runs * cost / whole:6.1f} %  {text}")
+    print(f"{where:7} {whose:6} {'':5} {rest:8.2f} {100 * rest / whole:6.1f} %  outside, of {whole:.0f}", flush=True)
 
 
 def main(words):
     program, beneath = words
-    print("where   statement                     runs    ours   floor  ratio   of a create")
+    print("where   whose   runs     each     part  statement")
     for place, where in enumerate(("memory", "file")):
         with tempfile.TemporaryDirectory(dir="/var/tmp") as folder:
             at = ":memory:" if where == "memory" else os.path.join(folder, "registry.db")
-            found, whole = ours(program, at, 7900 + 2 * place, folder)
+            show(where, "ours", *ours(program, at, 7900 + 2 * place, folder))
             below = floor(beneath, ":memory:" if where == "memory" else os.path.join(folder, "floor.db"))
-            rest, rest_below = whole, 0.0
-            for name, (runs, cost) in sorted(found.items(), key=lambda it: -it[1][0] * it[1][1]):
-                floors = below.get(name, (0.0, 0.0))
-                rest, rest_below = rest - runs * cost, rest_below + floors[0] * floors[1]
-                if runs * cost >= 1:
-                    ratio = f"{cost / floors[1]:6.1f}" if floors[1] else "     -"
-                    print(f"{where:7} {name:28} {runs:5.1f} {cost:7.2f} {floors[1]:7.2f} {ratio} {100 * runs * cost / whole:8.1f} %")
-            print(f"{where:7} {'(outside of statements)':28} {'':5} {rest:7.1f} {'':14} {100 * rest / whole:8.1f} %")
-            print(f"{where:7} {'(all)':28} {'':5} {whole:7.1f} {rest_below:7.1f} {whole / rest_below:6.1f}", flush=True)
+            show(where, "floor", below, sum(runs * cost for runs, cost in below.values()))
 
 
 if __name__ == "__main__":
