@@ -1,9 +1,9 @@
 -- What spells a date.
-use Rattle.std.proofs.Common.{◌≡◌, ℕ, ◌/◌, ◌<◌, Bool, true, false, ◌&&◌, ◌==◌, List, Option, Some, None, refl, sym, ap, ◌∙◌, arith}
+use Rattle.std.proofs.Common.{◌≡◌, ℕ, ◌/◌, Bool, true, false, List, Option, Some, None, refl, sym, ap, ◌∙◌, arith}
 use Rattle.std.proofs.lemmas.Bool.Decides.{nat_tests}
 use Rattle.std.proofs.lemmas.Slice.Eq.{bytes_eq-Decides}
 use Rattle.std.specs.Str.{bytes_eq}
-use Rattle.calendar.specs.Calendar.{Date, date_of}
+use Rattle.calendar.specs.Calendar.{date_of}
 use Rattle.calendar.specs.Moment.{IsMoment}
 use Rattle.calendar.specs.Text.{date_text, is_date}
 use Rattle.calendar.specs.Reading.{date_fields}

@@ -1,8 +1,8 @@
 -- When a domain is due, and that a lapse leaves nothing due.
-use Rattle.std.proofs.Common.{◌≡◌, ℕ, zero, suc, ◌+◌, ◌<◌, ◌≤◌, min, ◌&&◌, Bool, true, false, cond, nat_lt, nat_le, List, [], Option, Some, None, Result, Ok, Err, refl, sym, subst, ap, ◌∙◌, arith}
+use Rattle.std.proofs.Common.{◌≡◌, ℕ, ◌+◌, ◌<◌, ◌≤◌, min, ◌&&◌, Bool, true, false, cond, nat_lt, nat_le, List, [], Option, Some, None, Result, Ok, Err, refl, sym, subst, ap, ◌∙◌, arith}
 use Rattle.std.proofs.lemmas.Bool.Decides.{nat_tests}
 use Rattle.std.specs.Result.{IfOk}
-use Rattle.calendar.specs.Moment.{IsMoment, is_moment, plus_years}
+use Rattle.calendar.specs.Moment.{IsMoment, is_moment}
 use Rattle.calendar.proofs.YearLaws.{plus_years-later}
 use Rattle.policy.specs.Rules.{PolicyRules}
 use Rattle.accounts.specs.declared.entries.Posting.{Posting}
@@ -12,7 +12,7 @@ use Rattle.objects.specs.declared.domain.Deletion.{Deletion}
 use Rattle.objects.specs.declared.domain.Domain.{Domain}
 use Rattle.objects.specs.declared.transfer.Transfer.{Transfer}
 use Rattle.lifecycle.specs.declared.lapsed.Lapsed.{Lapsed}
-use Rattle.lifecycle.specs.Lapse.{IsLapseOf, completes_at, completed, due_at, due_by, due_of, earlier, earlier_end, lapse, lapse_by, leaves, lived, moved, purged, raised, renewals}
+use Rattle.lifecycle.specs.Lapse.{IsLapseOf, completes_at, due_at, due_by, due_of, earlier, earlier_end, lapse, lapse_by, leaves, lived, moved, purged, raised, renewals}
 use Rattle.lifecycle.specs.Periods.{in_time, passed}
 use Rattle.lifecycle.specs.Phases.{purge_at}
 use Rattle.lifecycle.specs.Turns.{turns}

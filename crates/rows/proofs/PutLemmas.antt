@@ -34,7 +34,7 @@ use Rattle.sqlite.specs.Effect.{Database}
 use Rattle.sqlite.specs.Rows.{Written, Task, Puts, Clears, Updates, Meets, Upserts, Judged, Tries, TriesEach, InsertsOr, shown, nothing, rowids_for, count_of, Counts}
 use Rattle.sqlite.specs.Does.{Does, Tally}
 use Rattle.sqlite.proofs.Callers.{one_permutation}
-use Rattle.rows.specs.Layouts.{Layout, Leads, steady, Holds, Sets, Listed, chosen_query, put_command, IsPut, Gives}
+use Rattle.rows.specs.Layouts.{Layout, Leads, steady, Holds, Sets, Listed, chosen_query, IsPut, Gives}
 use Rattle.rows.proofs.ListLemmas.{removed_put, only_one}
 use Rattle.rows.proofs.WriteLemmas.{went, same_value, concluded, task_of, left, applies, sets, chosen}
 

@@ -1,7 +1,7 @@
 -- Rows by a test.
 use Rattle.std.proofs.Common.{◌≡◌, ◌^◌, ◌-◌, negsuc, Err, ℕ, Bool, true, false, List, [], ◌∷◌, map, filter, unwrap_or, cond, nat_le, slice_get, None, Result, Ok, refl, sym, ap₂, ◌∙◌, int_cmp, map-id, ℤ, Option, Ordering, Less}
 use Rattle.std.specs.List.{list_all}
-use Rattle.sqlite_value.specs.declared.value.Value.TheVariants.{Null, Int}
+use Rattle.sqlite_value.specs.declared.value.Value.TheVariants.{Int}
 use Rattle.sqlite_value.specs.Order.{Row, value_cmp}
 use Rattle.sqlite_value.proofs.OrderLemmas.{value_cmp-Int, value_cmp-Null, then-Equal}
 use Rattle.sqlite_trees.specs.Tree.{Trees}

@@ -11,7 +11,6 @@ use Rattle.sqlite_sql.specs.Term.{Term, col, eval_all, holds}
 use Rattle.sqlite_schema.specs.declared.schema.Table.{Table}
 use Rattle.sqlite_schema.specs.declared.schema.Schema.{Schema}
 use Rattle.sqlite_schema.specs.declared.schema.Keys.TheVariants.{Enforced}
-use Rattle.sqlite_schema.specs.declared.command.Command.TheVariants.{Delete}
 use Rattle.sqlite_rules.specs.declared.error.Rowids.TheVariants.{Given}
 use Rattle.sqlite_rules.specs.Edit.{Edit, edit_of, edited, id_in, without_all, Applies}
 use Rattle.sqlite_rules.specs.Calls.{ids_of}

@@ -1,5 +1,5 @@
 -- What the statements on the table `message` mean.
-use Rattle.std.proofs.Common.{ap, pos, negsuc, take, drop, Equal, ◌≡◌, ◌∙◌, refl, List, [], ◌∷◌, ℤ, filter, codes, false}
+use Rattle.std.proofs.Common.{ap, pos, take, drop, Equal, ◌≡◌, ◌∙◌, refl, List, [], ◌∷◌, ℤ, filter, codes, false}
 use Rattle.sqlite_value.specs.declared.value.Value.TheVariants.{Null, Int, Text}
 use Rattle.sqlite_value.specs.declared.keys.Collation.TheVariants.{Binary}
 use Rattle.std.specs.List.{take-map}

@@ -1,12 +1,12 @@
 -- What the statements on the table `transfer` mean.
-use Rattle.std.proofs.Common.{ap, drop, refl, List, [], ◌∷◌, ℤ, filter, codes, false}
+use Rattle.std.proofs.Common.{ap, drop, refl, List, [], ◌∷◌, ℤ, filter, codes}
 use Rattle.sqlite_value.specs.declared.value.Value.TheVariants.{Null, Int}
 use Rattle.sqlite_value.specs.declared.keys.Collation.TheVariants.{Binary}
 use Rattle.sqlite_sql.specs.declared.ops.CompareOp.TheVariants.{Eq}
 use Rattle.sqlite_sql.specs.declared.ops.BinaryOp.TheVariants.{Compare}
 use Rattle.sqlite_sql.specs.Term.{Term, lit, col, op2}
 use Rattle.sqlite_schema.specs.declared.schema.Table.{Table}
-use Rattle.sqlite_typed.proofs.TestLemmas.{at_ints, at_points_to, last_term}
+use Rattle.sqlite_typed.proofs.TestLemmas.{at_points_to, last_term}
 use Rattle.sqlite_keyed.specs.Lists.{delete_where}
 use Rattle.sqlite.specs.Listing.{understood}
 use Rattle.sqlite_tied.specs.Compute.{everything}

@@ -1,6 +1,5 @@
 -- The last transfer of each object that had one, and how they lie in their table.
 use Rattle.std.specs.Prelude.{Bool, ℤ, [], ◌∷◌, Option, refl}
-use Rattle.std.specs.Ordering.{int_eq}
 use Rattle.sqlite_value.specs.declared.value.Value.TheVariants.{Int, Null}
 use Rattle.sqlite_value.specs.Order.{Row}
 use Rattle.sqlite_keyed.specs.Rules.{points_to}

@@ -1,4 +1,3 @@
-use Rattle.std.proofs.Common.{◌∙◌, nat_lt, ap}
 use Rattle.calendar.proofs.RankLemmas.{rank-plus_years}
 use Rattle.calendar.proofs.moment.Moment.is_later_by.Goals as goal
 

@@ -1,4 +1,4 @@
-use Rattle.std.proofs.Common.{◌≡◌, ◌∙◌, Some, None, sym, ap, subst}
+use Rattle.std.proofs.Common.{◌∙◌, sym, ap, subst}
 use Rattle.calendar.specs.Moment.{IsMoment}
 use Rattle.calendar.specs.Reading.{date_fields}
 use Rattle.calendar.proofs.DateTextLemmas.{spells-none, spells-date}
