@@ -150,18 +150,20 @@ impl Contact {
     pub fn copy(&self) -> Result<Contact, AllocError>
         ensures { IfOk result (λ copy. copy ≡ self.now) }
     {
+        let (name, statuses) = (self.name.clone()?, self.statuses.clone()?);
+        let (secret, mail) = (self.secret.clone()?, self.mail.clone()?);
         Ok(Contact {
-            name: self.name.clone()?,
+            name,
             roid: self.roid,
             sponsor: self.sponsor,
             created: self.created,
             transferred: self.transferred,
             updated: self.updated,
-            statuses: self.statuses.clone()?,
-            secret: self.secret.clone()?,
-            postal: self.postal.copy()?,
+            statuses,
+            secret,
             voice: copied(&self.voice)?,
-            mail: self.mail.clone()?,
+            mail,
+            postal: self.postal.copy()?,
             transfer: self.transfer,
         })
     }

@@ -20,7 +20,7 @@ use Rattle.protocol.specs.declared.order.Order.{Order}
 use Rattle.protocol.specs.declared.order.Order.TheVariants as orders
 use Rattle.protocol.specs.declared.order.StatusOrder.{StatusOrder}
 use Rattle.protocol.specs.Codes.{is_accepted}
-use Rattle.model.specs.Objects.{object_ordered}
+use Rattle.model.specs.Objects.{object_ordered, statuses_of}
 use Rattle.verdict.specs.Orders.{order_code}
 use Rattle.model.specs.Registry.{Registry}
 
@@ -28,11 +28,15 @@ use Rattle.model.specs.Registry.{Registry}
 abbrev pub ordered : StatusOrder → List Status → List Status
 ordered o statuses = amended_statuses statuses o.rem o.add
 
+-- the object with these statuses
+abbrev pub put_with : List Status → Object → Change
+put_with statuses (objects.Contact c) = PutContact (record c { statuses = statuses })
+put_with statuses (objects.Domain d) = PutDomain (record d { statuses = statuses })
+put_with statuses (objects.Host h) = PutHost (record h { statuses = statuses })
+
 -- the object with the statuses that an order leaves; the date of its sponsor's last update stays
 abbrev pub put_ordered : StatusOrder → Object → Change
-put_ordered o (objects.Contact c) = PutContact (record c { statuses = ordered o c.statuses })
-put_ordered o (objects.Domain d) = PutDomain (record d { statuses = ordered o d.statuses })
-put_ordered o (objects.Host h) = PutHost (record h { statuses = ordered o h.statuses })
+put_ordered o object = put_with (ordered o (statuses_of object)) object
 
 abbrev pub order_changes : StatusOrder → Option Object → List Change
 order_changes o None = []

@@ -59,18 +59,31 @@ fn changes_after(
 fn put_ordered(alloc: Global, order: &StatusOrder, object: Object) -> Result<Change, AllocError>
     ensures { IfOk result (λ change. change ≡ spec.put_ordered order.now object) }
 {
+    match ordered(alloc, order, object.statuses()) {
+        Ok(statuses) => Ok(put_with(statuses, object)),
+        Err(error) => {
+            drop(object);
+            Err(error)
+        }
+    }
+}
+
+/// The object with these statuses.
+fn put_with(statuses: Seq<Status>, object: Object) -> Change
+    ensures { result ≡ spec.put_with statuses object }
+{
     match object {
         Object::Contact(mut contact) => {
-            contact.statuses = ordered(alloc, order, contact.statuses.as_slice())?;
-            Ok(Change::PutContact(contact))
+            contact.statuses = statuses;
+            Change::PutContact(contact)
         }
         Object::Domain(mut domain) => {
-            domain.statuses = ordered(alloc, order, domain.statuses.as_slice())?;
-            Ok(Change::PutDomain(domain))
+            domain.statuses = statuses;
+            Change::PutDomain(domain)
         }
         Object::Host(mut host) => {
-            host.statuses = ordered(alloc, order, host.statuses.as_slice())?;
-            Ok(Change::PutHost(host))
+            host.statuses = statuses;
+            Change::PutHost(host)
         }
     }
 }

@@ -182,20 +182,20 @@ fn contact_seen<R: Records>(
     ensures { Finds result (option_map (contact_as caller (option_copied presented.entry)) (finmap.get (R.kept records.old).content.registry.contacts name.now)) (R.kept records.old) (R.kept records.new) }
 {
     let contact = records.contact(name)?;
-    Ok(seen_contact(records.alloc(), caller, presented, &contact)?)
+    found_contact(records, caller, presented, &contact)
 }
 
-fn seen_contact(
-    alloc: Global,
+fn found_contact<R: Records>(
+    records: &mut R,
     caller: RegistrarNo,
     presented: Option<&Text>,
     contact: &Option<Contact>,
-) -> Result<Option<Seen<Contact, ContactFace>>, AllocError>
-    ensures { IfOk result (λ seen. seen ≡ option_map (contact_as caller (option_copied presented.entry)) contact.now) }
+) -> Result<Option<Seen<Contact, ContactFace>>, BookFault>
+    ensures { Finds result (option_map (contact_as caller (option_copied presented.entry)) contact.now) (R.kept records.old) (R.kept records.new) }
 {
     match contact {
         None => Ok(None),
-        Some(contact) => Ok(Some(contact.seen_by(alloc, caller, presented)?)),
+        Some(contact) => Ok(Some(contact.seen_by(records.alloc(), caller, presented)?)),
     }
 }
 
@@ -255,15 +255,35 @@ fn domain_facts_of<R: Records>(
 ) -> Result<DomainFacts, BookFault>
     ensures { Finds result (facts.domain_facts_of (facts.lookups policy.now caller command.now (R.kept records.old).content.registry) command.now name.now seen) (R.kept records.old) (R.kept records.new) }
 {
-    let own = name.clone()?;
+    match beside_domain(records, caller, command, policy, name, seen.as_ref()) {
+        Ok((name, subordinate, given_back)) => Ok(DomainFacts {
+            name,
+            seen,
+            subordinate,
+            given_back,
+        }),
+        Err(fault) => {
+            drop(seen);
+            Err(fault)
+        }
+    }
+}
+
+/// What the facts of a domain's name say beside what is seen there: the name, the hosts below it and
+/// what is given back.
+fn beside_domain<R: Records>(
+    records: &mut R,
+    caller: RegistrarNo,
+    command: &Command,
+    policy: &Policy,
+    name: &Text,
+    seen: Option<&Seen<FullDomain, DomainFace>>,
+) -> Result<(Text, Seq<Text>, GivenBack), BookFault>
+    ensures { Finds result (lookups.beside_domain (facts.domain_facts_of (facts.lookups policy.now caller command.now (R.kept records.old).content.registry) command.now name.now (option_copied seen.entry))) (R.kept records.old) (R.kept records.new) }
+{
     let subordinate = hosts_around(records, command, name, seen.is_some())?;
-    let given_back = back_asked(records, caller, command, policy, seen.as_ref())?;
-    Ok(DomainFacts {
-        name: own,
-        seen,
-        subordinate,
-        given_back,
-    })
+    let given_back = back_asked(records, caller, command, policy, seen)?;
+    Ok((name.clone()?, subordinate, given_back))
 }
 
 /// What the registrar sees at a domain's name, with a secret or none.

@@ -1,5 +1,6 @@
 -- Statements on one of the ten tables, as statements on all of them.
-use Rattle.std.proofs.Common.{◌≡◌, true, ℕ, List, [], map, Option, ◌∙◌, subst, sym}
+use Rattle.std.proofs.Common.{◌≡◌, ◌≢◌, true, ℕ, List, [], map, Option, ◌∙◌, subst, sym}
+use Rattle.std.specs.List.{AllByRecursion}
 use Rattle.sqlite_value.specs.Order.{Row}
 use Rattle.sqlite_trees.specs.Tree.{Trees}
 use Rattle.sqlite_sql.specs.Query.{Query, IsAnswer}
@@ -29,6 +30,33 @@ kept L db next xs same h = record { rows = same ∙ h.rows; keyed = h.keyed }
 abbrev given : Trees → Database
 given db = record { schema = registry; trees = db }
 
+-- each table is as it was whose tree isn't this one
+record Untouched (tree : ℕ) (old new : Trees) : Type 0 where
+  pub metas : metas.tree ≢ tree → new metas.tree ≡ old metas.tree
+  pub accounts : accounts.tree ≢ tree → new accounts.tree ≡ old accounts.tree
+  pub contacts : contacts.tree ≢ tree → new contacts.tree ≡ old contacts.tree
+  pub domains : domains.tree ≢ tree → new domains.tree ≡ old domains.tree
+  pub hosts : hosts.tree ≢ tree → new hosts.tree ≡ old hosts.tree
+  pub addresses : addresses.tree ≢ tree → new addresses.tree ≡ old addresses.tree
+  pub links : links.tree ≢ tree → new links.tree ≡ old links.tree
+  pub lines : lines.tree ≢ tree → new lines.tree ≡ old lines.tree
+  pub messages : messages.tree ≢ tree → new messages.tree ≡ old messages.tree
+  pub transfers : transfers.tree ≢ tree → new transfers.tree ≡ old transfers.tree
+
+untouched_of : (tree : ℕ) (old new : Trees) → AllByRecursion (λ t. t.tree ≢ tree → new t.tree ≡ old t.tree) registry.tables → Untouched tree old new
+untouched_of tree old new all = record {
+  metas = all.0;
+  accounts = all.1.0;
+  contacts = all.1.1.0;
+  domains = all.1.1.1.0;
+  hosts = all.1.1.1.1.0;
+  addresses = all.1.1.1.1.1.0;
+  links = all.1.1.1.1.1.1.0;
+  lines = all.1.1.1.1.1.1.1.0;
+  messages = all.1.1.1.1.1.1.1.1.0;
+  transfers = all.1.1.1.1.1.1.1.1.1.0;
+}
+
 -- a query of one table
 abbrev Answers : {X : Type 0} → Layout X → (X → Row) → Query → Row → (List X → List X) → Type 0
 Answers {X} L shown q params f = (db : Trees) (xs : List X) (rows : List Row) → Holds L db xs → IsAnswer q (overlay db []) params rows → rows ≡ map shown (f xs)
@@ -46,18 +74,19 @@ alters_metas sql params f plain writes changes = record {
   writes = writes;
   means = λ limit text db tally after xs h ran.
       let it = changes limit text db tally after xs.metas h.metas ran in
+      let untouched = untouched_of metas.tree db after.trees it.others in
       record {
         schema = it.same;
         metas = it.holds;
-        accounts = kept accounts db after.trees xs.accounts (it.others.1.0 (λ same. cc)) h.accounts;
-        contacts = kept contacts db after.trees xs.contacts (it.others.1.1.0 (λ same. cc)) h.contacts;
-        domains = kept domains db after.trees xs.domains (it.others.1.1.1.0 (λ same. cc)) h.domains;
-        hosts = kept hosts db after.trees xs.hosts (it.others.1.1.1.1.0 (λ same. cc)) h.hosts;
-        addresses = kept addresses db after.trees xs.addresses (it.others.1.1.1.1.1.0 (λ same. cc)) h.addresses;
-        links = kept links db after.trees xs.links (it.others.1.1.1.1.1.1.0 (λ same. cc)) h.links;
-        lines = kept lines db after.trees xs.lines (it.others.1.1.1.1.1.1.1.0 (λ same. cc)) h.lines;
-        messages = kept messages db after.trees xs.messages (it.others.1.1.1.1.1.1.1.1.0 (λ same. cc)) h.messages;
-        transfers = kept transfers db after.trees xs.transfers (it.others.1.1.1.1.1.1.1.1.1.0 (λ same. cc)) h.transfers;
+        accounts = kept accounts db after.trees xs.accounts (untouched.accounts (λ same. cc)) h.accounts;
+        contacts = kept contacts db after.trees xs.contacts (untouched.contacts (λ same. cc)) h.contacts;
+        domains = kept domains db after.trees xs.domains (untouched.domains (λ same. cc)) h.domains;
+        hosts = kept hosts db after.trees xs.hosts (untouched.hosts (λ same. cc)) h.hosts;
+        addresses = kept addresses db after.trees xs.addresses (untouched.addresses (λ same. cc)) h.addresses;
+        links = kept links db after.trees xs.links (untouched.links (λ same. cc)) h.links;
+        lines = kept lines db after.trees xs.lines (untouched.lines (λ same. cc)) h.lines;
+        messages = kept messages db after.trees xs.messages (untouched.messages (λ same. cc)) h.messages;
+        transfers = kept transfers db after.trees xs.transfers (untouched.transfers (λ same. cc)) h.transfers;
       };
 }
 
@@ -70,18 +99,19 @@ alters_accounts sql params f plain writes changes = record {
   writes = writes;
   means = λ limit text db tally after xs h ran.
       let it = changes limit text db tally after xs.accounts h.accounts ran in
+      let untouched = untouched_of accounts.tree db after.trees it.others in
       record {
         schema = it.same;
-        metas = kept metas db after.trees xs.metas (it.others.0 (λ same. cc)) h.metas;
+        metas = kept metas db after.trees xs.metas (untouched.metas (λ same. cc)) h.metas;
         accounts = it.holds;
-        contacts = kept contacts db after.trees xs.contacts (it.others.1.1.0 (λ same. cc)) h.contacts;
-        domains = kept domains db after.trees xs.domains (it.others.1.1.1.0 (λ same. cc)) h.domains;
-        hosts = kept hosts db after.trees xs.hosts (it.others.1.1.1.1.0 (λ same. cc)) h.hosts;
-        addresses = kept addresses db after.trees xs.addresses (it.others.1.1.1.1.1.0 (λ same. cc)) h.addresses;
-        links = kept links db after.trees xs.links (it.others.1.1.1.1.1.1.0 (λ same. cc)) h.links;
-        lines = kept lines db after.trees xs.lines (it.others.1.1.1.1.1.1.1.0 (λ same. cc)) h.lines;
-        messages = kept messages db after.trees xs.messages (it.others.1.1.1.1.1.1.1.1.0 (λ same. cc)) h.messages;
-        transfers = kept transfers db after.trees xs.transfers (it.others.1.1.1.1.1.1.1.1.1.0 (λ same. cc)) h.transfers;
+        contacts = kept contacts db after.trees xs.contacts (untouched.contacts (λ same. cc)) h.contacts;
+        domains = kept domains db after.trees xs.domains (untouched.domains (λ same. cc)) h.domains;
+        hosts = kept hosts db after.trees xs.hosts (untouched.hosts (λ same. cc)) h.hosts;
+        addresses = kept addresses db after.trees xs.addresses (untouched.addresses (λ same. cc)) h.addresses;
+        links = kept links db after.trees xs.links (untouched.links (λ same. cc)) h.links;
+        lines = kept lines db after.trees xs.lines (untouched.lines (λ same. cc)) h.lines;
+        messages = kept messages db after.trees xs.messages (untouched.messages (λ same. cc)) h.messages;
+        transfers = kept transfers db after.trees xs.transfers (untouched.transfers (λ same. cc)) h.transfers;
       };
 }
 
@@ -94,18 +124,19 @@ alters_contacts sql params f plain writes changes = record {
   writes = writes;
   means = λ limit text db tally after xs h ran.
       let it = changes limit text db tally after xs.contacts h.contacts ran in
+      let untouched = untouched_of contacts.tree db after.trees it.others in
       record {
         schema = it.same;
-        metas = kept metas db after.trees xs.metas (it.others.0 (λ same. cc)) h.metas;
-        accounts = kept accounts db after.trees xs.accounts (it.others.1.0 (λ same. cc)) h.accounts;
+        metas = kept metas db after.trees xs.metas (untouched.metas (λ same. cc)) h.metas;
+        accounts = kept accounts db after.trees xs.accounts (untouched.accounts (λ same. cc)) h.accounts;
         contacts = it.holds;
-        domains = kept domains db after.trees xs.domains (it.others.1.1.1.0 (λ same. cc)) h.domains;
-        hosts = kept hosts db after.trees xs.hosts (it.others.1.1.1.1.0 (λ same. cc)) h.hosts;
-        addresses = kept addresses db after.trees xs.addresses (it.others.1.1.1.1.1.0 (λ same. cc)) h.addresses;
-        links = kept links db after.trees xs.links (it.others.1.1.1.1.1.1.0 (λ same. cc)) h.links;
-        lines = kept lines db after.trees xs.lines (it.others.1.1.1.1.1.1.1.0 (λ same. cc)) h.lines;
-        messages = kept messages db after.trees xs.messages (it.others.1.1.1.1.1.1.1.1.0 (λ same. cc)) h.messages;
-        transfers = kept transfers db after.trees xs.transfers (it.others.1.1.1.1.1.1.1.1.1.0 (λ same. cc)) h.transfers;
+        domains = kept domains db after.trees xs.domains (untouched.domains (λ same. cc)) h.domains;
+        hosts = kept hosts db after.trees xs.hosts (untouched.hosts (λ same. cc)) h.hosts;
+        addresses = kept addresses db after.trees xs.addresses (untouched.addresses (λ same. cc)) h.addresses;
+        links = kept links db after.trees xs.links (untouched.links (λ same. cc)) h.links;
+        lines = kept lines db after.trees xs.lines (untouched.lines (λ same. cc)) h.lines;
+        messages = kept messages db after.trees xs.messages (untouched.messages (λ same. cc)) h.messages;
+        transfers = kept transfers db after.trees xs.transfers (untouched.transfers (λ same. cc)) h.transfers;
       };
 }
 
@@ -118,18 +149,19 @@ alters_domains sql params f plain writes changes = record {
   writes = writes;
   means = λ limit text db tally after xs h ran.
       let it = changes limit text db tally after xs.domains h.domains ran in
+      let untouched = untouched_of domains.tree db after.trees it.others in
       record {
         schema = it.same;
-        metas = kept metas db after.trees xs.metas (it.others.0 (λ same. cc)) h.metas;
-        accounts = kept accounts db after.trees xs.accounts (it.others.1.0 (λ same. cc)) h.accounts;
-        contacts = kept contacts db after.trees xs.contacts (it.others.1.1.0 (λ same. cc)) h.contacts;
+        metas = kept metas db after.trees xs.metas (untouched.metas (λ same. cc)) h.metas;
+        accounts = kept accounts db after.trees xs.accounts (untouched.accounts (λ same. cc)) h.accounts;
+        contacts = kept contacts db after.trees xs.contacts (untouched.contacts (λ same. cc)) h.contacts;
         domains = it.holds;
-        hosts = kept hosts db after.trees xs.hosts (it.others.1.1.1.1.0 (λ same. cc)) h.hosts;
-        addresses = kept addresses db after.trees xs.addresses (it.others.1.1.1.1.1.0 (λ same. cc)) h.addresses;
-        links = kept links db after.trees xs.links (it.others.1.1.1.1.1.1.0 (λ same. cc)) h.links;
-        lines = kept lines db after.trees xs.lines (it.others.1.1.1.1.1.1.1.0 (λ same. cc)) h.lines;
-        messages = kept messages db after.trees xs.messages (it.others.1.1.1.1.1.1.1.1.0 (λ same. cc)) h.messages;
-        transfers = kept transfers db after.trees xs.transfers (it.others.1.1.1.1.1.1.1.1.1.0 (λ same. cc)) h.transfers;
+        hosts = kept hosts db after.trees xs.hosts (untouched.hosts (λ same. cc)) h.hosts;
+        addresses = kept addresses db after.trees xs.addresses (untouched.addresses (λ same. cc)) h.addresses;
+        links = kept links db after.trees xs.links (untouched.links (λ same. cc)) h.links;
+        lines = kept lines db after.trees xs.lines (untouched.lines (λ same. cc)) h.lines;
+        messages = kept messages db after.trees xs.messages (untouched.messages (λ same. cc)) h.messages;
+        transfers = kept transfers db after.trees xs.transfers (untouched.transfers (λ same. cc)) h.transfers;
       };
 }
 
@@ -142,18 +174,19 @@ alters_hosts sql params f plain writes changes = record {
   writes = writes;
   means = λ limit text db tally after xs h ran.
       let it = changes limit text db tally after xs.hosts h.hosts ran in
+      let untouched = untouched_of hosts.tree db after.trees it.others in
       record {
         schema = it.same;
-        metas = kept metas db after.trees xs.metas (it.others.0 (λ same. cc)) h.metas;
-        accounts = kept accounts db after.trees xs.accounts (it.others.1.0 (λ same. cc)) h.accounts;
-        contacts = kept contacts db after.trees xs.contacts (it.others.1.1.0 (λ same. cc)) h.contacts;
-        domains = kept domains db after.trees xs.domains (it.others.1.1.1.0 (λ same. cc)) h.domains;
+        metas = kept metas db after.trees xs.metas (untouched.metas (λ same. cc)) h.metas;
+        accounts = kept accounts db after.trees xs.accounts (untouched.accounts (λ same. cc)) h.accounts;
+        contacts = kept contacts db after.trees xs.contacts (untouched.contacts (λ same. cc)) h.contacts;
+        domains = kept domains db after.trees xs.domains (untouched.domains (λ same. cc)) h.domains;
         hosts = it.holds;
-        addresses = kept addresses db after.trees xs.addresses (it.others.1.1.1.1.1.0 (λ same. cc)) h.addresses;
-        links = kept links db after.trees xs.links (it.others.1.1.1.1.1.1.0 (λ same. cc)) h.links;
-        lines = kept lines db after.trees xs.lines (it.others.1.1.1.1.1.1.1.0 (λ same. cc)) h.lines;
-        messages = kept messages db after.trees xs.messages (it.others.1.1.1.1.1.1.1.1.0 (λ same. cc)) h.messages;
-        transfers = kept transfers db after.trees xs.transfers (it.others.1.1.1.1.1.1.1.1.1.0 (λ same. cc)) h.transfers;
+        addresses = kept addresses db after.trees xs.addresses (untouched.addresses (λ same. cc)) h.addresses;
+        links = kept links db after.trees xs.links (untouched.links (λ same. cc)) h.links;
+        lines = kept lines db after.trees xs.lines (untouched.lines (λ same. cc)) h.lines;
+        messages = kept messages db after.trees xs.messages (untouched.messages (λ same. cc)) h.messages;
+        transfers = kept transfers db after.trees xs.transfers (untouched.transfers (λ same. cc)) h.transfers;
       };
 }
 
@@ -166,18 +199,19 @@ alters_addresses sql params f plain writes changes = record {
   writes = writes;
   means = λ limit text db tally after xs h ran.
       let it = changes limit text db tally after xs.addresses h.addresses ran in
+      let untouched = untouched_of addresses.tree db after.trees it.others in
       record {
         schema = it.same;
-        metas = kept metas db after.trees xs.metas (it.others.0 (λ same. cc)) h.metas;
-        accounts = kept accounts db after.trees xs.accounts (it.others.1.0 (λ same. cc)) h.accounts;
-        contacts = kept contacts db after.trees xs.contacts (it.others.1.1.0 (λ same. cc)) h.contacts;
-        domains = kept domains db after.trees xs.domains (it.others.1.1.1.0 (λ same. cc)) h.domains;
-        hosts = kept hosts db after.trees xs.hosts (it.others.1.1.1.1.0 (λ same. cc)) h.hosts;
+        metas = kept metas db after.trees xs.metas (untouched.metas (λ same. cc)) h.metas;
+        accounts = kept accounts db after.trees xs.accounts (untouched.accounts (λ same. cc)) h.accounts;
+        contacts = kept contacts db after.trees xs.contacts (untouched.contacts (λ same. cc)) h.contacts;
+        domains = kept domains db after.trees xs.domains (untouched.domains (λ same. cc)) h.domains;
+        hosts = kept hosts db after.trees xs.hosts (untouched.hosts (λ same. cc)) h.hosts;
         addresses = it.holds;
-        links = kept links db after.trees xs.links (it.others.1.1.1.1.1.1.0 (λ same. cc)) h.links;
-        lines = kept lines db after.trees xs.lines (it.others.1.1.1.1.1.1.1.0 (λ same. cc)) h.lines;
-        messages = kept messages db after.trees xs.messages (it.others.1.1.1.1.1.1.1.1.0 (λ same. cc)) h.messages;
-        transfers = kept transfers db after.trees xs.transfers (it.others.1.1.1.1.1.1.1.1.1.0 (λ same. cc)) h.transfers;
+        links = kept links db after.trees xs.links (untouched.links (λ same. cc)) h.links;
+        lines = kept lines db after.trees xs.lines (untouched.lines (λ same. cc)) h.lines;
+        messages = kept messages db after.trees xs.messages (untouched.messages (λ same. cc)) h.messages;
+        transfers = kept transfers db after.trees xs.transfers (untouched.transfers (λ same. cc)) h.transfers;
       };
 }
 
@@ -190,18 +224,19 @@ alters_links sql params f plain writes changes = record {
   writes = writes;
   means = λ limit text db tally after xs h ran.
       let it = changes limit text db tally after xs.links h.links ran in
+      let untouched = untouched_of links.tree db after.trees it.others in
       record {
         schema = it.same;
-        metas = kept metas db after.trees xs.metas (it.others.0 (λ same. cc)) h.metas;
-        accounts = kept accounts db after.trees xs.accounts (it.others.1.0 (λ same. cc)) h.accounts;
-        contacts = kept contacts db after.trees xs.contacts (it.others.1.1.0 (λ same. cc)) h.contacts;
-        domains = kept domains db after.trees xs.domains (it.others.1.1.1.0 (λ same. cc)) h.domains;
-        hosts = kept hosts db after.trees xs.hosts (it.others.1.1.1.1.0 (λ same. cc)) h.hosts;
-        addresses = kept addresses db after.trees xs.addresses (it.others.1.1.1.1.1.0 (λ same. cc)) h.addresses;
+        metas = kept metas db after.trees xs.metas (untouched.metas (λ same. cc)) h.metas;
+        accounts = kept accounts db after.trees xs.accounts (untouched.accounts (λ same. cc)) h.accounts;
+        contacts = kept contacts db after.trees xs.contacts (untouched.contacts (λ same. cc)) h.contacts;
+        domains = kept domains db after.trees xs.domains (untouched.domains (λ same. cc)) h.domains;
+        hosts = kept hosts db after.trees xs.hosts (untouched.hosts (λ same. cc)) h.hosts;
+        addresses = kept addresses db after.trees xs.addresses (untouched.addresses (λ same. cc)) h.addresses;
         links = it.holds;
-        lines = kept lines db after.trees xs.lines (it.others.1.1.1.1.1.1.1.0 (λ same. cc)) h.lines;
-        messages = kept messages db after.trees xs.messages (it.others.1.1.1.1.1.1.1.1.0 (λ same. cc)) h.messages;
-        transfers = kept transfers db after.trees xs.transfers (it.others.1.1.1.1.1.1.1.1.1.0 (λ same. cc)) h.transfers;
+        lines = kept lines db after.trees xs.lines (untouched.lines (λ same. cc)) h.lines;
+        messages = kept messages db after.trees xs.messages (untouched.messages (λ same. cc)) h.messages;
+        transfers = kept transfers db after.trees xs.transfers (untouched.transfers (λ same. cc)) h.transfers;
       };
 }
 
@@ -214,18 +249,19 @@ alters_lines sql params f plain writes changes = record {
   writes = writes;
   means = λ limit text db tally after xs h ran.
       let it = changes limit text db tally after xs.lines h.lines ran in
+      let untouched = untouched_of lines.tree db after.trees it.others in
       record {
         schema = it.same;
-        metas = kept metas db after.trees xs.metas (it.others.0 (λ same. cc)) h.metas;
-        accounts = kept accounts db after.trees xs.accounts (it.others.1.0 (λ same. cc)) h.accounts;
-        contacts = kept contacts db after.trees xs.contacts (it.others.1.1.0 (λ same. cc)) h.contacts;
-        domains = kept domains db after.trees xs.domains (it.others.1.1.1.0 (λ same. cc)) h.domains;
-        hosts = kept hosts db after.trees xs.hosts (it.others.1.1.1.1.0 (λ same. cc)) h.hosts;
-        addresses = kept addresses db after.trees xs.addresses (it.others.1.1.1.1.1.0 (λ same. cc)) h.addresses;
-        links = kept links db after.trees xs.links (it.others.1.1.1.1.1.1.0 (λ same. cc)) h.links;
+        metas = kept metas db after.trees xs.metas (untouched.metas (λ same. cc)) h.metas;
+        accounts = kept accounts db after.trees xs.accounts (untouched.accounts (λ same. cc)) h.accounts;
+        contacts = kept contacts db after.trees xs.contacts (untouched.contacts (λ same. cc)) h.contacts;
+        domains = kept domains db after.trees xs.domains (untouched.domains (λ same. cc)) h.domains;
+        hosts = kept hosts db after.trees xs.hosts (untouched.hosts (λ same. cc)) h.hosts;
+        addresses = kept addresses db after.trees xs.addresses (untouched.addresses (λ same. cc)) h.addresses;
+        links = kept links db after.trees xs.links (untouched.links (λ same. cc)) h.links;
         lines = it.holds;
-        messages = kept messages db after.trees xs.messages (it.others.1.1.1.1.1.1.1.1.0 (λ same. cc)) h.messages;
-        transfers = kept transfers db after.trees xs.transfers (it.others.1.1.1.1.1.1.1.1.1.0 (λ same. cc)) h.transfers;
+        messages = kept messages db after.trees xs.messages (untouched.messages (λ same. cc)) h.messages;
+        transfers = kept transfers db after.trees xs.transfers (untouched.transfers (λ same. cc)) h.transfers;
       };
 }
 
@@ -238,18 +274,19 @@ alters_messages sql params f plain writes changes = record {
   writes = writes;
   means = λ limit text db tally after xs h ran.
       let it = changes limit text db tally after xs.messages h.messages ran in
+      let untouched = untouched_of messages.tree db after.trees it.others in
       record {
         schema = it.same;
-        metas = kept metas db after.trees xs.metas (it.others.0 (λ same. cc)) h.metas;
-        accounts = kept accounts db after.trees xs.accounts (it.others.1.0 (λ same. cc)) h.accounts;
-        contacts = kept contacts db after.trees xs.contacts (it.others.1.1.0 (λ same. cc)) h.contacts;
-        domains = kept domains db after.trees xs.domains (it.others.1.1.1.0 (λ same. cc)) h.domains;
-        hosts = kept hosts db after.trees xs.hosts (it.others.1.1.1.1.0 (λ same. cc)) h.hosts;
-        addresses = kept addresses db after.trees xs.addresses (it.others.1.1.1.1.1.0 (λ same. cc)) h.addresses;
-        links = kept links db after.trees xs.links (it.others.1.1.1.1.1.1.0 (λ same. cc)) h.links;
-        lines = kept lines db after.trees xs.lines (it.others.1.1.1.1.1.1.1.0 (λ same. cc)) h.lines;
+        metas = kept metas db after.trees xs.metas (untouched.metas (λ same. cc)) h.metas;
+        accounts = kept accounts db after.trees xs.accounts (untouched.accounts (λ same. cc)) h.accounts;
+        contacts = kept contacts db after.trees xs.contacts (untouched.contacts (λ same. cc)) h.contacts;
+        domains = kept domains db after.trees xs.domains (untouched.domains (λ same. cc)) h.domains;
+        hosts = kept hosts db after.trees xs.hosts (untouched.hosts (λ same. cc)) h.hosts;
+        addresses = kept addresses db after.trees xs.addresses (untouched.addresses (λ same. cc)) h.addresses;
+        links = kept links db after.trees xs.links (untouched.links (λ same. cc)) h.links;
+        lines = kept lines db after.trees xs.lines (untouched.lines (λ same. cc)) h.lines;
         messages = it.holds;
-        transfers = kept transfers db after.trees xs.transfers (it.others.1.1.1.1.1.1.1.1.1.0 (λ same. cc)) h.transfers;
+        transfers = kept transfers db after.trees xs.transfers (untouched.transfers (λ same. cc)) h.transfers;
       };
 }
 
@@ -262,17 +299,18 @@ alters_transfers sql params f plain writes changes = record {
   writes = writes;
   means = λ limit text db tally after xs h ran.
       let it = changes limit text db tally after xs.transfers h.transfers ran in
+      let untouched = untouched_of transfers.tree db after.trees it.others in
       record {
         schema = it.same;
-        metas = kept metas db after.trees xs.metas (it.others.0 (λ same. cc)) h.metas;
-        accounts = kept accounts db after.trees xs.accounts (it.others.1.0 (λ same. cc)) h.accounts;
-        contacts = kept contacts db after.trees xs.contacts (it.others.1.1.0 (λ same. cc)) h.contacts;
-        domains = kept domains db after.trees xs.domains (it.others.1.1.1.0 (λ same. cc)) h.domains;
-        hosts = kept hosts db after.trees xs.hosts (it.others.1.1.1.1.0 (λ same. cc)) h.hosts;
-        addresses = kept addresses db after.trees xs.addresses (it.others.1.1.1.1.1.0 (λ same. cc)) h.addresses;
-        links = kept links db after.trees xs.links (it.others.1.1.1.1.1.1.0 (λ same. cc)) h.links;
-        lines = kept lines db after.trees xs.lines (it.others.1.1.1.1.1.1.1.0 (λ same. cc)) h.lines;
-        messages = kept messages db after.trees xs.messages (it.others.1.1.1.1.1.1.1.1.0 (λ same. cc)) h.messages;
+        metas = kept metas db after.trees xs.metas (untouched.metas (λ same. cc)) h.metas;
+        accounts = kept accounts db after.trees xs.accounts (untouched.accounts (λ same. cc)) h.accounts;
+        contacts = kept contacts db after.trees xs.contacts (untouched.contacts (λ same. cc)) h.contacts;
+        domains = kept domains db after.trees xs.domains (untouched.domains (λ same. cc)) h.domains;
+        hosts = kept hosts db after.trees xs.hosts (untouched.hosts (λ same. cc)) h.hosts;
+        addresses = kept addresses db after.trees xs.addresses (untouched.addresses (λ same. cc)) h.addresses;
+        links = kept links db after.trees xs.links (untouched.links (λ same. cc)) h.links;
+        lines = kept lines db after.trees xs.lines (untouched.lines (λ same. cc)) h.lines;
+        messages = kept messages db after.trees xs.messages (untouched.messages (λ same. cc)) h.messages;
         transfers = it.holds;
       };
 }
