@@ -42,9 +42,9 @@ pub(crate) fn new_contact(
         updated: None,
         statuses: Seq::new(alloc),
         secret: new.secret.clone()?,
-        postal: new.postal.copy()?,
         voice: copied(&new.voice)?,
         mail: new.mail.clone()?,
+        postal: new.postal.copy()?,
         transfer: None,
     })
 }

@@ -66,9 +66,9 @@ pub(crate) fn updated_contact(
         updated: Some(moment),
         statuses,
         secret: or_old(&update.secret, &contact.secret)?,
-        postal: or_old_postal(&update.postal, &contact.postal)?,
         voice: or_else(&update.voice, &contact.voice)?,
         mail: or_old(&update.mail, &contact.mail)?,
+        postal: or_old_postal(&update.postal, &contact.postal)?,
         transfer: contact.transfer,
     })
 }
