@@ -4,16 +4,16 @@
     python3 bench/gate.py                    runs rt ci --anew and writes the table of bench/GATE.md; ends as rt ci ends
     python3 bench/gate.py over FILE CRATE..  runs rt ci over those crates (all, where none is named) with what earlier runs kept,
                                              and adds to FILE what each part took; where none is named, writes the table of FILE
-    python3 bench/gate.py functions CRATE..  which functions cost the prover most, without tests and with them
+    python3 bench/gate.py functions CRATE..  which functions take the prover most, without tests and with them; libraries must be built
     python3 bench/gate.py plants CRATE..     the counts of rt plant
 
 From the repository's root, with rt on the path, and nothing else running.
 """
+import contextlib
 import importlib.machinery
 import importlib.util
 import os
 import re
-import resource
 import shutil
 import subprocess
 import sys
@@ -121,16 +121,40 @@ def put(mark, text):
         it.write(f"{before}{first}{text}{end}{after}")
 
 
-def used(pid):
-    try:
-        with open(f"/proc/{pid}/stat") as it:
-            return sum(int(x) for x in it.read().rsplit(")", 1)[1].split()[11:15]) / os.sysconf("SC_CLK_TCK")
-    except OSError:
-        return 0.0
+# Where the prover writes each module of a check from nothing, when it has done it.
+MODULES = "/tmp/rattle-logic-built-locked-{}-0"
+# The modules of a function.
+PARTS = r"(\.(Lts|Given|View|Proof|Tie|Goals|Answers|Met|Layout|Code|Mir|Invariants|Statement|Symbol|Kinds|TheLinks|decls))+$"
+
+
+def module_times(pid, is_over):
+    """When each module was written by the prover of this number, until it is over: its name and the time."""
+    found = {}
+    while True:
+        last = is_over()
+        with contextlib.suppress(FileNotFoundError), os.scandir(MODULES.format(pid)) as folder:
+            for it in folder:
+                if it.name.endswith(".oantt") and it.name not in found:
+                    with contextlib.suppress(FileNotFoundError):
+                        found[it.name] = it.stat().st_mtime
+        if last:
+            return found
+        time.sleep(0.3)
+
+
+def by_function(crate, times, began):
+    """The seconds of each function, which are those of its modules, and of each other module; a module's are those since the
+    one before it was written."""
+    spent, last = {}, began
+    for name, at in sorted(times.items(), key=lambda it: it[1]):
+        what = re.sub(PARTS, "", name.removesuffix(".oantt").removeprefix(f"Rattle-{crate}-").removeprefix("proofs."))
+        spent[what] = spent.get(what, 0) + at - last
+        last = at
+    return spent
 
 
 def functions(names):
-    """Checks each crate from nothing, one job, and lists the functions that cost most."""
+    """Checks each crate from nothing, one job, and lists the functions, and the lemmas' modules, that take most."""
     rtlib = module("rtlib", os.path.join(os.path.dirname(RT), "rtlib.py"))
     crates = {it.name: it for it in rtlib.crates_below(os.getcwd())}
     for name in names:
@@ -138,21 +162,12 @@ def functions(names):
             crate = crates[name]
             if tests and not crate.has_tests():
                 continue
-            words = [rtlib.RATTLE, "check", *crate.words(["--jobs", "1"], tests=tests, keeps=False), "--progress"]
-            before = resource.getrusage(resource.RUSAGE_CHILDREN)
-            ran = subprocess.Popen(words, cwd=crate.folder, stdin=subprocess.DEVNULL, stdout=subprocess.PIPE, stderr=subprocess.STDOUT, text=True, errors="replace")
-            rows, last = [], None
-            for line in ran.stdout:
-                at = re.match(r"checked (\S+), \d+ of", line)
-                if at:
-                    now = used(ran.pid)
-                    rows += [(now - last, at[1])] if last is not None else []
-                    last = now
-            ran.wait()
-            after = resource.getrusage(resource.RUSAGE_CHILDREN)
-            whole = after.ru_utime + after.ru_stime - before.ru_utime - before.ru_stime
-            print(f"{name}{' with its tests' if tests else ''}: {whole:.0f} s")
-            for seconds, what in sorted(rows, reverse=True)[:8]:
+            words = [rtlib.RATTLE, "check", *crate.words(["--jobs", "1"], tests=tests, keeps=False)]
+            began = time.time()
+            ran = subprocess.Popen(words, cwd=crate.folder, stdin=subprocess.DEVNULL, stdout=subprocess.DEVNULL, stderr=subprocess.DEVNULL)
+            spent = by_function(name, module_times(ran.pid, lambda: ran.poll() is not None), began)
+            print(f"{name}{' with its tests' if tests else ''}: {time.time() - began:.0f} s")
+            for what, seconds in sorted(spent.items(), key=lambda it: -it[1])[:12]:
                 if seconds >= 5:
                     print(f"  {seconds:5.1f}  {what}")
 

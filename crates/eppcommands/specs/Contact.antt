@@ -44,10 +44,10 @@ info_contact d = do
 unfoldable pub create_contact : Data → Result Request FormFault
 create_contact d = do
   name ← text_at Top members.Name d
-  postal ← postal_at Postal d
   voice ← maybe_text_at Top members.Voice d
   mail ← text_at Top members.Mail d
   secret ← text_at Top members.Secret d
+  postal ← postal_at Postal d
   Ok (CreateContact (record { name = name; postal = postal; voice = voice; mail = mail; secret = secret }))
 
 unfoldable pub delete_contact : Data → Result Request FormFault
@@ -58,12 +58,12 @@ delete_contact d = do
 unfoldable pub update_contact : Data → Result Request FormFault
 update_contact d = do
   name ← text_at Top members.Name d
-  add ← statuses_at Contact Add members.Statuses d
-  rem ← statuses_at Contact Rem members.Statuses d
-  postal ← maybe_postal_at ChgPostal d
   voice ← maybe_text_at Chg members.Voice d
   mail ← maybe_text_at Chg members.Mail d
   secret ← maybe_text_at Chg members.Secret d
+  add ← statuses_at Contact Add members.Statuses d
+  rem ← statuses_at Contact Rem members.Statuses d
+  postal ← maybe_postal_at ChgPostal d
   Ok (UpdateContact (record { name = name; add = add; rem = rem; postal = postal; voice = voice; mail = mail; secret = secret }))
 
 unfoldable pub transfer_contact : TransferOp → Data → Result Request FormFault

@@ -29,10 +29,10 @@ create_domain d = do
   name ← name_at Top members.Name d
   years ← years_at Top members.Years d
   registrant ← text_at Top members.Registrant d
+  secret ← text_at Top members.Secret d
   admin ← texts_at Top members.Admin d
   tech ← texts_at Top members.Tech d
   hosts ← names_at Top members.Hosts d
-  secret ← text_at Top members.Secret d
   Ok (CreateDomain (record { name = name; years = years; registrant = registrant; admin = admin; tech = tech; hosts = hosts; secret = secret }))
 
 unfoldable pub delete_domain : Data → Result Request FormFault
@@ -52,10 +52,10 @@ lists_of_domain section d = do
 unfoldable pub update_domain : Data → Result Request FormFault
 update_domain d = do
   name ← name_at Top members.Name d
-  add ← lists_of_domain Add d
-  rem ← lists_of_domain Rem d
   registrant ← maybe_text_at Chg members.Registrant d
   secret ← maybe_text_at Chg members.Secret d
+  add ← lists_of_domain Add d
+  rem ← lists_of_domain Rem d
   Ok (UpdateDomain (record { name = name; add = add; rem = rem; registrant = registrant; secret = secret }))
 
 unfoldable pub renew_domain : Data → Result Request FormFault

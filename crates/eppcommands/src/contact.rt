@@ -33,10 +33,10 @@ pub fn create_contact(alloc: Global, value: &Value) -> Result<Request, Fault>
     ensures { Gives result (spec.create_contact (view value.now)) }
 {
     let name = text_at(alloc, Top, Member::Name, value)?;
-    let postal = postal_at(alloc, Section::Postal, value)?;
     let voice = maybe_text_at(alloc, Top, Member::Voice, value)?;
     let mail = text_at(alloc, Top, Member::Mail, value)?;
     let secret = text_at(alloc, Top, Member::Secret, value)?;
+    let postal = postal_at(alloc, Section::Postal, value)?;
     Ok(Request::CreateContact(NewContact {
         name,
         postal,
@@ -60,12 +60,12 @@ pub fn update_contact(alloc: Global, value: &Value) -> Result<Request, Fault>
 {
     let name = text_at(alloc, Top, Member::Name, value)?;
     let kind = ObjectKind::Contact;
-    let add = statuses_at(alloc, kind, Add, Member::Statuses, value)?;
-    let rem = statuses_at(alloc, kind, Rem, Member::Statuses, value)?;
-    let postal = maybe_postal_at(alloc, ChgPostal, value)?;
     let voice = maybe_text_at(alloc, Chg, Member::Voice, value)?;
     let mail = maybe_text_at(alloc, Chg, Member::Mail, value)?;
     let secret = maybe_text_at(alloc, Chg, Member::Secret, value)?;
+    let add = statuses_at(alloc, kind, Add, Member::Statuses, value)?;
+    let rem = statuses_at(alloc, kind, Rem, Member::Statuses, value)?;
+    let postal = maybe_postal_at(alloc, ChgPostal, value)?;
     Ok(Request::UpdateContact(ContactUpdate {
         name,
         add,

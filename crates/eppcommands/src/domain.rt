@@ -38,10 +38,10 @@ pub fn create_domain(alloc: Global, value: &Value) -> Result<Request, Fault>
     let name = name_at(alloc, Top, Member::Name, value)?;
     let years = years_at(Top, Member::Years, value)?;
     let registrant = text_at(alloc, Top, Member::Registrant, value)?;
+    let secret = text_at(alloc, Top, Member::Secret, value)?;
     let admin = texts_at(alloc, Top, Member::Admin, value)?;
     let tech = texts_at(alloc, Top, Member::Tech, value)?;
     let hosts = names_at(alloc, Top, Member::Hosts, value)?;
-    let secret = text_at(alloc, Top, Member::Secret, value)?;
     Ok(Request::CreateDomain(NewDomain {
         name,
         years,
@@ -66,10 +66,10 @@ pub fn update_domain(alloc: Global, value: &Value) -> Result<Request, Fault>
     ensures { Gives result (spec.update_domain (view value.now)) }
 {
     let name = name_at(alloc, Top, Member::Name, value)?;
-    let add = lists_of_domain(alloc, Add, value)?;
-    let rem = lists_of_domain(alloc, Rem, value)?;
     let registrant = maybe_text_at(alloc, Chg, Member::Registrant, value)?;
     let secret = maybe_text_at(alloc, Chg, Member::Secret, value)?;
+    let add = lists_of_domain(alloc, Add, value)?;
+    let rem = lists_of_domain(alloc, Rem, value)?;
     Ok(Request::UpdateDomain(DomainUpdate {
         name,
         add,

@@ -1,10 +1,12 @@
 //! The changes of a registry.
+ghost use Rattle.std.specs.Prelude.{◌≡◌, ◌∷◌, [], IfOk};
 
 use basis::registrar::RegistrarNo;
 use basis::text::Text;
 use calendar::Moment;
 use lifecycle::AccountChange;
 use objects::{Contact as ContactRecord, Domain as DomainRecord, Host as HostRecord};
+use std::alloc::{AllocError, Global};
 
 /// One change of the registry. It has a value for the object that a command names, and is an
 /// operation on everything else.
@@ -34,4 +36,11 @@ pub enum Change {
     OpenAccount(RegistrarNo),
     /// The registrar's account is changed.
     Give(RegistrarNo, AccountChange),
+}
+
+/// One change and no other.
+pub(crate) fn only(alloc: Global, change: Change) -> Result<Vec<Change>, AllocError>
+    ensures { IfOk result (λ changes. changes.items ≡ change ∷ []) }
+{
+    Ok(vec![in alloc; change]?)
 }

@@ -4,7 +4,7 @@ ghost use Rattle.std.specs.Option.{option_copied};
 ghost use Rattle.rules.specs.Decisions as spec;
 ghost use Rattle.verdict.specs.Deletion.{goes_at_once};
 
-use crate::change::Change;
+use crate::change::{Change, only};
 use crate::charge::charge;
 use crate::created::{new_contact, new_domain, new_host, new_roid};
 use crate::transfers::{transfer_contact, transfer_domain};
@@ -22,7 +22,9 @@ use lifecycle::{AccountChange, RunningRefund};
 use names::{GivenName, Zone};
 use objects::{Contact, ContactFace, Domain, DomainFace, FullDomain, Host, ObjectKind, Seen};
 use policy::Policy;
-use protocol::{Code, Command, ContactUpdate, DomainUpdate, HostUpdate, Request};
+use protocol::{
+    Code, Command, ContactUpdate, DomainUpdate, HostUpdate, NewContact, NewDomain, NewHost, Request,
+};
 use std::alloc::{AllocError, Global};
 use verdict::{Verdict, goes_at_once, judge};
 
@@ -132,29 +134,18 @@ fn accept(
     ensures { IfOk result (λ changes. changes.items ≡ spec.changes_of policy.now caller moment request.now facts.now) }
 {
     match request {
-        Request::CreateContact(new) => {
-            let contact = new_contact(alloc, facts, caller, new, moment)?;
-            created(alloc, caller, Change::PutContact(contact))
-        }
+        Request::CreateContact(new) => create_contact(alloc, facts, caller, new, moment),
         Request::CreateDomain(new) => {
-            let domain = new_domain(alloc, facts, caller, new, moment)?;
-            create_domain(alloc, facts, caller, request, domain, moment, policy)
+            create_domain(alloc, facts, caller, request, new, moment, policy)
         }
         Request::CreateHost(new) => {
-            let host = new_host(alloc, facts, caller, new, moment, policy.zone())?;
-            created(alloc, caller, Change::PutHost(host))
+            create_host(alloc, facts, caller, new, moment, policy.zone())
         }
-        Request::DeleteContact { name } => {
-            let change = Change::DropContact(name.clone()?);
-            Ok(vec![in alloc; change]?)
-        }
+        Request::DeleteContact { name } => only(alloc, Change::DropContact(name.clone()?)),
         Request::DeleteDomain { name } => {
             delete_domain(alloc, caller, facts.domain(name.text()), moment)
         }
-        Request::DeleteHost { name } => {
-            let change = Change::DropHost(name.text().clone()?);
-            Ok(vec![in alloc; change]?)
-        }
+        Request::DeleteHost { name } => only(alloc, Change::DropHost(name.text().clone()?)),
         Request::UpdateContact(update) => {
             update_contact(alloc, update, facts.contact_seen(&update.name), moment)
         }
@@ -212,11 +203,37 @@ fn accept(
             policy,
         ),
         Request::PollAck { id } => {
-            let change = Change::Give(caller, AccountChange::Ack(id.clone()?));
-            Ok(vec![in alloc; change]?)
+            only(alloc, Change::Give(caller, AccountChange::Ack(id.clone()?)))
         }
         _ => Ok(Vec::new(alloc)),
     }
+}
+
+fn create_contact(
+    alloc: Global,
+    facts: &Facts,
+    caller: RegistrarNo,
+    new: &NewContact,
+    moment: Moment,
+) -> Result<Vec<Change>, AllocError>
+    ensures { IfOk result (λ changes. changes.items ≡ Change.PutContact (spec.new_contact caller moment facts.now new.now) ∷ Change.Give caller AccountChange.TakeSerial ∷ []) }
+{
+    let contact = new_contact(alloc, facts, caller, new, moment)?;
+    created(alloc, caller, Change::PutContact(contact))
+}
+
+fn create_host(
+    alloc: Global,
+    facts: &Facts,
+    caller: RegistrarNo,
+    new: &NewHost,
+    moment: Moment,
+    zone: &Zone,
+) -> Result<Vec<Change>, AllocError>
+    ensures { IfOk result (λ changes. changes.items ≡ Change.PutHost (spec.new_host zone.now caller moment facts.now new.now) ∷ Change.Give caller AccountChange.TakeSerial ∷ []) }
+{
+    let host = new_host(alloc, facts, caller, new, moment, zone)?;
+    created(alloc, caller, Change::PutHost(host))
 }
 
 /// A new object takes its creator's next number.
@@ -232,13 +249,14 @@ fn create_domain(
     facts: &Facts,
     caller: RegistrarNo,
     request: &Request,
-    domain: Domain,
+    new: &NewDomain,
     moment: Moment,
     policy: &Policy,
 ) -> Result<Vec<Change>, AllocError>
-    ensures { IfOk result (λ changes. changes.items ≡ Change.PutDomain domain ∷ Change.Give caller AccountChange.TakeSerial ∷ spec.charge LineKind.Create policy.now caller moment (spec.new_roid ObjectKind.Domain caller facts.now) request.now facts.now ∷ []) }
+    ensures { IfOk result (λ changes. changes.items ≡ Change.PutDomain (spec.new_domain caller moment facts.now new.now) ∷ Change.Give caller AccountChange.TakeSerial ∷ spec.charge LineKind.Create policy.now caller moment (spec.new_roid ObjectKind.Domain caller facts.now) request.now facts.now ∷ []) }
 {
     let roid = new_roid(ObjectKind::Domain, facts, caller);
+    let domain = new_domain(alloc, facts, caller, new, moment)?;
     Ok(vec![in alloc;
         Change::PutDomain(domain),
         Change::Give(caller, AccountChange::TakeSerial),
@@ -329,7 +347,7 @@ fn request_restore(
     match seen {
         Some(Seen::Full(known)) => {
             let restoring = restoring_domain(&known.domain, moment)?;
-            Ok(vec![in alloc; Change::PutDomain(restoring)]?)
+            only(alloc, Change::PutDomain(restoring))
         }
         _ => Ok(Vec::new(alloc)),
     }
@@ -376,7 +394,7 @@ fn update_contact(
     match seen {
         Some(Seen::Full(contact)) => {
             let contact = updated_contact(alloc, update, contact, moment)?;
-            Ok(vec![in alloc; Change::PutContact(contact)]?)
+            only(alloc, Change::PutContact(contact))
         }
         _ => Ok(Vec::new(alloc)),
     }
@@ -393,7 +411,7 @@ fn update_domain(
     match seen {
         Some(Seen::Full(known)) => {
             let domain = updated_domain(alloc, update, &known.domain, moment)?;
-            Ok(vec![in alloc; Change::PutDomain(domain)]?)
+            only(alloc, Change::PutDomain(domain))
         }
         _ => Ok(Vec::new(alloc)),
     }
@@ -426,7 +444,7 @@ fn put_host(
     ensures { IfOk result (λ changes. changes.items ≡ spec.renaming old.now host (option_copied new_name.entry)) }
 {
     let Some(new) = new_name else {
-        return Ok(vec![in alloc; Change::PutHost(host)]?);
+        return only(alloc, Change::PutHost(host));
     };
     let (dropped, from, to) = (old.clone()?, old.clone()?, new.text().clone()?);
     Ok(vec![in alloc;

@@ -3,7 +3,7 @@ ghost use Rattle.std.specs.Prelude.{◌≡◌, ◌≤◌, ◌∷◌, [], IfOk, I
 ghost use Rattle.rules.specs.Orders as spec;
 ghost use Rattle.verdict.specs.Orders.{order_code};
 
-use crate::change::Change;
+use crate::change::{Change, only};
 use accounts::{Line, LineKind};
 use basis::list::Seq;
 use basis::text::Text;
@@ -46,12 +46,13 @@ fn changes_after(
 ) -> Result<Vec<Change>, AllocError>
     ensures { IfOk result (λ changes. changes.items ≡ (spec.decided_order order.now object answered).changes) }
 {
+    if !answered.is_accepted() {
+        drop(object);
+        return Ok(Vec::new(alloc));
+    }
     match object {
-        Some(object) if answered.is_accepted() => {
-            let put = put_ordered(alloc, order, object)?;
-            Ok(vec![in alloc; put]?)
-        }
-        _ => Ok(Vec::new(alloc)),
+        None => Ok(Vec::new(alloc)),
+        Some(object) => only(alloc, put_ordered(alloc, order, object)?),
     }
 }
 
@@ -145,7 +146,7 @@ pub fn decide_deposit(
     let change = Change::Give(registrar, AccountChange::Charge(line));
     Ok(OrderDecision {
         code: Code::Completed,
-        changes: Seq::from_vec(vec![in alloc; change]?),
+        changes: Seq::from_vec(only(alloc, change)?),
     })
 }
 
