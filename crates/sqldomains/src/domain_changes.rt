@@ -28,10 +28,23 @@ pub fn put_domain<S: Alter>(
     requires { store.old.is_open ≡ true }
     ensures { Turns result (IsDomainPut name (Some domain) (Some due)) store.old store.new }
 {
+    put_named(store, alloc, &name, &domain, due)
+}
+
+fn put_named<S: Alter>(
+    store: &mut RowStore<S>,
+    alloc: Global,
+    name: &Text,
+    domain: &Domain,
+    due: Moment,
+) -> Result<(), BookFault>
+    requires { store.old.is_open ≡ true }
+    ensures { Turns result (IsDomainPut name.now (Some domain.now) (Some due)) store.old store.new }
+{
     if domain.name.as_str() != name.as_str() {
         return Err(BookFault::Store);
     }
-    put(store, alloc, &domain, due)
+    put(store, alloc, domain, due)
 }
 
 /// The domain stands under its name.

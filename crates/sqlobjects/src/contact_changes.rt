@@ -23,10 +23,22 @@ pub fn put_contact<S: Alter>(
     requires { store.old.is_open ≡ true }
     ensures { Turns result (IsContactPut name (Some contact)) store.old store.new }
 {
+    put_named(store, alloc, &name, &contact)
+}
+
+fn put_named<S: Alter>(
+    store: &mut RowStore<S>,
+    alloc: Global,
+    name: &Text,
+    contact: &Contact,
+) -> Result<(), BookFault>
+    requires { store.old.is_open ≡ true }
+    ensures { Turns result (IsContactPut name.now (Some contact.now)) store.old store.new }
+{
     if contact.name.as_str() != name.as_str() {
         return Err(BookFault::Store);
     }
-    put(store, alloc, &contact)
+    put(store, alloc, contact)
 }
 
 /// The contact stands under its name. One that wouldn't be read back is refused.

@@ -3,8 +3,7 @@ ghost use Rattle.std.specs.Prelude.{◌≡◌, true, false, IfOk, OnOk};
 
 use basis::list::Seq;
 use basis::registrar::RegistrarNo;
-use calendar::Moment;
-use fixtures::{POLICY, new_book, policy_of};
+use fixtures::{POLICY, moment_of, new_book, policy_of};
 use policy::Terms;
 use registry::{OpenFault, Registry};
 use rules::Change;
@@ -68,17 +67,9 @@ fn used_books(rt: HostRuntime) -> Result<(), Fail> {
     Ok(())
 }
 
-/// A moment after the first.
-fn later() -> Result<Moment, Fail> {
-    match Moment::of_secs(1_830_297_600) {
-        Ok(moment) => Ok(moment),
-        Err(_) => Err(Fail::from("range")),
-    }
-}
-
 /// An account and a later clock.
 fn changes(alloc: Global) -> Result<Seq<Change>, Fail> {
-    let later = later()?;
+    let later = moment_of(1_830_297_600)?;
     let mut changes = Seq::new(alloc);
     changes.push(Change::OpenAccount(RegistrarNo::of_place(1)))?;
     changes.push(Change::MoveClock(later))?;

@@ -2,8 +2,7 @@
 //! is ample.
 
 use basis::text::Text;
-use calendar::Moment;
-use fixtures::registry_of;
+use fixtures::{moment_of, registry_of};
 use names::{DomainName, HostName};
 use registry::Registry;
 use std::alloc::Global;
@@ -11,14 +10,12 @@ use std::process::Abort;
 use std::test::Fail;
 use store::Book;
 
-fn moment() -> Result<Moment, Fail> {
-    let moment = Moment::of_secs(1_861_920_000).map_err(|_| "range")?;
-    Ok(moment)
-}
+/// A moment of 2029, in seconds since 1970-01-01T00:00:00Z.
+const IN_2029: i64 = 1_861_920_000;
 
 /// Whether the look-up of a domain that isn't there succeeds.
 fn has_no_domain<B: Book + Drop>(alloc: Global, registry: &mut Registry<B>) -> Result<bool, Fail> {
-    let moment = moment()?;
+    let moment = moment_of(IN_2029)?;
     let Ok(name) = DomainName::read(alloc, "foo.test", registry.policy().zone()) else {
         return Err(Fail::from("no name"));
     };
@@ -30,7 +27,7 @@ fn has_no_domain<B: Book + Drop>(alloc: Global, registry: &mut Registry<B>) -> R
 
 /// Whether the look-up of a host that isn't there succeeds.
 fn has_no_host<B: Book + Drop>(alloc: Global, registry: &mut Registry<B>) -> Result<bool, Fail> {
-    let moment = moment()?;
+    let moment = moment_of(IN_2029)?;
     let Ok(name) = HostName::read(alloc, "ns1.example.net", registry.policy().zone()) else {
         return Err(Fail::from("no name"));
     };
@@ -42,7 +39,7 @@ fn has_no_host<B: Book + Drop>(alloc: Global, registry: &mut Registry<B>) -> Res
 
 /// Whether the look-up of a contact that isn't there succeeds.
 fn has_no_contact<B: Book + Drop>(alloc: Global, registry: &mut Registry<B>) -> Result<bool, Fail> {
-    let moment = moment()?;
+    let moment = moment_of(IN_2029)?;
     let name = Text::from_str(alloc, "c-alfa")?;
     match registry.contact_face(&name, moment) {
         Ok(face) => Ok(face.is_none()),
@@ -55,7 +52,7 @@ fn has_an_empty_zone<B: Book + Drop>(
     alloc: Global,
     registry: &mut Registry<B>,
 ) -> Result<bool, Fail> {
-    let moment = moment()?;
+    let moment = moment_of(IN_2029)?;
     let name = Text::from_str(alloc, "foo.test")?;
     let Ok(names) = registry.domain_names(moment) else {
         return Ok(false);

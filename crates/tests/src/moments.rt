@@ -1,5 +1,6 @@
 //! Sums of moments and years, and texts.
 use calendar::{Moment, Range};
+use fixtures::moment_of;
 use std::alloc::{AllocError, Global};
 use std::test::Fail;
 
@@ -91,7 +92,7 @@ fn reads_texts(rt: HostRuntime) {
 
 #[test]
 fn writes_dates(rt: HostRuntime) -> Result<(), Fail> {
-    let leap = Moment::of_secs(1_835_395_200).map_err(|_| "range")?;
+    let leap = moment_of(1_835_395_200)?;
     assert_eq!(rt; leap.date_text(rt.alloc())?.as_str(), "2028-02-29");
     Ok(())
 }
