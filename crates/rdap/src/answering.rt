@@ -14,7 +14,6 @@ use crate::wire::{Outcome, answer_without_object, response};
 use basis::text::Text;
 use names::{DomainName, HostName, NameFault};
 use objects::{ContactFace, DomainFace, HostFace};
-use policy::Policy;
 use std::alloc::{AllocError, Global};
 
 /// Answers the head that the bytes begin with. Bytes that begin with none are a bad request, also
@@ -65,7 +64,7 @@ fn answer_domain<F: FaceSource>(
     match DomainName::read(alloc, name.as_str(), source.policy().zone()) {
         Ok(name) => {
             let face = source.domain(&name)?;
-            Ok(domain_told(alloc, source.policy(), &name, &face)?)
+            domain_told(alloc, &*source, &name, &face)
         }
         Err(fault) => Ok(answer_fault(alloc, fault)?),
     }
@@ -82,19 +81,19 @@ fn answer_fault(alloc: Global, fault: NameFault) -> Result<Vec<u8>, AllocError>
     }
 }
 
-fn domain_told(
+fn domain_told<F: FaceSource>(
     alloc: Global,
-    policy: &Policy,
+    source: &F,
     name: &DomainName,
     face: &Option<DomainFace>,
-) -> Result<Vec<u8>, AllocError>
-    ensures { IfOk result (λ bytes. bytes.items ≡ told (option_map (domain_text policy.now name.now) face.now)) }
+) -> Result<Vec<u8>, F::Fault>
+    ensures { IfOk result (λ bytes. bytes.items ≡ told (option_map (domain_text (F.rules source.now) name.now) face.now)) }
 {
     let Some(face) = face else {
-        return answer_without_object(alloc, Outcome::NotFound);
+        return Ok(answer_without_object(alloc, Outcome::NotFound)?);
     };
-    let body = domain_body(alloc, policy, name, face)?;
-    response(alloc, Outcome::Found, &body)
+    let body = domain_body(alloc, source.policy(), name, face)?;
+    Ok(response(alloc, Outcome::Found, &body)?)
 }
 
 fn answer_nameserver<F: FaceSource>(

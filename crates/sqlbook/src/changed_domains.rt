@@ -4,7 +4,7 @@ ghost use Rattle.store.specs.Tables as tables;
 ghost use Rattle.meanings.specs.Calls.{Turns};
 ghost use Rattle.transactions.specs.States.{Meets};
 ghost use Rattle.sqlbook.specs.Meaning.{are_right, stored_of};
-ghost use Rattle.sqlbook.specs.Replacing.{IsExchanged, IsExchangedThere, IsReplaced, IsStanding, due_with};
+ghost use Rattle.sqlbook.specs.Replacing.{IsExchanged, IsExchangedThere, IsReplaced, IsStanding, due_with, with_renamed};
 ghost use Rattle.sqlbook.specs.Seen.{Alters};
 ghost use Rattle.sqldomains.specs.Changes.{IsDomainPut, sponsor_in};
 
@@ -35,7 +35,7 @@ pub fn put_domain<S: Alter>(
     ensures { Alters result stored_of are_right (tables.domain_put name (Some domain) (stored_of store.old.content)) store.old store.new }
 {
     let due = due_for(&domain, policy);
-    replace(store, alloc, name, Some(domain), due, policy)
+    replace(store, alloc, &name, &Some(domain), due, policy)
 }
 
 /// No domain stands under this name.
@@ -48,7 +48,7 @@ pub fn drop_domain<S: Alter>(
     requires { store.old.is_open ≡ true }
     ensures { Alters result stored_of are_right (tables.domain_put name None (stored_of store.old.content)) store.old store.new }
 {
-    replace(store, alloc, name, None, Moment::first(), policy)
+    replace(store, alloc, &name, &None, Moment::first(), policy)
 }
 
 /// The domain that stands under a name, if there is one, names the host of the one name by the other.
@@ -63,12 +63,28 @@ pub fn rename_host<S: Alter>(
     requires { store.old.is_open ≡ true }
     ensures { Alters result stored_of are_right (tables.host_renamed from.now to.now domain.now (stored_of store.old.content)) store.old store.new }
 {
-    let Some(before) = sqldomains::domain(store, alloc, domain)? else {
+    let before = sqldomains::domain(store, alloc, domain)?;
+    put_renamed(store, alloc, domain, &before, from, to, policy)
+}
+
+/// The same, told what stands under the name.
+fn put_renamed<S: Alter>(
+    store: &mut RowStore<S>,
+    alloc: Global,
+    name: &Text,
+    before: &Option<Domain>,
+    from: &Text,
+    to: &Text,
+    policy: &Policy,
+) -> Result<(), BookFault>
+    requires { store.old.is_open ≡ true }
+    ensures { Alters result stored_of are_right (with_renamed from.now to.now name.now before.now (stored_of store.old.content)) store.old store.new }
+{
+    let Some(before) = before else {
         return Ok(());
     };
-    let name = domain.clone()?;
-    let renamed = with_host_renamed(alloc, from, to, &before)?;
-    put_domain(store, alloc, name, renamed, policy)
+    let renamed = with_host_renamed(alloc, from, to, before)?;
+    put_domain(store, alloc, name.clone()?, renamed, policy)
 }
 
 /// The domain that stands under a name, whose row was right, under the days that were put down.
@@ -88,15 +104,15 @@ fn found<S: Alter>(
 fn replace<S: Alter>(
     store: &mut RowStore<S>,
     alloc: Global,
-    name: Text,
-    after: Option<Domain>,
+    name: &Text,
+    after: &Option<Domain>,
     due: Moment,
     policy: &Policy,
 ) -> Result<(), BookFault>
     requires { store.old.is_open ≡ true }
-    ensures { Turns result (IsReplaced name policy.now.days after due) store.old store.new }
+    ensures { Turns result (IsReplaced name.now policy.now.days after.now due) store.old store.new }
 {
-    follow(store, &name, sponsor_of(&after))?;
+    follow(store, name, sponsor_of(after))?;
     exchange_there(store, alloc, name, after, due, policy)?;
     Ok(())
 }
@@ -114,16 +130,16 @@ fn sponsor_of(domain: &Option<Domain>) -> Option<RegistrarNo>
 fn exchange_there<S: Alter>(
     store: &mut RowStore<S>,
     alloc: Global,
-    name: Text,
-    after: Option<Domain>,
+    name: &Text,
+    after: &Option<Domain>,
     due: Moment,
     policy: &Policy,
 ) -> Result<(), BookFault>
     requires { store.old.is_open ≡ true }
-    ensures { Turns result (IsExchangedThere name policy.now.days after due) store.old store.new }
+    ensures { Turns result (IsExchangedThere name.now policy.now.days after.now due) store.old store.new }
 {
     store.whole();
-    let before = found(store, alloc, &name, policy)?;
+    let before = found(store, alloc, name, policy)?;
     exchange(store, alloc, name, &before, after, due)?;
     Ok(())
 }
@@ -132,15 +148,15 @@ fn exchange_there<S: Alter>(
 fn exchange<S: Alter>(
     store: &mut RowStore<S>,
     alloc: Global,
-    name: Text,
+    name: &Text,
     before: &Option<Domain>,
-    after: Option<Domain>,
+    after: &Option<Domain>,
     due: Moment,
 ) -> Result<(), BookFault>
     requires { store.old.is_open ≡ true }
-    ensures { Turns result (IsExchanged name before.now after due) store.old store.new }
+    ensures { Turns result (IsExchanged name.now before.now after.now due) store.old store.new }
 {
-    recount(store, before, &after)?;
+    recount(store, before, after)?;
     put(store, alloc, name, after, due)?;
     Ok(())
 }
@@ -148,12 +164,12 @@ fn exchange<S: Alter>(
 fn put<S: Alter>(
     store: &mut RowStore<S>,
     alloc: Global,
-    name: Text,
-    domain: Option<Domain>,
+    name: &Text,
+    domain: &Option<Domain>,
     due: Moment,
 ) -> Result<(), BookFault>
     requires { store.old.is_open ≡ true }
-    ensures { Turns result (IsDomainPut name domain (due_with domain due)) store.old store.new }
+    ensures { Turns result (IsDomainPut name.now domain.now (due_with domain.now due)) store.old store.new }
 {
     match domain {
         Some(domain) => sqldomains::put_domain(store, alloc, name, domain, due),

@@ -21,19 +21,6 @@ use transactions::BookFault;
 pub fn put_domain<S: Alter>(
     store: &mut RowStore<S>,
     alloc: Global,
-    name: Text,
-    domain: Domain,
-    due: Moment,
-) -> Result<(), BookFault>
-    requires { store.old.is_open ≡ true }
-    ensures { Turns result (IsDomainPut name (Some domain) (Some due)) store.old store.new }
-{
-    put_named(store, alloc, &name, &domain, due)
-}
-
-fn put_named<S: Alter>(
-    store: &mut RowStore<S>,
-    alloc: Global,
     name: &Text,
     domain: &Domain,
     due: Moment,
@@ -84,12 +71,12 @@ fn put_beside<S: Alter>(
 }
 
 /// No domain stands under this name.
-pub fn drop_domain<S: Alter>(store: &mut RowStore<S>, name: Text) -> Result<(), BookFault>
+pub fn drop_domain<S: Alter>(store: &mut RowStore<S>, name: &Text) -> Result<(), BookFault>
     requires { store.old.is_open ≡ true }
-    ensures { Turns result (IsDomainPut name None None) store.old store.new }
+    ensures { Turns result (IsDomainPut name.now None None) store.old store.new }
 {
     store.whole();
-    let row = row_named(store, &name)?;
+    let row = row_named(store, name)?;
     remove_found(store, row)?;
     store.whole();
     Ok(())

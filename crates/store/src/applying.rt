@@ -1,14 +1,15 @@
 //! How changes are made in records.
-ghost use Rattle.std.specs.Prelude.{◌≡◌, ◌∷◌, [], true};
+ghost use Rattle.std.specs.Prelude.{◌≡◌, ◌∷◌, [], true, max, Some};
 ghost use Rattle.rules.specs.declared.change.Change.TheVariants as change;
 ghost use Rattle.store.specs.Book.{with_changes};
 ghost use Rattle.transactions.specs.States.{Makes};
-ghost use Rattle.store.specs.Tables.{contact_left, domain_left, host_renamed_in};
+ghost use Rattle.store.specs.Tables.{clock_set, contact_left, contact_put, domain_left, domain_put, host_renamed_in};
 
 use crate::giving::give;
 use crate::records::Records;
 use basis::list::Seq;
 use basis::text::Text;
+use calendar::Moment;
 use objects::{Contact, Domain};
 use policy::Policy;
 use rules::Change;
@@ -35,21 +36,12 @@ fn make<R: Records>(records: &mut R, change: Change, policy: &Policy) -> Result<
     ensures { Makes result (with_changes policy.now (change ∷ []) (R.kept records.old).content) (R.kept records.old) (R.kept records.new) }
 {
     match change {
-        Change::MoveClock(moment) => {
-            let clock = records.clock()?;
-            records.set_clock(moment.later(clock))
-        }
+        Change::MoveClock(moment) => move_clock(records, moment),
         Change::OpenAccount(registrar) => records.open_account(registrar),
         Change::Give(registrar, what) => give(records, registrar, what, policy),
-        Change::PutContact(contact) => {
-            let name = contact.name.clone()?;
-            records.put_contact(name, contact)
-        }
+        Change::PutContact(contact) => put_contact(records, contact),
         Change::DropContact(name) => records.drop_contact(name),
-        Change::PutDomain(domain) => {
-            let name = domain.name.clone()?;
-            records.put_domain(name, domain, policy)
-        }
+        Change::PutDomain(domain) => put_domain(records, domain, policy),
         Change::DropDomain(name) => records.drop_domain(name, policy),
         Change::PutHost(host) => records.put_host(host),
         Change::DropHost(name) => records.drop_host(name),
@@ -57,6 +49,33 @@ fn make<R: Records>(records: &mut R, change: Change, policy: &Policy) -> Result<
         Change::LapseContact(name, left) => leave_contact(records, name, left),
         Change::LapseDomain(name, left) => leave_domain(records, name, left, policy),
     }
+}
+
+/// The moment was seen.
+fn move_clock<R: Records>(records: &mut R, moment: Moment) -> Result<(), BookFault>
+    requires { (R.kept records.old).is_open ≡ true }
+    ensures { Makes result (clock_set (max moment (R.kept records.old).content.registry.clock) (R.kept records.old).content) (R.kept records.old) (R.kept records.new) }
+{
+    let clock = records.clock()?;
+    records.set_clock(moment.later(clock))
+}
+
+/// The contact stands under its name.
+fn put_contact<R: Records>(records: &mut R, contact: Contact) -> Result<(), BookFault>
+    requires { (R.kept records.old).is_open ≡ true }
+    ensures { Makes result (contact_put contact.name (Some contact) (R.kept records.old).content) (R.kept records.old) (R.kept records.new) }
+{
+    let name = contact.name.clone()?;
+    records.put_contact(name, contact)
+}
+
+/// The domain stands under its name.
+fn put_domain<R: Records>(records: &mut R, domain: Domain, policy: &Policy) -> Result<(), BookFault>
+    requires { (R.kept records.old).is_open ≡ true }
+    ensures { Makes result (domain_put domain.name (Some domain) (R.kept records.old).content) (R.kept records.old) (R.kept records.new) }
+{
+    let name = domain.name.clone()?;
+    records.put_domain(name, domain, policy)
 }
 
 /// What time left of a contact stands under its name.

@@ -48,11 +48,11 @@ pub(crate) fn facts_for<R: Records>(
     let missing = reference_missing(records, command)?;
     let limit = holding_limit_reached(records, caller, command)?;
     let account = account_facts(records, caller, command)?;
-    let queue = queue_facts(records, caller, command)?;
-    let at_new_name = new_name_for(records, command)?;
     let hosts = hosts_for(records, command)?;
     let contacts = contacts_for(records, caller, command, policy)?;
     let domains = domains_for(records, caller, command, policy)?;
+    let at_new_name = new_name_for(records, command)?;
+    let queue = queue_facts(records, caller, command)?;
     Ok(Facts {
         account,
         queue,

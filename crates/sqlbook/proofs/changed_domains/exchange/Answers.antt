@@ -7,6 +7,6 @@ use Rattle.sqlbook.proofs.changed_domains.exchange.Goals as goal
 pub returns : goal.returns
 returns g c =
     let mid = c.recount.new.store in
-    then-became (IsRecounted c.args.before.now c.args.after) (IsDomainPut c.args.name c.args.after (due_with c.args.after c.args.due)) (IsExchanged c.args.name c.args.before.now c.args.after c.args.due)
+    then-became (IsRecounted c.args.before.now c.args.after.now) (IsDomainPut c.args.name.now c.args.after.now (due_with c.args.after.now c.args.due)) (IsExchanged c.args.name.now c.args.before.now c.args.after.now c.args.due)
     c.args.store.now mid c.put.new.store (c.in_ok-recount.ensures {u = tt}) (c.in_ok-put.ensures {u = tt})
     (λ e counted put. record { mid = mid.content; counted = counted; put = put })

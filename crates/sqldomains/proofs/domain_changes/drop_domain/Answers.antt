@@ -12,7 +12,7 @@ returns g c =
     let row = c.in_ok-row.row in
     let asked = c.in_ok-row.ensures in
     let made = c.in_ok-remove_found.ensures {u = tt} in
-    asked-then (IsDomainDropped row) (IsDomainPut c.args.name None None) old c.row_named.new.store new asked.0 made
+    asked-then (IsDomainDropped row) (IsDomainPut c.args.name.now None None) old c.row_named.new.store new asked.0 made
     (λ clean step.
     let before = made.clean clean in
-    dropped old.content new.content c.args.name (c.whole.ensures (asked.0.clean before)) (c.whole-2.ensures clean) row (asked.1 before) step)
+    dropped old.content new.content c.args.name.now (c.whole.ensures (asked.0.clean before)) (c.whole-2.ensures clean) row (asked.1 before) step)

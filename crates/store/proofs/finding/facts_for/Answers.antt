@@ -23,30 +23,30 @@ returns g c =
     let after_contacts = g.R.Records.kept c.contacts_for.new.records in
     let after_domains = g.R.Records.kept c.domains_for.new.records in
     let found =
-    also-found (λ (s : Registry). map (λ name. domain_facts (lookups p r x s) x (name_of name)) (asked [] domains_asked x)) c.in_ok-domains.domains start after_contacts after_domains
+    also-found (λ (s : Registry). queue_asked x (account_of r s)) c.in_ok-queue.queue start after_name after_queue
+    (also-found (λ (s : Registry). option_map (λ name. host_facts_in x s (name_of name)) (asked None new_host_asked x)) c.in_ok-at_new_name.at_new_name start after_domains after_name
+    (also-found (λ (s : Registry). map (λ name. domain_facts (lookups p r x s) x (name_of name)) (asked [] domains_asked x)) c.in_ok-domains.domains start after_contacts after_domains
     (also-found (λ (s : Registry). map (contact_facts (lookups p r x s) x) (asked [] contacts_asked x)) c.in_ok-contacts.contacts start after_hosts after_contacts
-    (also-found (λ (s : Registry). map (λ name. host_facts_in x s (name_of name)) (asked [] hosts_asked x)) c.in_ok-hosts.hosts start after_name after_hosts
-    (also-found (λ (s : Registry). option_map (λ name. host_facts_in x s (name_of name)) (asked None new_host_asked x)) c.in_ok-at_new_name.at_new_name start after_queue after_name
-    (also-found (λ (s : Registry). queue_asked x (account_of r s)) c.in_ok-queue.queue start after_account after_queue
+    (also-found (λ (s : Registry). map (λ name. host_facts_in x s (name_of name)) (asked [] hosts_asked x)) c.in_ok-hosts.hosts start after_account after_hosts
     (also-found (λ (s : Registry). account_facts x (account_of r s)) c.in_ok-account.account start after_limit after_account
     (also-found (λ (s : Registry). asked false adds_a_held_domain x && nat_le HOLDING_LIMIT (held r s)) c.in_ok-limit.limit start after_missing after_limit
     c.in_ok-missing.ensures c.in_ok-limit.ensures)
     c.in_ok-account.ensures)
-    c.in_ok-queue.ensures)
-    c.in_ok-at_new_name.ensures)
     c.in_ok-hosts.ensures)
     c.in_ok-contacts.ensures)
-    c.in_ok-domains.ensures in (
+    c.in_ok-domains.ensures)
+    c.in_ok-at_new_name.ensures)
+    c.in_ok-queue.ensures in (
       found.0,
       λ e.
           let known = found.1 e in
           λ i. record {
             account = known.0.0.0.0.0.1 i;
-            queue = known.0.0.0.0.1 i;
-            contacts = known.0.1 i;
-            domains = known.1 i;
-            hosts = known.0.0.1 i;
-            at_new_name = known.0.0.0.1 i;
+            queue = known.1 i;
+            contacts = known.0.0.0.1 i;
+            domains = known.0.0.1 i;
+            hosts = known.0.0.0.0.1 i;
+            at_new_name = known.0.1 i;
             reference_missing = known.0.0.0.0.0.0.0 i;
             holding_limit_reached = known.0.0.0.0.0.0.1 i;
           },
