@@ -35,7 +35,9 @@ pub(crate) fn answer_registrar<B: Book + Drop>(
     match in_session(alloc, payload) {
         Ok(InSession::Hello) => answer_hello(alloc, registry, moment),
         Ok(InSession::Ordinary(command)) => {
-            answer_command(alloc, registry, caller, &command, moment)
+            let answer = answer_command(alloc, registry, caller, &command, moment);
+            drop(command);
+            answer
         }
         Err(_) => Answer::Failed,
     }
@@ -54,7 +56,11 @@ fn answer_command<B: Book + Drop>(
     ensures policy { registry.new.policy ≡ registry.old.policy }
 {
     match registry.execute(caller, command, moment) {
-        Ok(reply) => told(alloc, &reply),
+        Ok(reply) => {
+            let answer = told(alloc, &reply);
+            drop(reply);
+            answer
+        }
         Err(_) => Answer::Failed,
     }
 }

@@ -22,7 +22,7 @@ use std::io::Write;
 use std::process::ExitCode;
 use std::rt::{Env, Files};
 use std::{env, fs, io, str};
-use transcript::{Transcript, run_transcript};
+use transcript::{Outcome, Transcript, run_transcript};
 
 /// The bytes of a file that a transcript names.
 fn read_named(rt: &(impl Files + AllocGlobal), name: &[u8]) -> Result<Vec<u8>> {
@@ -37,6 +37,13 @@ fn run_one(
     name: &[u8],
     transcript: Transcript<'_>,
 ) -> Result<bool> {
+    let outcome = outcome_of(rt, transcript)?;
+    tell(rt, file, name, &outcome)?;
+    Ok(outcome.differences.is_empty())
+}
+
+/// What running it gives, under its policy and behind its prelude.
+fn outcome_of(rt: &(impl Files + AllocGlobal), transcript: Transcript<'_>) -> Result<Outcome> {
     let alloc = rt.alloc();
     let Some(policy) = transcript.policy() else {
         bail!("a transcript without a policy");
@@ -47,12 +54,16 @@ fn run_one(
         None => Vec::new(alloc),
     };
     let prelude = lines_of(alloc, &before)?;
-    let outcome = run_transcript(alloc, &policy, &prelude, transcript)?;
+    run_transcript(alloc, &policy, &prelude, transcript)
+}
+
+/// Prints what differed, and how many replies were as written.
+fn tell(rt: &impl Print, file: &str, name: &[u8], outcome: &Outcome) -> Result<()> {
     io::writer(rt).write_all(&outcome.differences)?;
     let name = str::from_utf8(name).context("a transcript's name is no text")?;
     let (as_written, replies) = (outcome.as_written, outcome.replies);
     println!(rt; "{file}: {name}: {as_written} of {replies} replies")?;
-    Ok(outcome.differences.is_empty())
+    Ok(())
 }
 
 /// Runs the transcripts of a file, and says whether all is as written.

@@ -10,5 +10,5 @@ returns-in-Ok-clause-answered g c =
       step = h.step;
       isolation = h.isolation;
       bytes = λ clean other same. ap reply_text ((h.isolation clean).same_reply other same);
-      told = c.told.ensures;
+      told = c.told-answer.ensures;
     })
