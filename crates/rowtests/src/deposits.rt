@@ -1,14 +1,15 @@
 //! A deposit that is given alone, in a registry that is open: what is printed, the code that is told, and
 //! alfa's balance afterwards.
 
-use crate::registries::{Rows, new_registry, printed};
+use crate::registries::{new_registry, printed};
 use calendar::Moment;
 use protocol::Code;
-use registry::Fault;
+use registry::{Fault, Registry};
 use script::{Exit, deposit_on};
 use std::alloc::Global;
 use std::process::Abort;
 use std::test::Fail;
+use store::Book;
 
 const COMPLETED: &str = "{\"code\":1000,\"msg\":\"Command completed successfully\"}\n";
 
@@ -42,9 +43,9 @@ const ROWS: &[Row] = &[
 const BALANCE: &str = "2028-01-01T00:00:00Z alfa {\"cmd\":\"balance\"}\n";
 
 /// What a deposit prints, where it tells this code.
-fn deposited(
+fn deposited<B: Book + Drop>(
     alloc: Global,
-    registry: &mut Rows,
+    registry: &mut Registry<B>,
     at: &str,
     (registrar, cents, code, _, _): Row,
 ) -> Result<Option<Vec<u8>>, Fail> {
@@ -60,7 +61,11 @@ fn deposited(
 }
 
 /// Whether alfa is told this balance.
-fn has_balance(alloc: Global, registry: &mut Rows, balance: &str) -> Result<bool, Fail> {
+fn has_balance<B: Book + Drop>(
+    alloc: Global,
+    registry: &mut Registry<B>,
+    balance: &str,
+) -> Result<bool, Fail> {
     let reply = format!(in alloc;
         "{{\"code\":1000,\"data\":{{\"balance\":\"{balance}\"}},\"msg\":\"Command completed successfully\",\"svTRID\":\"alfa-1\"}}\n"
     )?;
@@ -68,30 +73,48 @@ fn has_balance(alloc: Global, registry: &mut Rows, balance: &str) -> Result<bool
     Ok(told.as_slice() == reply.as_bytes())
 }
 
+/// Whether a deposit is answered as its row says, and the balance with it.
+fn is_answered<B: Book + Drop>(
+    alloc: Global,
+    registry: &mut Registry<B>,
+    row: Row,
+) -> Result<bool, Fail> {
+    match deposited(alloc, registry, "2028-01-01T00:00:00Z", row)? {
+        None => Err(Fail::from("too late")),
+        Some(told) if told.as_slice() == row.3.as_bytes() => has_balance(alloc, registry, row.4),
+        Some(_) => Ok(false),
+    }
+}
+
 #[test]
 fn deposits(rt: HostRuntime) -> Result<(), Fail> {
-    let alloc = rt.alloc();
     for row in ROWS.iter().copied() {
-        let mut registry = new_registry(alloc)?;
-        let told = deposited(alloc, &mut registry, "2028-01-01T00:00:00Z", row)?;
-        let Some(told) = told else {
-            return Err(Fail::from("too late"));
-        };
-        assert!(rt; told.as_slice() == row.3.as_bytes());
-        let is_told = has_balance(alloc, &mut registry, row.4)?;
-        assert!(rt; is_told);
+        let mut registry = new_registry(rt.alloc())?;
+        let answered = is_answered(rt.alloc(), &mut registry, row);
+        drop(registry);
+        assert!(rt; answered?);
     }
     Ok(())
+}
+
+/// Whether a deposit is too late, and nothing is changed.
+fn is_too_late<B: Book + Drop>(
+    alloc: Global,
+    registry: &mut Registry<B>,
+    row: Row,
+) -> Result<bool, Fail> {
+    match deposited(alloc, registry, "2100-01-01T00:00:00Z", row)? {
+        None => has_balance(alloc, registry, "0"),
+        Some(_) => Ok(false),
+    }
 }
 
 /// After the last moment nothing is printed, and the registry is as it was.
 #[test]
 fn a_deposit_after_the_last_moment(rt: HostRuntime) -> Result<(), Fail> {
-    let alloc = rt.alloc();
-    let mut registry = new_registry(alloc)?;
-    let told = deposited(alloc, &mut registry, "2100-01-01T00:00:00Z", ROWS[0])?;
-    assert!(rt; told.is_none());
-    let is_told = has_balance(alloc, &mut registry, "0")?;
-    assert!(rt; is_told);
+    let mut registry = new_registry(rt.alloc())?;
+    let late = is_too_late(rt.alloc(), &mut registry, ROWS[0]);
+    drop(registry);
+    assert!(rt; late?);
     Ok(())
 }

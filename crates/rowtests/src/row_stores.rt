@@ -89,7 +89,9 @@ fn keep<S: Alter>(rt: &impl Abort, store: &mut RowStore<S>, alloc: Global) -> Re
 #[test]
 fn keeps_what_is_committed_alone(rt: HostRuntime) -> Result<(), BookFault> {
     let mut store = RowStore::in_memory(rt.alloc())?;
-    keep(&rt, &mut store, rt.alloc())
+    let done = keep(&rt, &mut store, rt.alloc());
+    drop(store);
+    done
 }
 
 fn undo<S: Alter>(rt: &impl Abort, store: &mut RowStore<S>) -> Result<(), BookFault>
@@ -104,7 +106,9 @@ fn undo<S: Alter>(rt: &impl Abort, store: &mut RowStore<S>) -> Result<(), BookFa
 #[test]
 fn holds_nothing_once_its_first_transaction_is_undone(rt: HostRuntime) -> Result<(), BookFault> {
     let mut store = RowStore::in_memory(rt.alloc())?;
-    undo(&rt, &mut store)
+    let done = undo(&rt, &mut store);
+    drop(store);
+    done
 }
 
 // ---- what a database is
@@ -144,7 +148,10 @@ fn adopted(
     let mut conn = Connection::open_in_memory(alloc)?;
     match make(&mut conn, has_tables, texts) {
         Ok(()) => RowStore::adopt(conn, alloc),
-        Err(_) => Err(BookFault::Store),
+        Err(_) => {
+            drop(conn);
+            Err(BookFault::Store)
+        }
     }
 }
 

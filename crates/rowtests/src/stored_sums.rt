@@ -3,10 +3,12 @@
 //! and when a domain is due. What they have to be is worked out by hand.
 
 use crate::registries::{new_registry, printed};
-use sqlite::MemStore;
+use registry::Registry;
+use sqlite::{Alter, MemStore};
 use std::alloc::Global;
 use std::process::Abort;
 use std::test::Fail;
+use store::{Book, BookFault};
 use tables::{AccountRow, DomainRow, HostRow, RowStore, balance_of_bytes};
 
 /// `waiting`, `balance` and `held` of the account of a number.
@@ -126,13 +128,28 @@ const CASES: &[Case] = &[
     REJECTED,
 ];
 
+/// Runs a case's script.
+fn run_case<B: Book + Drop>(
+    alloc: Global,
+    registry: &mut Registry<B>,
+    case: &Case,
+) -> Result<(), Fail> {
+    printed(alloc, registry, case.deposit)?;
+    printed(alloc, registry, BEGINNING)?;
+    printed(alloc, registry, case.lines)?;
+    Ok(())
+}
+
 /// The rows after a case's script.
 fn rows_after(alloc: Global, case: &Case) -> Result<RowStore<MemStore>, Fail> {
     let mut registry = new_registry(alloc)?;
-    printed(alloc, &mut registry, case.deposit)?;
-    printed(alloc, &mut registry, BEGINNING)?;
-    printed(alloc, &mut registry, case.lines)?;
-    Ok(registry.into_book().into_records().into_rows())
+    match run_case(alloc, &mut registry, case) {
+        Ok(()) => Ok(registry.into_book().into_records().into_rows()),
+        Err(fail) => {
+            drop(registry);
+            Err(fail)
+        }
+    }
 }
 
 fn are_accounts(rows: &[AccountRow], accounts: &[Account]) -> bool {
@@ -158,16 +175,28 @@ fn are_hosts(rows: &[HostRow], hosts: &[Host]) -> bool {
             && row.sponsor == *sponsor)
 }
 
+/// Compares the rows with those of a case.
+fn compare<S: Alter>(
+    rt: &impl Abort,
+    rows: &mut RowStore<S>,
+    case: &Case,
+) -> Result<(), BookFault> {
+    let accounts = rows.all_accounts()?;
+    assert!(rt; are_accounts(accounts.as_slice(), case.accounts));
+    let domains = rows.all_domains()?;
+    assert!(rt; are_domains(domains.as_slice(), case.domains));
+    let hosts = rows.all_hosts()?;
+    assert!(rt; are_hosts(hosts.as_slice(), case.hosts));
+    Ok(())
+}
+
 #[test]
 fn columns_are_sums(rt: HostRuntime) -> Result<(), Fail> {
     for case in CASES {
         let mut rows = rows_after(rt.alloc(), case)?;
-        let accounts = rows.all_accounts()?;
-        assert!(rt; are_accounts(accounts.as_slice(), case.accounts));
-        let domains = rows.all_domains()?;
-        assert!(rt; are_domains(domains.as_slice(), case.domains));
-        let hosts = rows.all_hosts()?;
-        assert!(rt; are_hosts(hosts.as_slice(), case.hosts));
+        let compared = compare(&rt, &mut rows, case);
+        drop(rows);
+        compared?;
     }
     Ok(())
 }

@@ -52,8 +52,14 @@ fn fault_of<B: Book + Drop>(
     let policy = policy_of(alloc, later)?;
     let book = used_under(alloc, book, earlier)?;
     match Registry::open(alloc, book, policy) {
-        Ok(_) => Ok(None),
-        Err((fault, _)) => Ok(Some(fault)),
+        Ok(registry) => {
+            drop(registry);
+            Ok(None)
+        }
+        Err((fault, book)) => {
+            drop(book);
+            Ok(Some(fault))
+        }
     }
 }
 

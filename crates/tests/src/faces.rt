@@ -69,19 +69,20 @@ fn has_an_empty_zone<B: Book + Drop>(
 /// Nothing is found in a registry that is new.
 fn finds_nothing<B: Book + Drop>(
     rt: &(impl Abort + AllocGlobal),
-    registry: Registry<B>,
+    registry: &mut Registry<B>,
 ) -> Result<(), Fail> {
     let alloc = rt.alloc();
-    let mut registry = registry;
-    assert!(rt; has_no_domain(alloc, &mut registry)?);
-    assert!(rt; has_no_host(alloc, &mut registry)?);
-    assert!(rt; has_no_contact(alloc, &mut registry)?);
-    assert!(rt; has_an_empty_zone(alloc, &mut registry)?);
+    assert!(rt; has_no_domain(alloc, registry)?);
+    assert!(rt; has_no_host(alloc, registry)?);
+    assert!(rt; has_no_contact(alloc, registry)?);
+    assert!(rt; has_an_empty_zone(alloc, registry)?);
     Ok(())
 }
 
 #[test]
 fn of_a_new_registry(rt: HostRuntime) -> Result<(), Fail> {
-    let registry = registry_of(rt.alloc())?;
-    finds_nothing(&rt, registry)
+    let mut registry = registry_of(rt.alloc())?;
+    let found = finds_nothing(&rt, &mut registry);
+    drop(registry);
+    found
 }

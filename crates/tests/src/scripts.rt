@@ -168,25 +168,26 @@ fn lines(rt: HostRuntime) -> Result<(), Fail> {
 /// A script goes on in the registry that the one before it left, also one that stopped.
 fn goes_on<B: Book + Drop>(
     rt: &(impl Abort + AllocGlobal),
-    registry: Registry<B>,
+    registry: &mut Registry<B>,
 ) -> Result<(), Fail> {
     let alloc = rt.alloc();
-    let mut registry = registry;
     let mut output = Vec::new(alloc);
-    let first = run_on(alloc, &mut registry, LINE, &mut output);
+    let first = run_on(alloc, registry, LINE, &mut output);
     assert!(rt; matches!(first, Exit::Done) && output.as_slice() == REPLY);
-    let stopped = run_on(alloc, &mut registry, b"?".as_slice(), &mut output);
+    let stopped = run_on(alloc, registry, b"?".as_slice(), &mut output);
     assert!(rt; matches!(stopped, Exit::Script(1)) && output.as_slice() == REPLY);
     output.clear();
-    let next = run_on(alloc, &mut registry, LINE, &mut output);
+    let next = run_on(alloc, registry, LINE, &mut output);
     assert!(rt; matches!(next, Exit::Done) && output.ends_with(b"\"alfa-2\"}\n"));
     Ok(())
 }
 
 #[test]
 fn scripts_in_a_row(rt: HostRuntime) -> Result<(), Fail> {
-    let registry = registry_of(rt.alloc())?;
-    goes_on(&rt, registry)
+    let mut registry = registry_of(rt.alloc())?;
+    let done = goes_on(&rt, &mut registry);
+    drop(registry);
+    done
 }
 
 /// A payload of more than 65,536 bytes is one command.

@@ -79,7 +79,9 @@ fn zone<B: Book + Drop>(
     moment: Moment,
 ) -> Result<(), Exit> {
     let mut registry = registry;
-    match zone_on(rt.alloc(), &mut registry, moment, &mut io::writer(rt)) {
+    let told = zone_on(rt.alloc(), &mut registry, moment, &mut io::writer(rt));
+    drop(registry);
+    match told {
         Ok(()) => Ok(()),
         Err(HandOverFault::Registry(fault)) => Err(Exit::Registry(fault)),
         Err(HandOverFault::Zone(ZoneFault::Memory)) => Err(Exit::Memory),
@@ -96,7 +98,9 @@ fn deposit<B: Book + Drop>(
     cents: i64,
 ) -> Result<(), Exit> {
     let (mut registry, out) = (registry, &mut io::writer(rt));
-    match deposit_on(rt.alloc(), &mut registry, moment, registrar, cents, out)? {
+    let code = deposit_on(rt.alloc(), &mut registry, moment, registrar, cents, out);
+    drop(registry);
+    match code? {
         Code::Completed => Ok(()),
         _ => Err(Exit::Refused),
     }

@@ -132,8 +132,15 @@ fn run_over_maps(alloc: Global, policy: &[u8], script: &[u8], printed: &mut Vec<
         Err(fault) => return Exit::Policy(fault),
     };
     match Registry::open(alloc, PlainBook::new(alloc), policy) {
-        Ok(mut registry) => run_on(alloc, &mut registry, script, printed),
-        Err((fault, _)) => Exit::Open(fault),
+        Ok(mut registry) => {
+            let exit = run_on(alloc, &mut registry, script, printed);
+            drop(registry);
+            exit
+        }
+        Err((fault, book)) => {
+            drop(book);
+            Exit::Open(fault)
+        }
     }
 }
 

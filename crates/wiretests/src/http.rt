@@ -101,29 +101,16 @@ fn frames_of(alloc: Global, lines: &[Line]) -> Result<Vec<u8>, Fail> {
     Ok(bytes)
 }
 
-/// The registry in which an order was carried out.
-fn carried_out<B: Book + Drop>(
-    registry: Registry<B>,
-    order: &Order,
-    at: Moment,
-) -> Option<Registry<B>> {
-    let mut registry = registry;
-    match registry.operator(order, at) {
-        Ok(_) => Some(registry),
-        Err(_) => None,
-    }
-}
-
-/// The registry, once alfa has paid.
-fn paid<B: Book + Drop>(alloc: Global, registry: Registry<B>) -> Result<Registry<B>, Fail> {
+/// alfa pays.
+fn pay<B: Book + Drop>(alloc: Global, registry: &mut Registry<B>) -> Result<(), Fail> {
     let start = moment(START)?;
     let order = Order::Deposit {
         registrar: Text::from_str(alloc, "alfa")?,
         cents: 100_000,
     };
-    match carried_out(registry, &order, start) {
-        Some(registry) => Ok(registry),
-        None => Err(Fail::from("not paid")),
+    match registry.operator(&order, start) {
+        Ok(_) => Ok(()),
+        Err(_) => Err(Fail::from("not paid")),
     }
 }
 
@@ -146,13 +133,35 @@ fn filled<B: Book + Drop>(
     registry: Registry<B>,
     lines: &[Line],
 ) -> Result<Registry<B>, Fail> {
+    let mut registry = registry;
+    match prepared(alloc, &mut registry, lines) {
+        Ok((asked, clock)) => ended(served(alloc, &mut whole(&asked), clock, registry).1),
+        Err(fail) => {
+            drop(registry);
+            Err(fail)
+        }
+    }
+}
+
+/// The frames of lines and their moments, once alfa has paid.
+fn prepared<B: Book + Drop>(
+    alloc: Global,
+    registry: &mut Registry<B>,
+    lines: &[Line],
+) -> Result<(Vec<u8>, ListClock), Fail> {
+    pay(alloc, registry)?;
     let asked = frames_of(alloc, lines)?;
-    let clock = clock_of(alloc, lines)?;
-    let registry = paid(alloc, registry)?;
-    let (_, served) = served(alloc, &mut whole(&asked), clock, registry);
+    Ok((asked, clock_of(alloc, lines)?))
+}
+
+/// The registry behind a session that met the end of its input.
+fn ended<B: Book + Drop>(served: Served<B>) -> Result<Registry<B>, Fail> {
     match served.end {
         ConnectionEnd::Session(SessionEnd::End) => Ok(served.registry),
-        _ => Err(Fail::from("another end")),
+        _ => {
+            drop(served);
+            Err(Fail::from("another end"))
+        }
     }
 }
 
@@ -171,7 +180,9 @@ fn answers(
     reader.step = step;
     let registry = filled(alloc, registry_of(alloc)?, lines)?;
     let (told, served) = served(alloc, &mut reader, clock, registry);
-    Ok(told.as_slice() == wanted && served.end == ConnectionEnd::Http(end))
+    let met = served.end;
+    drop(served);
+    Ok(told.as_slice() == wanted && met == ConnectionEnd::Http(end))
 }
 
 /// The lines of a registry, the moment of a request, its target, and the body that is found.
@@ -426,13 +437,12 @@ const ZONES: &[(&[Line], &str, &str)] = &[
 /// Whether the zone of a registry is this text.
 fn has_zone<B: Book + Drop>(
     alloc: Global,
-    registry: Registry<B>,
+    registry: &mut Registry<B>,
     at: Moment,
     wanted: &str,
 ) -> bool {
-    let mut registry = registry;
     let mut text = Vec::new(alloc);
-    let written = zone_on(alloc, &mut registry, at, &mut text);
+    let written = zone_on(alloc, registry, at, &mut text);
     written.is_ok() && text.as_slice() == wanted.as_bytes()
 }
 
@@ -442,8 +452,10 @@ fn zones(rt: HostRuntime) -> Result<(), Fail> {
     let alloc = rt.alloc();
     for (lines, told, wanted) in ZONES.iter().copied() {
         let at = moment(told)?;
-        let registry = filled(alloc, registry_of(alloc)?, lines)?;
-        assert!(rt; has_zone(alloc, registry, at, wanted), "{told}");
+        let mut registry = filled(alloc, registry_of(alloc)?, lines)?;
+        let is_told = has_zone(alloc, &mut registry, at, wanted);
+        drop(registry);
+        assert!(rt; is_told, "{told}");
     }
     Ok(())
 }

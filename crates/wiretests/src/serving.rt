@@ -206,8 +206,10 @@ fn ends(rt: HostRuntime) -> Result<(), Fail> {
         let mut clock = clock_of(alloc)?;
         let registry = registry_of(alloc)?;
         let served = serve_one(alloc, &mut reader, &mut told, &mut clock, registry);
+        let met = served.end;
+        drop(served);
         assert!(rt; told.is_empty());
-        assert_eq!(rt; served.end, end);
+        assert_eq!(rt; met, end);
     }
     Ok(())
 }
