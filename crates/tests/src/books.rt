@@ -15,7 +15,9 @@ use store::Book;
 /// The terms of a policy's text.
 fn terms_of(alloc: Global, text: &str) -> Result<Terms, Fail> {
     let policy = policy_of(alloc, text)?;
-    Ok(policy.terms(alloc)?)
+    let terms = policy.terms(alloc);
+    drop(policy);
+    Ok(terms?)
 }
 
 /// Puts terms down in a book.
@@ -49,8 +51,8 @@ fn fault_of<B: Book + Drop>(
 ) -> Result<Option<OpenFault>, Fail>
     requires { (B.state book).is_open ≡ false }
 {
-    let policy = policy_of(alloc, later)?;
     let book = used_under(alloc, book, earlier)?;
+    let policy = policy_of(alloc, later)?;
     match Registry::open(alloc, book, policy) {
         Ok(registry) => {
             drop(registry);
@@ -87,13 +89,11 @@ fn change<B: Book>(alloc: Global, book: &mut B) -> Result<(), Fail>
     requires { (B.state book.old).is_open ≡ true }
     ensures { OnOk result ((B.state book.new).is_open ≡ true) }
 {
-    let policy = policy_of(alloc, POLICY)?;
     let changes = changes(alloc)?;
-    if book.apply(changes, &policy).is_ok() {
-        Ok(())
-    } else {
-        Err(Fail::from("not applied"))
-    }
+    let policy = policy_of(alloc, POLICY)?;
+    let applied = book.apply(changes, &policy);
+    drop(policy);
+    Ok(applied?)
 }
 
 /// A book that is new goes back to where it began.
