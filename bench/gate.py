@@ -124,7 +124,7 @@ def put(mark, text):
 # Where the prover writes each module of a check from nothing, when it has done it.
 MODULES = "/tmp/rattle-logic-built-locked-{}-0"
 # The modules of a function.
-PARTS = r"(\.(Lts|Given|View|Proof|Tie|Goals|Answers|Met|Layout|Code|Mir|Invariants|Statement|Symbol|Kinds|TheLinks|decls))+$"
+PARTS = r"(\.(Lts|Given|View|Proof|Tie|Goals|Answers|Met|Layout|Code|Mir|Invariants|Statement|Symbol|Kinds[-0-9]*|Instances|TheLinks|decls))+$"
 
 
 def module_times(pid, is_over):
@@ -148,6 +148,7 @@ def by_function(crate, times, began):
     spent, last = {}, began
     for name, at in sorted(times.items(), key=lambda it: it[1]):
         what = re.sub(PARTS, "", name.removesuffix(".oantt").removeprefix(f"Rattle-{crate}-").removeprefix("proofs."))
+        what = what if spent else "(before the first module)"
         spent[what] = spent.get(what, 0) + at - last
         last = at
     return spent

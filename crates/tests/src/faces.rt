@@ -2,6 +2,7 @@
 //! is ample.
 
 use basis::text::Text;
+use calendar::Moment;
 use fixtures::{moment_of, registry_of};
 use names::{DomainName, HostName};
 use registry::Registry;
@@ -19,10 +20,10 @@ fn has_no_domain<B: Book + Drop>(alloc: Global, registry: &mut Registry<B>) -> R
     let Ok(name) = DomainName::read(alloc, "foo.test", registry.policy().zone()) else {
         return Err(Fail::from("no name"));
     };
-    match registry.domain_face(&name, moment) {
-        Ok(face) => Ok(face.is_none()),
-        Err(_) => Ok(false),
-    }
+    let found = registry.domain_face(&name, moment);
+    let is_none = matches!(&found, Ok(None));
+    drop(found);
+    Ok(is_none)
 }
 
 /// Whether the look-up of a host that isn't there succeeds.
@@ -31,10 +32,10 @@ fn has_no_host<B: Book + Drop>(alloc: Global, registry: &mut Registry<B>) -> Res
     let Ok(name) = HostName::read(alloc, "ns1.example.net", registry.policy().zone()) else {
         return Err(Fail::from("no name"));
     };
-    match registry.host_face(&name, moment) {
-        Ok(face) => Ok(face.is_none()),
-        Err(_) => Ok(false),
-    }
+    let found = registry.host_face(&name, moment);
+    let is_none = matches!(&found, Ok(None));
+    drop(found);
+    Ok(is_none)
 }
 
 /// Whether the look-up of a contact that isn't there succeeds.
@@ -47,6 +48,18 @@ fn has_no_contact<B: Book + Drop>(alloc: Global, registry: &mut Registry<B>) -> 
     }
 }
 
+/// Whether the look-up of a domain that isn't listed in the zone succeeds.
+fn lists_no_domain<B: Book + Drop>(
+    registry: &mut Registry<B>,
+    name: &Text,
+    moment: Moment,
+) -> bool {
+    let found = registry.listed_domain(name, moment);
+    let is_none = matches!(&found, Ok(None));
+    drop(found);
+    is_none
+}
+
 /// Whether the pieces of a zone are told, of which there are none.
 fn has_an_empty_zone<B: Book + Drop>(
     alloc: Global,
@@ -54,16 +67,14 @@ fn has_an_empty_zone<B: Book + Drop>(
 ) -> Result<bool, Fail> {
     let moment = moment_of(IN_2029)?;
     let name = Text::from_str(alloc, "foo.test")?;
+    let lists_none = lists_no_domain(registry, &name, moment);
     let Ok(names) = registry.domain_names(moment) else {
-        return Ok(false);
-    };
-    let Ok(domain) = registry.listed_domain(&name, moment) else {
         return Ok(false);
     };
     let Ok(addresses) = registry.host_addresses(&name, moment) else {
         return Ok(false);
     };
-    Ok(names.is_empty() && domain.is_none() && addresses.is_none())
+    Ok(lists_none && names.is_empty() && addresses.is_none())
 }
 
 /// Nothing is found in a registry that is new.

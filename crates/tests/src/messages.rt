@@ -3,6 +3,7 @@ use accounts::{CommandNotice, LapseNotice, Message, Origin, Queue, Subject};
 use basis::text::Text;
 use calendar::Moment;
 use std::alloc::Global;
+use std::process::Abort;
 use std::test::Fail;
 
 /// Messages in the order in which they come: a moment, what brought them, and their object; and
@@ -75,44 +76,76 @@ fn message(alloc: Global, moment: &str, origin: Origin, name: &str) -> Result<Me
     })
 }
 
-#[test]
-fn messages_are_told_in_their_order(rt: HostRuntime) -> Result<(), Fail> {
-    let alloc = rt.alloc();
-    let mut queue = Queue::new(alloc);
-    for _ in 0..2 {
-        for (moment, origin, name, _) in ARRIVALS {
-            queue.push(message(alloc, moment, *origin, name)?)?;
-        }
+/// All arrive.
+fn arrive(alloc: Global, queue: &mut Queue) -> Result<(), Fail> {
+    for (moment, origin, name, _) in ARRIVALS {
+        queue.push(message(alloc, moment, *origin, name)?)?;
     }
-    assert_eq!(rt; queue.waiting(), 7);
-    let other = Text::from_str(alloc, "C10")?;
+    Ok(())
+}
+
+/// Each is the oldest in its turn, and no other is taken out.
+fn are_acknowledged(
+    rt: &(impl Abort + AllocGlobal),
+    queue: &mut Queue,
+    other: &Text,
+) -> Result<(), Fail> {
+    let alloc = rt.alloc();
     for place in ORDER {
         let (_, _, _, id) = ARRIVALS.get(*place).ok_or("place")?;
         let oldest = queue.oldest().ok_or("empty")?.id(alloc)?;
         assert_eq!(rt; oldest.as_str(), *id);
-        assert!(rt; *id == "C10" || !queue.ack(alloc, &other)?);
+        assert!(rt; *id == "C10" || !queue.ack(alloc, other)?);
         assert!(rt; queue.ack(alloc, &oldest)?);
     }
     assert_eq!(rt; queue.waiting(), 0);
     Ok(())
 }
 
+/// What arrives twice waits once.
+fn are_told_in_their_order(rt: &(impl Abort + AllocGlobal), queue: &mut Queue) -> Result<(), Fail> {
+    arrive(rt.alloc(), queue)?;
+    arrive(rt.alloc(), queue)?;
+    assert_eq!(rt; queue.waiting(), 7);
+    let other = Text::from_str(rt.alloc(), "C10")?;
+    are_acknowledged(rt, queue, &other)
+}
+
 #[test]
-fn a_message_is_taken_back(rt: HostRuntime) -> Result<(), Fail> {
+fn messages_are_told_in_their_order(rt: HostRuntime) -> Result<(), Fail> {
+    let mut queue = Queue::new(rt.alloc());
+    let told = are_told_in_their_order(&rt, &mut queue);
+    drop(queue);
+    told
+}
+
+/// Whether the arrival of this place was there, and is not once it is taken back.
+fn is_taken_back(alloc: Global, queue: &mut Queue, place: usize) -> Result<bool, Fail> {
+    let (moment, origin, name, _) = ARRIVALS.get(place).ok_or("place")?;
+    let taken = message(alloc, moment, *origin, name)?;
+    let was_there = queue.has(&taken);
+    queue.take_back(&taken);
+    let is_there = queue.has(&taken);
+    drop(taken);
+    Ok(was_there && !is_there)
+}
+
+fn are_taken_back(rt: &(impl Abort + AllocGlobal), queue: &mut Queue) -> Result<(), Fail> {
     let alloc = rt.alloc();
-    let mut queue = Queue::new(alloc);
-    for (moment, origin, name, _) in ARRIVALS {
-        queue.push(message(alloc, moment, *origin, name)?)?;
-    }
+    arrive(alloc, queue)?;
     for (place, oldest) in TAKEN {
-        let (moment, origin, name, _) = ARRIVALS.get(*place).ok_or("place")?;
-        let taken = message(alloc, moment, *origin, name)?;
-        assert!(rt; queue.has(&taken));
-        queue.take_back(&taken);
-        assert!(rt; !queue.has(&taken));
+        assert!(rt; is_taken_back(alloc, queue, *place)?);
         let left = queue.oldest().ok_or("empty")?.id(alloc)?;
         assert_eq!(rt; left.as_str(), *oldest);
     }
     assert_eq!(rt; queue.waiting(), 1);
     Ok(())
+}
+
+#[test]
+fn a_message_is_taken_back(rt: HostRuntime) -> Result<(), Fail> {
+    let mut queue = Queue::new(rt.alloc());
+    let taken = are_taken_back(&rt, &mut queue);
+    drop(queue);
+    taken
 }
