@@ -203,10 +203,7 @@ fn contact_value(alloc: Global, info: &ContactInfo) -> Result<Value, AllocError>
         Some(hidden) => Item::Given(postal_value(alloc, &hidden.postal)?),
         None => Item::Absent,
     };
-    let transfer = match contact_transfer_of(info) {
-        Some(transfer) => Item::Given(transfer_value(alloc, transfer)?),
-        None => Item::Absent,
-    };
+    let transfer = transfer_item(alloc, contact_transfer_of(info))?;
     let members = vec![in alloc;
         ("clID", Item::Text(&info.sponsor)),
         ("crDate", Item::Time(face.created)),
@@ -284,10 +281,7 @@ fn domain_value(alloc: Global, info: &DomainInfo) -> Result<Value, AllocError>
     let links = &face.links;
     let rgp = states(alloc, face.standing)?;
     let roid = roid_value(alloc, face.roid)?;
-    let transfer = match transfer_of(info) {
-        Some(transfer) => Item::Given(transfer_value(alloc, transfer)?),
-        None => Item::Absent,
-    };
+    let transfer = transfer_item(alloc, transfer_of(info))?;
     let members = vec![in alloc;
         ("admin", Item::Texts(&links.admin)),
         ("clID", Item::Text(&info.sponsor)),
@@ -348,6 +342,18 @@ fn restore_requested_of(info: &DomainInfo) -> Option<Moment>
     ensures { result ≡ spec.restore_requested_of info.now }
 {
     deletion_of(info).and_then(|deletion| deletion.restore_requested)
+}
+
+fn transfer_item(
+    alloc: Global,
+    transfer: Option<&TransferInfo>,
+) -> Result<Item<'static>, AllocError>
+    ensures { IfOk result (λ item. item_value item ≡ option_map spec.transfer_value (option_copied transfer.entry)) }
+{
+    Ok(match transfer {
+        Some(transfer) => Item::Given(transfer_value(alloc, transfer)?),
+        None => Item::Absent,
+    })
 }
 
 fn transfer_value(alloc: Global, info: &TransferInfo) -> Result<Value, AllocError>

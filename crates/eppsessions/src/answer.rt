@@ -1,5 +1,5 @@
 //! What a payload is answered, by who sends it.
-ghost use Rattle.std.specs.Prelude.{◌≡◌, Some, None, IfOk, IfSome, IfErr, OnErr};
+ghost use Rattle.std.specs.Prelude.{◌≡◌, Some, None, IfSome};
 ghost use Rattle.policy.specs.Rules.{IsRegistrar};
 ghost use Rattle.sessions.specs.Outcomes.{outcome_of};
 ghost use Rattle.eppsessions.specs.Answers as spec;

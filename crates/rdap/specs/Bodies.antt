@@ -80,9 +80,12 @@ of_version_6 addresses = filter is_version_6 addresses
 abbrev pub address_members : List (List ℕ) → List (List ℕ × Option Data)
 address_members addresses = (codes "v4", some_texts (of_version_4 addresses)) ∷ (codes "v6", some_texts (of_version_6 addresses)) ∷ []
 
+abbrev pub addresses_object : List (List ℕ) → Data
+addresses_object addresses = object (members_with (address_members addresses))
+
 abbrev pub addresses_value : List (List ℕ) → Option Data
 addresses_value [] = None
-addresses_value (address ∷ addresses) = Some (object (members_with (address_members (address ∷ addresses))))
+addresses_value (address ∷ addresses) = Some (addresses_object (address ∷ addresses))
 
 abbrev pub nameserver_members : List ℕ → HostFace → List (List ℕ × Option Data)
 nameserver_members name h =

@@ -1,11 +1,10 @@
 //! Nameservers (RFC 9083, 5.2).
-ghost use Rattle.std.specs.Prelude.{◌≡◌, IfOk, Some, filter, option_map};
+ghost use Rattle.std.specs.Prelude.{◌≡◌, IfOk, Some};
 ghost use Rattle.serde_json.specs.View.{view};
 ghost use Rattle.eppreplies.specs.Item.{item_value};
 ghost use Rattle.rdap.specs.Bodies as spec;
 
 use crate::body::{Dates, conformance, events_value, roid_value, words_value};
-use basis::list::Seq;
 use basis::text::Text;
 use eppreplies::{Item, object, texts};
 use names::HostName;
@@ -69,11 +68,17 @@ fn addresses_item(alloc: Global, addresses: &[Text]) -> Result<Item<'static>, Al
     if addresses.is_empty() {
         return Ok(Item::Absent);
     }
+    Ok(Item::Given(addresses_object(alloc, addresses)?))
+}
+
+fn addresses_object(alloc: Global, addresses: &[Text]) -> Result<Value, AllocError>
+    ensures { IfOk result (λ v. view v ≡ spec.addresses_object addresses.now) }
+{
     let members = vec![in alloc;
         ("v4", some_texts(alloc, of_version_4(alloc, addresses)?)?),
         ("v6", some_texts(alloc, of_version_6(alloc, addresses)?)?),
     ]?;
-    Ok(Item::Given(object(alloc, members)?))
+    object(alloc, members)
 }
 
 fn some_texts(alloc: Global, list: Vec<Text>) -> Result<Item<'static>, AllocError>

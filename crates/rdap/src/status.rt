@@ -1,7 +1,6 @@
 //! The words by which RDAP shows statuses (RFC 9083, 10.2.2; RFC 8056).
 ghost use Rattle.std.specs.Prelude.{◌≡◌, ◌++◌, IfOk, OnOk, map};
 ghost use Rattle.std.specs.List.{dedup};
-ghost use Rattle.std.specs.Str.{bytes_eq};
 ghost use Rattle.rdap.specs.StatusWords as spec;
 
 use basis::list::Seq;

@@ -1,5 +1,5 @@
 //! Answers on the wire (RFC 7480, 5).
-ghost use Rattle.std.specs.Prelude.{◌≡◌, ◌++◌, IfOk, length, string_bytes};
+ghost use Rattle.std.specs.Prelude.{◌≡◌, IfOk, length, string_bytes};
 ghost use Rattle.rdap.specs.Answers as spec;
 
 use std::alloc::{AllocError, Global};

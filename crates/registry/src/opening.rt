@@ -68,7 +68,10 @@ fn open_in_transaction<B: Book>(book: &mut B, alloc: Global, policy: &Policy) ->
 {
     let earlier = terms(book)?;
     let own = or_rollback(book, policy.terms(alloc))?;
-    if !continues_earlier(&own, &earlier) {
+    let goes_on = continues_earlier(&own, &earlier);
+    drop(earlier);
+    if !goes_on {
+        drop(own);
         book.back();
         return Ok(false);
     }

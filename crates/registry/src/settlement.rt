@@ -1,8 +1,7 @@
 //! How some of what is due lapses: a settlement.
 ghost use Rattle.std.specs.Prelude.{◌≡◌, true, false, min, length, take, IfOk, IfErr, OnOk};
 ghost use Rattle.registry.specs.Execution.{GoesBack, SameTerms, Settles};
-ghost use Rattle.store.specs.Book.{Follows, IsSame};
-ghost use Rattle.store.specs.Due.{due_by};
+ghost use Rattle.store.specs.Book.{Follows};
 
 use crate::fault::Fault;
 use crate::lapse::{due, lapse_each};

@@ -86,13 +86,22 @@ fn is_answered<B: Book + Drop>(
     }
 }
 
+/// The same, of a registry that could be opened.
+fn is_answered_by<B: Book + Drop>(
+    alloc: Global,
+    opened: Result<Registry<B>, Fail>,
+    row: Row,
+) -> Result<bool, Fail> {
+    let mut registry = opened?;
+    let answered = is_answered(alloc, &mut registry, row);
+    drop(registry);
+    answered
+}
+
 #[test]
 fn deposits(rt: HostRuntime) -> Result<(), Fail> {
     for row in ROWS.iter().copied() {
-        let mut registry = new_registry(rt.alloc())?;
-        let answered = is_answered(rt.alloc(), &mut registry, row);
-        drop(registry);
-        assert!(rt; answered?);
+        assert!(rt; is_answered_by(rt.alloc(), new_registry(rt.alloc()), row)?);
     }
     Ok(())
 }
@@ -109,12 +118,21 @@ fn is_too_late<B: Book + Drop>(
     }
 }
 
+/// The same, of a registry that could be opened.
+fn is_too_late_for<B: Book + Drop>(
+    alloc: Global,
+    opened: Result<Registry<B>, Fail>,
+    row: Row,
+) -> Result<bool, Fail> {
+    let mut registry = opened?;
+    let late = is_too_late(alloc, &mut registry, row);
+    drop(registry);
+    late
+}
+
 /// After the last moment nothing is printed, and the registry is as it was.
 #[test]
 fn a_deposit_after_the_last_moment(rt: HostRuntime) -> Result<(), Fail> {
-    let mut registry = new_registry(rt.alloc())?;
-    let late = is_too_late(rt.alloc(), &mut registry, ROWS[0]);
-    drop(registry);
-    assert!(rt; late?);
+    assert!(rt; is_too_late_for(rt.alloc(), new_registry(rt.alloc()), ROWS[0])?);
     Ok(())
 }

@@ -1,4 +1,7 @@
-//! A registry in memory, and scripts over it.
+//! A registry in memory, and scripts over it. A test hands on what opening gave to a function that knows
+//! the book by its bounds alone: what calls such functions with a book that is known costs the prover
+//! much.
+ghost use Rattle.std.specs.Prelude.{◌≡◌, false, IfOk};
 
 use fixtures::registry_over;
 use registry::Registry;
@@ -7,14 +10,21 @@ use sqlbook::{Made, SqlBook, in_memory};
 use sqlite::MemStore;
 use std::alloc::Global;
 use std::test::Fail;
-use store::Book;
+use store::{Book, BookFault};
 
 /// A registry in the rows of a database in memory.
 pub type Rows = Registry<SqlBook<MemStore, Made>>;
 
 /// A registry that is new.
 pub fn new_registry(alloc: Global) -> Result<Rows, Fail> {
-    let book = in_memory(alloc)?;
+    opened(alloc, in_memory(alloc))
+}
+
+/// A registry over a book that could be made.
+fn opened<B: Book + Drop>(alloc: Global, made: Result<B, BookFault>) -> Result<Registry<B>, Fail>
+    requires { IfOk made (λ book. (B.state book).is_open ≡ false) }
+{
+    let book = made?;
     Ok(registry_over(alloc, book)?)
 }
 

@@ -4,7 +4,8 @@
 
 use crate::registries::{new_registry, printed};
 use registry::Registry;
-use sqlite::{Alter, MemStore};
+use sqlbook::{Origin, SqlBook};
+use sqlite::Alter;
 use std::alloc::Global;
 use std::process::Abort;
 use std::test::Fail;
@@ -140,9 +141,13 @@ fn run_case<B: Book + Drop>(
     Ok(())
 }
 
-/// The rows after a case's script.
-fn rows_after(alloc: Global, case: &Case) -> Result<RowStore<MemStore>, Fail> {
-    let mut registry = new_registry(alloc)?;
+/// The rows of a registry that could be opened, after a case's script.
+fn rows_after<S: Alter + Drop, O: Origin<S> + Drop>(
+    alloc: Global,
+    opened: Result<Registry<SqlBook<S, O>>, Fail>,
+    case: &Case,
+) -> Result<RowStore<S>, Fail> {
+    let mut registry = opened?;
     match run_case(alloc, &mut registry, case) {
         Ok(()) => Ok(registry.into_book().into_records().into_rows()),
         Err(fail) => {
@@ -190,13 +195,22 @@ fn compare<S: Alter>(
     Ok(())
 }
 
+/// Compares the rows of a registry that could be opened, after a case's script, with those of the case.
+fn compare_after<S: Alter + Drop, O: Origin<S> + Drop>(
+    rt: &(impl Abort + AllocGlobal),
+    opened: Result<Registry<SqlBook<S, O>>, Fail>,
+    case: &Case,
+) -> Result<(), Fail> {
+    let mut rows = rows_after(rt.alloc(), opened, case)?;
+    let compared = compare(rt, &mut rows, case);
+    drop(rows);
+    Ok(compared?)
+}
+
 #[test]
 fn columns_are_sums(rt: HostRuntime) -> Result<(), Fail> {
     for case in CASES {
-        let mut rows = rows_after(rt.alloc(), case)?;
-        let compared = compare(&rt, &mut rows, case);
-        drop(rows);
-        compared?;
+        compare_after(&rt, new_registry(rt.alloc()), case)?;
     }
     Ok(())
 }

@@ -1,5 +1,5 @@
 //! What the lapse of an object changes.
-ghost use Rattle.std.specs.Prelude.{◌≡◌, ◌∷◌, ◌++◌, map, IfOk, OnOk};
+ghost use Rattle.std.specs.Prelude.{◌≡◌, ◌∷◌, map, IfOk};
 ghost use Rattle.lifecycle.specs.Lapse.{lapse, lapse_contact};
 ghost use Rattle.rules.specs.Lapsing as spec;
 

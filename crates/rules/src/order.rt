@@ -1,5 +1,5 @@
 //! What an order of the operator is answered, and what it changes.
-ghost use Rattle.std.specs.Prelude.{◌≡◌, ◌≤◌, ◌∷◌, [], IfOk, IfSome};
+ghost use Rattle.std.specs.Prelude.{◌≡◌, [], IfOk};
 ghost use Rattle.rules.specs.Orders as spec;
 ghost use Rattle.verdict.specs.Orders.{order_code};
 

@@ -1,5 +1,5 @@
 //! What a line is answered.
-ghost use Rattle.std.specs.Prelude.{◌≡◌, ◌≤◌, true, Some, None, option_map, IfOk, IfErr, IfSome, IfNone, OnSome, OnErr};
+ghost use Rattle.std.specs.Prelude.{◌≡◌, ◌≤◌, true, Some, None, option_map, IfOk, IfErr, IfSome, IfNone, OnSome};
 ghost use Rattle.policy.specs.Rules.{IsRegistrar};
 ghost use Rattle.registry.specs.Execution.{Greets, IsUnchanged, OrderSteps, Settles, Steps, last_call};
 ghost use Rattle.script.specs.declared.line.Sender.TheVariants.{Registrar};

@@ -16,7 +16,7 @@ use sessions::{SessionEnd, serve_session};
 use std::alloc::Global;
 use std::io::{Read, Write};
 use store::Book;
-use streams::{ReadFault, read_to_fill};
+use streams::read_to_fill;
 
 /// How a connection ended.
 #[derive(Clone, Copy, Debug, PartialEq, Eq)]

@@ -1,6 +1,5 @@
 //! A connection of HTTP: one request, answered by its head (RFC 7480, 4).
 ghost use Rattle.std.specs.Prelude.{◌≡◌, ◌<◌, ◌≤◌, true, false, length, take, vec_len, Some, IfOk, IfSome};
-ghost use Rattle.std.specs.Io.KnownBytes.{Consumes, IsAtEnd};
 ghost use Rattle.rdap.specs.Heads.{IsDecided, most_bytes};
 ghost use Rattle.server.specs.Http.{AnswersHttp, IsRead, IsWritten};
 

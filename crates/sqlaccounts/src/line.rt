@@ -13,7 +13,7 @@ ghost use Rattle.transactions.specs.States.{Makes};
 
 use crate::account::{found_row, maybe_row};
 use crate::finding::{number_of_line, rows_about};
-use crate::paying::{less, paid};
+use crate::paying::{paid, paid_back};
 use crate::writing::written;
 use accounts::Line;
 use basis::registrar::RegistrarNo;
@@ -71,11 +71,13 @@ pub fn take_line<S: Alter>(
 {
     let row = found_row(store, registrar)?;
     let rows = rows_about(store, registrar, &line)?;
-    let Some(number) = number_of_line(rows.as_slice(), &line) else {
+    let number = number_of_line(rows.as_slice(), &line);
+    drop(rows);
+    let Some(number) = number else {
+        drop(row);
         return Ok(());
     };
-    let cents = less(line.amount())?;
-    let row = paid(row, cents)?;
+    let row = paid_back(row, &line)?;
     store.whole();
     remove(store, number, &row)?;
     Ok(())

@@ -1,7 +1,6 @@
 //! Messages that wait.
-ghost use Rattle.std.specs.Prelude.{◌≡◌, Some, pos, length, IfOk};
+ghost use Rattle.std.specs.Prelude.{◌≡◌, Some, pos, length};
 ghost use Rattle.std.specs.Option.{option_map_or};
-ghost use Rattle.columns.specs.Numbers.{exact_in};
 ghost use Rattle.sqlaccounts.specs.Accounts.{account_of, sums_are_right};
 ghost use Rattle.meanings.specs.Calls.{Tells};
 ghost use Rattle.tables.specs.Account.{Account};

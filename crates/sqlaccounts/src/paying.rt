@@ -1,8 +1,10 @@
 //! Balances that change by so many cents.
 ghost use Rattle.std.specs.Prelude.{◌≡◌, ◌+ℤ◌, ◌-ℤ◌, pos, IfOk, IfSome};
+ghost use Rattle.accounts.specs.Lines.{amount};
 ghost use Rattle.sqlaccounts.specs.Accounts.{balance_in};
 ghost use Rattle.sqlaccounts.specs.Changes.{IsPaid};
 
+use accounts::Line;
 use tables::{AccountRow, bytes_of_balance};
 use transactions::BookFault;
 
@@ -18,6 +20,14 @@ pub(crate) fn paid(row: AccountRow, cents: i128) -> Result<AccountRow, BookFault
     Ok(row)
 }
 
+/// The row without what a line is worth.
+pub(crate) fn paid_back(row: AccountRow, line: &Line) -> Result<AccountRow, BookFault>
+    ensures { IfOk result (IsPaid (pos 0 -ℤ amount line.now) row) }
+{
+    let cents = less(line.amount())?;
+    paid(row, cents)
+}
+
 /// A balance with so many cents more, if it fits.
 #[tactic(auto, using(tables::proofs::BalanceLemmas::balance_read))]
 fn balance_after(balance: [u8; 16], cents: i128) -> Option<[u8; 16]>
@@ -28,7 +38,7 @@ fn balance_after(balance: [u8; 16], cents: i128) -> Option<[u8; 16]>
 }
 
 /// So many cents less.
-pub(crate) fn less(cents: i128) -> Result<i128, BookFault>
+fn less(cents: i128) -> Result<i128, BookFault>
     ensures { IfOk result (λ less. less ≡ pos 0 -ℤ cents) }
 {
     match 0i128.checked_sub(cents) {

@@ -15,7 +15,7 @@ use basis::list::Seq;
 use basis::text::Text;
 use calendar::Moment;
 use lifecycle::{contact_due_by, due_by};
-use objects::ObjectKind;
+use objects::{Contact, Domain, ObjectKind};
 use policy::Policy;
 use rows::Number;
 use sqldomains::domain_of;
@@ -94,7 +94,13 @@ fn with_contact<S: Alter>(
 {
     let contact = contact_of(store, alloc, row)?;
     let due = contact_due_by(&contact, moment);
-    Ok(with_due(found, ObjectKind::Contact, contact.name, due)?)
+    Ok(with_due(found, ObjectKind::Contact, name_of_contact(contact), due)?)
+}
+
+fn name_of_contact(contact: Contact) -> Text
+    ensures { result ≡ contact.name }
+{
+    contact.name
 }
 
 /// The same with the domains that are due by a moment.
@@ -150,7 +156,13 @@ fn with_domain<S: Alter>(
 {
     let domain = domain_of(store, alloc, row)?;
     let due = due_by(&domain, moment, policy);
-    Ok(with_due(found, ObjectKind::Domain, domain.name, due)?)
+    Ok(with_due(found, ObjectKind::Domain, name_of_domain(domain), due)?)
+}
+
+fn name_of_domain(domain: Domain) -> Text
+    ensures { result ≡ domain.name }
+{
+    domain.name
 }
 
 /// With one more, if it is due.

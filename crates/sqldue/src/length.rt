@@ -1,5 +1,5 @@
 //! The lengths of periods that the columns were written under.
-ghost use Rattle.std.specs.Prelude.{◌≡◌, true, Some, IfSome};
+ghost use Rattle.std.specs.Prelude.{◌≡◌, Some, IfSome};
 ghost use Rattle.sqlterms.specs.Terms as terms;
 ghost use Rattle.transactions.specs.States.{Meets};
 

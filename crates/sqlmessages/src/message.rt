@@ -1,5 +1,5 @@
 //! The row of a message.
-ghost use Rattle.std.specs.Prelude.{◌≡◌, pos, IfOk};
+ghost use Rattle.std.specs.Prelude.{IfOk};
 ghost use Rattle.columns.specs.Numbers.{registrar_column};
 ghost use Rattle.sqlmessages.specs.Rows.{IsWritten};
 

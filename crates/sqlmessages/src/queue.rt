@@ -5,7 +5,6 @@ ghost use Rattle.std.specs.Option.{unwrap_or};
 ghost use Rattle.accounts.specs.Account.{empty_account};
 ghost use Rattle.accounts.specs.Entries.{with_queue};
 ghost use Rattle.accounts.specs.Queue as queue;
-ghost use Rattle.columns.specs.Numbers.{registrar_column};
 ghost use Rattle.meanings.specs.Calls.{Turns};
 ghost use Rattle.sqlaccounts.specs.Accounts.{accounts_of};
 ghost use Rattle.sqlaccounts.specs.Changes.{IsChange};
@@ -91,12 +90,17 @@ pub fn put_message<S: Alter>(
     requires { store.old.is_open ≡ true }
     ensures { Turns result (IsChange registrar (with_queue (queue.put message))) store.old store.new }
 {
-    let found = look(store, alloc, registrar, &message)?;
-    if !found.same.is_empty() {
+    let Found { account, row, same } = look(store, alloc, registrar, &message)?;
+    drop(message);
+    let is_there = !same.is_empty();
+    drop(same);
+    if is_there {
+        drop(row);
+        drop(account);
         return Ok(());
     }
-    let account = one_more(found.account)?;
-    append(store, &found.row, &account)?;
+    let account = one_more(account)?;
+    append(store, &row, &account)?;
     Ok(())
 }
 
@@ -125,12 +129,15 @@ pub fn take_message<S: Alter>(
     requires { store.old.is_open ≡ true }
     ensures { Turns result (IsChange registrar (with_queue (queue.dropped message))) store.old store.new }
 {
-    let found = look(store, alloc, registrar, &message)?;
+    let Found { account, row, same } = look(store, alloc, registrar, &message)?;
+    drop(message);
+    drop(row);
     store.whole();
-    let Some(row) = only(found.same)? else {
+    let Some(row) = only(same)? else {
+        drop(account);
         return Ok(());
     };
-    let account = one_less(found.account)?;
+    let account = one_less(account)?;
     remove(store, &row, &account)?;
     Ok(())
 }

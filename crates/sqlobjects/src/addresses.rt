@@ -1,5 +1,5 @@
 //! The addresses of a host, in their order.
-ghost use Rattle.std.specs.Prelude.{◌≡◌, true, pos, [], ◌∷◌, IfOk};
+ghost use Rattle.std.specs.Prelude.{◌≡◌, true, [], ◌∷◌, IfOk};
 ghost use Rattle.meanings.specs.Calls.{Turns};
 ghost use Rattle.sqlobjects.specs.Stages.{AreAddressesAdded, AreAddressesPut};
 

@@ -1,5 +1,5 @@
 //! Who sponsors a host, as its row has it.
-ghost use Rattle.std.specs.Prelude.{◌≡◌, true, IfSome};
+ghost use Rattle.std.specs.Prelude.{◌≡◌, IfSome};
 ghost use Rattle.meanings.specs.Read.{rows_of};
 ghost use Rattle.sqlobjects.specs.Sponsors as spec;
 ghost use Rattle.sqlobjects.specs.Stages.{HasRightSponsor};

@@ -6,7 +6,6 @@ ghost use Rattle.sqlterms.specs.Meta as spec;
 ghost use Rattle.transactions.specs.States.{Meets};
 
 use calendar::Moment;
-use columns::moment_column;
 use meanings::only;
 use policy::Terms;
 use sqlite::Alter;

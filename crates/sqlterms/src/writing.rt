@@ -41,13 +41,16 @@ pub fn set_terms<S: Alter>(
     requires { store.old.is_open ≡ true }
     ensures { Turns result (IsTermsSet value.now) store.old store.new }
 {
-    let meta = maybe_meta(store)?;
     let labels = or_fault(labels_column(alloc, value.reserved.names())?)?;
+    let meta = maybe_meta(store)?;
     let row = with_terms(alloc, meta_or_new(alloc, meta), value, labels)?;
     store.put_meta(&row)?;
+    drop(row);
     name_accounts(store, alloc, value.ids.as_slice())?;
     let read = terms(store, alloc)?;
-    if !are(&read, value) {
+    let same = are(&read, value);
+    drop(read);
+    if !same {
         return Err(BookFault::Store);
     }
     Ok(())

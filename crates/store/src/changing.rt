@@ -3,13 +3,12 @@ ghost use Rattle.std.specs.Prelude.{◌≡◌, option_map, IfOk, IfSome, OnOk, O
 ghost use Rattle.std.specs.FinMap as finmap;
 ghost use Rattle.store.specs.Edits as spec;
 ghost use Rattle.store.specs.Edits.{edited};
+ghost use Rattle.store.specs.declared.edit.Edit.TheVariants as edits;
 ghost use Rattle.store.specs.Ledgers.{counters_of};
 ghost use Rattle.store.specs.Plain.{content_of};
 
 use crate::content::Content;
-use crate::edit::{
-    Edit, copy_contact, copy_domain, copy_host, copy_terms, message_clone, put_named,
-};
+use crate::edit::{Edit, contact_put, domain_put, host_put, message_clone, put_named, terms_put};
 use accounts::{Line, Message};
 use basis::registrar::RegistrarNo;
 use std::alloc::AllocError;
@@ -33,6 +32,13 @@ impl Content {
         if self.accounts.lacks(registrar, message) {
             return Ok(Edit::Unnotice(registrar, message_clone(message)?));
         }
+        self.account_back(registrar)
+    }
+
+    /// What gives a registrar its account as it is.
+    fn account_back(&self, registrar: RegistrarNo) -> Result<Edit, AllocError>
+        ensures { IfOk result (λ it. it ≡ edits.Account registrar (finmap.get self.now.accounts registrar)) }
+    {
         Ok(Edit::Account(registrar, self.accounts.copy(registrar)?))
     }
 
@@ -77,30 +83,16 @@ impl Content {
     {
         match edit {
             Edit::Clock(_) => Ok(Edit::Clock(self.clock)),
-            Edit::Account(registrar, _) => {
-                let old = self.accounts.copy(*registrar)?;
-                Ok(Edit::Account(*registrar, old))
-            }
             Edit::Counters(registrar, _) => Ok(self.counters_back(*registrar)),
             Edit::Line(registrar, line) => Ok(self.line_back(*registrar, *line)),
-            Edit::Unline(registrar, _) | Edit::Unnotice(registrar, _) => {
-                let old = self.accounts.copy(*registrar)?;
-                Ok(Edit::Account(*registrar, old))
-            }
+            Edit::Account(registrar, _)
+            | Edit::Unline(registrar, _)
+            | Edit::Unnotice(registrar, _) => self.account_back(*registrar),
             Edit::Notice(registrar, message) => self.notice_back(*registrar, message),
-            Edit::Contact(name, _) => {
-                let key = name.clone()?;
-                Ok(Edit::Contact(key, copy_contact(self.contacts.get(name))?))
-            }
-            Edit::Domain(name, _) => {
-                let key = name.clone()?;
-                Ok(Edit::Domain(key, copy_domain(self.domains.get(name))?))
-            }
-            Edit::Host(name, _) => {
-                let key = name.clone()?;
-                Ok(Edit::Host(key, copy_host(self.hosts.get(name))?))
-            }
-            Edit::Terms(_) => Ok(Edit::Terms(copy_terms(&self.terms)?)),
+            Edit::Contact(name, _) => contact_put(name, self.contacts.get(name)),
+            Edit::Domain(name, _) => domain_put(name, self.domains.get(name)),
+            Edit::Host(name, _) => host_put(name, self.hosts.get(name)),
+            Edit::Terms(_) => terms_put(&self.terms),
         }
     }
 

@@ -2,6 +2,7 @@
 ghost use Rattle.std.specs.Prelude.{◌≡◌, IfOk, OnErr, OnOk};
 ghost use Rattle.std.specs.Option.{option_copied};
 ghost use Rattle.store.specs.Ledgers.{put};
+ghost use Rattle.store.specs.declared.edit.Edit.TheVariants as edits;
 
 use crate::ledgers::Counters as AccountCounters;
 use accounts::{Account as AccountRecord, Line as AccountLine, Message};
@@ -41,33 +42,70 @@ impl Edit {
     {
         match self {
             Edit::Clock(moment) => Ok(Edit::Clock(*moment)),
-            Edit::Account(registrar, value) => {
-                Ok(Edit::Account(*registrar, copy_account(value.as_ref())?))
-            }
+            Edit::Account(registrar, value) => account_put(*registrar, value.as_ref()),
             Edit::Counters(registrar, counters) => Ok(Edit::Counters(*registrar, *counters)),
             Edit::Line(registrar, line) => Ok(Edit::Line(*registrar, *line)),
             Edit::Unline(registrar, line) => Ok(Edit::Unline(*registrar, *line)),
-            Edit::Notice(registrar, message) => {
-                Ok(Edit::Notice(*registrar, message_clone(message)?))
-            }
-            Edit::Unnotice(registrar, message) => {
-                Ok(Edit::Unnotice(*registrar, message_clone(message)?))
-            }
-            Edit::Contact(name, value) => {
-                let name = name.clone()?;
-                Ok(Edit::Contact(name, copy_contact(value.as_ref())?))
-            }
-            Edit::Domain(name, value) => {
-                let name = name.clone()?;
-                Ok(Edit::Domain(name, copy_domain(value.as_ref())?))
-            }
-            Edit::Host(name, value) => {
-                let name = name.clone()?;
-                Ok(Edit::Host(name, copy_host(value.as_ref())?))
-            }
-            Edit::Terms(terms) => Ok(Edit::Terms(copy_terms(terms)?)),
+            Edit::Notice(registrar, message) => notice(*registrar, message),
+            Edit::Unnotice(registrar, message) => unnotice(*registrar, message),
+            Edit::Contact(name, value) => contact_put(name, value.as_ref()),
+            Edit::Domain(name, value) => domain_put(name, value.as_ref()),
+            Edit::Host(name, value) => host_put(name, value.as_ref()),
+            Edit::Terms(terms) => terms_put(terms),
         }
     }
+}
+
+// ---- edits with what they put, in memory of their own
+
+/// The registrar is to have this account, or none.
+fn account_put(registrar: RegistrarNo, value: Option<&AccountRecord>) -> Result<Edit, AllocError>
+    ensures { IfOk result (λ it. it ≡ edits.Account registrar (option_copied value.entry)) }
+{
+    Ok(Edit::Account(registrar, copy_account(value)?))
+}
+
+fn notice(registrar: RegistrarNo, message: &Message) -> Result<Edit, AllocError>
+    ensures { IfOk result (λ it. it ≡ edits.Notice registrar message.now) }
+{
+    Ok(Edit::Notice(registrar, message_clone(message)?))
+}
+
+fn unnotice(registrar: RegistrarNo, message: &Message) -> Result<Edit, AllocError>
+    ensures { IfOk result (λ it. it ≡ edits.Unnotice registrar message.now) }
+{
+    Ok(Edit::Unnotice(registrar, message_clone(message)?))
+}
+
+/// The name is to have this contact, or none.
+pub(crate) fn contact_put(name: &Text, value: Option<&ContactRecord>) -> Result<Edit, AllocError>
+    ensures { IfOk result (λ it. it ≡ edits.Contact name.now (option_copied value.entry)) }
+{
+    let name = name.clone()?;
+    Ok(Edit::Contact(name, copy_contact(value)?))
+}
+
+/// The name is to have this domain, or none.
+pub(crate) fn domain_put(name: &Text, value: Option<&DomainRecord>) -> Result<Edit, AllocError>
+    ensures { IfOk result (λ it. it ≡ edits.Domain name.now (option_copied value.entry)) }
+{
+    let name = name.clone()?;
+    Ok(Edit::Domain(name, copy_domain(value)?))
+}
+
+/// The name is to have this host, or none.
+pub(crate) fn host_put(name: &Text, value: Option<&HostRecord>) -> Result<Edit, AllocError>
+    ensures { IfOk result (λ it. it ≡ edits.Host name.now (option_copied value.entry)) }
+{
+    let name = name.clone()?;
+    Ok(Edit::Host(name, copy_host(value)?))
+}
+
+/// These are to be the terms, or none.
+pub(crate) fn terms_put(terms: &Option<BookTerms>) -> Result<Edit, AllocError>
+    ensures { IfOk result (λ it. it ≡ edits.Terms terms.now) }
+{
+    Ok(Edit::Terms(copy_terms(terms)?))
 }
 
 /// Puts a value under a name, or takes away what stands there.
@@ -88,9 +126,7 @@ pub(crate) fn put_named<V: Drop>(
     }
 }
 
-pub(crate) fn copy_account(
-    account: Option<&AccountRecord>,
-) -> Result<Option<AccountRecord>, AllocError>
+fn copy_account(account: Option<&AccountRecord>) -> Result<Option<AccountRecord>, AllocError>
     ensures { IfOk result (λ copy. copy ≡ option_copied account.entry) }
 {
     match account {

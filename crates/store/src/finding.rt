@@ -1,5 +1,5 @@
 //! The facts of a command, as they are found in records.
-ghost use Rattle.std.specs.Prelude.{◌≡◌, ◌&&◌, pos, if◌then◌else◌, [], false, map, nat_le, not, option_map, option_and_then, None, IfOk};
+ghost use Rattle.std.specs.Prelude.{◌≡◌, ◌&&◌, if◌then◌else◌, [], false, map, nat_le, not, option_map, option_and_then, None, IfOk};
 ghost use Rattle.std.specs.List.{list_any};
 ghost use Rattle.std.specs.FinMap as finmap;
 ghost use Rattle.std.specs.Option.{option_copied};
@@ -22,7 +22,6 @@ use accounts::{Account, Lines, Message};
 use basis::list::Seq;
 use basis::registrar::RegistrarNo;
 use basis::text::Text;
-use calendar::Moment;
 use facts::{
     AccountFacts, ContactFacts, DomainFacts, Facts, HOLDING_LIMIT, HostFacts, OldestMessage,
     QueueFacts, Superordinate,
@@ -48,11 +47,9 @@ pub(crate) fn facts_for<R: Records>(
     let missing = reference_missing(records, command)?;
     let limit = holding_limit_reached(records, caller, command)?;
     let account = account_facts(records, caller, command)?;
-    let hosts = hosts_for(records, command)?;
-    let contacts = contacts_for(records, caller, command, policy)?;
-    let domains = domains_for(records, caller, command, policy)?;
-    let at_new_name = new_name_for(records, command)?;
+    let (contacts, domains, hosts) = objects_for(records, caller, command, policy)?;
     let queue = queue_facts(records, caller, command)?;
+    let at_new_name = new_name_for(records, command)?;
     Ok(Facts {
         account,
         queue,
@@ -63,6 +60,21 @@ pub(crate) fn facts_for<R: Records>(
         reference_missing: missing,
         holding_limit_reached: limit,
     })
+}
+
+/// What there is of the contacts, the domains and the hosts that the command asks for.
+fn objects_for<R: Records>(
+    records: &mut R,
+    caller: RegistrarNo,
+    command: &Command,
+    policy: &Policy,
+) -> Result<(Seq<ContactFacts>, Seq<DomainFacts>, Seq<HostFacts>), BookFault>
+    ensures { Finds result (lookups.objects_in (facts.facts policy.now caller command.now (R.kept records.old).content.registry)) (R.kept records.old) (R.kept records.new) }
+{
+    let hosts = hosts_for(records, command)?;
+    let contacts = contacts_for(records, caller, command, policy)?;
+    let domains = domains_for(records, caller, command, policy)?;
+    Ok((contacts, domains, hosts))
 }
 
 // ---- the account
@@ -182,7 +194,9 @@ fn contact_seen<R: Records>(
     ensures { Finds result (option_map (contact_as caller (option_copied presented.entry)) (finmap.get (R.kept records.old).content.registry.contacts name.now)) (R.kept records.old) (R.kept records.new) }
 {
     let contact = records.contact(name)?;
-    found_contact(records, caller, presented, &contact)
+    let seen = found_contact(records, caller, presented, &contact);
+    drop(contact);
+    seen
 }
 
 fn found_contact<R: Records>(
@@ -297,7 +311,9 @@ fn domain_seen<R: Records>(
     ensures { Finds result (option_map (domain_sight policy.now caller (R.kept records.old).content.registry (option_copied presented.entry)) (finmap.get (R.kept records.old).content.registry.domains name.now)) (R.kept records.old) (R.kept records.new) }
 {
     let domain = records.domain(name)?;
-    found_domain(records, caller, policy, presented, &domain)
+    let seen = found_domain(records, caller, policy, presented, &domain);
+    drop(domain);
+    seen
 }
 
 fn found_domain<R: Records>(

@@ -1,7 +1,7 @@
 //! A book that is made of records.
 ghost use Rattle.std.specs.Prelude.{◌≡◌, ◌≤◌, Err};
 ghost use Rattle.store.specs.Book.{HasRefused};
-ghost use Rattle.store.specs.Kept.{GaveUp, GoesBack, stands};
+ghost use Rattle.store.specs.Kept.{GaveUp, stands};
 
 use crate::book::Book;
 use crate::due::Due;

@@ -241,23 +241,33 @@ fn write_rows(
     write_zone(alloc, &mut source, SERIAL, writer)
 }
 
+/// What a writer with room for so many bytes takes of the zone of these rows, and what became of it.
+fn taken(
+    alloc: Global,
+    policy: &Policy,
+    rows: Rows,
+    room: usize,
+) -> (Vec<u8>, Result<(), ZoneFault>) {
+    let mut writer = Full {
+        taken: Vec::new(alloc),
+        room,
+    };
+    let wrote = write_rows(alloc, policy, rows, &mut writer);
+    (writer.taken, wrote)
+}
+
 #[test]
 fn zones(rt: HostRuntime) -> Result<(), Fail> {
     let alloc = rt.alloc();
     let policy = policy_of(alloc, POLICY)?;
     for (hosts, domains, lines) in ZONES.iter().copied() {
-        let mut writer = Full {
-            taken: Vec::new(alloc),
-            room: 10_000,
-        };
-        assert_eq!(&rt;
-            write_rows(alloc, &policy, (hosts, domains), &mut writer),
-            Ok(())
-        );
-        assert!(&rt; writer.taken.starts_with(SOA));
-        assert!(&rt; writer.taken.len() == SOA.len().saturating_add(lines.len()));
-        assert!(&rt; writer.taken.ends_with(lines));
+        let (taken, wrote) = taken(alloc, &policy, (hosts, domains), 10_000);
+        assert_eq!(&rt; wrote, Ok(()));
+        assert!(&rt; taken.starts_with(SOA));
+        assert!(&rt; taken.len() == SOA.len().saturating_add(lines.len()));
+        assert!(&rt; taken.ends_with(lines));
     }
+    drop(policy);
     Ok(())
 }
 
@@ -275,15 +285,12 @@ fn every_write_that_fails(rt: HostRuntime) -> Result<(), Fail> {
     let alloc = rt.alloc();
     let policy = policy_of(alloc, POLICY)?;
     for room in SOA.len()..SOA.len().saturating_add(SMALL_LINES.len()) {
-        let mut writer = Full {
-            taken: Vec::new(alloc),
-            room,
-        };
-        let wrote = write_rows(alloc, &policy, SMALL, &mut writer);
+        let (taken, wrote) = taken(alloc, &policy, SMALL, room);
         assert_eq!(&rt; wrote, Err(ZoneFault::Write));
-        assert!(&rt; writer.taken.starts_with(SOA));
-        assert!(&rt; SMALL_LINES.starts_with(&writer.taken[SOA.len().min(writer.taken.len())..]));
-        assert!(&rt; writer.taken.len() == room);
+        assert!(&rt; taken.starts_with(SOA));
+        assert!(&rt; SMALL_LINES.starts_with(&taken[SOA.len().min(taken.len())..]));
+        assert!(&rt; taken.len() == room);
     }
+    drop(policy);
     Ok(())
 }

@@ -1,5 +1,5 @@
 //! A transcript: a script with the replies that must follow.
-ghost use Rattle.std.specs.Prelude.{◌≡◌, ◌==◌, ◌≤◌, IfOk, length};
+ghost use Rattle.std.specs.Prelude.{◌≡◌, ◌==◌};
 ghost use Rattle.std.specs.List.{before_first, after_first, position};
 ghost use Rattle.transcripts.specs.declared.transcript.TheConstants.{LINE_FEED};
 

@@ -6,11 +6,13 @@ use calendar::Moment;
 use eppframes::ListClock;
 use eppsessions::Connection;
 use fixtures::registry_of;
+use registry::Registry;
 use sessions::{SessionEnd, serve_session};
 use std::alloc::Global;
 use std::collections::VecDeque;
 use std::io::Read;
 use std::test::Fail;
+use store::Book;
 
 /// A moment of 2029, in seconds since 1970-01-01T00:00:00Z.
 const IN_2029: i64 = 1_861_920_000;
@@ -35,8 +37,19 @@ fn told_at<R: Read>(
     reader: &mut R,
     moments: &[i64],
 ) -> Result<(Vec<u8>, SessionEnd), Fail> {
-    let mut clock = clock_of(alloc, moments)?;
-    let mut connection = Connection::new(alloc, registry_of(alloc)?);
+    let clock = clock_of(alloc, moments)?;
+    told_by(alloc, registry_of(alloc), reader, clock)
+}
+
+/// The same, of a registry that could be opened.
+fn told_by<B: Book + Drop, R: Read>(
+    alloc: Global,
+    opened: Result<Registry<B>, &'static str>,
+    reader: &mut R,
+    clock: ListClock,
+) -> Result<(Vec<u8>, SessionEnd), Fail> {
+    let mut clock = clock;
+    let mut connection = Connection::new(alloc, opened?);
     let mut out = Vec::new(alloc);
     let end = serve_session(alloc, reader, &mut out, &mut clock, &mut connection);
     drop(connection.into_registry());
@@ -200,19 +213,39 @@ const LATE: &[(&str, i64, &str)] = &[
     ),
 ];
 
+/// What the frames of the table are told, at their moments.
+fn told_late(alloc: Global) -> Result<(Vec<u8>, SessionEnd), Fail> {
+    let mut asked = Vec::new(alloc);
+    let mut moments = Vec::new(alloc);
+    for (payload, moment, _) in LATE.iter().copied() {
+        add_frame(alloc, &mut asked, payload)?;
+        moments.push(moment)?;
+    }
+    told_at(alloc, &mut whole(&asked), &moments)
+}
+
+/// What they should be told.
+fn late_answers(alloc: Global) -> Result<Vec<u8>, Fail> {
+    let mut answers = Vec::new(alloc);
+    for (_, _, answer) in LATE.iter().copied() {
+        add_frame(alloc, &mut answers, answer)?;
+    }
+    Ok(answers)
+}
+
+/// Adds the frame of a payload.
+fn add_frame(alloc: Global, frames: &mut Vec<u8>, payload: &str) -> Result<(), Fail> {
+    let frame = framed(alloc, &[payload])?;
+    frames.extend_from_slice(&frame)?;
+    Ok(())
+}
+
 /// After 2099 nothing is answered but logins, and the session goes on.
 #[test]
 fn late_frames(rt: HostRuntime) -> Result<(), Fail> {
     let alloc = rt.alloc();
-    let mut asked = Vec::new(alloc);
-    let mut moments = Vec::new(alloc);
-    let mut wanted = Vec::new(alloc);
-    for (payload, moment, answer) in LATE.iter().copied() {
-        asked.extend_from_slice(&framed(alloc, &[payload])?)?;
-        moments.push(moment)?;
-        wanted.extend_from_slice(&framed(alloc, &[answer])?)?;
-    }
-    let (found, end) = told_at(alloc, &mut whole(&asked), &moments)?;
+    let wanted = late_answers(alloc)?;
+    let (found, end) = told_late(alloc)?;
     assert!(rt; found.as_slice() == wanted.as_slice());
     assert_eq!(rt; end, SessionEnd::Logout);
     Ok(())

@@ -127,13 +127,13 @@ fn served<R: Read, B: Book + Drop>(
     (told, served)
 }
 
-/// A registry that is new, after a session of these lines.
+/// A registry that could be opened, after a session of these lines.
 fn filled<B: Book + Drop>(
     alloc: Global,
-    registry: Registry<B>,
+    opened: Result<Registry<B>, &'static str>,
     lines: &[Line],
 ) -> Result<Registry<B>, Fail> {
-    let mut registry = registry;
+    let mut registry = opened?;
     match prepared(alloc, &mut registry, lines) {
         Ok((asked, clock)) => ended(served(alloc, &mut whole(&asked), clock, registry).1),
         Err(fail) => {
@@ -178,11 +178,23 @@ fn answers(
     let clock = clock_of(alloc, &[(at, "")])?;
     let mut reader = whole(request);
     reader.step = step;
-    let registry = filled(alloc, registry_of(alloc)?, lines)?;
-    let (told, served) = served(alloc, &mut reader, clock, registry);
-    let met = served.end;
-    drop(served);
+    let (told, met) = told_by(alloc, registry_of(alloc), lines, &mut reader, clock)?;
     Ok(told.as_slice() == wanted && met == ConnectionEnd::Http(end))
+}
+
+/// What a connection to a registry of these lines is told, and its end.
+fn told_by<B: Book + Drop, R: Read>(
+    alloc: Global,
+    opened: Result<Registry<B>, &'static str>,
+    lines: &[Line],
+    reader: &mut R,
+    clock: ListClock,
+) -> Result<(Vec<u8>, ConnectionEnd), Fail> {
+    let registry = filled(alloc, opened, lines)?;
+    let (told, served) = served(alloc, reader, clock, registry);
+    let end = served.end;
+    drop(served);
+    Ok((told, end))
 }
 
 /// The lines of a registry, the moment of a request, its target, and the body that is found.
@@ -434,16 +446,19 @@ const ZONES: &[(&[Line], &str, &str)] = &[
     ),
 ];
 
-/// Whether the zone of a registry is this text.
+/// Whether the zone of a registry of these lines is this text.
 fn has_zone<B: Book + Drop>(
     alloc: Global,
-    registry: &mut Registry<B>,
+    opened: Result<Registry<B>, &'static str>,
+    lines: &[Line],
     at: Moment,
     wanted: &str,
-) -> bool {
+) -> Result<bool, Fail> {
+    let mut registry = filled(alloc, opened, lines)?;
     let mut text = Vec::new(alloc);
-    let written = zone_on(alloc, registry, at, &mut text);
-    written.is_ok() && text.as_slice() == wanted.as_bytes()
+    let written = zone_on(alloc, &mut registry, at, &mut text);
+    drop(registry);
+    Ok(written.is_ok() && text.as_slice() == wanted.as_bytes())
 }
 
 /// A zone's serial number is the clock, where the moment comes before it.
@@ -452,10 +467,10 @@ fn zones(rt: HostRuntime) -> Result<(), Fail> {
     let alloc = rt.alloc();
     for (lines, told, wanted) in ZONES.iter().copied() {
         let at = moment(told)?;
-        let mut registry = filled(alloc, registry_of(alloc)?, lines)?;
-        let is_told = has_zone(alloc, &mut registry, at, wanted);
-        drop(registry);
-        assert!(rt; is_told, "{told}");
+        assert!(rt;
+            has_zone(alloc, registry_of(alloc), lines, at, wanted)?,
+            "{told}"
+        );
     }
     Ok(())
 }

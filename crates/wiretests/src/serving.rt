@@ -7,7 +7,7 @@ use calendar::Moment;
 use eppframes::ListClock;
 use fixtures::registry_of;
 use registry::Registry;
-use server::{ConnectionEnd, HttpEnd, MachineClock, Served, serve_one};
+use server::{ConnectionEnd, HttpEnd, MachineClock, serve_one};
 use sessions::SessionEnd;
 use std::alloc::Global;
 use std::collections::VecDeque;
@@ -106,7 +106,7 @@ where
 fn over_a_socket<R, B: Book + Drop>(
     rt: &R,
     listener: &TcpListener,
-    exchange: Exchange,
+    exchange: &mut Exchange,
     registry: Registry<B>,
 ) -> Registry<B>
 where
@@ -115,15 +115,20 @@ where
     let Ok((client, stream)) = sent_over_a_socket(rt, listener, &exchange.asked) else {
         panic!(rt; "not sent");
     };
-    let mut client = client;
-    let mut clock = exchange.clock;
-    let served = serve_one(rt.alloc(), &mut &stream, &mut &stream, &mut clock, registry);
+    let clock = &mut exchange.clock;
+    let served = serve_one(rt.alloc(), &mut &stream, &mut &stream, clock, registry);
     drop(stream);
-    let mut told = Vec::new(rt.alloc());
-    assert!(rt; client.read_to_end(&mut told).is_ok());
-    assert!(rt; told.as_slice() == exchange.wanted.as_slice());
+    assert!(rt; is_told(rt.alloc(), client, &exchange.wanted));
     assert_eq!(rt; served.end, ConnectionEnd::Session(exchange.end));
     served.registry
+}
+
+/// Whether these bytes come over a socket, and no others.
+fn is_told(alloc: Global, client: TcpStream, wanted: &[u8]) -> bool {
+    let mut client = client;
+    let mut told = Vec::new(alloc);
+    let read = client.read_to_end(&mut told);
+    read.is_ok() && told.as_slice() == wanted
 }
 
 /// Serves all connections over sockets.
@@ -132,10 +137,12 @@ where
     R: Net<Listener = TcpListener, Stream = TcpStream> + Abort + AllocGlobal,
 {
     let listener = TcpListener::bind(rt, (Ipv4Addr::LOCALHOST, 0))?;
+    let mut exchanges = exchanges(rt.alloc())?;
     let mut registry = registry;
-    for exchange in exchanges(rt.alloc())? {
+    for exchange in exchanges.iter_mut() {
         registry = over_a_socket(rt, &listener, exchange, registry);
     }
+    drop(registry);
     Ok(())
 }
 
@@ -148,14 +155,14 @@ fn loopback(rt: HostRuntime) -> Result<(), Fail> {
 /// Serves a connection whose bytes come one a read.
 fn in_pieces<R: Abort + AllocGlobal, B: Book + Drop>(
     rt: &R,
-    exchange: Exchange,
+    exchange: &mut Exchange,
     registry: Registry<B>,
 ) -> Registry<B> {
-    let mut clock = exchange.clock;
     let mut reader = whole(&exchange.asked);
     reader.step = 1;
     let mut told = Vec::new(rt.alloc());
-    let served = serve_one(rt.alloc(), &mut reader, &mut told, &mut clock, registry);
+    let clock = &mut exchange.clock;
+    let served = serve_one(rt.alloc(), &mut reader, &mut told, clock, registry);
     assert!(rt; told.as_slice() == exchange.wanted.as_slice());
     assert_eq!(rt; served.end, ConnectionEnd::Session(exchange.end));
     served.registry
@@ -166,10 +173,12 @@ fn all_in_pieces<R: Abort + AllocGlobal, B: Book + Drop>(
     rt: &R,
     registry: Registry<B>,
 ) -> Result<(), Fail> {
+    let mut exchanges = exchanges(rt.alloc())?;
     let mut registry = registry;
-    for exchange in exchanges(rt.alloc())? {
+    for exchange in exchanges.iter_mut() {
         registry = in_pieces(rt, exchange, registry);
     }
+    drop(registry);
     Ok(())
 }
 
@@ -195,6 +204,24 @@ const ENDS: &[(&[u8], usize, ConnectionEnd)] = &[
     ),
 ];
 
+/// How a connection to a registry that could be opened ends, which is told nothing.
+fn untold_end<B: Book + Drop, R: Read>(
+    alloc: Global,
+    opened: Result<Registry<B>, &'static str>,
+    reader: &mut R,
+    clock: &mut ListClock,
+) -> Result<ConnectionEnd, Fail> {
+    let registry = opened?;
+    let mut told = Vec::new(alloc);
+    let served = serve_one(alloc, reader, &mut told, clock, registry);
+    let end = served.end;
+    drop(served);
+    if !told.is_empty() {
+        return Err(Fail::from("something was told"));
+    }
+    Ok(end)
+}
+
 /// Nothing is answered where no frame is whole, or a read fails.
 #[test]
 fn ends(rt: HostRuntime) -> Result<(), Fail> {
@@ -202,13 +229,8 @@ fn ends(rt: HostRuntime) -> Result<(), Fail> {
     for (input, reads, end) in ENDS.iter().copied() {
         let mut reader = whole(input);
         reader.reads = reads;
-        let mut told = Vec::new(alloc);
         let mut clock = clock_of(alloc)?;
-        let registry = registry_of(alloc)?;
-        let served = serve_one(alloc, &mut reader, &mut told, &mut clock, registry);
-        let met = served.end;
-        drop(served);
-        assert!(rt; told.is_empty());
+        let met = untold_end(alloc, registry_of(alloc), &mut reader, &mut clock)?;
         assert_eq!(rt; met, end);
     }
     Ok(())

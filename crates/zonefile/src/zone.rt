@@ -4,7 +4,7 @@ ghost use Rattle.std.specs.FinMap.{empty, keys};
 ghost use Rattle.std.specs.Io.KnownBytes.{Appends};
 ghost use Rattle.std.specs.List.{flat_map};
 ghost use Rattle.zonefile.specs.Lines.{soa_line};
-ghost use Rattle.zonefile.specs.ZoneText.{AppendsBeginning, Faces, delegation_at, delegation_of, glue_at, glue_of, own_hosts_at, with_name, zone_text};
+ghost use Rattle.zonefile.specs.ZoneText.{AppendsBeginning, Faces, delegation_at, delegation_of, glue_at, glue_of, own_hosts, own_hosts_at, with_name, zone_text};
 
 use crate::delegation::delegation;
 use crate::fault::ZoneFault;
@@ -13,6 +13,7 @@ use crate::line::soa_line;
 use crate::source::ZoneSource;
 use basis::maps::NameMap;
 use basis::text::Text;
+use names::Zone;
 use objects::DomainFace;
 use policy::Policy;
 use std::alloc::Global;
@@ -106,8 +107,27 @@ fn write_domain<S: ZoneSource, W: Write>(
     let Some(face) = source.domain(name)? else {
         return Ok(());
     };
-    write_delegation(alloc, ttl, &face, writer)?;
-    add_own_hosts(source.policy().zone(), &face, hosts)?;
+    let written = write_face(alloc, ttl, source.policy().zone(), &face, hosts, writer);
+    drop(face);
+    Ok(written?)
+}
+
+/// Writes the name servers of a domain, and puts the zone's own hosts among them to those that are
+/// there.
+fn write_face<W: Write>(
+    alloc: Global,
+    ttl: u32,
+    zone: &Zone,
+    face: &DomainFace,
+    hosts: &mut NameMap<()>,
+    writer: &mut W,
+) -> Result<(), ZoneFault>
+    ensures written { OnOk result (Appends (W.contents writer.old) (W.contents writer.new) (delegation_of ttl face.now)) }
+    ensures begun { OnErr result (AppendsBeginning (W.contents writer.old) (W.contents writer.new) (delegation_of ttl face.now)) }
+    ensures hosts { OnOk result (hosts.new ≡ fold with_name hosts.old (own_hosts zone.now face.now)) }
+{
+    write_delegation(alloc, ttl, face, writer)?;
+    add_own_hosts(zone, face, hosts)?;
     Ok(())
 }
 

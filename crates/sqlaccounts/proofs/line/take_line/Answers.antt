@@ -1,11 +1,9 @@
-use Rattle.std.proofs.Common.{rules, ◌≡◌, pos, ◌-ℤ◌, filter, subst, ap, sym, ◌∙◌, true, FitsSigned, to_z-of_z}
-use Rattle.std.specs.Int.{w128}
-use Rattle.accounts.specs.Lines.{amount}
+use Rattle.std.proofs.Common.{◌≡◌, filter, subst, ap, sym, ◌∙◌, true}
 use Rattle.meanings.proofs.StateLemmas.{reads-on, then-made}
 use Rattle.tables.specs.Content.{Content}
 use Rattle.tables.specs.Whole.{IsWhole}
 use Rattle.transactions.specs.States.{Reads}
-use Rattle.sqlaccounts.specs.Changes.{IsPaid, without_line}
+use Rattle.sqlaccounts.specs.Changes.{without_line}
 use Rattle.sqlaccounts.specs.Finding.{is_row_about}
 use Rattle.sqlaccounts.proofs.TakingLemmas.{left-there, taken-out}
 use Rattle.sqlaccounts.proofs.CallLemmas.{then-kept}
@@ -16,17 +14,13 @@ returns g c =
     let first = c.in_ok-row.ensures.row in
     let second = c.in_ok-rows.ensures.rows in
     let reads : Reads c.args.store.now c.rows_about.new.store = reads-on c.args.store.now c.found_row.new.store c.rows_about.new.store first.0 second.0 in
-    let fits : FitsSigned w128 c.amount.result = search rules in
-    let less : FitsSigned w128 c.in_ok-cents.cents = search rules in
-    let cents : c.in_ok-cents.cents ≡ pos 0 -ℤ amount c.args.line = c.in_ok-cents.ensures {u = tt} ∙ ap (λ z. pos 0 -ℤ z) (to_z-of_z fits ∙ c.amount.ensures.value) in
-    let paid = subst (λ z. IsPaid z c.in_ok-row.row c.in_ok-row-2.row) (to_z-of_z less ∙ cents) (c.in_ok-row-2.ensures {u = tt}) in
     then-made (without_line c.in-Some.number c.in_ok-row-2.row) _ c.args.store.now c.rows_about.new.store c.remove.new.store reads (c.in_ok-remove.ensures {u = tt})
     (λ clean.
     let before : c.found_row.new.store.is_clean ≡ true = second.0.clean clean in
     taken-out c.args.store.now.content c.args.registrar c.args.line c.in_ok-row.row c.in_ok-row-2.row c.as_slice.result.now c.in-Some.number
-    (subst IsWhole (reads.content clean) (c.whole.ensures clean)) c.in_ok-row.ensures.place (first.1 before) paid
+    (subst IsWhole (reads.content clean) (c.whole.ensures clean)) c.in_ok-row.ensures.place (first.1 before) (c.in_ok-row-2.ensures {u = tt})
     (c.as_slice.ensures ∙ second.1 clean ∙ ap (λ (xs : Content). filter (is_row_about c.args.registrar c.args.line.roid) xs.lines) (first.0.content before))
-    (sym c.in-Some.is ∙ c.number_of_line.ensures))
+    (sym c.in-Some.is ∙ c.number_of_line-number.ensures))
 
 pub returns-in_default : goal.returns-in_default
 returns-in_default g c =
@@ -38,4 +32,4 @@ returns-in_default g c =
     let before : c.found_row.new.store.is_clean ≡ true = second.0.clean clean in
     left-there c.args.store.now.content c.args.registrar c.args.line c.in_ok-row.row c.as_slice.result.now c.in_ok-row.ensures.place (first.1 before) c.in_ok-rows.ensures.domain
     (c.as_slice.ensures ∙ second.1 clean ∙ ap (λ (xs : Content). filter (is_row_about c.args.registrar c.args.line.roid) xs.lines) (first.0.content before))
-    (sym c.in_default.is ∙ c.number_of_line.ensures))
+    (sym c.in_default.is ∙ c.number_of_line-number.ensures))

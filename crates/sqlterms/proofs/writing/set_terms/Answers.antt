@@ -23,4 +23,4 @@ returns g c =
     (e.1 (written.clean (named.clean (read.0.clean clean))))
     (c.in_ok-row.ensures {u = tt} ∙ ap (with_terms c.args.value.now (string_bytes c.in_ok-labels.labels)) c.meta_or_new.ensures)
     renaming
-    (sym (read.1 clean) ∙ c.are.ensures c.if-not-are.false))
+    (sym (read.1 clean) ∙ c.are-same.ensures c.if-not-same.false))
