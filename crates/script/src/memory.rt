@@ -1,5 +1,5 @@
 //! The book in memory that a script runs over: the ten tables of a database.
-ghost use Rattle.std.specs.Prelude.{◌≡◌, true, IfOk, Ok};
+ghost use Rattle.std.specs.Prelude.{◌≡◌, true, IfOk};
 ghost use Rattle.script.specs.Runs.{kept, start};
 
 use policy::Policy;
@@ -17,25 +17,14 @@ pub(crate) fn open(alloc: Global, policy: Policy) -> Result<Registry<ScriptBook>
     ensures start { IfOk result (λ registry. kept (⟦<ScriptBook as Book>⟧.state registry.book) ≡ start policy) }
     ensures policy { IfOk result (λ registry. registry.policy ≡ policy) }
 {
-    match in_memory(alloc) {
-        Ok(book) => or_fault(Registry::open(alloc, book, policy)),
-        Err(BookFault::Memory) => Err(OpenFault::Memory),
-        Err(BookFault::Store) => Err(OpenFault::Store),
-    }
-}
-
-/// What was opened; a book that was refused falls.
-fn or_fault<B: Book + Drop>(
-    opened: Result<Registry<B>, (OpenFault, B)>,
-) -> Result<Registry<B>, OpenFault>
-    ensures { IfOk result (λ registry. opened ≡ Ok registry) }
-{
-    match opened {
+    let book = match in_memory(alloc) {
+        Ok(book) => book,
+        Err(BookFault::Memory) => return Err(OpenFault::Memory),
+        Err(BookFault::Store) => return Err(OpenFault::Store),
+    };
+    match Registry::open(alloc, book, policy) {
         Ok(registry) => Ok(registry),
-        Err((fault, book)) => {
-            drop(book);
-            Err(fault)
-        }
+        Err((fault, _)) => Err(fault),
     }
 }
 
