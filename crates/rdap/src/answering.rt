@@ -64,7 +64,9 @@ fn answer_domain<F: FaceSource>(
     match DomainName::read(alloc, name.as_str(), source.policy().zone()) {
         Ok(name) => {
             let face = source.domain(&name)?;
-            domain_told(alloc, &*source, &name, &face)
+            let told = domain_told(alloc, &*source, &name, &face);
+            drop(face);
+            told
         }
         Err(fault) => Ok(answer_fault(alloc, fault)?),
     }
@@ -107,7 +109,9 @@ fn answer_nameserver<F: FaceSource>(
     match HostName::read(alloc, name.as_str(), source.policy().zone()) {
         Ok(name) => {
             let face = source.host(&name)?;
-            Ok(nameserver_told(alloc, &name, &face)?)
+            let told = nameserver_told(alloc, &name, &face);
+            drop(face);
+            Ok(told?)
         }
         Err(fault) => Ok(answer_fault(alloc, fault)?),
     }

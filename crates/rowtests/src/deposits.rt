@@ -17,47 +17,56 @@ const RANGE: &str = "{\"code\":2004,\"msg\":\"Parameter value range error\"}\n";
 
 const MISSING: &str = "{\"code\":2303,\"msg\":\"Object does not exist\"}\n";
 
-/// A registrar, cents, the code of the answer and its text, and alfa's balance after this deposit alone.
-type Row = (&'static str, i64, Code, &'static str, &'static str);
+/// The code that is told, and the text that is printed.
+type Told = (Code, &'static str);
+
+const DONE: Option<Told> = Some((Code::Completed, COMPLETED));
+
+const OUT_OF_RANGE: Option<Told> = Some((Code::ParameterRange, RANGE));
+
+const NO_REGISTRAR: Option<Told> = Some((Code::ObjectMissing, MISSING));
+
+/// What comes after the last moment is told nothing.
+const TOO_LATE: Option<Told> = None;
+
+/// When, a registrar, cents, what is told, and alfa's balance after this deposit alone.
+type Row = (&'static str, &'static str, i64, Option<Told>, &'static str);
+
+const NOW: &str = "2028-01-01T00:00:00Z";
 
 const ROWS: &[Row] = &[
-    ("alfa", 100_000, Code::Completed, COMPLETED, "100000"),
-    ("beta", 100_000, Code::Completed, COMPLETED, "0"),
-    ("alfa", 1, Code::Completed, COMPLETED, "1"),
-    (
-        "alfa",
-        1_000_000_000_000,
-        Code::Completed,
-        COMPLETED,
-        "1000000000000",
-    ),
-    ("gamma", 100_000, Code::ObjectMissing, MISSING, "0"),
-    ("Alfa", 100_000, Code::ObjectMissing, MISSING, "0"),
-    ("operator", 100_000, Code::ObjectMissing, MISSING, "0"),
-    ("alfa", 0, Code::ParameterRange, RANGE, "0"),
-    ("alfa", -1, Code::ParameterRange, RANGE, "0"),
-    ("alfa", 1_000_000_000_001, Code::ParameterRange, RANGE, "0"),
-    ("gamma", 0, Code::ParameterRange, RANGE, "0"),
+    (NOW, "alfa", 100_000, DONE, "100000"),
+    (NOW, "beta", 100_000, DONE, "0"),
+    (NOW, "alfa", 1, DONE, "1"),
+    (NOW, "alfa", 1_000_000_000_000, DONE, "1000000000000"),
+    (NOW, "gamma", 100_000, NO_REGISTRAR, "0"),
+    (NOW, "Alfa", 100_000, NO_REGISTRAR, "0"),
+    (NOW, "operator", 100_000, NO_REGISTRAR, "0"),
+    (NOW, "alfa", 0, OUT_OF_RANGE, "0"),
+    (NOW, "alfa", -1, OUT_OF_RANGE, "0"),
+    (NOW, "alfa", 1_000_000_000_001, OUT_OF_RANGE, "0"),
+    (NOW, "gamma", 0, OUT_OF_RANGE, "0"),
+    ("2100-01-01T00:00:00Z", "alfa", 100_000, TOO_LATE, "0"),
 ];
 
 const BALANCE: &str = "2028-01-01T00:00:00Z alfa {\"cmd\":\"balance\"}\n";
 
-/// What a deposit prints, where it tells this code.
-fn deposited<B: Book + Drop>(
+/// Whether a deposit is told what its row says, and nothing where it is too late.
+fn is_told<B: Book + Drop>(
     alloc: Global,
     registry: &mut Registry<B>,
-    at: &str,
-    (registrar, cents, code, _, _): Row,
-) -> Result<Option<Vec<u8>>, Fail> {
+    (at, registrar, cents, told, _): Row,
+) -> Result<bool, Fail> {
     let Some(at) = Moment::read(at) else {
         return Err(Fail::from("no moment"));
     };
     let mut output = Vec::new(alloc);
-    match deposit_on(alloc, registry, at, registrar, cents, &mut output) {
-        Ok(told) if told == code => Ok(Some(output)),
-        Err(Exit::Registry(Fault::Moment)) if output.is_empty() => Ok(None),
-        _ => Err(Fail::from("another code, or another fault")),
-    }
+    let said = deposit_on(alloc, registry, at, registrar, cents, &mut output);
+    Ok(match (said, told) {
+        (Ok(code), Some((wanted, text))) => code == wanted && output.as_slice() == text.as_bytes(),
+        (Err(Exit::Registry(Fault::Moment)), None) => output.is_empty(),
+        _ => false,
+    })
 }
 
 /// Whether alfa is told this balance.
@@ -73,20 +82,7 @@ fn has_balance<B: Book + Drop>(
     Ok(told.as_slice() == reply.as_bytes())
 }
 
-/// Whether a deposit is answered as its row says, and the balance with it.
-fn is_answered<B: Book + Drop>(
-    alloc: Global,
-    registry: &mut Registry<B>,
-    row: Row,
-) -> Result<bool, Fail> {
-    match deposited(alloc, registry, "2028-01-01T00:00:00Z", row)? {
-        None => Err(Fail::from("too late")),
-        Some(told) if told.as_slice() == row.3.as_bytes() => has_balance(alloc, registry, row.4),
-        Some(_) => Ok(false),
-    }
-}
-
-/// The same, of a registry that could be opened.
+/// Whether a deposit is told what its row says, and the balance after it, by a registry that could be opened.
 fn is_answered_by<B: Book + Drop>(
     alloc: Global,
     opened: Result<Registry<B>, Fail>,
@@ -98,41 +94,18 @@ fn is_answered_by<B: Book + Drop>(
     answered
 }
 
+fn is_answered<B: Book + Drop>(
+    alloc: Global,
+    registry: &mut Registry<B>,
+    row: Row,
+) -> Result<bool, Fail> {
+    Ok(is_told(alloc, registry, row)? && has_balance(alloc, registry, row.4)?)
+}
+
 #[test]
 fn deposits(rt: HostRuntime) -> Result<(), Fail> {
     for row in ROWS.iter().copied() {
         assert!(rt; is_answered_by(rt.alloc(), new_registry(rt.alloc()), row)?);
     }
-    Ok(())
-}
-
-/// Whether a deposit is too late, and nothing is changed.
-fn is_too_late<B: Book + Drop>(
-    alloc: Global,
-    registry: &mut Registry<B>,
-    row: Row,
-) -> Result<bool, Fail> {
-    match deposited(alloc, registry, "2100-01-01T00:00:00Z", row)? {
-        None => has_balance(alloc, registry, "0"),
-        Some(_) => Ok(false),
-    }
-}
-
-/// The same, of a registry that could be opened.
-fn is_too_late_for<B: Book + Drop>(
-    alloc: Global,
-    opened: Result<Registry<B>, Fail>,
-    row: Row,
-) -> Result<bool, Fail> {
-    let mut registry = opened?;
-    let late = is_too_late(alloc, &mut registry, row);
-    drop(registry);
-    late
-}
-
-/// After the last moment nothing is printed, and the registry is as it was.
-#[test]
-fn a_deposit_after_the_last_moment(rt: HostRuntime) -> Result<(), Fail> {
-    assert!(rt; is_too_late_for(rt.alloc(), new_registry(rt.alloc()), ROWS[0])?);
     Ok(())
 }

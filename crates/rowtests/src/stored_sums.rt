@@ -141,15 +141,30 @@ fn run_case<B: Book + Drop>(
     Ok(())
 }
 
+/// A book whose rows can be taken out.
+trait RowBook: Book {
+    type Kind: Alter + Drop;
+
+    fn into_rows(self) -> RowStore<Self::Kind>;
+}
+
+impl<S: Alter + Drop, O: Origin<S> + Drop> RowBook for SqlBook<S, O> {
+    type Kind = S;
+
+    fn into_rows(self) -> RowStore<S> {
+        self.into_records().into_rows()
+    }
+}
+
 /// The rows of a registry that could be opened, after a case's script.
-fn rows_after<S: Alter + Drop, O: Origin<S> + Drop>(
+fn rows_after<B: RowBook + Drop>(
     alloc: Global,
-    opened: Result<Registry<SqlBook<S, O>>, Fail>,
+    opened: Result<Registry<B>, Fail>,
     case: &Case,
-) -> Result<RowStore<S>, Fail> {
+) -> Result<RowStore<B::Kind>, Fail> {
     let mut registry = opened?;
     match run_case(alloc, &mut registry, case) {
-        Ok(()) => Ok(registry.into_book().into_records().into_rows()),
+        Ok(()) => Ok(registry.into_book().into_rows()),
         Err(fail) => {
             drop(registry);
             Err(fail)
@@ -196,9 +211,9 @@ fn compare<S: Alter>(
 }
 
 /// Compares the rows of a registry that could be opened, after a case's script, with those of the case.
-fn compare_after<S: Alter + Drop, O: Origin<S> + Drop>(
+fn compare_after<B: RowBook + Drop>(
     rt: &(impl Abort + AllocGlobal),
-    opened: Result<Registry<SqlBook<S, O>>, Fail>,
+    opened: Result<Registry<B>, Fail>,
     case: &Case,
 ) -> Result<(), Fail> {
     let mut rows = rows_after(rt.alloc(), opened, case)?;

@@ -64,7 +64,9 @@ pub fn rename_host<S: Alter>(
     ensures { Alters result stored_of are_right (tables.host_renamed from.now to.now domain.now (stored_of store.old.content)) store.old store.new }
 {
     let before = sqldomains::domain(store, alloc, domain)?;
-    put_renamed(store, alloc, domain, &before, from, to, policy)
+    let renamed = put_renamed(store, alloc, domain, &before, from, to, policy);
+    drop(before);
+    renamed
 }
 
 /// The same, told what stands under the name.
@@ -83,8 +85,9 @@ fn put_renamed<S: Alter>(
     let Some(before) = before else {
         return Ok(());
     };
+    let name = name.clone()?;
     let renamed = with_host_renamed(alloc, from, to, before)?;
-    put_domain(store, alloc, name.clone()?, renamed, policy)
+    put_domain(store, alloc, name, renamed, policy)
 }
 
 /// The domain that stands under a name, whose row was right, under the days that were put down.
@@ -140,7 +143,9 @@ fn exchange_there<S: Alter>(
 {
     store.whole();
     let before = found(store, alloc, name, policy)?;
-    exchange(store, alloc, name, &before, after, due)?;
+    let exchanged = exchange(store, alloc, name, &before, after, due);
+    drop(before);
+    exchanged?;
     Ok(())
 }
 

@@ -115,7 +115,9 @@ fn naming_contact<S: Alter>(
     ensures { Meets result (λ done. spec.Passes store.old.content (λ d. links.names_contact name.now d.links) row) store.old store.new }
 {
     let domain = domain_of(store, alloc, row)?;
-    if !domain.links.names_contact(name) {
+    let is_named = domain.links.names_contact(name);
+    drop(domain);
+    if !is_named {
         return Err(BookFault::Store);
     }
     Ok(())
@@ -190,7 +192,9 @@ fn naming_host<S: Alter>(
     ensures { Meets result (λ done. spec.Passes store.old.content (λ d. links.names_host name.now d.links) row) store.old store.new }
 {
     let domain = domain_of(store, alloc, row)?;
-    if !domain.links.names_host(name) {
+    let is_named = domain.links.names_host(name);
+    drop(domain);
+    if !is_named {
         return Err(BookFault::Store);
     }
     Ok(())

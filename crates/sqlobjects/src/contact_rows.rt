@@ -132,7 +132,9 @@ fn append<S: Alter>(
     ensures { Turns result (IsContactAdded contact.now) store.old store.new }
 {
     let row = row_of(alloc, 0, contact)?;
-    store.append_contact(&row)?;
+    let appended = store.append_contact(&row);
+    drop(row);
+    appended?;
     Ok(())
 }
 

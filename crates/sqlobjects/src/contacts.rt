@@ -1,7 +1,8 @@
 //! Contacts, by name.
-ghost use Rattle.std.specs.Prelude.{◌≡◌, IfOk, Some, is_some};
+ghost use Rattle.std.specs.Prelude.{◌≡◌, IfOk, Some, filter, is_some};
 ghost use Rattle.std.specs.FinMap.{get};
 ghost use Rattle.columns.specs.Contacts.{contact_in};
+ghost use Rattle.tables.specs.Transfer.{transfer_with_contact};
 ghost use Rattle.transactions.specs.States.{Finds, Meets};
 ghost use Rattle.sqlobjects.specs.Objects as spec;
 ghost use Rattle.meanings.specs.Read.{first_read};
@@ -51,9 +52,24 @@ pub fn contact_of<S: Alter>(
 ) -> Result<Contact, BookFault>
     ensures { Meets result (λ contact. spec.contact_of store.old.content row ≡ Some contact) store.old store.new }
 {
+    match transfer_of(store, &row) {
+        Ok(transfer) => read_contact(alloc, row, transfer),
+        Err(fault) => {
+            drop(row);
+            Err(fault)
+        }
+    }
+}
+
+/// The last transfer of the contact of a row, if there was one.
+fn transfer_of<S: Alter>(
+    store: &mut RowStore<S>,
+    row: &ContactRow,
+) -> Result<Option<Transfer>, BookFault>
+    ensures { Meets result (λ transfer. spec.last_transfer (filter (transfer_with_contact row.now.id) store.old.content.transfers) ≡ Some transfer) store.old store.new }
+{
     let transfers = store.transfers_by_contact(Number::new(row.id))?;
-    let transfer = last_transfer(transfers)?;
-    read_contact(alloc, row, transfer)
+    last_transfer(transfers)
 }
 
 /// The last transfer, if there was one, of the object whose transfers these rows are.
@@ -86,5 +102,7 @@ pub fn has_contact<S: Alter>(
     ensures { Finds result (is_some (get (spec.contacts_of store.old.content) name.now)) store.old store.new }
 {
     let contact = contact(store, alloc, name)?;
-    Ok(contact.is_some())
+    let is_there = contact.is_some();
+    drop(contact);
+    Ok(is_there)
 }

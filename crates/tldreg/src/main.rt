@@ -12,7 +12,7 @@ use protocol::Code;
 use registry::Registry;
 use script::{Exit, deposit_on, run_script};
 use server::{HandOverFault, MachineClock, serve_each, zone_on};
-use sqlite::Unknown;
+use sqlite::{Start, Unknown};
 use std::net::{Ipv4Addr, TcpListener};
 use std::process::ExitCode;
 use std::rt::Files;
@@ -32,7 +32,7 @@ fn work_on(rt: &HostRuntime, policy: &str, database: &str, job: &Job) -> Result<
     if is_in_memory(database) {
         work_in_memory(rt, policy, job)
     } else {
-        work_in_file(rt, database, policy, job)
+        work_in_file(rt, database, Unknown, policy, job)
     }
 }
 
@@ -40,8 +40,15 @@ fn work_in_memory(rt: &HostRuntime, policy: Policy, job: &Job) -> Result<(), Exi
     do_job(rt, in_memory(rt.alloc(), policy), job)
 }
 
-fn work_in_file(rt: &HostRuntime, path: &str, policy: Policy, job: &Job) -> Result<(), Exit> {
-    do_job(rt, in_file(rt, path, Unknown, policy), job)
+/// The same over a file. `S` stands for what the file and its log hold, which is known to the caller alone.
+fn work_in_file<S: Start>(
+    rt: &HostRuntime,
+    path: &str,
+    start: S,
+    policy: Policy,
+    job: &Job,
+) -> Result<(), Exit> {
+    do_job(rt, in_file(rt, path, start, policy), job)
 }
 
 /// Does a job with a registry, if it was opened. It takes what opening gave, so that no registry over a

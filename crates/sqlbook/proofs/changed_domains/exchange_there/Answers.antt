@@ -5,7 +5,7 @@ use Rattle.sqlbook.proofs.changed_domains.exchange_there.Goals as goal
 pub returns : goal.returns
 returns g c =
     let asked = c.in_ok-before.ensures {u = tt} in
-    let made = c.in_ok-exchange.ensures {u = tt} in
+    let made = c.in_ok-exchanged.ensures {u = tt} in
     asked-then (IsExchanged c.args.name.now c.in_ok-before.before c.args.after.now c.args.due) (IsExchangedThere c.args.name.now c.args.policy.now.days c.args.after.now c.args.due)
-    c.args.store.now c.found.new.store c.exchange.new.store asked.0 made
+    c.args.store.now c.found.new.store c.exchange-exchanged.new.store asked.0 made
     (λ e it. record { before = c.in_ok-before.before; whole = c.whole.ensures (asked.0.clean (made.clean e)); standing = asked.1 (made.clean e); exchanged = it })

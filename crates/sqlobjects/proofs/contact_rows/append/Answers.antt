@@ -9,5 +9,5 @@ use Rattle.sqlobjects.proofs.contact_rows.append.Goals as goal
 pub returns : goal.returns
 returns g c =
     let row = c.in_ok-row.row in
-    made (IsContactAdded c.args.contact.now) (contacts_to (appended contacts (λ id. record row { id = id }))) c.args.store.now c.append_contact.new.self
-    (c.in_ok-append_contact.ensures {u = tt}) (added c.args.store.now.content c.args.contact.now row c.in_ok-row.ensures)
+    made (IsContactAdded c.args.contact.now) (contacts_to (appended contacts (λ id. record row { id = id }))) c.args.store.now c.append_contact-appended.new.self
+    (c.in_ok-appended.ensures {u = tt}) (added c.args.store.now.content c.args.contact.now row c.in_ok-row.ensures)
