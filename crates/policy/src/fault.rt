@@ -39,6 +39,11 @@ impl<T: Drop> From<AllocFailed<T>> for PolicyFault {
 }
 
 impl fmt::Display for PolicyFault {
+    ghost use Rattle.std.specs.Prelude.{Some};
+    ghost use Rattle.policy.specs.Faults.{fault_text};
+
+    ghost output = { λ fault. Some (fault_text fault) };
+
     fn fmt<W: fmt::Write>(&self, f: &mut fmt::Formatter<W>) -> fmt::Result {
         match self {
             PolicyFault::NotToml => f.write_str("not TOML"),

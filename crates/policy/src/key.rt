@@ -91,6 +91,10 @@ impl Key {
 }
 
 impl fmt::Display for Key {
+    ghost use Rattle.std.specs.Prelude.{Some};
+
+    ghost output = { λ key. Some (spec.key_text key) };
+
     /// The key with the table before it, as `days.lock`.
     fn fmt<W: fmt::Write>(&self, f: &mut fmt::Formatter<W>) -> fmt::Result {
         let name = self.name();

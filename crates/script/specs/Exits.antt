@@ -3,6 +3,7 @@ use Rattle.std.specs.Prelude.{ℕ, Bool, true, false, List, ◌++◌, Option, So
 use Rattle.std.specs.declared.io.ErrorKind.{ErrorKind}
 use Rattle.std.specs.declared.io.ErrorKind.TheVariants.{OutOfMemory}
 use Rattle.policy.specs.declared.fault.PolicyFault.TheVariants as faults
+use Rattle.policy.specs.Faults.{fault_text}
 use Rattle.script.specs.declared.exit.Exit.{Exit}
 use Rattle.script.specs.declared.exit.Exit.TheVariants.{Done, Refused, Usage, Policy, Open, Registry, Network, Script, File, Memory}
 
@@ -20,13 +21,13 @@ has_line Done = false
 has_line Refused = false
 has_line _ = true
 
--- the line, where a fault of a policy, of a book or of a call doesn't word it
+-- the line, where a fault of opening or of a call doesn't word it
 abbrev pub text_of : Exit → Option (List ℕ)
 text_of Done = Some (codes "")
 text_of Refused = Some (codes "")
 text_of Usage = Some (codes "usage: tldreg run|serve|zone|deposit POLICY ...")
 text_of (Policy faults.Memory) = Some (codes "out of memory")
-text_of (Policy fault) = None
+text_of (Policy fault) = Some (codes "policy: " ++ fault_text fault)
 text_of (Open fault) = None
 text_of (Registry fault) = None
 text_of Network = Some (codes "network fault")

@@ -4,8 +4,7 @@ ghost use Rattle.std.specs.Prelude.{◌≡◌, false, IfOk};
 use policy::Policy;
 use registry::{OpenFault, Registry};
 use script::Exit;
-use sqlbook::{Found, Made, SqlBook};
-use sqlite::{Alter, Connection, Error, ErrorCode, FileFrom, FileStore, Leftover, MemStore, Start};
+use sqlite::{Connection, Error, ErrorCode, FileFrom, FileStore, Leftover, Start};
 use std::alloc::Global;
 use std::fs;
 use std::rt::Files;
@@ -30,25 +29,8 @@ pub fn policy_in(rt: &(impl Files + AllocGlobal), path: &str) -> Result<Policy, 
     }
 }
 
-/// A registry in memory that was never used.
-pub fn in_memory(alloc: Global, policy: Policy) -> Result<Registry<SqlBook<MemStore, Made>>, Exit> {
-    open(alloc, sqlbook::in_memory(alloc), policy)
-}
-
-/// The registry of a file, which is made where there is none. `S` stands for what the file and its log hold.
-/// Each step takes what the one before it gave: where a connection or a book of a known kind could fall, the
-/// prover would look at all that is in it.
-pub fn in_file<S: Start>(
-    rt: &HostRuntime,
-    path: &str,
-    start: S,
-    policy: Policy,
-) -> Result<Registry<SqlBook<FileStore<FileFrom<S>>, Found>>, Exit> {
-    take_up(rt.alloc(), connect(rt, path, start), policy)
-}
-
-/// A connection to a file.
-fn connect<S: Start>(
+/// A connection to a file, which is made where there is none. `S` stands for what the file and its log hold.
+pub fn connect<S: Start>(
     rt: &HostRuntime,
     path: &str,
     start: S,
@@ -64,21 +46,8 @@ fn fault_of_opening<S: Start>(left: (Error, Option<Leftover<FileFrom<S>>>)) -> B
     fault_of(&left.0)
 }
 
-/// The registry of the database of a connection, if there is one.
-fn take_up<S: Alter + Drop>(
-    alloc: Global,
-    conn: Result<Connection<S>, BookFault>,
-    policy: Policy,
-) -> Result<Registry<SqlBook<S, Found>>, Exit> {
-    let conn = match conn {
-        Ok(conn) => conn,
-        Err(fault) => return Err(exit_of(fault)),
-    };
-    open(alloc, sqlbook::adopt(conn, alloc), policy)
-}
-
 /// A registry over a book, if it was made, in which no transaction is open.
-fn open<B: Book + Drop>(
+pub fn open<B: Book + Drop>(
     alloc: Global,
     made: Result<B, BookFault>,
     policy: Policy,
@@ -103,7 +72,7 @@ fn fault_of(error: &Error) -> BookFault {
     }
 }
 
-fn exit_of(fault: BookFault) -> Exit {
+pub fn exit_of(fault: BookFault) -> Exit {
     match fault {
         BookFault::Memory => Exit::Memory,
         BookFault::Store => Exit::Open(OpenFault::Store),

@@ -1,23 +1,25 @@
 //! The program `tldreg`: the registry of a top-level domain.
 #![tactic(auto)]
 
+ghost use Rattle.std.specs.Prelude.{◌≡◌, false, IfOk};
+
 mod command_line;
 mod database;
 
 use calendar::Moment;
 use command_line::{Job, Task, read_task};
-use database::{in_file, in_memory, is_in_memory, policy_in};
+use database::{connect, exit_of, is_in_memory, open, policy_in};
 use policy::Policy;
 use protocol::Code;
 use registry::Registry;
 use script::{Exit, deposit_on, run_script};
 use server::{HandOverFault, MachineClock, serve_each, zone_on};
-use sqlite::{Start, Unknown};
+use sqlite::{Alter, Connection, Unknown};
 use std::net::{Ipv4Addr, TcpListener};
 use std::process::ExitCode;
 use std::rt::Files;
 use std::{fs, io};
-use store::Book;
+use store::{Book, BookFault};
 use zonefile::ZoneFault;
 
 /// Answers the script that standard input is.
@@ -30,35 +32,37 @@ fn run(rt: &(impl Files + Input + Print + AllocGlobal), policy: &str) -> Result<
 fn work_on(rt: &HostRuntime, policy: &str, database: &str, job: &Job) -> Result<(), Exit> {
     let policy = policy_in(rt, policy)?;
     if is_in_memory(database) {
-        work_in_memory(rt, policy, job)
+        work_over(rt, sqlbook::in_memory(rt.alloc()), policy, job)
     } else {
-        work_in_file(rt, database, Unknown, policy, job)
+        work_in_file(rt, connect(rt, database, Unknown), policy, job)
     }
 }
 
-fn work_in_memory(rt: &HostRuntime, policy: Policy, job: &Job) -> Result<(), Exit> {
-    do_job(rt, in_memory(rt.alloc(), policy), job)
-}
-
-/// The same over a file. `S` stands for what the file and its log hold, which is known to the caller alone.
-fn work_in_file<S: Start>(
+/// The same over a file's connection, if there is one.
+fn work_in_file<S: Alter + Drop>(
     rt: &HostRuntime,
-    path: &str,
-    start: S,
+    conn: Result<Connection<S>, BookFault>,
     policy: Policy,
     job: &Job,
 ) -> Result<(), Exit> {
-    do_job(rt, in_file(rt, path, start, policy), job)
+    let conn = match conn {
+        Ok(conn) => conn,
+        Err(fault) => return Err(exit_of(fault)),
+    };
+    work_over(rt, sqlbook::adopt(conn, rt.alloc()), policy, job)
 }
 
-/// Does a job with a registry, if it was opened. It takes what opening gave, so that no registry over a
-/// database of a kind is let go where its kind is known, which costs the prover much.
-fn do_job<B: Book + Drop>(
+/// The same over a book, if it was made, in which no transaction is open. It takes what making it gave,
+/// and is all that is called with a book of a known kind: each such call costs the prover much.
+fn work_over<B: Book + Drop>(
     rt: &HostRuntime,
-    opened: Result<Registry<B>, Exit>,
+    made: Result<B, BookFault>,
+    policy: Policy,
     job: &Job,
-) -> Result<(), Exit> {
-    let registry = opened?;
+) -> Result<(), Exit>
+    requires { IfOk made (λ book. (B.state book).is_open ≡ false) }
+{
+    let registry = open(rt.alloc(), made, policy)?;
     match job {
         Job::Serve { port } => serve(rt, registry, *port),
         Job::Zone { moment } => zone(rt, registry, *moment),
