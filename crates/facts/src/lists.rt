@@ -1,9 +1,7 @@
 //! Lists of items that are known by their texts.
-ghost use Rattle.std.specs.Prelude.{◌≡◌, ◌+◌, find, length, nat_lt, not, IfOk};
-ghost use Rattle.std.specs.List.{list_any};
+ghost use Rattle.std.specs.Prelude.{◌≡◌, ◌+◌, find, length, IfOk};
 ghost use Rattle.std.specs.Option.{option_copied};
 ghost use Rattle.std.specs.Str.{bytes_eq};
-ghost use Rattle.objects.specs.Links as links;
 ghost use Rattle.objects.specs.StatusTexts.{status_text};
 ghost use Rattle.facts.specs.Lists as spec;
 

@@ -1,5 +1,5 @@
 //! The lapse of a domain: what time alone has made of it.
-ghost use Rattle.std.specs.Prelude.{◌≡◌, ◌≤◌, ◌<◌, ◌+◌, ◌++◌, Some, IfOk, OnOk};
+ghost use Rattle.std.specs.Prelude.{◌≡◌, ◌<◌, ◌+◌, ◌++◌, Some, IfOk, OnOk};
 ghost use Rattle.lifecycle.specs.Lapse as spec;
 
 use crate::deletion::purged_by;

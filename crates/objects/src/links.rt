@@ -1,5 +1,5 @@
 //! What a domain names.
-ghost use Rattle.std.specs.Prelude.{◌≡◌, IfOk, filter, not};
+ghost use Rattle.std.specs.Prelude.{◌≡◌, IfOk};
 ghost use Rattle.objects.specs.Links as spec;
 
 use crate::domain::Links;

@@ -1,8 +1,7 @@
 //! Statuses of objects (RFC 5731, 2.3; RFC 5732, 2.3; RFC 5733, 2.2) and the states of grace
 //! (RFC 3915, 3.1), each in the order of its text's bytes.
 
-ghost use Rattle.std.specs.Prelude.{◌≡◌, ◌&&◌, ◌||◌, not, filter, find, IfOk};
-ghost use Rattle.std.specs.Str.{bytes_eq};
+ghost use Rattle.std.specs.Prelude.{◌≡◌, ◌&&◌, ◌||◌, not, filter, IfOk};
 ghost use Rattle.objects.specs.StatusTexts.{status_named, status_text, rgp_text};
 ghost use Rattle.objects.specs.Statuses as spec;
 ghost use Rattle.objects.specs.Statuses.{rank_of, is_status, has_status};

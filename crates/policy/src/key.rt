@@ -1,5 +1,5 @@
 //! The keys of the policy file.
-ghost use Rattle.std.specs.Prelude.{◌≡◌, option_map, option_copied};
+ghost use Rattle.std.specs.Prelude.{◌≡◌, option_copied};
 ghost use Rattle.policy.specs.Keys as spec;
 
 use std::fmt;

@@ -1,5 +1,5 @@
 //! The policy of the registry.
-ghost use Rattle.std.specs.Prelude.{◌≡◌, ℕ, length, map, option_copied, IfOk, IfSome};
+ghost use Rattle.std.specs.Prelude.{◌≡◌, length, option_copied, IfOk, IfSome};
 ghost use Rattle.toml.specs.View.{table_view};
 ghost use Rattle.policy.specs.Reading as spec;
 ghost use Rattle.policy.specs.Reading.{Gives};

@@ -1,5 +1,5 @@
 //! The zone's start of authority.
-ghost use Rattle.std.specs.Prelude.{◌≡◌, IfOk};
+ghost use Rattle.std.specs.Prelude.{IfOk};
 ghost use Rattle.toml.specs.View.{table_view};
 ghost use Rattle.policy.specs.Reading as spec;
 ghost use Rattle.policy.specs.Reading.{Gives};

@@ -1,6 +1,5 @@
 //! Domains (RFC 9083, 5.3).
 ghost use Rattle.std.specs.Prelude.{◌≡◌, ◌++◌, ◌∷◌, IfOk, OnOk, Some, filter, map};
-ghost use Rattle.std.specs.List.{dedup};
 ghost use Rattle.serde_json.specs.Data.{array};
 ghost use Rattle.serde_json.specs.View.{view, items_of};
 ghost use Rattle.policy.specs.Rules.{id_at};

@@ -1,6 +1,5 @@
 //! The words by which RDAP shows statuses (RFC 9083, 10.2.2; RFC 8056).
 ghost use Rattle.std.specs.Prelude.{◌≡◌, ◌++◌, IfOk, OnOk, map};
-ghost use Rattle.std.specs.List.{dedup};
 ghost use Rattle.rdap.specs.StatusWords as spec;
 
 use basis::list::Seq;

@@ -4,7 +4,7 @@ ghost use Rattle.std.specs.Io.KnownBytes.{Appends};
 ghost use Rattle.eppframes.specs.Frames.{frame};
 ghost use Rattle.sessions.specs.Outcomes as spec;
 ghost use Rattle.sessions.specs.Outcomes.{end_with, outcome_of, sent};
-ghost use Rattle.sessions.specs.Sessions.{Session, Standing, Writes};
+ghost use Rattle.sessions.specs.Sessions.{Session, Writes};
 
 use crate::peer::{Answer, Peer};
 use eppframes::{

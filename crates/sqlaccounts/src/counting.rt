@@ -3,7 +3,6 @@ ghost use Rattle.std.specs.Prelude.{◌≡◌, true};
 ghost use Rattle.sqlaccounts.specs.Accounts.{account_of, sums_are_right};
 ghost use Rattle.sqlaccounts.specs.Changes.{IsChange, IsCounted, counters_in, counters_of, with_counters};
 ghost use Rattle.meanings.specs.Calls.{Tells, Turns};
-ghost use Rattle.tables.specs.Account.{Account};
 
 use crate::account::{found_row, maybe_row};
 use basis::registrar::RegistrarNo;

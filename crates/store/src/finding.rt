@@ -5,7 +5,6 @@ ghost use Rattle.std.specs.FinMap as finmap;
 ghost use Rattle.std.specs.Option.{option_copied};
 ghost use Rattle.accounts.specs.Lines.{balance};
 ghost use Rattle.facts.specs.Facts as facts;
-ghost use Rattle.lifecycle.specs.Graces as graces;
 ghost use Rattle.lifecycle.specs.Refunds as refunds;
 ghost use Rattle.model.specs.Objects as objects;
 ghost use Rattle.model.specs.Registry.{account_of};

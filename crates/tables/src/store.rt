@@ -62,7 +62,7 @@ impl<S: Alter> RowStore<S> {
     ghost use Rattle.sqlite.specs.Listing.{understood};
     ghost use Rattle.sqlite.specs.Values.{bound};
     ghost use Rattle.tables.specs.Content.{Content};
-    ghost use Rattle.transactions.specs.States.{Begins, Closes, Ends, Finds, IsIdle, Makes, Stays};
+    ghost use Rattle.transactions.specs.States.{Begins, Closes, Ends, Finds, IsIdle, Makes};
     ghost use Rattle.tables.specs.Statements.{Alters, Asks};
     ghost use Rattle.tables.specs.Tables.{registry};
     ghost use Rattle.tables.specs.Whole.{IsWhole};

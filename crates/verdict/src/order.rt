@@ -1,7 +1,6 @@
 //! What the operator's orders are answered.
 ghost use Rattle.std.specs.Prelude.{◌≡◌, find};
 ghost use Rattle.std.specs.Option.{option_copied};
-ghost use Rattle.objects.specs.Statuses.{has_status as is_set};
 ghost use Rattle.protocol.specs.Requests.{holds_of};
 ghost use Rattle.verdict.specs.Conditions as conditions;
 ghost use Rattle.model.specs.Objects as model;
