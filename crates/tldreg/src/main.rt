@@ -34,12 +34,17 @@ fn work_on(rt: &HostRuntime, policy: &str, database: &str, job: &Job) -> Result<
     if is_in_memory(database) {
         work_over(rt, sqlbook::in_memory(rt.alloc()), policy, job)
     } else {
-        work_in_file(rt, connect(rt, database, Unknown), policy, job)
+        work_in_file(rt, database, policy, job)
     }
 }
 
-/// The same over a file's connection, if there is one.
-fn work_in_file<S: Alter + Drop>(
+/// The same over a file.
+fn work_in_file(rt: &HostRuntime, path: &str, policy: Policy, job: &Job) -> Result<(), Exit> {
+    work_over_rows(rt, connect(rt, path, Unknown), policy, job)
+}
+
+/// The same over a connection, if there is one.
+fn work_over_rows<S: Alter + Drop>(
     rt: &HostRuntime,
     conn: Result<Connection<S>, BookFault>,
     policy: Policy,
