@@ -7,3 +7,4 @@ pub mod Reopenings
 pub mod LapsingLemmas
 pub mod LapseSteps
 mod CallLemmas
+pub mod TwoRuns

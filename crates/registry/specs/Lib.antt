@@ -5,3 +5,4 @@ pub mod Faces
 pub mod Opening
 pub mod WellFormed
 pub mod Money
+pub mod TwoRuns

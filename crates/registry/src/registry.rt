@@ -10,6 +10,8 @@ ghost use Rattle.registry.specs.Execution.{Fails, GoesBack, Greets, IsPrepared, 
 ghost use Rattle.registry.specs.Faces.{LooksUp};
 ghost use Rattle.registry.specs.Money.{BookKeepsMoney, BookSpendsMoney};
 ghost use Rattle.registry.specs.Opening.{IsOurs, Opens, Refuses, RefusesOurs};
+ghost use Rattle.registry.specs.TwoRuns.{BookTellsAlike, LooksUpInTwo, StepsOfTwo};
+ghost use Rattle.privacy.specs.Runs as two_runs;
 ghost use Rattle.registry.specs.WellFormed.{BookCanBeReopened, BookKeepsWellFormed, BookStaysWellFormed, OpensWellFormed};
 ghost use Rattle.rules.specs.Steps.{reply_of};
 ghost use Rattle.store.specs.Book.{Follows, IsSame, with_changes};
@@ -74,6 +76,7 @@ impl<B: Book + Drop> Registry<B> {
         ensures well_formed { IfOk result (λ registry. (B.state registry.book).is_clean ≡ true
             → OpensWellFormed policy (B.state book).content (B.state registry.book).content) }
         ensures reopens { IfOk result (λ registry. BookCanBeReopened policy (B.state registry.book)) }
+        ensures tells_alike { IfOk result (λ registry. BookTellsAlike policy (B.state registry.book)) }
         ensures follows { IfOk result (λ registry. Follows (B.state book) (B.state registry.book)) }
         ensures refusal_follows { IfErr result (λ refusal. Follows (B.state book) (B.state refusal.1)) }
         ensures refused { IfErr result (λ refusal. Refuses refusal.0 policy (B.state book) (B.state refusal.1)) }
@@ -118,6 +121,7 @@ impl<B: Book + Drop> Registry<B> {
         requires { IsRegistrar self.old.policy caller }
         ensures step { IfOk result (λ reply. Steps self.old.policy caller command.now moment reply (B.state self.old.book) (B.state self.new.book)) }
         ensures isolation { IfOk result (λ reply. Isolates self.old.policy caller command.now moment reply (B.state self.old.book) (B.state self.new.book)) }
+        ensures two_runs { IfOk result (λ reply. StepsOfTwo self.old.policy moment (two_runs.command caller command.now) (two_runs.reply reply) (B.state self.old.book) (B.state self.new.book)) }
         ensures well_formed { OnOk result (BookStaysWellFormed self.old.policy (B.state self.old.book) (B.state self.new.book)) }
         ensures money { OnOk result (BookSpendsMoney self.old.policy moment (B.state self.old.book) (B.state self.new.book)) }
         ensures terms { OnOk result (SameTerms (B.state self.old.book) (B.state self.new.book)) }
@@ -141,6 +145,7 @@ impl<B: Book + Drop> Registry<B> {
     /// A well formed registry stays well formed.
     pub fn operator(&mut self, order: &Order, moment: Moment) -> Result<Code, Fault>
         ensures step { IfOk result (λ code. OrderSteps self.old.policy order.now moment code (B.state self.old.book) (B.state self.new.book)) }
+        ensures two_runs { IfOk result (λ code. StepsOfTwo self.old.policy moment (two_runs.order order.now) (two_runs.code code) (B.state self.old.book) (B.state self.new.book)) }
         ensures well_formed { OnOk result (BookKeepsWellFormed self.old.policy (B.state self.old.book) (B.state self.new.book)) }
         ensures money { OnOk result (BookKeepsMoney self.old.policy moment (B.state self.old.book) (B.state self.new.book)) }
         ensures terms { OnOk result (SameTerms (B.state self.old.book) (B.state self.new.book)) }
@@ -161,6 +166,7 @@ impl<B: Book + Drop> Registry<B> {
     /// stays well formed.
     pub fn greet(&mut self, moment: Moment) -> Result<Moment, Fault>
         ensures step { IfOk result (λ date. Greets self.old.policy moment date (B.state self.old.book) (B.state self.new.book)) }
+        ensures two_runs { IfOk result (λ date. StepsOfTwo self.old.policy moment two_runs.date (two_runs.dated date) (B.state self.old.book) (B.state self.new.book)) }
         ensures well_formed { OnOk result (BookKeepsWellFormed self.old.policy (B.state self.old.book) (B.state self.new.book)) }
         ensures money { OnOk result (BookKeepsMoney self.old.policy moment (B.state self.old.book) (B.state self.new.book)) }
         ensures terms { OnOk result (SameTerms (B.state self.old.book) (B.state self.new.book)) }
@@ -181,6 +187,7 @@ impl<B: Book + Drop> Registry<B> {
     /// call can tell whether it was done, but this one. A well formed registry stays well formed.
     pub fn settle(&mut self, moment: Moment, at_most: u32) -> Result<u32, Fault>
         ensures step { IfOk result (λ done. Settles self.old.policy moment at_most done (B.state self.old.book) (B.state self.new.book)) }
+        ensures two_runs { OnOk result (LooksUpInTwo self.old.policy moment (B.state self.old.book) (B.state self.new.book)) }
         ensures well_formed { OnOk result (BookKeepsWellFormed self.old.policy (B.state self.old.book) (B.state self.new.book)) }
         ensures money { OnOk result (BookKeepsMoney self.old.policy moment (B.state self.old.book) (B.state self.new.book)) }
         ensures terms { OnOk result (SameTerms (B.state self.old.book) (B.state self.new.book)) }
@@ -204,6 +211,7 @@ impl<B: Book + Drop> Registry<B> {
         moment: Moment,
     ) -> Result<Option<DomainFace>, Fault>
         ensures step { IfOk result (λ found. LooksUp self.old.policy (λ s. domain_face_at self.old.policy s name.now) moment found (B.state self.old.book) (B.state self.new.book)) }
+        ensures two_runs { OnOk result (LooksUpInTwo self.old.policy moment (B.state self.old.book) (B.state self.new.book)) }
         ensures well_formed { OnOk result (BookKeepsWellFormed self.old.policy (B.state self.old.book) (B.state self.new.book)) }
         ensures terms { OnOk result (SameTerms (B.state self.old.book) (B.state self.new.book)) }
         ensures reopens { OnOk result (BookCanBeReopened self.old.policy (B.state self.new.book)) }
@@ -218,6 +226,7 @@ impl<B: Book + Drop> Registry<B> {
     /// The same of the host under a name.
     pub fn host_face(&mut self, name: &HostName, moment: Moment) -> Result<Option<HostFace>, Fault>
         ensures step { IfOk result (λ found. LooksUp self.old.policy (λ s. host_face_at self.old.policy s name.now) moment found (B.state self.old.book) (B.state self.new.book)) }
+        ensures two_runs { OnOk result (LooksUpInTwo self.old.policy moment (B.state self.old.book) (B.state self.new.book)) }
         ensures well_formed { OnOk result (BookKeepsWellFormed self.old.policy (B.state self.old.book) (B.state self.new.book)) }
         ensures terms { OnOk result (SameTerms (B.state self.old.book) (B.state self.new.book)) }
         ensures reopens { OnOk result (BookCanBeReopened self.old.policy (B.state self.new.book)) }
@@ -236,6 +245,7 @@ impl<B: Book + Drop> Registry<B> {
         moment: Moment,
     ) -> Result<Option<ContactFace>, Fault>
         ensures step { IfOk result (λ found. LooksUp self.old.policy (λ s. contact_face_at s name.now) moment found (B.state self.old.book) (B.state self.new.book)) }
+        ensures two_runs { OnOk result (LooksUpInTwo self.old.policy moment (B.state self.old.book) (B.state self.new.book)) }
         ensures well_formed { OnOk result (BookKeepsWellFormed self.old.policy (B.state self.old.book) (B.state self.new.book)) }
         ensures terms { OnOk result (SameTerms (B.state self.old.book) (B.state self.new.book)) }
         ensures reopens { OnOk result (BookCanBeReopened self.old.policy (B.state self.new.book)) }
@@ -250,6 +260,7 @@ impl<B: Book + Drop> Registry<B> {
     /// The names of all domains at a moment, in their order.
     pub fn domain_names(&mut self, moment: Moment) -> Result<Seq<Text>, Fault>
         ensures step { IfOk result (λ found. LooksUp self.old.policy (domain_names) moment found (B.state self.old.book) (B.state self.new.book)) }
+        ensures two_runs { OnOk result (LooksUpInTwo self.old.policy moment (B.state self.old.book) (B.state self.new.book)) }
         ensures well_formed { OnOk result (BookKeepsWellFormed self.old.policy (B.state self.old.book) (B.state self.new.book)) }
         ensures terms { OnOk result (SameTerms (B.state self.old.book) (B.state self.new.book)) }
         ensures reopens { OnOk result (BookCanBeReopened self.old.policy (B.state self.new.book)) }
@@ -268,6 +279,7 @@ impl<B: Book + Drop> Registry<B> {
         moment: Moment,
     ) -> Result<Option<DomainFace>, Fault>
         ensures step { IfOk result (λ found. LooksUp self.old.policy (λ s. domain_face_at self.old.policy s name.now) moment found (B.state self.old.book) (B.state self.new.book)) }
+        ensures two_runs { OnOk result (LooksUpInTwo self.old.policy moment (B.state self.old.book) (B.state self.new.book)) }
         ensures well_formed { OnOk result (BookKeepsWellFormed self.old.policy (B.state self.old.book) (B.state self.new.book)) }
         ensures terms { OnOk result (SameTerms (B.state self.old.book) (B.state self.new.book)) }
         ensures reopens { OnOk result (BookCanBeReopened self.old.policy (B.state self.new.book)) }
@@ -286,6 +298,7 @@ impl<B: Book + Drop> Registry<B> {
         moment: Moment,
     ) -> Result<Option<Seq<Text>>, Fault>
         ensures step { IfOk result (λ found. LooksUp self.old.policy (λ s. host_addresses_at s name.now) moment found (B.state self.old.book) (B.state self.new.book)) }
+        ensures two_runs { OnOk result (LooksUpInTwo self.old.policy moment (B.state self.old.book) (B.state self.new.book)) }
         ensures well_formed { OnOk result (BookKeepsWellFormed self.old.policy (B.state self.old.book) (B.state self.new.book)) }
         ensures terms { OnOk result (SameTerms (B.state self.old.book) (B.state self.new.book)) }
         ensures reopens { OnOk result (BookCanBeReopened self.old.policy (B.state self.new.book)) }
@@ -300,6 +313,7 @@ impl<B: Book + Drop> Registry<B> {
     /// Looks something up at a moment, which every call may do that tells what everyone may know.
     fn look_up<L: LookUp>(&mut self, what: &L, moment: Moment) -> Result<L::Found, Fault>
         ensures step { IfOk result (λ found. LooksUp self.old.policy (L.finds what.now self.old.policy) moment found (B.state self.old.book) (B.state self.new.book)) }
+        ensures two_runs { OnOk result (LooksUpInTwo self.old.policy moment (B.state self.old.book) (B.state self.new.book)) }
         ensures well_formed { OnOk result (BookKeepsWellFormed self.old.policy (B.state self.old.book) (B.state self.new.book)) }
         ensures terms { OnOk result (SameTerms (B.state self.old.book) (B.state self.new.book)) }
         ensures reopens { OnOk result (BookCanBeReopened self.old.policy (B.state self.new.book)) }

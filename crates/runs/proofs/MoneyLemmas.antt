@@ -12,7 +12,8 @@ use Rattle.rules.proofs.MoneyLaws.{money-effect-now, money-lapsed, money-lapsed-
 use Rattle.rules.proofs.RegistryLemmas.{registry-lapsed, registry-now}
 use Rattle.rules.specs.Orders.{order_answer}
 use Rattle.rules.specs.Steps.{answer}
-use Rattle.runs.specs.Runs.{Answer, Question, Turn, AreTurns, IsAskedIn, IsCall, IsTurn, call, command, date, look_up, order, settlement}
+use Rattle.privacy.specs.Runs.{Answer, Question, command, date, look_up, order}
+use Rattle.runs.specs.Runs.{Turn, AreTurns, IsAskedIn, IsCall, IsTurn, call, settlement}
 use Rattle.runs.specs.RunLaws.{RunsKeepMoney, RunsKeepRegistries}
 
 call-keeps : (p : PolicyRules) → IsSound p → (moment : ℕ) → moment ≤ last_clock → (q : Question) (a : Answer) (before after : Registry) → IsAskedIn p q before → IsCall p moment q before after a → IsRegistry p (now p before) → IsRegistry p (now p after)

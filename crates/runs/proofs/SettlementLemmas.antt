@@ -5,7 +5,8 @@ use Rattle.model.specs.Registry.{Registry}
 use Rattle.model.proofs.LapseLaws.{have-one-future, lapses-on}
 use Rattle.policy.specs.Rules.{PolicyRules}
 use Rattle.registry.specs.Execution.{IsSettlement}
-use Rattle.runs.specs.Runs.{Answer, Question, Turn, Follow, IsCall, IsLater, IsRun, answer_to, answers_of, call, effect_of, questions_of, settlement, settles_last}
+use Rattle.privacy.specs.Runs.{Answer, Question, answer_to, effect_of}
+use Rattle.runs.specs.Runs.{Turn, Follow, IsCall, IsLater, IsRun, answers_of, call, questions_of, settlement, settles_last}
 use Rattle.runs.specs.RunLaws.{AnswersAreDetermined, SettlementsGoUnnoticed, SettlementsMayBeLeftOut}
 
 is-later-itself : (p : PolicyRules) (s : Registry) → IsLater p s s
@@ -84,7 +85,7 @@ settlements-may-be-left-out p turns before after follow =
 same-clock : (p : PolicyRules) (x y : Registry) → now p x ≡ now p y → x.clock ≡ y.clock
 same-clock p x y same = ap (λ (s : Registry). s.clock) same
 
-found-alike : (p : PolicyRules) (moment : ℕ) (x y : Registry) → now p x ≡ now p y → lapsed p moment x ≡ lapsed p moment y
+pub found-alike : (p : PolicyRules) (moment : ℕ) (x y : Registry) → now p x ≡ now p y → lapsed p moment x ≡ lapsed p moment y
 found-alike p moment x y same =
     have-one-future p x y (max moment x.clock) same (omega arith) ∙ ap (λ (c : ℕ). lapse p (max moment c) y) (same-clock p x y same)
 

@@ -12,7 +12,10 @@ use Rattle.protocol.specs.declared.command.Command.{Command}
 use Rattle.protocol.specs.declared.order.Order.{Order}
 use Rattle.protocol.specs.declared.reply.Reply.{Reply}
 use Rattle.registry.specs.Execution.{IsGreetingStep, IsOrderStep, IsStep}
-use Rattle.runs.specs.Runs.{Answer, Question, Turn, AreTurns, IsCall, IsLater, IsRun, IsSettledRun, answers_of, code, command, date, dated, look_up, order, questions_of, reply, settles_last, shown}
+use Rattle.privacy.specs.Alike.{Pair, AreAlike, firsts, seconds}
+use Rattle.privacy.specs.Laws.{none}
+use Rattle.privacy.specs.Runs.{Answer, Question, code, command, date, dated, look_up, order, reply, shown}
+use Rattle.runs.specs.Runs.{Turn, AreTurns, IsCall, IsLater, IsRun, IsSettledRun, answers_of, questions_of, settles_last, told_of}
 
 -- ---- the steps of the registry's calls are calls of a run
 
@@ -73,3 +76,10 @@ RunsKeepMoney = (p : PolicyRules) → IsSound p → (turns : List Turn) (before 
     × ((r : ℕ) → (change : Line → Line) × (new : List Line)
     × LinesFollow (IsRefundableIn p r calls (now p before)) last_clock (account_of r (now p before)).lines (account_of r (now p after)).lines change new
     × IsCoveredOver (account_of r (now p before)).lines (account_of r (now p after)).lines new)
+
+-- ---- what a registrar is told
+
+-- Two runs from one registry on, of alike lists, tell the registrar the same.
+abbrev pub AlikeRunsTellTheSame : Type 0
+AlikeRunsTellTheSame = (p : PolicyRules) (r : ℕ) (pairs : List (ℕ × Pair)) (xs ys : List Answer) (s x y : Registry) → AreAlike p r none pairs s s
+    → IsRun p (firsts pairs) xs s x → IsRun p (seconds pairs) ys s y → told_of r (firsts pairs) xs ≡ told_of r (seconds pairs) ys

@@ -1,48 +1,14 @@
 -- Runs: what a registry is asked, one thing after another, and what it answers.
-use Rattle.std.specs.Prelude.{◌≡◌, ◌≤◌, ℕ, max, Bool, true, false, List, [], ◌∷◌}
+use Rattle.std.specs.Prelude.{◌≡◌, ◌≤◌, ℕ, max, Bool, true, false, List, [], ◌∷◌, if◌then◌else◌}
 use Rattle.model.specs.Lapse.{lapse, lapsed, now}
 use Rattle.model.specs.Registry.{Registry}
 use Rattle.model.specs.WellFormed.{AreSmall, last_clock}
 use Rattle.policy.specs.Rules.{PolicyRules, IsRegistrar}
-use Rattle.protocol.specs.declared.code.Code.{Code}
-use Rattle.protocol.specs.declared.command.Command.{Command}
-use Rattle.protocol.specs.declared.order.Order.{Order}
-use Rattle.protocol.specs.declared.reply.Reply.{Reply}
+use Rattle.privacy.specs.Runs.{Answer, Question, answer_to, command, date, effect_of, is_asked_by, look_up, order}
 use Rattle.registry.specs.Execution.{IsSettlement}
 use Rattle.rules.specs.Askable.{CanBeAsked}
-use Rattle.rules.specs.Orders.{order_answer, order_effect}
-use Rattle.rules.specs.Steps.{answer, effect}
 
 -- ---- one call
-
--- A registrar's command (RFC 5730, 2.5), an order of the operator, the date of a greeting (RFC 5730,
--- 2.4), or a look-up of what everyone may know.
-pub data Question : Type 0 where
-  command : ℕ → Command → Question
-  order : Order → Question
-  date : Question
-  look_up : Question
-
--- A look-up is answered by the registry that it is shown, whatever it looks for there.
-pub data Answer : Type 0 where
-  reply : Reply → Answer
-  code : Code → Answer
-  dated : ℕ → Answer
-  shown : Registry → Answer
-
--- what is answered in a registry as the call finds it
-abbrev pub answer_to : PolicyRules → Question → Registry → Answer
-answer_to p (command r c) s = reply (answer p r c s)
-answer_to p (order o) s = code (order_answer p o s)
-answer_to p date s = dated s.clock
-answer_to p look_up s = shown s
-
--- what the call leaves of it
-abbrev pub effect_of : PolicyRules → Question → Registry → Registry
-effect_of p (command r c) s = effect p r c s
-effect_of p (order o) s = order_effect p o s
-effect_of p date s = s
-effect_of p look_up s = s
 
 -- The answer is that of the registry at the moment of the call, and what is left is the effect there.
 pub record IsCall (p : PolicyRules) (moment : ℕ) (q : Question) (before after : Registry) (a : Answer) : Type 0 where
@@ -57,6 +23,12 @@ IsRun p [] answers before after = (answers ≡ []) × (after ≡ before)
 IsRun p (asked ∷ others) answers before after =
     (first : Answer) × (rest : List Answer) × (between : Registry)
     × (answers ≡ first ∷ rest) × IsCall p asked.0 asked.1 before between first × IsRun p others rest between after
+
+-- of the answers, those to what a registrar may have asked
+abbrev pub told_of : ℕ → List (ℕ × Question) → List Answer → List Answer
+told_of r [] answers = []
+told_of r (asked ∷ others) [] = []
+told_of r (asked ∷ others) (a ∷ answers) = if is_asked_by r asked.1 then a ∷ told_of r others answers else told_of r others answers
 
 -- ---- with settlements between them
 

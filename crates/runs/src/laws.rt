@@ -23,3 +23,9 @@ pub fn runs_keep_money()
     ensures registries { spec.RunsKeepRegistries }
     ensures money { spec.RunsKeepMoney }
 {}
+
+/// Two runs from one registry on, in which others gave their objects different secrets or data, or paid
+/// different sums, tell a registrar the same, as long as it presents no right secret of such an object.
+pub fn alike_runs_tell_the_same()
+    ensures { spec.AlikeRunsTellTheSame }
+{}

@@ -4,4 +4,6 @@
 
 mod laws;
 
-pub use laws::{calls_make_runs, runs_keep_money, settlements_go_unnoticed};
+pub use laws::{
+    alike_runs_tell_the_same, calls_make_runs, runs_keep_money, settlements_go_unnoticed,
+};

@@ -3,6 +3,7 @@ use Rattle.registry.proofs.MoneyKept.{money_step}
 use Rattle.registry.proofs.Reopenings.{reopened_step}
 use Rattle.registry.proofs.Isolations.{isolated_step}
 use Rattle.registry.proofs.StepsKept.{kept_step}
+use Rattle.registry.proofs.TwoRuns.{command_of_two}
 use Rattle.registry.proofs.registry.Registry.execute.Goals as goal
 
 pub returns-clause-isolation : goal.returns-clause-isolation
@@ -17,3 +18,6 @@ returns-clause-reopens g c =
 
 pub returns-clause-money : goal.returns-clause-money
 returns-clause-money g c = money_step c.step.result _ c.args.self.now.policy c.args.self.now.sound c.args.caller c.args.command.now c.args.moment (taken c.is_late.result c.args.moment c.is_late.ensures c.if-is_late.false) _ _ c.step.ensures.step
+
+pub returns-clause-two_runs : goal.returns-clause-two_runs
+returns-clause-two_runs g c = command_of_two c.step.result _ c.args.self.now.policy c.args.caller c.args.command.now c.args.moment _ _ c.step.ensures.step

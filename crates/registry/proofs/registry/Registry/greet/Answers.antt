@@ -2,6 +2,7 @@ use Rattle.registry.proofs.CallLemmas.{taken}
 use Rattle.registry.proofs.MoneyKept.{money_greeting}
 use Rattle.registry.proofs.Reopenings.{reopened_step}
 use Rattle.registry.proofs.StepsKept.{kept_greeting}
+use Rattle.registry.proofs.TwoRuns.{greeting_of_two}
 use Rattle.registry.proofs.registry.Registry.greet.Goals as goal
 
 pub returns-clause-well_formed : goal.returns-clause-well_formed
@@ -13,3 +14,6 @@ returns-clause-reopens g c =
 
 pub returns-clause-money : goal.returns-clause-money
 returns-clause-money g c = money_greeting c.greeting_step.result _ c.args.self.now.policy c.args.moment _ _ c.greeting_step.ensures.step
+
+pub returns-clause-two_runs : goal.returns-clause-two_runs
+returns-clause-two_runs g c = greeting_of_two c.greeting_step.result _ c.args.self.now.policy c.args.moment _ _ c.greeting_step.ensures.step

@@ -2,6 +2,7 @@ use Rattle.registry.proofs.CallLemmas.{taken}
 use Rattle.registry.proofs.MoneyKept.{money_order_step}
 use Rattle.registry.proofs.Reopenings.{reopened_step}
 use Rattle.registry.proofs.StepsKept.{kept_order_step}
+use Rattle.registry.proofs.TwoRuns.{order_of_two}
 use Rattle.registry.proofs.registry.Registry.operator.Goals as goal
 
 pub returns-clause-well_formed : goal.returns-clause-well_formed
@@ -13,3 +14,6 @@ returns-clause-reopens g c =
 
 pub returns-clause-money : goal.returns-clause-money
 returns-clause-money g c = money_order_step c.order_step.result _ c.args.self.now.policy c.args.order.now c.args.moment _ _ c.order_step.ensures.step
+
+pub returns-clause-two_runs : goal.returns-clause-two_runs
+returns-clause-two_runs g c = order_of_two c.order_step.result _ c.args.self.now.policy c.args.order.now c.args.moment _ _ c.order_step.ensures.step

@@ -2,6 +2,7 @@ use Rattle.registry.proofs.CallLemmas.{taken}
 use Rattle.registry.proofs.MoneyKept.{money_settlement}
 use Rattle.registry.proofs.Reopenings.{reopened_step}
 use Rattle.registry.proofs.StepsKept.{kept_settlement}
+use Rattle.registry.proofs.TwoRuns.{settlement_of_two}
 use Rattle.registry.proofs.registry.Registry.settle.Goals as goal
 
 pub returns-clause-well_formed : goal.returns-clause-well_formed
@@ -13,3 +14,6 @@ returns-clause-reopens g c =
 
 pub returns-clause-money : goal.returns-clause-money
 returns-clause-money g c = money_settlement c.settlement.result _ c.args.self.now.policy c.args.moment c.args.at_most _ _ c.settlement.ensures.step
+
+pub returns-clause-two_runs : goal.returns-clause-two_runs
+returns-clause-two_runs g c = settlement_of_two c.settlement.result _ c.args.self.now.policy c.args.moment c.args.at_most _ _ c.settlement.ensures.step

@@ -1,0 +1,10 @@
+pub mod AccountLemmas
+pub mod RedactionLemmas
+pub mod ChangeLemmas
+pub mod TimeLemmas
+pub mod OwnLemmas
+pub mod PairLemmas
+pub mod PutLemmas
+pub mod CommandLemmas
+pub mod StepLemmas
+pub mod RunLemmas

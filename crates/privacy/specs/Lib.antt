@@ -1,0 +1,4 @@
+pub mod Redaction
+pub mod Runs
+pub mod Alike
+pub mod Laws
