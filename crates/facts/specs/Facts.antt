@@ -32,7 +32,6 @@ use Rattle.facts.specs.declared.facts.OldestMessage.{OldestMessage}
 use Rattle.facts.specs.declared.facts.QueueFacts.{QueueFacts}
 use Rattle.facts.specs.declared.facts.Superordinate.{Superordinate}
 use Rattle.facts.specs.declared.facts.Facts.{Facts}
-use Rattle.facts.specs.declared.facts.TheConstants.{HOLDING_LIMIT}
 use Rattle.model.specs.Registry.{Registry, account_of}
 use Rattle.model.specs.View.{domain_sight}
 use Rattle.protocol.specs.Requests.{adds_a_held_domain, asked, contacts_asked, domains_asked, hosts_asked, new_host_asked, presented, presented_contact, reads_associations, reads_balance, reads_oldest_message, reads_refund, references_fail}
@@ -161,7 +160,7 @@ facts_by found c = record {
   hosts = map (λ name. host_facts found c (name_of name)) (asked [] hosts_asked c);
   at_new_name = option_map (λ name. host_facts found c (name_of name)) (asked None new_host_asked c);
   reference_missing = asked false (references_fail found.has_contact found.has_host) c;
-  holding_limit_reached = asked false adds_a_held_domain c && nat_le HOLDING_LIMIT found.domains_held;
+  holding_limit_reached = asked false adds_a_held_domain c && nat_le 1_000_000 found.domains_held;
 }
 
 -- the facts for a registrar's command

@@ -1,6 +1,6 @@
 -- What a registry is asked, one thing after another.
-use Rattle.std.specs.Prelude.{ℕ, Bool, true, false, ◌==◌, List, [], ◌∷◌, if◌then◌else◌}
-use Rattle.model.specs.Lapse.{lapsed}
+use Rattle.std.specs.Prelude.{◌≡◌, ℕ, Bool, true, false, ◌==◌, List, [], ◌∷◌, if◌then◌else◌}
+use Rattle.model.specs.Lapse.{lapsed, now}
 use Rattle.model.specs.Registry.{Registry}
 use Rattle.policy.specs.Rules.{PolicyRules}
 use Rattle.protocol.specs.declared.code.Code.{Code}
@@ -40,6 +40,11 @@ effect_of p (command r c) s = effect p r c s
 effect_of p (order o) s = order_effect p o s
 effect_of p date s = s
 effect_of p look_up s = s
+
+-- The answer is that of the registry at the moment of the call, and what is left is the effect there.
+pub record IsCall (p : PolicyRules) (moment : ℕ) (q : Question) (before after : Registry) (a : Answer) : Type 0 where
+  pub answered : a ≡ answer_to p q (lapsed p moment before)
+  pub left : now p after ≡ now p (effect_of p q (lapsed p moment before))
 
 -- ---- a run
 

@@ -1,10 +1,8 @@
 pub mod Isolations
 pub mod OpeningLemmas
-pub mod StepsKept
-pub mod MoneyKept
+pub mod Answering
+pub mod CallsKept
 pub mod OpenedLemmas
-pub mod Reopenings
 pub mod LapsingLemmas
 pub mod LapseSteps
 mod CallLemmas
-pub mod TwoRuns

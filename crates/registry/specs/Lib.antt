@@ -6,3 +6,4 @@ pub mod Opening
 pub mod WellFormed
 pub mod Money
 pub mod TwoRuns
+pub mod Calls

@@ -1,18 +1,13 @@
 -- What the calls of the registry tell and leave in two runs that are alike for a registrar.
 use Rattle.std.specs.Prelude.{◌≡◌, ℕ, true}
-use Rattle.model.specs.Lapse.{lapsed}
 use Rattle.policy.specs.Rules.{PolicyRules}
 use Rattle.privacy.specs.Laws.{IsStepOfTwo, TellsAlike}
-use Rattle.privacy.specs.Runs.{Answer, Question, look_up, shown}
+use Rattle.privacy.specs.Runs.{Answer, Question}
 use Rattle.store.specs.Book.{BookState}
 
 -- a call is a step of two runs, if nothing wrong was taken from what keeps the book
 abbrev pub StepsOfTwo : PolicyRules → ℕ → Question → Answer → BookState → BookState → Type 0
 StepsOfTwo p moment x a old new = new.is_clean ≡ true → IsStepOfTwo p moment x old.content.registry new.content.registry a
-
--- and so is one that tells what everyone may know, or nothing but how many objects lapsed
-abbrev pub LooksUpInTwo : PolicyRules → ℕ → BookState → BookState → Type 0
-LooksUpInTwo p moment old new = StepsOfTwo p moment look_up (shown (lapsed p moment old.content.registry)) old new
 
 -- from what a book holds on, alike lists tell each registrar the same
 abbrev pub BookTellsAlike : PolicyRules → BookState → Type 0

@@ -5,6 +5,7 @@ use Rattle.model.specs.Registry.{Registry}
 use Rattle.model.specs.WellFormed.{AreSmall, IsRegistry}
 use Rattle.policy.specs.Rules.{PolicyRules}
 use Rattle.policy.specs.Terms.{terms_of}
+use Rattle.privacy.specs.Runs.{Question, command, date, look_up, order}
 use Rattle.store.specs.Book.{BookState, Stored, nothing}
 
 -- A registrar's call on a well formed registry leaves one, where counters are far from their greatest.
@@ -30,11 +31,18 @@ CanBeReopened p held = IsRegistry p (now p held.registry) → HoldsRegistry held
 
 -- ---- of books, if nothing wrong was taken from what keeps them
 
-abbrev pub BookStaysWellFormed : PolicyRules → BookState → BookState → Type 0
-BookStaysWellFormed p old new = new.is_clean ≡ true → StaysWellFormed p old.content.registry new.content.registry
+-- so every call keeps it, a command where counters are far from their greatest
+abbrev pub CallKeepsWellFormed : PolicyRules → Question → Registry → Registry → Type 0
+CallKeepsWellFormed p (command r c) before after = StaysWellFormed p before after
+CallKeepsWellFormed p (order o) before after = KeepsWellFormed p before after
+CallKeepsWellFormed p date before after = KeepsWellFormed p before after
+CallKeepsWellFormed p look_up before after = KeepsWellFormed p before after
 
-abbrev pub BookKeepsWellFormed : PolicyRules → BookState → BookState → Type 0
-BookKeepsWellFormed p old new = new.is_clean ≡ true → KeepsWellFormed p old.content.registry new.content.registry
+abbrev pub BookKeepsWellFormed : PolicyRules → Question → BookState → BookState → Type 0
+BookKeepsWellFormed p x old new = new.is_clean ≡ true → CallKeepsWellFormed p x old.content.registry new.content.registry
+
+abbrev pub BookOpensWellFormed : PolicyRules → BookState → BookState → Type 0
+BookOpensWellFormed p old new = new.is_clean ≡ true → OpensWellFormed p old.content new.content
 
 abbrev pub BookCanBeReopened : PolicyRules → BookState → Type 0
 BookCanBeReopened p state = state.is_clean ≡ true → CanBeReopened p state.content

@@ -6,13 +6,10 @@ ghost use Rattle.accounts.specs.Account.{saturating_next};
 ghost use Rattle.basis.specs.Sets.{names_code};
 ghost use Rattle.policy.specs.Rules.{IsRegistrar, IsSound};
 ghost use Rattle.policy.specs.Terms.{terms_of};
+ghost use Rattle.registry.specs.Calls.{CallKeeps, IsOpenedAs, IsRefused, LooksUpKeeping, StepKeeps};
 ghost use Rattle.registry.specs.Execution.{Fails, GoesBack, Greets, IsPrepared, Isolates, Keeps, OrderSteps, SameTerms, Settles, Steps, last_call};
 ghost use Rattle.registry.specs.Faces.{LooksUp};
-ghost use Rattle.registry.specs.Money.{BookKeepsMoney, BookSpendsMoney};
-ghost use Rattle.registry.specs.Opening.{IsOurs, Opens, Refuses, RefusesOurs};
-ghost use Rattle.registry.specs.TwoRuns.{BookTellsAlike, LooksUpInTwo, StepsOfTwo};
 ghost use Rattle.privacy.specs.Runs as two_runs;
-ghost use Rattle.registry.specs.WellFormed.{BookCanBeReopened, BookKeepsWellFormed, BookStaysWellFormed, OpensWellFormed};
 ghost use Rattle.rules.specs.Steps.{reply_of};
 ghost use Rattle.store.specs.Book.{Follows, IsSame, with_changes};
 ghost use Rattle.store.specs.Faces.{contact_face_at, domain_face_at, domain_names, host_addresses_at, host_face_at};
@@ -70,17 +67,8 @@ impl<B: Book + Drop> Registry<B> {
     /// form (`OpenFault::Schema`). What is refused is handed back as it was. A new book, or one of a well formed registry, is opened as a well formed registry.
     pub fn open(alloc: Global, book: B, policy: Policy) -> Result<Registry<B>, (OpenFault, B)>
         requires { (B.state book).is_open ≡ false }
-        ensures opened { IfOk result (λ registry. Opens policy (B.state book) (B.state registry.book)) }
-        ensures ours { IfOk result (λ registry. IsOurs (B.state book) (B.state registry.book)) }
-        ensures policy { IfOk result (λ registry. registry.policy ≡ policy) }
-        ensures well_formed { IfOk result (λ registry. (B.state registry.book).is_clean ≡ true
-            → OpensWellFormed policy (B.state book).content (B.state registry.book).content) }
-        ensures reopens { IfOk result (λ registry. BookCanBeReopened policy (B.state registry.book)) }
-        ensures tells_alike { IfOk result (λ registry. BookTellsAlike policy (B.state registry.book)) }
-        ensures follows { IfOk result (λ registry. Follows (B.state book) (B.state registry.book)) }
-        ensures refusal_follows { IfErr result (λ refusal. Follows (B.state book) (B.state refusal.1)) }
-        ensures refused { IfErr result (λ refusal. Refuses refusal.0 policy (B.state book) (B.state refusal.1)) }
-        ensures refused_ours { IfErr result (λ refusal. RefusesOurs refusal.0 (B.state book) (B.state refusal.1)) }
+        ensures opened { IfOk result (λ registry. IsOpenedAs policy registry.policy (B.state book) (B.state registry.book)) }
+        ensures refused { IfErr result (λ refusal. IsRefused refusal.0 policy (B.state book) (B.state refusal.1)) }
     {
         let mut book = book;
         policy.is_sound();
@@ -121,15 +109,10 @@ impl<B: Book + Drop> Registry<B> {
         requires { IsRegistrar self.old.policy caller }
         ensures step { IfOk result (λ reply. Steps self.old.policy caller command.now moment reply (B.state self.old.book) (B.state self.new.book)) }
         ensures isolation { IfOk result (λ reply. Isolates self.old.policy caller command.now moment reply (B.state self.old.book) (B.state self.new.book)) }
-        ensures two_runs { IfOk result (λ reply. StepsOfTwo self.old.policy moment (two_runs.command caller command.now) (two_runs.reply reply) (B.state self.old.book) (B.state self.new.book)) }
-        ensures well_formed { OnOk result (BookStaysWellFormed self.old.policy (B.state self.old.book) (B.state self.new.book)) }
-        ensures money { OnOk result (BookSpendsMoney self.old.policy moment (B.state self.old.book) (B.state self.new.book)) }
-        ensures terms { OnOk result (SameTerms (B.state self.old.book) (B.state self.new.book)) }
-        ensures reopens { OnOk result (BookCanBeReopened self.old.policy (B.state self.new.book)) }
+        ensures keeps { CallKeeps self.old.policy moment (two_runs.command caller command.now) two_runs.reply result
+            self.new.policy (B.state self.old.book) (B.state self.new.book) }
         ensures fault { IfErr result (λ fault. Fails fault (B.state self.old.book) (B.state self.new.book)) }
         ensures late { (result ≡ Err Fault.Moment) ↔ (last_call < moment) }
-        ensures follows { Follows (B.state self.old.book) (B.state self.new.book) }
-        ensures policy { self.new.policy ≡ self.old.policy }
     {
         if is_late(moment) {
             return Err(Fault::Moment);
@@ -145,15 +128,10 @@ impl<B: Book + Drop> Registry<B> {
     /// A well formed registry stays well formed.
     pub fn operator(&mut self, order: &Order, moment: Moment) -> Result<Code, Fault>
         ensures step { IfOk result (λ code. OrderSteps self.old.policy order.now moment code (B.state self.old.book) (B.state self.new.book)) }
-        ensures two_runs { IfOk result (λ code. StepsOfTwo self.old.policy moment (two_runs.order order.now) (two_runs.code code) (B.state self.old.book) (B.state self.new.book)) }
-        ensures well_formed { OnOk result (BookKeepsWellFormed self.old.policy (B.state self.old.book) (B.state self.new.book)) }
-        ensures money { OnOk result (BookKeepsMoney self.old.policy moment (B.state self.old.book) (B.state self.new.book)) }
-        ensures terms { OnOk result (SameTerms (B.state self.old.book) (B.state self.new.book)) }
-        ensures reopens { OnOk result (BookCanBeReopened self.old.policy (B.state self.new.book)) }
+        ensures keeps { CallKeeps self.old.policy moment (two_runs.order order.now) two_runs.code result
+            self.new.policy (B.state self.old.book) (B.state self.new.book) }
         ensures fault { IfErr result (λ fault. Fails fault (B.state self.old.book) (B.state self.new.book)) }
         ensures late { (result ≡ Err Fault.Moment) ↔ (last_call < moment) }
-        ensures follows { Follows (B.state self.old.book) (B.state self.new.book) }
-        ensures policy { self.new.policy ≡ self.old.policy }
     {
         if is_late(moment) {
             return Err(Fault::Moment);
@@ -166,15 +144,10 @@ impl<B: Book + Drop> Registry<B> {
     /// stays well formed.
     pub fn greet(&mut self, moment: Moment) -> Result<Moment, Fault>
         ensures step { IfOk result (λ date. Greets self.old.policy moment date (B.state self.old.book) (B.state self.new.book)) }
-        ensures two_runs { IfOk result (λ date. StepsOfTwo self.old.policy moment two_runs.date (two_runs.dated date) (B.state self.old.book) (B.state self.new.book)) }
-        ensures well_formed { OnOk result (BookKeepsWellFormed self.old.policy (B.state self.old.book) (B.state self.new.book)) }
-        ensures money { OnOk result (BookKeepsMoney self.old.policy moment (B.state self.old.book) (B.state self.new.book)) }
-        ensures terms { OnOk result (SameTerms (B.state self.old.book) (B.state self.new.book)) }
-        ensures reopens { OnOk result (BookCanBeReopened self.old.policy (B.state self.new.book)) }
+        ensures keeps { CallKeeps self.old.policy moment two_runs.date two_runs.dated result
+            self.new.policy (B.state self.old.book) (B.state self.new.book) }
         ensures fault { IfErr result (λ fault. Fails fault (B.state self.old.book) (B.state self.new.book)) }
         ensures late { (result ≡ Err Fault.Moment) ↔ (last_call < moment) }
-        ensures follows { Follows (B.state self.old.book) (B.state self.new.book) }
-        ensures policy { self.new.policy ≡ self.old.policy }
     {
         if is_late(moment) {
             return Err(Fault::Moment);
@@ -187,15 +160,10 @@ impl<B: Book + Drop> Registry<B> {
     /// call can tell whether it was done, but this one. A well formed registry stays well formed.
     pub fn settle(&mut self, moment: Moment, at_most: u32) -> Result<u32, Fault>
         ensures step { IfOk result (λ done. Settles self.old.policy moment at_most done (B.state self.old.book) (B.state self.new.book)) }
-        ensures two_runs { OnOk result (LooksUpInTwo self.old.policy moment (B.state self.old.book) (B.state self.new.book)) }
-        ensures well_formed { OnOk result (BookKeepsWellFormed self.old.policy (B.state self.old.book) (B.state self.new.book)) }
-        ensures money { OnOk result (BookKeepsMoney self.old.policy moment (B.state self.old.book) (B.state self.new.book)) }
-        ensures terms { OnOk result (SameTerms (B.state self.old.book) (B.state self.new.book)) }
-        ensures reopens { OnOk result (BookCanBeReopened self.old.policy (B.state self.new.book)) }
+        ensures keeps { LooksUpKeeping self.old.policy moment result
+            self.new.policy (B.state self.old.book) (B.state self.new.book) }
         ensures fault { IfErr result (λ fault. Fails fault (B.state self.old.book) (B.state self.new.book)) }
         ensures late { (result ≡ Err Fault.Moment) ↔ (last_call < moment) }
-        ensures follows { Follows (B.state self.old.book) (B.state self.new.book) }
-        ensures policy { self.new.policy ≡ self.old.policy }
     {
         if is_late(moment) {
             return Err(Fault::Moment);
@@ -211,14 +179,10 @@ impl<B: Book + Drop> Registry<B> {
         moment: Moment,
     ) -> Result<Option<DomainFace>, Fault>
         ensures step { IfOk result (λ found. LooksUp self.old.policy (λ s. domain_face_at self.old.policy s name.now) moment found (B.state self.old.book) (B.state self.new.book)) }
-        ensures two_runs { OnOk result (LooksUpInTwo self.old.policy moment (B.state self.old.book) (B.state self.new.book)) }
-        ensures well_formed { OnOk result (BookKeepsWellFormed self.old.policy (B.state self.old.book) (B.state self.new.book)) }
-        ensures terms { OnOk result (SameTerms (B.state self.old.book) (B.state self.new.book)) }
-        ensures reopens { OnOk result (BookCanBeReopened self.old.policy (B.state self.new.book)) }
+        ensures keeps { LooksUpKeeping self.old.policy moment result
+            self.new.policy (B.state self.old.book) (B.state self.new.book) }
         ensures fault { IfErr result (λ fault. Fails fault (B.state self.old.book) (B.state self.new.book)) }
         ensures late { (result ≡ Err Fault.Moment) ↔ (last_call < moment) }
-        ensures follows { Follows (B.state self.old.book) (B.state self.new.book) }
-        ensures policy { self.new.policy ≡ self.old.policy }
     {
         self.look_up(&DomainAt(name.text()), moment)
     }
@@ -226,14 +190,10 @@ impl<B: Book + Drop> Registry<B> {
     /// The same of the host under a name.
     pub fn host_face(&mut self, name: &HostName, moment: Moment) -> Result<Option<HostFace>, Fault>
         ensures step { IfOk result (λ found. LooksUp self.old.policy (λ s. host_face_at self.old.policy s name.now) moment found (B.state self.old.book) (B.state self.new.book)) }
-        ensures two_runs { OnOk result (LooksUpInTwo self.old.policy moment (B.state self.old.book) (B.state self.new.book)) }
-        ensures well_formed { OnOk result (BookKeepsWellFormed self.old.policy (B.state self.old.book) (B.state self.new.book)) }
-        ensures terms { OnOk result (SameTerms (B.state self.old.book) (B.state self.new.book)) }
-        ensures reopens { OnOk result (BookCanBeReopened self.old.policy (B.state self.new.book)) }
+        ensures keeps { LooksUpKeeping self.old.policy moment result
+            self.new.policy (B.state self.old.book) (B.state self.new.book) }
         ensures fault { IfErr result (λ fault. Fails fault (B.state self.old.book) (B.state self.new.book)) }
         ensures late { (result ≡ Err Fault.Moment) ↔ (last_call < moment) }
-        ensures follows { Follows (B.state self.old.book) (B.state self.new.book) }
-        ensures policy { self.new.policy ≡ self.old.policy }
     {
         self.look_up(&HostAt(name.text()), moment)
     }
@@ -245,14 +205,10 @@ impl<B: Book + Drop> Registry<B> {
         moment: Moment,
     ) -> Result<Option<ContactFace>, Fault>
         ensures step { IfOk result (λ found. LooksUp self.old.policy (λ s. contact_face_at s name.now) moment found (B.state self.old.book) (B.state self.new.book)) }
-        ensures two_runs { OnOk result (LooksUpInTwo self.old.policy moment (B.state self.old.book) (B.state self.new.book)) }
-        ensures well_formed { OnOk result (BookKeepsWellFormed self.old.policy (B.state self.old.book) (B.state self.new.book)) }
-        ensures terms { OnOk result (SameTerms (B.state self.old.book) (B.state self.new.book)) }
-        ensures reopens { OnOk result (BookCanBeReopened self.old.policy (B.state self.new.book)) }
+        ensures keeps { LooksUpKeeping self.old.policy moment result
+            self.new.policy (B.state self.old.book) (B.state self.new.book) }
         ensures fault { IfErr result (λ fault. Fails fault (B.state self.old.book) (B.state self.new.book)) }
         ensures late { (result ≡ Err Fault.Moment) ↔ (last_call < moment) }
-        ensures follows { Follows (B.state self.old.book) (B.state self.new.book) }
-        ensures policy { self.new.policy ≡ self.old.policy }
     {
         self.look_up(&ContactAt(name), moment)
     }
@@ -260,14 +216,10 @@ impl<B: Book + Drop> Registry<B> {
     /// The names of all domains at a moment, in their order.
     pub fn domain_names(&mut self, moment: Moment) -> Result<Seq<Text>, Fault>
         ensures step { IfOk result (λ found. LooksUp self.old.policy (domain_names) moment found (B.state self.old.book) (B.state self.new.book)) }
-        ensures two_runs { OnOk result (LooksUpInTwo self.old.policy moment (B.state self.old.book) (B.state self.new.book)) }
-        ensures well_formed { OnOk result (BookKeepsWellFormed self.old.policy (B.state self.old.book) (B.state self.new.book)) }
-        ensures terms { OnOk result (SameTerms (B.state self.old.book) (B.state self.new.book)) }
-        ensures reopens { OnOk result (BookCanBeReopened self.old.policy (B.state self.new.book)) }
+        ensures keeps { LooksUpKeeping self.old.policy moment result
+            self.new.policy (B.state self.old.book) (B.state self.new.book) }
         ensures fault { IfErr result (λ fault. Fails fault (B.state self.old.book) (B.state self.new.book)) }
         ensures late { (result ≡ Err Fault.Moment) ↔ (last_call < moment) }
-        ensures follows { Follows (B.state self.old.book) (B.state self.new.book) }
-        ensures policy { self.new.policy ≡ self.old.policy }
     {
         self.look_up(&DomainNames, moment)
     }
@@ -279,14 +231,10 @@ impl<B: Book + Drop> Registry<B> {
         moment: Moment,
     ) -> Result<Option<DomainFace>, Fault>
         ensures step { IfOk result (λ found. LooksUp self.old.policy (λ s. domain_face_at self.old.policy s name.now) moment found (B.state self.old.book) (B.state self.new.book)) }
-        ensures two_runs { OnOk result (LooksUpInTwo self.old.policy moment (B.state self.old.book) (B.state self.new.book)) }
-        ensures well_formed { OnOk result (BookKeepsWellFormed self.old.policy (B.state self.old.book) (B.state self.new.book)) }
-        ensures terms { OnOk result (SameTerms (B.state self.old.book) (B.state self.new.book)) }
-        ensures reopens { OnOk result (BookCanBeReopened self.old.policy (B.state self.new.book)) }
+        ensures keeps { LooksUpKeeping self.old.policy moment result
+            self.new.policy (B.state self.old.book) (B.state self.new.book) }
         ensures fault { IfErr result (λ fault. Fails fault (B.state self.old.book) (B.state self.new.book)) }
         ensures late { (result ≡ Err Fault.Moment) ↔ (last_call < moment) }
-        ensures follows { Follows (B.state self.old.book) (B.state self.new.book) }
-        ensures policy { self.new.policy ≡ self.old.policy }
     {
         self.look_up(&DomainAt(name), moment)
     }
@@ -298,14 +246,10 @@ impl<B: Book + Drop> Registry<B> {
         moment: Moment,
     ) -> Result<Option<Seq<Text>>, Fault>
         ensures step { IfOk result (λ found. LooksUp self.old.policy (λ s. host_addresses_at s name.now) moment found (B.state self.old.book) (B.state self.new.book)) }
-        ensures two_runs { OnOk result (LooksUpInTwo self.old.policy moment (B.state self.old.book) (B.state self.new.book)) }
-        ensures well_formed { OnOk result (BookKeepsWellFormed self.old.policy (B.state self.old.book) (B.state self.new.book)) }
-        ensures terms { OnOk result (SameTerms (B.state self.old.book) (B.state self.new.book)) }
-        ensures reopens { OnOk result (BookCanBeReopened self.old.policy (B.state self.new.book)) }
+        ensures keeps { LooksUpKeeping self.old.policy moment result
+            self.new.policy (B.state self.old.book) (B.state self.new.book) }
         ensures fault { IfErr result (λ fault. Fails fault (B.state self.old.book) (B.state self.new.book)) }
         ensures late { (result ≡ Err Fault.Moment) ↔ (last_call < moment) }
-        ensures follows { Follows (B.state self.old.book) (B.state self.new.book) }
-        ensures policy { self.new.policy ≡ self.old.policy }
     {
         self.look_up(&AddressesAt(name), moment)
     }
@@ -313,14 +257,10 @@ impl<B: Book + Drop> Registry<B> {
     /// Looks something up at a moment, which every call may do that tells what everyone may know.
     fn look_up<L: LookUp>(&mut self, what: &L, moment: Moment) -> Result<L::Found, Fault>
         ensures step { IfOk result (λ found. LooksUp self.old.policy (L.finds what.now self.old.policy) moment found (B.state self.old.book) (B.state self.new.book)) }
-        ensures two_runs { OnOk result (LooksUpInTwo self.old.policy moment (B.state self.old.book) (B.state self.new.book)) }
-        ensures well_formed { OnOk result (BookKeepsWellFormed self.old.policy (B.state self.old.book) (B.state self.new.book)) }
-        ensures terms { OnOk result (SameTerms (B.state self.old.book) (B.state self.new.book)) }
-        ensures reopens { OnOk result (BookCanBeReopened self.old.policy (B.state self.new.book)) }
+        ensures keeps { LooksUpKeeping self.old.policy moment result
+            self.new.policy (B.state self.old.book) (B.state self.new.book) }
         ensures fault { IfErr result (λ fault. Fails fault (B.state self.old.book) (B.state self.new.book)) }
         ensures late { (result ≡ Err Fault.Moment) ↔ (last_call < moment) }
-        ensures follows { Follows (B.state self.old.book) (B.state self.new.book) }
-        ensures policy { self.new.policy ≡ self.old.policy }
     {
         if is_late(moment) {
             return Err(Fault::Moment);
@@ -331,11 +271,9 @@ impl<B: Book + Drop> Registry<B> {
     /// Looks something up at a moment, in a transaction.
     fn look_up_step<L: LookUp>(&mut self, what: &L, moment: Moment) -> Result<L::Found, Fault>
         ensures step { IfOk result (λ found. LooksUp self.old.policy (L.finds what.now self.old.policy) moment found (B.state self.old.book) (B.state self.new.book)) }
+        ensures keeps { StepKeeps self.old.policy result self.new.policy (B.state self.old.book) (B.state self.new.book) }
         ensures fault { IfErr result (λ fault. Fails fault (B.state self.old.book) (B.state self.new.book)) }
-        ensures terms { OnOk result (SameTerms (B.state self.old.book) (B.state self.new.book)) }
         ensures early { result ≢ Err Fault.Moment }
-        ensures follows { Follows (B.state self.old.book) (B.state self.new.book) }
-        ensures policy { self.new.policy ≡ self.old.policy }
     {
         self.book.begin()?;
         look_up_in(&mut self.book, self.alloc, what, moment, &self.policy)
@@ -344,11 +282,9 @@ impl<B: Book + Drop> Registry<B> {
     /// Settles some of what is due.
     fn settlement(&mut self, moment: Moment, at_most: u32) -> Result<u32, Fault>
         ensures step { IfOk result (λ done. Settles self.old.policy moment at_most done (B.state self.old.book) (B.state self.new.book)) }
+        ensures keeps { StepKeeps self.old.policy result self.new.policy (B.state self.old.book) (B.state self.new.book) }
         ensures fault { IfErr result (λ fault. Fails fault (B.state self.old.book) (B.state self.new.book)) }
-        ensures terms { OnOk result (SameTerms (B.state self.old.book) (B.state self.new.book)) }
         ensures early { result ≢ Err Fault.Moment }
-        ensures follows { Follows (B.state self.old.book) (B.state self.new.book) }
-        ensures policy { self.new.policy ≡ self.old.policy }
     {
         self.book.begin()?;
         settle_in(&mut self.book, self.alloc, moment, at_most, &self.policy)
@@ -357,11 +293,9 @@ impl<B: Book + Drop> Registry<B> {
     /// Answers hello by the rules.
     fn greeting_step(&mut self, moment: Moment) -> Result<Moment, Fault>
         ensures step { IfOk result (λ date. Greets self.old.policy moment date (B.state self.old.book) (B.state self.new.book)) }
+        ensures keeps { StepKeeps self.old.policy result self.new.policy (B.state self.old.book) (B.state self.new.book) }
         ensures fault { IfErr result (λ fault. Fails fault (B.state self.old.book) (B.state self.new.book)) }
-        ensures terms { OnOk result (SameTerms (B.state self.old.book) (B.state self.new.book)) }
         ensures early { result ≢ Err Fault.Moment }
-        ensures follows { Follows (B.state self.old.book) (B.state self.new.book) }
-        ensures policy { self.new.policy ≡ self.old.policy }
     {
         self.book.begin()?;
         greet_in(&mut self.book, self.alloc, moment, &self.policy)
@@ -370,11 +304,9 @@ impl<B: Book + Drop> Registry<B> {
     /// Carries out an order by the rules.
     fn order_step(&mut self, order: &Order, moment: Moment) -> Result<Code, Fault>
         ensures step { IfOk result (λ code. OrderSteps self.old.policy order.now moment code (B.state self.old.book) (B.state self.new.book)) }
+        ensures keeps { StepKeeps self.old.policy result self.new.policy (B.state self.old.book) (B.state self.new.book) }
         ensures fault { IfErr result (λ fault. Fails fault (B.state self.old.book) (B.state self.new.book)) }
-        ensures terms { OnOk result (SameTerms (B.state self.old.book) (B.state self.new.book)) }
         ensures early { result ≢ Err Fault.Moment }
-        ensures follows { Follows (B.state self.old.book) (B.state self.new.book) }
-        ensures policy { self.new.policy ≡ self.old.policy }
     {
         self.book.begin()?;
         execute_order_in(&mut self.book, self.alloc, order, moment, &self.policy)
@@ -388,11 +320,9 @@ impl<B: Book + Drop> Registry<B> {
         moment: Moment,
     ) -> Result<Reply, Fault>
         ensures step { IfOk result (λ reply. Steps self.old.policy caller command.now moment reply (B.state self.old.book) (B.state self.new.book)) }
+        ensures keeps { StepKeeps self.old.policy result self.new.policy (B.state self.old.book) (B.state self.new.book) }
         ensures fault { IfErr result (λ fault. Fails fault (B.state self.old.book) (B.state self.new.book)) }
-        ensures terms { OnOk result (SameTerms (B.state self.old.book) (B.state self.new.book)) }
         ensures early { result ≢ Err Fault.Moment }
-        ensures follows { Follows (B.state self.old.book) (B.state self.new.book) }
-        ensures policy { self.new.policy ≡ self.old.policy }
     {
         self.book.begin()?;
         execute_in(

@@ -100,7 +100,7 @@ module _ (p : PolicyRules) (r : ℕ) (cl_trid : Option (List ℕ)) (s : Registry
   unfolding domain_seen_shows
   askable full e taken = record {
     other = not-equal r full.domain.sponsor (sym (ap (λ (o : Sight). holds_of (is_own domain_sponsor r) o) e) ∙ unrefused p r s.clock (asks ops.Request) (known ops.Request) taken conditions.IsOwn (search (inl, inr) depth 20));
-    over = (or_parts (domain_seen_shows (Full full) PendingTransfer) false (sym (ap (λ (o : Sight). is_shown domain_seen_shows PendingTransfer o || false) e) ∙ unrefused p r s.clock (asks ops.Request) (known ops.Request) taken (conditions.Shows PendingTransfer) (search (inl, inr) depth 20))).0;
+    over = (or_parts (domain_seen_shows (Full full) PendingTransfer) false (sym (ap (λ (o : Sight). is_shown domain_seen_shows PendingTransfer o || false) e) ∙ unrefused p r s.clock (asks ops.Request) (known ops.Request) taken conditions.IsPending (search (inl, inr) depth 20))).0;
     undeleted = none-is full.domain.deletion (or_parts (domain_seen_shows (Full full) PendingDelete) false (sym (ap (λ (o : Sight). is_shown domain_seen_shows PendingDelete o || false) e) ∙ unrefused p r s.clock (asks ops.Request) (known ops.Request) taken (conditions.Shows PendingDelete) (search (inl, inr) depth 20))).0;
     unlocked = sym (ap (λ (o : Sight). holds_of (is_locked p s.clock) (option_and_then domain_in_full o)) e) ∙ unrefused p r s.clock (asks ops.Request) (known ops.Request) taken conditions.IsLocked (search (inl, inr) depth 20);
   }

@@ -1,28 +1,24 @@
 -- Runs leave well formed registries, and their money follows.
-use Rattle.std.proofs.Common.{◌≤◌, ℕ, List, [], ◌∷◌, Ok, refl, sym, ap, subst, arith}
-use Rattle.model.specs.Lapse.{lapsed, now}
+use Rattle.std.proofs.Common.{◌≤◌, ℕ, List, [], ◌∷◌, refl, sym, ap, subst, arith}
+use Rattle.model.specs.Lapse.{now}
 use Rattle.model.specs.Money.{MoneyFollows}
 use Rattle.model.specs.MoneyLaws.{AreCalls}
 use Rattle.model.specs.Registry.{Registry}
 use Rattle.model.specs.WellFormed.{IsRegistry, last_clock}
 use Rattle.model.proofs.MoneyLaws.{money-follows-over}
 use Rattle.policy.specs.Rules.{PolicyRules, IsSound}
-use Rattle.registry.proofs.StepsKept.{kept_order_step, kept_step}
-use Rattle.rules.proofs.MoneyLaws.{money-effect-now, money-lapsed, money-lapsed-now, money-order-now}
-use Rattle.rules.proofs.RegistryLemmas.{registry-lapsed, registry-now}
-use Rattle.rules.specs.Orders.{order_answer}
-use Rattle.rules.specs.Steps.{answer}
-use Rattle.privacy.specs.Runs.{Answer, Question, command, date, look_up, order}
-use Rattle.runs.specs.Runs.{Turn, AreTurns, IsAskedIn, IsCall, IsTurn, call, settlement}
+use Rattle.registry.proofs.CallsKept.{formed, paid}
+use Rattle.rules.proofs.MoneyLaws.{money-lapsed}
+use Rattle.rules.proofs.RegistryLemmas.{registry-lapsed}
+use Rattle.privacy.specs.Runs.{Answer, IsCall, Question, command, date, look_up, order}
+use Rattle.runs.specs.Runs.{Turn, AreTurns, IsAskedIn, IsTurn, call, settlement}
 use Rattle.runs.specs.RunLaws.{RunsKeepMoney, RunsKeepRegistries}
 
 call-keeps : (p : PolicyRules) → IsSound p → (moment : ℕ) → moment ≤ last_clock → (q : Question) (a : Answer) (before after : Registry) → IsAskedIn p q before → IsCall p moment q before after a → IsRegistry p (now p before) → IsRegistry p (now p after)
-call-keeps p sound moment early (command r c) a before after asked called is =
-    kept_step {E = Unit {0}} (Ok (answer p r c (lapsed p moment before))) (Unit {0}) p sound r c moment early before after asked.0 asked.1 (λ _. record { answered = refl; left = called.left }) tt is asked.2
-call-keeps p sound moment early (order o) a before after asked called is =
-    kept_order_step {E = Unit {0}} (Ok (order_answer p o (lapsed p moment before))) (Unit {0}) p o moment early before after (λ _. record { answered = refl; left = called.left }) tt is
-call-keeps p sound moment early date a before after asked called is = subst (IsRegistry p) (sym called.left) (registry-now p (lapsed p moment before) (registry-lapsed p moment before early is))
-call-keeps p sound moment early look_up a before after asked called is = subst (IsRegistry p) (sym called.left) (registry-now p (lapsed p moment before) (registry-lapsed p moment before early is))
+call-keeps p sound moment early (command r c) a before after asked called is = formed p sound moment early (command r c) (asked.0, asked.1) before after a called is asked.2
+call-keeps p sound moment early (order o) a before after asked called is = formed p sound moment early (order o) tt before after a called is
+call-keeps p sound moment early date a before after asked called is = formed p sound moment early date tt before after a called is
+call-keeps p sound moment early look_up a before after asked called is = formed p sound moment early look_up tt before after a called is
 
 turn-keeps : (p : PolicyRules) → IsSound p → (turn : Turn) (before after : Registry) → IsTurn p turn before after → IsRegistry p (now p before) → IsRegistry p (now p after)
 turn-keeps p sound (call moment q a) before after taken is = call-keeps p sound moment taken.0 q a before after taken.1 taken.2 is
@@ -36,10 +32,10 @@ runs-keep-registries p sound (turn ∷ others) before after turns is =
 -- ---- money
 
 call-follows : (p : PolicyRules) → IsSound p → (moment : ℕ) → moment ≤ last_clock → (q : Question) (a : Answer) (before after : Registry) → IsCall p moment q before after a → IsRegistry p (now p before) → MoneyFollows p moment (now p before) (now p after)
-call-follows p sound moment early (command r c) a before after called is = subst (MoneyFollows p moment (now p before)) (sym called.left) (money-effect-now p moment before sound early is r c)
-call-follows p sound moment early (order o) a before after called is = subst (MoneyFollows p moment (now p before)) (sym called.left) (money-order-now p moment before o)
-call-follows p sound moment early date a before after called is = subst (MoneyFollows p moment (now p before)) (sym called.left) (money-lapsed-now p moment before)
-call-follows p sound moment early look_up a before after called is = subst (MoneyFollows p moment (now p before)) (sym called.left) (money-lapsed-now p moment before)
+call-follows p sound moment early (command r c) a before after called is = paid p sound moment early (command r c) before after a called is
+call-follows p sound moment early (order o) a before after called is = paid p sound moment early (order o) before after a called
+call-follows p sound moment early date a before after called is = paid p sound moment early date before after a called
+call-follows p sound moment early look_up a before after called is = paid p sound moment early look_up before after a called
 
 abbrev moment_of : Turn → ℕ
 moment_of (call moment q a) = moment

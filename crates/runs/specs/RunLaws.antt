@@ -14,8 +14,8 @@ use Rattle.protocol.specs.declared.reply.Reply.{Reply}
 use Rattle.registry.specs.Execution.{IsGreetingStep, IsOrderStep, IsStep}
 use Rattle.privacy.specs.Alike.{Pair, AreAlike, firsts, seconds}
 use Rattle.privacy.specs.Laws.{none}
-use Rattle.privacy.specs.Runs.{Answer, Question, code, command, date, dated, look_up, order, reply, shown}
-use Rattle.runs.specs.Runs.{Turn, AreTurns, IsCall, IsLater, IsRun, IsSettledRun, answers_of, questions_of, settles_last, told_of}
+use Rattle.privacy.specs.Runs.{Answer, IsCall, Question, code, command, date, dated, look_up, order, reply, shown}
+use Rattle.runs.specs.Runs.{Turn, AreTurns, IsLater, IsRun, IsSettledRun, answers_of, questions_of, settles_last, told_of}
 
 -- ---- the steps of the registry's calls are calls of a run
 

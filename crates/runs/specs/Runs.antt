@@ -1,19 +1,12 @@
 -- Runs: what a registry is asked, one thing after another, and what it answers.
 use Rattle.std.specs.Prelude.{◌≡◌, ◌≤◌, ℕ, max, Bool, true, false, List, [], ◌∷◌, if◌then◌else◌}
-use Rattle.model.specs.Lapse.{lapse, lapsed, now}
+use Rattle.model.specs.Lapse.{lapse}
 use Rattle.model.specs.Registry.{Registry}
 use Rattle.model.specs.WellFormed.{AreSmall, last_clock}
 use Rattle.policy.specs.Rules.{PolicyRules, IsRegistrar}
-use Rattle.privacy.specs.Runs.{Answer, Question, answer_to, command, date, effect_of, is_asked_by, look_up, order}
+use Rattle.privacy.specs.Runs.{Answer, IsCall, Question, command, date, is_asked_by, look_up, order}
 use Rattle.registry.specs.Execution.{IsSettlement}
 use Rattle.rules.specs.Askable.{CanBeAsked}
-
--- ---- one call
-
--- The answer is that of the registry at the moment of the call, and what is left is the effect there.
-pub record IsCall (p : PolicyRules) (moment : ℕ) (q : Question) (before after : Registry) (a : Answer) : Type 0 where
-  pub answered : a ≡ answer_to p q (lapsed p moment before)
-  pub left : now p after ≡ now p (effect_of p q (lapsed p moment before))
 
 -- ---- calls one after another
 

@@ -26,7 +26,7 @@ use Rattle.protocol.specs.declared.command.Request.TheVariants.{InfoContact, Inf
 use Rattle.protocol.specs.declared.transfer.TransferOp.{TransferOp}
 use Rattle.protocol.specs.declared.transfer.TransferOp.TheVariants as ops
 use Rattle.protocol.specs.Requests.{asks_of, transfer_action}
-use Rattle.verdict.specs.declared.rules.Condition.TheVariants.{IsThere, IsMissing, IsAnothers, SecretIsWrong, Shows, StillShows, IsLinked, HasSubordinates, IsNotIn, ReportDiffers, IsNotOldest, LacksMoney, SecretIsNotRight, IsStranger, StrangersSecretIsWrong, IsNotRequester, HasNoTransfer, IsNotPending, IsOwn, IsLocked}
+use Rattle.verdict.specs.declared.rules.Condition.TheVariants.{IsThere, IsMissing, IsAnothers, SecretIsWrong, Shows, StillShows, IsLinked, HasSubordinates, IsNotIn, ReportDiffers, IsNotOldest, LacksMoney, SecretIsNotRight, IsStranger, StrangersSecretIsWrong, IsNotRequester, HasNoTransfer, IsPending, IsNotPending, IsOwn, IsLocked}
 use Rattle.verdict.specs.declared.verdict.Verdict.{Verdict}
 use Rattle.verdict.specs.Charges.{charge_of, years_charged, years_needed}
 use Rattle.verdict.specs.Conditions.{domain_in_full, domain_is_locked, full_domain, has_subordinates, is_in, is_involved, is_linked, is_of_another, is_oldest, is_requester, is_there, presents_secret, report_differs, secret_is_wrong, shows_status, sponsors, still_shows, strangers_secret_is_wrong, the_transfer, transfer_is_pending}
@@ -34,6 +34,8 @@ use Rattle.verdict.specs.Laws.{ActsOnObject, Alters, AnswersLawfully, EndsTransf
 use Rattle.verdict.specs.ResponseData.{response_data}
 use Rattle.verdict.specs.Rules.{refusal_of}
 use Rattle.verdict.specs.Verdicts.{granted, judged, unless_refused}
+use Rattle.verdict.proofs.ActionLemmas.{no-other}
+use Rattle.verdict.proofs.PutLemmas.{puts-lawfully}
 use Rattle.verdict.proofs.RowLemmas.{refusing, unrefused}
 
 there-is : (b : Bool) → not b ≡ false → b ≡ true
@@ -61,26 +63,6 @@ entitled true right secret known opens = refl
 entitled false true secret known opens = refl
 entitled false false None known opens = absurd cc
 entitled false false (Some presented) known opens = absurd cc
-
--- ---- an operation on a transfer is no other action
-
-abbrev IsOfTransfer : Action → Type 0
-IsOfTransfer actions.RequestTransfer = Unit {0}
-IsOfTransfer actions.QueryTransfer = Unit {0}
-IsOfTransfer actions.ApproveTransfer = Unit {0}
-IsOfTransfer actions.RejectTransfer = Unit {0}
-IsOfTransfer actions.CancelTransfer = Unit {0}
-IsOfTransfer _ = ⊥
-
-of-transfer : (op : TransferOp) → IsOfTransfer (transfer_action op)
-of-transfer ops.Request = tt
-of-transfer ops.Query = tt
-of-transfer ops.Approve = tt
-of-transfer ops.Reject = tt
-of-transfer ops.Cancel = tt
-
-no-other : (op : TransferOp) (a : Action) → transfer_action op ≡ a → IsOfTransfer a
-no-other op a e = subst IsOfTransfer e (of-transfer op)
 
 -- ---- row by row
 
@@ -259,8 +241,8 @@ module _ (p : PolicyRules) (r t : ℕ) (f : Facts) where
   authorized-law _ taken is = absurd (cc)
 
   not-twice-law : (q : Request) → refusal_of p r t q f ≡ None → (asks_of q).action ≡ actions.RequestTransfer → shows_status PendingTransfer q f ≡ false
-  not-twice-law (TransferContact name ops.Request secret) taken is = unrefused p r t (TransferContact name ops.Request secret) f taken (Shows PendingTransfer) (search (inl, inr) depth 20)
-  not-twice-law (TransferDomain name ops.Request secret) taken is = unrefused p r t (TransferDomain name ops.Request secret) f taken (Shows PendingTransfer) (search (inl, inr) depth 20)
+  not-twice-law (TransferContact name ops.Request secret) taken is = unrefused p r t (TransferContact name ops.Request secret) f taken IsPending (search (inl, inr) depth 20)
+  not-twice-law (TransferDomain name ops.Request secret) taken is = unrefused p r t (TransferDomain name ops.Request secret) f taken IsPending (search (inl, inr) depth 20)
   not-twice-law _ taken is = absurd (cc)
 
   not-deleted-law : (q : Request) → refusal_of p r t q f ≡ None → (name : GivenName) (secret : Option (List ℕ)) → q ≡ TransferDomain name ops.Request secret → shows_status PendingDelete q f ≡ false
@@ -353,6 +335,7 @@ module _ (p : PolicyRules) (r t : ℕ) (f : Facts) where
     outlasts = λ is d e. (turns-law q is d e).after;
     no_more = λ is d e years lt. (turns-law q is d e).before years lt;
     transfers = lawful-transfer q taken;
+    puts = puts-lawfully p r t f q taken;
     oldest = oldest-law q taken;
     paid = paid-law q taken;
   }

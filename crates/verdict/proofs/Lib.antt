@@ -1,3 +1,5 @@
 pub mod RowLemmas
+mod ActionLemmas
+mod PutLemmas
 pub mod LawLemmas
 pub mod RenewalLemmas

@@ -1,5 +1,6 @@
 pub mod Refusals
 pub mod Charges
+pub mod Causes
 pub mod Conditions
 pub mod Transfers
 pub mod Deletion

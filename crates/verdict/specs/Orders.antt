@@ -18,6 +18,7 @@ use Rattle.protocol.specs.Requests.{holds_of}
 use Rattle.verdict.specs.declared.order.OrderCondition.{OrderCondition}
 use Rattle.verdict.specs.declared.order.OrderCondition.TheVariants.{IsMissing, ContradictsPendingState, HasUnknownStatus, HasAnothersStatus, ListRepeats, AddsWhatIsSet, RemovesWhatIsUnset}
 use Rattle.verdict.specs.declared.order.TheConstants.{STATUS_ORDER}
+use Rattle.verdict.specs.Causes.{cause_of_order}
 use Rattle.verdict.specs.Conditions.{any_set, any_unset}
 use Rattle.verdict.specs.Refusals.{first_refusal}
 
@@ -43,4 +44,4 @@ order_holds o object RemovesWhatIsUnset = holds_of (λ it. any_unset (statuses_o
 
 -- what an order is answered, by the object that it names
 unfoldable pub order_code : StatusOrder → Option Object → Code
-order_code o object = unwrap_or (first_refusal (order_holds o object) STATUS_ORDER.now) codes.Completed
+order_code o object = unwrap_or (first_refusal cause_of_order (order_holds o object) STATUS_ORDER.now) codes.Completed

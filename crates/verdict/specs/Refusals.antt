@@ -39,14 +39,14 @@ place_of DoesNotFit = 14
 place_of LimitReached = 15
 place_of NoMoney = 16
 
--- the rows of a table stand in the order of their causes, from one place on
-abbrev pub in_order_from : {C : Type 0} → ℕ → List (Cause × C) → Bool
-in_order_from place [] = true
-in_order_from place (row ∷ rows) = nat_le place (place_of row.0) && in_order_from (place_of row.0) rows
+-- the conditions of a table stand in the order of their causes, from one place on
+abbrev pub in_order_from : {C : Type 0} → (C → Cause) → ℕ → List C → Bool
+in_order_from cause place [] = true
+in_order_from cause place (condition ∷ rest) = nat_le place (place_of (cause condition)) && in_order_from cause (place_of (cause condition)) rest
 
-abbrev pub in_order : {C : Type 0} → List (Cause × C) → Bool
-in_order rows = in_order_from 0 rows
+abbrev pub in_order : {C : Type 0} → (C → Cause) → List C → Bool
+in_order cause conditions = in_order_from cause 0 conditions
 
--- the first row whose condition holds answers
-unfoldable pub first_refusal : {C : Type 0} → (C → Bool) → List (Cause × C) → Option Code
-first_refusal holds rows = option_map (λ row. code_of row.0) (find (λ row. holds row.1) rows)
+-- the first condition that holds answers, by its cause
+unfoldable pub first_refusal : {C : Type 0} → (C → Cause) → (C → Bool) → List C → Option Code
+first_refusal cause holds conditions = option_map (λ condition. code_of (cause condition)) (find holds conditions)

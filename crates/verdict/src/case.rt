@@ -19,7 +19,7 @@ use crate::conditions::{
 };
 use crate::renewal::{expires_otherwise, passes_ten_years};
 use crate::restoration::{is_in, report_differs};
-use crate::rules::{Condition, Row, rows};
+use crate::rules::{Condition, table};
 use basis::registrar::RegistrarNo;
 use calendar::Moment;
 use facts::{ContactFacts, DomainFacts, Facts, HostFacts, count_kept};
@@ -369,16 +369,17 @@ impl Case<'_> {
             Condition::StrangersSecretIsWrong => self.strangers_secret_is_wrong(),
             Condition::IsNotRequester => !self.is_requester(),
             Condition::HasNoTransfer => self.has_no_transfer(),
+            Condition::IsPending => self.shows(Status::PendingTransfer),
             Condition::IsNotPending => !self.transfer_is_pending(),
             Condition::IsOwn => self.sponsors(),
             Condition::IsLocked => self.domain_is_locked(),
         }
     }
 
-    fn find_refusal(&self, rows: &'static [Row]) -> Option<&'static Row>
-        ensures { option_copied result ≡ find (λ row. spec.holds self.now.policy.now self.now.caller self.now.moment self.now.request.now self.now.facts.now row.1) rows.now }
+    fn find_refusal(&self, table: &'static [Condition]) -> Option<&'static Condition>
+        ensures { option_copied result ≡ find (spec.holds self.now.policy.now self.now.caller self.now.moment self.now.request.now self.now.facts.now) table.now }
     {
-        rows.iter().find(|row| self.meets(row.1))
+        table.iter().find(|condition| self.meets(**condition))
     }
 
     /// The code with which the command is refused.
@@ -386,8 +387,8 @@ impl Case<'_> {
     pub(crate) fn refusal(&self) -> Option<Code>
         ensures { result ≡ refusal_of self.now.policy.now self.now.caller self.now.moment self.now.request.now self.now.facts.now }
     {
-        match self.find_refusal(rows(self.request)) {
-            Some((cause, _)) => Some(cause.code()),
+        match self.find_refusal(table(self.request)) {
+            Some(condition) => Some(condition.cause().code()),
             None => None,
         }
     }

@@ -4,6 +4,7 @@ ghost use Rattle.std.specs.Option.{option_copied};
 ghost use Rattle.protocol.specs.Requests.{holds_of};
 ghost use Rattle.verdict.specs.Conditions as conditions;
 ghost use Rattle.model.specs.Objects as model;
+ghost use Rattle.verdict.specs.Causes.{cause_of_order};
 ghost use Rattle.verdict.specs.Orders as spec;
 
 use crate::conditions::{any_set, any_unset};
@@ -36,15 +37,32 @@ pub enum OrderCondition {
     RemovesWhatIsUnset,
 }
 
+impl OrderCondition {
+    /// The cause that it is of a refusal (RFC 5730, 3).
+    pub fn cause(self) -> Cause
+        ensures { result ≡ cause_of_order self }
+    {
+        match self {
+            OrderCondition::IsMissing => Cause::Missing,
+            OrderCondition::ContradictsPendingState => Cause::StatusProhibits,
+            OrderCondition::HasUnknownStatus
+            | OrderCondition::HasAnothersStatus
+            | OrderCondition::ListRepeats
+            | OrderCondition::AddsWhatIsSet
+            | OrderCondition::RemovesWhatIsUnset => Cause::DoesNotFit,
+        }
+    }
+}
+
 /// The table of the orders that set statuses.
-pub const STATUS_ORDER: &[(Cause, OrderCondition)] = &[
-    (Cause::Missing, IsMissing), // RFC 5730, 3, code 2303
-    (Cause::StatusProhibits, ContradictsPendingState), // RFC 5731, 2.3
-    (Cause::DoesNotFit, HasUnknownStatus), // RFC 5730, 3, code 2306
-    (Cause::DoesNotFit, HasAnothersStatus), // RFC 5731, 2.3
-    (Cause::DoesNotFit, ListRepeats), // RFC 5730, 3, code 2306
-    (Cause::DoesNotFit, AddsWhatIsSet), // RFC 5730, 3, code 2306
-    (Cause::DoesNotFit, RemovesWhatIsUnset), // RFC 5730, 3, code 2306
+pub const STATUS_ORDER: &[OrderCondition] = &[
+    IsMissing,
+    ContradictsPendingState, // RFC 5731, 2.3
+    HasUnknownStatus,
+    HasAnothersStatus, // RFC 5731, 2.3
+    ListRepeats,
+    AddsWhatIsSet,
+    RemovesWhatIsUnset,
 ];
 
 /// What an order is answered, by the object that it names.
@@ -53,18 +71,15 @@ pub fn judge_order(order: &StatusOrder, object: Option<&Object>) -> Code
     ensures { result ≡ spec.order_code order.now (option_copied object.entry) }
 {
     match find_refusal(order, object) {
-        Some((cause, _)) => cause.code(),
+        Some(condition) => condition.cause().code(),
         None => Code::Completed,
     }
 }
 
-fn find_refusal(
-    order: &StatusOrder,
-    object: Option<&Object>,
-) -> Option<&'static (Cause, OrderCondition)>
-    ensures { option_copied result ≡ find (λ row. spec.order_holds order.now (option_copied object.entry) row.1) STATUS_ORDER.now }
+fn find_refusal(order: &StatusOrder, object: Option<&Object>) -> Option<&'static OrderCondition>
+    ensures { option_copied result ≡ find (spec.order_holds order.now (option_copied object.entry)) STATUS_ORDER.now }
 {
-    STATUS_ORDER.iter().find(|row| meets(order, row.1, object))
+    STATUS_ORDER.iter().find(|condition| meets(order, **condition, object))
 }
 
 fn meets(order: &StatusOrder, condition: OrderCondition, object: Option<&Object>) -> bool

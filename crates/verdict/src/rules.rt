@@ -1,17 +1,15 @@
-//! The rules: on which conditions each command is refused, and with which cause (RFC 5730, 3). The
-//! first row whose condition holds answers; the rows of a table stand in the order of their causes.
+//! The rules: the conditions on which each command is refused. A condition has one cause, wherever it
+//! stands (RFC 5730, 3), and the conditions of a table stand in the order of their causes: the first that
+//! holds answers.
 ghost use Rattle.std.specs.Prelude.{◌≡◌, IsTrue};
+ghost use Rattle.verdict.specs.Causes.{cause_of};
 ghost use Rattle.verdict.specs.Refusals.{in_order};
 ghost use Rattle.verdict.specs.Rules as spec;
 
-use crate::refusal::Cause::{
-    self, AssociationProhibits, BadNames, DoesNotFit, Exists, LimitReached, Missing, NoMoney,
-    NoTransferPends, NotRenewable, NotSponsor, NotTransferable, StatusProhibits, TransferPends,
-    WrongSecret,
-};
+use crate::refusal::Cause;
 use Condition::{
     AddsWhatIsThere, ExpiresOtherwise, HasNoTransfer, HasSubordinates, HoldsTheMost, IsAnothers,
-    IsLinked, IsLocked, IsMissing, IsNotIn, IsNotOldest, IsNotPending, IsNotRequester, IsOwn,
+    IsLinked, IsLocked, IsMissing, IsNotIn, IsNotOldest, IsNotPending, IsNotRequester, IsOwn, IsPending,
     IsStranger, IsThere, LacksMoney, LeavesAddressesOutside, LeavesTooMany, ListRepeats,
     NameIsRefused, NewNameIsTaken, PassesTenYears, ReferenceIsMissing, RemovesWhatIsNot,
     ReportDiffers, SecretIsNotRight, SecretIsWrong, Shows, StillShows, StrangersSecretIsWrong,
@@ -93,6 +91,8 @@ pub enum Condition {
     IsNotRequester,
     /// No transfer of the object was ever asked for.
     HasNoTransfer,
+    /// A transfer of the object is pending.
+    IsPending,
     /// No transfer of the object is pending.
     IsNotPending,
     /// The registrar sponsors the object.
@@ -101,244 +101,281 @@ pub enum Condition {
     IsLocked,
 }
 
-/// A row of a command's table.
-pub type Row = (Cause, Condition);
+impl Condition {
+    /// The cause that it is of a refusal (RFC 5730, 3).
+    pub fn cause(self) -> Cause
+        ensures { result ≡ cause_of self }
+    {
+        match self {
+            Condition::NameIsRefused | Condition::ListRepeats => Cause::BadNames,
+            Condition::IsThere | Condition::NewNameIsTaken => Cause::Exists,
+            Condition::IsMissing
+            | Condition::ReferenceIsMissing
+            | Condition::SuperordinateIsMissing
+            | Condition::IsNotOldest => Cause::Missing,
+            Condition::IsAnothers
+            | Condition::SuperordinateIsAnothers
+            | Condition::IsStranger
+            | Condition::IsNotRequester => Cause::NotSponsor,
+            Condition::SecretIsWrong
+            | Condition::SecretIsNotRight
+            | Condition::StrangersSecretIsWrong => Cause::WrongSecret,
+            Condition::IsPending => Cause::TransferPends,
+            Condition::HasNoTransfer | Condition::IsNotPending => Cause::NoTransferPends,
+            Condition::Shows(_)
+            | Condition::StillShows(_)
+            | Condition::SuperordinateIsDeleted
+            | Condition::IsNotIn(_) => Cause::StatusProhibits,
+            Condition::IsLinked | Condition::HasSubordinates => Cause::AssociationProhibits,
+            Condition::PassesTenYears => Cause::NotRenewable,
+            Condition::IsOwn | Condition::IsLocked => Cause::NotTransferable,
+            Condition::AddsWhatIsThere
+            | Condition::RemovesWhatIsNot
+            | Condition::LeavesTooMany
+            | Condition::LeavesAddressesOutside
+            | Condition::ExpiresOtherwise
+            | Condition::ReportDiffers => Cause::DoesNotFit,
+            Condition::HoldsTheMost => Cause::LimitReached,
+            Condition::LacksMoney => Cause::NoMoney,
+        }
+    }
+}
 
 /// RFC 5733, 3.1.2.
-pub const CONTACT_INFO: &[Row] = &[
-    (Missing, IsMissing), // RFC 5730, 3, code 2303
-    (WrongSecret, SecretIsWrong), // RFC 5733, 2.8
+pub const CONTACT_INFO: &[Condition] = &[
+    IsMissing,
+    SecretIsWrong, // RFC 5733, 2.8
 ];
 
 /// RFC 5731, 3.1.2.
-pub const DOMAIN_INFO: &[Row] = &[
-    (BadNames, NameIsRefused), // RFC 5730, 3, code 2306
-    (Missing, IsMissing), // RFC 5730, 3, code 2303
-    (WrongSecret, SecretIsWrong), // RFC 5731, 2.6
+pub const DOMAIN_INFO: &[Condition] = &[
+    NameIsRefused,
+    IsMissing,
+    SecretIsWrong, // RFC 5731, 2.6
 ];
 
 /// RFC 5732, 3.1.2.
-pub const HOST_INFO: &[Row] = &[
-    (BadNames, NameIsRefused), // RFC 5730, 3, code 2306
-    (Missing, IsMissing), // RFC 5730, 3, code 2303
+pub const HOST_INFO: &[Condition] = &[
+    NameIsRefused,
+    IsMissing,
 ];
 
 /// RFC 5733, 3.2.1.
-pub const CONTACT_CREATION: &[Row] = &[
-    (Exists, IsThere), // RFC 5730, 3, code 2302
+pub const CONTACT_CREATION: &[Condition] = &[
+    IsThere,
 ];
 
 /// RFC 5731, 3.2.1.
-pub const DOMAIN_CREATION: &[Row] = &[
-    (BadNames, NameIsRefused), // RFC 5730, 3, code 2306
-    (BadNames, ListRepeats), // RFC 5730, 3, code 2306
-    (Exists, IsThere), // RFC 5730, 3, code 2302
-    (Missing, ReferenceIsMissing), // RFC 5731, 3.2.1
-    (DoesNotFit, LeavesTooMany), // RFC 5731, 3.2.1
-    (LimitReached, HoldsTheMost), // RFC 5730, 3, code 2308
-    (NoMoney, LacksMoney), // RFC 5730, 3, code 2104
+pub const DOMAIN_CREATION: &[Condition] = &[
+    NameIsRefused,
+    ListRepeats,
+    IsThere,
+    ReferenceIsMissing, // RFC 5731, 3.2.1
+    LeavesTooMany, // RFC 5731, 3.2.1
+    HoldsTheMost,
+    LacksMoney,
 ];
 
 /// RFC 5732, 3.2.1.
-pub const HOST_CREATION: &[Row] = &[
-    (BadNames, NameIsRefused), // RFC 5730, 3, code 2306
-    (BadNames, ListRepeats), // RFC 5730, 3, code 2306
-    (Exists, IsThere), // RFC 5730, 3, code 2302
-    (Missing, SuperordinateIsMissing), // RFC 5732, 3.2.1
-    (NotSponsor, SuperordinateIsAnothers), // RFC 5732, 3.2.1
-    (StatusProhibits, SuperordinateIsDeleted), // RFC 5731, 2.3
-    (DoesNotFit, LeavesTooMany), // RFC 5732, 3.2.1
-    (DoesNotFit, LeavesAddressesOutside), // RFC 5732, 2.5
+pub const HOST_CREATION: &[Condition] = &[
+    NameIsRefused,
+    ListRepeats,
+    IsThere,
+    SuperordinateIsMissing, // RFC 5732, 3.2.1
+    SuperordinateIsAnothers, // RFC 5732, 3.2.1
+    SuperordinateIsDeleted, // RFC 5731, 2.3
+    LeavesTooMany, // RFC 5732, 3.2.1
+    LeavesAddressesOutside, // RFC 5732, 2.5
 ];
 
 /// RFC 5733, 3.2.2.
-pub const CONTACT_DELETION: &[Row] = &[
-    (Missing, IsMissing), // RFC 5730, 3, code 2303
-    (NotSponsor, IsAnothers), // RFC 5733, 3.2.2
-    (StatusProhibits, Shows(PendingTransfer)), // RFC 5733, 2.2
-    (StatusProhibits, Shows(ClientDeleteProhibited)), // RFC 5733, 2.2
-    (StatusProhibits, Shows(ServerDeleteProhibited)), // RFC 5733, 2.2
-    (AssociationProhibits, IsLinked), // RFC 5733, 3.2.2
+pub const CONTACT_DELETION: &[Condition] = &[
+    IsMissing,
+    IsAnothers, // RFC 5733, 3.2.2
+    Shows(PendingTransfer), // RFC 5733, 2.2
+    Shows(ClientDeleteProhibited), // RFC 5733, 2.2
+    Shows(ServerDeleteProhibited), // RFC 5733, 2.2
+    IsLinked, // RFC 5733, 3.2.2
 ];
 
 /// RFC 5731, 3.2.2.
-pub const DOMAIN_DELETION: &[Row] = &[
-    (BadNames, NameIsRefused), // RFC 5730, 3, code 2306
-    (Missing, IsMissing), // RFC 5730, 3, code 2303
-    (NotSponsor, IsAnothers), // RFC 5731, 3.2.2
-    (StatusProhibits, Shows(PendingDelete)), // RFC 5731, 2.3
-    (StatusProhibits, Shows(PendingTransfer)), // RFC 5731, 2.3
-    (StatusProhibits, Shows(ClientDeleteProhibited)), // RFC 5731, 2.3
-    (StatusProhibits, Shows(ServerDeleteProhibited)), // RFC 5731, 2.3
-    (AssociationProhibits, HasSubordinates), // RFC 5731, 3.2.2
+pub const DOMAIN_DELETION: &[Condition] = &[
+    NameIsRefused,
+    IsMissing,
+    IsAnothers, // RFC 5731, 3.2.2
+    Shows(PendingDelete), // RFC 5731, 2.3
+    Shows(PendingTransfer), // RFC 5731, 2.3
+    Shows(ClientDeleteProhibited), // RFC 5731, 2.3
+    Shows(ServerDeleteProhibited), // RFC 5731, 2.3
+    HasSubordinates, // RFC 5731, 3.2.2
 ];
 
 /// RFC 5732, 3.2.2.
-pub const HOST_DELETION: &[Row] = &[
-    (BadNames, NameIsRefused), // RFC 5730, 3, code 2306
-    (Missing, IsMissing), // RFC 5730, 3, code 2303
-    (NotSponsor, IsAnothers), // RFC 5732, 3.2.2
-    (StatusProhibits, Shows(PendingTransfer)), // RFC 5732, 2.3
-    (StatusProhibits, Shows(ClientDeleteProhibited)), // RFC 5732, 2.3
-    (StatusProhibits, Shows(ServerDeleteProhibited)), // RFC 5732, 2.3
-    (AssociationProhibits, IsLinked), // RFC 5732, 3.2.2
+pub const HOST_DELETION: &[Condition] = &[
+    NameIsRefused,
+    IsMissing,
+    IsAnothers, // RFC 5732, 3.2.2
+    Shows(PendingTransfer), // RFC 5732, 2.3
+    Shows(ClientDeleteProhibited), // RFC 5732, 2.3
+    Shows(ServerDeleteProhibited), // RFC 5732, 2.3
+    IsLinked, // RFC 5732, 3.2.2
 ];
 
 /// RFC 5733, 3.2.5. The sponsor may take its own prohibition away with the update.
-pub const CONTACT_UPDATE: &[Row] = &[
-    (BadNames, ListRepeats), // RFC 5730, 3, code 2306
-    (Missing, IsMissing), // RFC 5730, 3, code 2303
-    (NotSponsor, IsAnothers), // RFC 5733, 3.2.5
-    (StatusProhibits, Shows(PendingDelete)), // RFC 5733, 2.2
-    (StatusProhibits, Shows(PendingTransfer)), // RFC 5733, 2.2
-    (StatusProhibits, Shows(ServerUpdateProhibited)), // RFC 5733, 2.2
-    (StatusProhibits, StillShows(ClientUpdateProhibited)), // RFC 5733, 3.2.5
-    (DoesNotFit, AddsWhatIsThere), // RFC 5733, 3.2.5
-    (DoesNotFit, RemovesWhatIsNot), // RFC 5733, 3.2.5
+pub const CONTACT_UPDATE: &[Condition] = &[
+    ListRepeats,
+    IsMissing,
+    IsAnothers, // RFC 5733, 3.2.5
+    Shows(PendingDelete), // RFC 5733, 2.2
+    Shows(PendingTransfer), // RFC 5733, 3.2.5
+    Shows(ServerUpdateProhibited), // RFC 5733, 2.2
+    StillShows(ClientUpdateProhibited), // RFC 5733, 3.2.5
+    AddsWhatIsThere, // RFC 5733, 3.2.5
+    RemovesWhatIsNot, // RFC 5733, 3.2.5
 ];
 
 /// RFC 5731, 3.2.5. As for a contact.
-pub const DOMAIN_UPDATE: &[Row] = &[
-    (BadNames, NameIsRefused), // RFC 5730, 3, code 2306
-    (BadNames, ListRepeats), // RFC 5730, 3, code 2306
-    (Missing, IsMissing), // RFC 5730, 3, code 2303
-    (Missing, ReferenceIsMissing), // RFC 5731, 3.2.5
-    (NotSponsor, IsAnothers), // RFC 5731, 3.2.5
-    (StatusProhibits, Shows(PendingDelete)), // RFC 5731, 2.3
-    (StatusProhibits, Shows(PendingTransfer)), // RFC 5731, 2.3
-    (StatusProhibits, Shows(ServerUpdateProhibited)), // RFC 5731, 2.3
-    (StatusProhibits, StillShows(ClientUpdateProhibited)), // RFC 5731, 3.2.5
-    (DoesNotFit, AddsWhatIsThere), // RFC 5731, 3.2.5
-    (DoesNotFit, RemovesWhatIsNot), // RFC 5731, 3.2.5
-    (DoesNotFit, LeavesTooMany), // RFC 5731, 3.2.5
+pub const DOMAIN_UPDATE: &[Condition] = &[
+    NameIsRefused,
+    ListRepeats,
+    IsMissing,
+    ReferenceIsMissing, // RFC 5731, 3.2.5
+    IsAnothers, // RFC 5731, 3.2.5
+    Shows(PendingDelete), // RFC 5731, 2.3
+    Shows(PendingTransfer), // RFC 5731, 3.2.5
+    Shows(ServerUpdateProhibited), // RFC 5731, 2.3
+    StillShows(ClientUpdateProhibited), // RFC 5731, 3.2.5
+    AddsWhatIsThere, // RFC 5731, 3.2.5
+    RemovesWhatIsNot, // RFC 5731, 3.2.5
+    LeavesTooMany, // RFC 5731, 3.2.5
 ];
 
 /// RFC 5732, 3.2.5. As for a contact; a new name is one of a new host.
-pub const HOST_UPDATE: &[Row] = &[
-    (BadNames, NameIsRefused), // RFC 5730, 3, code 2306
-    (BadNames, ListRepeats), // RFC 5730, 3, code 2306
-    (Exists, NewNameIsTaken), // RFC 5730, 3, code 2302
-    (Missing, IsMissing), // RFC 5730, 3, code 2303
-    (Missing, SuperordinateIsMissing), // RFC 5732, 3.2.5
-    (NotSponsor, IsAnothers), // RFC 5732, 3.2.5
-    (NotSponsor, SuperordinateIsAnothers), // RFC 5732, 3.2.5
-    (StatusProhibits, Shows(ServerUpdateProhibited)), // RFC 5732, 2.3
-    (StatusProhibits, StillShows(ClientUpdateProhibited)), // RFC 5732, 3.2.5
-    (StatusProhibits, SuperordinateIsDeleted), // RFC 5731, 2.3
-    (DoesNotFit, AddsWhatIsThere), // RFC 5732, 3.2.5
-    (DoesNotFit, RemovesWhatIsNot), // RFC 5732, 3.2.5
-    (DoesNotFit, LeavesTooMany), // RFC 5732, 3.2.5
-    (DoesNotFit, LeavesAddressesOutside), // RFC 5732, 2.5
+pub const HOST_UPDATE: &[Condition] = &[
+    NameIsRefused,
+    ListRepeats,
+    NewNameIsTaken,
+    IsMissing,
+    SuperordinateIsMissing, // RFC 5732, 3.2.5
+    IsAnothers, // RFC 5732, 3.2.5
+    SuperordinateIsAnothers, // RFC 5732, 3.2.5
+    Shows(ServerUpdateProhibited), // RFC 5732, 2.3
+    StillShows(ClientUpdateProhibited), // RFC 5732, 3.2.5
+    SuperordinateIsDeleted, // RFC 5731, 2.3
+    AddsWhatIsThere, // RFC 5732, 3.2.5
+    RemovesWhatIsNot, // RFC 5732, 3.2.5
+    LeavesTooMany, // RFC 5732, 3.2.5
+    LeavesAddressesOutside, // RFC 5732, 2.5
 ];
 
 /// RFC 5731, 3.2.3.
-pub const DOMAIN_RENEWAL: &[Row] = &[
-    (BadNames, NameIsRefused), // RFC 5730, 3, code 2306
-    (Missing, IsMissing), // RFC 5730, 3, code 2303
-    (NotSponsor, IsAnothers), // RFC 5731, 3.2.3
-    (StatusProhibits, Shows(PendingDelete)), // RFC 5731, 3.2.3
-    (StatusProhibits, Shows(PendingTransfer)), // RFC 5731, 2.3
-    (StatusProhibits, Shows(ClientRenewProhibited)), // RFC 5731, 2.3
-    (StatusProhibits, Shows(ServerRenewProhibited)), // RFC 5731, 2.3
-    (NotRenewable, PassesTenYears), // RFC 5730, 3, code 2105
-    (DoesNotFit, ExpiresOtherwise), // RFC 5731, 3.2.3
-    (NoMoney, LacksMoney), // RFC 5730, 3, code 2104
+pub const DOMAIN_RENEWAL: &[Condition] = &[
+    NameIsRefused,
+    IsMissing,
+    IsAnothers, // RFC 5731, 3.2.3
+    Shows(PendingDelete), // RFC 5731, 3.2.3
+    Shows(PendingTransfer), // RFC 5731, 2.3
+    Shows(ClientRenewProhibited), // RFC 5731, 2.3
+    Shows(ServerRenewProhibited), // RFC 5731, 2.3
+    PassesTenYears,
+    ExpiresOtherwise, // RFC 5731, 3.2.3
+    LacksMoney,
 ];
 
 /// RFC 3915, 4.2.5.
-pub const RESTORE_REQUEST: &[Row] = &[
-    (BadNames, NameIsRefused), // RFC 5730, 3, code 2306
-    (Missing, IsMissing), // RFC 5730, 3, code 2303
-    (NotSponsor, IsAnothers), // RFC 5731, 3.2.5
-    (StatusProhibits, IsNotIn(Redemption)), // RFC 3915, 3.1
+pub const RESTORE_REQUEST: &[Condition] = &[
+    NameIsRefused,
+    IsMissing,
+    IsAnothers, // RFC 5731, 3.2.5
+    IsNotIn(Redemption), // RFC 3915, 3.1
 ];
 
 /// RFC 3915, 4.2.5.
-pub const RESTORE_REPORT: &[Row] = &[
-    (BadNames, NameIsRefused), // RFC 5730, 3, code 2306
-    (Missing, IsMissing), // RFC 5730, 3, code 2303
-    (NotSponsor, IsAnothers), // RFC 5731, 3.2.5
-    (StatusProhibits, IsNotIn(Restoring)), // RFC 3915, 3.1
-    (DoesNotFit, ReportDiffers), // RFC 3915, 4.2.5
-    (NoMoney, LacksMoney), // RFC 5730, 3, code 2104
+pub const RESTORE_REPORT: &[Condition] = &[
+    NameIsRefused,
+    IsMissing,
+    IsAnothers, // RFC 5731, 3.2.5
+    IsNotIn(Restoring), // RFC 3915, 3.1
+    ReportDiffers, // RFC 3915, 4.2.5
+    LacksMoney,
 ];
 
 /// RFC 5733, 3.2.4, `request`.
-pub const CONTACT_TRANSFER_REQUEST: &[Row] = &[
-    (Missing, IsMissing), // RFC 5730, 3, code 2303
-    (WrongSecret, SecretIsNotRight), // RFC 5733, 3.2.4
-    (TransferPends, Shows(PendingTransfer)), // RFC 5730, 3, code 2300
-    (StatusProhibits, Shows(ClientTransferProhibited)), // RFC 5733, 2.2
-    (StatusProhibits, Shows(ServerTransferProhibited)), // RFC 5733, 2.2
-    (NotTransferable, IsOwn), // RFC 5730, 3, code 2106
+pub const CONTACT_TRANSFER_REQUEST: &[Condition] = &[
+    IsMissing,
+    SecretIsNotRight, // RFC 5733, 3.2.4
+    IsPending,
+    Shows(ClientTransferProhibited), // RFC 5733, 2.2
+    Shows(ServerTransferProhibited), // RFC 5733, 2.2
+    IsOwn,
 ];
 
 /// RFC 5731, 3.2.4, `request`.
-pub const DOMAIN_TRANSFER_REQUEST: &[Row] = &[
-    (BadNames, NameIsRefused), // RFC 5730, 3, code 2306
-    (Missing, IsMissing), // RFC 5730, 3, code 2303
-    (WrongSecret, SecretIsNotRight), // RFC 5731, 3.2.4
-    (TransferPends, Shows(PendingTransfer)), // RFC 5730, 3, code 2300
-    (StatusProhibits, Shows(PendingDelete)), // RFC 5731, 2.3
-    (StatusProhibits, Shows(ClientTransferProhibited)), // RFC 5731, 2.3
-    (StatusProhibits, Shows(ServerTransferProhibited)), // RFC 5731, 2.3
-    (NotTransferable, IsOwn), // RFC 5730, 3, code 2106
-    (NotTransferable, IsLocked), // RFC 5730, 3, code 2106
-    (LimitReached, HoldsTheMost), // RFC 5730, 3, code 2308
-    (NoMoney, LacksMoney), // RFC 5730, 3, code 2104
+pub const DOMAIN_TRANSFER_REQUEST: &[Condition] = &[
+    NameIsRefused,
+    IsMissing,
+    SecretIsNotRight, // RFC 5731, 3.2.4
+    IsPending,
+    Shows(PendingDelete), // RFC 5731, 2.3
+    Shows(ClientTransferProhibited), // RFC 5731, 2.3
+    Shows(ServerTransferProhibited), // RFC 5731, 2.3
+    IsOwn,
+    IsLocked,
+    HoldsTheMost,
+    LacksMoney,
 ];
 
 /// RFC 5733, 3.1.3.
-pub const CONTACT_TRANSFER_QUERY: &[Row] = &[
-    (Missing, IsMissing), // RFC 5730, 3, code 2303
-    (NotSponsor, IsStranger), // RFC 5730, 2.9.2.4
-    (WrongSecret, StrangersSecretIsWrong), // RFC 5733, 2.8
-    (NoTransferPends, HasNoTransfer), // RFC 5730, 3, code 2301
+pub const CONTACT_TRANSFER_QUERY: &[Condition] = &[
+    IsMissing,
+    IsStranger, // RFC 5730, 2.9.2.4
+    StrangersSecretIsWrong, // RFC 5733, 2.8
+    HasNoTransfer,
 ];
 
 /// RFC 5731, 3.1.3.
-pub const DOMAIN_TRANSFER_QUERY: &[Row] = &[
-    (BadNames, NameIsRefused), // RFC 5730, 3, code 2306
-    (Missing, IsMissing), // RFC 5730, 3, code 2303
-    (NotSponsor, IsStranger), // RFC 5730, 2.9.2.4
-    (WrongSecret, StrangersSecretIsWrong), // RFC 5731, 2.6
-    (NoTransferPends, HasNoTransfer), // RFC 5730, 3, code 2301
+pub const DOMAIN_TRANSFER_QUERY: &[Condition] = &[
+    NameIsRefused,
+    IsMissing,
+    IsStranger, // RFC 5730, 2.9.2.4
+    StrangersSecretIsWrong, // RFC 5731, 2.6
+    HasNoTransfer,
 ];
 
 /// RFC 5733, 3.2.4, `approve` and `reject`.
-pub const CONTACT_TRANSFER_ANSWER: &[Row] = &[
-    (Missing, IsMissing), // RFC 5730, 3, code 2303
-    (NotSponsor, IsAnothers), // RFC 5730, 2.9.3.4
-    (NoTransferPends, IsNotPending), // RFC 5733, 3.2.4
+pub const CONTACT_TRANSFER_ANSWER: &[Condition] = &[
+    IsMissing,
+    IsAnothers, // RFC 5730, 2.9.3.4
+    IsNotPending, // RFC 5733, 3.2.4
 ];
 
 /// RFC 5731, 3.2.4, `approve` and `reject`.
-pub const DOMAIN_TRANSFER_ANSWER: &[Row] = &[
-    (BadNames, NameIsRefused), // RFC 5730, 3, code 2306
-    (Missing, IsMissing), // RFC 5730, 3, code 2303
-    (NotSponsor, IsAnothers), // RFC 5730, 2.9.3.4
-    (NoTransferPends, IsNotPending), // RFC 5731, 3.2.4
+pub const DOMAIN_TRANSFER_ANSWER: &[Condition] = &[
+    NameIsRefused,
+    IsMissing,
+    IsAnothers, // RFC 5730, 2.9.3.4
+    IsNotPending, // RFC 5731, 3.2.4
 ];
 
 /// RFC 5733, 3.2.4, `cancel`.
-pub const CONTACT_TRANSFER_CANCEL: &[Row] = &[
-    (Missing, IsMissing), // RFC 5730, 3, code 2303
-    (NotSponsor, IsNotRequester), // RFC 5730, 2.9.3.4
-    (NoTransferPends, IsNotPending), // RFC 5730, 3, code 2301
+pub const CONTACT_TRANSFER_CANCEL: &[Condition] = &[
+    IsMissing,
+    IsNotRequester, // RFC 5730, 2.9.3.4
+    IsNotPending,
 ];
 
 /// RFC 5731, 3.2.4, `cancel`.
-pub const DOMAIN_TRANSFER_CANCEL: &[Row] = &[
-    (BadNames, NameIsRefused), // RFC 5730, 3, code 2306
-    (Missing, IsMissing), // RFC 5730, 3, code 2303
-    (NotSponsor, IsNotRequester), // RFC 5730, 2.9.3.4
-    (NoTransferPends, IsNotPending), // RFC 5730, 3, code 2301
+pub const DOMAIN_TRANSFER_CANCEL: &[Condition] = &[
+    NameIsRefused,
+    IsMissing,
+    IsNotRequester, // RFC 5730, 2.9.3.4
+    IsNotPending,
 ];
 
 /// The table of an operation on a contact's transfer.
-fn contact_transfer_rows(op: TransferOp) -> &'static [Row]
-    ensures table { result.now ≡ spec.contact_transfer_rows op }
-    ensures ordered { IsTrue (in_order result.now) }
+fn contact_transfer_table(op: TransferOp) -> &'static [Condition]
+    ensures table { result.now ≡ spec.contact_transfer_table op }
+    ensures ordered { IsTrue (in_order cause_of result.now) }
 {
     match op {
         TransferOp::Request => CONTACT_TRANSFER_REQUEST,
@@ -349,9 +386,9 @@ fn contact_transfer_rows(op: TransferOp) -> &'static [Row]
 }
 
 /// The table of an operation on a domain's transfer.
-fn domain_transfer_rows(op: TransferOp) -> &'static [Row]
-    ensures table { result.now ≡ spec.domain_transfer_rows op }
-    ensures ordered { IsTrue (in_order result.now) }
+fn domain_transfer_table(op: TransferOp) -> &'static [Condition]
+    ensures table { result.now ≡ spec.domain_transfer_table op }
+    ensures ordered { IsTrue (in_order cause_of result.now) }
 {
     match op {
         TransferOp::Request => DOMAIN_TRANSFER_REQUEST,
@@ -362,14 +399,14 @@ fn domain_transfer_rows(op: TransferOp) -> &'static [Row]
 }
 
 /// RFC 5730, 2.9.2.3.
-pub const MESSAGE_ACKNOWLEDGEMENT: &[Row] = &[
-    (Missing, IsNotOldest), // RFC 5730, 3, code 2303
+pub const MESSAGE_ACKNOWLEDGEMENT: &[Condition] = &[
+    IsNotOldest,
 ];
 
 /// The table of the command.
-pub fn rows(request: &Request) -> &'static [Row]
-    ensures table { result.now ≡ spec.rows_of request.now }
-    ensures ordered { IsTrue (in_order result.now) }
+pub fn table(request: &Request) -> &'static [Condition]
+    ensures table { result.now ≡ spec.table_of request.now }
+    ensures ordered { IsTrue (in_order cause_of result.now) }
 {
     match request {
         Request::Logout
@@ -393,8 +430,8 @@ pub fn rows(request: &Request) -> &'static [Row]
         Request::RenewDomain { .. } => DOMAIN_RENEWAL,
         Request::RequestRestore { .. } => RESTORE_REQUEST,
         Request::ReportRestore { .. } => RESTORE_REPORT,
-        Request::TransferContact { op, .. } => contact_transfer_rows(*op),
-        Request::TransferDomain { op, .. } => domain_transfer_rows(*op),
+        Request::TransferContact { op, .. } => contact_transfer_table(*op),
+        Request::TransferDomain { op, .. } => domain_transfer_table(*op),
         Request::PollAck { .. } => MESSAGE_ACKNOWLEDGEMENT,
     }
 }

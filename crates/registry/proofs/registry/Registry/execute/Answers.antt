@@ -1,23 +1,17 @@
+use Rattle.privacy.specs.Runs.{command, reply}
+use Rattle.registry.proofs.Answering.{command_answered}
 use Rattle.registry.proofs.CallLemmas.{taken}
-use Rattle.registry.proofs.MoneyKept.{money_step}
-use Rattle.registry.proofs.Reopenings.{reopened_step}
+use Rattle.registry.proofs.CallsKept.{call_kept}
 use Rattle.registry.proofs.Isolations.{isolated_step}
-use Rattle.registry.proofs.StepsKept.{kept_step}
-use Rattle.registry.proofs.TwoRuns.{command_of_two}
 use Rattle.registry.proofs.registry.Registry.execute.Goals as goal
 
 pub returns-clause-isolation : goal.returns-clause-isolation
 returns-clause-isolation g c = isolated_step c.step.result _ c.args.self.now.policy c.args.self.now.sound c.args.caller c.args.command.now c.args.moment (taken c.is_late.result c.args.moment c.is_late.ensures c.if-is_late.false) _ _ c.step.ensures.step
 
-pub returns-clause-well_formed : goal.returns-clause-well_formed
-returns-clause-well_formed g c = kept_step c.step.result _ c.args.self.now.policy c.args.self.now.sound c.args.caller c.args.command.now c.args.moment (taken c.is_late.result c.args.moment c.is_late.ensures c.if-is_late.false) _ _ c.requires c.can_be_asked.ensures c.step.ensures.step
-
-pub returns-clause-reopens : goal.returns-clause-reopens
-returns-clause-reopens g c =
-    reopened_step c.step.result c.args.self.now.policy (g.B.Book.state c.args.self.now.book) (g.B.Book.state c.step.new.self.book) c.args.self.now.kept c.step.ensures.follows c.step.ensures.terms
-
-pub returns-clause-money : goal.returns-clause-money
-returns-clause-money g c = money_step c.step.result _ c.args.self.now.policy c.args.self.now.sound c.args.caller c.args.command.now c.args.moment (taken c.is_late.result c.args.moment c.is_late.ensures c.if-is_late.false) _ _ c.step.ensures.step
-
-pub returns-clause-two_runs : goal.returns-clause-two_runs
-returns-clause-two_runs g c = command_of_two c.step.result _ c.args.self.now.policy c.args.caller c.args.command.now c.args.moment _ _ c.step.ensures.step
+pub returns-clause-keeps : goal.returns-clause-keeps
+returns-clause-keeps g c =
+    let old = g.B.Book.state c.args.self.now.book in
+    let new = g.B.Book.state c.step.new.self.book in
+    let p = c.args.self.now.policy in
+    call_kept p c.args.self.now.sound c.args.moment (taken c.is_late.result c.args.moment c.is_late.ensures c.if-is_late.false) (command c.args.caller c.args.command.now) (c.requires, c.can_be_asked.ensures) reply c.step.result c.step.new.self.policy old new c.args.self.now.kept c.step.ensures.keeps
+    (command_answered _ p c.args.moment old.content.registry new.content.registry c.step.result c.args.caller c.args.command.now c.step.ensures.step)

@@ -1,15 +1,14 @@
+use Rattle.model.specs.Lapse.{lapsed}
+use Rattle.privacy.specs.Runs.{look_up, shown}
+use Rattle.registry.proofs.Answering.{look_up_answered}
 use Rattle.registry.proofs.CallLemmas.{taken}
-use Rattle.registry.proofs.Reopenings.{reopened_step}
-use Rattle.registry.proofs.StepsKept.{kept_look_up}
-use Rattle.registry.proofs.TwoRuns.{look_up_of_two}
+use Rattle.registry.proofs.CallsKept.{call_kept}
 use Rattle.registry.proofs.registry.Registry.look_up.Goals as goal
 
-pub returns-clause-well_formed : goal.returns-clause-well_formed
-returns-clause-well_formed g c = kept_look_up c.look_up_step.result _ _ c.args.self.now.policy c.args.moment (taken c.is_late.result c.args.moment c.is_late.ensures c.if-is_late.false) _ _ c.look_up_step.ensures.step
-
-pub returns-clause-reopens : goal.returns-clause-reopens
-returns-clause-reopens g c =
-    reopened_step c.look_up_step.result c.args.self.now.policy (g.B.Book.state c.args.self.now.book) (g.B.Book.state c.look_up_step.new.self.book) c.args.self.now.kept c.look_up_step.ensures.follows c.look_up_step.ensures.terms
-
-pub returns-clause-two_runs : goal.returns-clause-two_runs
-returns-clause-two_runs g c = look_up_of_two c.look_up_step.result _ _ c.args.self.now.policy c.args.moment _ _ c.look_up_step.ensures.step
+pub returns-clause-keeps : goal.returns-clause-keeps
+returns-clause-keeps g c =
+    let old = g.B.Book.state c.args.self.now.book in
+    let new = g.B.Book.state c.look_up_step.new.self.book in
+    let p = c.args.self.now.policy in
+    call_kept p c.args.self.now.sound c.args.moment (taken c.is_late.result c.args.moment c.is_late.ensures c.if-is_late.false) look_up tt (λ found. shown (lapsed p c.args.moment old.content.registry)) c.look_up_step.result c.look_up_step.new.self.policy old new c.args.self.now.kept c.look_up_step.ensures.keeps
+    (look_up_answered _ p c.args.moment old.content.registry new.content.registry c.look_up_step.result _ c.look_up_step.ensures.step)

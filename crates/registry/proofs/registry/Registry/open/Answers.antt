@@ -1,16 +1,20 @@
-use Rattle.std.proofs.Common.{ap}
+use Rattle.std.proofs.Common.{ap, refl}
 use Rattle.store.specs.Book.{Stored}
-use Rattle.registry.proofs.Reopenings.{reopened}
+use Rattle.registry.proofs.CallsKept.{reopened}
 use Rattle.registry.proofs.OpenedLemmas.{opens-kept}
 use Rattle.privacy.proofs.RunLemmas.{alike-lists-tell-the-same}
 use Rattle.registry.proofs.registry.Registry.open.Goals as goal
 
-pub returns-in-Ok-clause-well_formed : goal.returns-in-Ok-clause-well_formed
-returns-in-Ok-clause-well_formed g c = opens-kept c.args.policy (g.B.Book.state c.args.book) (g.B.Book.state c.open_in.new.book) c.in-Ok.ensures.opened
-
-pub returns-in-Ok-clause-reopens : goal.returns-in-Ok-clause-reopens
-returns-in-Ok-clause-reopens g c =
-    reopened c.args.policy (g.B.Book.state c.open_in.new.book) (λ clean. ap (λ (held : Stored). held.terms) (c.in-Ok.ensures.opened.content clean))
-
-pub returns-in-Ok-clause-tells_alike : goal.returns-in-Ok-clause-tells_alike
-returns-in-Ok-clause-tells_alike g c = λ clean. alike-lists-tell-the-same c.args.policy (g.B.Book.state c.open_in.new.book).content.registry
+pub returns-in-Ok-clause-opened : goal.returns-in-Ok-clause-opened
+returns-in-Ok-clause-opened g c =
+    let old = g.B.Book.state c.args.book in
+    let new = g.B.Book.state c.open_in.new.book in
+    record {
+      policy = refl;
+      opens = c.in-Ok.ensures.opened;
+      ours = c.in-Ok.ensures.ours;
+      well_formed = opens-kept c.args.policy old new c.in-Ok.ensures.opened;
+      reopens = reopened c.args.policy new (λ clean. ap (λ (held : Stored). held.terms) (c.in-Ok.ensures.opened.content clean));
+      tells_alike = λ clean. alike-lists-tell-the-same c.args.policy new.content.registry;
+      follows = c.open_in.ensures.follows;
+    }

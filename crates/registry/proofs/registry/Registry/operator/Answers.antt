@@ -1,19 +1,13 @@
+use Rattle.privacy.specs.Runs.{code, order}
+use Rattle.registry.proofs.Answering.{order_answered}
 use Rattle.registry.proofs.CallLemmas.{taken}
-use Rattle.registry.proofs.MoneyKept.{money_order_step}
-use Rattle.registry.proofs.Reopenings.{reopened_step}
-use Rattle.registry.proofs.StepsKept.{kept_order_step}
-use Rattle.registry.proofs.TwoRuns.{order_of_two}
+use Rattle.registry.proofs.CallsKept.{call_kept}
 use Rattle.registry.proofs.registry.Registry.operator.Goals as goal
 
-pub returns-clause-well_formed : goal.returns-clause-well_formed
-returns-clause-well_formed g c = kept_order_step c.order_step.result _ c.args.self.now.policy c.args.order.now c.args.moment (taken c.is_late.result c.args.moment c.is_late.ensures c.if-is_late.false) _ _ c.order_step.ensures.step
-
-pub returns-clause-reopens : goal.returns-clause-reopens
-returns-clause-reopens g c =
-    reopened_step c.order_step.result c.args.self.now.policy (g.B.Book.state c.args.self.now.book) (g.B.Book.state c.order_step.new.self.book) c.args.self.now.kept c.order_step.ensures.follows c.order_step.ensures.terms
-
-pub returns-clause-money : goal.returns-clause-money
-returns-clause-money g c = money_order_step c.order_step.result _ c.args.self.now.policy c.args.order.now c.args.moment _ _ c.order_step.ensures.step
-
-pub returns-clause-two_runs : goal.returns-clause-two_runs
-returns-clause-two_runs g c = order_of_two c.order_step.result _ c.args.self.now.policy c.args.order.now c.args.moment _ _ c.order_step.ensures.step
+pub returns-clause-keeps : goal.returns-clause-keeps
+returns-clause-keeps g c =
+    let old = g.B.Book.state c.args.self.now.book in
+    let new = g.B.Book.state c.order_step.new.self.book in
+    let p = c.args.self.now.policy in
+    call_kept p c.args.self.now.sound c.args.moment (taken c.is_late.result c.args.moment c.is_late.ensures c.if-is_late.false) (order c.args.order.now) tt code c.order_step.result c.order_step.new.self.policy old new c.args.self.now.kept c.order_step.ensures.keeps
+    (order_answered _ p c.args.moment old.content.registry new.content.registry c.order_step.result c.args.order.now c.order_step.ensures.step)

@@ -1,19 +1,14 @@
+use Rattle.model.specs.Lapse.{lapsed}
+use Rattle.privacy.specs.Runs.{look_up, shown}
+use Rattle.registry.proofs.Answering.{settlement_answered}
 use Rattle.registry.proofs.CallLemmas.{taken}
-use Rattle.registry.proofs.MoneyKept.{money_settlement}
-use Rattle.registry.proofs.Reopenings.{reopened_step}
-use Rattle.registry.proofs.StepsKept.{kept_settlement}
-use Rattle.registry.proofs.TwoRuns.{settlement_of_two}
+use Rattle.registry.proofs.CallsKept.{call_kept}
 use Rattle.registry.proofs.registry.Registry.settle.Goals as goal
 
-pub returns-clause-well_formed : goal.returns-clause-well_formed
-returns-clause-well_formed g c = kept_settlement c.settlement.result _ c.args.self.now.policy c.args.moment c.args.at_most (taken c.is_late.result c.args.moment c.is_late.ensures c.if-is_late.false) _ _ c.settlement.ensures.step
-
-pub returns-clause-reopens : goal.returns-clause-reopens
-returns-clause-reopens g c =
-    reopened_step c.settlement.result c.args.self.now.policy (g.B.Book.state c.args.self.now.book) (g.B.Book.state c.settlement.new.self.book) c.args.self.now.kept c.settlement.ensures.follows c.settlement.ensures.terms
-
-pub returns-clause-money : goal.returns-clause-money
-returns-clause-money g c = money_settlement c.settlement.result _ c.args.self.now.policy c.args.moment c.args.at_most _ _ c.settlement.ensures.step
-
-pub returns-clause-two_runs : goal.returns-clause-two_runs
-returns-clause-two_runs g c = settlement_of_two c.settlement.result _ c.args.self.now.policy c.args.moment c.args.at_most _ _ c.settlement.ensures.step
+pub returns-clause-keeps : goal.returns-clause-keeps
+returns-clause-keeps g c =
+    let old = g.B.Book.state c.args.self.now.book in
+    let new = g.B.Book.state c.settlement.new.self.book in
+    let p = c.args.self.now.policy in
+    call_kept p c.args.self.now.sound c.args.moment (taken c.is_late.result c.args.moment c.is_late.ensures c.if-is_late.false) look_up tt (λ found. shown (lapsed p c.args.moment old.content.registry)) c.settlement.result c.settlement.new.self.policy old new c.args.self.now.kept c.settlement.ensures.keeps
+    (settlement_answered _ p c.args.moment old.content.registry new.content.registry c.settlement.result c.args.at_most c.settlement.ensures.step)

@@ -1,0 +1,42 @@
+-- Each call of the registry answers a question by the rules.
+use Rattle.std.proofs.Common.{ℕ, max, Result, Ok, Err, IfOk, refl, sym, ap, ◌∙◌, arith}
+use Rattle.model.specs.Lapse.{lapsed}
+use Rattle.model.specs.Registry.{Registry}
+use Rattle.model.proofs.LapseLaws.{lapses-on}
+use Rattle.policy.specs.Rules.{PolicyRules}
+use Rattle.privacy.specs.Runs.{IsCall, code, command, date, dated, look_up, order, reply, shown}
+use Rattle.protocol.specs.declared.code.Code.{Code}
+use Rattle.protocol.specs.declared.command.Command.{Command}
+use Rattle.protocol.specs.declared.order.Order.{Order}
+use Rattle.protocol.specs.declared.reply.Reply.{Reply}
+use Rattle.registry.specs.Execution.{IsGreetingStep, IsOrderStep, IsSettlement, IsStep}
+use Rattle.registry.specs.Faces.{IsLookUp}
+
+module _ {E : Type 0} (clean : Type 0) (p : PolicyRules) (moment : ℕ) (before after : Registry) where
+  pub command_answered : (result : Result Reply E) (r : ℕ) (c : Command)
+      → IfOk result (λ a. clean → IsStep p r c moment before after a) → IfOk result (λ a. clean → IsCall p moment (command r c) before after (reply a))
+  command_answered (Ok a) r c step = λ taken. record { answered = ap reply (step taken).answered; left = (step taken).left }
+  command_answered (Err e) r c step = tt
+
+  pub order_answered : (result : Result Code E) (o : Order)
+      → IfOk result (λ a. clean → IsOrderStep p o moment before after a) → IfOk result (λ a. clean → IsCall p moment (order o) before after (code a))
+  order_answered (Ok a) o step = λ taken. record { answered = ap code (step taken).answered; left = (step taken).left }
+  order_answered (Err e) o step = tt
+
+  pub greeting_answered : (result : Result ℕ E)
+      → IfOk result (λ a. clean → IsGreetingStep p moment before after a) → IfOk result (λ a. clean → IsCall p moment date before after (dated a))
+  greeting_answered (Ok a) step = λ taken. record { answered = ap dated (step taken).dated; left = (step taken).left }
+  greeting_answered (Err e) step = tt
+
+  pub settlement_answered : (result : Result ℕ E) (at_most : ℕ)
+      → IfOk result (λ done. clean → IsSettlement p moment at_most before after done) → IfOk result (λ done. clean → IsCall p moment look_up before after (shown (lapsed p moment before)))
+  settlement_answered (Ok done) at_most step = λ taken. record {
+    answered = refl;
+    left = (step taken).unnoticed ∙ sym (lapses-on p (max moment before.clock) (max moment before.clock) (omega arith) before);
+  }
+  settlement_answered (Err e) at_most step = tt
+
+  pub look_up_answered : {X : Type 0} (result : Result X E) (find : Registry → X)
+      → IfOk result (λ found. clean → IsLookUp p find moment before after found) → IfOk result (λ found. clean → IsCall p moment look_up before after (shown (lapsed p moment before)))
+  look_up_answered (Ok found) find step = λ taken. record { answered = refl; left = (step taken).left }
+  look_up_answered (Err e) find step = tt

@@ -1,0 +1,88 @@
+-- What every call keeps follows from the question that it answers.
+use Rattle.std.proofs.Common.{◌≡◌, ℕ, ◌≤◌, max, true, Result, Ok, Err, IfOk, OnOk, Some, inr, refl, sym, subst, ◌∙◌, arith}
+use Rattle.model.specs.Lapse.{lapsed, now}
+use Rattle.model.specs.Money.{MoneyFollows}
+use Rattle.model.specs.Registry.{Registry}
+use Rattle.model.specs.WellFormed.{IsRegistry, last_clock}
+use Rattle.model.proofs.LapseLaws.{lapsed-is-settled}
+use Rattle.policy.specs.Rules.{PolicyRules, IsRegistrar, IsSound}
+use Rattle.policy.specs.Terms.{terms_of}
+use Rattle.privacy.specs.Laws.{IsStepOfTwo}
+use Rattle.privacy.specs.Runs.{Answer, IsCall, Question, command, date, look_up, order}
+use Rattle.privacy.proofs.RunLemmas.{calls-are-steps-of-two}
+use Rattle.protocol.specs.declared.command.Command.{Command}
+use Rattle.protocol.specs.declared.order.Order.{Order}
+use Rattle.registry.specs.declared.fault.Fault.{Fault}
+use Rattle.registry.specs.Calls.{CallKeeps, IsKept, StepKeeps}
+use Rattle.registry.specs.Execution.{SameTerms}
+use Rattle.registry.specs.Money.{CallKeepsMoney}
+use Rattle.registry.specs.WellFormed.{BookCanBeReopened, CallKeepsWellFormed, KeepsWellFormed, StaysWellFormed}
+use Rattle.rules.specs.Askable.{CanBeAsked}
+use Rattle.rules.specs.Orders.{order_effect}
+use Rattle.rules.specs.Steps.{effect}
+use Rattle.rules.proofs.LapsedLemmas.{serial-lapsed}
+use Rattle.rules.proofs.MoneyLaws.{money-effect-now, money-lapsed-now, money-order-now}
+use Rattle.rules.proofs.RegistryLemmas.{registry-effect, registry-lapsed, registry-now, registry-order}
+use Rattle.store.specs.Book.{BookState, Follows}
+
+-- ---- a well formed registry
+
+stays : (p : PolicyRules) → IsSound p → (r : ℕ) (c : Command) (moment : ℕ) → moment ≤ last_clock → (before after : Registry) → IsRegistrar p r → CanBeAsked c → now p after ≡ now p (effect p r c (lapsed p moment before)) → StaysWellFormed p before after
+stays p sound r c moment early before after place few left is small =
+    let passed : Registry = lapsed p moment before in
+    subst (IsRegistry p) (sym left) (registry-now p (effect p r c passed) (registry-effect p sound r c passed place (registry-lapsed p moment before early is) (lapsed-is-settled p (max moment before.clock) before) (omega (arith, (small r).serial, serial-lapsed p moment r before)) few))
+
+keeps-after-order : (p : PolicyRules) (o : Order) (moment : ℕ) → moment ≤ last_clock → (before after : Registry) → now p after ≡ now p (order_effect p o (lapsed p moment before)) → KeepsWellFormed p before after
+keeps-after-order p o moment early before after left is =
+    let passed : Registry = lapsed p moment before in
+    subst (IsRegistry p) (sym left) (registry-now p (order_effect p o passed) (registry-order p o passed (registry-lapsed p moment before early is)))
+
+keeps-in-time : (p : PolicyRules) (moment : ℕ) → moment ≤ last_clock → (before after : Registry) → now p after ≡ now p (lapsed p moment before) → KeepsWellFormed p before after
+keeps-in-time p moment early before after left is = subst (IsRegistry p) (sym left) (registry-now p (lapsed p moment before) (registry-lapsed p moment before early is))
+
+-- ---- opened again
+
+pub reopened : (p : PolicyRules) (state : BookState) → (state.is_clean ≡ true → state.content.terms ≡ Some (terms_of p)) → BookCanBeReopened p state
+reopened p state kept clean formed = inr (p, kept clean, formed)
+
+-- ---- each call
+
+-- who asks is a registrar, and what it asks can be asked
+abbrev pub MayAsk : PolicyRules → Question → Type 0
+MayAsk p (command r c) = IsRegistrar p r × CanBeAsked c
+MayAsk p (order o) = Unit {0}
+MayAsk p date = Unit {0}
+MayAsk p look_up = Unit {0}
+
+module _ (p : PolicyRules) (sound : IsSound p) (moment : ℕ) (early : moment ≤ last_clock) where
+  pub formed : (x : Question) → MayAsk p x → (before after : Registry) (a : Answer) → IsCall p moment x before after a → CallKeepsWellFormed p x before after
+  formed (command r c) may before after a is = stays p sound r c moment early before after may.0 may.1 is.left
+  formed (order o) may before after a is = keeps-after-order p o moment early before after is.left
+  formed date may before after a is = keeps-in-time p moment early before after is.left
+  formed look_up may before after a is = keeps-in-time p moment early before after is.left
+
+  -- ---- money
+
+  pub paid : (x : Question) (before after : Registry) (a : Answer) → IsCall p moment x before after a → CallKeepsMoney p moment x before after
+  paid (command r c) before after a is formed = subst (MoneyFollows p moment (now p before)) (sym is.left) (money-effect-now p moment before sound early formed r c)
+  paid (order o) before after a is = subst (MoneyFollows p moment (now p before)) (sym is.left) (money-order-now p moment before o)
+  paid date before after a is = subst (MoneyFollows p moment (now p before)) (sym is.left) (money-lapsed-now p moment before)
+  paid look_up before after a is = subst (MoneyFollows p moment (now p before)) (sym is.left) (money-lapsed-now p moment before)
+
+  -- ---- all of it
+
+  pub call_kept : {A : Type 0} (x : Question) → MayAsk p x → (told : A → Answer) (result : Result A Fault) (after : PolicyRules) (old new : BookState)
+      → (old.is_clean ≡ true → old.content.terms ≡ Some (terms_of p)) → StepKeeps p result after old new
+      → IfOk result (λ it. new.is_clean ≡ true → IsCall p moment x old.content.registry new.content.registry (told it)) → CallKeeps p moment x told result after old new
+  call_kept x may told (Ok it) after old new held step is = record {
+    policy = step.policy;
+    follows = step.follows;
+    answered = record {
+      terms = step.terms;
+      reopens = reopened p new (λ clean. step.terms clean ∙ held (step.follows.clean clean));
+      well_formed = λ clean. formed x may old.content.registry new.content.registry (told it) (is clean);
+      money = λ clean. paid x old.content.registry new.content.registry (told it) (is clean);
+      two_runs = λ clean. calls-are-steps-of-two p moment x old.content.registry new.content.registry (told it) (is clean).answered (is clean).left;
+    };
+  }
+  call_kept x may told (Err fault) after old new held step is = record { policy = step.policy; follows = step.follows; answered = tt }

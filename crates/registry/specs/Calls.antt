@@ -1,0 +1,57 @@
+-- What every call of the registry keeps, whatever it is asked and whatever it answers.
+use Rattle.std.specs.Prelude.{◌≡◌, ℕ, Result, IfOk, OnOk}
+use Rattle.policy.specs.Rules.{PolicyRules}
+use Rattle.model.specs.Lapse.{lapsed}
+use Rattle.privacy.specs.Runs.{Answer, Question, look_up, shown}
+use Rattle.registry.specs.declared.fault.Fault.{Fault}
+use Rattle.registry.specs.declared.fault.OpenFault.{OpenFault}
+use Rattle.registry.specs.Execution.{SameTerms}
+use Rattle.registry.specs.Money.{BookKeepsMoney}
+use Rattle.registry.specs.Opening.{IsOurs, Opens, Refuses, RefusesOurs}
+use Rattle.registry.specs.TwoRuns.{BookTellsAlike, StepsOfTwo}
+use Rattle.registry.specs.WellFormed.{BookCanBeReopened, BookKeepsWellFormed, BookOpensWellFormed}
+use Rattle.store.specs.Book.{BookState, Follows}
+
+-- A question was answered at a moment. The book is kept under the same terms and can be opened again; a well
+-- formed registry stays one; the money of every account follows; and in any other registry that is one with
+-- this one but for what others hide, an alike question goes on alike.
+pub record IsKept (p : PolicyRules) (moment : ℕ) (x : Question) (a : Answer) (old new : BookState) : Type 0 where
+  pub terms : SameTerms old new
+  pub reopens : BookCanBeReopened p new
+  pub well_formed : BookKeepsWellFormed p x old new
+  pub money : BookKeepsMoney p moment x old new
+  pub two_runs : StepsOfTwo p moment x a old new
+
+-- Whatever is answered, the policy stays and what was refused stays counted. All else is kept where the
+-- question is answered; what a fault leaves is said by itself.
+pub record CallKeeps {A : Type 0} (p : PolicyRules) (moment : ℕ) (x : Question) (told : A → Answer) (result : Result A Fault) (after : PolicyRules) (old new : BookState) : Type 0 where
+  pub policy : after ≡ p
+  pub follows : Follows old new
+  pub answered : IfOk result (λ it. IsKept p moment x (told it) old new)
+
+-- of a call that looks something up, or lets objects lapse and tells nothing but how many
+abbrev pub LooksUpKeeping : {A : Type 0} → PolicyRules → ℕ → Result A Fault → PolicyRules → BookState → BookState → Type 0
+LooksUpKeeping p moment result after old new = CallKeeps p moment look_up (λ found. shown (lapsed p moment old.content.registry)) result after old new
+
+-- The same of a call inside, of which what is kept follows.
+pub record StepKeeps {A : Type 0} (p : PolicyRules) (result : Result A Fault) (after : PolicyRules) (old new : BookState) : Type 0 where
+  pub policy : after ≡ p
+  pub follows : Follows old new
+  pub terms : OnOk result (SameTerms old new)
+
+-- A book was opened under a policy. A new book, or one of a well formed registry, holds a well formed
+-- registry, and can be opened again; and from what it holds on, alike lists tell each registrar the same.
+pub record IsOpenedAs (p : PolicyRules) (after : PolicyRules) (old new : BookState) : Type 0 where
+  pub policy : after ≡ p
+  pub opens : Opens p old new
+  pub ours : IsOurs old new
+  pub well_formed : BookOpensWellFormed p old new
+  pub reopens : BookCanBeReopened p new
+  pub tells_alike : BookTellsAlike p new
+  pub follows : Follows old new
+
+-- A book was refused, and handed back as it was.
+pub record IsRefused (fault : OpenFault) (p : PolicyRules) (old new : BookState) : Type 0 where
+  pub refuses : Refuses fault p old new
+  pub ours : RefusesOurs fault old new
+  pub follows : Follows old new
