@@ -1,1 +1,3 @@
 pub mod IsolationLemmas
+pub mod LateLemmas
+pub mod FollowLemmas

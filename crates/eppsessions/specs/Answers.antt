@@ -1,5 +1,5 @@
 -- What the frames of a connection are answered (RFC 5730, 2.4, 2.6, 2.9.1).
-use Rattle.std.specs.Prelude.{◌≡◌, ◌⊎◌, ℕ, Bool, true, false, if◌then◌else◌, List, Option, Some, None, bytes_eq, codes}
+use Rattle.std.specs.Prelude.{◌≡◌, ◌⊎◌, ◌≤◌, ℕ, Bool, true, false, if◌then◌else◌, List, Option, Some, None, bytes_eq, codes}
 use Rattle.eppcommands.specs.Session.{before_login, in_session}
 use Rattle.eppreplies.specs.Greeting.{greeting_text}
 use Rattle.eppreplies.specs.Reply.{reply_text}
@@ -18,10 +18,10 @@ use Rattle.protocol.specs.declared.session.Credentials.{Credentials}
 use Rattle.protocol.specs.declared.session.InSession.{InSession}
 use Rattle.protocol.specs.declared.session.InSession.TheVariants as within
 use Rattle.protocol.specs.Codes.{code_of_form}
-use Rattle.registry.specs.Execution.{Greets, IsUnchanged, Isolates, Steps}
+use Rattle.registry.specs.Execution.{Greets, IsUnchanged, Isolates, Steps, last_call}
 use Rattle.rules.specs.Steps.{answer}
 use Rattle.sessions.specs.Outcomes.{Outcome, replied, ended, failed, lost}
-use Rattle.store.specs.Book.{BookState}
+use Rattle.store.specs.Book.{BookState, Follows}
 
 -- ---- replies
 
@@ -51,17 +51,20 @@ SameBytes p r c moment reply old new = new.is_clean ≡ true → (other : Regist
     → view_for p r c (lapsed p moment other) ≡ view_for p r c (lapsed p moment old.content.registry)
     → reply_text reply ≡ reply_text (answer p r c (lapsed p moment other))
 
--- A command is answered by a step of the rules, which is isolated.
+-- A command is answered by a step of the rules, which is isolated, at a moment at which calls are taken.
+-- What was taken wrongly before isn't forgotten.
 pub record IsServed (p : PolicyRules) (r : ℕ) (c : Command) (moment : ℕ) (old : BookState) (outcome : Outcome) (new : BookState) : Type 0 where
   pub reply : Reply
+  pub early : moment ≤ last_call
   pub step : Steps p r c moment reply old new
   pub isolation : Isolates p r c moment reply old new
   pub bytes : SameBytes p r c moment reply old new
+  pub follows : Follows old new
   pub told : Tells (reply_outcome reply) outcome
 
 -- or it can't be carried out, and then nothing is changed
 abbrev pub GivesUp : BookState → Outcome → BookState → Type 0
-GivesUp old outcome new = (outcome ≡ failed) × IsUnchanged old new
+GivesUp old outcome new = (outcome ≡ failed) × IsUnchanged old new × Follows old new
 
 abbrev pub AnswersCommand : PolicyRules → ℕ → Command → ℕ → BookState → Outcome → BookState → Type 0
 AnswersCommand p r c moment old outcome new = GivesUp old outcome new ⊎ IsServed p r c moment old outcome new
@@ -69,7 +72,9 @@ AnswersCommand p r c moment old outcome new = GivesUp old outcome new ⊎ IsServ
 -- hello is answered with the registry's clock
 pub record IsGreeted (p : PolicyRules) (moment : ℕ) (old : BookState) (outcome : Outcome) (new : BookState) : Type 0 where
   pub date : ℕ
+  pub early : moment ≤ last_call
   pub step : Greets p moment date old new
+  pub follows : Follows old new
   pub told : Tells (greeting_outcome date) outcome
 
 abbrev pub AnswersHello : PolicyRules → ℕ → BookState → Outcome → BookState → Type 0

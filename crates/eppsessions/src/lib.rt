@@ -10,4 +10,4 @@ mod connection;
 mod laws;
 
 pub use connection::Connection;
-pub use laws::frames_are_isolated;
+pub use laws::{frames_are_isolated, late_frames_fail};

@@ -1,5 +1,5 @@
 -- The first byte of a connection, which is read and given back; and its session.
-use Rattle.std.proofs.Common.{◌≡◌, ℕ, zero, suc, ◌+◌, ◌/◌, ◌<◌, Option, Some, None, List, [], ◌∷◌, length, take, Bool, true, false, refl, sym, ap, ◌∙◌, subst, arith}
+use Rattle.std.proofs.Common.{◌≡◌, ◌⊎◌, inl, inr, ℕ, zero, suc, ◌+◌, ◌/◌, ◌<◌, Option, Some, None, List, [], ◌∷◌, length, take, Bool, true, false, refl, sym, ap, ◌∙◌, subst, arith}
 use Rattle.std.specs.Prelude.{IfSome}
 use Rattle.std.specs.Fmt.{option_append}
 use Rattle.std.specs.Io.KnownBytes.{Consumes, IsAtEnd}
@@ -8,12 +8,14 @@ use Rattle.sessions.specs.Outcomes.{Outcome}
 use Rattle.sessions.specs.Sessions.{Standing, Session, Writes}
 use Rattle.sessions.specs.declared.session.SessionEnd.{SessionEnd}
 use Rattle.server.specs.Connections.{Agrees, AnswersAt, Desk, FramesBeginConnections, IsServed, Serves, begins_frame}
-use Rattle.server.specs.Http.{AnswersHttp}
+use Rattle.eppsessions.proofs.FollowLemmas.{answers_follow, follows_on, same_follows}
+use Rattle.server.specs.Http.{AnswersHttp, MayAsk}
 use Rattle.server.specs.declared.connection.ConnectionEnd.{ConnectionEnd}
 use Rattle.server.specs.declared.connection.ConnectionEnd.TheVariants as ends
 use Rattle.server.specs.declared.http.HttpEnd.{HttpEnd}
+use Rattle.server.specs.declared.http.HttpEnd.TheVariants as http
 use Rattle.server.proofs.PeerLemmas.{session_taken, taken_for}
-use Rattle.store.specs.Book.{BookState}
+use Rattle.store.specs.Book.{BookState, Follows}
 
 -- what was read and the rest are the input
 pub given_back : (input rest : Option (List ℕ)) (first : List ℕ) → Consumes input rest first → Agrees input (option_append (Some first) rest)
@@ -36,14 +38,22 @@ pub served : {S : Type 0} (policy : S → PolicyRules) (desk : S → Desk) (answ
     → (p : PolicyRules) (old new : BookState) (before : Standing S) (written : List ℕ) (after : Standing S) (end : SessionEnd) → policy before.peer ≡ p → desk before.peer ≡ record { caller = None; book = old }
     → (desk after.peer).book ≡ new → Session answers before written after end → (policy after.peer ≡ p) × IsServed p before.input before.clock old written after.clock new end
 served {S} policy desk answers are p old new before written after end kept start left s =
-    let taken = session_taken desk (λ (x : S). policy x ≡ p) answers (AnswersAt p) (λ x y moment payload outcome k a. keeps x y moment payload outcome k (are x y moment payload outcome a)) before written after end kept s in
+    let taken = session_taken desk K answers (AnswersAt p) (λ x y moment payload outcome k a. keeps x y moment payload outcome k (are x y moment payload outcome a)) before written after end (kept, from) s in
     let from_start = subst (λ (d : Desk). Session (AnswersAt p) (record { input = before.input; clock = before.clock; peer = d }) written (taken_for desk after) end) start taken.1 in
-    let is : IsServed p before.input before.clock old written after.clock (desk after.peer).book end = record { rest = after.input; caller = (desk after.peer).caller; session = from_start } in
-    (taken.0, subst (λ (b : BookState). IsServed p before.input before.clock old written after.clock b end) left is)
+    let is : IsServed p before.input before.clock old written after.clock (desk after.peer).book end = record { rest = after.input; caller = (desk after.peer).caller; session = from_start; follows = taken.0.1 } in
+    (taken.0.0, subst (λ (b : BookState). IsServed p before.input before.clock old written after.clock b end) left is)
   where
-    keeps : (x y : S) (moment : ℕ) (payload : List ℕ) (outcome : Outcome) → policy x ≡ p → AnswersAt (policy x) (desk x) moment payload outcome (desk y) × (policy y ≡ policy x)
-        → (policy y ≡ p) × AnswersAt p (desk x) moment payload outcome (desk y)
-    keeps x y moment payload outcome k a = (a.1 ∙ k, subst (λ (q : PolicyRules). AnswersAt q (desk x) moment payload outcome (desk y)) k a.0)
+    K : S → Type 0
+    K x = (policy x ≡ p) × Follows old (desk x).book
+
+    from : Follows old (desk before.peer).book
+    from = same_follows old (desk before.peer).book (ap (λ (d : Desk). d.book) start)
+
+    keeps : (x y : S) (moment : ℕ) (payload : List ℕ) (outcome : Outcome) → K x → AnswersAt (policy x) (desk x) moment payload outcome (desk y) × (policy y ≡ policy x)
+        → K y × AnswersAt p (desk x) moment payload outcome (desk y)
+    keeps x y moment payload outcome k a =
+        let next = answers_follow (policy x) (desk x).caller payload moment (desk x).book outcome (desk y).book (desk y).caller a.0 in
+        ((a.1 ∙ k.0, follows_on old (desk x).book (desk y).book k.1 next), subst (λ (q : PolicyRules). AnswersAt q (desk x) moment payload outcome (desk y)) k.0 a.0)
 
 -- a connection whose input begins as a frame does
 pub serves_session : (p : PolicyRules) (input taken clock : Option (List ℕ)) (old : BookState) (before after later : Option (List ℕ)) (new : BookState) (end : ConnectionEnd) → IfSome input (λ bytes. begins_frame bytes ≡ true) → Agrees input taken
@@ -54,6 +64,22 @@ serves_session p input taken clock old before after later new end begins agrees 
 pub serves_request : (p : PolicyRules) (input taken clock : Option (List ℕ)) (old : BookState) (before after later : Option (List ℕ)) (new : BookState) (end : ConnectionEnd) → IfSome input (λ bytes. begins_frame bytes ≡ false) → Agrees input taken
     → (how : HttpEnd) × (end ≡ ends.Http how) × AnswersHttp p taken clock old before after later new how → Serves p input clock old before after later new end
 serves_request p input taken clock old before after later new end begins agrees s = rw s.1 (begins, taken, agrees, s.2)
+
+-- ---- what was taken wrongly isn't forgotten
+
+ask_follows : (p : PolicyRules) (clock : Option (List ℕ)) (old : BookState) (later : Option (List ℕ)) (new : BookState) → MayAsk p clock old later new → Follows old new
+ask_follows p clock old later new (inl none) = same_follows old new none.1
+ask_follows p clock old later new (inr asked) = asked.2.follows
+
+answer_follows : (p : PolicyRules) (input clock : Option (List ℕ)) (old : BookState) (before after later : Option (List ℕ)) (new : BookState) (end : HttpEnd) → AnswersHttp p input clock old before after later new end → Follows old new
+answer_follows p input clock old before after later new http.Answered answers = answers.2.passes.follows
+answer_follows p input clock old before after later new http.Unanswered answers = ask_follows p clock old later new answers.1
+answer_follows p input clock old before after later new http.WriteFault answers = answers.2.1.passes.follows
+
+pub connection_follows : (p : PolicyRules) (input clock : Option (List ℕ)) (old : BookState) (before after later : Option (List ℕ)) (new : BookState) (end : ConnectionEnd) → Serves p input clock old before after later new end → Follows old new
+connection_follows p input clock old before after later new (ends.Session end) serves = serves.3.2.follows
+connection_follows p input clock old before after later new (ends.Http end) serves = answer_follows p serves.1 clock old before after later new end serves.3
+connection_follows p input clock old before after later new ends.Unread serves = same_follows old new serves.2
 
 -- ---- frames
 

@@ -1,6 +1,9 @@
 -- What a look-up leaves of a registry, and what is written to a connection of HTTP.
-use Rattle.std.proofs.Common.{◌≡◌, ◌≤◌, ℕ, max, true, inl, inr, ◌⊎◌, Option, Some, None, List, length, take, ◌++◌, Result, Ok, Err, refl, sym, ap, subst, ◌∙◌, le_refl, append-nil, take-take, arith}
+use Rattle.std.proofs.Common.{◌≡◌, ◌+◌, ◌≤◌, ℕ, max, true, inl, inr, ◌⊎◌, Option, Some, None, List, length, take, drop, ◌++◌, Result, Ok, Err, refl, sym, ap, subst, ◌∙◌, le_refl, append-nil, take-take, arith}
 use Rattle.std.proofs.lemmas.List.{take-append-le}
+use Rattle.std.proofs.lemmas.Slice.{take-put_mid_below}
+use borrow.Rule.Slice.PartMut.{put_mid}
+use lib.Seq.{take-add}
 use Rattle.std.specs.Prelude.{IfOk, IfErr, OnOk}
 use Rattle.eppframes.specs.Clocks.{Tells}
 use Rattle.model.specs.Lapse.{lapse, lapsed, now}
@@ -8,12 +11,14 @@ use Rattle.model.specs.Registry.{Registry}
 use Rattle.model.proofs.LapseLaws.{lapses-on}
 use Rattle.policy.specs.Rules.{PolicyRules}
 use Rattle.rdap.specs.Answering.{Faces, IsAnswer}
+use Rattle.rdap.specs.Heads.{IsCut}
 use Rattle.rdap.proofs.AnswerLemmas.{stands}
 use Rattle.registry.specs.declared.fault.Fault.{Fault}
 use Rattle.registry.specs.declared.fault.Fault.TheVariants as faults
-use Rattle.registry.specs.Execution.{Fails, IsUnchanged, SameTerms}
+use Rattle.registry.specs.Calls.{LooksUpKeeping}
+use Rattle.registry.specs.Execution.{Fails, IsUnchanged, last_call}
 use Rattle.registry.specs.Faces.{LooksUp}
-use Rattle.server.specs.Http.{AnswersHttp, IsAnswered, IsRead, IsWritten, Passes, faces_at, faces_of}
+use Rattle.server.specs.Http.{AnswersHttp, IsAnswered, IsNeeded, IsRead, IsWritten, MayShow, Passes, faces_at, faces_of}
 use Rattle.server.specs.declared.http.HttpEnd.{HttpEnd}
 use Rattle.server.specs.declared.http.HttpEnd.TheVariants as ends
 use Rattle.store.specs.Book.{BookState, Follows, Stored}
@@ -42,19 +47,19 @@ unchanged faults.Memory old new fails = fails.0
 unchanged faults.Store old new fails = fails.0
 unchanged faults.Moment old new fails = fails.0
 
-pub passes_by : {X : Type 0} (p : PolicyRules) (moment : ℕ) (find : Registry → X) (result : Result X Fault) (old new : BookState) → IfOk result (λ found. LooksUp p find moment found old new) → OnOk result (SameTerms old new)
-    → IfErr result (λ fault. Fails fault old new) → Follows old new → Passes p moment old new
-passes_by p moment find (Ok found) old new step same fails follows = record {
+pub passes_by : {X : Type 0} (p : PolicyRules) (moment : ℕ) (find : Registry → X) (result : Result X Fault) (after : PolicyRules) (old new : BookState) → IfOk result (λ found. LooksUp p find moment found old new)
+    → LooksUpKeeping p moment result after old new → IfErr result (λ fault. Fails fault old new) → Passes p moment old new
+passes_by p moment find (Ok found) after old new step keeps fails = record {
   registry = λ clean. inr (step clean).left;
-  terms = same;
-  follows = follows;
+  terms = keeps.answered.terms;
+  follows = keeps.follows;
 }
-passes_by p moment find (Err fault) old new step same fails follows =
+passes_by p moment find (Err fault) after old new step keeps fails =
     let kept : IsUnchanged old new = unchanged fault old new fails in
     record {
       registry = λ clean. inl (ap (λ (held : Stored). held.registry) (kept.content clean));
       terms = λ clean. ap (λ (held : Stored). held.terms) (kept.content clean);
-      follows = follows;
+      follows = keeps.follows;
     }
 
 -- where nothing is looked up, nothing passes
@@ -75,33 +80,40 @@ left_of policy moment state old new (inr left) = left
 
 -- what is found is what the source shows then
 pub shown_by : {X : Type 0} (p q : PolicyRules) (moment : ℕ) (find : PolicyRules → Registry → X) (of : Faces → X) → ((p : PolicyRules) (s : Registry) → of (faces_of p s) ≡ find p s) → (result : Result X Fault) (old new : BookState) → q ≡ p
-    → IfOk result (λ found. LooksUp p (find p) moment found old new)
-    → IfOk result (λ found. (faces : Faces) → (new.is_clean ≡ true) × (faces ≡ faces_at q moment new.content.registry) → found ≡ of faces)
-shown_by p q moment find of is (Ok found) old new same step = λ faces shown.
+    → IfOk result (λ found. LooksUp p (find p) moment found old new) → OnOk result (moment ≤ last_call)
+    → IfOk result (λ found. (faces : Faces) → (new.is_clean ≡ true) × MayShow q moment new faces → found ≡ of faces)
+shown_by p q moment find of is (Ok found) old new same step early = λ faces shown.
     let looked = step shown.0 in
     looked.told
     ∙ ap (find p) (sym (same_then p moment old.content.registry new.content.registry looked.left))
     ∙ ap (λ (r : PolicyRules). find r (lapsed r moment new.content.registry)) (sym same)
     ∙ sym (is q (lapsed q moment new.content.registry))
-    ∙ ap of (sym shown.1)
-shown_by p q moment find of is (Err fault) old new same step = tt
+    ∙ ap of (sym (shown.1 early))
+shown_by p q moment find of is (Err fault) old new same step early = tt
 
 -- an answer by what the source shows then is one by the faces of the moment
 pub answer_then : (p q : PolicyRules) (moment later : ℕ) (old new : BookState) (head bytes : List ℕ) → q ≡ p → later ≡ moment → Passes p moment old new
-    → ((faces : Faces) → (new.is_clean ≡ true) × (faces ≡ faces_at q later new.content.registry) → IsAnswer p faces head bytes)
-    → new.is_clean ≡ true → IsAnswer p (faces_at p moment old.content.registry) head bytes
-answer_then p q moment later old new head bytes same told passes all clean =
+    → ((faces : Faces) → (new.is_clean ≡ true) × MayShow q later new faces → IsAnswer p faces head bytes)
+    → new.is_clean ≡ true → (faces : Faces) → MayShow p moment old faces → IsAnswer p faces head bytes
+answer_then p q moment later old new head bytes same told passes all clean faces shown =
     let path : faces_at q later new.content.registry ≡ faces_at p moment old.content.registry =
     (λ i. faces_at (same i) (told i) new.content.registry) ∙ ap (faces_of p) (at_that_moment p moment old new passes clean) in
-    subst (λ (faces : Faces). IsAnswer p faces head bytes) path (all (faces_at q later new.content.registry) (clean, refl))
+    all faces (clean, λ early. shown (subst (λ (t : ℕ). t ≤ last_call) told early) ∙ sym path)
 
 pub answer_by : {V E : Type 0} (items : V → List ℕ) (p q : PolicyRules) (moment later : ℕ) (old new end : BookState) (head : List ℕ) (result : Result V E) → end ≡ new → q ≡ p → later ≡ moment → Passes p moment old new
-    → IfOk result (λ bytes. (faces : Faces) → (new.is_clean ≡ true) × (faces ≡ faces_at q later new.content.registry) → IsAnswer p faces head (items bytes))
-    → IfOk result (λ bytes. end.is_clean ≡ true → IsAnswer p (faces_at p moment old.content.registry) head (items bytes))
+    → IfOk result (λ bytes. (faces : Faces) → (new.is_clean ≡ true) × MayShow q later new faces → IsAnswer p faces head (items bytes))
+    → IfOk result (λ bytes. end.is_clean ≡ true → (faces : Faces) → MayShow p moment old faces → IsAnswer p faces head (items bytes))
 answer_by items p q moment later old new end head (Ok bytes) left same told passes all = λ clean. answer_then p q moment later old new head (items bytes) same told passes all (subst (λ (b : BookState). b.is_clean ≡ true) left clean)
 answer_by items p q moment later old new end head (Err fault) left same told passes all = tt
 
 -- ---- what was read of an input
+
+-- what more bytes are read behind what decides nothing yet
+pub needs_more : (count more room : ℕ) (old piece : List ℕ) → count ≤ length old → IsCut (take count old) → IsNeeded (take (count + more) (put_mid count room old piece))
+needs_more count more room old piece within cut =
+    let new : List ℕ = put_mid count room old piece in
+    let front : take count new ≡ take count old = take-put_mid_below _ _ _ _ _ (le_refl _) within in
+    inr (take count old, take more (drop count new), take-add count more new ∙ ap (λ (l : List ℕ). l ++ take more (drop count new)) front, cut)
 
 -- so much of what a buffer holds
 pub head_of : (n room : ℕ) (read rest : List ℕ) → n ≤ length read → n ≤ room → take n (take room (read ++ rest)) ≡ take n read
@@ -117,14 +129,11 @@ module _ (p : PolicyRules) (clock : Option (List ℕ)) (old : BookState) (later 
     passes = is.passes;
     head = bytes;
     agrees = refl;
-    answer = λ clean. by (subst (λ (head : List ℕ). IsAnswer p faces head answer) is.agrees (is.answer clean));
+    answer = λ clean faces shown. by faces (subst (λ (head : List ℕ). IsAnswer p faces head answer) is.agrees (is.answer clean faces shown));
   }
     where
-      faces : Faces
-      faces = faces_at p is.moment old.content.registry
-
-      by : IsAnswer p faces read answer → IsAnswer p faces bytes answer
-      by told = subst (λ (head : List ℕ). IsAnswer p faces head answer) (sym r.bytes) (elim (r.enough) [
+      by : (faces : Faces) → IsAnswer p faces read answer → IsAnswer p faces bytes answer
+      by faces told = subst (λ (head : List ℕ). IsAnswer p faces head answer) (sym r.bytes) (elim (r.enough) [
         | inl decided ↦ stands p faces read rest answer decided told
         | inr end ↦ subst (λ (head : List ℕ). IsAnswer p faces head answer) (sym (ap (λ (l : List ℕ). read ++ l) end ∙ append-nil read)) told
       ])
@@ -139,7 +148,7 @@ module _ (p : PolicyRules) (clock : Option (List ℕ)) (old : BookState) (later 
 
 -- an answer at one moment of the clock, of which so much is written
 pub answered : {V E : Type 0} (items : V → List ℕ) (p : PolicyRules) (head : List ℕ) (clock : Option (List ℕ)) (old : BookState) (before after next : Option (List ℕ)) (new : BookState) (moment : ℕ) (answer : Result V E) (end : HttpEnd)
-    → Tells clock next moment → Passes p moment old new → IfOk answer (λ bytes. new.is_clean ≡ true → IsAnswer p (faces_at p moment old.content.registry) head (items bytes))
+    → Tells clock next moment → Passes p moment old new → IfOk answer (λ bytes. new.is_clean ≡ true → (faces : Faces) → MayShow p moment old faces → IsAnswer p faces head (items bytes))
     → IsWritten items answer before after end → AnswersHttp p (Some head) clock old before after next new end
 answered items p head clock old before after next new moment (Ok bytes) end told passes is (inl whole) =
     let answer : IsAnswered p (Some head) clock old (items bytes) next new = record { moment = moment; told = told; passes = passes; head = head; agrees = refl; answer = is } in

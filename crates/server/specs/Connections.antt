@@ -10,7 +10,7 @@ use Rattle.sessions.specs.declared.session.SessionEnd.{SessionEnd}
 use Rattle.server.specs.Http.{AnswersHttp}
 use Rattle.server.specs.declared.connection.ConnectionEnd.{ConnectionEnd}
 use Rattle.server.specs.declared.connection.ConnectionEnd.TheVariants as ends
-use Rattle.store.specs.Book.{BookState}
+use Rattle.store.specs.Book.{BookState, Follows}
 
 -- A frame begins with a byte 0, since its length is below 2^24 (RFC 5734, 4). An input without a
 -- byte counts as one of EPP, too.
@@ -32,12 +32,14 @@ abbrev pub AnswersAt : PolicyRules → Desk → ℕ → List ℕ → Outcome →
 AnswersAt p old moment payload outcome new = Answers p old.caller payload moment old.book outcome new.book new.caller
 
 -- A session of EPP with a registry, from when nobody is logged in: what it writes, what the book and
--- the clock are then, and how it ends.
+-- the clock are then, and how it ends. What is taken wrongly in it isn't forgotten, so that behind a book
+-- from which nothing wrong was taken stands such a one before each of its frames.
 pub record IsServed (p : PolicyRules) (input clock : Option (List ℕ)) (old : BookState) (written : List ℕ) (later : Option (List ℕ)) (new : BookState) (end : SessionEnd) : Type 0 where
   pub rest : Option (List ℕ)
   pub caller : Option ℕ
   pub session : Session (AnswersAt p) (record { input = input; clock = clock; peer = record { caller = None; book = old } }) written
       (record { input = rest; clock = later; peer = record { caller = caller; book = new } }) end
+  pub follows : Follows old new
 
 -- an input is the known one, where there is a known one
 abbrev pub Agrees : Option (List ℕ) → Option (List ℕ) → Type 0

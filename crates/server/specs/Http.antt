@@ -1,13 +1,14 @@
 -- What a connection of HTTP is answered: a request's head, by the faces of a registry at one moment
 -- (RFC 7480, 4 and 5).
-use Rattle.std.specs.Prelude.{◌≡◌, ◌⊎◌, ℕ, true, List, [], take, Option, IfSome, Result, Ok, Err}
+use Rattle.std.specs.Prelude.{◌≡◌, ◌⊎◌, ◌≤◌, ℕ, true, List, [], ◌++◌, take, Option, IfSome, Result, Ok, Err}
 use Rattle.std.specs.Io.KnownBytes.{Appends, Consumes, IsAtEnd}
 use Rattle.eppframes.specs.Clocks.{Tells}
 use Rattle.model.specs.Lapse.{lapsed, now}
 use Rattle.model.specs.Registry.{Registry}
 use Rattle.policy.specs.Rules.{PolicyRules}
 use Rattle.rdap.specs.Answering.{Faces, IsAnswer}
-use Rattle.rdap.specs.Heads.{IsDecided}
+use Rattle.rdap.specs.Heads.{IsCut, IsDecided}
+use Rattle.registry.specs.Execution.{last_call}
 use Rattle.server.specs.declared.http.HttpEnd.{HttpEnd}
 use Rattle.server.specs.declared.http.HttpEnd.TheVariants as ends
 use Rattle.sessions.specs.Sessions.{Writes}
@@ -22,16 +23,27 @@ faces_of p s = record { domain = domain_face_at p s; host = host_face_at p s; co
 abbrev pub faces_at : PolicyRules → ℕ → Registry → Faces
 faces_at p moment s = faces_of p (lapsed p moment s)
 
+-- What may be looked up at a moment in the registry of a book: its faces then. After the last moment at
+-- which calls are taken nothing is, so that what is answered is answered whatever the faces are.
+abbrev pub MayShow : PolicyRules → ℕ → BookState → Faces → Type 0
+MayShow p moment state faces = moment ≤ last_call → faces ≡ faces_at p moment state.content.registry
+
 -- Nothing is changed, but that time may have passed up to the moment.
 pub record Passes (p : PolicyRules) (moment : ℕ) (old new : BookState) : Type 0 where
   pub registry : new.is_clean ≡ true → (new.content.registry ≡ old.content.registry) ⊎ (now p new.content.registry ≡ now p (lapsed p moment old.content.registry))
   pub terms : new.is_clean ≡ true → new.content.terms ≡ old.content.terms
   pub follows : Follows old new
 
--- What was read of an input: so much that it is decided which head it begins with, or all of it.
+-- Nothing more is read of an input than decides: what was read before the last piece held no whole head.
+abbrev pub IsNeeded : List ℕ → Type 0
+IsNeeded read = (read ≡ []) ⊎ ((front : List ℕ) × (last : List ℕ) × (read ≡ front ++ last) × IsCut front)
+
+-- What was read of an input: so much that it is decided which head it begins with, or all of it; and no
+-- more, since a client that waits for its answer sends nothing more.
 pub record IsRead (input rest : Option (List ℕ)) (read : List ℕ) : Type 0 where
   pub bytes : Consumes input rest read
   pub enough : IsDecided read ⊎ IsAtEnd rest
+  pub needed : IsNeeded read
 
 -- The answer to the head that the input begins with, by the faces of the registry at one moment of
 -- the clock. Of an input that isn't known, some head is answered.
@@ -41,7 +53,7 @@ pub record IsAnswered (p : PolicyRules) (input clock : Option (List ℕ)) (old :
   pub passes : Passes p moment old new
   pub head : List ℕ
   pub agrees : IfSome input (λ bytes. head ≡ bytes)
-  pub answer : new.is_clean ≡ true → IsAnswer p (faces_at p moment old.content.registry) head written
+  pub answer : new.is_clean ≡ true → (faces : Faces) → MayShow p moment old faces → IsAnswer p faces head written
 
 -- What goes out of an answer: the whole, or a beginning where a write fails; where there is none,
 -- nothing.

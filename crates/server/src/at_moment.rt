@@ -1,7 +1,7 @@
 //! A registry at one moment, as a source of faces.
 ghost use Rattle.std.specs.Prelude.{◌≡◌, IfOk, true};
-ghost use Rattle.rdap.specs.Answering.{IsAnswer};
-ghost use Rattle.server.specs.Http.{Passes, faces_at};
+ghost use Rattle.rdap.specs.Answering.{Faces, IsAnswer};
+ghost use Rattle.server.specs.Http.{MayShow, Passes};
 
 use basis::text::Text;
 use calendar::Moment;
@@ -38,13 +38,13 @@ impl<B: Book + Drop> AtMoment<B> {
 
 impl<B: Book + Drop> FaceSource for AtMoment<B> {
     ghost use Rattle.std.specs.Prelude.{◌≡◌, true};
-    ghost use Rattle.server.specs.Http.{Passes, faces_at};
+    ghost use Rattle.server.specs.Http.{MayShow, Passes};
 
     type Fault = Fault;
 
     ghost shows = { λ it faces.
         ((B.state it.registry.book).is_clean ≡ true)
-        × (faces ≡ faces_at it.registry.policy it.moment (B.state it.registry.book).content.registry) };
+        × MayShow it.registry.policy it.moment (B.state it.registry.book) faces };
 
     ghost rules = { λ it. it.registry.policy };
 
@@ -84,7 +84,7 @@ pub(crate) fn answer_at<B: Book + Drop>(
     registry: Registry<B>,
 ) -> Asked<B>
     ensures answer { IfOk result.answer (λ bytes. (B.state result.registry.book).is_clean ≡ true
-        → IsAnswer registry.policy (faces_at registry.policy moment (B.state registry.book).content.registry) head.now bytes.items) }
+        → (faces : Faces) → MayShow registry.policy moment (B.state registry.book) faces → IsAnswer registry.policy faces head.now bytes.items) }
     ensures passes { Passes registry.policy moment (B.state registry.book) (B.state result.registry.book) }
     ensures policy { result.registry.policy ≡ registry.policy }
 {

@@ -7,6 +7,7 @@ ghost use Rattle.server.specs.Http.{AnswersHttp};
 ghost use Rattle.server.specs.declared.connection.ConnectionEnd.TheVariants as ends;
 ghost use Rattle.server.specs.declared.http.HttpEnd.{HttpEnd};
 ghost use Rattle.sessions.specs.declared.session.SessionEnd.{SessionEnd};
+ghost use Rattle.store.specs.Book.{Follows};
 
 use crate::http::{HttpEnd, serve_http};
 use eppframes::Clock;
@@ -49,6 +50,7 @@ pub fn serve_one<R: Read, W: Write, C: Clock, B: Book + Drop>(
     registry: Registry<B>,
 ) -> Served<B>
     ensures served { Serves registry.policy (R.remaining reader.old) (C.moments clock.old) (B.state registry.book) (W.contents writer.old) (W.contents writer.new) (C.moments clock.new) (B.state result.registry.book) result.end }
+    ensures follows { Follows (B.state registry.book) (B.state result.registry.book) }
     ensures policy { result.registry.policy ≡ registry.policy }
 {
     let mut first = [0u8; 1];

@@ -1,6 +1,6 @@
 //! A connection of HTTP: one request, answered by its head (RFC 7480, 4).
 ghost use Rattle.std.specs.Prelude.{◌≡◌, ◌<◌, ◌≤◌, true, false, length, take, vec_len, Some, IfOk, IfSome};
-ghost use Rattle.rdap.specs.Heads.{IsDecided, most_bytes};
+ghost use Rattle.rdap.specs.Heads.{IsCut, IsDecided, most_bytes};
 ghost use Rattle.server.specs.Http.{AnswersHttp, IsRead, IsWritten};
 
 use crate::at_moment::answer_at;
@@ -132,7 +132,7 @@ fn read_to_decide<R: Read>(reader: &mut R, buffer: &mut [u8]) -> Result<usize, R
 /// Whether it is decided which head the bytes begin with, whatever follows them.
 fn is_decided(bytes: &[u8]) -> bool
     ensures decided { result ≡ true → IsDecided bytes.now }
-    ensures cut { result ≡ false → length bytes.now < most_bytes }
+    ensures cut { result ≡ false → IsCut bytes.now }
 {
     !matches!(read_head(bytes), Reading::Cut)
 }

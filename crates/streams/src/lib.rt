@@ -4,4 +4,4 @@
 
 mod moves;
 
-pub use moves::{ReadFault, WriteFault, read_to_fill, write_whole};
+pub use moves::{ReadFault, WriteFault, read_to_fill, write_all, write_whole};

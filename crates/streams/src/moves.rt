@@ -2,7 +2,7 @@
 ghost use Rattle.std.specs.Prelude.{◌<◌, ◌≤◌, ℕ, length, take, IfOk, OnOk, OnErr};
 ghost use Rattle.std.specs.Io.KnownBytes.{Appends, Consumes, IsAtEnd};
 
-use std::io::{ErrorKind, Read, Write};
+use std::io::{self, ErrorKind, Read, Write};
 
 /// A read failed.
 #[derive(Clone, Copy, Debug, PartialEq, Eq)]
@@ -39,17 +39,28 @@ pub fn write_whole<W: Write>(writer: &mut W, bytes: &[u8]) -> Result<(), WriteFa
     ensures ok { OnOk result (Appends (W.contents writer.old) (W.contents writer.new) bytes.now) }
     ensures err { OnErr result ((n : ℕ) × Appends (W.contents writer.old) (W.contents writer.new) (take n bytes.now)) }
 {
+    match write_all(writer, bytes) {
+        Ok(()) => Ok(()),
+        Err(_) => Err(WriteFault),
+    }
+}
+
+/// The same with the error of the write that failed. `Write::write_all` doesn't say what one leaves.
+pub fn write_all<W: Write>(writer: &mut W, bytes: &[u8]) -> io::Result<()>
+    ensures ok { OnOk result (Appends (W.contents writer.old) (W.contents writer.new) bytes.now) }
+    ensures err { OnErr result ((n : ℕ) × Appends (W.contents writer.old) (W.contents writer.new) (take n bytes.now)) }
+{
     let mut sent = 0;
     'writes: for _ in 0..u64::MAX {
         if sent >= bytes.len() {
             return Ok(());
         }
         match writer.write(&bytes[sent..]) {
-            Ok(0) => return Err(WriteFault),
+            Ok(0) => return Err(io::Error::from(ErrorKind::WriteZero)),
             Ok(more) => sent += more,
             Err(error) if error.kind() == ErrorKind::Interrupted => {}
-            Err(_) => return Err(WriteFault),
+            Err(error) => return Err(error),
         }
     }
-    Err(WriteFault)
+    Err(io::Error::from(ErrorKind::Interrupted))
 }

@@ -2,6 +2,8 @@ use Rattle.std.proofs.Common.{rules, subst, sym, le_refl}
 use Rattle.std.specs.Io.KnownBytes.{Consumes}
 use Rattle.std.proofs.KnownBytes.{Consumes-kept}
 use Rattle.std.proofs.lemmas.Slice.{take-put_mid_below}
+use Rattle.server.proofs.HttpLemmas.{needs_more}
+use Rattle.server.specs.Http.{IsNeeded}
 use Rattle.streams.proofs.MoveLemmas.{reads_on}
 use Rattle.server.proofs.http.read_to_decide.Goals as goal
 use Rattle.server.proofs.http.read_to_decide.Goals.{in-Ok, in-Err}
@@ -14,10 +16,12 @@ reads-preserved g c =
         room = search rules;
         within = search rules;
         taken = rw w.count-is (reads_on _ _ _ _ _ _ _ _ before.within w.in-Ok.ensures.bound.0 before.taken w.in-Ok.ensures.bytes.0);
+        needed = rw w.count-is (needs_more _ _ _ _ _ before.within (c.is_decided.ensures.cut c.if-is_decided.false));
       }
       | in-Err w ↦ record {
         room = search rules;
         within = search rules;
         taken = rw w.count-is (subst (Consumes _ _) (sym (take-put_mid_below _ _ _ _ _ (le_refl _) before.within)) (Consumes-kept _ _ _ _ before.taken w.in-Err.ensures.bytes));
+        needed = rw w.count-is (subst IsNeeded (sym (take-put_mid_below _ _ _ _ _ (le_refl _) before.within)) before.needed);
       }
     ]

@@ -16,7 +16,7 @@ returns-clause-written g c = on_ok_weaker c.write_at.result (λ wrote clean.
     let old : BookState = g.B.Book.state c.args.registry.now.book in
     let between : BookState = g.B.Book.state c.greet.new.self.book in
     let is = ap (λ (n : ℕ). zone_with q c.args.moment n between.content.registry) c.serial_of.ensures
-    ∙ zone_then p q c.args.moment c.in_ok-clock.clock old between c.greet.ensures.policy c.in_ok-clock.ensures.step (c.write_at.ensures.passes.follows.clean clean) in
+    ∙ zone_then p q c.args.moment c.in_ok-clock.clock old between c.greet.ensures.keeps.policy c.in_ok-clock.ensures.step (c.write_at.ensures.passes.follows.clean clean) in
     subst (Appends _ _) is (wrote clean)) c.write_at.ensures.written
 
 pub returns-clause-begun : goal.returns-clause-begun
@@ -26,7 +26,7 @@ returns-clause-begun g c = on_err_weaker c.write_at.result (λ begun clean.
     let old : BookState = g.B.Book.state c.args.registry.now.book in
     let between : BookState = g.B.Book.state c.greet.new.self.book in
     let is = ap (λ (n : ℕ). zone_with q c.args.moment n between.content.registry) c.serial_of.ensures
-    ∙ zone_then p q c.args.moment c.in_ok-clock.clock old between c.greet.ensures.policy c.in_ok-clock.ensures.step (c.write_at.ensures.passes.follows.clean clean) in
+    ∙ zone_then p q c.args.moment c.in_ok-clock.clock old between c.greet.ensures.keeps.policy c.in_ok-clock.ensures.step (c.write_at.ensures.passes.follows.clean clean) in
     subst (AppendsBeginning _ _) is (begun clean)) c.write_at.ensures.begun
 
 pub returns-clause-passes : goal.returns-clause-passes
@@ -35,5 +35,5 @@ returns-clause-passes g c =
     let old : BookState = g.B.Book.state c.args.registry.now.book in
     let between : BookState = g.B.Book.state c.greet.new.self.book in
     let new : BookState = g.B.Book.state c.write_at.new.registry.book in
-    passes_on p c.args.moment old between new (greeted p c.args.moment c.in_ok-clock.clock old between c.in_ok-clock.ensures.step c.in_ok-clock.ensures.terms c.greet.ensures.follows)
-    (subst (λ (r : PolicyRules). Passes r c.args.moment between new) c.greet.ensures.policy c.write_at.ensures.passes)
+    passes_on p c.args.moment old between new (greeted p c.args.moment c.in_ok-clock.clock old between c.in_ok-clock.ensures.step c.in_ok-clock.ensures.keeps.answered.terms c.greet.ensures.keeps.follows)
+    (subst (λ (r : PolicyRules). Passes r c.args.moment between new) c.greet.ensures.keeps.policy c.write_at.ensures.passes)

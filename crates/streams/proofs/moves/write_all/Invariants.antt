@@ -1,6 +1,6 @@
 use Rattle.std.proofs.Common.{◌≤◌, length, take}
 use Rattle.std.specs.Io.KnownBytes.{Appends}
-use Rattle.streams.proofs.moves.write_whole.Given as goal
+use Rattle.streams.proofs.moves.write_all.Given as goal
 
 abbrev pub invariant-writes : goal.invariant-writes
 invariant-writes g l = record {
