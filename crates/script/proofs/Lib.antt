@@ -1,3 +1,5 @@
 mod LineLemmas
 mod RunLemmas
+mod BeginLemmas
+mod HaltLemmas
 mod EndLemmas

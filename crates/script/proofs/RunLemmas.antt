@@ -3,14 +3,11 @@ use Rattle.std.proofs.Common.{◌≡◌, ◌+◌, ◌<◌, ◌==◌, ℕ, Bool, 
 use Rattle.std.proofs.lemmas.Grind.{common_steps, flat_map-append}
 use Rattle.std.proofs.KnownBytes.{Appends-kept, Appends-nil, Appends-trans}
 use Rattle.std.specs.Prelude.{Option}
-use Rattle.std.specs.declared.io.ErrorKind.{ErrorKind}
-use Rattle.std.specs.declared.io.ErrorKind.TheVariants.{OutOfMemory}
 use Rattle.std.specs.Io.BufRead.{DropsThrough, drop_through, strip_last, take_through}
 use Rattle.std.specs.Io.KnownBytes.{Appends, IsAtEnd}
 use Rattle.policy.specs.Rules.{PolicyRules}
 use Rattle.script.specs.declared.exit.Exit.{Exit}
 use Rattle.script.specs.declared.exit.Exit.TheVariants as exits
-use Rattle.script.specs.Exits.{exit_of}
 use Rattle.script.specs.Runs.{Answers, EndsIn, HaltsAt, LeavesAsWas, Prints, TellsLine, begun_with, kept, lines_of, printed}
 use Rattle.store.specs.Book.{BookState, Follows, Stored}
 use Rattle.model.specs.Registry.{Registry}
@@ -63,7 +60,7 @@ pub Reads-nil : (a : Option (List ℕ)) → Reads [] a a
 Reads-nil None = tt
 Reads-nil (Some input) = refl
 
-next_lines : (xs : List ℕ) → 0 < length (take_through 10 xs) → lines_of xs ≡ strip_last 10 (take_through 10 xs) ∷ lines_of (drop_through 10 xs)
+pub next_lines : (xs : List ℕ) → 0 < length (take_through 10 xs) → lines_of xs ≡ strip_last 10 (take_through 10 xs) ∷ lines_of (drop_through 10 xs)
 next_lines [] h = absurd (omega arith)
 next_lines (x ∷ xs) h = lines_of-first x xs
 
@@ -130,13 +127,9 @@ AreTold-more p q lines line told before between after a b c same e first next = 
 -- ---- the end of a run
 
 -- what follows from what is given
-under : (A : Type 0) (o : Option (List ℕ)) (P : List ℕ → Type 0) → (A → IfSome o P) → IfSome o (λ input. A → P input)
+pub under : (A : Type 0) (o : Option (List ℕ)) (P : List ℕ → Type 0) → (A → IfSome o P) → IfSome o (λ input. A → P input)
 under A None P h = tt
 under A (Some input) P h = h
-
-pub Ends-fault : (kind : ErrorKind) (p : PolicyRules) (before after : Registry) (input : List ℕ) (old new : Option (List ℕ)) → EndsIn p before after input old new (exit_of kind)
-Ends-fault OutOfMemory p before after input old new = tt
-Ends-fault _ p before after input old new = tt
 
 ends_done : (p : PolicyRules) (lines : List (List ℕ)) (before after : Registry) (a b old new : Option (List ℕ))
     → Reads lines a b → IsAtEnd b → AreTold p lines before after old new → IfSome a (λ input. EndsIn p before after input old new exits.Done)
@@ -149,72 +142,6 @@ ends_done p lines before after (Some input) (Some rest) old new r e told =
 pub Ends-done : (A : Type 0) (p : PolicyRules) (lines : List (List ℕ)) (before after : Registry) (a b old new : Option (List ℕ))
     → Reads lines a b → IsAtEnd b → (A → AreTold p lines before after old new) → IfSome a (λ input. A → EndsIn p before after input old new exits.Done)
 Ends-done A p lines before after a b old new r e told = under A a _ (λ given. ends_done p lines before after a b old new r e (told given))
-
--- a fault of reading ends a run
-pub Ends-unread : (A : Type 0) (kind : ErrorKind) (exit : Exit) (p : PolicyRules) (before after : Registry) (a old new : Option (List ℕ)) → exit ≡ exit_of kind → IfSome a (λ input. A → EndsIn p before after input old new exit)
-Ends-unread A kind exit p before after None old new e = tt
-Ends-unread A kind exit p before after (Some input) old new e = λ (given : A). subst (EndsIn p before after input old new) (sym e) (Ends-fault kind p before after input old new)
-
--- what a line leaves that ends a run
-abbrev LeftBy : Exit → Registry → Registry → Type 0
-LeftBy (exits.Script n) before after = after ≡ before
-LeftBy _ before after = Unit {0}
-
-left_by : (exit : Exit) (old new : BookState) → LeavesAsWas old new exit → new.is_clean ≡ true → LeftBy exit (kept old) (kept new)
-left_by (exits.Script n) old new same clean = ap (λ (s : Stored). s.registry) (same.content clean)
-left_by _ old new same clean = tt
-
--- a line ends a run, behind the lines that were answered
-ends_line : (exit : Exit) (p : PolicyRules) (lines : List (List ℕ)) (text : List ℕ) (number : ℕ) (before middle after : Registry) (a b old between new : Option (List ℕ))
-    → Reads lines a b → IfSome b (λ xs. text ≡ take_through 10 xs) → 0 < length text → number ≡ length lines + 1
-    → AreTold p lines before middle old between → HaltsAt p (strip_last 10 text) number between new exit → LeftBy exit middle after
-    → IfSome a (λ input. EndsIn p before after input old new exit)
-ends_line exit p lines text number before middle after None b old between new r t h count told halts left = tt
-ends_line exit p lines text number before middle after (Some input) None old between new r t h count told halts left = absurd r
-ends_line exits.File p lines text number before middle after (Some input) (Some xs) old between new r t h count told halts left = tt
-ends_line exits.Memory p lines text number before middle after (Some input) (Some xs) old between new r t h count told halts left = tt
-ends_line (exits.Script n) p lines text number before middle after (Some input) (Some xs) old between new r t h count told halts left =
-    let some = subst (λ (t : List ℕ). 0 < length t) t h in
-    let first : lines_of xs ≡ strip_last 10 text ∷ lines_of (drop_through 10 xs) =
-    next_lines xs some ∙ ap (λ (t : List ℕ). strip_last 10 t ∷ lines_of (drop_through 10 xs)) (sym t) in (
-      printed told.replies,
-      Appends-kept old between new _ told.written halts.3,
-      (
-        record {
-          lines = lines;
-          line = strip_last 10 text;
-          others = lines_of (drop_through 10 xs);
-          split = r ∙ ap (λ ls. lines ++ ls) first;
-          number = halts.0 ∙ count;
-          some = halts.1;
-          bad = halts.2;
-          after = middle;
-          replies = told.replies;
-          prints = told.prints;
-          text = refl;
-        },
-        left,
-      ),
-    )
-ends_line _ p lines text number before middle after (Some input) (Some xs) old between new r t h count told halts left = absurd halts
-
--- the same, where the policy, the line and the end are known by equations
-ends_halted : (p q : PolicyRules) (exit end : Exit) (lines : List (List ℕ)) (text line : List ℕ) (number : ℕ) (before middle after : Registry) (a b old between new : Option (List ℕ))
-    → q ≡ p → end ≡ exit → line ≡ strip_last 10 text → Reads lines a b → IfSome b (λ xs. text ≡ take_through 10 xs) → 0 < length text → number ≡ length lines + 1
-    → AreTold p lines before middle old between → HaltsAt q line number between new exit → LeftBy exit middle after
-    → IfSome a (λ input. EndsIn p before after input old new end)
-ends_halted p q exit end lines text line number before middle after a b old between new same e l r t h count told halts left =
-    let here : HaltsAt p line number between new exit = subst (λ (r : PolicyRules). HaltsAt r line number between new exit) same halts in
-    let at : HaltsAt p (strip_last 10 text) number between new exit = subst (λ (l : List ℕ). HaltsAt p l number between new exit) l here in
-    let ends = ends_line exit p lines text number before middle after a b old between new r t h count told at left in
-    subst (λ (x : Exit). IfSome a (λ input. EndsIn p before after input old new x)) (sym e) ends
-
-pub Ends-halted : (p q : PolicyRules) (exit end : Exit) (lines : List (List ℕ)) (text line : List ℕ) (number : ℕ) (before : Registry) (middle after : BookState) (a b old between new : Option (List ℕ))
-    → q ≡ p → end ≡ exit → line ≡ strip_last 10 text → Reads lines a b → IfSome b (λ xs. text ≡ take_through 10 xs) → 0 < length text → number ≡ length lines + 1
-    → (middle.is_clean ≡ true → AreTold p lines before (kept middle) old between) → Follows middle after → HaltsAt q line number between new exit → LeavesAsWas middle after exit
-    → IfSome a (λ input. after.is_clean ≡ true → EndsIn p before (kept after) input old new end)
-Ends-halted p q exit end lines text line number before middle after a b old between new same e l r t h count told follows halts left =
-    under (after.is_clean ≡ true) a _ (λ clean. ends_halted p q exit end lines text line number before (kept middle) (kept after) a b old between new same e l r t h count (told (follows.clean clean)) halts (left_by exit middle after left clean))
 
 -- ---- books
 

@@ -1,7 +1,7 @@
 -- What the lines of a script are answered.
 use Rattle.std.specs.Prelude.{◌≡◌, ◌≢◌, ◌⊎◌, ◌+◌, ◌≤◌, ◌==◌, ℕ, List, [], ◌∷◌, ◌++◌, length, if◌then◌else◌, Option, Some, None, IsSome, Result, Ok, Err, codes, ⊤}
 use Rattle.std.specs.List.{flat_map}
-use Rattle.std.specs.Io.KnownBytes.{Appends, Keeps}
+use Rattle.std.specs.Io.KnownBytes.{Appends, Keeps, append_known}
 use Rattle.eppcommands.specs.Session.{in_session}
 use Rattle.eppcommands.specs.Order.{order_in}
 use Rattle.eppreplies.specs.Answer.{answer_text}
@@ -183,6 +183,19 @@ abbrev pub TellsLine : PolicyRules → List ℕ → Registry → Registry → Op
 TellsLine p line before after old new =
     (replies : List (List ℕ)) × Prints p (line ∷ []) before after replies × Appends old new (printed replies)
 
+-- the known bytes grew by the front of a text
+abbrev pub AppendsFront : Option (List ℕ) → Option (List ℕ) → List ℕ → Type 0
+AppendsFront old new text = (front rest : List ℕ) × Appends old new front × (text ≡ front ++ rest)
+
+-- the line is answered so, or it isn't answered
+abbrev pub MayPrint : PolicyRules → List ℕ → Registry → List (List ℕ) → Type 0
+MayPrint p line before replies = (replies ≡ []) ⊎ ((after : Registry) × Prints p (line ∷ []) before after replies)
+
+-- what a line leaves that breaks a run: the front of what was pending and of its reply, if it has one
+abbrev pub BreaksAt : PolicyRules → List ℕ → Registry → Option (List ℕ) → List ℕ → Option (List ℕ) → Type 0
+BreaksAt p line before old pending new =
+    (replies : List (List ℕ)) × MayPrint p line before replies × AppendsFront old new (pending ++ printed replies)
+
 -- how a line ends a run: it isn't of the form, and nothing is added; or by a fault of the output or of memory
 abbrev pub HaltsAt : PolicyRules → List ℕ → ℕ → Option (List ℕ) → Option (List ℕ) → Exit → Type 0
 HaltsAt p line number old new (exits.Script n) = (n ≡ number) × (line ≢ []) × AsksNothing p line × Keeps old new
@@ -210,6 +223,22 @@ pub record Stops (p : PolicyRules) (before : Registry) (input written : List ℕ
   pub prints : Prints p lines before after replies
   pub text : written ≡ printed replies
 
+-- The first lines of an input are answered, and the front of some bytes that were pending and of the replies
+-- is written.
+pub record BeginsBehind (pending : List ℕ) (p : PolicyRules) (before : Registry) (input written : List ℕ) : Type 0 where
+  pub lines : List (List ℕ)
+  pub others : List (List ℕ)
+  pub split : lines_of input ≡ lines ++ others
+  pub after : Registry
+  pub replies : List (List ℕ)
+  pub prints : Prints p lines before after replies
+  pub rest : List ℕ
+  pub text : pending ++ printed replies ≡ written ++ rest
+
+-- the front of the replies to some first lines is written
+abbrev pub Begins : PolicyRules → Registry → (input written : List ℕ) → Type 0
+Begins p before input written = BeginsBehind [] p before input written
+
 -- a registry that was never used, opened under a policy
 abbrev pub start : PolicyRules → Registry
 start p = (opened p nothing).registry
@@ -218,13 +247,13 @@ start p = (opened p nothing).registry
 abbrev pub Writes : Option (List ℕ) → Option (List ℕ) → (List ℕ → Type 0) → Type 0
 Writes old new P = (bytes : List ℕ) × Appends old new bytes × P bytes
 
--- How a run ends that answers an input in a registry. What a fault of the input, of the output or of memory
--- leaves isn't said.
+-- How a run ends that answers an input in a registry. A fault of the input, of the output or of memory leaves
+-- the front of the replies to some first lines: nothing is written twice, and nothing left out.
 abbrev pub Ends : PolicyRules → Registry → List ℕ → Option (List ℕ) → Option (List ℕ) → Exit → Type 0
 Ends p before input old new exits.Done = (after : Registry) × Writes old new (Finishes p before after input)
 Ends p before input old new (exits.Script n) = Writes old new (λ written. Stops p before input written n)
-Ends p before input old new exits.File = Unit {0}
-Ends p before input old new exits.Memory = Unit {0}
+Ends p before input old new exits.File = Writes old new (Begins p before input)
+Ends p before input old new exits.Memory = Writes old new (Begins p before input)
 Ends p before input old new _ = ⊥
 
 -- the same, and what a run leaves is what the lines leave that are answered
@@ -233,6 +262,12 @@ EndsIn p before after input old new exits.Done = Writes old new (Finishes p befo
 EndsIn p before after input old new (exits.Script n) =
     Writes old new (λ written. (stops : Stops p before input written n) × (after ≡ stops.after))
 EndsIn p before after input old new exit = Ends p before input old new exit
+
+-- the same behind bytes that were pending
+abbrev pub EndsBehind : PolicyRules → (before after : Registry) → List ℕ → Option (List ℕ) → List ℕ → Option (List ℕ) → Exit → Type 0
+EndsBehind p before after input old pending new exits.File = Writes old new (BeginsBehind pending p before input)
+EndsBehind p before after input old pending new exits.Memory = Writes old new (BeginsBehind pending p before input)
+EndsBehind p before after input old pending new exit = EndsIn p before after input (append_known old pending) new exit
 
 -- a run that answers all its lines is done
 abbrev pub end_of : Result ⊤ Exit → Exit
@@ -246,6 +281,6 @@ EndsUnder p input old new exit = Ends p (start p) input old new exit
 
 -- how a run under a policy file ends; the file's first fault ends it with nothing printed
 abbrev pub EndsByFile : List ℕ → List ℕ → Option (List ℕ) → Option (List ℕ) → Exit → Type 0
-EndsByFile policy input old new (exits.Policy faults.Memory) = Unit {0}
+EndsByFile policy input old new (exits.Policy faults.Memory) = Keeps old new
 EndsByFile policy input old new (exits.Policy fault) = (policy_of policy ≡ Err fault) × Keeps old new
 EndsByFile policy input old new exit = (p : PolicyRules) × (policy_of policy ≡ Ok p) × EndsUnder p input old new exit

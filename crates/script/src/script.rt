@@ -1,8 +1,8 @@
 //! The answers to a script's lines.
-ghost use Rattle.std.specs.Prelude.{◌≡◌, [], ◌++◌, codes, option_map, true, IfErr, IfSome, OnOk};
+ghost use Rattle.std.specs.Prelude.{◌≡◌, ℕ, List, [], ◌++◌, codes, option_map, true, Some, IfErr, IfSome, OnErr, OnOk};
 ghost use Rattle.std.specs.Io.BufRead.{strip_last};
-ghost use Rattle.std.specs.Io.KnownBytes.{Appends, append_known};
-ghost use Rattle.script.specs.Runs.{Ends, EndsByFile, EndsIn, EndsUnder, HaltsAt, LeavesAsWas, TellsLine, end_of, kept, told_text};
+ghost use Rattle.std.specs.Io.KnownBytes.{Appends, Keeps, append_known};
+ghost use Rattle.script.specs.Runs.{AppendsFront, BreaksAt, Ends, EndsBehind, EndsByFile, EndsIn, EndsUnder, HaltsAt, LeavesAsWas, TellsLine, end_of, kept, told_text};
 ghost use Rattle.store.specs.Book.{Follows};
 
 use crate::answer::answer;
@@ -10,9 +10,10 @@ use crate::exit::Exit;
 use crate::memory::{ScriptBook, is_clean, open};
 use policy::Policy;
 use registry::Registry;
-use std::alloc::Global;
+use std::alloc::{AllocError, Global};
 use std::io::{self, BufRead, BufReader, Read, Write};
 use store::Book;
+use streams::write_all;
 
 /// What is answered where a call gave up, and where a command found no memory.
 const COMMAND_FAILED: &[u8] = b"{\"code\":2400,\"msg\":\"Command failed\",\"svTRID\":\"ANON\"}";
@@ -111,7 +112,8 @@ fn answer_lines<B: Book + Drop, R: BufRead, W: Write>(
     pending: &mut Vec<u8>,
     writer: &mut W,
 ) -> Result<(), Exit>
-    ensures ends { IfSome (R.remaining reader.old) (λ input. (B.state registry.new.book).is_clean ≡ true → EndsIn registry.old.policy (kept (B.state registry.old.book)) (kept (B.state registry.new.book)) input (append_known (W.contents writer.old) pending.old.items) (append_known (W.contents writer.new) pending.new.items) (end_of result)) }
+    ensures ends { IfSome (R.remaining reader.old) (λ input. (B.state registry.new.book).is_clean ≡ true → EndsBehind registry.old.policy (kept (B.state registry.old.book)) (kept (B.state registry.new.book)) input (W.contents writer.old) pending.old.items (append_known (W.contents writer.new) pending.new.items) (end_of result)) }
+    ensures sent { (sent : List ℕ) × Appends (W.contents writer.old) (W.contents writer.new) sent }
     ensures follows { Follows (B.state registry.old.book) (B.state registry.new.book) }
     ensures policy { registry.new.policy ≡ registry.old.policy }
 {
@@ -147,6 +149,8 @@ fn print_answer<B: Book + Drop, W: Write>(
 ) -> Result<(), Exit>
     ensures told { OnOk result ((B.state registry.new.book).is_clean ≡ true → TellsLine registry.old.policy line.now (kept (B.state registry.old.book)) (kept (B.state registry.new.book)) (append_known (W.contents writer.old) pending.old.items) (append_known (W.contents writer.new) pending.new.items)) }
     ensures stopped { IfErr result (HaltsAt registry.old.policy line.now number (append_known (W.contents writer.old) pending.old.items) (append_known (W.contents writer.new) pending.new.items)) }
+    ensures broken { OnErr result ((B.state registry.new.book).is_clean ≡ true → BreaksAt registry.old.policy line.now (kept (B.state registry.old.book)) (W.contents writer.old) pending.old.items (append_known (W.contents writer.new) pending.new.items)) }
+    ensures sent { (sent : List ℕ) × Appends (W.contents writer.old) (W.contents writer.new) sent }
     ensures left { IfErr result (LeavesAsWas (B.state registry.old.book) (B.state registry.new.book)) }
     ensures follows { Follows (B.state registry.old.book) (B.state registry.new.book) }
     ensures policy { registry.new.policy ≡ registry.old.policy }
@@ -171,11 +175,32 @@ fn text_of(told: &Option<Vec<u8>>) -> &[u8]
 
 /// Prints a text and a line feed.
 fn print<W: Write>(pending: &mut Vec<u8>, writer: &mut W, text: &[u8]) -> io::Result<()>
-    ensures { OnOk result (Appends (append_known (W.contents writer.old) pending.old.items) (append_known (W.contents writer.new) pending.new.items) (text.now ++ codes "\n")) }
+    ensures printed { OnOk result (Appends (append_known (W.contents writer.old) pending.old.items) (append_known (W.contents writer.new) pending.new.items) (text.now ++ codes "\n")) }
+    ensures begun { OnErr result (AppendsFront (W.contents writer.old) (append_known (W.contents writer.new) pending.new.items) (pending.old.items ++ (text.now ++ codes "\n"))) }
+    ensures sent { (sent : List ℕ) × Appends (W.contents writer.old) (W.contents writer.new) sent }
 {
-    if pending.len() >= ROOM {
-        write_pending(pending, writer)?;
+    make_room(pending, writer)?;
+    add(pending, text)?;
+    Ok(())
+}
+
+/// Writes what is pending, if that is much.
+fn make_room<W: Write>(pending: &mut Vec<u8>, writer: &mut W) -> io::Result<()>
+    ensures same { OnOk result (Keeps (append_known (W.contents writer.old) pending.old.items) (append_known (W.contents writer.new) pending.new.items)) }
+    ensures begun { OnErr result (AppendsFront (W.contents writer.old) (append_known (W.contents writer.new) pending.new.items) pending.old.items) }
+    ensures sent { (sent : List ℕ) × Appends (W.contents writer.old) (W.contents writer.new) sent }
+{
+    if pending.len() < ROOM {
+        return Ok(());
     }
+    write_pending(pending, writer)
+}
+
+/// Adds a text and a line feed to what is pending.
+fn add(pending: &mut Vec<u8>, text: &[u8]) -> Result<(), AllocError>
+    ensures whole { OnOk result (pending.new.items ≡ pending.old.items ++ (text.now ++ codes "\n")) }
+    ensures begun { OnErr result (AppendsFront (Some pending.old.items) (Some pending.new.items) (text.now ++ codes "\n")) }
+{
     pending.extend_from_slice(text)?;
     pending.push(b'\n')?;
     Ok(())
@@ -185,8 +210,9 @@ fn print<W: Write>(pending: &mut Vec<u8>, writer: &mut W, text: &[u8]) -> io::Re
 fn write_pending<W: Write>(pending: &mut Vec<u8>, writer: &mut W) -> io::Result<()>
     ensures empty { pending.new.items ≡ [] }
     ensures bytes { OnOk result (Appends (W.contents writer.old) (W.contents writer.new) pending.old.items) }
+    ensures begun { OnErr result (AppendsFront (W.contents writer.old) (W.contents writer.new) pending.old.items) }
 {
-    let written = writer.write_all(pending);
+    let written = write_all(writer, pending);
     pending.clear();
     written
 }

@@ -266,3 +266,74 @@ fn moments_of_a_list(rt: HostRuntime) -> Result<(), Fail> {
     }
     Ok(())
 }
+
+/// A reader and a writer that a signal interrupts before each byte that they move.
+#[derive(Drop)]
+pub(crate) struct Interrupted<'a> {
+    pub(crate) given: &'a [u8],
+    pub(crate) taken: Vec<u8>,
+    moves: bool,
+}
+
+impl Interrupted<'_> {
+    pub(crate) fn new(alloc: Global, given: &[u8]) -> Interrupted<'_> {
+        Interrupted {
+            given,
+            taken: Vec::new(alloc),
+            moves: true,
+        }
+    }
+
+    /// Whether the next byte may be moved.
+    fn may_move(&mut self) -> io::Result<()> {
+        self.moves = !self.moves;
+        if self.moves {
+            Ok(())
+        } else {
+            Err(io::Error::from(ErrorKind::Interrupted))
+        }
+    }
+}
+
+impl Read for Interrupted<'_> {
+    fn read(&mut self, buf: &mut [u8]) -> io::Result<usize> {
+        self.may_move()?;
+        let Some((first, others)) = self.given.split_first() else {
+            return Ok(0);
+        };
+        let Some(place) = buf.first_mut() else {
+            return Ok(0);
+        };
+        *place = *first;
+        self.given = others;
+        Ok(1)
+    }
+}
+
+impl Write for Interrupted<'_> {
+    fn write(&mut self, buf: &[u8]) -> io::Result<usize> {
+        self.may_move()?;
+        let count = buf.len().min(1);
+        match self.taken.extend_from_slice(&buf[..count]) {
+            Ok(()) => Ok(count),
+            Err(_) => Err(io::Error::from(ErrorKind::OutOfMemory)),
+        }
+    }
+
+    fn flush(&mut self) -> io::Result<()> {
+        Ok(())
+    }
+}
+
+/// A read or a write that a signal interrupts is made again.
+#[test]
+fn signals(rt: HostRuntime) -> Result<(), Fail> {
+    let alloc = rt.alloc();
+    let mut moved = Interrupted::new(alloc, TWO);
+    let (found, end) = payloads(alloc, &mut moved)?;
+    assert!(rt; found.as_slice() == b"hi|bye|".as_slice());
+    assert_eq!(rt; end, Received::End);
+    assert!(rt; write_frame(&mut moved, b"hi").is_ok());
+    assert!(rt; moved.taken.as_slice() == b"\0\0\0\x06hi".as_slice());
+    Ok(())
+}

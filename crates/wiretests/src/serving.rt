@@ -2,12 +2,12 @@
 //! that go out, and that what one of them did is there in the next.
 
 use crate::connections::framed;
-use crate::frames::whole;
+use crate::frames::{Interrupted, whole};
 use calendar::Moment;
 use eppframes::ListClock;
 use fixtures::registry_of;
 use registry::Registry;
-use server::{ConnectionEnd, HttpEnd, MachineClock, serve_one};
+use server::{ConnectionEnd, HttpEnd, MachineClock, serve_each, serve_one};
 use sessions::SessionEnd;
 use std::alloc::Global;
 use std::collections::VecDeque;
@@ -86,6 +86,17 @@ fn exchanges(alloc: Global) -> Result<Vec<Exchange>, Fail> {
     Ok(exchanges)
 }
 
+/// A client that sends bytes, and then no more.
+fn client_of<R>(rt: &R, listener: &TcpListener, asked: &[u8]) -> io::Result<TcpStream>
+where
+    R: Net<Listener = TcpListener, Stream = TcpStream>,
+{
+    let mut client = TcpStream::connect(rt, listener.local_addr()?)?;
+    client.write_all(asked)?;
+    client.shutdown(Shutdown::Write)?;
+    Ok(client)
+}
+
 /// Sends bytes over a socket: the client's end, and the server's.
 fn sent_over_a_socket<R>(
     rt: &R,
@@ -95,9 +106,7 @@ fn sent_over_a_socket<R>(
 where
     R: Net<Listener = TcpListener, Stream = TcpStream>,
 {
-    let mut client = TcpStream::connect(rt, listener.local_addr()?)?;
-    client.write_all(asked)?;
-    client.shutdown(Shutdown::Write)?;
+    let client = client_of(rt, listener, asked)?;
     let (stream, _) = listener.accept()?;
     Ok((client, stream))
 }
@@ -232,6 +241,63 @@ fn ends(rt: HostRuntime) -> Result<(), Fail> {
         let mut clock = clock_of(alloc)?;
         let met = untold_end(alloc, registry_of(alloc), &mut reader, &mut clock)?;
         assert_eq!(rt; met, end);
+    }
+    Ok(())
+}
+
+/// How a connection to a registry that could be opened ends, and what is told.
+fn told_end<B: Book + Drop, R: Read>(
+    alloc: Global,
+    opened: Result<Registry<B>, &'static str>,
+    reader: &mut R,
+) -> Result<(Vec<u8>, ConnectionEnd), Fail> {
+    let mut clock = clock_of(alloc)?;
+    let registry = opened?;
+    let mut told = Vec::new(alloc);
+    let served = serve_one(alloc, reader, &mut told, &mut clock, registry);
+    let end = served.end;
+    drop(served);
+    Ok((told, end))
+}
+
+const HELP: &[u8] = b"GET /help HTTP/1.1\r\n\r\n";
+
+/// Whether help was answered.
+fn is_help(told: &[u8], end: ConnectionEnd) -> bool {
+    told.starts_with(b"HTTP/1.1 200 OK\r\n") && end == ConnectionEnd::Http(HttpEnd::Answered)
+}
+
+/// A request is answered once its head is whole: nothing more is read, since a client that waits for its
+/// answer sends nothing more. The first read is that of the first byte, the second that of the others.
+#[test]
+fn a_head_is_enough(rt: HostRuntime) -> Result<(), Fail> {
+    let alloc = rt.alloc();
+    let mut reader = whole(HELP);
+    reader.reads = 2;
+    let (told, end) = told_end(alloc, registry_of(alloc), &mut reader)?;
+    assert!(&rt; is_help(&told, end));
+    let mut interrupted = Interrupted::new(alloc, HELP);
+    let (told, end) = told_end(alloc, registry_of(alloc), &mut interrupted)?;
+    assert!(&rt; is_help(&told, end));
+    Ok(())
+}
+
+/// The clients of a listener are served one after the other, each up to the end of its replies, and none
+/// that doesn't come is waited for.
+#[test]
+fn clients_of_a_listener(rt: HostRuntime) -> Result<(), Fail> {
+    let alloc = rt.alloc();
+    let listener = TcpListener::bind(&rt, (Ipv4Addr::LOCALHOST, 0))?;
+    let exchanges = exchanges(alloc)?;
+    let mut clients = Vec::new(alloc);
+    for exchange in exchanges.iter() {
+        clients.push(client_of(&rt, &listener, &exchange.asked)?)?;
+    }
+    let mut clock = clock_of(alloc)?;
+    listener.set_nonblocking(true)?;
+    serve_each(alloc, &listener, &mut clock, registry_of(alloc)?);
+    for (client, exchange) in clients.into_iter().zip(exchanges.iter()) {
+        assert!(&rt; is_told(alloc, client, &exchange.wanted));
     }
     Ok(())
 }

@@ -2,7 +2,10 @@ use Rattle.std.proofs.Common.{◌≡◌, ◌∙◌, ◌<◌, ◌++◌, ◌∷◌
 use Rattle.std.proofs.lemmas.Result.{err_from_is_err_and}
 use Rattle.std.specs.Io.BufRead.{strip_last, take_through}
 use Rattle.script.specs.Runs.{end_of}
-use Rattle.script.proofs.RunLemmas.{AreTold-more, AreTold-nil, Ends-done, Ends-halted, Follows-refl, Follows-trans, Reads-more, Reads-nil}
+use Rattle.std.proofs.KnownBytes.{Appends-nil, Appends-trans}
+use Rattle.script.proofs.BeginLemmas.{Ends-between, fault_of_kind}
+use Rattle.script.proofs.HaltLemmas.{Ends-halted}
+use Rattle.script.proofs.RunLemmas.{AreTold-more, AreTold-nil, Ends-done, Follows-refl, Follows-trans, Reads-more, Reads-nil}
 use Rattle.script.proofs.script.answer_lines.Goals as goal
 
 pub loop-number-init : goal.loop-number-init
@@ -11,6 +14,7 @@ loop-number-init g c = record {
   policy = refl;
   count = refl;
   read = Reads-nil _;
+  sent = ([], Appends-nil _);
   follows = Follows-refl _;
   told = λ clean. AreTold-nil _ _ _;
 }
@@ -29,8 +33,8 @@ returns-in_err-print_answer-clause-ends g c =
     let some : 0 < length text = omega (arith, ap length c.deref.ensures.value, c.deref.ensures.len, c.in_ok-read_until.ensures.ok, c.clear.ensures.len) in
     let gave = err_from_is_err_and c.from_residual-in_err-print_answer.result c.from_residual-in_err-print_answer.ensures.1 in
     let halted = c.in_err-print_answer.ensures in
-    Ends-halted _ _ c.in_err-print_answer.field-0.0 _ before.lines text _ c.loop-number.number _ _ _ _ _ _ _ _
-    before.policy (ap end_of gave.1 ∙ gave.2) line before.read read some before.count before.told halted.follows halted.stopped halted.left
+    Ends-halted _ _ c.in_err-print_answer.field-0.0 _ before.lines text _ c.loop-number.number _ _ _ _ _ _ _ _ _ _ _ _
+    before.policy (ap end_of gave.1 ∙ gave.2) line before.read read some before.count before.told halted.follows halted.stopped halted.left before.sent.1 halted.broken
 
 pub loop-number-preserved : goal.loop-number-preserved
 loop-number-preserved g c =
@@ -45,6 +49,7 @@ loop-number-preserved g c =
       policy = told.policy ∙ before.policy;
       count = omega (arith, length-append before.lines (strip_last 10 text ∷ []));
       read = Reads-more before.lines _ _ _ text before.read read c.in_ok-read_until.ensures.rest some;
+      sent = (before.sent.0 ++ told.sent.0, Appends-trans _ _ _ _ _ before.sent.1 told.sent.1);
       follows = Follows-trans _ _ _ before.follows told.follows;
       told = λ clean. AreTold-more _ _ before.lines (strip_last 10 text) _ _ _ _ _ _ _ before.policy line (before.told (told.follows.clean clean)) (told.told clean);
     }

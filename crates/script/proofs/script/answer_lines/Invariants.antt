@@ -1,5 +1,5 @@
 use Rattle.std.proofs.Common.{◌≡◌, ◌+◌, true, List, ℕ, length}
-use Rattle.std.specs.Io.KnownBytes.{append_known}
+use Rattle.std.specs.Io.KnownBytes.{Appends, append_known}
 use Rattle.script.specs.Runs.{kept}
 use Rattle.script.proofs.RunLemmas.{AreTold, Reads}
 use Rattle.store.specs.Book.{Follows}
@@ -11,6 +11,7 @@ invariant-loop-number g l = record {
   policy : l.registry.policy ≡ l.fn.registry.policy;
   count : l.number ≡ length lines + 1;
   read : Reads lines (g.R.Read.remaining l.fn.reader) (g.R.Read.remaining l.reader);
+  sent : (sent : List ℕ) × Appends (g.W.Write.contents l.fn.writer) (g.W.Write.contents l.writer) sent;
   follows : Follows (g.B.Book.state l.fn.registry.book) (g.B.Book.state l.registry.book);
   told : (g.B.Book.state l.registry.book).is_clean ≡ true
       → AreTold l.fn.registry.policy lines (kept (g.B.Book.state l.fn.registry.book)) (kept (g.B.Book.state l.registry.book)) (append_known (g.W.Write.contents l.fn.writer) l.fn.pending.items) (append_known (g.W.Write.contents l.writer) l.pending.items);

@@ -1,0 +1,250 @@
+-- What a run leaves that a fault ends: the front of what is printed.
+use Rattle.std.proofs.Common.{◌≡◌, ◌⊎◌, inl, inr, ◌<◌, ◌++◌, ℕ, List, [], ◌∷◌, length, take, drop, Some, None, IfSome, Result, Ok, Err, refl, sym, ap, subst, ◌∙◌, codes, append-nil, append_assoc, take-append-drop}
+use Rattle.std.proofs.lemmas.Grind.{flat_map-append}
+use Rattle.std.proofs.lemmas.List.{append_cancel_left}
+use Rattle.std.proofs.KnownBytes.{Appends-kept, Appends-nil, Appends-trans, Keeps-refl, append_known-moved}
+use Rattle.std.specs.Prelude.{Option, OnErr, OnOk}
+use Rattle.std.specs.declared.io.ErrorKind.{ErrorKind}
+use Rattle.std.specs.declared.io.ErrorKind.TheVariants.{OutOfMemory}
+use Rattle.std.specs.Io.BufRead.{drop_through, strip_last, take_through}
+use Rattle.std.specs.Io.KnownBytes.{Appends, Keeps, append_known}
+use Rattle.model.specs.Registry.{Registry}
+use Rattle.policy.specs.Rules.{PolicyRules}
+use Rattle.script.specs.declared.exit.Exit.{Exit}
+use Rattle.script.specs.declared.exit.Exit.TheVariants as exits
+use Rattle.script.specs.Exits.{exit_of}
+use Rattle.script.specs.Runs.{Answers, AppendsFront, BeginsBehind, Begins, BreaksAt, EndsBehind, EndsIn, Finishes, Prints, Stops, Writes, lines_of, printed}
+use Rattle.script.proofs.RunLemmas.{AreTold, Prints-told, Reads, next_lines, under}
+
+-- ---- fronts of known bytes
+
+-- what is known of a writer and of what is pending behind its bytes
+known_pending : (a b : Option (List ℕ)) (pending bytes : List ℕ) → Appends (append_known a pending) b bytes → Appends a b (pending ++ bytes)
+known_pending None b pending bytes p = tt
+known_pending (Some x) None pending bytes p = absurd p
+known_pending (Some x) (Some y) pending bytes p = p ∙ append_assoc x pending bytes
+
+-- the whole of a text is its front
+whole_front : (a b : Option (List ℕ)) (text : List ℕ) → Appends a b text → AppendsFront a b text
+whole_front a b text wrote = (text, [], wrote, sym (append-nil text))
+
+taken_front : (a b : Option (List ℕ)) (text : List ℕ) (n : ℕ) → Appends a b (take n text) → AppendsFront a b text
+taken_front a b text n wrote = (take n text, drop n text, wrote, sym (take-append-drop n text))
+
+-- the front of a front
+front_of_more : (a b : Option (List ℕ)) (text more : List ℕ) → AppendsFront a b text → AppendsFront a b (text ++ more)
+front_of_more a b text more (front, rest, wrote, is) = (front, rest ++ more, wrote, ap (λ (l : List ℕ). l ++ more) is ∙ append_assoc front rest more)
+
+-- nothing but what was pending
+pub same_pending : (a : Option (List ℕ)) (pending : List ℕ) → Appends a (append_known a pending) pending
+same_pending None pending = tt
+same_pending (Some x) pending = refl
+
+-- what was sent and is pending was told behind what was pending
+sent_and_pending : (x y : List ℕ) (before pending sent told : List ℕ) → y ≡ x ++ sent → y ++ pending ≡ (x ++ before) ++ told → sent ++ pending ≡ before ++ told
+sent_and_pending x y before pending sent told is all =
+    append_cancel_left x (sent ++ pending) (before ++ told) (sym (append_assoc x sent pending) ∙ ap (λ (l : List ℕ). l ++ pending) (sym is) ∙ all ∙ append_assoc x before told)
+
+-- a front behind what was told
+pub front_behind : (a b c : Option (List ℕ)) (before pending sent told more : List ℕ) → Appends a b sent → Appends (append_known a before) (append_known b pending) told → AppendsFront b c (pending ++ more)
+    → AppendsFront a c (before ++ (told ++ more))
+front_behind None b c before pending sent told more s t w = ([], before ++ (told ++ more), tt, refl)
+front_behind (Some x) None c before pending sent told more s t w = absurd s
+front_behind (Some x) (Some y) c before pending sent told more s t (front, rest, wrote, is) =
+    let joined : sent ++ pending ≡ before ++ told = sent_and_pending x y before pending sent told s t in (
+      sent ++ front,
+      rest,
+      Appends-trans (Some x) (Some y) c sent front s wrote,
+      sym (append_assoc before told more) ∙ ap (λ (l : List ℕ). l ++ more) (sym joined) ∙ append_assoc sent pending more ∙ ap (λ (l : List ℕ). sent ++ l) is ∙ sym (append_assoc sent front rest),
+    )
+
+-- ---- the front of the replies
+
+-- lines that were told, behind which a fault comes
+pub begun_between : (p : PolicyRules) (lines : List (List ℕ)) (before after : Registry) (a b old new : Option (List ℕ)) (pending : List ℕ)
+    → Reads lines a b → AreTold p lines before after (append_known old pending) new → IfSome a (λ input. Writes old new (BeginsBehind pending p before input))
+begun_between p lines before after None b old new pending r told = tt
+begun_between p lines before after (Some input) None old new pending r told = absurd r
+begun_between p lines before after (Some input) (Some others) old new pending r told =
+    let text : List ℕ = pending ++ printed told.replies in (
+      text,
+      known_pending old new pending (printed told.replies) told.written,
+      record { lines = lines; others = lines_of others; split = r; after = after; replies = told.replies; prints = told.prints; rest = []; text = sym (append-nil text) },
+    )
+
+front_begins : (p : PolicyRules) (lines others : List (List ℕ)) (before after : Registry) (replies : List (List ℕ)) (input : List ℕ) (old new : Option (List ℕ)) (pending : List ℕ)
+    → lines_of input ≡ lines ++ others → Prints p lines before after replies → AppendsFront old new (pending ++ printed replies) → Writes old new (BeginsBehind pending p before input)
+front_begins p lines others before after replies input old new pending split prints (front, rest, wrote, is) =
+    (front, wrote, record { lines = lines; others = others; split = split; after = after; replies = replies; prints = prints; rest = rest; text = is })
+
+-- a line breaks a run, behind the lines that were told
+pub begun_at : (p q : PolicyRules) (lines : List (List ℕ)) (text line : List ℕ) (before middle : Registry) (a b old between new : Option (List ℕ)) (first pending sent : List ℕ)
+    → q ≡ p → line ≡ strip_last 10 text → Reads lines a b → IfSome b (λ xs. text ≡ take_through 10 xs) → 0 < length text
+    → AreTold p lines before middle (append_known old first) (append_known between pending) → Appends old between sent → BreaksAt q line middle between pending new
+    → IfSome a (λ input. Writes old new (BeginsBehind first p before input))
+begun_at p q lines text line before middle None b old between new first pending sent same l r t h told s breaks = tt
+begun_at p q lines text line before middle (Some input) None old between new first pending sent same l r t h told s breaks = absurd r
+begun_at p q lines text line before middle (Some input) (Some xs) old between new first pending sent same l r t h told s (more, may, front) =
+    let all : AppendsFront old new (first ++ (printed told.replies ++ printed more)) = front_behind old between new first pending sent (printed told.replies) (printed more) s told.written front in
+    let wrote : AppendsFront old new (first ++ printed (told.replies ++ more)) = subst (λ (l : List ℕ). AppendsFront old new (first ++ l)) (sym (flat_map-append (λ reply. reply ++ codes "\n") told.replies more)) all in
+    by may wrote
+  where
+    by : (more ≡ []) ⊎ ((after : Registry) × Prints q (line ∷ []) middle after more) → AppendsFront old new (first ++ printed (told.replies ++ more)) → Writes old new (BeginsBehind first p before input)
+    by (inl none) wrote =
+        let same_replies : told.replies ++ more ≡ told.replies = ap (λ (m : List (List ℕ)). told.replies ++ m) none ∙ append-nil told.replies in
+        front_begins p lines (lines_of xs) before middle told.replies input old new first r told.prints (subst (λ (m : List (List ℕ)). AppendsFront old new (first ++ printed m)) same_replies wrote)
+    by (inr (after, prints)) wrote =
+        let some : 0 < length (take_through 10 xs) = subst (λ (t : List ℕ). 0 < length t) t h in
+        let here : List ℕ = strip_last 10 text in
+        let next : lines_of xs ≡ here ∷ lines_of (drop_through 10 xs) = next_lines xs some ∙ ap (λ (t : List ℕ). strip_last 10 t ∷ lines_of (drop_through 10 xs)) (sym t) in
+        let split : lines_of input ≡ (lines ++ here ∷ []) ++ lines_of (drop_through 10 xs) = r ∙ ap (λ (ls : List (List ℕ)). lines ++ ls) next ∙ sym (append_assoc lines (here ∷ []) (lines_of (drop_through 10 xs))) in
+        front_begins p (lines ++ here ∷ []) (lines_of (drop_through 10 xs)) before after (told.replies ++ more) input old new first split (Prints-told p q lines here line before middle after told.replies more same l told.prints prints) wrote
+
+-- ---- a line that breaks a run
+
+-- it isn't answered, and nothing of it is printed
+pub breaks_untold : (p : PolicyRules) (line : List ℕ) (before : Registry) (old : Option (List ℕ)) (pending : List ℕ) → BreaksAt p line before old pending (append_known old pending)
+breaks_untold p line before old pending = ([], inl refl, whole_front old (append_known old pending) (pending ++ []) (subst (Appends old (append_known old pending)) (sym (append-nil pending)) (same_pending old pending)))
+
+-- it is answered, and its reply can't be printed to its end
+pub breaks_told : (p : PolicyRules) (line text : List ℕ) (before after : Registry) (old new : Option (List ℕ)) (pending : List ℕ)
+    → 0 < length line → Answers p line before after text → AppendsFront old new (pending ++ (text ++ codes "\n")) → BreaksAt p line before old pending new
+breaks_told p [] text before after old new pending some answers front = absurd (omega arith)
+breaks_told p (byte ∷ bytes) text before after old new pending some answers front =
+    (text ∷ [], inr (after, (text, [], after, refl, answers, (refl, refl))), subst (λ (l : List ℕ). AppendsFront old new (pending ++ l)) (sym (append-nil (text ++ codes "\n"))) front)
+
+-- ---- what is printed of a reply
+
+pub write_front : {X E : Type 0} (result : Result X E) (a b : Option (List ℕ)) (bytes : List ℕ) → OnErr result ((n : ℕ) × Appends a b (take n bytes)) → OnErr result (AppendsFront a b bytes)
+write_front (Ok x) a b bytes wrote = tt
+write_front (Err e) a b bytes (n, wrote) = taken_front a b bytes n wrote
+
+-- all that was pending was written, and nothing is any more
+pub room_made : {X E : Type 0} (result : Result X E) (a b : Option (List ℕ)) (pending none : List ℕ) → none ≡ [] → OnOk result (Appends a b pending) → OnOk result (Keeps (append_known a pending) (append_known b none))
+room_made (Ok x) a b pending none is wrote = append_known-moved a b pending none pending wrote (sym (ap (λ (l : List ℕ). pending ++ l) is ∙ append-nil pending))
+room_made (Err e) a b pending none is wrote = tt
+
+emptied : (a b : Option (List ℕ)) (front none : List ℕ) → none ≡ [] → Appends a b front → Appends a (append_known b none) front
+emptied None b front none is wrote = tt
+emptied (Some x) None front none is wrote = absurd wrote
+emptied (Some x) (Some y) front none is wrote = ap (λ (l : List ℕ). y ++ l) is ∙ append-nil y ∙ wrote
+
+pub room_begun : {X E : Type 0} (result : Result X E) (a b : Option (List ℕ)) (pending none : List ℕ) → none ≡ [] → OnErr result (AppendsFront a b pending) → OnErr result (AppendsFront a (append_known b none) pending)
+room_begun (Ok x) a b pending none is wrote = tt
+room_begun (Err e) a b pending none is (front, rest, wrote, split) = (front, rest, emptied a b front none is wrote, split)
+
+-- no room was made
+pub unroomed : (a b : Option (List ℕ)) (pending line : List ℕ) → AppendsFront a b pending → AppendsFront a b (pending ++ line)
+unroomed a b pending line front = front_of_more a b pending line front
+
+-- room was made, and the front of a line is pending
+pub line_begun : (a b : Option (List ℕ)) (pending roomed new line : List ℕ) → Keeps (append_known a pending) (append_known b roomed) → AppendsFront (Some roomed) (Some new) line → AppendsFront a (append_known b new) (pending ++ line)
+line_begun None b pending roomed new line same front = ([], pending ++ line, tt, refl)
+line_begun (Some x) None pending roomed new line same front = absurd same
+line_begun (Some x) (Some y) pending roomed new line same (front, rest, grew, is) = (
+  pending ++ front,
+  rest,
+  ap (λ (l : List ℕ). y ++ l) grew ∙ sym (append_assoc y roomed front) ∙ ap (λ (l : List ℕ). l ++ front) same ∙ append_assoc x pending front,
+  ap (λ (l : List ℕ). pending ++ l) is ∙ sym (append_assoc pending front rest),
+)
+
+pub line_printed : (a b : Option (List ℕ)) (pending roomed new line : List ℕ) → Keeps (append_known a pending) (append_known b roomed) → new ≡ roomed ++ line → Appends (append_known a pending) (append_known b new) line
+line_printed None b pending roomed new line same grew = tt
+line_printed (Some x) None pending roomed new line same grew = absurd same
+line_printed (Some x) (Some y) pending roomed new line same grew = ap (λ (l : List ℕ). y ++ l) grew ∙ sym (append_assoc y roomed line) ∙ ap (λ (l : List ℕ). l ++ line) same
+
+-- the line feed finds no memory
+pub no_line_feed : (pending new text : List ℕ) → new ≡ pending ++ text → AppendsFront (Some pending) (Some new) (text ++ codes "\n")
+no_line_feed pending new text grew = (text, codes "\n", grew, refl)
+
+pub no_text : (pending new text : List ℕ) → new ≡ pending → AppendsFront (Some pending) (Some new) text
+no_text pending new text same = ([], text, same ∙ sym (append-nil pending), refl)
+
+-- ---- the ends
+
+abbrev pub IsFault : Exit → Type 0
+IsFault exit = (exit ≡ exits.File) ⊎ (exit ≡ exits.Memory)
+
+pub fault_of_kind : (kind : ErrorKind) → IsFault (exit_of kind)
+fault_of_kind OutOfMemory = inr refl
+fault_of_kind _ = inl refl
+
+fault_ends : (exit : Exit) (p : PolicyRules) (before after : Registry) (input : List ℕ) (old : Option (List ℕ)) (pending : List ℕ) (new : Option (List ℕ)) → IsFault exit → Writes old new (BeginsBehind pending p before input) → EndsBehind p before after input old pending new exit
+fault_ends exit p before after input old pending new (inl is) begun = rw is begun
+fault_ends exit p before after input old pending new (inr is) begun = rw is begun
+
+faults_end : (exit : Exit) (p : PolicyRules) (before after : Registry) (a old : Option (List ℕ)) (pending : List ℕ) (new : Option (List ℕ)) → IsFault exit → IfSome a (λ input. Writes old new (BeginsBehind pending p before input))
+    → IfSome a (λ input. EndsBehind p before after input old pending new exit)
+faults_end exit p before after None old pending new is begun = tt
+faults_end exit p before after (Some input) old pending new is begun = fault_ends exit p before after input old pending new is begun
+
+-- a fault between two lines ends a run
+pub Ends-between : (A : Type 0) (exit : Exit) (p : PolicyRules) (lines : List (List ℕ)) (before middle after : Registry) (a b old new : Option (List ℕ)) (pending : List ℕ) → IsFault exit
+    → Reads lines a b → (A → AreTold p lines before middle (append_known old pending) new) → IfSome a (λ input. A → EndsBehind p before after input old pending new exit)
+Ends-between A exit p lines before middle after a b old new pending is r told = under A a _ (λ given. faults_end exit p before after a old pending new is (begun_between p lines before middle a b old new pending r (told given)))
+
+-- what was printed in a run, however it ended
+pub begun_by : (exit : Exit) (p : PolicyRules) (before after : Registry) (input : List ℕ) (a new : Option (List ℕ)) → EndsBehind p before after input a [] new exit → Writes a new (Begins p before input)
+begun_by exits.Done p before after input a new (written, wrote, ends) = (
+  written,
+  known_pending a new [] written wrote,
+  record { lines = lines_of input; others = []; split = sym (append-nil (lines_of input)); after = after; replies = ends.replies; prints = ends.prints; rest = []; text = sym ends.text ∙ sym (append-nil written) },
+)
+begun_by (exits.Script n) p before after input a new (written, wrote, stops, left) = (
+  written,
+  known_pending a new [] written wrote,
+  record { lines = stops.lines; others = stops.line ∷ stops.others; split = stops.split; after = stops.after; replies = stops.replies; prints = stops.prints; rest = []; text = sym stops.text ∙ sym (append-nil written) },
+)
+begun_by exits.File p before after input a new begun = begun
+begun_by exits.Memory p before after input a new begun = begun
+begun_by _ p before after input a new ends = absurd ends
+
+-- of that all is written
+all_out : (p : PolicyRules) (before : Registry) (input : List ℕ) (a b c d : Option (List ℕ)) (pending : List ℕ) → Writes a (append_known b pending) (Begins p before input) → Appends b c pending → Keeps c d → Writes a d (Begins p before input)
+all_out p before input a b c d pending (written, wrote, begins) q k = (written, by a b c d wrote q k, begins)
+  where
+    by : (a b c d : Option (List ℕ)) → Appends a (append_known b pending) written → Appends b c pending → Keeps c d → Appends a d written
+    by None b c d wrote q k = tt
+    by (Some x) None c d wrote q k = absurd wrote
+    by (Some x) (Some y) None d wrote q k = absurd q
+    by (Some x) (Some y) (Some z) None wrote q k = absurd k
+    by (Some x) (Some y) (Some z) (Some w) wrote q k = k ∙ q ∙ wrote
+
+pub fault_out : (exit : Exit) (p : PolicyRules) (before after : Registry) (input : List ℕ) (a b c d : Option (List ℕ)) (pending : List ℕ) → IsFault exit → Writes a (append_known b pending) (Begins p before input)
+    → Appends b c pending → Keeps c d → EndsIn p before after input a d exit
+fault_out exit p before after input a b c d pending (inl is) begun q k = rw is (all_out p before input a b c d pending begun q k)
+fault_out exit p before after input a b c d pending (inr is) begun q k = rw is (all_out p before input a b c d pending begun q k)
+
+-- or the front of it
+front_out : (p : PolicyRules) (before : Registry) (input : List ℕ) (a b c : Option (List ℕ)) (pending sent : List ℕ) → Writes a (append_known b pending) (Begins p before input) → Appends a b sent → AppendsFront b c pending → Writes a c (Begins p before input)
+front_out p before input None b c pending sent (written, wrote, begins) s front = (written, tt, begins)
+front_out p before input (Some x) None c pending sent (written, wrote, begins) s front = absurd s
+front_out p before input (Some x) (Some y) c pending sent (written, wrote, begins) s (front, rest, went, is) =
+    let joined : sent ++ pending ≡ written = append_cancel_left x (sent ++ pending) written (sym (append_assoc x sent pending) ∙ ap (λ (l : List ℕ). l ++ pending) (sym s) ∙ wrote) in (
+      sent ++ front,
+      Appends-trans (Some x) (Some y) c sent front s went,
+      record {
+        lines = begins.lines;
+        others = begins.others;
+        split = begins.split;
+        after = begins.after;
+        replies = begins.replies;
+        prints = begins.prints;
+        rest = rest ++ begins.rest;
+        text = begins.text ∙ ap (λ (l : List ℕ). l ++ begins.rest) (sym joined ∙ ap (λ (l : List ℕ). sent ++ l) is ∙ sym (append_assoc sent front rest)) ∙ append_assoc (sent ++ front) rest begins.rest;
+      },
+    )
+
+pub fault_cut : (exit : Exit) (p : PolicyRules) (before after : Registry) (input : List ℕ) (a b c : Option (List ℕ)) (pending sent : List ℕ) → IsFault exit → Writes a (append_known b pending) (Begins p before input)
+    → Appends a b sent → AppendsFront b c pending → EndsIn p before after input a c exit
+fault_cut exit p before after input a b c pending sent (inl is) begun s front = rw is (front_out p before input a b c pending sent begun s front)
+fault_cut exit p before after input a b c pending sent (inr is) begun s front = rw is (front_out p before input a b c pending sent begun s front)
+
+-- nothing is printed yet
+nothing_out : (p : PolicyRules) (before : Registry) (input : List ℕ) (a : Option (List ℕ)) → Writes a a (Begins p before input)
+nothing_out p before input a = ([], Appends-nil a, record { lines = []; others = lines_of input; split = refl; after = before; replies = []; prints = (refl, refl); rest = []; text = refl })
+
+pub nothing_printed : (A : Type 0) (exit : Exit) (p : PolicyRules) (before after : Registry) (o a : Option (List ℕ)) → IsFault exit → IfSome o (λ input. A → EndsIn p before after input a a exit)
+nothing_printed A exit p before after None a is = tt
+nothing_printed A exit p before after (Some input) a (inl is) = λ (given : A). rw is (nothing_out p before input a)
+nothing_printed A exit p before after (Some input) a (inr is) = λ (given : A). rw is (nothing_out p before input a)
