@@ -11,6 +11,8 @@ mod hidden;
 #[cfg(test)]
 mod http;
 #[cfg(test)]
+mod long_replies;
+#[cfg(test)]
 mod serving;
 #[cfg(test)]
 mod session_ends;

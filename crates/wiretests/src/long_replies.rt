@@ -2,23 +2,20 @@
 
 use crate::connections::framed;
 use crate::frames::whole;
-use calendar::Moment;
+use crate::http::{CONTACT, CREATED, LOGIN, Line, PAID, ended, filled, served};
 use eppframes::ListClock;
 use fixtures::registry_of;
 use registry::Registry;
-use server::serve_one;
 use std::alloc::Global;
 use std::collections::VecDeque;
 use std::process::Abort;
 use std::test::Fail;
 use store::Book;
 
-/// What alfa sends before it makes the hosts.
-const BEFORE: &[&str] = &[
-    r#"{"cmd":"login","id":"alfa","pw":"pass-alfa","version":"1.0"}"#,
-    r#"{"cmd":"create","mail":"ann@alfa.example","name":"c-alfa","obj":"contact","postal":{"cc":"DE","city":"Town","name":"Ann","street":["Road 1"]},"secret":"key-alfa"}"#,
+const DOMAIN: Line = (
+    CREATED,
     r#"{"cmd":"create","name":"foo.test","obj":"domain","registrant":"c-alfa","secret":"foo-secret"}"#,
-];
+);
 
 const INFO: &str = r#"{"cmd":"info","name":"foo.test","obj":"domain"}"#;
 
@@ -33,12 +30,15 @@ fn name_of(alloc: Global, number: u32) -> Result<String, Fail> {
     Ok(format!(in alloc; "h{number}.{label}.{label}.{label}.x.foo.test")?)
 }
 
-/// All that alfa sends.
+/// All that alfa sends, once its domain is there.
 fn asked(alloc: Global) -> Result<Vec<u8>, Fail> {
-    let mut asked = framed(alloc, BEFORE)?;
+    let (_, login) = LOGIN;
+    let mut asked = framed(alloc, &[login])?;
     for number in FIRST..BEHIND_LAST {
         let name = name_of(alloc, number)?;
-        let create = format!(in alloc; "{{\"cmd\":\"create\",\"name\":\"{name}\",\"obj\":\"host\"}}")?;
+        let create = format!(in alloc;
+            "{{\"cmd\":\"create\",\"name\":\"{name}\",\"obj\":\"host\"}}"
+        )?;
         let frame = framed(alloc, &[create.as_str()])?;
         asked.extend_from_slice(&frame)?;
     }
@@ -64,7 +64,8 @@ fn listed(alloc: Global) -> Result<String, Fail> {
 /// The frame of the last reply.
 fn wanted(alloc: Global) -> Result<Vec<u8>, Fail> {
     let names = listed(alloc)?;
-    let front = "{\"code\":1000,\"data\":{\"admin\":[],\"clID\":\"alfa\",\"crDate\":\"2000-01-01T00:00:00Z\",\"exDate\":\"2001-01-01T00:00:00Z\",\"hosts\":[],\"name\":\"foo.test\",\"registrant\":\"c-alfa\",\"rgp\":[\"addPeriod\"],\"roid\":\"D1_2-REG\",\"secret\":\"foo-secret\",\"status\":[\"inactive\"],\"subordinate\":[";
+    let front =
+        "{\"code\":1000,\"data\":{\"admin\":[],\"clID\":\"alfa\",\"crDate\":\"2029-01-01T00:00:00Z\",\"exDate\":\"2030-01-01T00:00:00Z\",\"hosts\":[],\"name\":\"foo.test\",\"registrant\":\"c-alfa\",\"rgp\":[\"addPeriod\"],\"roid\":\"D1_2-REG\",\"secret\":\"foo-secret\",\"status\":[\"inactive\"],\"subordinate\":[";
     let back = "],\"tech\":[]},\"msg\":\"Command completed successfully\",\"svTRID\":\"alfa-323\"}";
     let reply = format!(in alloc; "{front}{names}{back}")?;
     let mut frame = Vec::new(alloc);
@@ -72,4 +73,28 @@ fn wanted(alloc: Global) -> Result<Vec<u8>, Fail> {
     frame.extend_from_slice(&total.to_be_bytes())?;
     frame.extend_from_slice(reply.as_bytes())?;
     Ok(frame)
+}
+
+/// What alfa is told where time stands.
+fn told<B: Book + Drop>(
+    alloc: Global,
+    opened: Result<Registry<B>, &'static str>,
+) -> Result<Vec<u8>, Fail> {
+    let asked = asked(alloc)?;
+    let registry = filled(alloc, opened, PAID, &[LOGIN, CONTACT, DOMAIN])?;
+    let clock = ListClock::of_list(VecDeque::new(alloc));
+    let (told, served) = served(alloc, &mut whole(&asked), clock, registry);
+    drop(ended(served)?);
+    Ok(told)
+}
+
+/// The last reply is one frame, of more than 65,540 bytes.
+#[test]
+fn many_hosts(rt: HostRuntime) -> Result<(), Fail> {
+    let alloc = rt.alloc();
+    let wanted = wanted(alloc)?;
+    assert!(&rt; wanted.len() > 65_540);
+    let told = told(alloc, registry_of(alloc))?;
+    assert!(&rt; told.ends_with(&wanted));
+    Ok(())
 }
