@@ -1,7 +1,7 @@
 -- What a call on rows leaves, said of what the rows mean.
 use Rattle.std.specs.Prelude.{◌≡◌, Bool, true, Result, Ok, Err}
 use Rattle.transactions.specs.declared.fault.BookFault.{BookFault}
-use Rattle.transactions.specs.States.{StateOf, Reads, Stays}
+use Rattle.transactions.specs.States.{LeavesSame, StateOf, Reads, Stays}
 
 -- a question: this is the answer where the sums that rows keep are right, and nothing is changed
 abbrev pub Tells : {A C : Type 0} → Result A BookFault → Bool → A → StateOf C → StateOf C → Type 0
@@ -14,6 +14,7 @@ pub record Became {C : Type 0} (way : C → C → Type 0) (old new : StateOf C) 
   pub before : new.is_clean ≡ true → new.before ≡ old.before
   pub opened : new.is_open ≡ true
   pub content : new.is_clean ≡ true → way old.content new.content
+  pub leaves : LeavesSame old new
 
 -- a change in this way
 abbrev pub Turns : {A C : Type 0} → Result A BookFault → (C → C → Type 0) → StateOf C → StateOf C → Type 0

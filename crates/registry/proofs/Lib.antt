@@ -6,4 +6,5 @@ pub mod OpenedLemmas
 pub mod Reopenings
 pub mod LapsingLemmas
 pub mod LapseSteps
+pub mod CrashLemmas
 mod CallLemmas

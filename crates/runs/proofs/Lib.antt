@@ -1,2 +1,3 @@
 pub mod SettlementLemmas
 pub mod MoneyLemmas
+pub mod CrashLemmas

@@ -5,3 +5,5 @@ pub mod DomainLemmas
 pub mod AlteringLemmas
 pub mod TermLemmas
 pub mod ReplacingLemmas
+pub mod SteadyLemmas
+pub mod ReopeningLemmas

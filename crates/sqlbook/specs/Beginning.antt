@@ -1,5 +1,5 @@
 -- How a book over rows stands at the beginning.
-use Rattle.std.specs.Prelude.{◌≡◌, true, false}
+use Rattle.std.specs.Prelude.{◌≡◌, true, false, [], ◌∷◌}
 use Rattle.sqlite_trees.specs.Tree.{Trees}
 use Rattle.store.specs.Book.{BookState, Stored, nothing}
 use Rattle.tables.specs.Decoding.{contents}
@@ -15,6 +15,7 @@ pub record IsUnused (s : BookState) : Type 0 where
   pub clean : s.is_clean ≡ true
   pub refused : s.refused ≡ 0
   pub empty : s.readiness ≡ Empty
+  pub leaves : s.crash_leaves ≡ record { readiness = Empty; content = nothing } ∷ []
 
 -- a registry of this program is what the rows mean, and of anything else nothing is seen
 abbrev pub IsTaken : Ready → Trees → Stored → Type 0
@@ -22,9 +23,12 @@ IsTaken Used trees s = s ≡ stored_of (contents trees)
 IsTaken Empty trees s = s ≡ nothing
 IsTaken Other trees s = s ≡ nothing
 
--- no transaction is open, and while nothing wrong was taken it holds what the database did
+-- No transaction is open, and while nothing wrong was taken it answers, holds what the database did, and
+-- a crash leaves that alone.
 pub record IsTakenFrom (trees : Trees) (s : BookState) : Type 0 where
   pub idle : s.is_open ≡ false
   pub before : s.before ≡ s.content
   pub refused : s.refused ≡ 0
   pub content : s.is_clean ≡ true → IsTaken s.readiness trees s.content
+  pub answers : s.is_honest ≡ true → s.is_clean ≡ true
+  pub leaves : s.is_clean ≡ true → s.crash_leaves ≡ record { readiness = s.readiness; content = s.content } ∷ []

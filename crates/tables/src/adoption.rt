@@ -15,7 +15,8 @@ pub fn reread<S: Alter + Drop>(
     conn: Connection<S>,
     alloc: Global,
 ) -> Result<Connection<S>, BookFault>
-    ensures { IfOk result (λ c. HasCleanDisk (state S.Store c) → IsReread (state S.Store conn) (state S.Store c)) }
+    ensures reread { IfOk result (λ c. HasCleanDisk (state S.Store c) → IsReread (state S.Store conn) (state S.Store c)) }
+    ensures clean { IfOk result (λ c. HasCleanDisk (state S.Store c) → HasCleanDisk (state S.Store conn)) }
 {
     let mut store = conn.into_store();
     let Ok(()) = store.commit() else {

@@ -8,8 +8,11 @@ use Rattle.sqlite_catalog.specs.Listing.{IsSound}
 use Rattle.tables.proofs.AdoptionLemmas.{fresh_if_committed, lies_in_order, open_if_whole}
 use Rattle.tables.proofs.adoption.reread.Goals as goal
 
-pub returns-in-Ok-over : goal.returns-in-Ok-over
-returns-in-Ok-over g c clean =
+pub returns-in-Ok-over-clause-clean : goal.returns-in-Ok-over-clause-clean
+returns-in-Ok-over-clause-clean g c clean = omega (arith, c.into_store-store.ensures.quiet.clean, c.commit.ensures.clean, c.in-Ok-over.ensures.clean, clean)
+
+pub returns-in-Ok-over-clause-reread : goal.returns-in-Ok-over-clause-reread
+returns-in-Ok-over-clause-reread g c clean =
     let left = g.S.Store.view c.into_store-store.result in
     let kept = g.S.Store.view c.commit.new.self in
     let found = c.in-Ok-over.ensures in

@@ -5,11 +5,11 @@ use Rattle.registry.proofs.StepsKept.{kept_settlement}
 use Rattle.registry.proofs.registry.Registry.settle.Goals as goal
 
 pub returns-clause-well_formed : goal.returns-clause-well_formed
-returns-clause-well_formed g c = kept_settlement c.settlement.result _ c.args.self.now.policy c.args.moment c.args.at_most (taken c.is_late.result c.args.moment c.is_late.ensures c.if-is_late.false) _ _ c.settlement.ensures.step
+returns-clause-well_formed g c = kept_settlement c.transact.result _ c.args.self.now.policy c.args.moment c.args.at_most (taken c.is_late.result c.args.moment c.is_late.ensures c.if-is_late.false) _ _ c.transact.ensures.step
 
 pub returns-clause-reopens : goal.returns-clause-reopens
 returns-clause-reopens g c =
-    reopened_step c.settlement.result c.args.self.now.policy (g.B.Book.state c.args.self.now.book) (g.B.Book.state c.settlement.new.self.book) c.args.self.now.kept c.settlement.ensures.follows c.settlement.ensures.terms
+    reopened_step c.transact.result c.args.self.now.policy (g.B.Book.state c.args.self.now.book) (g.B.Book.state c.transact.new.self.book) c.args.self.now.kept c.transact.ensures.follows c.transact.ensures.terms
 
 pub returns-clause-money : goal.returns-clause-money
-returns-clause-money g c = money_settlement c.settlement.result _ c.args.self.now.policy c.args.moment c.args.at_most _ _ c.settlement.ensures.step
+returns-clause-money g c = money_settlement c.transact.result _ c.args.self.now.policy c.args.moment c.args.at_most _ _ c.transact.ensures.step
