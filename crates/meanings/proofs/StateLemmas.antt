@@ -9,7 +9,7 @@ use Rattle.meanings.specs.Read.{rows_of}
 use Rattle.meanings.proofs.RowLemmas.{find_one}
 
 pub reads-same : {X : Type 0} (s : StateOf X) → Reads s s
-reads-same s = record { clean = λ e. e; before = λ e. refl; opened = refl; content = λ e. refl; leaves = leaves-refl s }
+reads-same s = record { clean = λ e. e; before = λ e. refl; opened = refl; content = λ e. refl; answers = λ was. was; leaves = leaves-refl s }
 
 -- what is read and then refused
 pub stays-on : {X : Type 0} (s m t : StateOf X) → Reads s m → Stays m t → Stays s t
@@ -21,6 +21,7 @@ reads-on s m t a b = record {
   before = λ e. b.before e ∙ a.before (b.clean e);
   opened = b.opened ∙ a.opened;
   content = λ e. b.content e ∙ a.content (b.clean e);
+  answers = λ was. b.answers (a.answers was);
   leaves = leaves-on s m t a.leaves b.leaves;
 }
 
@@ -43,6 +44,7 @@ then-made h way a b c reads makes is = record {
   before = λ e. makes.before e ∙ reads.before (makes.clean e);
   opened = makes.opened;
   content = λ e. subst (way a.content) (sym (makes.content e ∙ ap h (reads.content (makes.clean e)))) (is (makes.clean e));
+  answers = λ was. makes.answers (reads.answers was);
   leaves = leaves-on a b c reads.leaves makes.leaves;
 }
 
@@ -54,6 +56,7 @@ then-became first second whole a b c one two is = record {
   before = λ e. two.before e ∙ one.before (two.clean e);
   opened = two.opened;
   content = λ e. is (two.clean e) (one.content (two.clean e)) (two.content e);
+  answers = λ was. two.answers (one.answers was);
   leaves = leaves-on a b c one.leaves two.leaves;
 }
 

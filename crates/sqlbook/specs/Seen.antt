@@ -3,7 +3,7 @@
 use Rattle.std.specs.Prelude.{◌≡◌, Bool, true, ◌&&◌, List, map, Result, Ok, Err}
 use Rattle.std.specs.List.{list_all}
 use Rattle.transactions.specs.declared.fault.BookFault.{BookFault}
-use Rattle.transactions.specs.States.{LeavesSame, Remains, StateOf, Stays}
+use Rattle.transactions.specs.States.{Answers, LeavesSame, Remains, StateOf, Stays}
 
 -- what rows that a crash leaves mean
 abbrev pub meant : {C X : Type 0} → (C → X) → Remains C → Remains X
@@ -27,13 +27,14 @@ seen means right s = record {
 abbrev pub AreKept : {C : Type 0} → (C → Bool) → StateOf C → Type 0
 AreKept right s = s.is_clean ≡ true → right s.content ≡ right s.before
 
--- rows that mean this now, in the open transaction, with sums as right as they were
+-- Rows that mean this now, in the open transaction, with sums as right as they were. What answered still does.
 pub record Turns {C X : Type 0} (means : C → X) (right : C → Bool) (held : X) (old new : StateOf C) : Type 0 where
   pub clean : new.is_clean ≡ true → old.is_clean ≡ true
   pub before : new.is_clean ≡ true → new.before ≡ old.before
   pub opened : new.is_open ≡ true
   pub content : new.is_clean ≡ true → means new.content ≡ held
   pub sums : new.is_clean ≡ true → right new.content ≡ right old.content
+  pub answers : Answers old → Answers new
   pub leaves : LeavesSame old new
 
 -- a change of rows

@@ -29,6 +29,7 @@ already change h f a was same = record {
   before = λ c. refl;
   opened = was;
   content = λ c. ap (λ (x : Bool). if x then h else f) was ∙ same ∙ ap (λ (x : Bool). change (if x then h else f)) (sym was);
+  answers = λ was. was;
   leaves = leaves-refl (in_memory h f a);
 }
 

@@ -28,7 +28,7 @@ use Rattle.tables.specs.Statements.{Alters}
 use Rattle.tables.specs.Stored.{Agrees, Bears, Fits, HoldsRows, has_rows, rows_in, stands, undone}
 use Rattle.tables.proofs.AskingLemmas.{holds-now, rows-are}
 use Rattle.tables.proofs.DecodingLemmas.{decoded}
-use Rattle.tables.proofs.StandingLemmas.{clean-of, honest, leaves-no-more, leaves-same, was-honest}
+use Rattle.tables.proofs.StandingLemmas.{answered-open, clean-of, honest, leaves-no-more, leaves-same, was-honest}
 
 -- what a command that writes rows did
 changed-by : (old new : State) (command : Command) (text : List ℕ) (params : Row) (count : ℕ) → writes_tables command ≡ true → Runs old new None command text params count
@@ -106,5 +106,6 @@ module _ (sql : List ℕ) (params : Row) (form : Form) (old new : State) (P : Tr
       opened = refl;
       content = λ e. let parts = and_parts new.is_clean new.is_open e in let clean = honest new parts.0 in
           rows-are form new.now.trees rows ∙ decoded (f (contents old.now.trees)) new.now (made clean (agreed clean parts.1)) ∙ ap f (sym (rows-are form old.now.trees rows));
+      answers = λ was e. ap (λ (b : Bool). b && new.is_open) e ∙ open-after (answered-open old new P survives was) (honest new e);
       leaves = leaves-same form form true true old new P leaves survives;
     }

@@ -12,6 +12,7 @@ finds-after (Ok it) s m t f look found = (
     before = λ e. found.0.before e ∙ look.before (found.0.clean e);
     opened = found.0.opened ∙ look.opened;
     content = λ e. found.0.content e ∙ look.content (found.0.clean e);
+    answers = λ was. found.0.answers (look.answers was);
     leaves = leaves-on s m t look.leaves found.0.leaves;
   },
   λ e. found.1 e ∙ ap f (look.content (found.0.clean e)),

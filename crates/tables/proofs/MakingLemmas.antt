@@ -13,7 +13,7 @@ use Rattle.transactions.proofs.LeavingLemmas.{leaves-on}
 use Rattle.transactions.specs.States.{Begins, Makes, Remains, Starts, StateOf, Stays, Writes}
 use Rattle.tables.specs.Stored.{Agrees, Fits, Guards, stands}
 use Rattle.tables.proofs.DecodingLemmas.{decoded}
-use Rattle.tables.proofs.StandingLemmas.{clean-of, guards-on, honest, leaves-same, was-honest}
+use Rattle.tables.proofs.StandingLemmas.{answered-open, clean-of, guards-on, honest, leaves-same, was-honest}
 
 both-clean : (old new : State) (P : Trees → Type 0) → Survives old new P → HasCleanDisk new → IsTrue old.is_open → (old.is_clean && old.is_open) ≡ true
 both-clean old new P survives clean opened = ap (λ (b : Bool). b && old.is_open) (clean-of old (was-honest old new P survives clean)) ∙ opened
@@ -41,6 +41,10 @@ module _ (old mid : State) (P : Trees → Type 0) (survives : Survives old mid P
       before = λ e. refl;
       opened = refl;
       content = λ e. let p = and_parts mid.is_clean mid.is_open e in let clean = honest mid p.0 in decoded no_content mid.now (made clean (opens clean p.1) (agreed clean p.1)).0;
+      answers = λ was e.
+          let clean = honest mid e in
+          let before = answered-open old mid P survives was clean in
+          ap (λ (b : Bool). b && mid.is_open) e ∙ (made clean before (fits (was-honest old mid P survives clean) before)).1.shown.is_open;
       leaves = leaves-same Unused Making true true old mid P leaves survives;
     }
 
@@ -114,6 +118,7 @@ begins-then (Ok done) old mid new idle starts makes = record {
   before = λ e. makes.before e ∙ starts.before (makes.clean e);
   opened = makes.opened;
   content = λ e. makes.content e ∙ starts.content (makes.clean e);
+  answers = λ was. makes.answers (starts.answers was);
   leaves = leaves-on old mid new starts.leaves makes.leaves;
 }
 begins-then (Err fault) old mid new idle starts stays = record {

@@ -174,6 +174,7 @@ reads-same form begun old new P leaves survives same = record {
       ∙ ap (λ (db : Database). if begun then rows_in (undone form) old.committed.trees else rows_in form db.trees) was.now_is;
   opened = refl;
   content = λ e. ap (λ (db : Database). rows_in form db.trees) (same (honest new (and_parts new.is_clean new.is_open e).0)).0.now_is;
+  answers = λ was e. ap (λ (b : Bool). b && new.is_open) e ∙ (same (honest new e)).0.is_open;
   leaves = leaves-same form form begun begun old new P leaves survives;
 }
 

@@ -120,6 +120,7 @@ module _ (form : Form) (old new : State) (P : Trees → Type 0) (survives : Surv
         before = λ e. let p = parts-of e in let it = agreed p.0 p.1 in ap (λ (db : Database). rows_in (undone form) db.trees) (shows p.0 it).committed_is ∙ sym (home form false old leaves it);
         opened = refl;
         content = λ e. let p = parts-of e in ap (λ (db : Database). rows_in form db.trees) (shows p.0 (agreed p.0 p.1)).now_is;
+        answers = λ was e. ap (λ (b : Bool). b && new.is_open) e ∙ (begin-shows old new count (ran (honest new e))).is_open;
         leaves = leaves-same form form false true old new P leaves survives;
       }
 

@@ -30,6 +30,10 @@ Has (y ∷ ys) x = (x ≡ y) ⊎ Has ys x
 abbrev pub holding : {X : Type 0} → X → Remains X
 holding held = record { readiness = Used; content = held }
 
+-- What keeps it answers, as long as nothing wrong was ever taken from it.
+abbrev pub Answers : {X : Type 0} → StateOf X → Type 0
+Answers s = s.is_honest ≡ true → s.is_clean ≡ true
+
 -- What a crash may leave is what it might have left before.
 pub record LeavesSame {X : Type 0} (old new : StateOf X) : Type 0 where
   pub honest : new.is_honest ≡ true → old.is_honest ≡ true
@@ -41,20 +45,22 @@ pub record Stays {X : Type 0} (old new : StateOf X) : Type 0 where
   pub before : new.is_clean ≡ true → new.before ≡ old.before
   pub leaves : LeavesSame old new
 
--- the same content, in the same transaction
+-- The same content, in the same transaction. What answered still does.
 pub record Reads {X : Type 0} (old new : StateOf X) : Type 0 where
   pub clean : new.is_clean ≡ true → old.is_clean ≡ true
   pub before : new.is_clean ≡ true → new.before ≡ old.before
   pub opened : new.is_open ≡ old.is_open
   pub content : new.is_clean ≡ true → new.content ≡ old.content
+  pub answers : Answers old → Answers new
   pub leaves : LeavesSame old new
 
--- in the open transaction this is held
+-- In the open transaction this is held. What answered still does.
 pub record Writes {X : Type 0} (held : X) (old new : StateOf X) : Type 0 where
   pub clean : new.is_clean ≡ true → old.is_clean ≡ true
   pub before : new.is_clean ≡ true → new.before ≡ old.before
   pub opened : new.is_open ≡ true
   pub content : new.is_clean ≡ true → new.content ≡ held
+  pub answers : Answers old → Answers new
   pub leaves : LeavesSame old new
 
 -- a question: this is the answer, and nothing is changed
@@ -72,12 +78,13 @@ abbrev pub Makes : {A X : Type 0} → Result A BookFault → X → StateOf X →
 Makes (Ok done) held old new = Writes held old new
 Makes (Err fault) held old new = Stays old new
 
--- a transaction is open that can go back to what is held
+-- A transaction is open that can go back to what is held. What answered still does.
 pub record Starts {X : Type 0} (old new : StateOf X) : Type 0 where
   pub clean : new.is_clean ≡ true → old.is_clean ≡ true
   pub before : new.is_clean ≡ true → new.before ≡ old.content
   pub opened : new.is_open ≡ true
   pub content : new.is_clean ≡ true → new.content ≡ old.content
+  pub answers : Answers old → Answers new
   pub leaves : LeavesSame old new
 
 -- no transaction is open, and this is held
@@ -92,7 +99,7 @@ pub record Keeps {X : Type 0} (old new : StateOf X) : Type 0 where
   pub clean : new.is_clean ≡ true → old.is_clean ≡ true
   pub closed : new.is_open ≡ false
   pub content : new.is_clean ≡ true → new.content ≡ old.content
-  pub answers : new.is_honest ≡ true → new.is_clean ≡ true
+  pub answers : Answers new
   pub honest : new.is_honest ≡ true → old.is_honest ≡ true
   pub answered : new.is_honest ≡ true → old.is_clean ≡ true
   pub leaves : (left : Remains X) → Has new.crash_leaves left → left ≡ holding old.content
