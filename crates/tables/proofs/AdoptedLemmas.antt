@@ -14,12 +14,13 @@ use Rattle.tables.specs.declared.form.Form.{Form}
 use Rattle.tables.specs.declared.form.Form.TheVariants.{Unused, Making, Made, Other}
 use Rattle.transactions.specs.declared.readiness.Ready.{Ready}
 use Rattle.transactions.specs.declared.readiness.Ready.TheVariants.{Used}
-use Rattle.tables.specs.Adoption.{IsAdopted, IsFound, IsSeenBy, IsShapedAs, IsShown}
+use Rattle.tables.specs.Adoption.{IsAdopted, IsFound, IsSameRegistry, IsSeenBy, IsShapedAs, IsShown, LeavesSameRegistry}
 use Rattle.tables.specs.Decoding.{contents}
 use Rattle.tables.specs.Readiness.{IsFormOf, is_numbered}
-use Rattle.transactions.specs.States.{Remains, StateOf}
+use Rattle.transactions.specs.States.{Has, LeavesSame, Remains, StateOf}
+use Rattle.transactions.proofs.LeavingLemmas.{has-alone}
 use Rattle.tables.specs.Content.{Content}
-use Rattle.tables.specs.Stored.{Bears, Fits, Guards, HoldsRows, IsLeftAs, left_in, readiness_of, rows_in, stands, undone}
+use Rattle.tables.specs.Stored.{Bears, Covers, Fits, Guards, HoldsRows, IsLeftAs, left_in, readiness_of, rows_in, stands, undone}
 use Rattle.tables.proofs.SoundLemmas.{content_of_sound}
 use Rattle.tables.proofs.StandingLemmas.{honest}
 
@@ -116,3 +117,15 @@ module _ (trees : Trees) (was : StateOf Content) (shown-as : IsShown trees was) 
     answers = answers;
     leaves = λ e. alone;
   }
+
+  -- after a fault that registry may be left, and nothing else
+  pub left_registry : (now : StateOf Content) → LeavesSame was now → now.is_honest ≡ true → (may_leave : Trees → Type 0) → Covers now.crash_leaves may_leave → LeavesSameRegistry trees may_leave
+  left_registry now leaves honest may_leave covers db may =
+      let clean = shown-as.answers (leaves.honest honest) in
+      let it : Remains Content = record { readiness = was.readiness; content = was.content } in
+      let alone : now.crash_leaves ≡ it ∷ [] = leaves.same ∙ shown-as.leaves clean in
+      let found = covers db may in
+      let is : found.0 ≡ it = has-alone it found.0 (subst (λ (l : List (Remains Content)). Has l found.0) alone found.1) in
+      let left : IsLeftAs was.readiness db was.content = subst (λ (r : Remains Content). IsLeftAs r.readiness db r.content) is found.2 in
+      let registered : IsLeftAs Used db was.content = subst (λ (r : Ready). IsLeftAs r db was.content) used left in
+      record { had = sound-tables clean; has = registered.0; rows = sym registered.1 ∙ rows-seen clean }

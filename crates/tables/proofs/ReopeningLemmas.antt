@@ -5,9 +5,9 @@ use Rattle.rows.specs.Columns.{no_schema}
 use Rattle.transactions.specs.declared.readiness.Ready.{Ready}
 use Rattle.transactions.specs.declared.readiness.Ready.TheVariants.{Empty, Used, Other}
 use Rattle.transactions.specs.States.{Remains, StateOf}
-use Rattle.tables.specs.Adoption.{IsAdopted, IsKnownAs, IsTakenAs}
+use Rattle.tables.specs.Adoption.{IsAdopted, IsTakenAs}
 use Rattle.tables.specs.Content.{Content}
-use Rattle.tables.specs.Readiness.{is_numbered}
+use Rattle.tables.specs.Readiness.{IsKnownAs, is_numbered}
 use Rattle.tables.specs.Reopening.{IsFoundAgain, IsReopened}
 use Rattle.tables.specs.Stored.{Covers, IsLeftAs}
 use Rattle.tables.specs.Tables.{registry}
@@ -15,7 +15,7 @@ use Rattle.tables.proofs.AdoptedLemmas.{schema_once, some-tables}
 
 again : (was now : Ready) (db : Trees) (left x : Content) → IsLeftAs was db left → IsTakenAs now db x → IsKnownAs now db → IsFoundAgain was left now x
 again Empty Empty db left x it taken known = (refl, taken ∙ sym it.1)
-again Empty Used db left x it taken known = absurd (some-tables (schema_once db registry no_schema known it.0))
+again Empty Used db left x it taken known = absurd (some-tables (schema_once db registry no_schema known.0 it.0))
 again Empty Other db left x it taken known = absurd (known.0 it.0)
 again Used Empty db left x it taken known = absurd (some-tables (schema_once db registry no_schema it.0 known))
 again Used Used db left x it taken known = λ numbered. (refl, taken.0 ∙ sym it.1)

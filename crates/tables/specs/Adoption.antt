@@ -1,5 +1,5 @@
 -- A database that was used before, read anew.
-use Rattle.std.specs.Prelude.{◌≡◌, false, true, [], ◌∷◌}
+use Rattle.std.specs.Prelude.{◌≡◌, ◌⊎◌, false, true, [], ◌∷◌}
 use Rattle.std.specs.List.{AllByRecursion}
 use Rattle.sqlite_trees.specs.declared.store.Shape.TheVariants.{Table}
 use Rattle.sqlite_trees.specs.Tree.{Trees}
@@ -13,7 +13,7 @@ use Rattle.transactions.specs.declared.readiness.Ready.{Ready}
 use Rattle.transactions.specs.declared.readiness.Ready.TheVariants.{Empty, Used, Other}
 use Rattle.tables.specs.Content.{Content}
 use Rattle.tables.specs.Decoding.{contents}
-use Rattle.tables.specs.Readiness.{is_numbered}
+use Rattle.tables.specs.Readiness.{IsKnownAs, is_numbered}
 use Rattle.tables.specs.Stored.{fresh}
 use Rattle.tables.specs.Tables.{registry}
 
@@ -56,12 +56,6 @@ pub record IsShown (trees : Trees) (s : StateOf Content) : Type 0 where
   pub answers : s.is_honest ≡ true → s.is_clean ≡ true
   pub leaves : s.is_clean ≡ true → LeavesIt s
 
--- by its tables, and by their number, the database is this
-abbrev pub IsKnownAs : Ready → Trees → Type 0
-IsKnownAs Used trees = IsSound registry trees
-IsKnownAs Empty trees = IsSound no_schema trees
-IsKnownAs Other trees = (IsSound no_schema trees → ⊥) × (IsSound registry trees → is_numbered (contents trees).metas ≡ false)
-
 -- a registry's rows are seen where they have the number of this schema
 abbrev pub IsTakenAs : Ready → Trees → Content → Type 0
 IsTakenAs Used trees content = (content ≡ contents trees) × (is_numbered content.metas ≡ true)
@@ -75,3 +69,23 @@ pub record IsAdopted (trees : Trees) (s : StateOf Content) : Type 0 where
   pub known : s.is_clean ≡ true → IsKnownAs s.readiness trees
   pub answers : s.is_honest ≡ true → s.is_clean ≡ true
   pub leaves : s.is_clean ≡ true → LeavesIt s
+
+-- ---- what an adoption that failed leaves
+
+-- what may be left is what might have been left before
+abbrev pub LeavesNoMore : State → (Trees → Type 0) → Type 0
+LeavesNoMore was may_leave = (db : Trees) → may_leave db → was.may_leave db
+
+-- the ten tables, with the same rows
+pub record IsSameRegistry (was db : Trees) : Type 0 where
+  pub had : IsSound registry was
+  pub has : IsSound registry db
+  pub rows : contents db ≡ contents was
+
+-- what may be left is that registry
+abbrev pub LeavesSameRegistry : Trees → (Trees → Type 0) → Type 0
+LeavesSameRegistry was may_leave = (db : Trees) → may_leave db → IsSameRegistry was db
+
+-- What may be left is what might have been left before, or the registry that was committed.
+abbrev pub LeavesAsItWas : State → (Trees → Type 0) → Type 0
+LeavesAsItWas was may_leave = (db : Trees) → may_leave db → was.may_leave db ⊎ IsSameRegistry was.committed.trees db

@@ -1,5 +1,5 @@
 //! The ten tables in a database as rows, with transactions.
-ghost use Rattle.std.specs.Prelude.{◌≡◌, false, true, ⊤, List, map, IfOk, OnOk};
+ghost use Rattle.std.specs.Prelude.{◌≡◌, false, true, ⊤, List, map, IfErr, IfOk, OnOk};
 
 use crate::adoption::reread;
 use crate::form::Form;
@@ -278,17 +278,28 @@ impl<S: Alter + Drop> RowStore<S> {
     ghost use Rattle.sqlite.specs.Held.{state};
     ghost use Rattle.sqlite.specs.State.{HasCleanDisk};
     ghost use Rattle.sqlite_trees.specs.Tree.{Trees};
-    ghost use Rattle.tables.specs.Adoption.{IsAdopted, IsFound, IsShown};
+    ghost use Rattle.sqlite_trees.specs.View.{IsClean};
+    ghost use Rattle.tables.specs.Adoption.{IsAdopted, IsFound, IsShown, LeavesAsItWas, LeavesNoMore, LeavesSameRegistry};
+    ghost use Rattle.tables.specs.Stored.{Covers};
+
+    /// Gives back what the connection is over. A transaction that is open is undone.
+    fn into_store(self) -> S
+        ensures { IsClean (S.Store.view result) → (self.is_honest ≡ true) × Covers self.crash_leaves (S.Store.recovers result) }
+    {
+        self.into_connection().into_store()
+    }
 
     /// A store of the rows of a database that was read anew, by its tables alone.
-    fn over(conn: Connection<S>, alloc: Global) -> Result<RowStore<S>, BookFault>
+    fn over(conn: Connection<S>, alloc: Global) -> Result<RowStore<S>, (BookFault, S)>
         requires { IsFound (state S.Store conn) }
         ensures shown { (trees : Trees) → (HasCleanDisk (state S.Store conn) → (state S.Store conn).now.trees ≡ trees) → IfOk result (IsShown trees) }
         ensures honest { IfOk result (λ store. store.is_honest ≡ (state S.Store conn).is_clean) }
+        ensures clean { IfErr result (λ e. IsClean (S.Store.view e.1) → HasCleanDisk (state S.Store conn)) }
+        ensures refused { IfErr result (λ e. LeavesNoMore (state S.Store conn) (S.Store.recovers e.1)) }
     {
         let form = match form_of(&conn, alloc) {
             Ok(form) => form,
-            Err(error) => return Err(fault_of(&error)),
+            Err(error) => return Err((fault_of(&error), conn.into_store())),
         };
         let left = Log::new().and(&conn, &form);
         Ok(RowStore {
@@ -301,31 +312,36 @@ impl<S: Alter + Drop> RowStore<S> {
     }
 
     /// The same store. One whose row of `meta` has another number than this schema's shows no row.
-    fn numbered(store: RowStore<S>) -> Result<RowStore<S>, BookFault>
+    fn numbered(store: RowStore<S>) -> Result<RowStore<S>, (BookFault, S)>
         ensures adopted { (trees : Trees) → IsShown trees store → IfOk result (IsAdopted trees) }
         ensures honest { IfOk result (λ it. it.is_honest ≡ true → store.is_honest ≡ true) }
+        ensures refused { (trees : Trees) → IsShown trees store → IfErr result (λ e. IsClean (S.Store.view e.1) → LeavesSameRegistry trees (S.Store.recovers e.1)) }
     {
         let Form::Made = store.form else {
             return Ok(store);
         };
         let mut store = store;
-        let metas = store.all_metas()?;
-        store.look("BEGIN")?;
+        let metas = match store.all_metas() {
+            Ok(metas) => metas,
+            Err(fault) => return Err((fault, store.into_store())),
+        };
         if !is_numbered(metas.as_slice()) {
             store.form = Form::Other;
             store.left = Log::new().and(&store.conn, &Form::Other);
             return Ok(store);
         }
-        match store.form {
-            Form::Made => Ok(store),
-            _ => Err(BookFault::Store),
-        }
+        let Form::Made = store.form else {
+            return Err((BookFault::Store, store.into_store()));
+        };
+        Ok(store)
     }
 
-    /// A store of the rows of a database that was used before. It is read and checked anew, whole.
-    pub fn adopt(conn: Connection<S>, alloc: Global) -> Result<RowStore<S>, BookFault>
+    /// A store of the rows of a database that was used before. It is read and checked anew, whole. After a
+    /// fault what the connection was over comes back, with what was committed as it was.
+    pub fn adopt(conn: Connection<S>, alloc: Global) -> Result<RowStore<S>, (BookFault, S)>
         ensures adopted { IfOk result (IsAdopted (state S.Store conn).committed.trees) }
         ensures honest { IfOk result (λ store. store.is_honest ≡ true → HasCleanDisk (state S.Store conn)) }
+        ensures refused { IfErr result (λ e. IsClean (S.Store.view e.1) → LeavesAsItWas (state S.Store conn) (S.Store.recovers e.1)) }
     {
         let conn = reread(conn, alloc)?;
         let store = RowStore::over(conn, alloc)?;

@@ -1,4 +1,4 @@
-use Rattle.std.proofs.Common.{List, false, refl, sym, subst}
+use Rattle.std.proofs.Common.{List, false, refl, sym, subst, arith}
 use Rattle.sqlite.specs.Held.{state}
 use Rattle.transactions.specs.States.{Remains}
 use Rattle.tables.specs.Adoption.{IsShown}
@@ -23,3 +23,6 @@ returns-clause-shown g c trees same =
     let form = c.in-Ok.form in
     let alone = noted-alone (state g.S.Store) c.new.result.items c.and-left.result.items c.args.conn form form c.new.ensures c.and-left.ensures refl in
     subst (λ (l : List (Remains Content)). IsShown trees (stands form false s l)) (sym alone) (shown s form trees c.requires c.in-Ok.ensures same)
+
+pub returns-in-Err-clause-clean : goal.returns-in-Err-clause-clean
+returns-in-Err-clause-clean g c clean = omega (arith, c.into_store.ensures.quiet.clean, clean)
