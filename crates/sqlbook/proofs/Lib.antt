@@ -7,3 +7,5 @@ pub mod TermLemmas
 pub mod ReplacingLemmas
 pub mod SteadyLemmas
 pub mod ReopeningLemmas
+pub mod BeginningLemmas
+pub mod SeenLemmas

@@ -1,11 +1,12 @@
 //! Books in the rows of a database.
-ghost use Rattle.std.specs.Prelude.{◌≡◌, true, IfOk};
+ghost use Rattle.std.specs.Prelude.{◌≡◌, true, IfErr, IfOk};
 ghost use Rattle.sqlite.specs.Held.{state};
 ghost use Rattle.store.specs.Kept.{stands};
 ghost use Rattle.sqlite.specs.State.{HasCleanDisk};
-ghost use Rattle.tables.specs.Adoption.{IsAdopted};
+ghost use Rattle.sqlite_trees.specs.View.{IsClean};
+ghost use Rattle.tables.specs.Adoption.{IsAdopted, LeavesAsItWas};
 ghost use Rattle.tables.specs.Stored.{Covers};
-ghost use Rattle.sqlbook.specs.Beginning.{IsTakenFrom, IsUnused};
+ghost use Rattle.sqlbook.specs.Beginning.{IsFoundNew, IsTakenFrom, IsUnused};
 ghost use Rattle.sqlbook.specs.Meaning.{are_right, stored_of};
 ghost use Rattle.sqlbook.specs.Seen.{seen};
 
@@ -41,14 +42,18 @@ pub fn stays_clean(book: &MemoryBook)
     ensures { (⟦<MemoryBook as Book>⟧.state book.now).is_clean ≡ true }
 {}
 
-/// The book of a database that was used before, or may have been. It is read and checked anew, whole.
+/// The book of a database that was used before, or may have been. It is read and checked anew, whole. After
+/// a fault what the connection was over comes back, with what was committed as it was.
 pub fn adopt<S: Alter + Drop>(
     conn: Connection<S>,
     alloc: Global,
-) -> Result<SqlBook<S, Found>, BookFault>
+) -> Result<SqlBook<S, Found>, (BookFault, S)>
     ensures book { IfOk result (λ book. IsTakenFrom (state S.Store conn).committed.trees (stands (seen stored_of are_right book.records.store) book.refused)) }
     ensures rows { IfOk result (λ book. IsAdopted (state S.Store conn).committed.trees book.records.store) }
     ensures clean { IfOk result (λ book. book.records.store.is_clean ≡ true → HasCleanDisk (state S.Store conn)) }
+    ensures answers { IfOk result (λ book. book.records.store.is_honest ≡ true → are_right book.records.store.content ≡ true → (stands (seen stored_of are_right book.records.store) book.refused).is_clean ≡ true) }
+    ensures fresh { IfOk result (λ book. IsFoundNew (state S.Store conn).committed.trees (stands (seen stored_of are_right book.records.store) book.refused)) }
+    ensures refused { IfErr result (λ e. IsClean (S.Store.view e.1) → LeavesAsItWas (state S.Store conn) (S.Store.recovers e.1)) }
 {
     let store = RowStore::adopt(conn, alloc)?;
     store.rests();
