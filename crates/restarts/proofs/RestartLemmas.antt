@@ -11,15 +11,17 @@ use Rattle.policy.specs.Rules.{PolicyRules}
 use Rattle.registry.specs.Opening.{Opens}
 use Rattle.runs.specs.Crashes.{Happens, answered, crash, opening}
 use Rattle.store.specs.Book.{BookState, Follows, LeavesItself, may_leave}
-use Rattle.store.specs.Reopening.{LeavesFound}
+use Rattle.store.specs.Reopening.{IsBook, IsTakenUp, LeavesFound}
 use Rattle.tables.specs.Adoption.{IsAdopted}
 use Rattle.tables.specs.Content.{Content}
 use Rattle.transactions.specs.States.{Has, Remains, StateOf}
 use Rattle.transactions.proofs.LeavingLemmas.{has-alone}
 use Rattle.sqlbook.specs.Files.{AreTakenIn}
+use Rattle.sqlbook.proofs.BeginningLemmas.{rows_new}
 use Rattle.sqlbook.specs.Meaning.{are_right, stored_of}
 use Rattle.sqlbook.specs.Seen.{are_all_right, meant}
-use Rattle.restarts.specs.Restarts.{IsOpenedIn, RestartsAreEvents, StopsAreCrashes, book_of}
+use Rattle.transactions.specs.declared.readiness.Ready.{Ready}
+use Rattle.restarts.specs.Restarts.{IsOpenedIn, NewFilesAreBooks, RestartsAreEvents, StopsAreCrashes, book_of}
 
 leaves-found : (trees : Trees) (rows : StateOf Content) (refused : ℕ) → IsAdopted trees rows → LeavesFound (book_of rows refused)
 unfolding may_leave
@@ -47,6 +49,15 @@ restarts-are-events g files old image p new left honest may opened sure =
       (opened.follows, λ e. (opened.opens.fits e, opened.opens.content e), opened.leaves) in
     (book_of opened.rows opened.refused, stops-are-crashes g files old image opened.rows opened.refused left honest may (opened.taken rows) rows, (new, ∣ opens ∣₁, refl))
 
+-- a book that nothing was ever put into
+pub new-files-are-books : NewFilesAreBooks
+new-files-are-books image rows refused taken none =
+    let it = taken.first none in
+    record {
+      is = λ e. subst (λ (r : Ready). IsBook r (stored_of rows.content)) (sym it.0) (ap stored_of it.1);
+      leaves = leaves-found taken.trees rows refused taken.adopted;
+    }
+
 -- ---- what the functions give
 
 pub taken_in : {A E : Type 0} (result : Result A E) (rows : A → StateOf Content) (image : Image) (conn : State) → (HasCleanDisk conn → FindsIn image conn)
@@ -54,7 +65,7 @@ pub taken_in : {A E : Type 0} (result : Result A E) (rows : A → StateOf Conten
     → IfOk result (λ it. (rows it).is_clean ≡ true → AreTakenIn image (rows it))
 taken_in (Ok it) rows image conn finds adopted honest = λ clean.
     let found : FindsIn image conn = finds (honest clean) in
-    record { trees = conn.committed.trees; found = found.holds; reads = found.reads; adopted = adopted }
+    record { trees = conn.committed.trees; found = found.holds; reads = found.reads; adopted = adopted; first = rows_new conn.committed.trees (rows it) adopted clean }
 taken_in (Err fault) rows image conn finds adopted honest = tt
 
 pub opened_in : {A E : Type 0} (result : Result A E) (stood : A → BookState) (image : Image) (p : PolicyRules) (rows : StateOf Content) (refused : ℕ) → (rows.is_clean ≡ true → AreTakenIn image rows)

@@ -4,11 +4,13 @@ use Rattle.sqlite_disk.specs.declared.Disk.{Ghosts}
 use Rattle.sqlite_disk.specs.declared.Files.{Files}
 use Rattle.sqlite_wal.specs.Files.{outcomes}
 use Rattle.sqlite_wal.specs.Recovery.{Image}
+use Rattle.sqlite_trees.specs.Objects.{catalog_tree}
 use Rattle.policy.specs.Rules.{PolicyRules}
 use Rattle.registry.specs.Opening.{Opens}
 use Rattle.runs.specs.Crashes.{Happened, Happens, answered, crash, opening}
 use Rattle.store.specs.Book.{BookState, Follows, LeavesItself}
 use Rattle.store.specs.Kept.{stands}
+use Rattle.store.specs.Reopening.{IsTakenUp}
 use Rattle.tables.specs.Content.{Content}
 use Rattle.transactions.specs.States.{StateOf}
 use Rattle.sqlbook.specs.Files.{AreTakenIn, IsLeftIn}
@@ -41,3 +43,7 @@ RestartsAreEvents {D} g = (files : Files D) (old : BookState) (image : Image) (p
     → IsLeftIn g files old → old.is_honest ≡ true → outcomes g files.log files.db image
     → IsOpenedIn image p new → new.is_honest ≡ true
     → Happened (crash ∷ answered (opening p) ∷ []) old new
+
+-- Files in which no table was ever made hold a book of the law, with nothing in it.
+abbrev pub NewFilesAreBooks : Type 0
+NewFilesAreBooks = (image : Image) (rows : StateOf Content) (refused : ℕ) (taken : AreTakenIn image rows) → taken.trees catalog_tree ≡ [] → IsTakenUp (book_of rows refused)

@@ -60,7 +60,10 @@ pub fn book_in<S: Start>(
     ensures idle { IfOk result (λ book. (book_of book.records.store book.refused).is_open ≡ false) }
 {
     let conn = connect(rt, path, start)?;
-    adopt(conn, rt.alloc())
+    match adopt(conn, rt.alloc()) {
+        Ok(book) => Ok(book),
+        Err((fault, _)) => Err(fault),
+    }
 }
 
 /// The registry in a file, which is opened under a policy.

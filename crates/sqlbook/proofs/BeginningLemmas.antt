@@ -10,6 +10,7 @@ use Rattle.store.specs.Kept.{stands}
 use Rattle.tables.specs.Adoption.{IsAdopted, IsTakenAs}
 use Rattle.tables.specs.Content.{Content}
 use Rattle.tables.specs.Readiness.{IsKnownAs}
+use Rattle.tables.specs.Stored.{fresh}
 use Rattle.tables.specs.Tables.{registry}
 use Rattle.tables.proofs.AdoptedLemmas.{schema_once, some-tables}
 use Rattle.transactions.specs.declared.readiness.Ready.{Ready}
@@ -55,6 +56,14 @@ nothing-known : (r : Ready) (trees : Trees) (held : Stored) → trees catalog_tr
 nothing-known Empty trees held none known taken = (refl, taken)
 nothing-known Used trees held none known taken = absurd (some-tables (schema_once trees registry no_schema known.0 (empty_is_sound trees none)))
 nothing-known Other trees held none known taken = absurd (known.0 (empty_is_sound trees none))
+
+rows-known : (r : Ready) (trees : Trees) (x : Content) → trees catalog_tree ≡ [] → IsKnownAs r trees → IsTakenAs r trees x → (r ≡ Empty) × (x ≡ fresh)
+rows-known Empty trees x none known taken = (refl, taken)
+rows-known Used trees x none known taken = absurd (some-tables (schema_once trees registry no_schema known.0 (empty_is_sound trees none)))
+rows-known Other trees x none known taken = absurd (known.0 (empty_is_sound trees none))
+
+pub rows_new : (trees : Trees) (rows : StateOf Content) → IsAdopted trees rows → rows.is_clean ≡ true → trees catalog_tree ≡ [] → (rows.readiness ≡ Empty) × (rows.content ≡ fresh)
+rows_new trees rows adopted clean none = rows-known rows.readiness trees rows.content none (adopted.known clean) (adopted.content clean)
 
 pub found_new : (trees : Trees) (s : BookState) → IsTakenFrom trees s → IsFoundNew trees s
 found_new trees s taken none clean = nothing-known s.readiness trees s.content none (taken.known clean) (taken.content clean)
