@@ -43,7 +43,7 @@ pub fn open<B: Book + Drop>(
     }
 }
 
-pub fn exit_of(fault: BookFault) -> Exit {
+fn exit_of(fault: BookFault) -> Exit {
     match fault {
         BookFault::Memory => Exit::Memory,
         BookFault::Store => Exit::Open(OpenFault::Store),
