@@ -30,8 +30,7 @@ leaves-found trees rows refused adopted left may =
     let clean : rows.is_clean ≡ true = adopted.answers parts.0 in
     let it : Remains Content = record { readiness = rows.readiness; content = rows.content } in
     let alone : rows.crash_leaves ≡ it ∷ [] = adopted.leaves clean in
-    let right : are_right rows.content ≡ true = (and_parts (are_right rows.content) true (subst (λ (leaves : List (Remains Content)). are_all_right are_right leaves ≡ true) alone parts.1)).0 in
-    (
+    let right : are_right rows.content ≡ true = (and_parts (are_right rows.content) true (subst (λ (leaves : List (Remains Content)). are_all_right are_right leaves ≡ true) alone parts.1)).0 in (
       ap (λ b. b && are_right rows.before) clean ∙ ap are_right adopted.before ∙ right,
       has-alone (meant stored_of it) left (subst (λ (leaves : List (Remains Content)). Has (map (meant stored_of) leaves) left) alone may.1),
     )
@@ -46,7 +45,7 @@ restarts-are-events g files old image p new left honest may opened sure =
     let was : (book_of opened.rows opened.refused).is_clean ≡ true = opened.follows.clean clean in
     let rows : opened.rows.is_clean ≡ true = (and_parts opened.rows.is_clean (are_right opened.rows.before) was).0 in
     let opens : Happens (answered (opening p)) (book_of opened.rows opened.refused) new =
-      (opened.follows, λ e. (opened.opens.fits e, opened.opens.content e), opened.leaves) in
+    (opened.follows, λ e. (opened.opens.fits e, opened.opens.content e), opened.leaves) in
     (book_of opened.rows opened.refused, stops-are-crashes g files old image opened.rows opened.refused left honest may (opened.taken rows) rows, (new, ∣ opens ∣₁, refl))
 
 -- a book that nothing was ever put into

@@ -51,11 +51,7 @@ fn fault_of(error: &Error) -> BookFault {
 }
 
 /// The book in a file.
-pub fn book_in<S: Start>(
-    rt: &HostRuntime,
-    path: &str,
-    start: S,
-) -> Result<FileBook<S>, BookFault>
+pub fn book_in<S: Start>(rt: &HostRuntime, path: &str, start: S) -> Result<FileBook<S>, BookFault>
     ensures taken { IfOk result (λ book. book.records.store.is_clean ≡ true → AreTakenIn (image_at S.Start) book.records.store) }
     ensures idle { IfOk result (λ book. (book_of book.records.store book.refused).is_open ≡ false) }
 {

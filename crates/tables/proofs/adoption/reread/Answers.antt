@@ -43,7 +43,7 @@ returns-in-Ok-over-clause-leaves g c clean db may =
     let done = c.in-Ok.ensures.ok whole in
     let it = (found.opens clean).0 in
     let same : db ≡ (g.S.Store.view left).trees =
-      g.met.S.Store.settled c.in-Ok-over.conn.store db it.is_open may ∙ sym (ap (λ (d : Database). d.trees) it.clean) ∙ found.trees clean ∙ ap (λ (v : View). v.trees) done.is in
+    g.met.S.Store.settled c.in-Ok-over.conn.store db it.is_open may ∙ sym (ap (λ (d : Database). d.trees) it.clean) ∙ found.trees clean ∙ ap (λ (v : View). v.trees) done.is in
     subst (g.S.Store.recovers was) (sym same) (last_commit (g.S.Store.view was) (g.S.Store.view left) c.into_store-store.ensures.undone (g.met.S.Store.broken_if_shut left) (g.met.S.Store.shut_if_dirty left)
     (g.S.Store.recovers was) (g.met.S.Store.stays was) done.sound)
 

@@ -9,5 +9,5 @@ pub returns-clause-keeps : goal.returns-clause-keeps
 returns-clause-keeps g c =
     let p = c.args.self.now.policy in
     subst (λ (name : List ℕ). LooksUpKeeping p c.args.moment (Makes (IsLookUp p (λ s. domain_face_at p s name) c.args.moment)) c.look_up.result
-        c.look_up.new.self.policy (g.B.Book.state c.args.self.now.book) (g.B.Book.state c.look_up.new.self.book))
+    c.look_up.new.self.policy (g.B.Book.state c.args.self.now.book) (g.B.Book.state c.look_up.new.self.book))
     c.text.ensures c.look_up.ensures.keeps

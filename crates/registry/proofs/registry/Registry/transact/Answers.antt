@@ -10,5 +10,5 @@ returns-clause-keeps g c =
       follows = search rules;
       terms = search rules;
       crash = outlives_later c.keep.result (Makes (g.W.Work.step c.args.work.now c.args.self.now.policy)) (g.B.Book.state c.args.self.now.book) (g.B.Book.state c.begin.new.self) (g.B.Book.state c.keep.new.book)
-        c.begin.ensures.follows c.begin.ensures.leaves c.in_ok-begin.ensures.ok.content c.keep.ensures.crash;
+          c.begin.ensures.follows c.begin.ensures.leaves c.in_ok-begin.ensures.ok.content c.keep.ensures.crash;
     }
