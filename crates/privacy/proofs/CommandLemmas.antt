@@ -66,7 +66,7 @@ use Rattle.verdict.specs.Rules.{refusal_of}
 use Rattle.verdict.specs.Transfers.{transfer_after}
 use Rattle.verdict.proofs.RowLemmas.{unrefused}
 use Rattle.privacy.specs.Alike.{Hidden, puts, with_hidden}
-use Rattle.privacy.specs.Redaction.{Objects, AreOne, is_redacted, no_postal, redacted_contact, redacted_domain, unless}
+use Rattle.privacy.specs.Redaction.{Objects, AreOne, is_redacted, no_postal, redacted_contact, redacted_domain, blank_if}
 use Rattle.privacy.proofs.AccountLemmas.{given-charges}
 use Rattle.privacy.proofs.ChangeLemmas.{AreAlikeChanges, IsAlikeChange, put-contact-alike, put-domain-alike, same-change}
 use Rattle.privacy.proofs.PairLemmas.{alike-then, alike-turned, authorized-open, contact-pair, domain-pair, equal-lists, own-open, requester-open, same-standing, through}
@@ -309,8 +309,8 @@ module _ (p : PolicyRules) (r q : ℕ) (other : q ≢ r) (touched : Objects) (s 
 
   -- ---- renewals and restorations
 
-  kept-secret : (d x : Domain) → with_secret (unless (is_redacted r touched d.roid d.sponsor d.transfer) [] d.secret) x
-      ≡ with_secret (unless (is_redacted r touched d.roid d.sponsor d.transfer) [] (unless (is_redacted r touched d.roid d.sponsor d.transfer) [] d.secret)) x
+  kept-secret : (d x : Domain) → with_secret (blank_if (is_redacted r touched d.roid d.sponsor d.transfer) [] d.secret) x
+      ≡ with_secret (blank_if (is_redacted r touched d.roid d.sponsor d.transfer) [] (blank_if (is_redacted r touched d.roid d.sponsor d.transfer) [] d.secret)) x
   kept-secret d x = secret-twice (is_redacted r touched d.roid d.sponsor d.transfer) (is_redacted r touched d.roid d.sponsor d.transfer) (λ e. e) d.secret x
 
   renew-domain : (name : GivenName) (expires : List ℕ) (years : ℕ) → let request = requests.RenewDomain name expires years in

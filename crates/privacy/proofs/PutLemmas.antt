@@ -21,7 +21,7 @@ use Rattle.protocol.specs.declared.transfer.TransferOp.TheVariants as ops
 use Rattle.rules.specs.Decisions.{or_old, updated_contact, updated_domain}
 use Rattle.rules.specs.Transfers.{contact_transferred_if, contact_with_transfer, domain_transferred_if, domain_with_transfer}
 use Rattle.verdict.specs.Transfers.{transfer_after}
-use Rattle.privacy.specs.Redaction.{Objects, is_redacted, no_postal, redacted_contact, redacted_domain, unless}
+use Rattle.privacy.specs.Redaction.{Objects, is_redacted, no_postal, redacted_contact, redacted_domain, blank_if}
 use Rattle.privacy.proofs.ChangeLemmas.{AreAlikeChanges, put-contact-alike, put-domain-alike, same-change}
 use Rattle.privacy.proofs.RedactionLemmas.{left_out, left_out-twice, secret-twice, still-out, with_data, with_secret}
 
@@ -30,11 +30,11 @@ use Rattle.privacy.proofs.RedactionLemmas.{left_out, left_out-twice, secret-twic
 -- hidden data that an update leaves, of what was left out or not
 update-by : (out : Bool) (u : ContactUpdate) (secret : List ℕ) (postal : Postal) (voice : Option (List ℕ)) (mail : List ℕ) (x : Contact)
     → left_out out (or_old u.secret secret) (or_old u.postal postal) (or_else u.voice voice) (or_old u.mail mail) x
-    ≡ left_out out (or_old u.secret (unless out [] secret)) (or_old u.postal (unless out no_postal postal)) (or_else u.voice (unless out None voice)) (or_old u.mail (unless out [] mail)) x
+    ≡ left_out out (or_old u.secret (blank_if out [] secret)) (or_old u.postal (blank_if out no_postal postal)) (or_else u.voice (blank_if out None voice)) (or_old u.mail (blank_if out [] mail)) x
 update-by true u secret postal voice mail x = refl
 update-by false u secret postal voice mail x = refl
 
-secret-by : (out : Bool) (given : Option (List ℕ)) (secret : List ℕ) (x : Domain) → with_secret (unless out [] (or_old given secret)) x ≡ with_secret (unless out [] (or_old given (unless out [] secret))) x
+secret-by : (out : Bool) (given : Option (List ℕ)) (secret : List ℕ) (x : Domain) → with_secret (blank_if out [] (or_old given secret)) x ≡ with_secret (blank_if out [] (or_old given (blank_if out [] secret))) x
 secret-by true given secret x = refl
 secret-by false given secret x = refl
 
@@ -54,7 +54,7 @@ module _ (r : ℕ) (touched : Objects) where
   pub domain-hidden : (x y : Domain) → is_redacted r touched x.roid x.sponsor x.transfer ≡ true → is_redacted r touched y.roid y.sponsor y.transfer ≡ true
       → with_secret [] x ≡ with_secret [] y → redacted_domain r touched x ≡ redacted_domain r touched y
   domain-hidden x y here there same =
-      ap (λ (out : Bool). with_secret (unless out [] x.secret) x) here ∙ same ∙ sym (ap (λ (out : Bool). with_secret (unless out [] y.secret) y) there)
+      ap (λ (out : Bool). with_secret (blank_if out [] x.secret) x) here ∙ same ∙ sym (ap (λ (out : Bool). with_secret (blank_if out [] y.secret) y) there)
 
 -- ---- who is no party
 

@@ -16,7 +16,7 @@ use Rattle.objects.specs.declared.contact.Contact.{Contact}
 use Rattle.objects.specs.declared.contact.Postal.{Postal}
 use Rattle.objects.specs.declared.domain.Domain.{Domain}
 use Rattle.objects.specs.declared.roid.Roid.{Roid}
-use Rattle.privacy.specs.Redaction.{Objects, AreOne, is_charge, is_redacted, no_postal, redacted, redacted_account, redacted_contact, redacted_domain, unless, without_deposits}
+use Rattle.privacy.specs.Redaction.{Objects, AreOne, is_charge, is_redacted, no_postal, redacted, redacted_account, redacted_contact, redacted_domain, blank_if, without_deposits}
 use Rattle.privacy.proofs.AccountLemmas.{filter-twice}
 
 -- ---- hidden data
@@ -30,16 +30,16 @@ with_secret secret d = record d { secret = secret }
 
 -- and without it, if it is to be left out
 abbrev pub left_out : Bool → List ℕ → Postal → Option (List ℕ) → List ℕ → Contact → Contact
-left_out out secret postal voice mail c = with_data (unless out [] secret) (unless out no_postal postal) (unless out None voice) (unless out [] mail) c
+left_out out secret postal voice mail c = with_data (blank_if out [] secret) (blank_if out no_postal postal) (blank_if out None voice) (blank_if out [] mail) c
 
 -- what is left out first is left out then
 pub left_out-twice : (b c : Bool) → (b ≡ true → c ≡ true) → (secret : List ℕ) (postal : Postal) (voice : Option (List ℕ)) (mail : List ℕ) (x : Contact)
-    → left_out c secret postal voice mail x ≡ left_out c (unless b [] secret) (unless b no_postal postal) (unless b None voice) (unless b [] mail) x
+    → left_out c secret postal voice mail x ≡ left_out c (blank_if b [] secret) (blank_if b no_postal postal) (blank_if b None voice) (blank_if b [] mail) x
 left_out-twice true true more secret postal voice mail x = refl
 left_out-twice true false more secret postal voice mail x = let never : false ≡ true = more refl in absurd cc
 left_out-twice false c more secret postal voice mail x = refl
 
-pub secret-twice : (b c : Bool) → (b ≡ true → c ≡ true) → (secret : List ℕ) (d : Domain) → with_secret (unless c [] secret) d ≡ with_secret (unless c [] (unless b [] secret)) d
+pub secret-twice : (b c : Bool) → (b ≡ true → c ≡ true) → (secret : List ℕ) (d : Domain) → with_secret (blank_if c [] secret) d ≡ with_secret (blank_if c [] (blank_if b [] secret)) d
 secret-twice true true more secret d = refl
 secret-twice true false more secret d = let never : false ≡ true = more refl in absurd cc
 secret-twice false c more secret d = refl

@@ -21,8 +21,9 @@ Objects = Roid → Bool
 abbrev pub is_redacted : ℕ → Objects → Roid → ℕ → Option Transfer → Bool
 is_redacted r touched roid sponsor transfer = touched roid && not (is_party r sponsor transfer)
 
-abbrev pub unless : {A : Type 0} → Bool → A → A → A
-unless out nothing x = if out then nothing else x
+-- the blank in place of what is left out
+abbrev pub blank_if : {A : Type 0} → Bool → A → A → A
+blank_if out blank x = if out then blank else x
 
 abbrev pub no_postal : Postal
 no_postal = record { name = []; org = None; street = []; city = []; sp = None; pc = None; cc = [] }
@@ -30,15 +31,15 @@ no_postal = record { name = []; org = None; street = []; city = []; sp = None; p
 -- without its secret and its data (RFC 5733, 2.4 to 2.8)
 abbrev pub redacted_contact : ℕ → Objects → Contact → Contact
 redacted_contact r touched c = record c {
-  secret = unless (is_redacted r touched c.roid c.sponsor c.transfer) [] c.secret;
-  postal = unless (is_redacted r touched c.roid c.sponsor c.transfer) no_postal c.postal;
-  voice = unless (is_redacted r touched c.roid c.sponsor c.transfer) None c.voice;
-  mail = unless (is_redacted r touched c.roid c.sponsor c.transfer) [] c.mail;
+  secret = blank_if (is_redacted r touched c.roid c.sponsor c.transfer) [] c.secret;
+  postal = blank_if (is_redacted r touched c.roid c.sponsor c.transfer) no_postal c.postal;
+  voice = blank_if (is_redacted r touched c.roid c.sponsor c.transfer) None c.voice;
+  mail = blank_if (is_redacted r touched c.roid c.sponsor c.transfer) [] c.mail;
 }
 
 -- without its secret (RFC 5731, 2.6)
 abbrev pub redacted_domain : ℕ → Objects → Domain → Domain
-redacted_domain r touched d = record d { secret = unless (is_redacted r touched d.roid d.sponsor d.transfer) [] d.secret }
+redacted_domain r touched d = record d { secret = blank_if (is_redacted r touched d.roid d.sponsor d.transfer) [] d.secret }
 
 abbrev pub is_charge : Line → Bool
 is_charge l = not (is_kind l.kind kinds.Deposit)

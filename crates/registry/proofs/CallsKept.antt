@@ -13,6 +13,7 @@ use Rattle.privacy.proofs.RunLemmas.{calls-are-steps-of-two}
 use Rattle.protocol.specs.declared.command.Command.{Command}
 use Rattle.protocol.specs.declared.order.Order.{Order}
 use Rattle.registry.specs.declared.fault.Fault.{Fault}
+use Rattle.registry.specs.declared.fault.Fault.TheVariants as faults
 use Rattle.registry.specs.Calls.{CallKeeps, IsKept, StepKeeps}
 use Rattle.registry.specs.Execution.{SameTerms}
 use Rattle.registry.specs.Money.{CallKeepsMoney}
@@ -23,7 +24,7 @@ use Rattle.rules.specs.Steps.{effect}
 use Rattle.rules.proofs.LapsedLemmas.{serial-lapsed}
 use Rattle.rules.proofs.MoneyLaws.{money-effect-now, money-lapsed-now, money-order-now}
 use Rattle.rules.proofs.RegistryLemmas.{registry-effect, registry-lapsed, registry-now, registry-order}
-use Rattle.store.specs.Book.{BookState, Follows}
+use Rattle.store.specs.Book.{BookState, Follows, Stored}
 
 -- ---- a well formed registry
 
@@ -71,12 +72,13 @@ module _ (p : PolicyRules) (sound : IsSound p) (moment : ℕ) (early : moment �
 
   -- ---- all of it
 
-  pub call_kept : {A : Type 0} (x : Question) → MayAsk p x → (told : A → Answer) (result : Result A Fault) (after : PolicyRules) (old new : BookState)
-      → (old.is_clean ≡ true → old.content.terms ≡ Some (terms_of p)) → StepKeeps p result after old new
-      → IfOk result (λ it. new.is_clean ≡ true → IsCall p moment x old.content.registry new.content.registry (told it)) → CallKeeps p moment x told result after old new
-  call_kept x may told (Ok it) after old new held step is = record {
+  pub call_kept : {A : Type 0} (x : Question) → MayAsk p x → (told : A → Answer) (makes : Stored → Stored → Type 0) (result : Result A Fault) (after : PolicyRules) (old new : BookState)
+      → (old.is_clean ≡ true → old.content.terms ≡ Some (terms_of p)) → StepKeeps p makes result after old new
+      → IfOk result (λ it. new.is_clean ≡ true → IsCall p moment x old.content.registry new.content.registry (told it)) → CallKeeps p moment x told makes result after old new
+  call_kept x may told makes (Ok it) after old new held step is = record {
     policy = step.policy;
     follows = step.follows;
+    crash = step.crash;
     answered = record {
       terms = step.terms;
       reopens = reopened p new (λ clean. step.terms clean ∙ held (step.follows.clean clean));
@@ -85,4 +87,8 @@ module _ (p : PolicyRules) (sound : IsSound p) (moment : ℕ) (early : moment �
       two_runs = λ clean. calls-are-steps-of-two p moment x old.content.registry new.content.registry (told it) (is clean).answered (is clean).left;
     };
   }
-  call_kept x may told (Err fault) after old new held step is = record { policy = step.policy; follows = step.follows; answered = tt }
+  call_kept x may told makes (Err fault) after old new held step is = record { policy = step.policy; follows = step.follows; crash = step.crash; answered = tt }
+
+-- one that comes too late does nothing
+pub kept_late : {A : Type 0} (p : PolicyRules) (moment : ℕ) (x : Question) (told : A → Answer) (makes : Stored → Stored → Type 0) (s : BookState) → CallKeeps p moment x told makes (Err faults.Moment) p s s
+kept_late p moment x told makes s = record { policy = refl; follows = record { clean = λ clean. clean; counted = omega arith }; crash = λ left may. may; answered = tt }

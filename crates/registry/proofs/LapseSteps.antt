@@ -12,7 +12,7 @@ use Rattle.registry.specs.Execution.{GoesBack, Settles, at_moment}
 use Rattle.registry.specs.Lapsing.{dues_lapsed, with_dues_lapsed, with_lapsed}
 use Rattle.registry.proofs.LapsingLemmas.{all-lapsed, some-lapsed}
 use Rattle.store.specs.declared.due.Due.{Due}
-use Rattle.store.specs.Book.{BookState, Commits, Follows, IsBack, IsSame, Moves, Stored, with_changes}
+use Rattle.store.specs.Book.{BookState, Follows, IsBack, IsSame, LeavesSame, Moves, Stored, with_changes}
 use Rattle.store.specs.Due.{due_by}
 
 -- some of what is due has lapsed, and what is left leads to where all of it does
@@ -22,6 +22,7 @@ pub record IsUnderWay (p : PolicyRules) (t : ℕ) (left all : List Due) (old new
   pub content : new.is_clean ≡ true → with_dues_lapsed p t left new.content ≡ with_dues_lapsed p t all old.content
   pub before : new.is_clean ≡ true → new.before ≡ old.before
   pub follows : Follows old new
+  pub leaves : LeavesSame old new
 
 pub begins : (p : PolicyRules) (t : ℕ) (all : List Due) (s : BookState) → s.is_open ≡ true → IsUnderWay p t all all s s
 begins p t all s is_open = record {
@@ -30,16 +31,18 @@ begins p t all s is_open = record {
   content = λ clean. refl;
   before = λ clean. refl;
   follows = record { clean = λ clean. clean; counted = omega arith };
+  leaves = record { honest = λ honest. honest; same = refl };
 }
 
 pub goes-on : (p : PolicyRules) (t : ℕ) (d : Due) (left all : List Due) (old mid new : BookState) → IsUnderWay p t (d ∷ left) all old mid
-    → Moves mid new (with_changes p (lapse_changes p t d.name (object_at mid.content.registry d.kind d.name)) mid.content) → Follows mid new → IsUnderWay p t left all old new
-goes-on p t d left all old mid new is moved then = record {
+    → Moves mid new (with_changes p (lapse_changes p t d.name (object_at mid.content.registry d.kind d.name)) mid.content) → Follows mid new → LeavesSame mid new → IsUnderWay p t left all old new
+goes-on p t d left all old mid new is moved then leaves = record {
   counted = moved.counted ∙ is.counted;
   opened = moved.opened;
   content = λ clean. ap (with_dues_lapsed p t left) (moved.content clean) ∙ is.content (then.clean clean);
   before = λ clean. moved.before clean ∙ is.before (then.clean clean);
   follows = record { clean = λ clean. is.follows.clean (then.clean clean); counted = omega (arith, is.follows.counted, then.counted) };
+  leaves = record { honest = λ honest. is.leaves.honest (leaves.honest honest); same = leaves.same ∙ is.leaves.same };
 }
 
 pub done : (p : PolicyRules) (t : ℕ) (all : List Due) (old new : BookState) → IsUnderWay p t [] all old new → Moves old new (with_dues_lapsed p t all old.content)
@@ -84,12 +87,12 @@ unfolding accounts_at
 same-lapse p u s = refl
 
 -- the clock has moved, and the first of what is due have lapsed and are kept
-pub settled : (p : PolicyRules) (moment at_most clock count : ℕ) (due part : List Due) (old moved listed mid new : BookState)
+pub settled : (p : PolicyRules) (moment at_most clock count : ℕ) (due part : List Due) (old moved listed new : BookState)
     → Moves old moved (with_changes p (MoveClock moment ∷ []) old.content) → (moved.is_clean ≡ true → clock ≡ max moment old.content.registry.clock) → Follows moved listed
-    → IsSame moved listed → (listed.is_clean ≡ true → due ≡ due_by p clock moved.content.registry) → Follows listed mid
-    → part ≡ take at_most due → count ≡ min at_most (length due) → Moves listed mid (with_dues_lapsed p clock part listed.content) → Follows mid new → Commits mid new
+    → IsSame moved listed → (listed.is_clean ≡ true → due ≡ due_by p clock moved.content.registry) → Follows listed new
+    → part ≡ take at_most due → count ≡ min at_most (length due) → Moves listed new (with_dues_lapsed p clock part listed.content)
     → Settles p moment at_most count old new
-settled p moment at_most clock count due part old moved listed mid new first told listing same found lapsing cut counted second committing kept clean = record {
+settled p moment at_most clock count due part old moved listed new first told listing same found lapsing cut counted second clean = record {
   counted = counted ∙ ap (λ (ds : List Due). min at_most (length ds)) due-is;
   left = left;
   unnoticed = ap (now p) left ∙ some-lapsed p u (take at_most (due_by p u s)) (at u s) refl ∙ same-lapse p u s;
@@ -101,11 +104,8 @@ settled p moment at_most clock count due part old moved listed mid new first tol
     u : ℕ
     u = max moment s.clock
 
-    clean-mid : mid.is_clean ≡ true
-    clean-mid = committing.clean clean
-
     clean-listed : listed.is_clean ≡ true
-    clean-listed = lapsing.clean clean-mid
+    clean-listed = lapsing.clean clean
 
     clean-moved : moved.is_clean ≡ true
     clean-moved = listing.clean clean-listed
@@ -124,6 +124,6 @@ settled p moment at_most clock count due part old moved listed mid new first tol
 
     left : new.content.registry ≡ dues_lapsed p u (take at_most (due_by p u s)) (at u s)
     left =
-        ap (λ (held : Stored). held.registry) (kept.content clean ∙ second.content clean-mid)
+        ap (λ (held : Stored). held.registry) (second.content clean)
         ∙ (λ i. dues_lapsed p (clock-is i) (part-is i) (same.content clean-listed i).registry)
         ∙ ap (dues_lapsed p u (take at_most (due_by p u s))) moved-is

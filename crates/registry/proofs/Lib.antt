@@ -5,4 +5,5 @@ pub mod CallsKept
 pub mod OpenedLemmas
 pub mod LapsingLemmas
 pub mod LapseSteps
+pub mod CrashLemmas
 mod CallLemmas

@@ -1,10 +1,10 @@
 -- What the calls of the registry leave.
-use Rattle.std.specs.Prelude.{◌≡◌, ℕ, max, min, length, take, true, false}
+use Rattle.std.specs.Prelude.{◌≡◌, ℕ, max, min, length, take, true}
 use Rattle.policy.specs.Rules.{PolicyRules}
 use Rattle.registry.specs.Lapsing.{dues_lapsed}
 use Rattle.registry.specs.declared.fault.Fault.{Fault}
 use Rattle.registry.specs.declared.fault.Fault.TheVariants as faults
-use Rattle.registry.specs.declared.registry.Prepared.{Prepared}
+use Rattle.registry.specs.declared.command.Prepared.{Prepared}
 use Rattle.registry.specs.declared.registry.TheConstants.{LAST_CALL}
 use Rattle.rules.specs.Decisions.{decided}
 use Rattle.rules.specs.Orders.{order_answer, order_effect}
@@ -93,8 +93,8 @@ SameTerms old new = new.is_clean ≡ true → new.content.terms ≡ old.content.
 abbrev pub at_moment : PolicyRules → ℕ → Stored → Stored
 at_moment p t s = record s { registry = lapsed p t s.registry }
 
--- no transaction is open, and this is held
-pub record Keeps (old new : BookState) (held : Stored) : Type 0 where
+-- the transaction is still open, and can go back as before
+pub record IsWithin (old new : BookState) : Type 0 where
   pub counted : NoRefusal old new
-  pub closed : new.is_open ≡ false
-  pub content : new.is_clean ≡ true → new.content ≡ held
+  pub opened : new.is_open ≡ true
+  pub before : new.is_clean ≡ true → new.before ≡ old.before

@@ -8,7 +8,7 @@ use Rattle.registry.specs.declared.fault.OpenFault.TheVariants as refusals
 use Rattle.rules.specs.declared.change.Change.{Change}
 use Rattle.rules.specs.declared.change.Change.TheVariants.{OpenAccount}
 use Rattle.rules.specs.Changes.{changed_all}
-use Rattle.store.specs.Book.{BookState, HasRefused, IsBack, NoRefusal, Stored}
+use Rattle.store.specs.Book.{BookState, HasRefused, IsBack, Moves, NoRefusal, Stored}
 use Rattle.transactions.specs.declared.readiness.Ready.TheVariants.{Other}
 
 abbrev pub continues_earlier : Terms → Option Terms → Bool
@@ -33,12 +33,6 @@ pub record Opens (p : PolicyRules) (old new : BookState) : Type 0 where
   pub closed : new.is_open ≡ false
   pub content : new.is_clean ≡ true → new.content ≡ opened p old.content
   pub fits : new.is_clean ≡ true → goes_on (terms_of p) old.content ≡ true
-
--- the accounts are there, and the terms put down
-pub record IsOpened (p : PolicyRules) (old new : BookState) : Type 0 where
-  pub counted : NoRefusal old new
-  pub closed : new.is_open ≡ false
-  pub content : new.is_clean ≡ true → new.content ≡ opened p old.content
 
 -- a refused book is as it was, and what it is refused for is so
 pub record DoesNotFit (p : PolicyRules) (old new : BookState) : Type 0 where
@@ -68,7 +62,12 @@ RefusesOurs refusals.Schema old new = Unit {0}
 RefusesOurs refusals.Memory old new = Unit {0}
 RefusesOurs refusals.Store old new = Unit {0}
 
--- in a transaction, the book was opened or it went back
+-- in the open transaction the accounts are there, and the terms put down
+pub record IsTakenUp (p : PolicyRules) (old new : BookState) : Type 0 where
+  pub moves : Moves old new (opened p old.content)
+  pub fits : new.is_clean ≡ true → goes_on (terms_of p) old.content ≡ true
+
+-- in a transaction, the book was taken up or it went back
 abbrev pub TakesUp : Bool → PolicyRules → BookState → BookState → Type 0
-TakesUp true p old new = Opens p old new
+TakesUp true p old new = IsTakenUp p old new
 TakesUp false p old new = DoesNotFit p old new

@@ -1,12 +1,13 @@
 //! What everyone may know of a registry at a moment.
-ghost use Rattle.std.specs.Prelude.{◌≡◌, true, false, IfOk, IfErr, OnOk};
-ghost use Rattle.registry.specs.Execution.{GoesBack, SameTerms};
-ghost use Rattle.registry.specs.Faces.{LooksUp};
-ghost use Rattle.store.specs.Book.{Commits, Follows, IsSame};
+ghost use Rattle.std.specs.Prelude.{◌≡◌, true, IfOk, IfErr, OnOk};
+ghost use Rattle.registry.specs.Execution.{GoesBack};
+ghost use Rattle.registry.specs.Faces.{IsLookUp};
+ghost use Rattle.store.specs.Book.{Follows, IsSame, LeavesSame};
 ghost use Rattle.store.specs.Faces.{contact_face_at, domain_face_at, domain_names, host_addresses_at, host_face_at};
 
 use crate::fault::Fault;
-use crate::transaction::{advance_clock, commit};
+use crate::transaction::advance_clock;
+use crate::work::Work;
 use basis::list::Seq;
 use basis::text::Text;
 use calendar::Moment;
@@ -21,7 +22,7 @@ pub(crate) trait LookUp {
     ghost use Rattle.model.specs.Registry.{Registry};
     ghost use Rattle.policy.specs.Rules.{PolicyRules};
     ghost use Rattle.registry.specs.Execution.{GoesBack};
-    ghost use Rattle.store.specs.Book.{Follows, IsSame};
+    ghost use Rattle.store.specs.Book.{Follows, IsSame, LeavesSame};
 
     /// What is found.
     type Found: Drop;
@@ -35,7 +36,8 @@ pub(crate) trait LookUp {
         ensures found { IfOk result (λ found. (B.state book.new).is_clean ≡ true → found ≡ finds self.now policy.now (B.state book.old).content.registry) }
         ensures same { OnOk result (IsSame (B.state book.old) (B.state book.new)) }
         ensures fault { IfErr result (λ fault. GoesBack fault (B.state book.old) (B.state book.new)) }
-        ensures follows { Follows (B.state book.old) (B.state book.new) };
+        ensures follows { Follows (B.state book.old) (B.state book.new) }
+        ensures leaves { LeavesSame (B.state book.old) (B.state book.new) };
 }
 
 /// The domain under a name.
@@ -108,39 +110,25 @@ impl LookUp for AddressesAt<'_> {
     }
 }
 
-/// Lets time pass up to a moment in an open transaction, keeps that, and gives what is found then.
-pub(crate) fn look_up_in<B: Book, L: LookUp>(
-    book: &mut B,
-    alloc: Global,
-    what: &L,
-    moment: Moment,
-    policy: &Policy,
-) -> Result<L::Found, Fault>
-    requires { (B.state book.old).is_open ≡ true }
-    ensures step { IfOk result (λ found. LooksUp policy.now (L.finds what.now policy.now) moment found (B.state book.old) (B.state book.new)) }
-    ensures terms { OnOk result (SameTerms (B.state book.old) (B.state book.new)) }
-    ensures closed { (B.state book.new).is_open ≡ false }
-    ensures fault { IfErr result (λ fault. GoesBack fault (B.state book.old) (B.state book.new)) }
-    ensures follows { Follows (B.state book.old) (B.state book.new) }
-{
-    advance_clock(book, alloc, moment, policy)?;
-    let found = what.look(book, policy)?;
-    keep_with(book, found)
+/// A look-up at a moment.
+#[derive(Drop)]
+pub(crate) struct LookUpWork<'l, L> {
+    pub what: &'l L,
+    pub moment: Moment,
 }
 
-/// Keeps what an open transaction did, and gives what was found in it.
-fn keep_with<B: Book, T: Drop>(book: &mut B, found: T) -> Result<T, Fault>
-    requires { (B.state book.old).is_open ≡ true }
-    ensures found { IfOk result (λ it. it ≡ found) }
-    ensures kept { OnOk result (Commits (B.state book.old) (B.state book.new)) }
-    ensures fault { IfErr result (λ fault. GoesBack fault (B.state book.old) (B.state book.new)) }
-    ensures follows { Follows (B.state book.old) (B.state book.new) }
-{
-    match commit(book) {
-        Ok(()) => Ok(found),
-        Err(fault) => {
-            drop(found);
-            Err(fault)
-        }
+impl<L: LookUp> Work for LookUpWork<'_, L> {
+    type Answer = L::Found;
+
+    ghost step = { λ it p before after found. IsLookUp p (L.finds it.what.now p) it.moment before after found };
+
+    fn work<B: Book>(
+        &self,
+        book: &mut B,
+        alloc: Global,
+        policy: &Policy,
+    ) -> Result<L::Found, Fault> {
+        advance_clock(book, alloc, self.moment, policy)?;
+        self.what.look(book, policy)
     }
 }

@@ -2,7 +2,7 @@
 ghost use Rattle.std.specs.Prelude.{◌≡◌, true, IfOk, IfErr, OnOk};
 ghost use Rattle.registry.specs.Execution.{GoesBack};
 ghost use Rattle.registry.specs.Lapsing as spec;
-ghost use Rattle.store.specs.Book.{Follows, IsSame, Moves, with_changes};
+ghost use Rattle.store.specs.Book.{Follows, IsSame, LeavesSame, Moves, with_changes};
 ghost use Rattle.store.specs.Due.{due_by};
 ghost use Rattle.model.specs.Objects.{object_at};
 ghost use Rattle.rules.specs.Lapsing.{lapse_changes};
@@ -23,6 +23,7 @@ pub(crate) fn due<B: Book>(book: &mut B, moment: Moment, policy: &Policy) -> Res
     ensures same { OnOk result (IsSame (B.state book.old) (B.state book.new)) }
     ensures fault { IfErr result (λ fault. GoesBack fault (B.state book.old) (B.state book.new)) }
     ensures follows { Follows (B.state book.old) (B.state book.new) }
+    ensures leaves { LeavesSame (B.state book.old) (B.state book.new) }
 {
     Ok(book.due(moment, policy)?)
 }
@@ -38,6 +39,7 @@ pub(crate) fn lapse_all<B: Book>(
     ensures ok { OnOk result (Moves (B.state book.old) (B.state book.new) (spec.with_lapsed policy.now moment (B.state book.old).content)) }
     ensures fault { IfErr result (λ fault. GoesBack fault (B.state book.old) (B.state book.new)) }
     ensures follows { Follows (B.state book.old) (B.state book.new) }
+    ensures leaves { LeavesSame (B.state book.old) (B.state book.new) }
 {
     let due = due(book, moment, policy)?;
     lapse_each(book, alloc, due, moment, policy)
@@ -55,6 +57,7 @@ pub(crate) fn lapse_each<B: Book>(
     ensures ok { OnOk result (Moves (B.state book.old) (B.state book.new) (spec.with_dues_lapsed policy.now moment due (B.state book.old).content)) }
     ensures fault { IfErr result (λ fault. GoesBack fault (B.state book.old) (B.state book.new)) }
     ensures follows { Follows (B.state book.old) (B.state book.new) }
+    ensures leaves { LeavesSame (B.state book.old) (B.state book.new) }
 {
     for it in due.into_vec() {
         lapse_one(book, alloc, &it, moment, policy)?;
@@ -74,6 +77,7 @@ fn lapse_one<B: Book>(
     ensures ok { OnOk result (Moves (B.state book.old) (B.state book.new) (with_changes policy.now (lapse_changes policy.now moment due.now.name (object_at (B.state book.old).content.registry due.now.kind due.now.name)) (B.state book.old).content)) }
     ensures fault { IfErr result (λ fault. GoesBack fault (B.state book.old) (B.state book.new)) }
     ensures follows { Follows (B.state book.old) (B.state book.new) }
+    ensures leaves { LeavesSame (B.state book.old) (B.state book.new) }
 {
     let changes = changes_of(book, alloc, due, moment, policy)?;
     apply(book, changes, policy)
@@ -92,6 +96,7 @@ fn changes_of<B: Book>(
     ensures same { OnOk result (IsSame (B.state book.old) (B.state book.new)) }
     ensures fault { IfErr result (λ fault. GoesBack fault (B.state book.old) (B.state book.new)) }
     ensures follows { Follows (B.state book.old) (B.state book.new) }
+    ensures leaves { LeavesSame (B.state book.old) (B.state book.new) }
 {
     let object = object_at(book, due.kind, &due.name)?;
     let changes = lapse_changes(alloc, &due.name, &object, moment, policy);

@@ -4,6 +4,7 @@
 #![tactic(auto)]
 
 mod askable;
+mod command;
 mod faces;
 mod fault;
 mod greeting;
@@ -13,6 +14,7 @@ mod order;
 mod registry;
 mod settlement;
 mod transaction;
+mod work;
 
 pub use fault::{Fault, OpenFault};
 pub use registry::Registry;

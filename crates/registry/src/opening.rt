@@ -1,14 +1,15 @@
 //! How a book is opened under a policy.
 ghost use Rattle.std.specs.Prelude.{◌≡◌, ◌≢◌, true, false, IfOk, IfErr, OnOk};
 ghost use Rattle.policy.specs.Terms.{terms_of};
+ghost use Rattle.registry.specs.Crashes.{OpensTo, OutlivesOpening};
 ghost use Rattle.registry.specs.Execution.{GoesBack};
 ghost use Rattle.registry.specs.Opening as spec;
 ghost use Rattle.registry.specs.declared.fault.OpenFault.TheVariants as refusals;
-ghost use Rattle.registry.specs.Opening.{IsOpened, IsOurs, Opens, Refuses, RefusesOurs, TakesUp};
-ghost use Rattle.store.specs.Book.{Follows};
+ghost use Rattle.registry.specs.Opening.{IsOurs, Opens, Refuses, RefusesOurs, TakesUp};
+ghost use Rattle.store.specs.Book.{Follows, LeavesSame, Moves};
 
 use crate::fault::{Fault, OpenFault};
-use crate::transaction::{apply, commit, keep_terms, or_rollback, terms};
+use crate::transaction::{apply, keep_terms, or_rollback, terms};
 use basis::list::Seq;
 use basis::registrar::RegistrarNo;
 use policy::{Policy, Terms};
@@ -17,7 +18,7 @@ use std::alloc::{AllocError, Global};
 use store::{Book, BookFault, Ready};
 
 /// Opens a book, unless what keeps it is another's.
-#[tactic(auto, using(crate::proofs::OpeningLemmas::opens_later, crate::proofs::OpeningLemmas::refuses_later, crate::proofs::OpeningLemmas::is_others, crate::proofs::OpeningLemmas::is_ours, crate::proofs::OpeningLemmas::refuses_ours))]
+#[tactic(auto, using(crate::proofs::OpeningLemmas::opens_later, crate::proofs::OpeningLemmas::refuses_later, crate::proofs::OpeningLemmas::is_others, crate::proofs::OpeningLemmas::is_ours, crate::proofs::OpeningLemmas::refuses_ours, crate::proofs::CrashLemmas::gave_up, crate::proofs::CrashLemmas::left_alone, crate::proofs::CrashLemmas::opening_later))]
 pub(crate) fn open_in<B: Book>(
     book: &mut B,
     alloc: Global,
@@ -28,6 +29,7 @@ pub(crate) fn open_in<B: Book>(
     ensures ours { OnOk result (IsOurs (B.state book.old) (B.state book.new)) }
     ensures refused { IfErr result (λ fault. Refuses fault policy.now (B.state book.old) (B.state book.new)) }
     ensures refused_ours { IfErr result (λ fault. RefusesOurs fault (B.state book.old) (B.state book.new)) }
+    ensures crash { OutlivesOpening result policy.now (B.state book.old) (B.state book.new) }
     ensures follows { Follows (B.state book.old) (B.state book.new) }
 {
     match book.ready() {
@@ -39,11 +41,13 @@ pub(crate) fn open_in<B: Book>(
 }
 
 /// Opens a book in one transaction.
+#[tactic(auto, using(crate::proofs::CrashLemmas::gave_up, crate::proofs::CrashLemmas::left_alone, crate::proofs::CrashLemmas::kept_alone, crate::proofs::CrashLemmas::kept_or_not))]
 fn open_ours<B: Book>(book: &mut B, alloc: Global, policy: &Policy) -> Result<(), OpenFault>
     requires { (B.state book.old).is_open ≡ false }
     ensures opened { OnOk result (Opens policy.now (B.state book.old) (B.state book.new)) }
     ensures refused { IfErr result (λ fault. Refuses fault policy.now (B.state book.old) (B.state book.new)) }
     ensures known { IfErr result (λ fault. fault ≢ refusals.Schema) }
+    ensures crash { OutlivesOpening result policy.now (B.state book.old) (B.state book.new) }
     ensures follows { Follows (B.state book.old) (B.state book.new) }
 {
     match book.begin() {
@@ -51,20 +55,27 @@ fn open_ours<B: Book>(book: &mut B, alloc: Global, policy: &Policy) -> Result<()
         Err(BookFault::Memory) => return Err(OpenFault::Memory),
         Err(BookFault::Store) => return Err(OpenFault::Store),
     }
-    match open_in_transaction(book, alloc, policy) {
-        Ok(true) => Ok(()),
-        Ok(false) => Err(OpenFault::Policy),
-        Err(Fault::Store) => Err(OpenFault::Store),
-        Err(_) => Err(OpenFault::Memory),
+    match take_up(book, alloc, policy) {
+        Ok(true) => {}
+        Ok(false) => return Err(OpenFault::Policy),
+        Err(Fault::Store) => return Err(OpenFault::Store),
+        Err(_) => return Err(OpenFault::Memory),
+    }
+    match book.commit() {
+        Ok(()) => Ok(()),
+        Err(BookFault::Memory) => Err(OpenFault::Memory),
+        Err(BookFault::Store) => Err(OpenFault::Store),
     }
 }
 
-/// Opens a book, or goes back where the policy doesn't continue the terms that it was used under.
-fn open_in_transaction<B: Book>(book: &mut B, alloc: Global, policy: &Policy) -> Result<bool, Fault>
+/// Takes a book up in an open transaction, or goes back where the policy doesn't continue the terms that it
+/// was used under.
+fn take_up<B: Book>(book: &mut B, alloc: Global, policy: &Policy) -> Result<bool, Fault>
     requires { (B.state book.old).is_open ≡ true }
     ensures taken { IfOk result (λ taken. TakesUp taken policy.now (B.state book.old) (B.state book.new)) }
     ensures fault { IfErr result (λ fault. GoesBack fault (B.state book.old) (B.state book.new)) }
     ensures follows { Follows (B.state book.old) (B.state book.new) }
+    ensures leaves { LeavesSame (B.state book.old) (B.state book.new) }
 {
     let earlier = terms(book)?;
     let own = or_rollback(book, policy.terms(alloc))?;
@@ -93,14 +104,14 @@ fn continues_earlier(terms: &Terms, earlier: &Option<Terms>) -> bool
 fn install<B: Book>(book: &mut B, alloc: Global, policy: &Policy, own: Terms) -> Result<(), Fault>
     requires open { (B.state book.old).is_open ≡ true }
     requires own { own ≡ terms_of policy.now }
-    ensures opened { OnOk result (IsOpened policy.now (B.state book.old) (B.state book.new)) }
+    ensures opened { OnOk result (Moves (B.state book.old) (B.state book.new) (spec.opened policy.now (B.state book.old).content)) }
     ensures fault { IfErr result (λ fault. GoesBack fault (B.state book.old) (B.state book.new)) }
     ensures follows { Follows (B.state book.old) (B.state book.new) }
+    ensures leaves { LeavesSame (B.state book.old) (B.state book.new) }
 {
     let accounts = or_rollback(book, openings(alloc, policy.registrars()))?;
     apply(book, accounts, policy)?;
-    keep_terms(book, own)?;
-    commit(book)
+    keep_terms(book, own)
 }
 
 /// An account for each of the first registrars.

@@ -1,12 +1,13 @@
 //! How an order of the operator is carried out.
-ghost use Rattle.std.specs.Prelude.{◌≡◌, true, false, IfOk, IfErr, OnOk};
-ghost use Rattle.registry.specs.Execution.{GoesBack, Keeps, OrderSteps, SameTerms};
+ghost use Rattle.std.specs.Prelude.{◌≡◌, true, IfOk, IfErr, OnOk};
+ghost use Rattle.registry.specs.Execution.{GoesBack, IsOrderStep, IsWithin, OrderSteps, SameTerms};
 ghost use Rattle.rules.specs.Orders.{deposit_decision, status_decision};
-ghost use Rattle.store.specs.Book.{Follows, IsSame, with_changes};
+ghost use Rattle.store.specs.Book.{Follows, IsSame, LeavesSame, Moves, with_changes};
 ghost use Rattle.model.specs.Objects.{object_ordered};
 
 use crate::fault::Fault;
-use crate::transaction::{advance_clock, keep, object_at, or_rollback};
+use crate::transaction::{advance_clock, apply, object_at, or_rollback};
+use crate::work::Work;
 use basis::text::Text;
 use calendar::Moment;
 use model::Object;
@@ -16,8 +17,25 @@ use rules::{OrderDecision, decide_deposit, decide_order};
 use std::alloc::Global;
 use store::Book;
 
-/// Carries out an order in an open transaction, and keeps what it did.
-pub(crate) fn execute_order_in<B: Book>(
+/// An order of the operator at a moment.
+#[derive(Drop)]
+pub(crate) struct OrderWork<'o> {
+    pub order: &'o Order,
+    pub moment: Moment,
+}
+
+impl Work for OrderWork<'_> {
+    type Answer = Code;
+
+    ghost step = { λ it p before after code. IsOrderStep p it.order.now it.moment before after code };
+
+    fn work<B: Book>(&self, book: &mut B, alloc: Global, policy: &Policy) -> Result<Code, Fault> {
+        execute_order_in(book, alloc, self.order, self.moment, policy)
+    }
+}
+
+/// Carries out an order in an open transaction.
+fn execute_order_in<B: Book>(
     book: &mut B,
     alloc: Global,
     order: &Order,
@@ -27,9 +45,10 @@ pub(crate) fn execute_order_in<B: Book>(
     requires { (B.state book.old).is_open ≡ true }
     ensures step { IfOk result (λ code. OrderSteps policy.now order.now moment code (B.state book.old) (B.state book.new)) }
     ensures terms { OnOk result (SameTerms (B.state book.old) (B.state book.new)) }
-    ensures closed { (B.state book.new).is_open ≡ false }
+    ensures within { OnOk result (IsWithin (B.state book.old) (B.state book.new)) }
     ensures fault { IfErr result (λ fault. GoesBack fault (B.state book.old) (B.state book.new)) }
     ensures follows { Follows (B.state book.old) (B.state book.new) }
+    ensures leaves { LeavesSame (B.state book.old) (B.state book.new) }
 {
     let now = advance_clock(book, alloc, moment, policy)?;
     match order {
@@ -40,7 +59,7 @@ pub(crate) fn execute_order_in<B: Book>(
     }
 }
 
-/// Sets and takes away statuses in an open transaction, and keeps them.
+/// Sets and takes away statuses in an open transaction.
 fn set_statuses<B: Book>(
     book: &mut B,
     alloc: Global,
@@ -49,17 +68,18 @@ fn set_statuses<B: Book>(
 ) -> Result<Code, Fault>
     requires { (B.state book.old).is_open ≡ true }
     ensures code { IfOk result (λ code. (B.state book.new).is_clean ≡ true → code ≡ (status_decision policy.now.zone order.now (B.state book.old).content.registry).code) }
-    ensures kept { OnOk result (Keeps (B.state book.old) (B.state book.new) (with_changes policy.now (status_decision policy.now.zone order.now (B.state book.old).content.registry).changes (B.state book.old).content)) }
+    ensures made { OnOk result (Moves (B.state book.old) (B.state book.new) (with_changes policy.now (status_decision policy.now.zone order.now (B.state book.old).content.registry).changes (B.state book.old).content)) }
     ensures fault { IfErr result (λ fault. GoesBack fault (B.state book.old) (B.state book.new)) }
     ensures follows { Follows (B.state book.old) (B.state book.new) }
+    ensures leaves { LeavesSame (B.state book.old) (B.state book.new) }
 {
     let object = object_ordered(book, alloc, order, policy)?;
     let OrderDecision { code, changes } = or_rollback(book, decide_order(alloc, order, object))?;
-    keep(book, changes, policy)?;
+    apply(book, changes, policy)?;
     Ok(code)
 }
 
-/// Enters what a registrar paid, in an open transaction, and keeps it.
+/// Enters what a registrar paid, in an open transaction.
 fn deposit<B: Book>(
     book: &mut B,
     alloc: Global,
@@ -70,13 +90,14 @@ fn deposit<B: Book>(
 ) -> Result<Code, Fault>
     requires { (B.state book.old).is_open ≡ true }
     ensures code { IfOk result (λ code. code ≡ (deposit_decision policy.now now registrar.now cents).code) }
-    ensures kept { OnOk result (Keeps (B.state book.old) (B.state book.new) (with_changes policy.now (deposit_decision policy.now now registrar.now cents).changes (B.state book.old).content)) }
+    ensures made { OnOk result (Moves (B.state book.old) (B.state book.new) (with_changes policy.now (deposit_decision policy.now now registrar.now cents).changes (B.state book.old).content)) }
     ensures fault { IfErr result (λ fault. GoesBack fault (B.state book.old) (B.state book.new)) }
     ensures follows { Follows (B.state book.old) (B.state book.new) }
+    ensures leaves { LeavesSame (B.state book.old) (B.state book.new) }
 {
     let decided = decide_deposit(alloc, registrar, cents, now, policy);
     let OrderDecision { code, changes } = or_rollback(book, decided)?;
-    keep(book, changes, policy)?;
+    apply(book, changes, policy)?;
     Ok(code)
 }
 
@@ -92,6 +113,7 @@ fn object_ordered<B: Book>(
     ensures same { OnOk result (IsSame (B.state book.old) (B.state book.new)) }
     ensures fault { IfErr result (λ fault. GoesBack fault (B.state book.old) (B.state book.new)) }
     ensures follows { Follows (B.state book.old) (B.state book.new) }
+    ensures leaves { LeavesSame (B.state book.old) (B.state book.new) }
 {
     match or_rollback(book, order.object_name(alloc, policy.zone()))? {
         None => Ok(None),

@@ -1,43 +1,36 @@
 //! The registry.
-ghost use Rattle.std.specs.Prelude.{◌≡◌, ◌≢◌, ◌<◌, nat_lt, true, false, ◌↔◌, IfOk, IfErr, OnOk, Ok, Err, Some};
+ghost use Rattle.std.specs.Prelude.{◌≡◌, ◌≢◌, ◌<◌, nat_lt, true, false, ◌↔◌, IfOk, IfErr, OnOk, Err, Some};
 ghost use Rattle.std.proofs.Props.{props};
 ghost use Rattle.std.specs.Coded.{codes};
-ghost use Rattle.accounts.specs.Account.{saturating_next};
 ghost use Rattle.basis.specs.Sets.{names_code};
 ghost use Rattle.policy.specs.Rules.{IsRegistrar, IsSound};
 ghost use Rattle.policy.specs.Terms.{terms_of};
-ghost use Rattle.registry.specs.Calls.{CallKeeps, IsOpenedAs, IsRefused, LooksUpKeeping, StepKeeps};
-ghost use Rattle.registry.specs.Execution.{Fails, GoesBack, Greets, IsPrepared, Isolates, Keeps, OrderSteps, SameTerms, Settles, Steps, last_call};
-ghost use Rattle.registry.specs.Faces.{LooksUp};
 ghost use Rattle.privacy.specs.Runs as two_runs;
-ghost use Rattle.rules.specs.Steps.{reply_of};
-ghost use Rattle.store.specs.Book.{Follows, IsSame, with_changes};
+ghost use Rattle.registry.specs.Calls.{CallKeeps, IsOpenedAs, IsRefused, LooksUpKeeping, StepKeeps};
+ghost use Rattle.registry.specs.Crashes.{Makes};
+ghost use Rattle.registry.specs.Execution.{Fails, Greets, IsGreetingStep, IsOrderStep, IsSettlement, IsStep, Isolates, OrderSteps, Settles, Steps, last_call};
+ghost use Rattle.registry.specs.Faces.{IsLookUp, LooksUp};
 ghost use Rattle.store.specs.Faces.{contact_face_at, domain_face_at, domain_names, host_addresses_at, host_face_at};
-ghost use Rattle.facts.specs.Facts.{facts};
-ghost use Rattle.verdict.specs.ResponseData.{id_of};
-ghost use Rattle.protocol.specs.Requests.{cl_trid_of};
 
 use crate::askable::can_be_asked;
-use crate::faces::{AddressesAt, ContactAt, DomainAt, DomainNames, HostAt, LookUp, look_up_in};
+use crate::command::CommandWork;
+use crate::faces::{AddressesAt, ContactAt, DomainAt, DomainNames, HostAt, LookUp, LookUpWork};
 use crate::fault::{Fault, OpenFault};
-use crate::greeting::greet_in;
+use crate::greeting::GreetingWork;
 use crate::opening::open_in;
-use crate::order::execute_order_in;
-use crate::settlement::settle_in;
-use crate::transaction::{advance_clock, facts_for, keep, or_rollback};
+use crate::order::OrderWork;
+use crate::settlement::SettlementWork;
+use crate::work::{Work, keep};
 use basis::list::Seq;
 use basis::registrar::RegistrarNo;
-use basis::text::{Text, copied};
+use basis::text::Text;
 use calendar::Moment;
-use facts::Facts;
 use names::{DomainName, HostName};
 use objects::{ContactFace, DomainFace, HostFace};
 use policy::Policy;
-use protocol::{Code, Command, Order, Reply, SvTrid};
-use rules::{Change, decide};
-use std::alloc::{AllocError, Global};
+use protocol::{Code, Command, Order, Reply};
+use std::alloc::Global;
 use store::Book;
-use verdict::{Verdict, id_of};
 
 /// The latest moment at which a call is taken: 2099-12-31T23:59:59Z.
 pub const LAST_CALL: u64 = 4_102_444_799;
@@ -109,16 +102,21 @@ impl<B: Book + Drop> Registry<B> {
         requires { IsRegistrar self.old.policy caller }
         ensures step { IfOk result (λ reply. Steps self.old.policy caller command.now moment reply (B.state self.old.book) (B.state self.new.book)) }
         ensures isolation { IfOk result (λ reply. Isolates self.old.policy caller command.now moment reply (B.state self.old.book) (B.state self.new.book)) }
-        ensures keeps { CallKeeps self.old.policy moment (two_runs.command caller command.now) two_runs.reply result
-            self.new.policy (B.state self.old.book) (B.state self.new.book) }
         ensures fault { IfErr result (λ fault. Fails fault (B.state self.old.book) (B.state self.new.book)) }
+        ensures keeps { CallKeeps self.old.policy moment (two_runs.command caller command.now) two_runs.reply
+            (Makes (IsStep self.old.policy caller command.now moment)) result
+            self.new.policy (B.state self.old.book) (B.state self.new.book) }
         ensures late { (result ≡ Err Fault.Moment) ↔ (last_call < moment) }
     {
         if is_late(moment) {
             return Err(Fault::Moment);
         }
         can_be_asked(command);
-        self.step(caller, command, moment)
+        self.transact(&CommandWork {
+            caller,
+            command,
+            moment,
+        })
     }
 
     /// Carries out an order of the operator at a moment; one before the clock counts as the clock.
@@ -128,15 +126,16 @@ impl<B: Book + Drop> Registry<B> {
     /// A well formed registry stays well formed.
     pub fn operator(&mut self, order: &Order, moment: Moment) -> Result<Code, Fault>
         ensures step { IfOk result (λ code. OrderSteps self.old.policy order.now moment code (B.state self.old.book) (B.state self.new.book)) }
-        ensures keeps { CallKeeps self.old.policy moment (two_runs.order order.now) two_runs.code result
-            self.new.policy (B.state self.old.book) (B.state self.new.book) }
         ensures fault { IfErr result (λ fault. Fails fault (B.state self.old.book) (B.state self.new.book)) }
+        ensures keeps { CallKeeps self.old.policy moment (two_runs.order order.now) two_runs.code
+            (Makes (IsOrderStep self.old.policy order.now moment)) result
+            self.new.policy (B.state self.old.book) (B.state self.new.book) }
         ensures late { (result ≡ Err Fault.Moment) ↔ (last_call < moment) }
     {
         if is_late(moment) {
             return Err(Fault::Moment);
         }
-        self.order_step(order, moment)
+        self.transact(&OrderWork { order, moment })
     }
 
     /// Answers hello at a moment with the server's date (RFC 5730, 2.4), which is the clock; a moment
@@ -144,15 +143,16 @@ impl<B: Book + Drop> Registry<B> {
     /// stays well formed.
     pub fn greet(&mut self, moment: Moment) -> Result<Moment, Fault>
         ensures step { IfOk result (λ date. Greets self.old.policy moment date (B.state self.old.book) (B.state self.new.book)) }
-        ensures keeps { CallKeeps self.old.policy moment two_runs.date two_runs.dated result
-            self.new.policy (B.state self.old.book) (B.state self.new.book) }
         ensures fault { IfErr result (λ fault. Fails fault (B.state self.old.book) (B.state self.new.book)) }
+        ensures keeps { CallKeeps self.old.policy moment two_runs.date two_runs.dated
+            (Makes (IsGreetingStep self.old.policy moment)) result
+            self.new.policy (B.state self.old.book) (B.state self.new.book) }
         ensures late { (result ≡ Err Fault.Moment) ↔ (last_call < moment) }
     {
         if is_late(moment) {
             return Err(Fault::Moment);
         }
-        self.greeting_step(moment)
+        self.transact(&GreetingWork { moment })
     }
 
     /// Lets objects lapse that are due by a moment, the first so many by due moment, contacts first, by
@@ -160,15 +160,16 @@ impl<B: Book + Drop> Registry<B> {
     /// call can tell whether it was done, but this one. A well formed registry stays well formed.
     pub fn settle(&mut self, moment: Moment, at_most: u32) -> Result<u32, Fault>
         ensures step { IfOk result (λ done. Settles self.old.policy moment at_most done (B.state self.old.book) (B.state self.new.book)) }
-        ensures keeps { LooksUpKeeping self.old.policy moment result
-            self.new.policy (B.state self.old.book) (B.state self.new.book) }
         ensures fault { IfErr result (λ fault. Fails fault (B.state self.old.book) (B.state self.new.book)) }
+        ensures keeps { LooksUpKeeping self.old.policy moment
+            (Makes (IsSettlement self.old.policy moment at_most)) result
+            self.new.policy (B.state self.old.book) (B.state self.new.book) }
         ensures late { (result ≡ Err Fault.Moment) ↔ (last_call < moment) }
     {
         if is_late(moment) {
             return Err(Fault::Moment);
         }
-        self.settlement(moment, at_most)
+        self.transact(&SettlementWork { moment, at_most })
     }
 
     /// What everyone may know of the domain under a name at a moment; a moment before the clock counts
@@ -179,9 +180,10 @@ impl<B: Book + Drop> Registry<B> {
         moment: Moment,
     ) -> Result<Option<DomainFace>, Fault>
         ensures step { IfOk result (λ found. LooksUp self.old.policy (λ s. domain_face_at self.old.policy s name.now) moment found (B.state self.old.book) (B.state self.new.book)) }
-        ensures keeps { LooksUpKeeping self.old.policy moment result
-            self.new.policy (B.state self.old.book) (B.state self.new.book) }
         ensures fault { IfErr result (λ fault. Fails fault (B.state self.old.book) (B.state self.new.book)) }
+        ensures keeps { LooksUpKeeping self.old.policy moment
+            (Makes (IsLookUp self.old.policy (λ s. domain_face_at self.old.policy s name.now) moment)) result
+            self.new.policy (B.state self.old.book) (B.state self.new.book) }
         ensures late { (result ≡ Err Fault.Moment) ↔ (last_call < moment) }
     {
         self.look_up(&DomainAt(name.text()), moment)
@@ -190,9 +192,10 @@ impl<B: Book + Drop> Registry<B> {
     /// The same of the host under a name.
     pub fn host_face(&mut self, name: &HostName, moment: Moment) -> Result<Option<HostFace>, Fault>
         ensures step { IfOk result (λ found. LooksUp self.old.policy (λ s. host_face_at self.old.policy s name.now) moment found (B.state self.old.book) (B.state self.new.book)) }
-        ensures keeps { LooksUpKeeping self.old.policy moment result
-            self.new.policy (B.state self.old.book) (B.state self.new.book) }
         ensures fault { IfErr result (λ fault. Fails fault (B.state self.old.book) (B.state self.new.book)) }
+        ensures keeps { LooksUpKeeping self.old.policy moment
+            (Makes (IsLookUp self.old.policy (λ s. host_face_at self.old.policy s name.now) moment)) result
+            self.new.policy (B.state self.old.book) (B.state self.new.book) }
         ensures late { (result ≡ Err Fault.Moment) ↔ (last_call < moment) }
     {
         self.look_up(&HostAt(name.text()), moment)
@@ -205,9 +208,10 @@ impl<B: Book + Drop> Registry<B> {
         moment: Moment,
     ) -> Result<Option<ContactFace>, Fault>
         ensures step { IfOk result (λ found. LooksUp self.old.policy (λ s. contact_face_at s name.now) moment found (B.state self.old.book) (B.state self.new.book)) }
-        ensures keeps { LooksUpKeeping self.old.policy moment result
-            self.new.policy (B.state self.old.book) (B.state self.new.book) }
         ensures fault { IfErr result (λ fault. Fails fault (B.state self.old.book) (B.state self.new.book)) }
+        ensures keeps { LooksUpKeeping self.old.policy moment
+            (Makes (IsLookUp self.old.policy (λ s. contact_face_at s name.now) moment)) result
+            self.new.policy (B.state self.old.book) (B.state self.new.book) }
         ensures late { (result ≡ Err Fault.Moment) ↔ (last_call < moment) }
     {
         self.look_up(&ContactAt(name), moment)
@@ -216,9 +220,10 @@ impl<B: Book + Drop> Registry<B> {
     /// The names of all domains at a moment, in their order.
     pub fn domain_names(&mut self, moment: Moment) -> Result<Seq<Text>, Fault>
         ensures step { IfOk result (λ found. LooksUp self.old.policy (domain_names) moment found (B.state self.old.book) (B.state self.new.book)) }
-        ensures keeps { LooksUpKeeping self.old.policy moment result
-            self.new.policy (B.state self.old.book) (B.state self.new.book) }
         ensures fault { IfErr result (λ fault. Fails fault (B.state self.old.book) (B.state self.new.book)) }
+        ensures keeps { LooksUpKeeping self.old.policy moment
+            (Makes (IsLookUp self.old.policy domain_names moment)) result
+            self.new.policy (B.state self.old.book) (B.state self.new.book) }
         ensures late { (result ≡ Err Fault.Moment) ↔ (last_call < moment) }
     {
         self.look_up(&DomainNames, moment)
@@ -231,9 +236,10 @@ impl<B: Book + Drop> Registry<B> {
         moment: Moment,
     ) -> Result<Option<DomainFace>, Fault>
         ensures step { IfOk result (λ found. LooksUp self.old.policy (λ s. domain_face_at self.old.policy s name.now) moment found (B.state self.old.book) (B.state self.new.book)) }
-        ensures keeps { LooksUpKeeping self.old.policy moment result
-            self.new.policy (B.state self.old.book) (B.state self.new.book) }
         ensures fault { IfErr result (λ fault. Fails fault (B.state self.old.book) (B.state self.new.book)) }
+        ensures keeps { LooksUpKeeping self.old.policy moment
+            (Makes (IsLookUp self.old.policy (λ s. domain_face_at self.old.policy s name.now) moment)) result
+            self.new.policy (B.state self.old.book) (B.state self.new.book) }
         ensures late { (result ≡ Err Fault.Moment) ↔ (last_call < moment) }
     {
         self.look_up(&DomainAt(name), moment)
@@ -246,9 +252,10 @@ impl<B: Book + Drop> Registry<B> {
         moment: Moment,
     ) -> Result<Option<Seq<Text>>, Fault>
         ensures step { IfOk result (λ found. LooksUp self.old.policy (λ s. host_addresses_at s name.now) moment found (B.state self.old.book) (B.state self.new.book)) }
-        ensures keeps { LooksUpKeeping self.old.policy moment result
-            self.new.policy (B.state self.old.book) (B.state self.new.book) }
         ensures fault { IfErr result (λ fault. Fails fault (B.state self.old.book) (B.state self.new.book)) }
+        ensures keeps { LooksUpKeeping self.old.policy moment
+            (Makes (IsLookUp self.old.policy (λ s. host_addresses_at s name.now) moment)) result
+            self.new.policy (B.state self.old.book) (B.state self.new.book) }
         ensures late { (result ≡ Err Fault.Moment) ↔ (last_call < moment) }
     {
         self.look_up(&AddressesAt(name), moment)
@@ -257,211 +264,28 @@ impl<B: Book + Drop> Registry<B> {
     /// Looks something up at a moment, which every call may do that tells what everyone may know.
     fn look_up<L: LookUp>(&mut self, what: &L, moment: Moment) -> Result<L::Found, Fault>
         ensures step { IfOk result (λ found. LooksUp self.old.policy (L.finds what.now self.old.policy) moment found (B.state self.old.book) (B.state self.new.book)) }
-        ensures keeps { LooksUpKeeping self.old.policy moment result
-            self.new.policy (B.state self.old.book) (B.state self.new.book) }
         ensures fault { IfErr result (λ fault. Fails fault (B.state self.old.book) (B.state self.new.book)) }
+        ensures keeps { LooksUpKeeping self.old.policy moment
+            (Makes (IsLookUp self.old.policy (L.finds what.now self.old.policy) moment)) result
+            self.new.policy (B.state self.old.book) (B.state self.new.book) }
         ensures late { (result ≡ Err Fault.Moment) ↔ (last_call < moment) }
     {
         if is_late(moment) {
             return Err(Fault::Moment);
         }
-        self.look_up_step(what, moment)
+        self.transact(&LookUpWork { what, moment })
     }
 
-    /// Looks something up at a moment, in a transaction.
-    fn look_up_step<L: LookUp>(&mut self, what: &L, moment: Moment) -> Result<L::Found, Fault>
-        ensures step { IfOk result (λ found. LooksUp self.old.policy (L.finds what.now self.old.policy) moment found (B.state self.old.book) (B.state self.new.book)) }
-        ensures keeps { StepKeeps self.old.policy result self.new.policy (B.state self.old.book) (B.state self.new.book) }
+    /// Does the work of a call in a transaction of its own, and keeps what it did.
+    #[tactic(auto, using(crate::proofs::CrashLemmas::gave_up_by, crate::proofs::CrashLemmas::outlives_later))]
+    fn transact<W: Work>(&mut self, work: &W) -> Result<W::Answer, Fault>
+        ensures step { IfOk result (λ answer. (B.state self.new.book).is_clean ≡ true → W.step work.now self.old.policy (B.state self.old.book).content.registry (B.state self.new.book).content.registry answer) }
         ensures fault { IfErr result (λ fault. Fails fault (B.state self.old.book) (B.state self.new.book)) }
+        ensures keeps { StepKeeps self.old.policy (Makes (W.step work.now self.old.policy)) result
+            self.new.policy (B.state self.old.book) (B.state self.new.book) }
         ensures early { result ≢ Err Fault.Moment }
     {
         self.book.begin()?;
-        look_up_in(&mut self.book, self.alloc, what, moment, &self.policy)
+        keep(&mut self.book, self.alloc, work, &self.policy)
     }
-
-    /// Settles some of what is due.
-    fn settlement(&mut self, moment: Moment, at_most: u32) -> Result<u32, Fault>
-        ensures step { IfOk result (λ done. Settles self.old.policy moment at_most done (B.state self.old.book) (B.state self.new.book)) }
-        ensures keeps { StepKeeps self.old.policy result self.new.policy (B.state self.old.book) (B.state self.new.book) }
-        ensures fault { IfErr result (λ fault. Fails fault (B.state self.old.book) (B.state self.new.book)) }
-        ensures early { result ≢ Err Fault.Moment }
-    {
-        self.book.begin()?;
-        settle_in(&mut self.book, self.alloc, moment, at_most, &self.policy)
-    }
-
-    /// Answers hello by the rules.
-    fn greeting_step(&mut self, moment: Moment) -> Result<Moment, Fault>
-        ensures step { IfOk result (λ date. Greets self.old.policy moment date (B.state self.old.book) (B.state self.new.book)) }
-        ensures keeps { StepKeeps self.old.policy result self.new.policy (B.state self.old.book) (B.state self.new.book) }
-        ensures fault { IfErr result (λ fault. Fails fault (B.state self.old.book) (B.state self.new.book)) }
-        ensures early { result ≢ Err Fault.Moment }
-    {
-        self.book.begin()?;
-        greet_in(&mut self.book, self.alloc, moment, &self.policy)
-    }
-
-    /// Carries out an order by the rules.
-    fn order_step(&mut self, order: &Order, moment: Moment) -> Result<Code, Fault>
-        ensures step { IfOk result (λ code. OrderSteps self.old.policy order.now moment code (B.state self.old.book) (B.state self.new.book)) }
-        ensures keeps { StepKeeps self.old.policy result self.new.policy (B.state self.old.book) (B.state self.new.book) }
-        ensures fault { IfErr result (λ fault. Fails fault (B.state self.old.book) (B.state self.new.book)) }
-        ensures early { result ≢ Err Fault.Moment }
-    {
-        self.book.begin()?;
-        execute_order_in(&mut self.book, self.alloc, order, moment, &self.policy)
-    }
-
-    /// Answers a command by the rules.
-    fn step(
-        &mut self,
-        caller: RegistrarNo,
-        command: &Command,
-        moment: Moment,
-    ) -> Result<Reply, Fault>
-        ensures step { IfOk result (λ reply. Steps self.old.policy caller command.now moment reply (B.state self.old.book) (B.state self.new.book)) }
-        ensures keeps { StepKeeps self.old.policy result self.new.policy (B.state self.old.book) (B.state self.new.book) }
-        ensures fault { IfErr result (λ fault. Fails fault (B.state self.old.book) (B.state self.new.book)) }
-        ensures early { result ≢ Err Fault.Moment }
-    {
-        self.book.begin()?;
-        execute_in(
-            &mut self.book,
-            self.alloc,
-            caller,
-            command,
-            moment,
-            &self.policy,
-        )
-    }
-}
-
-/// Answers a command in an open transaction, and keeps what it did.
-fn execute_in<B: Book>(
-    book: &mut B,
-    alloc: Global,
-    caller: RegistrarNo,
-    command: &Command,
-    moment: Moment,
-    policy: &Policy,
-) -> Result<Reply, Fault>
-    requires { (B.state book.old).is_open ≡ true }
-    ensures step { IfOk result (λ reply. Steps policy.now caller command.now moment reply (B.state book.old) (B.state book.new)) }
-    ensures terms { OnOk result (SameTerms (B.state book.old) (B.state book.new)) }
-    ensures closed { (B.state book.new).is_open ≡ false }
-    ensures fault { IfErr result (λ fault. GoesBack fault (B.state book.old) (B.state book.new)) }
-    ensures follows { Follows (B.state book.old) (B.state book.new) }
-{
-    let now = advance_clock(book, alloc, moment, policy)?;
-    let prepared = prepare(book, alloc, caller, command, now, policy)?;
-    keep_prepared(book, prepared, policy)
-}
-
-/// A reply, and the changes that go with it.
-#[derive(Drop)]
-struct Prepared {
-    reply: Reply,
-    changes: Seq<Change>,
-}
-
-/// Decides on a command in an open transaction, and writes the reply.
-fn prepare<B: Book>(
-    book: &mut B,
-    alloc: Global,
-    caller: RegistrarNo,
-    command: &Command,
-    now: Moment,
-    policy: &Policy,
-) -> Result<Prepared, Fault>
-    requires { (B.state book.old).is_open ≡ true }
-    ensures prepared { IfOk result (λ prepared. (B.state book.new).is_clean ≡ true → IsPrepared policy.now caller command.now now (facts policy.now caller command.now (B.state book.old).content.registry) prepared) }
-    ensures same { OnOk result (IsSame (B.state book.old) (B.state book.new)) }
-    ensures fault { IfErr result (λ fault. GoesBack fault (B.state book.old) (B.state book.new)) }
-    ensures follows { Follows (B.state book.old) (B.state book.new) }
-{
-    let facts = facts_for(book, caller, command, policy)?;
-    let prepared = prepared_by(alloc, &facts, caller, command, now, policy);
-    drop(facts);
-    or_rollback(book, prepared)
-}
-
-/// Decides on a command by the facts that bear on it, and writes the reply.
-fn prepared_by(
-    alloc: Global,
-    facts: &Facts,
-    caller: RegistrarNo,
-    command: &Command,
-    now: Moment,
-    policy: &Policy,
-) -> Result<Prepared, AllocError>
-    ensures { IfOk result (λ prepared. IsPrepared policy.now caller command.now now facts.now prepared) }
-{
-    let decision = decide(alloc, facts, caller, command, now, policy)?;
-    Ok(Prepared {
-        reply: reply_to(alloc, policy, caller, command, decision.verdict, facts)?,
-        changes: decision.changes,
-    })
-}
-
-/// Makes the changes in an open transaction and keeps them, and gives the reply.
-fn keep_prepared<B: Book>(book: &mut B, prepared: Prepared, policy: &Policy) -> Result<Reply, Fault>
-    requires { (B.state book.old).is_open ≡ true }
-    ensures reply { IfOk result (λ reply. reply ≡ prepared.reply) }
-    ensures kept { OnOk result (Keeps (B.state book.old) (B.state book.new) (with_changes policy.now prepared.changes (B.state book.old).content)) }
-    ensures fault { IfErr result (λ fault. GoesBack fault (B.state book.old) (B.state book.new)) }
-    ensures follows { Follows (B.state book.old) (B.state book.new) }
-{
-    let Prepared { reply, changes } = prepared;
-    match keep(book, changes, policy) {
-        Ok(()) => Ok(reply),
-        Err(fault) => {
-            drop(reply);
-            Err(fault)
-        }
-    }
-}
-
-/// The reply to a verdict, numbered by the caller's own commands.
-fn reply_to(
-    alloc: Global,
-    policy: &Policy,
-    caller: RegistrarNo,
-    command: &Command,
-    verdict: Verdict,
-    facts: &Facts,
-) -> Result<Reply, AllocError>
-    ensures { IfOk result (λ reply. reply ≡ reply_of policy.now caller command.now verdict facts.now.account.commands) }
-{
-    let (cl_trid, sv_trid) = match identifiers(alloc, policy, caller, command, facts) {
-        Ok(identifiers) => identifiers,
-        Err(error) => {
-            drop(verdict);
-            return Err(error);
-        }
-    };
-    Ok(Reply {
-        cl_trid,
-        code: verdict.code,
-        content: verdict.content,
-        sv_trid,
-    })
-}
-
-/// The command's own identifier, and the registry's.
-fn identifiers(
-    alloc: Global,
-    policy: &Policy,
-    caller: RegistrarNo,
-    command: &Command,
-    facts: &Facts,
-) -> Result<(Option<Text>, SvTrid), AllocError>
-    ensures cl_trid { IfOk result (λ it. it.0 ≡ cl_trid_of command.now) }
-    ensures sv_trid { IfOk result (λ it. it.1 ≡ record { id = id_of policy.now caller; number = saturating_next facts.now.account.commands }) }
-{
-    let cl_trid = copied(command.cl_trid())?;
-    let sv_trid = SvTrid {
-        id: id_of(alloc, policy, caller)?,
-        number: facts.account.next_command(),
-    };
-    Ok((cl_trid, sv_trid))
 }

@@ -1,7 +1,7 @@
 //! The steps of a transaction, each with one kind of fault: it then went back.
 ghost use Rattle.std.specs.Prelude.{◌≡◌, ◌∷◌, [], max, true, IfOk, IfErr, OnOk, Ok};
-ghost use Rattle.registry.specs.Execution.{GoesBack, Keeps, at_moment};
-ghost use Rattle.store.specs.Book.{Commits, Follows, IsSame, Moves, with_changes, with_terms};
+ghost use Rattle.registry.specs.Execution.{GoesBack, at_moment};
+ghost use Rattle.store.specs.Book.{Commits, Follows, IsSame, LeavesHeld, LeavesSame, Moves, with_changes, with_terms};
 ghost use Rattle.facts.specs.Facts.{facts};
 ghost use Rattle.model.specs.Objects.{object_at};
 
@@ -27,6 +27,7 @@ pub(crate) fn or_rollback<B: Book, T>(book: &mut B, made: Result<T, AllocError>)
     ensures same { OnOk result (book.new ≡ book.old) }
     ensures fault { IfErr result (λ fault. GoesBack fault (B.state book.old) (B.state book.new)) }
     ensures follows { Follows (B.state book.old) (B.state book.new) }
+    ensures leaves { LeavesSame (B.state book.old) (B.state book.new) }
 {
     match made {
         Ok(value) => Ok(value),
@@ -44,6 +45,7 @@ pub(crate) fn clock<B: Book>(book: &mut B) -> Result<Moment, Fault>
     ensures same { OnOk result (IsSame (B.state book.old) (B.state book.new)) }
     ensures fault { IfErr result (λ fault. GoesBack fault (B.state book.old) (B.state book.new)) }
     ensures follows { Follows (B.state book.old) (B.state book.new) }
+    ensures leaves { LeavesSame (B.state book.old) (B.state book.new) }
 {
     Ok(book.clock()?)
 }
@@ -60,6 +62,7 @@ pub(crate) fn facts_for<B: Book>(
     ensures same { OnOk result (IsSame (B.state book.old) (B.state book.new)) }
     ensures fault { IfErr result (λ fault. GoesBack fault (B.state book.old) (B.state book.new)) }
     ensures follows { Follows (B.state book.old) (B.state book.new) }
+    ensures leaves { LeavesSame (B.state book.old) (B.state book.new) }
 {
     Ok(book.facts_for(caller, command, policy)?)
 }
@@ -75,6 +78,7 @@ pub(crate) fn object_at<B: Book>(
     ensures same { OnOk result (IsSame (B.state book.old) (B.state book.new)) }
     ensures fault { IfErr result (λ fault. GoesBack fault (B.state book.old) (B.state book.new)) }
     ensures follows { Follows (B.state book.old) (B.state book.new) }
+    ensures leaves { LeavesSame (B.state book.old) (B.state book.new) }
 {
     Ok(book.object_at(kind, name)?)
 }
@@ -89,6 +93,7 @@ pub(crate) fn apply<B: Book>(
     ensures ok { OnOk result (Moves (B.state book.old) (B.state book.new) (with_changes policy.now changes (B.state book.old).content)) }
     ensures fault { IfErr result (λ fault. GoesBack fault (B.state book.old) (B.state book.new)) }
     ensures follows { Follows (B.state book.old) (B.state book.new) }
+    ensures leaves { LeavesSame (B.state book.old) (B.state book.new) }
 {
     Ok(book.apply(changes, policy)?)
 }
@@ -100,6 +105,7 @@ pub(crate) fn terms<B: Book>(book: &mut B) -> Result<Option<Terms>, Fault>
     ensures same { OnOk result (IsSame (B.state book.old) (B.state book.new)) }
     ensures fault { IfErr result (λ fault. GoesBack fault (B.state book.old) (B.state book.new)) }
     ensures follows { Follows (B.state book.old) (B.state book.new) }
+    ensures leaves { LeavesSame (B.state book.old) (B.state book.new) }
 {
     Ok(book.terms()?)
 }
@@ -110,6 +116,7 @@ pub(crate) fn keep_terms<B: Book>(book: &mut B, terms: Terms) -> Result<(), Faul
     ensures ok { OnOk result (Moves (B.state book.old) (B.state book.new) (with_terms terms (B.state book.old).content)) }
     ensures fault { IfErr result (λ fault. GoesBack fault (B.state book.old) (B.state book.new)) }
     ensures follows { Follows (B.state book.old) (B.state book.new) }
+    ensures leaves { LeavesSame (B.state book.old) (B.state book.new) }
 {
     Ok(book.keep_terms(terms)?)
 }
@@ -120,23 +127,9 @@ pub(crate) fn commit<B: Book>(book: &mut B) -> Result<(), Fault>
     ensures ok { OnOk result (Commits (B.state book.old) (B.state book.new)) }
     ensures fault { IfErr result (λ fault. GoesBack fault (B.state book.old) (B.state book.new)) }
     ensures follows { Follows (B.state book.old) (B.state book.new) }
+    ensures leaves { LeavesHeld result (B.state book.old) (B.state book.new) }
 {
     Ok(book.commit()?)
-}
-
-/// Makes changes in an open transaction and keeps them.
-pub(crate) fn keep<B: Book>(
-    book: &mut B,
-    changes: Seq<Change>,
-    policy: &Policy,
-) -> Result<(), Fault>
-    requires { (B.state book.old).is_open ≡ true }
-    ensures kept { OnOk result (Keeps (B.state book.old) (B.state book.new) (with_changes policy.now changes (B.state book.old).content)) }
-    ensures fault { IfErr result (λ fault. GoesBack fault (B.state book.old) (B.state book.new)) }
-    ensures follows { Follows (B.state book.old) (B.state book.new) }
-{
-    apply(book, changes, policy)?;
-    commit(book)
 }
 
 /// Lets time pass up to a moment in an open transaction, with what is due by then, and gives the
@@ -152,6 +145,7 @@ pub(crate) fn advance_clock<B: Book>(
     ensures clock { IfOk result (λ clock. (B.state book.new).is_clean ≡ true → clock ≡ max moment (B.state book.old).content.registry.clock) }
     ensures fault { IfErr result (λ fault. GoesBack fault (B.state book.old) (B.state book.new)) }
     ensures follows { Follows (B.state book.old) (B.state book.new) }
+    ensures leaves { LeavesSame (B.state book.old) (B.state book.new) }
 {
     let now = move_clock(book, alloc, moment, policy)?;
     lapse_all(book, alloc, now, policy)?;
@@ -170,6 +164,7 @@ pub(crate) fn move_clock<B: Book>(
     ensures clock { IfOk result (λ clock. (B.state book.new).is_clean ≡ true → clock ≡ max moment (B.state book.old).content.registry.clock) }
     ensures fault { IfErr result (λ fault. GoesBack fault (B.state book.old) (B.state book.new)) }
     ensures follows { Follows (B.state book.old) (B.state book.new) }
+    ensures leaves { LeavesSame (B.state book.old) (B.state book.new) }
 {
     let passing = or_rollback(book, passing(alloc, moment))?;
     apply(book, passing, policy)?;

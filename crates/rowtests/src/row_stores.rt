@@ -147,7 +147,10 @@ fn adopted(
 ) -> Result<RowStore<MemStore>, BookFault> {
     let mut conn = Connection::open_in_memory(alloc)?;
     match make(&mut conn, has_tables, texts) {
-        Ok(()) => RowStore::adopt(conn, alloc),
+        Ok(()) => match RowStore::adopt(conn, alloc) {
+            Ok(store) => Ok(store),
+            Err((fault, _)) => Err(fault),
+        },
         Err(_) => {
             drop(conn);
             Err(BookFault::Store)

@@ -1,3 +1,4 @@
 pub mod SettlementLemmas
 pub mod MoneyLemmas
 pub mod PrivacyLemmas
+pub mod CrashLemmas

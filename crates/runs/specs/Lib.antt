@@ -1,2 +1,4 @@
 pub mod Runs
 pub mod RunLaws
+pub mod Crashes
+pub mod CrashLaws

@@ -1,6 +1,7 @@
 -- What calls on the store, one after another, leave.
 use Rattle.std.proofs.Common.{◌≡◌, true, sym, ap, subst, ◌∙◌}
 use Rattle.transactions.specs.States.{Reads, StateOf, Writes}
+use Rattle.transactions.proofs.LeavingLemmas.{leaves-on}
 use Rattle.sqlite_keyed.specs.Keyed.{insert_by}
 use Rattle.tables.specs.Account.{Account, accounts}
 use Rattle.tables.specs.Content.{Content, accounts_to}
@@ -23,6 +24,8 @@ then-twice h k way a b c d reads one two is = record {
   before = λ e. two.before e ∙ one.before (two.clean e) ∙ reads.before (one.clean (two.clean e));
   opened = two.opened;
   content = λ e. subst (way a.content) (sym (two.content e ∙ ap k (one.content (two.clean e) ∙ ap h (reads.content (one.clean (two.clean e)))))) (is (one.clean (two.clean e)));
+  answers = λ was. two.answers (one.answers (reads.answers was));
+  leaves = leaves-on a b d reads.leaves (leaves-on b c d one.leaves two.leaves);
 }
 
 -- nothing is changed
@@ -32,4 +35,6 @@ then-kept way a b reads begun is = record {
   before = reads.before;
   opened = reads.opened ∙ begun;
   content = λ e. subst (way a.content) (sym (reads.content e)) (is e);
+  answers = reads.answers;
+  leaves = reads.leaves;
 }

@@ -11,6 +11,7 @@ use Rattle.columns.proofs.ReadLemmas.{same_some}
 use Rattle.store.specs.Tables.{given_to}
 use Rattle.tables.specs.Account as table
 use Rattle.tables.specs.Content.{Content}
+use Rattle.tables.specs.Readiness.{may_be_numbered}
 use Rattle.tables.specs.Meta.{Meta}
 use Rattle.tables.specs.Whole.{IsWhole}
 use Rattle.tables.proofs.RowLemmas.{all_at}
@@ -121,7 +122,7 @@ module _ (r : ℕ) (f : Account → Account) (old new : Content) (whole : IsWhol
   dues-kept = λ i. dues_are_right (record new { metas = it.others.metas i; contacts = it.others.contacts i; domains = it.others.domains i; hosts = it.others.hosts i; links = it.others.links i; transfers = it.others.transfers i })
 
   pub right-kept : are_right new ≡ are_right old
-  right-kept = λ i. it.sums i && (change-kept r f old new it i && (dues-kept i && sponsors-kept old new it.others.hosts it.others.domains i))
+  right-kept = λ i. may_be_numbered (it.others.metas i) && (it.sums i && (change-kept r f old new it i && (dues-kept i && sponsors-kept old new it.others.hosts it.others.domains i)))
 
   -- what is held is the registry with that account changed
   pub account-changed : stored_of new ≡ given_to r f (stored_of old)

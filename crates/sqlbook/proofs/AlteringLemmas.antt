@@ -27,6 +27,8 @@ alters (Ok done) way held old new made is = record {
   opened = made.opened;
   content = λ e. (is e (made.content e)).0;
   sums = λ e. (is e (made.content e)).1;
+  answers = made.answers;
+  leaves = made.leaves;
 }
 alters (Err fault) way held old new stays is = stays
 

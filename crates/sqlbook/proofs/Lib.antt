@@ -5,3 +5,7 @@ pub mod DomainLemmas
 pub mod AlteringLemmas
 pub mod TermLemmas
 pub mod ReplacingLemmas
+pub mod SteadyLemmas
+pub mod ReopeningLemmas
+pub mod BeginningLemmas
+pub mod SeenLemmas

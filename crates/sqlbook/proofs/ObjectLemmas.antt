@@ -14,6 +14,7 @@ use Rattle.policy.specs.declared.days.Days.{Days}
 use Rattle.store.specs.Ledgers as store
 use Rattle.store.specs.Tables.{contact_put, host_put}
 use Rattle.tables.specs.Content.{Content}
+use Rattle.tables.specs.Readiness.{may_be_numbered}
 use Rattle.tables.specs.Domain as table
 use Rattle.sqlaccounts.specs.Accounts.{accounts_of, sums_are_right}
 use Rattle.sqldomains.specs.Domains.{domain_of}
@@ -50,8 +51,9 @@ dues-where old new metas domains reads =
 module _ (name : List ℕ) (value : Option Contact) (old new : Content) (it : IsContactPut name value old new) where
   pub contact-right : are_right new ≡ are_right old
   contact-right = λ i.
-      sums_are_right (record new { accounts = it.accounts i; lines = it.lines i; messages = it.messages i })
-      && (accounts-kept old new (contact-leaves-domains name value old new it) it.accounts i && (dues-where old new it.metas it.domains (contact-leaves-reading name value old new it) i && contact-sponsors name value old new it i))
+      may_be_numbered (it.metas i)
+      && (sums_are_right (record new { accounts = it.accounts i; lines = it.lines i; messages = it.messages i })
+      && (accounts-kept old new (contact-leaves-domains name value old new it) it.accounts i && (dues-where old new it.metas it.domains (contact-leaves-reading name value old new it) i && contact-sponsors name value old new it i)))
 
   pub contact-changed : stored_of new ≡ contact_put name value (stored_of old)
   contact-changed = λ i. record {
@@ -68,8 +70,9 @@ module _ (name : List ℕ) (value : Option Contact) (old new : Content) (it : Is
 module _ (name : List ℕ) (value : Option Host) (old new : Content) (it : IsHostPut name value old new) where
   pub host-right : are_right new ≡ are_right old
   host-right = λ i.
-      sums_are_right (record new { accounts = it.accounts i; lines = it.lines i; messages = it.messages i })
-      && (accounts-kept old new (host-leaves-domains name value old new it) it.accounts i && (dues-where old new it.metas it.domains (host-leaves-reading name value old new it) i && host-sponsors name value old new it i))
+      may_be_numbered (it.metas i)
+      && (sums_are_right (record new { accounts = it.accounts i; lines = it.lines i; messages = it.messages i })
+      && (accounts-kept old new (host-leaves-domains name value old new it) it.accounts i && (dues-where old new it.metas it.domains (host-leaves-reading name value old new it) i && host-sponsors name value old new it i)))
 
   pub host-changed : stored_of new ≡ host_put name value (stored_of old)
   host-changed = λ i. record {

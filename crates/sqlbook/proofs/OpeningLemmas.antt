@@ -7,6 +7,7 @@ use Rattle.sqlite_keyed.proofs.KeyedLemmas.{same_int}
 use Rattle.store.specs.Tables.{account_opened}
 use Rattle.tables.specs.Account as table
 use Rattle.tables.specs.Content.{Content}
+use Rattle.tables.specs.Readiness.{may_be_numbered}
 use Rattle.tables.specs.Meta.{Meta}
 use Rattle.tables.specs.Whole.{IsWhole}
 use Rattle.sqlaccounts.specs.Accounts.{row_of}
@@ -106,7 +107,7 @@ module _ (r : ℕ) (old new : Content) (whole : IsWhole old) (after : IsWhole ne
   dues-opened = λ i. dues_are_right (record new { metas = it.others.metas i; contacts = it.others.contacts i; domains = it.others.domains i; hosts = it.others.hosts i; links = it.others.links i; transfers = it.others.transfers i })
 
   pub opening-right : are_right new ≡ are_right old
-  opening-right = λ i. it.sums i && (opening-kept old new r whole it i && (dues-opened i && sponsors-kept old new it.others.hosts it.others.domains i))
+  opening-right = λ i. may_be_numbered (it.others.metas i) && (it.sums i && (opening-kept old new r whole it i && (dues-opened i && sponsors-kept old new it.others.hosts it.others.domains i)))
 
   pub opening-changed : stored_of new ≡ account_opened r (stored_of old)
   opening-changed = λ i. record {

@@ -14,6 +14,7 @@ use Rattle.objects.specs.declared.domain.Domain.{Domain}
 use Rattle.policy.specs.declared.days.Days.{Days}
 use Rattle.store.specs.Tables.{domain_put}
 use Rattle.tables.specs.Content.{Content}
+use Rattle.tables.specs.Readiness.{may_be_numbered}
 use Rattle.tables.specs.Domain as table
 use Rattle.tables.specs.Host as host_table
 use Rattle.tables.specs.Whole.{IsWhole}
@@ -140,14 +141,17 @@ module _ (name : List ℕ) (days : Days) (after : Option Domain) (due : ℕ) (ol
   sponsors-right = domain-sponsors name after (due_with after due) old moved there.exchanged.mid new it.followed there.exchanged.counted.rest put-it
 
   pub replaced-right : are_right new ≡ are_right old
-  replaced-right = split new ∙ (λ i. others-right i && sponsors-right i) ∙ sym (split old)
+  replaced-right = λ i. may_be_numbered (metas-same i) && (split new ∙ (λ k. others-right k && sponsors-right k) ∙ sym (split old)) i
     where
+      metas-same : new.metas ≡ old.metas
+      metas-same = put-it.metas ∙ ap (λ (xs : Content). xs.metas) there.exchanged.counted.rest ∙ ap (λ (xs : Content). xs.metas) it.followed.rest
+
       three : (a b c d : Bool) → (a && (b && (c && d))) ≡ ((a && (b && c)) && d)
       three true true c d = refl
       three true false c d = refl
       three false b c d = refl
 
-      split : (xs : Content) → are_right xs ≡ ((sums_are_right xs && (helds_are_right xs && dues_are_right xs)) && sponsors_are_right xs)
+      split : (xs : Content) → (sums_are_right xs && (helds_are_right xs && (dues_are_right xs && sponsors_are_right xs))) ≡ ((sums_are_right xs && (helds_are_right xs && dues_are_right xs)) && sponsors_are_right xs)
       split xs = three (sums_are_right xs) (helds_are_right xs) (dues_are_right xs) (sponsors_are_right xs)
 
   pub replaced : stored_of new ≡ domain_put name after (stored_of old)

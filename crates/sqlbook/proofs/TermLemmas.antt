@@ -27,8 +27,9 @@ use Rattle.sqlbook.proofs.AccountLemmas.{key}
 module _ (m : ℕ) (old new : Content) (it : IsClockSet m old new) where
   pub clock-right : are_right new ≡ are_right old
   clock-right = λ i.
-      sums_are_right (it.others i)
-      && (helds_are_right (it.others i) && (option_map_or (λ days. list_all (is_due_right days (it.others i)) (it.others i).domains) (it.days i) true && sponsors_are_right (it.others i)))
+      it.numbered i
+      && (sums_are_right (it.others i)
+      && (helds_are_right (it.others i) && (option_map_or (λ days. list_all (is_due_right days (it.others i)) (it.others i).domains) (it.days i) true && sponsors_are_right (it.others i))))
 
   pub clock-changed : stored_of new ≡ clock_set m (stored_of old)
   clock-changed = λ i. record {
@@ -79,7 +80,7 @@ module _ (value : Terms) (old new : Content) (it : IsTermsSet value old new) (su
           nothing (Some days) = refl
 
   pub terms-right : are_right new ≡ are_right old
-  terms-right = λ i. it.sums i && (columns-kept old new same-domains (same-column old.accounts new.accounts it.rows) i && (dues-set i && sponsors_are_right (it.others i)))
+  terms-right = λ i. it.numbered i && (it.sums i && (columns-kept old new same-domains (same-column old.accounts new.accounts it.rows) i && (dues-set i && sponsors_are_right (it.others i))))
 
   pub terms-changed : stored_of new ≡ with_terms value (stored_of old)
   terms-changed = λ i. record {

@@ -1,8 +1,10 @@
 -- How a book over rows stands at the beginning.
-use Rattle.std.specs.Prelude.{◌≡◌, true, false}
+use Rattle.std.specs.Prelude.{◌≡◌, true, false, [], ◌∷◌}
+use Rattle.sqlite_trees.specs.Objects.{catalog_tree}
 use Rattle.sqlite_trees.specs.Tree.{Trees}
 use Rattle.store.specs.Book.{BookState, Stored, nothing}
 use Rattle.tables.specs.Decoding.{contents}
+use Rattle.tables.specs.Readiness.{IsKnownAs}
 use Rattle.transactions.specs.declared.readiness.Ready.{Ready}
 use Rattle.transactions.specs.declared.readiness.Ready.TheVariants.{Empty, Used, Other}
 use Rattle.sqlbook.specs.Meaning.{stored_of}
@@ -15,6 +17,7 @@ pub record IsUnused (s : BookState) : Type 0 where
   pub clean : s.is_clean ≡ true
   pub refused : s.refused ≡ 0
   pub empty : s.readiness ≡ Empty
+  pub leaves : s.crash_leaves ≡ record { readiness = Empty; content = nothing } ∷ []
 
 -- a registry of this program is what the rows mean, and of anything else nothing is seen
 abbrev pub IsTaken : Ready → Trees → Stored → Type 0
@@ -22,9 +25,17 @@ IsTaken Used trees s = s ≡ stored_of (contents trees)
 IsTaken Empty trees s = s ≡ nothing
 IsTaken Other trees s = s ≡ nothing
 
--- no transaction is open, and while nothing wrong was taken it holds what the database did
+-- No transaction is open, and while nothing wrong was taken it answers, tells what the database is, holds what
+-- it did, and a crash leaves that alone.
 pub record IsTakenFrom (trees : Trees) (s : BookState) : Type 0 where
   pub idle : s.is_open ≡ false
   pub before : s.before ≡ s.content
   pub refused : s.refused ≡ 0
+  pub known : s.is_clean ≡ true → IsKnownAs s.readiness trees
   pub content : s.is_clean ≡ true → IsTaken s.readiness trees s.content
+  pub answers : s.is_honest ≡ true → s.is_clean ≡ true
+  pub leaves : s.is_clean ≡ true → s.crash_leaves ≡ record { readiness = s.readiness; content = s.content } ∷ []
+
+-- where no table was ever made, nothing is found
+abbrev pub IsFoundNew : Trees → BookState → Type 0
+IsFoundNew trees s = trees catalog_tree ≡ [] → s.is_clean ≡ true → (s.readiness ≡ Empty) × (s.content ≡ nothing)

@@ -5,3 +5,4 @@ pub mod Meaning
 pub mod Replacing
 pub mod Steady
 pub mod Suiting
+pub mod Files

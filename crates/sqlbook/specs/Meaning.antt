@@ -3,6 +3,7 @@ use Rattle.std.specs.Prelude.{Bool, ◌&&◌}
 use Rattle.model.specs.Registry.{Registry}
 use Rattle.store.specs.Book.{Stored}
 use Rattle.tables.specs.Content.{Content}
+use Rattle.tables.specs.Readiness.{may_be_numbered}
 use Rattle.sqlaccounts.specs.Accounts.{accounts_of, sums_are_right}
 use Rattle.sqldomains.specs.Domains.{domains_of}
 use Rattle.sqldue.specs.Dues.{dues_are_right}
@@ -18,7 +19,7 @@ registry_of xs = record { contacts = contacts_of xs; hosts = hosts_of xs; domain
 abbrev pub stored_of : Content → Stored
 stored_of xs = record { registry = registry_of xs; terms = terms_of xs }
 
--- ---- all sums
+-- ---- all sums, and the number of the schema
 
 abbrev pub are_right : Content → Bool
-are_right xs = sums_are_right xs && (helds_are_right xs && (dues_are_right xs && sponsors_are_right xs))
+are_right xs = may_be_numbered xs.metas && (sums_are_right xs && (helds_are_right xs && (dues_are_right xs && sponsors_are_right xs)))

@@ -2,16 +2,17 @@
 use Rattle.std.specs.Prelude.{◌≡◌, Bool, true, Result, Ok, Err}
 use Rattle.transactions.specs.declared.fault.BookFault.{BookFault}
 use Rattle.transactions.specs.States.{Closes, IsIdle, StateOf}
-use Rattle.sqlbook.specs.Seen.{AreKept}
+use Rattle.sqlbook.specs.Seen.{AreKept, are_all_right}
 
 -- The sums are as right as they were when the transaction began; where none is open going back leads
 -- nowhere else; and of rows that this program made, in memory, nothing wrong was ever taken, and their
--- sums were right when the transaction began.
+-- sums were right when the transaction began. Of what a crash may leave the sums are as right as then.
 pub record IsSteady {C : Type 0} (is_made : Bool) (right : C → Bool) (s : StateOf C) : Type 0 where
   pub sums : AreKept right s
   pub idle : IsIdle s
   pub clean : is_made ≡ true → s.is_clean ≡ true
   pub begun : is_made ≡ true → right s.before ≡ true
+  pub leaves : s.is_clean ≡ true → are_all_right right s.crash_leaves ≡ right s.before
 
 -- what follows a call: nothing, or after a fault going back
 abbrev pub GoesOn : {A C : Type 0} → Result A BookFault → StateOf C → StateOf C → Type 0

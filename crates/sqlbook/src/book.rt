@@ -1,21 +1,28 @@
 //! Books in the rows of a database.
-ghost use Rattle.std.specs.Prelude.{IfOk};
+ghost use Rattle.std.specs.Prelude.{◌≡◌, true, IfErr, IfOk};
 ghost use Rattle.sqlite.specs.Held.{state};
 ghost use Rattle.store.specs.Kept.{stands};
-ghost use Rattle.sqlbook.specs.Beginning.{IsTakenFrom, IsUnused};
+ghost use Rattle.sqlite.specs.State.{HasCleanDisk};
+ghost use Rattle.sqlite_trees.specs.View.{IsClean};
+ghost use Rattle.tables.specs.Adoption.{IsAdopted, LeavesAsItWas};
+ghost use Rattle.tables.specs.Stored.{Covers};
+ghost use Rattle.sqlbook.specs.Beginning.{IsFoundNew, IsTakenFrom, IsUnused};
 ghost use Rattle.sqlbook.specs.Meaning.{are_right, stored_of};
 ghost use Rattle.sqlbook.specs.Seen.{seen};
 
-use crate::origin::{Found, Made};
+use crate::origin::{Found, Made, Origin};
 use crate::records::SqlRecords;
 use sqlite::{Alter, Connection, MemStore};
 use std::alloc::Global;
-use store::Kept;
+use store::{Book, Kept};
 use tables::RowStore;
 use transactions::BookFault;
 
 /// A book in the ten tables of a database.
 pub type SqlBook<S, O> = Kept<SqlRecords<S, O>>;
+
+/// A book in memory.
+pub type MemoryBook = SqlBook<MemStore, Made>;
 
 /// A book in memory, with nothing in it, which was never opened. What it may refuse is want of memory
 /// or room.
@@ -30,18 +37,39 @@ pub fn in_memory(alloc: Global) -> Result<SqlBook<MemStore, Made>, BookFault>
     }))
 }
 
-/// The book of a database that was used before, or may have been. It is read and checked anew, whole.
+/// Does nothing. It tells a proof that nothing wrong is ever taken from a book in memory.
+pub fn stays_clean(book: &MemoryBook)
+    ensures { (⟦<MemoryBook as Book>⟧.state book.now).is_clean ≡ true }
+{}
+
+/// The book of a database that was used before, or may have been. It is read and checked anew, whole. After
+/// a fault what the connection was over comes back, with what was committed as it was.
 pub fn adopt<S: Alter + Drop>(
     conn: Connection<S>,
     alloc: Global,
-) -> Result<SqlBook<S, Found>, BookFault>
-    ensures { IfOk result (λ book. IsTakenFrom (state S.Store conn).committed.trees (stands (seen stored_of are_right book.records.store) book.refused)) }
+) -> Result<SqlBook<S, Found>, (BookFault, S)>
+    ensures book { IfOk result (λ book. IsTakenFrom (state S.Store conn).committed.trees (stands (seen stored_of are_right book.records.store) book.refused)) }
+    ensures rows { IfOk result (λ book. IsAdopted (state S.Store conn).committed.trees book.records.store) }
+    ensures clean { IfOk result (λ book. book.records.store.is_clean ≡ true → HasCleanDisk (state S.Store conn)) }
+    ensures answers { IfOk result (λ book. book.records.store.is_honest ≡ true → are_right book.records.store.content ≡ true → (stands (seen stored_of are_right book.records.store) book.refused).is_clean ≡ true) }
+    ensures fresh { IfOk result (λ book. IsFoundNew (state S.Store conn).committed.trees (stands (seen stored_of are_right book.records.store) book.refused)) }
+    ensures refused { IfErr result (λ e. IsClean (S.Store.view e.1) → LeavesAsItWas (state S.Store conn) (S.Store.recovers e.1)) }
 {
     let store = RowStore::adopt(conn, alloc)?;
     store.rests();
+    store.told_truth();
     Ok(Kept::over(SqlRecords {
         store,
         alloc,
         origin: Found,
     }))
+}
+
+/// Gives the connection under a book back, as it is. Whatever a crash may leave of its database is one of
+/// what the book told.
+pub fn into_connection<S: Alter, O: Origin<S> + Drop>(book: SqlBook<S, O>) -> Connection<S>
+    ensures honest { (state S.Store result).is_clean ≡ book.records.store.is_honest }
+    ensures covers { HasCleanDisk (state S.Store result) → Covers book.records.store.crash_leaves (state S.Store result).may_leave }
+{
+    book.into_records().into_rows().into_connection()
 }

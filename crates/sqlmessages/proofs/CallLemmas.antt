@@ -10,4 +10,6 @@ became-same way a b reads opened is = record {
   before = reads.before;
   opened = reads.opened ∙ opened;
   content = λ e. subst (way a.content) (sym (reads.content e)) (is e);
+  answers = reads.answers;
+  leaves = reads.leaves;
 }

@@ -39,4 +39,4 @@ host-read s m row id rows texts (Ok h) asked same all is = (
   asked.0,
   λ e. sym (ap (host_in row) (all ∙ ap texts_of (asked.1 e ∙ ap (λ (n : ℤ). filter (address_table.address_with_host n) s.content.addresses) same))) ∙ is,
 )
-host-read s m row id rows texts (Err fault) asked same all is = record { clean = asked.0.clean; before = asked.0.before }
+host-read s m row id rows texts (Err fault) asked same all is = record { clean = asked.0.clean; before = asked.0.before; leaves = asked.0.leaves }

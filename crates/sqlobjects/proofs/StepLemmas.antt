@@ -2,6 +2,7 @@
 use Rattle.std.proofs.Common.{◌≡◌, true, Result, Ok, Err, refl, sym, subst, ◌∙◌}
 use Rattle.transactions.specs.declared.fault.BookFault.{BookFault}
 use Rattle.transactions.specs.States.{Meets, Reads, StateOf, Writes}
+use Rattle.transactions.proofs.LeavingLemmas.{leaves-on, leaves-refl}
 use Rattle.meanings.specs.Calls.{Became, Turns}
 use Rattle.sqlobjects.specs.Stages.{Brings}
 
@@ -11,11 +12,13 @@ asked-then step way a b c asked made is = record {
   before = λ e. made.before e ∙ asked.before (made.clean e);
   opened = made.opened;
   content = λ e. is e (subst (λ x. step x c.content) (asked.content (made.clean e)) (made.content e));
+  answers = λ was. made.answers (asked.answers was);
+  leaves = leaves-on a b c asked.leaves made.leaves;
 }
 
 -- a write alone
 pub made : {C : Type 0} (way : C → C → Type 0) (h : C → C) (a b : StateOf C) → Writes (h a.content) a b → way a.content (h a.content) → Became way a b
-made way h a b write is = record { clean = write.clean; before = write.before; opened = write.opened; content = λ e. subst (way a.content) (sym (write.content e)) is }
+made way h a b write is = record { clean = write.clean; before = write.before; opened = write.opened; content = λ e. subst (way a.content) (sym (write.content e)) is; answers = write.answers; leaves = write.leaves }
 
 -- one more write
 pub became-made : {C : Type 0} (step way : C → C → Type 0) (h : C → C) (a b c : StateOf C) → Became step a b → Writes (h b.content) b c
@@ -25,6 +28,8 @@ became-made step way h a b c made write is = record {
   before = λ e. write.before e ∙ made.before (write.clean e);
   opened = write.opened;
   content = λ e. subst (way a.content) (sym (write.content e)) (is (write.clean e) (made.content (write.clean e)));
+  answers = λ was. write.answers (made.answers was);
+  leaves = leaves-on a b c made.leaves write.leaves;
 }
 
 -- a question after it, whose answer is the change's
@@ -35,20 +40,22 @@ became-met (Ok it) step is way a b c made met then = record {
   before = λ e. met.0.before e ∙ made.before (met.0.clean e);
   opened = met.0.opened ∙ made.opened;
   content = λ e. subst (way it a.content) (sym (met.0.content e)) (then it (made.content (met.0.clean e)) (met.1 e));
+  answers = λ was. met.0.answers (made.answers was);
+  leaves = leaves-on a b c made.leaves met.0.leaves;
 }
-became-met (Err fault) step is way a b c made met then = record { clean = λ e. made.clean (met.clean e); before = λ e. met.before e ∙ made.before (met.clean e) }
+became-met (Err fault) step is way a b c made met then = record { clean = λ e. made.clean (met.clean e); before = λ e. met.before e ∙ made.before (met.clean e); leaves = leaves-on a b c made.leaves met.leaves }
 
 -- a change after a question, which answers for both
 pub asked-brings : {A C : Type 0} (r : Result A BookFault) (step way : A → C → C → Type 0) (a b c : StateOf C) → Reads a b → Brings r step b c
     → ((it : A) → b.is_clean ≡ true → step it a.content c.content → way it a.content c.content) → Brings r way a c
 asked-brings (Ok it) step way a b c asked made is = asked-then (step it) (way it) a b c asked made (λ e. is it (made.clean e))
-asked-brings (Err fault) step way a b c asked made is = record { clean = λ e. asked.clean (made.clean e); before = λ e. made.before e ∙ asked.before (made.clean e) }
+asked-brings (Err fault) step way a b c asked made is = record { clean = λ e. asked.clean (made.clean e); before = λ e. made.before e ∙ asked.before (made.clean e); leaves = leaves-on a b c asked.leaves made.leaves }
 
 -- the same where nothing is answered
 pub asked-turns : {A C : Type 0} (r : Result A BookFault) (step way : C → C → Type 0) (a b c : StateOf C) → Reads a b → Turns r step b c
     → (b.is_clean ≡ true → step a.content c.content → way a.content c.content) → Turns r way a c
 asked-turns (Ok done) step way a b c asked made is = asked-then step way a b c asked made (λ e. is (made.clean e))
-asked-turns (Err fault) step way a b c asked made is = record { clean = λ e. asked.clean (made.clean e); before = λ e. made.before e ∙ asked.before (made.clean e) }
+asked-turns (Err fault) step way a b c asked made is = record { clean = λ e. asked.clean (made.clean e); before = λ e. made.before e ∙ asked.before (made.clean e); leaves = leaves-on a b c asked.leaves made.leaves }
 
 -- one change after another, where something always holds before and after
 pub became-whole : {C : Type 0} (first second way : C → C → Type 0) (always : C → Type 0) (a b c : StateOf C) → Became first a b → Became second b c
@@ -59,8 +66,10 @@ became-whole first second way always a b c one two before after is = record {
   before = λ e. two.before e ∙ one.before (two.clean e);
   opened = two.opened;
   content = λ e. is (before (one.clean (two.clean e))) (after e) (one.content (two.clean e)) (two.content e);
+  answers = λ was. two.answers (one.answers was);
+  leaves = leaves-on a b c one.leaves two.leaves;
 }
 
 -- nothing yet
 pub stood : {C : Type 0} (way : C → C → Type 0) (a : StateOf C) → a.is_open ≡ true → way a.content a.content → Became way a a
-stood way a begun is = record { clean = λ e. e; before = λ e. refl; opened = begun; content = λ e. is }
+stood way a begun is = record { clean = λ e. e; before = λ e. refl; opened = begun; content = λ e. is; answers = λ was. was; leaves = leaves-refl a }

@@ -1,6 +1,7 @@
 -- What calls on the store, one after another, leave.
 use Rattle.std.proofs.Common.{◌≡◌, true, sym, ap, subst, ◌∙◌}
 use Rattle.transactions.specs.States.{Reads, StateOf, Writes}
+use Rattle.transactions.proofs.LeavingLemmas.{leaves-on}
 use Rattle.meanings.specs.Calls.{Became}
 
 -- what was looked at is changed in two ways, and looked at again
@@ -14,4 +15,6 @@ became-through mid way h a b c d e reads makes turns looks is = record {
       let middle = turns.clean (looks.clean t) in
       let held : c.content ≡ h a.content = makes.content middle ∙ ap h (reads.content (makes.clean middle)) in
       subst (way a.content) (sym (looks.content t)) (is t (subst (λ x. mid x d.content) held (turns.content (looks.clean t))));
+  answers = λ was. looks.answers (turns.answers (makes.answers (reads.answers was)));
+  leaves = leaves-on a d e (leaves-on a c d (leaves-on a b c reads.leaves makes.leaves) turns.leaves) looks.leaves;
 }

@@ -1,5 +1,5 @@
 -- What another row of meta means.
-use Rattle.std.proofs.Common.{◌≡◌, ℕ, List, [], ◌∷◌, Option, Some, None, refl, sym, ap, ◌∙◌, int_cmp}
+use Rattle.std.proofs.Common.{◌≡◌, ℕ, ℤ, List, [], ◌∷◌, Option, Some, None, refl, sym, ap, ◌∙◌, int_cmp, int_eq}
 use Rattle.std.proofs.lemmas.Bool.{leb-true}
 use Rattle.std.specs.Prelude.{option_and_then, slice_get}
 use Rattle.std.specs.Cmp.{int_cmp_total, tied_itself}
@@ -16,6 +16,8 @@ use Rattle.policy.specs.declared.terms.Terms.{Terms}
 use Rattle.tables.specs.Account.{Account}
 use Rattle.tables.specs.Content.{Content, metas_to}
 use Rattle.tables.specs.Meta.{Meta, metas}
+use Rattle.tables.specs.Readiness.{may_be_numbered}
+use Rattle.tables.specs.Tables.{schema_number}
 use Rattle.sqlterms.specs.Changes.{IsClockSet}
 use Rattle.sqlterms.specs.Clock.{clock_in, clock_of}
 use Rattle.sqlterms.specs.Meta.{meta_or_new, with_clock, with_terms}
@@ -53,6 +55,14 @@ module _ (xs : Content) (o : Option Meta) (is : xs.metas ≡ rows_of o) where
   no_days None = refl
   no_days (Some row) = refl
 
+  numbered-so : (o : Option Meta) → int_eq (meta_or_new o).version schema_number ≡ may_be_numbered (rows_of o)
+  numbered-so None = refl
+  numbered-so (Some row) = refl
+
+  -- the number in the row stays, and a new row has it
+  pub same_number : (new : Meta) → (meta_or_new o).id ≡ new.id → new.version ≡ (meta_or_new o).version → may_be_numbered (insert_by metas.key xs.metas new) ≡ may_be_numbered xs.metas
+  same_number new e version = ap may_be_numbered (one_meta new e) ∙ ap (λ (v : ℤ). int_eq v schema_number) version ∙ numbered-so o ∙ ap may_be_numbered (sym is)
+
   -- the clock is another, and the terms aren't
   pub clock_is_set : (m : ℕ) (new : Meta) → IsMoment m → new ≡ with_clock m (meta_or_new o) → IsClockSet m xs (metas_to (λ rows. insert_by metas.key rows new) xs)
   clock_is_set m new range e =
@@ -67,6 +77,7 @@ module _ (xs : Content) (o : Option Meta) (is : xs.metas ≡ rows_of o) where
         days =
             ap (λ rows. option_and_then days_at (slice_get rows 0)) rows ∙ ap days_at e
             ∙ no_days o ∙ ap (option_and_then days_at) (sym meta_was);
+        numbered = same_number new (ap (λ (r : Meta). r.id) (sym e)) (ap (λ (r : Meta). r.version) e);
         others = refl;
       }
 

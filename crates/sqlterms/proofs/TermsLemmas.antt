@@ -18,7 +18,8 @@ use Rattle.sqlterms.specs.Changes.{IsRenaming, IsTermsSet}
 use Rattle.sqlterms.specs.Clock.{clock_in}
 use Rattle.sqlterms.specs.Meta.{meta_or_new, with_terms}
 use Rattle.sqlterms.specs.Terms.{terms_of}
-use Rattle.sqlterms.proofs.MetaLemmas.{same_clock_of}
+use Rattle.tables.specs.Readiness.{may_be_numbered}
+use Rattle.sqlterms.proofs.MetaLemmas.{same_clock_of, same_number}
 use Rattle.sqlterms.proofs.NameLemmas.{same_accounts, same_sums}
 
 -- ---- the days of terms
@@ -54,5 +55,6 @@ terms_are_set xs ys o value labels new first is written renaming read =
       accounts = same_accounts xs ys renaming.rows (ap (λ (s : Content). s.lines) rest) (ap (λ (s : Content). s.messages) rest);
       sums = same_sums xs ys renaming.rows (ap (λ (s : Content). s.lines) rest) (ap (λ (s : Content). s.messages) rest);
       rows = renaming.rows;
+      numbered = ap (λ (s : Content). may_be_numbered s.metas) rest ∙ same_number xs o is new (ap (λ (r : Meta). r.id) (sym written)) (ap (λ (r : Meta). r.version) written);
       others = ap (λ (s : Content). record s { metas = xs.metas }) rest;
     }

@@ -3,6 +3,7 @@ use Rattle.std.specs.Prelude.{◌≡◌, ℕ, [], map, Some}
 use Rattle.policy.specs.declared.terms.Terms.{Terms}
 use Rattle.tables.specs.Account.{Account}
 use Rattle.tables.specs.Content.{Content}
+use Rattle.tables.specs.Readiness.{may_be_numbered}
 use Rattle.sqlaccounts.specs.Accounts.{accounts_of, sums_are_right}
 use Rattle.sqlterms.specs.Clock.{clock_of}
 use Rattle.sqlterms.specs.Terms.{days_of, terms_of}
@@ -12,6 +13,7 @@ pub record IsClockSet (m : ℕ) (old new : Content) : Type 0 where
   pub clock : clock_of new ≡ m
   pub terms : terms_of new ≡ terms_of old
   pub days : days_of new ≡ days_of old
+  pub numbered : may_be_numbered new.metas ≡ may_be_numbered old.metas
   pub others : record new { metas = old.metas } ≡ old
 
 -- what an account's row says besides who it is
@@ -31,4 +33,5 @@ pub record IsTermsSet (value : Terms) (old new : Content) : Type 0 where
   pub accounts : accounts_of new ≡ accounts_of old
   pub sums : sums_are_right new ≡ sums_are_right old
   pub rows : map nameless new.accounts ≡ map nameless old.accounts
+  pub numbered : may_be_numbered new.metas ≡ may_be_numbered old.metas
   pub others : record new { metas = old.metas; accounts = old.accounts } ≡ old

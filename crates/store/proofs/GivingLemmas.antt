@@ -26,6 +26,7 @@ use Rattle.store.specs.Book.{Stored}
 use Rattle.store.specs.Ledgers.{counters_of, next_message, with_counted, with_counters}
 use Rattle.store.specs.Records.{RecordsState}
 use Rattle.transactions.specs.States.{Makes, Reads, Writes}
+use Rattle.transactions.proofs.LeavingLemmas.{leaves-on}
 use Rattle.store.specs.Tables.{account_opened, counters_set, given_to, line_added, line_taken, lines_swapped, message_acked, message_put, with_accounts}
 use Rattle.store.proofs.PutLemmas.{changed-at, changed-if, changed-put, changed-twice, put-put, put-same, put-there}
 use Rattle.store.proofs.RecordsLemmas.{makes-on}
@@ -48,7 +49,7 @@ there-opened r s m opened = λ e. ap (λ (x : Stored). is_some (get x.registry.a
 pub gives-opened : {A : Type 0} (result : Result A BookFault) (r : ℕ) (f : Account → Account) (s m t : RecordsState) → Writes (account_opened r s.content) s m → Makes result (given_to r f m.content) m t
     → Makes result (given_to r f s.content) s t
 gives-opened result r f s m t opened made =
-    makes-on result s m t (given_to r f m.content) (given_to r f s.content) opened.clean opened.before (λ e. ap (given_to r f) (opened.content e) ∙ given-opened r f s.content) made
+    makes-on result s m t (given_to r f m.content) (given_to r f s.content) opened.clean opened.before opened.answers opened.leaves (λ e. ap (given_to r f) (opened.content e) ∙ given-opened r f s.content) made
 
 -- ---- an account that is there
 
@@ -126,19 +127,19 @@ module _ {A : Type 0} (result : Result A BookFault) (r : ℕ) (s m t : RecordsSt
       → Reads s m × (m.is_clean ≡ true → swapped_all swaps (account_of r s.content.registry).lines ≡ remade in_order f (account_of r s.content.registry).lines)
       → Makes result (lines_swapped r swaps m.content) m t → Makes result (given_to r (with_lines (remade in_order f)) s.content) s t
   gives-swaps f swaps read made =
-      makes-on result s m t (lines_swapped r swaps m.content) (given_to r (with_lines (remade in_order f)) s.content) read.0.clean read.0.before
+      makes-on result s m t (lines_swapped r swaps m.content) (given_to r (with_lines (remade in_order f)) s.content) read.0.clean read.0.before read.0.answers read.0.leaves
       (λ e. ap (lines_swapped r swaps) (read.0.content e) ∙ swaps-given r f swaps s.content (there (read.0.clean e)) (read.1 e)) made
 
   pub gives-ack : (id : List ℕ) (oldest : Option Message) → Reads s m × (m.is_clean ≡ true → oldest ≡ slice_get (account_of r s.content.registry).queue 0)
       → Makes result (message_acked r id oldest m.content) m t → Makes result (given_to r (with_acked id) s.content) s t
   gives-ack id oldest read made =
-      makes-on result s m t (message_acked r id oldest m.content) (given_to r (with_acked id) s.content) read.0.clean read.0.before
+      makes-on result s m t (message_acked r id oldest m.content) (given_to r (with_acked id) s.content) read.0.clean read.0.before read.0.answers read.0.leaves
       (λ e. ap (message_acked r id oldest) (read.0.content e) ∙ acked r id oldest s.content (there (read.0.clean e)) (read.1 e)) made
 
   pub gives-message : (n : Notification) (x : Counters) (message : Message) (u : RecordsState) → Reads s m × (m.is_clean ≡ true → x ≡ next_message (counters_of (account_of r s.content.registry)))
       → message ≡ numbered x.messages n → Writes (message_put r message m.content) m u → Makes result (counters_set r x u.content) u t → Makes result (given_to r (told_by_command n) s.content) s t
   gives-message n x message u read is put made =
-      makes-on result s u t (counters_set r x u.content) (given_to r (told_by_command n) s.content) (λ e. read.0.clean (put.clean e)) (λ e. put.before e ∙ read.0.before (put.clean e))
+      makes-on result s u t (counters_set r x u.content) (given_to r (told_by_command n) s.content) (λ e. read.0.clean (put.clean e)) (λ e. put.before e ∙ read.0.before (put.clean e)) (λ was. put.answers (read.0.answers was)) (leaves-on s m u read.0.leaves put.leaves)
       (λ e.
       ap (counters_set r x) (put.content e) ∙ ap (λ (y : Stored). counters_set r x (message_put r message y)) (read.0.content (put.clean e))
       ∙ told r n x message s.content (there (read.0.clean (put.clean e))) (read.1 (put.clean e)) is) made

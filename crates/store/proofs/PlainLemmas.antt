@@ -6,6 +6,7 @@ use Rattle.store.specs.Book.{Stored}
 use Rattle.store.specs.Plain.{readiness_of}
 use Rattle.store.specs.Records.{RecordsState}
 use Rattle.transactions.specs.States.{Writes}
+use Rattle.transactions.proofs.LeavingLemmas.{leaves-refl}
 use Rattle.store.specs.Tables.{account_opened}
 use Rattle.store.proofs.GivingLemmas.{opened-same}
 
@@ -16,6 +17,7 @@ in_memory h f b = record {
   before = f;
   is_open = b;
   is_clean = true;
+  is_honest = true;
   readiness = readiness_of (if b then h else f).terms;
   crash_leaves = [];
 }
@@ -27,6 +29,8 @@ already change h f a was same = record {
   before = λ c. refl;
   opened = was;
   content = λ c. ap (λ (x : Bool). if x then h else f) was ∙ same ∙ ap (λ (x : Bool). change (if x then h else f)) (sym was);
+  answers = λ was. was;
+  leaves = leaves-refl (in_memory h f a);
 }
 
 pub opens-same : (r : ℕ) (h f : Stored) (a : Bool) → a ≡ true → is_some (get h.registry.accounts r) ≡ true → Writes (account_opened r (in_memory h f a).content) (in_memory h f a) (in_memory h f a)

@@ -144,7 +144,7 @@ pub renames-found : {A : Type 0} (result : Result A BookFault) (p : PolicyRules)
     → Reads s m × (m.is_clean ≡ true → names ≡ domains_naming old s.content.registry) → Makes result (host_renamed_in old new names m.content) m t
     → Makes result (with_changes p (RenameHost old new ∷ []) s.content) s t
 renames-found result p old new names s m t read made =
-    makes-on result s m t (host_renamed_in old new names m.content) (with_changes p (RenameHost old new ∷ []) s.content) read.0.clean read.0.before
+    makes-on result s m t (host_renamed_in old new names m.content) (with_changes p (RenameHost old new ∷ []) s.content) read.0.clean read.0.before read.0.answers read.0.leaves
     (λ e.
     ap (λ (ns : List (List ℕ)). host_renamed_in old new ns m.content) (read.1 e) ∙ ap (host_renamed_in old new (domains_naming old s.content.registry)) (read.0.content e)
     ∙ all-renamed p old new s.content) made

@@ -2,7 +2,7 @@
 use Rattle.std.specs.Prelude.{◌≡◌, ℕ, ◌≤◌, true, false}
 use Rattle.transactions.specs.declared.fault.BookFault.{BookFault}
 use Rattle.transactions.specs.declared.fault.BookFault.TheVariants.{Memory, Store}
-use Rattle.store.specs.Book.{BookState, HasRefused, NoRefusal}
+use Rattle.store.specs.Book.{BookState, HasRefused, LeavesSame, NoRefusal}
 use Rattle.store.specs.Records.{RecordsState}
 
 abbrev pub stands : RecordsState → ℕ → BookState
@@ -11,6 +11,7 @@ stands s refused = record {
   before = s.before;
   is_open = s.is_open;
   is_clean = s.is_clean;
+  is_honest = s.is_honest;
   refused = refused;
   readiness = s.readiness;
   crash_leaves = s.crash_leaves;
@@ -22,6 +23,7 @@ pub record GoesBack (old new : BookState) : Type 0 where
   pub counted : old.refused ≤ new.refused
   pub closed : new.is_open ≡ false
   pub content : new.is_clean ≡ true → new.content ≡ old.before
+  pub leaves : LeavesSame old new
 
 abbrev pub GaveUp : BookFault → BookState → BookState → Type 0
 GaveUp Memory old new = GoesBack old new × NoRefusal old new

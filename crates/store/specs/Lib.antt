@@ -1,4 +1,5 @@
 pub mod Book
+pub mod Reopening
 pub mod Due
 pub mod DueOrder
 pub mod Ledgers

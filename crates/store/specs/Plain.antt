@@ -31,6 +31,7 @@ plain_records b = record {
   before = at_begin b;
   is_open = b.is_open;
   is_clean = true;
+  is_honest = true;
   readiness = readiness_of (held_by b).terms;
   crash_leaves = [];
 }

@@ -1,11 +1,12 @@
 -- A database that is read anew lies in order.
-use Rattle.std.proofs.Common.{◌≡◌, Bool, true, false, List, [], ◌∷◌, IsTrue, inl, inr, refl, sym, ap, subst, ◌∙◌, true≢false}
+use Rattle.std.proofs.Common.{◌≡◌, ◌⊎◌, Bool, true, false, List, [], ◌∷◌, IsTrue, inl, inr, refl, sym, ap, subst, ◌∙◌, true≢false}
 use Rattle.std.specs.List.{AllByRecursion}
 use Rattle.sqlite_rules.specs.Lists.{Has}
 use Rattle.sqlite_trees.specs.declared.store.Shape.{Shape}
 use Rattle.sqlite_trees.specs.declared.store.Shape.TheVariants as shape
 use Rattle.sqlite_trees.specs.Objects.{catalog_tree, IsListed}
-use Rattle.sqlite_trees.specs.View.{View, Commits, IsClean, IsOrdered, IsShaped, doubt}
+use Rattle.sqlite_trees.specs.Tree.{Trees}
+use Rattle.sqlite_trees.specs.View.{View, Commits, IsClean, IsOrdered, IsRolledBack, IsShaped, doubt}
 use Rattle.sqlite_schema.specs.declared.schema.Schema.{Schema}
 use Rattle.sqlite_schema.specs.declared.schema.Table.{Table}
 use Rattle.sqlite_catalog.specs.Listing.{IsSound}
@@ -38,3 +39,25 @@ fresh_if_committed old new numbered done clean =
 pub open_if_whole : (is_open is_broken : Bool) → (is_open ≡ false → IsTrue is_broken) → is_broken ≡ false → IsTrue is_open
 open_if_whole true b shut whole = refl
 open_if_whole false b shut whole = absurd (true≢false (sym (shut refl) ∙ whole))
+
+clean_if_open : (clean opened : Bool) → (clean ≡ false → opened ≡ false) → IsTrue opened → doubt clean ≡ 0
+unfolding doubt
+clean_if_open true opened shut is = refl
+clean_if_open false opened shut is = absurd (true≢false (sym is ∙ shut refl))
+
+-- What a crash may leave of a store that goes back to its last commit, and then commits nothing.
+module _ (was undone : View) (back : IsRolledBack was undone) (shut : undone.is_open ≡ false → IsTrue undone.is_broken) (dirty : undone.is_clean ≡ false → undone.is_open ≡ false) (may_leave : Trees → Type 0)
+    (stays : IsTrue was.is_open → may_leave was.committed) where
+  -- it is the last commit, as long as the store is whole
+  pub last_commit : undone.is_broken ≡ false → may_leave undone.trees
+  last_commit whole =
+      let opened = open_if_whole undone.is_open undone.is_broken shut whole in
+      let it = back.kept (clean_if_open undone.is_clean undone.is_open dirty opened) in
+      subst may_leave (sym (back.undone opened).0) (stays (it.was_open opened))
+
+  pub commit_adds_none : (left_undone left_new : Trees → Type 0) → ((db : Trees) → left_undone db → may_leave db)
+      → ((db : Trees) → left_new db → ((undone.is_broken ≡ false) × (db ≡ undone.trees)) ⊎ left_undone db) → (db : Trees) → left_new db → may_leave db
+  commit_adds_none left_undone left_new quiet crash db left = elim (crash db left) [
+    | inl now ↦ subst may_leave (sym now.1) (last_commit now.0)
+    | inr before ↦ quiet db before
+  ]

@@ -10,25 +10,25 @@ use Rattle.sqlite.specs.declared.error.Error.{Error}
 use Rattle.sqlite.specs.Does.{Does, Tally}
 use Rattle.sqlite.specs.Effect.{Database}
 use Rattle.sqlite.specs.Listing.{understood}
-use Rattle.sqlite.specs.State.{State, Executes, HasCleanDisk, Runs, Survives, mode_of}
+use Rattle.sqlite.specs.State.{CommitsBy, State, Executes, HasCleanDisk, Runs, Survives, mode_of}
 use Rattle.sqlite.proofs.Callers.{runs_as, statement_of}
 use Rattle.rows.specs.Calls.{Stands}
 use Rattle.rows.specs.Calls as calls
 use Rattle.rows.specs.Layouts.{command_of, writes_tables}
 use Rattle.rows.proofs.SelectLemmas.{same_command}
 use Rattle.rows.proofs.SoundLemmas.{executed_open}
-use Rattle.rows.proofs.StandLemmas.{stands_if_not_executed, stays_if_executed}
+use Rattle.rows.proofs.StandLemmas.{commits_later, stands_if_not_executed, stays_if_executed}
 use Rattle.tables.specs.Content.{Content, IsContent}
 use Rattle.tables.specs.Decoding.{contents}
 use Rattle.tables.specs.Tables.{registry}
 use Rattle.tables.specs.declared.form.Form.{Form}
 use Rattle.tables.specs.declared.form.Form.TheVariants.{Unused, Making, Made, Other}
-use Rattle.transactions.specs.States.{Writes}
+use Rattle.transactions.specs.States.{Remains, Writes}
 use Rattle.tables.specs.Statements.{Alters}
 use Rattle.tables.specs.Stored.{Agrees, Bears, Fits, HoldsRows, has_rows, rows_in, stands, undone}
 use Rattle.tables.proofs.AskingLemmas.{holds-now, rows-are}
 use Rattle.tables.proofs.DecodingLemmas.{decoded}
-use Rattle.tables.proofs.StandingLemmas.{clean-of, honest, was-honest}
+use Rattle.tables.proofs.StandingLemmas.{answered-open, clean-of, honest, leaves-no-more, leaves-same, was-honest}
 
 -- what a command that writes rows did
 changed-by : (old new : State) (command : Command) (text : List ℕ) (params : Row) (count : ℕ) → writes_tables command ≡ true → Runs old new None command text params count
@@ -51,6 +51,17 @@ module _ (sql : List ℕ) (params : Row) (form : Form) (old new : State) (P : Tr
   pub left-by-write : (e : Error) → (HasCleanDisk new → Executes sql params old new (Err e)) → HasCleanDisk new → IsTrue new.is_open → Stands old new × Agrees form true old
   left-by-write e ran clean opened = (stands_if_not_executed sql params old new e (ran clean), fits (was-honest old new P survives clean) (executed_open sql params old new (Err e) (ran clean) opened))
 
+  -- a statement that writes rows commits nothing inside a transaction
+  pub none-committed : Survives old new (CommitsBy sql params old) → (HasCleanDisk new → IsTrue old.is_open) → HasCleanDisk new → (db : Trees) → new.may_leave db → old.may_leave db
+  none-committed runs opened clean =
+      let it = fits (was-honest old new P survives clean) (opened clean) in
+      let h = holds-now form old.now old.committed rows it.bears in
+      leaves-no-more old new (commits_later sql params old new (subst (λ (s : Schema). writes_tables (command_of (understood s sql)) ≡ true) (sym h.schema) alters.writes) it.mode runs) clean
+
+  -- after an error, where the connection was open
+  pub left-open : (e : Error) → (HasCleanDisk new → Executes sql params old new (Err e)) → (HasCleanDisk new → IsTrue old.is_open) → HasCleanDisk new → Stands old new × Agrees form true old
+  left-open e ran opened clean = (stands_if_not_executed sql params old new e (ran clean), fits (was-honest old new P survives clean) (opened clean))
+
   module _ (count : ℕ) (ran : HasCleanDisk new → Executes sql params old new (Ok count)) where
     agreed : HasCleanDisk new → IsTrue new.is_open → Agrees form true old
     agreed clean opened = fits (was-honest old new P survives clean) (executed_open sql params old new (Ok count) (ran clean) opened)
@@ -70,6 +81,10 @@ module _ (sql : List ℕ) (params : Row) (form : Form) (old new : State) (P : Tr
         let h = holds-now form old.now old.committed rows it.bears in
         stays_if_executed sql params old new count (subst (λ (s : Schema). writes_tables (command_of (understood s sql)) ≡ true) (sym h.schema) alters.writes) it.mode (ran clean)
 
+    -- the connection was open, and is
+    pub open-after : (HasCleanDisk new → IsTrue old.is_open) → HasCleanDisk new → IsTrue new.is_open
+    open-after opened clean = (stayed clean (fits (was-honest old new P survives clean) (opened clean))).shown.is_open
+
     pub fits-written : Fits form true new
     fits-written clean opened =
         let it = agreed clean opened in
@@ -82,8 +97,8 @@ module _ (sql : List ℕ) (params : Row) (form : Form) (old new : State) (P : Tr
           making = λ e. absurd (true≢false e);
         }
 
-    pub written : Writes (f (rows_in form old.now.trees)) (stands form true old) (stands form true new)
-    written = record {
+    pub written : (leaves : List (Remains Content)) → Writes (f (rows_in form old.now.trees)) (stands form true old leaves) (stands form true new leaves)
+    written leaves = record {
       clean = λ e. let parts = and_parts new.is_clean new.is_open e in let clean = honest new parts.0 in
           ap (λ (b : Bool). b && old.is_open) (clean-of old (was-honest old new P survives clean)) ∙ executed_open sql params old new (Ok count) (ran clean) parts.1;
       before = λ e. let parts = and_parts new.is_clean new.is_open e in let clean = honest new parts.0 in
@@ -91,4 +106,6 @@ module _ (sql : List ℕ) (params : Row) (form : Form) (old new : State) (P : Tr
       opened = refl;
       content = λ e. let parts = and_parts new.is_clean new.is_open e in let clean = honest new parts.0 in
           rows-are form new.now.trees rows ∙ decoded (f (contents old.now.trees)) new.now (made clean (agreed clean parts.1)) ∙ ap f (sym (rows-are form old.now.trees rows));
+      answers = λ was e. ap (λ (b : Bool). b && new.is_open) e ∙ open-after (answered-open old new P survives was) (honest new e);
+      leaves = leaves-same form form true true old new P leaves survives;
     }

@@ -10,22 +10,22 @@ use Rattle.sqlite.specs.declared.error.Error.{Error}
 use Rattle.sqlite.specs.Effect.{Database}
 use Rattle.sqlite.specs.Given.{IsPlain}
 use Rattle.sqlite.specs.Listing.{understood}
-use Rattle.sqlite.specs.State.{State, FailsToQuery, HasCleanDisk, IsUnchanged, Shown, Survives}
+use Rattle.sqlite.specs.State.{CommitsShowing, State, FailsToQuery, HasCleanDisk, IsUnchanged, Shown, Survives}
 use Rattle.sqlite.proofs.Callers.{reads_as}
 use Rattle.rows.specs.Calls.{Stands}
 use Rattle.rows.proofs.SelectLemmas.{same_command}
 use Rattle.rows.proofs.SoundLemmas.{not_queried_open, queried_open}
-use Rattle.rows.proofs.StandLemmas.{same_if_shown, stands_if_not_shown}
+use Rattle.rows.proofs.StandLemmas.{commits_nothing, same_if_shown, stands_if_not_shown}
 use Rattle.tables.specs.Content.{Content, IsContent}
 use Rattle.tables.specs.Decoding.{contents}
 use Rattle.tables.specs.Tables.{registry}
 use Rattle.transactions.specs.declared.fault.BookFault.{BookFault}
 use Rattle.tables.specs.declared.form.Form.{Form}
 use Rattle.tables.specs.declared.form.Form.TheVariants.{Unused, Making, Made, Other}
-use Rattle.transactions.specs.States.{Finds, Reads, StateOf}
+use Rattle.transactions.specs.States.{Finds, Reads, Remains, StateOf}
 use Rattle.tables.specs.Statements.{Asks}
 use Rattle.tables.specs.Stored.{Agrees, Bears, Fits, HoldsRows, has_rows, rows_in, stands}
-use Rattle.tables.proofs.StandingLemmas.{agrees-unchanged, honest, reads-same, was-honest}
+use Rattle.tables.proofs.StandingLemmas.{agrees-unchanged, honest, leaves-no-more, reads-same, was-honest}
 
 -- ---- where the tables are
 
@@ -61,6 +61,18 @@ module _ (sql : List ℕ) (params : Row) (form : Form) (begun : Bool) (old new :
       let it = fits (was-honest old new P survives clean) (not_queried_open sql params old new e (fails clean) opened) in
       (stands_if_not_shown sql params old new e (plain-in (holds-now form old.now old.committed rows it.bears)) (fails clean), it)
 
+  -- a query commits nothing, where the connection is open
+  pub nothing-committed : Survives old new (CommitsShowing sql params old) → (HasCleanDisk new → IsTrue old.is_open) → HasCleanDisk new → (db : Trees) → new.may_leave db → old.may_leave db
+  nothing-committed shows opened clean =
+      let it = fits (was-honest old new P survives clean) (opened clean) in
+      leaves-no-more old new (commits_nothing sql params old new (plain-in (holds-now form old.now old.committed rows it.bears)) shows) clean
+
+  -- what it left, where the connection was open
+  pub left-open : (e : Error) → (HasCleanDisk new → FailsToQuery sql params old new e) → (HasCleanDisk new → IsTrue old.is_open) → HasCleanDisk new → Stands old new × Agrees form begun old
+  left-open e fails opened clean =
+      let it = fits (was-honest old new P survives clean) (opened clean) in
+      (stands_if_not_shown sql params old new e (plain-in (holds-now form old.now old.committed rows it.bears)) (fails clean), it)
+
 -- the records that an answer shows
 answered : {R : Type 0} (shown : R → Row) (sql : List ℕ) (params : Row) (f : Content → List R) → Asks shown sql params f → (old new : State) → HoldsRows old.now → (found : List Row) → Shown sql params old new found
     → found ≡ map shown (f (contents old.now.trees))
@@ -71,15 +83,15 @@ answered shown sql params f a old new h found seen =
 -- what was read, or a fault
 finds-by : {A : Type 0} (result : Result A BookFault) (v : A) (old new : StateOf Content) → Reads old new → (new.is_clean ≡ true → IfOk result (λ it. it ≡ v)) → Finds result v old new
 finds-by (Ok it) v old new reads same = (reads, same)
-finds-by (Err fault) v old new reads same = record { clean = reads.clean; before = reads.before }
+finds-by (Err fault) v old new reads same = record { clean = reads.clean; before = reads.before; leaves = reads.leaves }
 
-pub asked : {R : Type 0} (shown : R → Row) (sql : List ℕ) (params : Row) (form : Form) (begun : Bool) (old new : State) (P : Trees → Type 0) → Survives old new P → Fits form begun old → has_rows form ≡ true
+pub asked : {R : Type 0} (shown : R → Row) (sql : List ℕ) (params : Row) (form : Form) (begun : Bool) (old new : State) (P : Trees → Type 0) (leaves : List (Remains Content)) → Survives old new P → Fits form begun old → has_rows form ≡ true
     → (f : Content → List R) → Asks shown sql params f → (found : List Row) → (HasCleanDisk new → Shown sql params old new found) → (result : Result (List R) BookFault)
-    → ((xs : List R) → found ≡ map shown xs → IfOk result (λ out. out ≡ xs)) → Finds result (f (rows_in form old.now.trees)) (stands form begun old) (stands form begun new)
-asked shown sql params form begun old new P survives fits rows f asks found seen result read =
+    → ((xs : List R) → found ≡ map shown xs → IfOk result (λ out. out ≡ xs)) → Finds result (f (rows_in form old.now.trees)) (stands form begun old leaves) (stands form begun new leaves)
+asked shown sql params form begun old new P leaves survives fits rows f asks found seen result read =
     let plain = asks.is.plain in
-    finds-by result (f (rows_in form old.now.trees)) (stands form begun old) (stands form begun new)
-    (reads-same form begun old new P survives (λ clean. same-if sql params form begun old new P survives fits rows plain found clean (seen clean)))
+    finds-by result (f (rows_in form old.now.trees)) (stands form begun old leaves) (stands form begun new leaves)
+    (reads-same form begun old new P leaves survives (λ clean. same-if sql params form begun old new P survives fits rows plain found clean (seen clean)))
     (λ e. let clean = honest new (and_parts new.is_clean new.is_open e).0 in
     read (f (rows_in form old.now.trees))
     (answered shown sql params f asks old new (held sql params form begun old new P survives fits rows plain found clean (seen clean)) found (seen clean) ∙ ap (λ (xs : Content). map shown (f xs)) (sym (rows-are form old.now.trees rows))))

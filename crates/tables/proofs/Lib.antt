@@ -23,3 +23,5 @@ pub mod WholeLemmas
 pub mod AdoptionLemmas
 pub mod SoundLemmas
 pub mod AdoptedLemmas
+pub mod FollowingLemmas
+pub mod ReopeningLemmas

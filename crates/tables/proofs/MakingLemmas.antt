@@ -1,5 +1,5 @@
 -- What making the tables leaves of a store of rows.
-use Rattle.std.proofs.Common.{◌≡◌, ◌⊎◌, ◌&&◌, inl, inr, Bool, true, false, Result, Ok, Err, IsTrue, refl, sym, ap, subst, ◌∙◌, true≢false}
+use Rattle.std.proofs.Common.{◌≡◌, ◌⊎◌, ◌&&◌, inl, inr, Bool, true, false, List, Result, Ok, Err, IsTrue, refl, sym, ap, subst, ◌∙◌, true≢false}
 use Rattle.std.proofs.lemmas.Bool.{and_parts}
 use Rattle.sqlite_trees.specs.Tree.{Trees}
 use Rattle.sqlite.specs.Effect.{Database}
@@ -9,15 +9,16 @@ use Rattle.rows.specs.Definitions.{IsUndone}
 use Rattle.tables.specs.Content.{Content, IsContent, no_content}
 use Rattle.transactions.specs.declared.fault.BookFault.{BookFault}
 use Rattle.tables.specs.declared.form.Form.TheVariants.{Unused, Making}
-use Rattle.transactions.specs.States.{Begins, Makes, Starts, StateOf, Stays, Writes}
-use Rattle.tables.specs.Stored.{Agrees, Fits, stands}
+use Rattle.transactions.proofs.LeavingLemmas.{leaves-on}
+use Rattle.transactions.specs.States.{Begins, Makes, Remains, Starts, StateOf, Stays, Writes}
+use Rattle.tables.specs.Stored.{Agrees, Fits, Guards, stands}
 use Rattle.tables.proofs.DecodingLemmas.{decoded}
-use Rattle.tables.proofs.StandingLemmas.{clean-of, honest, was-honest}
+use Rattle.tables.proofs.StandingLemmas.{answered-open, clean-of, guards-on, honest, leaves-same, was-honest}
 
 both-clean : (old new : State) (P : Trees → Type 0) → Survives old new P → HasCleanDisk new → IsTrue old.is_open → (old.is_clean && old.is_open) ≡ true
 both-clean old new P survives clean opened = ap (λ (b : Bool). b && old.is_open) (clean-of old (was-honest old new P survives clean)) ∙ opened
 
-module _ (old mid : State) (P : Trees → Type 0) (survives : Survives old mid P) (fits : Fits Unused true old) (opens : HasCleanDisk mid → IsTrue mid.is_open → IsTrue old.is_open) where
+module _ (old mid : State) (P : Trees → Type 0) (survives : Survives old mid P) (fits : Fits Unused true old) (opens : HasCleanDisk mid → IsTrue mid.is_open → IsTrue old.is_open) (leaves : List (Remains Content)) where
   pub agreed : HasCleanDisk mid → IsTrue mid.is_open → Agrees Unused true old
   agreed clean opened = fits (was-honest old mid P survives clean) (opens clean opened)
 
@@ -34,13 +35,24 @@ module _ (old mid : State) (P : Trees → Type 0) (survives : Survives old mid P
           making = λ e. absurd (true≢false e);
         }
 
-    pub makes-made : Writes no_content (stands Unused true old) (stands Making true mid)
+    pub makes-made : Writes no_content (stands Unused true old leaves) (stands Making true mid leaves)
     makes-made = record {
       clean = λ e. let p = and_parts mid.is_clean mid.is_open e in both-clean old mid P survives (honest mid p.0) (opens (honest mid p.0) p.1);
       before = λ e. refl;
       opened = refl;
       content = λ e. let p = and_parts mid.is_clean mid.is_open e in let clean = honest mid p.0 in decoded no_content mid.now (made clean (opens clean p.1) (agreed clean p.1)).0;
+      answers = λ was e.
+          let clean = honest mid e in
+          let before = answered-open old mid P survives was clean in
+          ap (λ (b : Bool). b && mid.is_open) e ∙ (made clean before (fits (was-honest old mid P survives clean) before)).1.shown.is_open;
+      leaves = leaves-same Unused Making true true old mid P leaves survives;
     }
+
+    pub guards-made : (HasCleanDisk mid → IsTrue old.is_open → Agrees Unused true old → (db : Trees) → mid.may_leave db → old.may_leave db ⊎ ⊥) → Guards true old leaves → Guards true mid leaves
+    guards-made crash guards =
+        guards-on true true old mid P leaves survives guards
+        (λ clean _. let was = guards.opened (was-honest old mid P survives clean) refl in (made clean was (fits (was-honest old mid P survives clean) was)).1.shown.is_open)
+        (λ clean db may. let was = guards.opened (was-honest old mid P survives clean) refl in elim (crash clean was (fits (was-honest old mid P survives clean) was) db may) [ inl before ↦ before | inr none ↦ absurd none ])
 
   -- they weren't, and what was begun is undone
   module _ (failed : HasCleanDisk mid → IsTrue old.is_open → Agrees Unused true old → calls.Stays old mid ⊎ IsUndone old mid) (new : State) (Q : Trees → Type 0) (later : Survives mid new Q)
@@ -72,7 +84,7 @@ module _ (old mid : State) (P : Trees → Type 0) (survives : Survives old mid P
           making = λ _. refl;
         }
 
-    pub stays-unmade : Stays (stands Unused true old) (stands Unused false new)
+    pub stays-unmade : Stays (stands Unused true old leaves) (stands Unused false new leaves)
     stays-unmade = record {
       clean = λ e.
           let p = and_parts new.is_clean new.is_open e in
@@ -80,6 +92,23 @@ module _ (old mid : State) (P : Trees → Type 0) (survives : Survives old mid P
           let was = was-honest mid new Q later clean in
           both-clean old mid P survives was (opens was (does clean p.1).0);
       before = λ e. refl;
+      leaves = record {
+        honest = λ e. clean-of old (was-honest old mid P survives (was-honest mid new Q later (honest new e)));
+        same = refl;
+      };
+    }
+
+    pub guards-unmade : (HasCleanDisk mid → IsTrue old.is_open → Agrees Unused true old → (db : Trees) → mid.may_leave db → old.may_leave db ⊎ ⊥) → ((db : Trees) → Q db → ⊥) → Guards true old leaves → Guards false new leaves
+    guards-unmade crash none guards = record {
+      opened = λ clean e. absurd (true≢false (sym e));
+      covers = λ clean db may.
+          let mid-clean = was-honest mid new Q later clean in
+          let old-clean = was-honest old mid P survives mid-clean in
+          let was = guards.opened old-clean refl in
+          elim (later.crash clean db may) [
+            | inl in-mid ↦ elim (crash mid-clean was (fits old-clean was) db in-mid) [ inl before ↦ guards.covers old-clean db before | inr less ↦ absurd less ]
+            | inr is ↦ absurd (none db is)
+          ];
     }
 
 -- a transaction is opened, and then something is made in it
@@ -89,10 +118,13 @@ begins-then (Ok done) old mid new idle starts makes = record {
   before = λ e. makes.before e ∙ starts.before (makes.clean e);
   opened = makes.opened;
   content = λ e. makes.content e ∙ starts.content (makes.clean e);
+  answers = λ was. makes.answers (starts.answers was);
+  leaves = leaves-on old mid new starts.leaves makes.leaves;
 }
 begins-then (Err fault) old mid new idle starts stays = record {
   clean = λ e. starts.clean (stays.clean e);
   before = λ e. stays.before e ∙ starts.before (stays.clean e) ∙ sym idle;
+  leaves = leaves-on old mid new starts.leaves stays.leaves;
 }
 
 -- what going back does, whether a transaction was open or not

@@ -1,18 +1,21 @@
 -- A database that was used before, read anew.
-use Rattle.std.specs.Prelude.{◌≡◌, false, true}
+use Rattle.std.specs.Prelude.{◌≡◌, ◌⊎◌, false, true, [], ◌∷◌}
 use Rattle.std.specs.List.{AllByRecursion}
 use Rattle.sqlite_trees.specs.declared.store.Shape.TheVariants.{Table}
 use Rattle.sqlite_trees.specs.Tree.{Trees}
+use Rattle.sqlite_catalog.specs.Listing.{IsSound}
 use Rattle.sqlite_trees.specs.View.{IsShaped}
 use Rattle.sqlite.specs.Effect.{Database, IsDatabase}
 use Rattle.sqlite.specs.State.{State, HasCleanDisk, Opens}
+use Rattle.rows.specs.Columns.{no_schema}
 use Rattle.transactions.specs.States.{StateOf}
 use Rattle.transactions.specs.declared.readiness.Ready.{Ready}
 use Rattle.transactions.specs.declared.readiness.Ready.TheVariants.{Empty, Used, Other}
 use Rattle.tables.specs.Content.{Content}
 use Rattle.tables.specs.Decoding.{contents}
-use Rattle.tables.specs.Readiness.{is_numbered}
+use Rattle.tables.specs.Readiness.{IsKnownAs, is_numbered}
 use Rattle.tables.specs.Stored.{fresh}
+use Rattle.tables.specs.Tables.{registry}
 
 -- the rows of each table lie in the order of their numbers
 abbrev pub IsInOrder : Database → Type 0
@@ -35,10 +38,23 @@ IsSeenBy Used trees content = content ≡ contents trees
 IsSeenBy Empty trees content = content ≡ fresh
 IsSeenBy Other trees content = content ≡ fresh
 
+-- by its tables alone the database is this
+abbrev pub IsShapedAs : Ready → Trees → Type 0
+IsShapedAs Used trees = IsSound registry trees
+IsShapedAs Empty trees = IsSound no_schema trees
+IsShapedAs Other trees = (IsSound no_schema trees → ⊥) × (IsSound registry trees → ⊥)
+
+-- a crash may leave what is seen, and nothing else
+abbrev pub LeavesIt : StateOf Content → Type 0
+LeavesIt s = s.crash_leaves ≡ record { readiness = s.readiness; content = s.content } ∷ []
+
 pub record IsShown (trees : Trees) (s : StateOf Content) : Type 0 where
   pub idle : s.is_open ≡ false
   pub before : s.before ≡ s.content
   pub content : s.is_clean ≡ true → IsSeenBy s.readiness trees s.content
+  pub known : s.is_clean ≡ true → IsShapedAs s.readiness trees
+  pub answers : s.is_honest ≡ true → s.is_clean ≡ true
+  pub leaves : s.is_clean ≡ true → LeavesIt s
 
 -- a registry's rows are seen where they have the number of this schema
 abbrev pub IsTakenAs : Ready → Trees → Content → Type 0
@@ -50,3 +66,26 @@ pub record IsAdopted (trees : Trees) (s : StateOf Content) : Type 0 where
   pub idle : s.is_open ≡ false
   pub before : s.before ≡ s.content
   pub content : s.is_clean ≡ true → IsTakenAs s.readiness trees s.content
+  pub known : s.is_clean ≡ true → IsKnownAs s.readiness trees
+  pub answers : s.is_honest ≡ true → s.is_clean ≡ true
+  pub leaves : s.is_clean ≡ true → LeavesIt s
+
+-- ---- what an adoption that failed leaves
+
+-- what may be left is what might have been left before
+abbrev pub LeavesNoMore : State → (Trees → Type 0) → Type 0
+LeavesNoMore was may_leave = (db : Trees) → may_leave db → was.may_leave db
+
+-- the ten tables, with the same rows
+pub record IsSameRegistry (was db : Trees) : Type 0 where
+  pub had : IsSound registry was
+  pub has : IsSound registry db
+  pub rows : contents db ≡ contents was
+
+-- what may be left is that registry
+abbrev pub LeavesSameRegistry : Trees → (Trees → Type 0) → Type 0
+LeavesSameRegistry was may_leave = (db : Trees) → may_leave db → IsSameRegistry was db
+
+-- What may be left is what might have been left before, or the registry that was committed.
+abbrev pub LeavesAsItWas : State → (Trees → Type 0) → Type 0
+LeavesAsItWas was may_leave = (db : Trees) → may_leave db → was.may_leave db ⊎ IsSameRegistry was.committed.trees db

@@ -18,3 +18,4 @@ pub mod Statements
 pub mod Stored
 pub mod Whole
 pub mod Adoption
+pub mod Reopening

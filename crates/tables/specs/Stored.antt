@@ -1,12 +1,14 @@
 -- How a store of rows stands, by its database.
-use Rattle.std.specs.Prelude.{◌≡◌, ◌&&◌, Bool, true, false, if◌then◌else◌, [], IsTrue, ⊤}
+use Rattle.std.specs.Prelude.{◌≡◌, ◌&&◌, Bool, true, false, if◌then◌else◌, List, [], ◌∷◌, map, IsTrue, ⊤}
+use Rattle.sqlite_catalog.specs.Listing.{IsSound}
 use Rattle.sqlite.specs.Effect.{Database}
 use Rattle.sqlite.specs.State.{State, HasCleanDisk}
 use Rattle.sqlite_trees.specs.Tree.{Trees}
 use Rattle.rows.specs.Columns.{no_schema}
 use Rattle.tables.specs.Content.{Content, IsContent, no_content}
 use Rattle.tables.specs.Decoding.{contents}
-use Rattle.transactions.specs.States.{StateOf}
+use Rattle.tables.specs.Tables.{registry}
+use Rattle.transactions.specs.States.{Has, Remains, StateOf}
 use Rattle.tables.specs.declared.form.Form.{Form}
 use Rattle.tables.specs.declared.form.Form.TheVariants.{Unused, Making, Made, Other}
 use Rattle.transactions.specs.declared.readiness.Ready.{Ready}
@@ -46,15 +48,24 @@ fresh = no_content
 abbrev pub rows_in : Form → Trees → Content
 rows_in form db = if has_rows form then contents db else fresh
 
+-- what an opening finds of it, once what is seen now is kept
+abbrev pub left_in : Form → State → Remains Content
+left_in form s = record { readiness = readiness_of form; content = rows_in form s.now.trees }
+
+-- the same of several
+abbrev pub leaves_of : {C : Type 0} → (C → State) → List (C × Form) → List (Remains Content)
+leaves_of {C} state-of items = map (λ (it : C × Form). left_in it.1 (state-of it.0)) items
+
 -- While a transaction is open, going back leads to the last commit.
-abbrev pub stands : Form → Bool → State → StateOf Content
-stands form begun s = record {
+abbrev pub stands : Form → Bool → State → List (Remains Content) → StateOf Content
+stands form begun s leaves = record {
   content = rows_in form s.now.trees;
   before = if begun then rows_in (undone form) s.committed.trees else rows_in form s.now.trees;
   is_open = begun;
   is_clean = s.is_clean && s.is_open;
+  is_honest = s.is_clean;
   readiness = readiness_of form;
-  crash_leaves = [];
+  crash_leaves = leaves;
 }
 
 -- each row of the ten tables is a record's
@@ -79,6 +90,21 @@ pub record Agrees (form : Form) (begun : Bool) (s : State) : Type 0 where
 abbrev pub Fits : Form → Bool → State → Type 0
 Fits form begun s = HasCleanDisk s → IsTrue s.is_open → Agrees form begun s
 
+-- what an opening takes this database for
+abbrev pub IsLeftAs : Ready → Trees → Content → Type 0
+IsLeftAs readiness.Empty db x = IsSound no_schema db × (x ≡ fresh)
+IsLeftAs readiness.Used db x = IsSound registry db × (x ≡ contents db)
+IsLeftAs readiness.Other db x = x ≡ fresh
+
+-- whatever a crash may leave is one of these
+abbrev pub Covers : List (Remains Content) → (Trees → Type 0) → Type 0
+Covers leaves may_leave = (db : Trees) → may_leave db → (left : Remains Content) × Has leaves left × IsLeftAs left.readiness db left.content
+
+-- While the disk is clean, the connection is open as long as a transaction is, and nothing but these may be left.
+pub record Guards (begun : Bool) (s : State) (leaves : List (Remains Content)) : Type 0 where
+  pub opened : HasCleanDisk s → begun ≡ true → IsTrue s.is_open
+  pub covers : HasCleanDisk s → Covers leaves s.may_leave
+
 -- nothing was made, no transaction is open, and nothing wrong was taken
 pub record IsNew (s : StateOf Content) : Type 0 where
   pub content : s.content ≡ fresh
@@ -86,3 +112,4 @@ pub record IsNew (s : StateOf Content) : Type 0 where
   pub idle : s.is_open ≡ false
   pub clean : s.is_clean ≡ true
   pub empty : s.readiness ≡ readiness.Empty
+  pub leaves : s.crash_leaves ≡ record { readiness = readiness.Empty; content = fresh } ∷ []

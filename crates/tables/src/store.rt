@@ -1,11 +1,12 @@
 //! The ten tables in a database as rows, with transactions.
-ghost use Rattle.std.specs.Prelude.{◌≡◌, false, true, List, map, IfOk};
+ghost use Rattle.std.specs.Prelude.{◌≡◌, false, true, ⊤, List, map, IfErr, IfOk, OnOk};
 
 use crate::adoption::reread;
 use crate::form::Form;
 use crate::readiness::{form_of, is_numbered};
 use crate::schema::create;
 use basis::list::Seq;
+use http_server::Log;
 use rows::{Record, go_back};
 use sqlite::types::ValueRef;
 use sqlite::{Alter, Connection, Error, ErrorCode, MemStore, Row};
@@ -21,19 +22,21 @@ pub struct RowStore<S: Alter> {
     form: Form,
     /// Whether a transaction is open. After going back was itself refused the connection may think otherwise.
     begun: bool,
+    /// The databases that a crash may leave, as what they were when they were seen. Only proofs read it.
+    left: Log<Connection<S>, Form>,
 }
 
 impl<S: Alter> Model for RowStore<S> {
     ghost use Rattle.sqlite.specs.Held.{state};
     ghost use Rattle.tables.specs.Content.{Content};
     ghost use Rattle.transactions.specs.States.{StateOf};
-    ghost use Rattle.tables.specs.Stored.{Fits, stands};
+    ghost use Rattle.tables.specs.Stored.{Fits, Guards, leaves_of, stands};
 
     ghost Value = { StateOf Content };
 
-    ghost view = { λ r. stands r.form r.begun (state S.Store r.conn) };
+    ghost view = { λ r. stands r.form r.begun (state S.Store r.conn) (leaves_of (state S.Store) r.left.items) };
 
-    ghost invariant = { λ r. Fits r.form r.begun (state S.Store r.conn) };
+    ghost invariant = { λ r. Fits r.form r.begun (state S.Store r.conn) × Guards r.begun (state S.Store r.conn) (leaves_of (state S.Store) r.left.items) };
 }
 
 /// What an error of the database is to a book.
@@ -59,11 +62,14 @@ fn read_all<R: Record>(alloc: Global, rows: &[Row]) -> Result<Seq<R>, BookFault>
 
 impl<S: Alter> RowStore<S> {
     ghost use Rattle.sqlite.specs.Given.{IsPlain};
+    ghost use Rattle.sqlite.specs.Held.{state};
     ghost use Rattle.sqlite.specs.Listing.{understood};
+    ghost use Rattle.sqlite.specs.State.{HasCleanDisk};
     ghost use Rattle.sqlite.specs.Values.{bound};
     ghost use Rattle.tables.specs.Content.{Content};
-    ghost use Rattle.transactions.specs.States.{Begins, Closes, Ends, Finds, IsIdle, Makes};
+    ghost use Rattle.transactions.specs.States.{Begins, Closes, Ends, Finds, IsIdle, Makes, Meets, Notes};
     ghost use Rattle.tables.specs.Statements.{Alters, Asks};
+    ghost use Rattle.tables.specs.Stored.{Covers};
     ghost use Rattle.tables.specs.Tables.{registry};
     ghost use Rattle.tables.specs.Whole.{IsWhole};
 
@@ -74,6 +80,30 @@ impl<S: Alter> RowStore<S> {
         params: &[ValueRef<'_>],
     ) -> Result<Seq<R>, BookFault>
         requires { IsPlain (understood registry sql.now) }
+        ensures { (f : Content → List R) → Asks R.shown sql.now (bound params.now) f → Finds result (f self.old.content) self.old self.new }
+    {
+        self.look(sql)?;
+        self.ask(sql, params)
+    }
+
+    /// Does nothing but learn whether the database still answers, where no transaction tells it.
+    fn look(&mut self, sql: &str) -> Result<(), BookFault>
+        ensures same { Meets result (λ done. ⊤) self.old self.new }
+        ensures answers { self.new.is_honest ≡ true → OnOk result (self.new.is_clean ≡ true) }
+    {
+        if self.begun {
+            return Ok(());
+        }
+        match self.conn.prepare(sql) {
+            Ok(_) => Ok(()),
+            Err(error) => Err(fault_of(&error)),
+        }
+    }
+
+    /// The records that the rows of a query show, where the database still answers.
+    fn ask<R: Record>(&mut self, sql: &str, params: &[ValueRef<'_>]) -> Result<Seq<R>, BookFault>
+        requires plain { IsPlain (understood registry sql.now) }
+        requires answers { self.old.is_honest ≡ true → self.old.is_clean ≡ true }
         ensures { (f : Content → List R) → Asks R.shown sql.now (bound params.now) f → Finds result (f self.old.content) self.old self.new }
     {
         if !self.form.has_rows() {
@@ -164,17 +194,27 @@ impl<S: Alter> RowStore<S> {
     /// Keeps what the transaction did.
     pub fn commit(&mut self) -> Result<(), BookFault>
         requires { self.old.is_open ≡ true }
-        ensures { Ends result self.old self.new }
+        ensures ends { Ends result self.old self.new }
+        ensures noted { Notes result self.old self.new }
     {
+        if !self.form.has_rows() {
+            return Err(BookFault::Store);
+        }
+        let made = self.form.committed();
+        let kept = Log::new().and(&self.conn, &made);
+        let tried = self.left.and(&self.conn, &made);
+        let _schema = self.conn.schema();
         match self.conn.execute("COMMIT", &[]) {
             Ok(_) => {
-                self.form = self.form.committed();
+                self.form = made;
                 self.begun = false;
+                self.left = kept;
                 Ok(())
             }
             Err(error) => {
                 self.form = self.form.undone();
                 self.begun = false;
+                self.left = tried;
                 Err(fault_of(&error))
             }
         }
@@ -208,6 +248,22 @@ impl<S: Alter> RowStore<S> {
         let _begun = self.begun;
     }
 
+    /// Does nothing. It tells a proof that what answers told nothing wrong.
+    pub fn told_truth(&self)
+        ensures { self.now.is_clean ≡ true → self.now.is_honest ≡ true }
+    {
+        let _begun = self.begun;
+    }
+
+    /// Gives the connection back, as it is. Whatever a crash may leave of its database is one of what was
+    /// told.
+    pub fn into_connection(self) -> Connection<S>
+        ensures honest { (state S.Store result).is_clean ≡ self.is_honest }
+        ensures covers { HasCleanDisk (state S.Store result) → Covers self.crash_leaves (state S.Store result).may_leave }
+    {
+        self.conn
+    }
+
     /// Goes back to where the transaction began, if one is open.
     pub fn back(&mut self)
         ensures { Closes self.old.before self.old self.new }
@@ -222,47 +278,70 @@ impl<S: Alter + Drop> RowStore<S> {
     ghost use Rattle.sqlite.specs.Held.{state};
     ghost use Rattle.sqlite.specs.State.{HasCleanDisk};
     ghost use Rattle.sqlite_trees.specs.Tree.{Trees};
-    ghost use Rattle.tables.specs.Adoption.{IsAdopted, IsFound, IsShown};
+    ghost use Rattle.sqlite_trees.specs.View.{IsClean};
+    ghost use Rattle.tables.specs.Adoption.{IsAdopted, IsFound, IsShown, LeavesAsItWas, LeavesNoMore, LeavesSameRegistry};
+    ghost use Rattle.tables.specs.Stored.{Covers};
+
+    /// Gives back what the connection is over. A transaction that is open is undone.
+    fn into_store(self) -> S
+        ensures { IsClean (S.Store.view result) → (self.is_honest ≡ true) × Covers self.crash_leaves (S.Store.recovers result) }
+    {
+        self.into_connection().into_store()
+    }
 
     /// A store of the rows of a database that was read anew, by its tables alone.
-    fn over(conn: Connection<S>, alloc: Global) -> Result<RowStore<S>, BookFault>
+    fn over(conn: Connection<S>, alloc: Global) -> Result<RowStore<S>, (BookFault, S)>
         requires { IsFound (state S.Store conn) }
-        ensures { (trees : Trees) → (HasCleanDisk (state S.Store conn) → (state S.Store conn).now.trees ≡ trees) → IfOk result (IsShown trees) }
+        ensures shown { (trees : Trees) → (HasCleanDisk (state S.Store conn) → (state S.Store conn).now.trees ≡ trees) → IfOk result (IsShown trees) }
+        ensures honest { IfOk result (λ store. store.is_honest ≡ (state S.Store conn).is_clean) }
+        ensures clean { IfErr result (λ e. IsClean (S.Store.view e.1) → HasCleanDisk (state S.Store conn)) }
+        ensures refused { IfErr result (λ e. LeavesNoMore (state S.Store conn) (S.Store.recovers e.1)) }
     {
         let form = match form_of(&conn, alloc) {
             Ok(form) => form,
-            Err(error) => return Err(fault_of(&error)),
+            Err(error) => return Err((fault_of(&error), conn.into_store())),
         };
+        let left = Log::new().and(&conn, &form);
         Ok(RowStore {
             conn,
             alloc,
             form,
             begun: false,
+            left,
         })
     }
 
     /// The same store. One whose row of `meta` has another number than this schema's shows no row.
-    fn numbered(store: RowStore<S>) -> Result<RowStore<S>, BookFault>
-        ensures { (trees : Trees) → IsShown trees store → IfOk result (IsAdopted trees) }
+    fn numbered(store: RowStore<S>) -> Result<RowStore<S>, (BookFault, S)>
+        ensures adopted { (trees : Trees) → IsShown trees store → IfOk result (IsAdopted trees) }
+        ensures honest { IfOk result (λ it. it.is_honest ≡ true → store.is_honest ≡ true) }
+        ensures refused { (trees : Trees) → IsShown trees store → IfErr result (λ e. IsClean (S.Store.view e.1) → LeavesSameRegistry trees (S.Store.recovers e.1)) }
     {
         let Form::Made = store.form else {
             return Ok(store);
         };
         let mut store = store;
-        let metas = store.all_metas()?;
+        let metas = match store.all_metas() {
+            Ok(metas) => metas,
+            Err(fault) => return Err((fault, store.into_store())),
+        };
         if !is_numbered(metas.as_slice()) {
             store.form = Form::Other;
+            store.left = Log::new().and(&store.conn, &Form::Other);
             return Ok(store);
         }
-        match store.form {
-            Form::Made => Ok(store),
-            _ => Err(BookFault::Store),
-        }
+        let Form::Made = store.form else {
+            return Err((BookFault::Store, store.into_store()));
+        };
+        Ok(store)
     }
 
-    /// A store of the rows of a database that was used before. It is read and checked anew, whole.
-    pub fn adopt(conn: Connection<S>, alloc: Global) -> Result<RowStore<S>, BookFault>
-        ensures { IfOk result (IsAdopted (state S.Store conn).committed.trees) }
+    /// A store of the rows of a database that was used before. It is read and checked anew, whole. After a
+    /// fault what the connection was over comes back, with what was committed as it was.
+    pub fn adopt(conn: Connection<S>, alloc: Global) -> Result<RowStore<S>, (BookFault, S)>
+        ensures adopted { IfOk result (IsAdopted (state S.Store conn).committed.trees) }
+        ensures honest { IfOk result (λ store. store.is_honest ≡ true → HasCleanDisk (state S.Store conn)) }
+        ensures refused { IfErr result (λ e. IsClean (S.Store.view e.1) → LeavesAsItWas (state S.Store conn) (S.Store.recovers e.1)) }
     {
         let conn = reread(conn, alloc)?;
         let store = RowStore::over(conn, alloc)?;
@@ -278,11 +357,13 @@ impl RowStore<MemStore> {
         ensures { IfOk result IsNew }
     {
         let conn = Connection::open_in_memory(alloc)?;
+        let left = Log::new().and(&conn, &Form::Unused);
         Ok(RowStore {
             conn,
             alloc,
             form: Form::Unused,
             begun: false,
+            left,
         })
     }
 

@@ -1,10 +1,9 @@
-//! The database of a command line: one in memory, or a file.
+//! The database of a command line, and the policy that it is opened under.
 ghost use Rattle.std.specs.Prelude.{◌≡◌, false, IfOk};
 
 use policy::Policy;
 use registry::{OpenFault, Registry};
 use script::Exit;
-use sqlite::{Connection, Error, ErrorCode, FileFrom, FileStore, Leftover, Start};
 use std::alloc::Global;
 use std::fs;
 use std::rt::Files;
@@ -12,9 +11,6 @@ use store::{Book, BookFault};
 
 /// The name of a database in memory, which is new in each run.
 const IN_MEMORY: &str = ":memory:";
-
-/// Whether each page of a new file ends in a sum, which the stock `sqlite3` would spoil when it writes.
-const WITH_SUMS: bool = false;
 
 pub fn is_in_memory(database: &str) -> bool {
     database == IN_MEMORY
@@ -27,23 +23,6 @@ pub fn policy_in(rt: &(impl Files + AllocGlobal), path: &str) -> Result<Policy, 
         Ok(policy) => Ok(policy),
         Err(fault) => Err(Exit::Policy(fault)),
     }
-}
-
-/// A connection to a file, which is made where there is none. `S` stands for what the file and its log hold.
-pub fn connect<S: Start>(
-    rt: &HostRuntime,
-    path: &str,
-    start: S,
-) -> Result<Connection<FileStore<FileFrom<S>>>, BookFault> {
-    match Connection::open_from(rt, path, WITH_SUMS, start) {
-        Ok(conn) => Ok(conn),
-        Err(left) => Err(fault_of_opening(left)),
-    }
-}
-
-/// What stopped a file from being opened, which is let go.
-fn fault_of_opening<S: Start>(left: (Error, Option<Leftover<FileFrom<S>>>)) -> BookFault {
-    fault_of(&left.0)
 }
 
 /// A registry over a book, if it was made, in which no transaction is open.
@@ -64,15 +43,7 @@ pub fn open<B: Book + Drop>(
     }
 }
 
-/// What an error of the database is to a book.
-fn fault_of(error: &Error) -> BookFault {
-    match error {
-        Error::SqliteFailure(ErrorCode::OutOfMemory) => BookFault::Memory,
-        _ => BookFault::Store,
-    }
-}
-
-pub fn exit_of(fault: BookFault) -> Exit {
+fn exit_of(fault: BookFault) -> Exit {
     match fault {
         BookFault::Memory => Exit::Memory,
         BookFault::Store => Exit::Open(OpenFault::Store),

@@ -8,13 +8,13 @@ mod database;
 
 use calendar::Moment;
 use command_line::{Job, Task, read_task};
-use database::{connect, exit_of, is_in_memory, open, policy_in};
+use database::{is_in_memory, open, policy_in};
 use policy::Policy;
 use protocol::Code;
-use registry::Registry;
+use registry::{OpenFault, Registry};
 use script::{Exit, deposit_on, run_script};
 use server::{HandOverFault, MachineClock, serve_each, zone_on};
-use sqlite::{Alter, Connection, Unknown};
+use sqlite::Unknown;
 use std::net::{Ipv4Addr, TcpListener};
 use std::process::ExitCode;
 use std::rt::Files;
@@ -38,27 +38,13 @@ fn work_on(rt: &HostRuntime, policy: &str, database: &str, job: &Job) -> Result<
     }
 }
 
-/// The same over a file.
+/// The same over a file. It hands on what opening gave: a call with a book of a known kind costs the prover
+/// much.
 fn work_in_file(rt: &HostRuntime, path: &str, policy: Policy, job: &Job) -> Result<(), Exit> {
-    work_over_rows(rt, connect(rt, path, Unknown), policy, job)
+    work_with(rt, restarts::open_in(rt, path, Unknown, policy), job)
 }
 
-/// The same over a connection, if there is one.
-fn work_over_rows<S: Alter + Drop>(
-    rt: &HostRuntime,
-    conn: Result<Connection<S>, BookFault>,
-    policy: Policy,
-    job: &Job,
-) -> Result<(), Exit> {
-    let conn = match conn {
-        Ok(conn) => conn,
-        Err(fault) => return Err(exit_of(fault)),
-    };
-    work_over(rt, sqlbook::adopt(conn, rt.alloc()), policy, job)
-}
-
-/// The same over a book, if it was made, in which no transaction is open. It takes what making it gave,
-/// and is all that is called with a book of a known kind: each such call costs the prover much.
+/// The same over a book, if it was made, in which no transaction is open.
 fn work_over<B: Book + Drop>(
     rt: &HostRuntime,
     made: Result<B, BookFault>,
@@ -68,6 +54,23 @@ fn work_over<B: Book + Drop>(
     requires { IfOk made (λ book. (B.state book).is_open ≡ false) }
 {
     let registry = open(rt.alloc(), made, policy)?;
+    work(rt, registry, job)
+}
+
+/// The same with a registry, if it was opened.
+fn work_with<B: Book + Drop>(
+    rt: &HostRuntime,
+    opened: Result<Registry<B>, OpenFault>,
+    job: &Job,
+) -> Result<(), Exit> {
+    match opened {
+        Ok(registry) => work(rt, registry, job),
+        Err(fault) => Err(Exit::Open(fault)),
+    }
+}
+
+/// Does a job with a registry.
+fn work<B: Book + Drop>(rt: &HostRuntime, registry: Registry<B>, job: &Job) -> Result<(), Exit> {
     match job {
         Job::Serve { port } => serve(rt, registry, *port),
         Job::Zone { moment } => zone(rt, registry, *moment),

@@ -79,7 +79,9 @@ pub fn judge_order(order: &StatusOrder, object: Option<&Object>) -> Code
 fn find_refusal(order: &StatusOrder, object: Option<&Object>) -> Option<&'static OrderCondition>
     ensures { option_copied result ≡ find (spec.order_holds order.now (option_copied object.entry)) STATUS_ORDER.now }
 {
-    STATUS_ORDER.iter().find(|condition| meets(order, **condition, object))
+    STATUS_ORDER
+        .iter()
+        .find(|condition| meets(order, **condition, object))
 }
 
 fn meets(order: &StatusOrder, condition: OrderCondition, object: Option<&Object>) -> bool

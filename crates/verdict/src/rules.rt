@@ -9,8 +9,8 @@ ghost use Rattle.verdict.specs.Rules as spec;
 use crate::refusal::Cause;
 use Condition::{
     AddsWhatIsThere, ExpiresOtherwise, HasNoTransfer, HasSubordinates, HoldsTheMost, IsAnothers,
-    IsLinked, IsLocked, IsMissing, IsNotIn, IsNotOldest, IsNotPending, IsNotRequester, IsOwn, IsPending,
-    IsStranger, IsThere, LacksMoney, LeavesAddressesOutside, LeavesTooMany, ListRepeats,
+    IsLinked, IsLocked, IsMissing, IsNotIn, IsNotOldest, IsNotPending, IsNotRequester, IsOwn,
+    IsPending, IsStranger, IsThere, LacksMoney, LeavesAddressesOutside, LeavesTooMany, ListRepeats,
     NameIsRefused, NewNameIsTaken, PassesTenYears, ReferenceIsMissing, RemovesWhatIsNot,
     ReportDiffers, SecretIsNotRight, SecretIsWrong, Shows, StillShows, StrangersSecretIsWrong,
     SuperordinateIsAnothers, SuperordinateIsDeleted, SuperordinateIsMissing,
@@ -155,15 +155,10 @@ pub const DOMAIN_INFO: &[Condition] = &[
 ];
 
 /// RFC 5732, 3.1.2.
-pub const HOST_INFO: &[Condition] = &[
-    NameIsRefused,
-    IsMissing,
-];
+pub const HOST_INFO: &[Condition] = &[NameIsRefused, IsMissing];
 
 /// RFC 5733, 3.2.1.
-pub const CONTACT_CREATION: &[Condition] = &[
-    IsThere,
-];
+pub const CONTACT_CREATION: &[Condition] = &[IsThere];
 
 /// RFC 5731, 3.2.1.
 pub const DOMAIN_CREATION: &[Condition] = &[
@@ -399,9 +394,7 @@ fn domain_transfer_table(op: TransferOp) -> &'static [Condition]
 }
 
 /// RFC 5730, 2.9.2.3.
-pub const MESSAGE_ACKNOWLEDGEMENT: &[Condition] = &[
-    IsNotOldest,
-];
+pub const MESSAGE_ACKNOWLEDGEMENT: &[Condition] = &[IsNotOldest];
 
 /// The table of the command.
 pub fn table(request: &Request) -> &'static [Condition]

@@ -1,4 +1,6 @@
 use Rattle.privacy.specs.Runs.{date, dated}
+use Rattle.registry.specs.Crashes.{Makes}
+use Rattle.registry.specs.Execution.{IsGreetingStep}
 use Rattle.registry.proofs.Answering.{greeting_answered}
 use Rattle.registry.proofs.CallLemmas.{taken}
 use Rattle.registry.proofs.CallsKept.{call_kept}
@@ -7,7 +9,7 @@ use Rattle.registry.proofs.registry.Registry.greet.Goals as goal
 pub returns-clause-keeps : goal.returns-clause-keeps
 returns-clause-keeps g c =
     let old = g.B.Book.state c.args.self.now.book in
-    let new = g.B.Book.state c.greeting_step.new.self.book in
+    let new = g.B.Book.state c.transact.new.self.book in
     let p = c.args.self.now.policy in
-    call_kept p c.args.self.now.sound c.args.moment (taken c.is_late.result c.args.moment c.is_late.ensures c.if-is_late.false) date tt dated c.greeting_step.result c.greeting_step.new.self.policy old new c.args.self.now.kept c.greeting_step.ensures.keeps
-    (greeting_answered _ p c.args.moment old.content.registry new.content.registry c.greeting_step.result c.greeting_step.ensures.step)
+    call_kept p c.args.self.now.sound c.args.moment (taken c.is_late.result c.args.moment c.is_late.ensures c.if-is_late.false) date tt dated (Makes (IsGreetingStep p c.args.moment))
+    c.transact.result c.transact.new.self.policy old new c.args.self.now.kept c.transact.ensures.keeps (greeting_answered _ p c.args.moment old.content.registry new.content.registry c.transact.result c.transact.ensures.step)

@@ -1,5 +1,7 @@
 use Rattle.model.specs.Lapse.{lapsed}
 use Rattle.privacy.specs.Runs.{look_up, shown}
+use Rattle.registry.specs.Crashes.{Makes}
+use Rattle.registry.specs.Execution.{IsSettlement}
 use Rattle.registry.proofs.Answering.{settlement_answered}
 use Rattle.registry.proofs.CallLemmas.{taken}
 use Rattle.registry.proofs.CallsKept.{call_kept}
@@ -8,7 +10,7 @@ use Rattle.registry.proofs.registry.Registry.settle.Goals as goal
 pub returns-clause-keeps : goal.returns-clause-keeps
 returns-clause-keeps g c =
     let old = g.B.Book.state c.args.self.now.book in
-    let new = g.B.Book.state c.settlement.new.self.book in
+    let new = g.B.Book.state c.transact.new.self.book in
     let p = c.args.self.now.policy in
-    call_kept p c.args.self.now.sound c.args.moment (taken c.is_late.result c.args.moment c.is_late.ensures c.if-is_late.false) look_up tt (λ found. shown (lapsed p c.args.moment old.content.registry)) c.settlement.result c.settlement.new.self.policy old new c.args.self.now.kept c.settlement.ensures.keeps
-    (settlement_answered _ p c.args.moment old.content.registry new.content.registry c.settlement.result c.args.at_most c.settlement.ensures.step)
+    call_kept p c.args.self.now.sound c.args.moment (taken c.is_late.result c.args.moment c.is_late.ensures c.if-is_late.false) look_up tt (λ found. shown (lapsed p c.args.moment old.content.registry)) (Makes (IsSettlement p c.args.moment c.args.at_most))
+    c.transact.result c.transact.new.self.policy old new c.args.self.now.kept c.transact.ensures.keeps (settlement_answered _ p c.args.moment old.content.registry new.content.registry c.transact.result c.args.at_most c.transact.ensures.step)

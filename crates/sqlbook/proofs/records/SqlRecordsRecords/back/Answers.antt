@@ -1,5 +1,6 @@
 use Rattle.std.proofs.Common.{sym, ap, ◌∙◌}
 use Rattle.sqlbook.specs.Meaning.{are_right}
+use Rattle.sqlbook.specs.Seen.{are_all_right}
 use Rattle.sqlbook.proofs.records.SqlRecordsRecords.back.Goals as goal
 
 pub invariant_of-self : goal.invariant_of-self
@@ -12,5 +13,6 @@ invariant_of-self g c =
         idle = is.idle;
         clean = is.clean;
         begun = λ e. ap are_right (same ∙ is.closes.content (is.clean e)) ∙ c.args.self.now.steady.begun e;
+        leaves = λ e. ap (are_all_right are_right) is.closes.leaves.same ∙ c.args.self.now.steady.leaves (is.closes.clean e) ∙ ap are_right (sym (same ∙ is.closes.content e));
       };
     }

@@ -13,4 +13,4 @@ returns g c =
     let s = state g.S.Store c.self.inside.conn in
     subst (λ (it : StateOf Content). it.is_clean ≡ true → IsWhole it.content) c.self.view_is (λ e.
     let p = and_parts s.is_clean s.is_open e in
-    whole c.self.inside.form s.now s.committed (c.self.invariant (honest s p.0) p.1).bears (c.schema-schema.ensures.live p.1).0)
+    whole c.self.inside.form s.now s.committed (c.self.invariant.0 (honest s p.0) p.1).bears (c.schema-schema.ensures.live p.1).0)

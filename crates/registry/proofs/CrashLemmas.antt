@@ -1,0 +1,77 @@
+-- What a crash leaves after one call and another.
+use Rattle.std.proofs.Common.{◌≡◌, ◌⊎◌, inl, inr, ⊎_elim, true, Result, Ok, Err, IfErr, OnOk, List, sym, ap, subst, ◌∙◌}
+use Rattle.policy.specs.Rules.{PolicyRules}
+use Rattle.registry.specs.declared.fault.Fault.{Fault}
+use Rattle.registry.specs.declared.fault.Fault.TheVariants as faults
+use Rattle.registry.specs.declared.fault.OpenFault.{OpenFault}
+use Rattle.registry.specs.declared.fault.OpenFault.TheVariants as refusals
+use Rattle.registry.specs.Crashes.{GivesUpTo, OpensTo, Outlives, OutlivesOpening}
+use Rattle.registry.specs.Execution.{GoesBack}
+use Rattle.store.specs.Book.{BookState, Commits, Follows, LeavesHeld, LeavesItself, LeavesOld, LeavesOldOrMade, LeavesSame, Stored, may_leave}
+use Rattle.transactions.specs.States.{Has, Remains, holding}
+
+-- nothing was tried
+pub left_alone : (old new : BookState) → LeavesSame old new → LeavesOld old new
+unfolding may_leave
+left_alone old new same left may = (same.honest may.0, subst (λ (all : List (Remains Stored)). Has all left) same.same may.1)
+
+-- a call gave up before anything was kept
+pub gave_up : (makes : Stored → Stored → Type 0) (old new : BookState) → LeavesSame old new → LeavesOldOrMade makes old new
+gave_up makes old new same left may = inl (left_alone old new same left may)
+
+pub gave_up_by : (fault : Fault) (makes : Stored → Stored → Type 0) (old new : BookState) → LeavesSame old new → GivesUpTo fault makes old new
+gave_up_by faults.Memory makes old new same = gave_up makes old new same
+gave_up_by faults.Store makes old new same = gave_up makes old new same
+gave_up_by faults.Moment makes old new same = left_alone old new same
+
+-- what was made in the transaction is kept
+pub kept_alone : {A E : Type 0} (result : Result A E) (mid new : BookState) → LeavesHeld result mid new → OnOk result (Commits mid new) → OnOk result (LeavesItself new)
+unfolding may_leave
+kept_alone (Ok it) mid new held commits = record {
+  answers = held.answers;
+  alone = λ left may. held.kept left may.1 ∙ ap holding (sym (commits.content (held.answers may.0)));
+}
+kept_alone (Err fault) mid new held commits = tt
+
+-- or it may have been
+pub kept_or_not : {A E : Type 0} (result : Result A E) (makes : Stored → Stored → Type 0) (old mid new : BookState) → Follows old mid → LeavesSame old mid → (mid.is_clean ≡ true → makes old.content mid.content)
+    → LeavesHeld result mid new → LeavesOldOrMade makes old new
+unfolding may_leave
+kept_or_not result makes old mid new follows same made held left may =
+    let clean : mid.is_clean ≡ true = held.answered may.0 in
+    ⊎_elim (λ before. inl (left_alone old mid same left (held.honest may.0, before))) (λ is. inr (record { clean = follows.clean clean; held = mid.content; is = is; made = made clean })) (held.tried left may.1)
+
+pub outlives_by : {A : Type 0} (result : Result A Fault) (makes : Stored → Stored → Type 0) (old mid new : BookState) → Follows old mid → LeavesSame old mid → (mid.is_clean ≡ true → makes old.content mid.content)
+    → LeavesHeld result mid new → OnOk result (Commits mid new) → IfErr result (λ fault. GoesBack fault mid new) → Outlives result makes old new
+outlives_by (Ok it) makes old mid new follows same made held commits back = kept_alone (Ok it) mid new held commits
+outlives_by (Err fault) makes old mid new follows same made held commits back = go fault back (kept_or_not (Err fault) makes old mid new follows same made held)
+  where
+    go : (fault : Fault) → GoesBack fault mid new → LeavesOldOrMade makes old new → GivesUpTo fault makes old new
+    go faults.Memory back left = left
+    go faults.Store back left = left
+    go faults.Moment back left = absurd back
+
+-- ---- a call that nothing but a look came before
+
+older : (old mid new : BookState) → LeavesSame old mid → LeavesOld mid new → LeavesOld old new
+older old mid new same then = λ left may. left_alone old mid same left (then left may)
+
+later : (makes : Stored → Stored → Type 0) (old mid new : BookState) → Follows old mid → LeavesSame old mid → (mid.is_clean ≡ true → mid.content ≡ old.content)
+    → LeavesOldOrMade makes mid new → LeavesOldOrMade makes old new
+later makes old mid new follows same content then = λ left may.
+    ⊎_elim (λ before. inl (left_alone old mid same left before)) (λ it. inr (record { clean = follows.clean it.clean; held = it.held; is = it.is; made = subst (λ (held : Stored). makes held it.held) (content it.clean) it.made })) (then left may)
+
+pub outlives_later : {A : Type 0} (result : Result A Fault) (makes : Stored → Stored → Type 0) (old mid new : BookState) → Follows old mid → LeavesSame old mid → (mid.is_clean ≡ true → mid.content ≡ old.content)
+    → Outlives result makes mid new → Outlives result makes old new
+outlives_later (Ok it) makes old mid new follows same content then = then
+outlives_later (Err faults.Memory) makes old mid new follows same content then = later makes old mid new follows same content then
+outlives_later (Err faults.Store) makes old mid new follows same content then = later makes old mid new follows same content then
+outlives_later (Err faults.Moment) makes old mid new follows same content then = older old mid new same then
+
+pub opening_later : {A : Type 0} (result : Result A OpenFault) (p : PolicyRules) (old mid new : BookState) → Follows old mid → LeavesSame old mid → (mid.is_clean ≡ true → mid.content ≡ old.content)
+    → OutlivesOpening result p mid new → OutlivesOpening result p old new
+opening_later (Ok it) p old mid new follows same content then = then
+opening_later (Err refusals.Policy) p old mid new follows same content then = older old mid new same then
+opening_later (Err refusals.Schema) p old mid new follows same content then = older old mid new same then
+opening_later (Err refusals.Memory) p old mid new follows same content then = later (OpensTo p) old mid new follows same content then
+opening_later (Err refusals.Store) p old mid new follows same content then = later (OpensTo p) old mid new follows same content then

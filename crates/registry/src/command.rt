@@ -1,0 +1,175 @@
+//! How a registrar's command is answered.
+ghost use Rattle.std.specs.Prelude.{◌≡◌, true, IfOk, IfErr, OnOk};
+ghost use Rattle.accounts.specs.Account.{saturating_next};
+ghost use Rattle.registry.specs.Execution.{GoesBack, IsPrepared, IsStep, IsWithin, SameTerms, Steps};
+ghost use Rattle.rules.specs.Steps.{reply_of};
+ghost use Rattle.store.specs.Book.{Follows, IsSame, LeavesSame, Moves, with_changes};
+ghost use Rattle.facts.specs.Facts.{facts};
+ghost use Rattle.verdict.specs.ResponseData.{id_of};
+ghost use Rattle.protocol.specs.Requests.{cl_trid_of};
+
+use crate::fault::Fault;
+use crate::transaction::{advance_clock, apply, facts_for, or_rollback};
+use crate::work::Work;
+use basis::list::Seq;
+use basis::registrar::RegistrarNo;
+use basis::text::{Text, copied};
+use calendar::Moment;
+use facts::Facts;
+use policy::Policy;
+use protocol::{Command, Reply, SvTrid};
+use rules::{Change, decide};
+use std::alloc::{AllocError, Global};
+use store::Book;
+use verdict::{Verdict, id_of};
+
+/// A registrar's command at a moment.
+#[derive(Drop)]
+pub(crate) struct CommandWork<'c> {
+    pub caller: RegistrarNo,
+    pub command: &'c Command,
+    pub moment: Moment,
+}
+
+impl Work for CommandWork<'_> {
+    type Answer = Reply;
+
+    ghost step = { λ it p before after reply. IsStep p it.caller it.command.now it.moment before after reply };
+
+    fn work<B: Book>(&self, book: &mut B, alloc: Global, policy: &Policy) -> Result<Reply, Fault> {
+        execute_in(book, alloc, self.caller, self.command, self.moment, policy)
+    }
+}
+
+/// Answers a command in an open transaction.
+fn execute_in<B: Book>(
+    book: &mut B,
+    alloc: Global,
+    caller: RegistrarNo,
+    command: &Command,
+    moment: Moment,
+    policy: &Policy,
+) -> Result<Reply, Fault>
+    requires { (B.state book.old).is_open ≡ true }
+    ensures step { IfOk result (λ reply. Steps policy.now caller command.now moment reply (B.state book.old) (B.state book.new)) }
+    ensures terms { OnOk result (SameTerms (B.state book.old) (B.state book.new)) }
+    ensures within { OnOk result (IsWithin (B.state book.old) (B.state book.new)) }
+    ensures fault { IfErr result (λ fault. GoesBack fault (B.state book.old) (B.state book.new)) }
+    ensures follows { Follows (B.state book.old) (B.state book.new) }
+    ensures leaves { LeavesSame (B.state book.old) (B.state book.new) }
+{
+    let now = advance_clock(book, alloc, moment, policy)?;
+    let prepared = prepare(book, alloc, caller, command, now, policy)?;
+    make_prepared(book, prepared, policy)
+}
+
+/// A reply, and the changes that go with it.
+#[derive(Drop)]
+struct Prepared {
+    reply: Reply,
+    changes: Seq<Change>,
+}
+
+/// Decides on a command in an open transaction, and writes the reply.
+fn prepare<B: Book>(
+    book: &mut B,
+    alloc: Global,
+    caller: RegistrarNo,
+    command: &Command,
+    now: Moment,
+    policy: &Policy,
+) -> Result<Prepared, Fault>
+    requires { (B.state book.old).is_open ≡ true }
+    ensures prepared { IfOk result (λ prepared. (B.state book.new).is_clean ≡ true → IsPrepared policy.now caller command.now now (facts policy.now caller command.now (B.state book.old).content.registry) prepared) }
+    ensures same { OnOk result (IsSame (B.state book.old) (B.state book.new)) }
+    ensures fault { IfErr result (λ fault. GoesBack fault (B.state book.old) (B.state book.new)) }
+    ensures follows { Follows (B.state book.old) (B.state book.new) }
+    ensures leaves { LeavesSame (B.state book.old) (B.state book.new) }
+{
+    let facts = facts_for(book, caller, command, policy)?;
+    let prepared = prepared_by(alloc, &facts, caller, command, now, policy);
+    drop(facts);
+    or_rollback(book, prepared)
+}
+
+/// Decides on a command by the facts that bear on it, and writes the reply.
+fn prepared_by(
+    alloc: Global,
+    facts: &Facts,
+    caller: RegistrarNo,
+    command: &Command,
+    now: Moment,
+    policy: &Policy,
+) -> Result<Prepared, AllocError>
+    ensures { IfOk result (λ prepared. IsPrepared policy.now caller command.now now facts.now prepared) }
+{
+    let decision = decide(alloc, facts, caller, command, now, policy)?;
+    Ok(Prepared {
+        reply: reply_to(alloc, policy, caller, command, decision.verdict, facts)?,
+        changes: decision.changes,
+    })
+}
+
+/// Makes the changes in an open transaction, and gives the reply.
+fn make_prepared<B: Book>(book: &mut B, prepared: Prepared, policy: &Policy) -> Result<Reply, Fault>
+    requires { (B.state book.old).is_open ≡ true }
+    ensures reply { IfOk result (λ reply. reply ≡ prepared.reply) }
+    ensures made { OnOk result (Moves (B.state book.old) (B.state book.new) (with_changes policy.now prepared.changes (B.state book.old).content)) }
+    ensures fault { IfErr result (λ fault. GoesBack fault (B.state book.old) (B.state book.new)) }
+    ensures follows { Follows (B.state book.old) (B.state book.new) }
+    ensures leaves { LeavesSame (B.state book.old) (B.state book.new) }
+{
+    let Prepared { reply, changes } = prepared;
+    match apply(book, changes, policy) {
+        Ok(()) => Ok(reply),
+        Err(fault) => {
+            drop(reply);
+            Err(fault)
+        }
+    }
+}
+
+/// The reply to a verdict, numbered by the caller's own commands.
+fn reply_to(
+    alloc: Global,
+    policy: &Policy,
+    caller: RegistrarNo,
+    command: &Command,
+    verdict: Verdict,
+    facts: &Facts,
+) -> Result<Reply, AllocError>
+    ensures { IfOk result (λ reply. reply ≡ reply_of policy.now caller command.now verdict facts.now.account.commands) }
+{
+    let (cl_trid, sv_trid) = match identifiers(alloc, policy, caller, command, facts) {
+        Ok(identifiers) => identifiers,
+        Err(error) => {
+            drop(verdict);
+            return Err(error);
+        }
+    };
+    Ok(Reply {
+        cl_trid,
+        code: verdict.code,
+        content: verdict.content,
+        sv_trid,
+    })
+}
+
+/// The command's own identifier, and the registry's.
+fn identifiers(
+    alloc: Global,
+    policy: &Policy,
+    caller: RegistrarNo,
+    command: &Command,
+    facts: &Facts,
+) -> Result<(Option<Text>, SvTrid), AllocError>
+    ensures cl_trid { IfOk result (λ it. it.0 ≡ cl_trid_of command.now) }
+    ensures sv_trid { IfOk result (λ it. it.1 ≡ record { id = id_of policy.now caller; number = saturating_next facts.now.account.commands }) }
+{
+    let cl_trid = copied(command.cl_trid())?;
+    let sv_trid = SvTrid {
+        id: id_of(alloc, policy, caller)?,
+        number: facts.account.next_command(),
+    };
+    Ok((cl_trid, sv_trid))
+}

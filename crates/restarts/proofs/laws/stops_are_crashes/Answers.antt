@@ -1,0 +1,5 @@
+use Rattle.restarts.proofs.RestartLemmas.{new-files-are-books, restarts-are-events, stops-are-crashes}
+use Rattle.restarts.proofs.laws.stops_are_crashes.Goals as goal
+
+pub returns : goal.returns
+returns g c = record { stops = stops-are-crashes g.D.Disk; restarts = restarts-are-events g.D.Disk; fresh = new-files-are-books }

@@ -1,0 +1,14 @@
+use Rattle.std.proofs.Common.{refl}
+use Rattle.model.specs.Lapse.{lapsed}
+use Rattle.registry.specs.Crashes.{Makes}
+use Rattle.registry.specs.Faces.{IsLookUp}
+use Rattle.runs.specs.Crashes.{asking}
+use Rattle.runs.specs.Runs.{look_up, shown}
+use Rattle.runs.proofs.CrashLemmas.{carried-out, stepped}
+use Rattle.runs.proofs.crashes.look_ups_are_events.Goals as goal
+
+pub returns : goal.returns
+returns g c = λ p find moment result old new step done.
+    carried-out p (asking p moment look_up) (Makes (IsLookUp p find moment)) result old new
+    (λ before after under it. (under, ((shown (lapsed p moment before.registry), record { answered = refl; left = it.0.1.left }), it.1)))
+    (stepped (IsLookUp p find moment) result old new step done.terms) done

@@ -1,0 +1,69 @@
+-- What a book is over rows that were adopted.
+use Rattle.std.proofs.Common.{◌≡◌, ◌&&◌, ℕ, true, List, [], ◌∷◌, map, refl, sym, ap, subst, ◌∙◌}
+use Rattle.std.proofs.lemmas.Bool.{and_parts}
+use Rattle.sqlite.proofs.ListingLemmas.{empty_is_sound}
+use Rattle.sqlite_trees.specs.Objects.{catalog_tree}
+use Rattle.sqlite_trees.specs.Tree.{Trees}
+use Rattle.rows.specs.Columns.{no_schema}
+use Rattle.store.specs.Book.{BookState, Stored, nothing}
+use Rattle.store.specs.Kept.{stands}
+use Rattle.tables.specs.Adoption.{IsAdopted, IsTakenAs}
+use Rattle.tables.specs.Content.{Content}
+use Rattle.tables.specs.Readiness.{IsKnownAs}
+use Rattle.tables.specs.Stored.{fresh}
+use Rattle.tables.specs.Tables.{registry}
+use Rattle.tables.proofs.AdoptedLemmas.{schema_once, some-tables}
+use Rattle.transactions.specs.declared.readiness.Ready.{Ready}
+use Rattle.transactions.specs.declared.readiness.Ready.TheVariants.{Empty, Used, Other}
+use Rattle.transactions.specs.States.{Remains, StateOf}
+use Rattle.sqlbook.specs.Beginning.{IsFoundNew, IsTaken, IsTakenFrom}
+use Rattle.sqlbook.specs.Meaning.{are_right, stored_of}
+use Rattle.sqlbook.specs.Seen.{are_all_right, meant, seen}
+
+taken-as : (r : Ready) (trees : Trees) (x : Content) → IsTakenAs r trees x → IsTaken r trees (stored_of x)
+taken-as Empty trees x it = ap stored_of it
+taken-as Used trees x it = ap stored_of it.0
+taken-as Other trees x it = ap stored_of it
+
+-- ---- rows that were adopted
+module _ (trees : Trees) (rows : StateOf Content) (adopted : IsAdopted trees rows) where
+  clean-rows : (rows.is_clean && are_right rows.before) ≡ true → rows.is_clean ≡ true
+  clean-rows e = (and_parts rows.is_clean (are_right rows.before) e).0
+
+  -- the book is clean where they are honest and the sums are right
+  pub clean_if_right : rows.is_honest ≡ true → are_right rows.content ≡ true → (rows.is_clean && are_right rows.before) ≡ true
+  clean_if_right honest right = ap (λ b. b && are_right rows.before) (adopted.answers honest) ∙ ap are_right adopted.before ∙ right
+
+  right-rows : rows.is_clean ≡ true → are_all_right are_right rows.crash_leaves ≡ true → are_right rows.content ≡ true
+  right-rows clean e = (and_parts (are_right rows.content) true (subst (λ (leaves : List (Remains Content)). are_all_right are_right leaves ≡ true) (adopted.leaves clean) e)).0
+
+  pub taken_from : (refused : ℕ) → refused ≡ 0 → IsTakenFrom trees (stands (seen stored_of are_right rows) refused)
+  taken_from refused none = record {
+    idle = adopted.idle;
+    before = ap stored_of adopted.before;
+    refused = none;
+    known = λ e. adopted.known (clean-rows e);
+    content = λ e. taken-as rows.readiness trees rows.content (adopted.content (clean-rows e));
+    answers = λ e.
+        let parts = and_parts rows.is_honest (are_all_right are_right rows.crash_leaves) e in
+        clean_if_right parts.0 (right-rows (adopted.answers parts.0) parts.1);
+    leaves = λ e. ap (map (meant stored_of)) (adopted.leaves (clean-rows e));
+  }
+
+-- ---- where no table was ever made
+
+nothing-known : (r : Ready) (trees : Trees) (held : Stored) → trees catalog_tree ≡ [] → IsKnownAs r trees → IsTaken r trees held → (r ≡ Empty) × (held ≡ nothing)
+nothing-known Empty trees held none known taken = (refl, taken)
+nothing-known Used trees held none known taken = absurd (some-tables (schema_once trees registry no_schema known.0 (empty_is_sound trees none)))
+nothing-known Other trees held none known taken = absurd (known.0 (empty_is_sound trees none))
+
+rows-known : (r : Ready) (trees : Trees) (x : Content) → trees catalog_tree ≡ [] → IsKnownAs r trees → IsTakenAs r trees x → (r ≡ Empty) × (x ≡ fresh)
+rows-known Empty trees x none known taken = (refl, taken)
+rows-known Used trees x none known taken = absurd (some-tables (schema_once trees registry no_schema known.0 (empty_is_sound trees none)))
+rows-known Other trees x none known taken = absurd (known.0 (empty_is_sound trees none))
+
+pub rows_new : (trees : Trees) (rows : StateOf Content) → IsAdopted trees rows → rows.is_clean ≡ true → trees catalog_tree ≡ [] → (rows.readiness ≡ Empty) × (rows.content ≡ fresh)
+rows_new trees rows adopted clean none = rows-known rows.readiness trees rows.content none (adopted.known clean) (adopted.content clean)
+
+pub found_new : (trees : Trees) (s : BookState) → IsTakenFrom trees s → IsFoundNew trees s
+found_new trees s taken none clean = nothing-known s.readiness trees s.content none (taken.known clean) (taken.content clean)
