@@ -12,7 +12,7 @@ returns-clause-found g c =
 
 pub returns-clause-left : goal.returns-clause-left
 returns-clause-left g c = (
-  passes_by c.args.self.now.registry.policy c.args.self.now.moment (λ (s : Registry). contact_face_at s c.args.name.now) c.contact_face.result c.contact_face.new.self.policy (g.B.Book.state c.args.self.now.registry.book) (g.B.Book.state c.contact_face.new.self.book)
+  passes_by c.args.self.now.registry.policy c.args.self.now.moment (λ (s : Registry). contact_face_at s c.args.name.now) _ c.contact_face.result c.contact_face.new.self.policy (g.B.Book.state c.args.self.now.registry.book) (g.B.Book.state c.contact_face.new.self.book)
       c.contact_face.ensures.step c.contact_face.ensures.keeps c.contact_face.ensures.fault,
   c.contact_face.ensures.keeps.policy,
   refl,

@@ -12,7 +12,7 @@ returns-clause-found g c =
 
 pub returns-clause-left : goal.returns-clause-left
 returns-clause-left g c = (
-  passes_by c.args.self.now.registry.policy c.args.self.now.moment (λ (s : Registry). domain_face_at c.args.self.now.registry.policy s c.args.name.now) c.domain_face.result c.domain_face.new.self.policy (g.B.Book.state c.args.self.now.registry.book) (g.B.Book.state c.domain_face.new.self.book)
+  passes_by c.args.self.now.registry.policy c.args.self.now.moment (λ (s : Registry). domain_face_at c.args.self.now.registry.policy s c.args.name.now) _ c.domain_face.result c.domain_face.new.self.policy (g.B.Book.state c.args.self.now.registry.book) (g.B.Book.state c.domain_face.new.self.book)
       c.domain_face.ensures.step c.domain_face.ensures.keeps c.domain_face.ensures.fault,
   c.domain_face.ensures.keeps.policy,
   refl,

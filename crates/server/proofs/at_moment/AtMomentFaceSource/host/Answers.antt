@@ -12,7 +12,7 @@ returns-clause-found g c =
 
 pub returns-clause-left : goal.returns-clause-left
 returns-clause-left g c = (
-  passes_by c.args.self.now.registry.policy c.args.self.now.moment (λ (s : Registry). host_face_at c.args.self.now.registry.policy s c.args.name.now) c.host_face.result c.host_face.new.self.policy (g.B.Book.state c.args.self.now.registry.book) (g.B.Book.state c.host_face.new.self.book)
+  passes_by c.args.self.now.registry.policy c.args.self.now.moment (λ (s : Registry). host_face_at c.args.self.now.registry.policy s c.args.name.now) _ c.host_face.result c.host_face.new.self.policy (g.B.Book.state c.args.self.now.registry.book) (g.B.Book.state c.host_face.new.self.book)
       c.host_face.ensures.step c.host_face.ensures.keeps c.host_face.ensures.fault,
   c.host_face.ensures.keeps.policy,
   refl,

@@ -20,5 +20,5 @@ returns-clause-left g c =
     let t : ℕ = c.args.self.now.moment in
     let old : BookState = g.B.Book.state c.args.self.now.registry.now.book in
     let new : BookState = g.B.Book.state c.host_addresses.new.self.book in
-    let passes = passes_by p t (λ s. host_addresses_at s c.args.host.now) c.host_addresses.result c.host_addresses.new.self.policy old new c.host_addresses.ensures.step c.host_addresses.ensures.keeps c.host_addresses.ensures.fault in
+    let passes = passes_by p t (λ s. host_addresses_at s c.args.host.now) _ c.host_addresses.result c.host_addresses.new.self.policy old new c.host_addresses.ensures.step c.host_addresses.ensures.keeps c.host_addresses.ensures.fault in
     (lent_by p c.host_addresses.new.self.policy t old new passes c.host_addresses.ensures.keeps.policy, refl)

@@ -20,5 +20,5 @@ returns-clause-left g c =
     let t : ℕ = c.args.self.now.moment in
     let old : BookState = g.B.Book.state c.args.self.now.registry.now.book in
     let new : BookState = g.B.Book.state c.listed_domain.new.self.book in
-    let passes = passes_by p t (λ s. domain_face_at p s c.args.name.now) c.listed_domain.result c.listed_domain.new.self.policy old new c.listed_domain.ensures.step c.listed_domain.ensures.keeps c.listed_domain.ensures.fault in
+    let passes = passes_by p t (λ s. domain_face_at p s c.args.name.now) _ c.listed_domain.result c.listed_domain.new.self.policy old new c.listed_domain.ensures.step c.listed_domain.ensures.keeps c.listed_domain.ensures.fault in
     (lent_by p c.listed_domain.new.self.policy t old new passes c.listed_domain.ensures.keeps.policy, refl)

@@ -20,5 +20,5 @@ returns-clause-left g c =
     let t : ℕ = c.args.self.now.moment in
     let old : BookState = g.B.Book.state c.args.self.now.registry.now.book in
     let new : BookState = g.B.Book.state c.domain_names.new.self.book in
-    let passes = passes_by p t (domain_names) c.domain_names.result c.domain_names.new.self.policy old new c.domain_names.ensures.step c.domain_names.ensures.keeps c.domain_names.ensures.fault in
+    let passes = passes_by p t (domain_names) _ c.domain_names.result c.domain_names.new.self.policy old new c.domain_names.ensures.step c.domain_names.ensures.keeps c.domain_names.ensures.fault in
     (lent_by p c.domain_names.new.self.policy t old new passes c.domain_names.ensures.keeps.policy, refl)
