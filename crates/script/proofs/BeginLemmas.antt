@@ -1,5 +1,5 @@
 -- What a run leaves that a fault ends: the front of what is printed.
-use Rattle.std.proofs.Common.{◌≡◌, ◌⊎◌, inl, inr, ◌<◌, ◌++◌, ℕ, List, [], ◌∷◌, length, take, drop, Some, None, IfSome, Result, Ok, Err, refl, sym, ap, subst, ◌∙◌, codes, append-nil, append_assoc, take-append-drop}
+use Rattle.std.proofs.Common.{◌≡◌, ◌⊎◌, inl, inr, ◌<◌, ◌==◌, ◌++◌, ℕ, false, List, [], ◌∷◌, length, take, drop, Some, None, IfSome, Result, Ok, Err, refl, sym, ap, subst, ◌∙◌, codes, append-nil, append_assoc, take-append-drop}
 use Rattle.std.proofs.lemmas.Grind.{flat_map-append}
 use Rattle.std.proofs.lemmas.List.{append_cancel_left}
 use Rattle.std.proofs.KnownBytes.{Appends-kept, Appends-nil, Appends-trans, Keeps-refl, append_known-moved}
@@ -24,21 +24,12 @@ known_pending None b pending bytes p = tt
 known_pending (Some x) None pending bytes p = absurd p
 known_pending (Some x) (Some y) pending bytes p = p ∙ append_assoc x pending bytes
 
--- the whole of a text is its front
-whole_front : (a b : Option (List ℕ)) (text : List ℕ) → Appends a b text → AppendsFront a b text
-whole_front a b text wrote = (text, [], wrote, sym (append-nil text))
-
 taken_front : (a b : Option (List ℕ)) (text : List ℕ) (n : ℕ) → Appends a b (take n text) → AppendsFront a b text
 taken_front a b text n wrote = (take n text, drop n text, wrote, sym (take-append-drop n text))
 
 -- the front of a front
 front_of_more : (a b : Option (List ℕ)) (text more : List ℕ) → AppendsFront a b text → AppendsFront a b (text ++ more)
 front_of_more a b text more (front, rest, wrote, is) = (front, rest ++ more, wrote, ap (λ (l : List ℕ). l ++ more) is ∙ append_assoc front rest more)
-
--- nothing but what was pending
-pub same_pending : (a : Option (List ℕ)) (pending : List ℕ) → Appends a (append_known a pending) pending
-same_pending None pending = tt
-same_pending (Some x) pending = refl
 
 -- what was sent and is pending was told behind what was pending
 sent_and_pending : (x y : List ℕ) (before pending sent told : List ℕ) → y ≡ x ++ sent → y ++ pending ≡ (x ++ before) ++ told → sent ++ pending ≡ before ++ told
@@ -102,14 +93,10 @@ begun_at p q lines text line before middle (Some input) (Some xs) old between ne
 
 -- ---- a line that breaks a run
 
--- it isn't answered, and nothing of it is printed
-pub breaks_untold : (p : PolicyRules) (line : List ℕ) (before : Registry) (old : Option (List ℕ)) (pending : List ℕ) → BreaksAt p line before old pending (append_known old pending)
-breaks_untold p line before old pending = ([], inl refl, whole_front old (append_known old pending) (pending ++ []) (subst (Appends old (append_known old pending)) (sym (append-nil pending)) (same_pending old pending)))
-
 -- it is answered, and its reply can't be printed to its end
 pub breaks_told : (p : PolicyRules) (line text : List ℕ) (before after : Registry) (old new : Option (List ℕ)) (pending : List ℕ)
-    → 0 < length line → Answers p line before after text → AppendsFront old new (pending ++ (text ++ codes "\n")) → BreaksAt p line before old pending new
-breaks_told p [] text before after old new pending some answers front = absurd (omega arith)
+    → (length line == 0) ≡ false → Answers p line before after text → AppendsFront old new (pending ++ (text ++ codes "\n")) → BreaksAt p line before old pending new
+breaks_told p [] text before after old new pending some answers front = absurd cc
 breaks_told p (byte ∷ bytes) text before after old new pending some answers front =
     (text ∷ [], inr (after, (text, [], after, refl, answers, (refl, refl))), subst (λ (l : List ℕ). AppendsFront old new (pending ++ l)) (sym (append-nil (text ++ codes "\n"))) front)
 
@@ -169,6 +156,9 @@ pub fault_of_kind : (kind : ErrorKind) → IsFault (exit_of kind)
 fault_of_kind OutOfMemory = inr refl
 fault_of_kind _ = inl refl
 
+pub fault_by : (exit : Exit) (kind : ErrorKind) → exit ≡ exit_of kind → IsFault exit
+fault_by exit kind is = subst IsFault (sym is) (fault_of_kind kind)
+
 fault_ends : (exit : Exit) (p : PolicyRules) (before after : Registry) (input : List ℕ) (old : Option (List ℕ)) (pending : List ℕ) (new : Option (List ℕ)) → IsFault exit → Writes old new (BeginsBehind pending p before input) → EndsBehind p before after input old pending new exit
 fault_ends exit p before after input old pending new (inl is) begun = rw is begun
 fault_ends exit p before after input old pending new (inr is) begun = rw is begun
@@ -190,7 +180,7 @@ begun_by exits.Done p before after input a new (written, wrote, ends) = (
   known_pending a new [] written wrote,
   record { lines = lines_of input; others = []; split = sym (append-nil (lines_of input)); after = after; replies = ends.replies; prints = ends.prints; rest = []; text = sym ends.text ∙ sym (append-nil written) },
 )
-begun_by (exits.Script n) p before after input a new (written, wrote, stops, left) = (
+begun_by (exits.Script n) p before after input a new (written, wrote, (stops, left)) = (
   written,
   known_pending a new [] written wrote,
   record { lines = stops.lines; others = stops.line ∷ stops.others; split = stops.split; after = stops.after; replies = stops.replies; prints = stops.prints; rest = []; text = sym stops.text ∙ sym (append-nil written) },
@@ -239,12 +229,3 @@ pub fault_cut : (exit : Exit) (p : PolicyRules) (before after : Registry) (input
     → Appends a b sent → AppendsFront b c pending → EndsIn p before after input a c exit
 fault_cut exit p before after input a b c pending sent (inl is) begun s front = rw is (front_out p before input a b c pending sent begun s front)
 fault_cut exit p before after input a b c pending sent (inr is) begun s front = rw is (front_out p before input a b c pending sent begun s front)
-
--- nothing is printed yet
-nothing_out : (p : PolicyRules) (before : Registry) (input : List ℕ) (a : Option (List ℕ)) → Writes a a (Begins p before input)
-nothing_out p before input a = ([], Appends-nil a, record { lines = []; others = lines_of input; split = refl; after = before; replies = []; prints = (refl, refl); rest = []; text = refl })
-
-pub nothing_printed : (A : Type 0) (exit : Exit) (p : PolicyRules) (before after : Registry) (o a : Option (List ℕ)) → IsFault exit → IfSome o (λ input. A → EndsIn p before after input a a exit)
-nothing_printed A exit p before after None a is = tt
-nothing_printed A exit p before after (Some input) a (inl is) = λ (given : A). rw is (nothing_out p before input a)
-nothing_printed A exit p before after (Some input) a (inr is) = λ (given : A). rw is (nothing_out p before input a)

@@ -1,10 +1,26 @@
-use Rattle.std.proofs.Common.{ap}
-use Rattle.script.proofs.EndLemmas.{Ends-buffered}
+use Rattle.std.proofs.Common.{ap, ◌∙◌}
+use Rattle.std.proofs.lemmas.Result.{err_from_is_err_and}
+use Rattle.script.proofs.BeginLemmas.{fault_by}
+use Rattle.script.proofs.EndLemmas.{Ends-buffered, Ends-unflushed, Ends-unwritten}
 use Rattle.script.specs.Runs.{end_of}
 use Rattle.script.proofs.script.answer_input.Goals as goal
 
 pub returns-clause-ends : goal.returns-clause-ends
 returns-clause-ends g c =
     Ends-buffered _ (end_of c.answer_lines-answered.result) _ _ _ _ _ _ _ _ _ _ _ _ _
+    c.in_ok-reader.ensures.capacity c.in_ok-reader.ensures.empty (ap g.R.Read.remaining c.in_ok-reader.ensures.inner) c.in_ok-pending.ensures.items
+    c.answer_lines-answered.ensures.ends c.in_ok-write_pending.ensures.bytes c.flush.ensures.bytes
+
+pub returns-in_err-write_pending-clause-ends : goal.returns-in_err-write_pending-clause-ends
+returns-in_err-write_pending-clause-ends g c =
+    let gave = err_from_is_err_and c.from_residual-in_err-write_pending.result c.from_residual-in_err-write_pending.ensures.1 in
+    Ends-unwritten _ (end_of c.answer_lines-answered.result) _ _ _ _ _ _ _ _ _ _ _ _ _ _ (fault_by _ _ (ap end_of gave.1 ∙ gave.2))
+    c.in_ok-reader.ensures.capacity c.in_ok-reader.ensures.empty (ap g.R.Read.remaining c.in_ok-reader.ensures.inner) c.in_ok-pending.ensures.items
+    c.answer_lines-answered.ensures.ends c.answer_lines-answered.ensures.sent.1 c.in_err-write_pending.ensures.begun
+
+pub returns-in_err-flush-clause-ends : goal.returns-in_err-flush-clause-ends
+returns-in_err-flush-clause-ends g c =
+    let gave = err_from_is_err_and c.from_residual-in_err-flush.result c.from_residual-in_err-flush.ensures.1 in
+    Ends-unflushed _ (end_of c.answer_lines-answered.result) _ _ _ _ _ _ _ _ _ _ _ _ _ _ (fault_by _ _ (ap end_of gave.1 ∙ gave.2))
     c.in_ok-reader.ensures.capacity c.in_ok-reader.ensures.empty (ap g.R.Read.remaining c.in_ok-reader.ensures.inner) c.in_ok-pending.ensures.items
     c.answer_lines-answered.ensures.ends c.in_ok-write_pending.ensures.bytes c.flush.ensures.bytes
