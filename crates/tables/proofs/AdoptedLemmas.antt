@@ -14,15 +14,26 @@ use Rattle.tables.specs.declared.form.Form.{Form}
 use Rattle.tables.specs.declared.form.Form.TheVariants.{Unused, Making, Made, Other}
 use Rattle.transactions.specs.declared.readiness.Ready.{Ready}
 use Rattle.transactions.specs.declared.readiness.Ready.TheVariants.{Used}
+use Rattle.transactions.specs.declared.readiness.Ready.TheVariants as readiness
 use Rattle.tables.specs.Adoption.{IsAdopted, IsFound, IsSameRegistry, IsSeenBy, IsShapedAs, IsShown, LeavesSameRegistry}
 use Rattle.tables.specs.Decoding.{contents}
-use Rattle.tables.specs.Readiness.{IsFormOf, is_numbered}
+use Rattle.tables.specs.Readiness.{IsFormOf, IsKnownAs, is_numbered}
 use Rattle.transactions.specs.States.{Has, LeavesSame, Remains, StateOf}
 use Rattle.transactions.proofs.LeavingLemmas.{has-alone}
 use Rattle.tables.specs.Content.{Content}
 use Rattle.tables.specs.Stored.{Bears, Covers, Fits, Guards, HoldsRows, IsLeftAs, left_in, readiness_of, rows_in, stands, undone}
 use Rattle.tables.proofs.SoundLemmas.{content_of_sound}
 use Rattle.tables.proofs.StandingLemmas.{honest}
+
+-- the rows of sqlite_schema tell the schema
+pub schema_once : (db : Trees) (s t : Schema) → IsSound s db → IsSound t db → s ≡ t
+schema_once db s t first second =
+    let one = reads (db catalog_tree) s first.lists in
+    let two = reads (db catalog_tree) t second.lists in
+    read_once (map cut (db catalog_tree)) s t one.tables one.indexes one.views two
+
+pub some-tables : registry ≡ no_schema → ⊥
+some-tables e = let n : length registry.tables ≡ 0 = ap (λ (s : Schema). length s.tables) e in absurd cc
 
 unmade : (form : Form) (schema : Schema) → IsFormOf schema form → undone form ≡ form
 unmade Unused schema is = refl
@@ -34,7 +45,7 @@ left_as : (form : Form) (db : Database) → IsFormOf db.schema form → IsSound 
 left_as Unused db is sound = (subst (λ (s : Schema). IsSound s db.trees) is sound, refl)
 left_as Making db is sound = absurd is
 left_as Made db is sound = (subst (λ (s : Schema). IsSound s db.trees) is sound, refl)
-left_as Other db is sound = refl
+left_as Other db is sound = (((λ none. is.0 (schema_once db.trees db.schema no_schema sound none)), λ ours. absurd (is.1 (schema_once db.trees db.schema registry sound ours))), refl)
 
 module _ (s : State) (found : IsFound s) where
   bears_found : (form : Form) → IsFormOf s.now.schema form → HasCleanDisk s → Bears form s.now s.committed
@@ -67,13 +78,6 @@ seen Making schema db trees is e = absurd is
 seen Made schema db trees is e = ap contents e
 seen Other schema db trees is e = refl
 
--- the rows of sqlite_schema tell the schema
-pub schema_once : (db : Trees) (s t : Schema) → IsSound s db → IsSound t db → s ≡ t
-schema_once db s t first second =
-    let one = reads (db catalog_tree) s first.lists in
-    let two = reads (db catalog_tree) t second.lists in
-    read_once (map cut (db catalog_tree)) s t one.tables one.indexes one.views two
-
 shaped : (form : Form) (schema : Schema) (trees : Trees) → IsFormOf schema form → IsSound schema trees → IsShapedAs (readiness_of form) trees
 shaped Unused schema trees is sound = subst (λ (s : Schema). IsSound s trees) is sound
 shaped Making schema trees is sound = absurd is
@@ -91,9 +95,6 @@ shown s form trees found is same = record {
   answers = λ e. ap (λ (b : Bool). b && s.is_open) e ∙ (found (honest s e)).0.is_open;
   leaves = λ e. refl;
 }
-
-pub some-tables : registry ≡ no_schema → ⊥
-some-tables e = let n : length registry.tables ≡ 0 = ap (λ (s : Schema). length s.tables) e in absurd cc
 
 -- a database with the tables of a registry whose number is another
 module _ (trees : Trees) (was : StateOf Content) (shown-as : IsShown trees was) (used : was.readiness ≡ Used) where
@@ -129,3 +130,10 @@ module _ (trees : Trees) (was : StateOf Content) (shown-as : IsShown trees was) 
       let left : IsLeftAs was.readiness db was.content = subst (λ (r : Remains Content). IsLeftAs r.readiness db r.content) is found.2 in
       let registered : IsLeftAs Used db was.content = subst (λ (r : Ready). IsLeftAs r db was.content) used left in
       record { had = sound-tables clean; has = registered.0; rows = sym registered.1 ∙ rows-seen clean }
+
+  -- where the number is another, so is whatever may be left of it
+  pub left_other : was.is_clean ≡ true → is_numbered was.content.metas ≡ false → (db : Trees) → IsSameRegistry trees db → IsKnownAs readiness.Other db
+  left_other clean numbered db same = (
+    (λ none. some-tables (schema_once db registry no_schema same.has none)),
+    λ ours. ap (λ (xs : Content). is_numbered xs.metas) (same.rows ∙ sym (rows-seen clean)) ∙ numbered,
+  )

@@ -7,6 +7,7 @@ use Rattle.sqlite_trees.specs.Tree.{Trees}
 use Rattle.rows.specs.Columns.{no_schema}
 use Rattle.tables.specs.Content.{Content, IsContent, no_content}
 use Rattle.tables.specs.Decoding.{contents}
+use Rattle.tables.specs.Readiness.{IsKnownAs}
 use Rattle.tables.specs.Tables.{registry}
 use Rattle.transactions.specs.States.{Has, Remains, StateOf}
 use Rattle.tables.specs.declared.form.Form.{Form}
@@ -94,7 +95,7 @@ Fits form begun s = HasCleanDisk s → IsTrue s.is_open → Agrees form begun s
 abbrev pub IsLeftAs : Ready → Trees → Content → Type 0
 IsLeftAs readiness.Empty db x = IsSound no_schema db × (x ≡ fresh)
 IsLeftAs readiness.Used db x = IsSound registry db × (x ≡ contents db)
-IsLeftAs readiness.Other db x = x ≡ fresh
+IsLeftAs readiness.Other db x = IsKnownAs readiness.Other db × (x ≡ fresh)
 
 -- whatever a crash may leave is one of these
 abbrev pub Covers : List (Remains Content) → (Trees → Type 0) → Type 0

@@ -313,6 +313,7 @@ impl<S: Alter + Drop> RowStore<S> {
 
     /// The same store. One whose row of `meta` has another number than this schema's shows no row.
     fn numbered(store: RowStore<S>) -> Result<RowStore<S>, (BookFault, S)>
+        requires { (trees : Trees) × IsShown trees store }
         ensures adopted { (trees : Trees) → IsShown trees store → IfOk result (IsAdopted trees) }
         ensures honest { IfOk result (λ it. it.is_honest ≡ true → store.is_honest ≡ true) }
         ensures refused { (trees : Trees) → IsShown trees store → IfErr result (λ e. IsClean (S.Store.view e.1) → LeavesSameRegistry trees (S.Store.recovers e.1)) }

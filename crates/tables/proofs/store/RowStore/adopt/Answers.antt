@@ -15,3 +15,8 @@ returns-clause-refused g c =
     let now = state g.S.Store c.in_ok-conn.conn in
     IfErr-weaker c.numbered.result _ _ (λ e left clean db may. inr (left clean db may))
     (c.numbered.ensures.refused was.committed.trees (c.in_ok-store.ensures.shown was.committed.trees (λ clean. (c.in_ok-conn.ensures.reread clean).trees)))
+
+pub numbered-requires : goal.numbered-requires
+numbered-requires g c =
+    let was = state g.S.Store c.args.conn in
+    (was.committed.trees, c.in_ok-store.ensures.shown was.committed.trees (λ clean. (c.in_ok-conn.ensures.reread clean).trees))

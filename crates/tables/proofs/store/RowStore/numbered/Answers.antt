@@ -3,9 +3,10 @@ use Rattle.sqlite.specs.Held.{state}
 use Rattle.transactions.specs.States.{Remains, StateOf}
 use Rattle.tables.specs.Content.{Content}
 use Rattle.tables.specs.Readiness.{is_numbered}
-use Rattle.tables.specs.Stored.{Guards, left_in, readiness_of}
+use Rattle.tables.specs.Stored.{Covers, Guards, left_in, readiness_of}
 use Rattle.tables.specs.declared.form.Form.TheVariants.{Other}
-use Rattle.tables.proofs.AdoptedLemmas.{adopted-other, left_registry}
+use Rattle.tables.proofs.AdoptedLemmas.{adopted-other, left_other, left_registry}
+use Rattle.tables.proofs.StandingLemmas.{clean-of}
 use Rattle.tables.proofs.TurningLemmas.{noted-alone}
 use Rattle.tables.proofs.store.RowStore.numbered.Goals as goal
 
@@ -20,7 +21,17 @@ invariant_of-store g c =
           record { mode = it.mode; bears = tt; settled = it.settled; making = λ _. refl },
       subst (λ (l : List (Remains Content)). Guards begun s l) (sym alone) (record {
         opened = c.store-then-not-is_numbered.invariant.1.opened;
-        covers = λ clean db may. (left_in Other s, inl refl, refl);
+        covers = λ clean db may.
+            let seen = c.requires in
+            let metas = c.in-Ok.ensures in
+            let store = c.store-then-not-is_numbered in
+            let used = ap (λ (t : StateOf Content). t.readiness) (sym c.store.view_is) ∙ ap readiness_of c.in-Made.is in
+            let honest = sym (ap (λ (t : StateOf Content). t.is_honest) store.view_is) ∙ clean-of s clean in
+            let covers = subst (λ (t : StateOf Content). Covers t.crash_leaves s.may_leave) store.view_is (store.invariant.1.covers clean) in
+            let same = left_registry seen.0 c.args.store seen.1 used c.all_metas.new.self metas.0.leaves honest s.may_leave covers db may in
+            let sure = metas.0.answers seen.1.answers honest in
+            let other = sym (ap is_numbered (c.as_slice.ensures ∙ metas.1 sure)) ∙ sym c.is_numbered.ensures ∙ c.if-not-is_numbered.true in
+            (left_in Other s, inl refl, (left_other seen.0 c.args.store seen.1 used (metas.0.clean sure) other db same, refl));
       }),
     )
 
