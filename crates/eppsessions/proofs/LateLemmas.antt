@@ -19,9 +19,12 @@ by_test : (late : Bool) (moment : ℕ) → nat_lt last_call moment ≡ late → 
 by_test false moment is never = grind (arith, nat_tests, is)
 by_test true moment is never = let after : last_call < moment = grind (arith, nat_tests, is) in absurd (never after)
 
+never_both : {A : Type 0} {answer : A} → ◌≡◌ {A = Result A Fault} (Ok answer) (Err faults.Moment) → ⊥
+never_both both = absurd cc
+
 -- a call that was answered was in time
-pub in_time : {A : Type 0} (answer : A) (moment : ℕ) → ((Ok answer ≡ Err {E = Fault} faults.Moment) ↔ (last_call < moment)) → moment ≤ last_call
-in_time answer moment late = by_test (nat_lt last_call moment) moment refl (λ after. let no : Ok answer ≡ Err {E = Fault} faults.Moment = late.1 after in absurd cc)
+pub in_time : {A : Type 0} (answer : A) (moment : ℕ) → ((◌≡◌ {A = Result A Fault} (Ok answer) (Err faults.Moment)) ↔ (last_call < moment)) → moment ≤ last_call
+in_time answer moment late = by_test (nat_lt last_call moment) moment refl (λ after. never_both (late.1 after))
 
 pub answered_in_time : {A : Type 0} (result : Result A Fault) (moment : ℕ) → ((result ≡ Err faults.Moment) ↔ (last_call < moment)) → OnOk result (moment ≤ last_call)
 answered_in_time (Ok answer) moment late = in_time answer moment late

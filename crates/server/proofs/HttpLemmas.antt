@@ -1,7 +1,9 @@
 -- What a look-up leaves of a registry, and what is written to a connection of HTTP.
-use Rattle.std.proofs.Common.{◌≡◌, ◌+◌, ◌≤◌, ℕ, max, true, inl, inr, ◌⊎◌, Option, Some, None, List, length, take, drop, ◌++◌, Result, Ok, Err, refl, sym, ap, subst, ◌∙◌, le_refl, append-nil, take-take, arith}
+use Rattle.std.proofs.Common.{◌≡◌, ◌+◌, ◌≤◌, ℕ, max, true, inl, inr, ◌⊎◌, Option, Some, None, List, [], length, take, drop, ◌++◌, Result, Ok, Err, refl, sym, ap, subst, ◌∙◌, le_refl, append-nil, take-take, arith}
 use Rattle.std.proofs.lemmas.List.{take-append-le}
+use Rattle.std.proofs.KnownBytes.{Consumes-trans}
 use Rattle.std.proofs.lemmas.Slice.{take-put_mid_below}
+use Rattle.std.specs.Io.KnownBytes.{Consumes, ReadConsumes}
 use borrow.Rule.Slice.PartMut.{put_mid}
 use lib.Seq.{take-add}
 use Rattle.std.specs.Prelude.{IfOk, IfErr, OnOk}
@@ -107,6 +109,15 @@ answer_by items p q moment later old new end head (Ok bytes) left same told pass
 answer_by items p q moment later old new end head (Err fault) left same told passes all = tt
 
 -- ---- what was read of an input
+
+abbrev gives : (E : Type 0) → ℕ → Result ℕ E
+gives E n = Ok n
+
+-- a read that gives no byte
+pub read_nothing : {E : Type 0} (a b c : Option (List ℕ)) (result : Result ℕ E) (n : ℕ) (buf old : List ℕ) → result ≡ Ok n → n ≡ 0 → Consumes a b old → ReadConsumes b c result buf → Consumes a c old
+read_nothing {E} a b c result n buf old is none before read =
+    let given : ReadConsumes b c (gives E 0) buf = subst (λ (r : Result ℕ E). ReadConsumes b c r buf) (is ∙ ap (gives E) none) read in
+    subst (Consumes a c) (append-nil old) (Consumes-trans a b c old [] before given.0)
 
 -- what more bytes are read behind what decides nothing yet
 pub needs_more : (count more room : ℕ) (old piece : List ℕ) → count ≤ length old → IsCut (take count old) → IsNeeded (take (count + more) (put_mid count room old piece))

@@ -1,8 +1,8 @@
-use Rattle.std.proofs.Common.{rules, subst, sym, le_refl}
+use Rattle.std.proofs.Common.{◌≡◌, rules, subst, sym, le_refl}
 use Rattle.std.specs.Io.KnownBytes.{Consumes}
 use Rattle.std.proofs.KnownBytes.{Consumes-kept}
 use Rattle.std.proofs.lemmas.Slice.{take-put_mid_below}
-use Rattle.server.proofs.HttpLemmas.{needs_more}
+use Rattle.server.proofs.HttpLemmas.{needs_more, read_nothing}
 use Rattle.server.specs.Http.{IsNeeded}
 use Rattle.streams.proofs.MoveLemmas.{reads_on}
 use Rattle.server.proofs.http.read_to_decide.Goals as goal
@@ -25,3 +25,14 @@ reads-preserved g c =
         needed = rw w.count-is (subst IsNeeded (sym (take-put_mid_below _ _ _ _ _ (le_refl _) before.within)) before.needed);
       }
     ]
+
+pub returns-in-Ok-eq0-clause-read : goal.returns-in-Ok-eq0-clause-read
+returns-in-Ok-eq0-clause-read g c =
+    let before = c.reads.invariant in
+    let same = take-put_mid_below _ _ _ _ _ (le_refl _) before.within in
+    let none : c.in-Ok-eq0.field-0 ≡ 0 = search rules in
+    record {
+      bytes = subst (Consumes _ _) (sym same) (read_nothing _ _ _ _ _ _ _ c.in-Ok-eq0.is none before.taken c.read.ensures.bytes);
+      enough = search rules;
+      needed = subst IsNeeded (sym same) before.needed;
+    }
