@@ -8,9 +8,11 @@ mod changed_accounts;
 mod changed_domains;
 mod changed_objects;
 mod changed_terms;
+mod files;
 mod origin;
 mod records;
 
 pub use book::{SqlBook, adopt, in_memory};
+pub use files::into_files;
 pub use origin::{Found, Made, Origin};
 pub use records::SqlRecords;

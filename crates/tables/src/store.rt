@@ -208,6 +208,11 @@ impl<S: Alter> RowStore<S> {
         let _begun = self.begun;
     }
 
+    /// Gives the connection back, as it is.
+    pub fn into_connection(self) -> Connection<S> {
+        self.conn
+    }
+
     /// Goes back to where the transaction began, if one is open.
     pub fn back(&mut self)
         ensures { Closes self.old.before self.old self.new }
