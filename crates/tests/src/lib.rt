@@ -7,6 +7,8 @@ mod books;
 #[cfg(test)]
 mod faces;
 #[cfg(test)]
+mod hidden;
+#[cfg(test)]
 mod messages;
 #[cfg(test)]
 mod moments;

@@ -18,19 +18,19 @@ use std::io::Read;
 use std::test::Fail;
 use store::Book;
 
-/// What alfa sends, and when.
-type Line = (&'static str, &'static str);
+/// What a registrar sends, and when.
+pub(crate) type Line = (&'static str, &'static str);
 
-const START: &str = "2028-01-01T00:00:00Z";
+pub(crate) const START: &str = "2028-01-01T00:00:00Z";
 
-const CREATED: &str = "2029-01-01T00:00:00Z";
+pub(crate) const CREATED: &str = "2029-01-01T00:00:00Z";
 
-const LOGIN: Line = (
+pub(crate) const LOGIN: Line = (
     START,
     "{\"cmd\":\"login\",\"id\":\"alfa\",\"pw\":\"pass-alfa\",\"version\":\"1.0\"}",
 );
 
-const CONTACT: Line = (
+pub(crate) const CONTACT: Line = (
     START,
     "{\"cmd\":\"create\",\"mail\":\"ann@alfa.example\",\"name\":\"c-alfa\",\"obj\":\"contact\",\"postal\":{\"cc\":\"DE\",\"city\":\"Town\",\"name\":\"Ann\",\"street\":[\"Road 1\"]},\"secret\":\"key-alfa\"}",
 );
@@ -83,7 +83,7 @@ fn moment(text: &str) -> Result<Moment, Fail> {
 }
 
 /// A clock that tells the moments of lines.
-fn clock_of(alloc: Global, lines: &[Line]) -> Result<ListClock, Fail> {
+pub(crate) fn clock_of(alloc: Global, lines: &[Line]) -> Result<ListClock, Fail> {
     let mut moments = VecDeque::new(alloc);
     for (told, _) in lines.iter().copied() {
         moments.push_back(moment(told)?)?;
@@ -92,7 +92,7 @@ fn clock_of(alloc: Global, lines: &[Line]) -> Result<ListClock, Fail> {
 }
 
 /// The frames of lines.
-fn frames_of(alloc: Global, lines: &[Line]) -> Result<Vec<u8>, Fail> {
+pub(crate) fn frames_of(alloc: Global, lines: &[Line]) -> Result<Vec<u8>, Fail> {
     let mut bytes = Vec::new(alloc);
     for (_, payload) in lines.iter().copied() {
         let frame = framed(alloc, &[payload])?;
@@ -101,12 +101,21 @@ fn frames_of(alloc: Global, lines: &[Line]) -> Result<Vec<u8>, Fail> {
     Ok(bytes)
 }
 
-/// alfa pays.
-fn pay<B: Book + Drop>(alloc: Global, registry: &mut Registry<B>) -> Result<(), Fail> {
+/// Who pays, and how many cents.
+type Payment = (&'static str, i64);
+
+pub(crate) const PAID: Payment = ("alfa", 100_000);
+
+/// A registrar pays.
+fn pay<B: Book + Drop>(
+    alloc: Global,
+    registry: &mut Registry<B>,
+    (registrar, cents): Payment,
+) -> Result<(), Fail> {
     let start = moment(START)?;
     let order = Order::Deposit {
-        registrar: Text::from_str(alloc, "alfa")?,
-        cents: 100_000,
+        registrar: Text::from_str(alloc, registrar)?,
+        cents,
     };
     match registry.operator(&order, start) {
         Ok(_) => Ok(()),
@@ -115,7 +124,7 @@ fn pay<B: Book + Drop>(alloc: Global, registry: &mut Registry<B>) -> Result<(), 
 }
 
 /// What a connection is told, and what it leaves.
-fn served<R: Read, B: Book + Drop>(
+pub(crate) fn served<R: Read, B: Book + Drop>(
     alloc: Global,
     reader: &mut R,
     clock: ListClock,
@@ -127,14 +136,15 @@ fn served<R: Read, B: Book + Drop>(
     (told, served)
 }
 
-/// A registry that could be opened, after a session of these lines.
-fn filled<B: Book + Drop>(
+/// A registry that could be opened, after a payment and a session of these lines.
+pub(crate) fn filled<B: Book + Drop>(
     alloc: Global,
     opened: Result<Registry<B>, &'static str>,
+    payment: Payment,
     lines: &[Line],
 ) -> Result<Registry<B>, Fail> {
     let mut registry = opened?;
-    match prepared(alloc, &mut registry, lines) {
+    match prepared(alloc, &mut registry, payment, lines) {
         Ok((asked, clock)) => ended(served(alloc, &mut whole(&asked), clock, registry).1),
         Err(fail) => {
             drop(registry);
@@ -143,19 +153,20 @@ fn filled<B: Book + Drop>(
     }
 }
 
-/// The frames of lines and their moments, once alfa has paid.
+/// The frames of lines and their moments, once somebody has paid.
 fn prepared<B: Book + Drop>(
     alloc: Global,
     registry: &mut Registry<B>,
+    payment: Payment,
     lines: &[Line],
 ) -> Result<(Vec<u8>, ListClock), Fail> {
-    pay(alloc, registry)?;
+    pay(alloc, registry, payment)?;
     let asked = frames_of(alloc, lines)?;
     Ok((asked, clock_of(alloc, lines)?))
 }
 
 /// The registry behind a session that met the end of its input.
-fn ended<B: Book + Drop>(served: Served<B>) -> Result<Registry<B>, Fail> {
+pub(crate) fn ended<B: Book + Drop>(served: Served<B>) -> Result<Registry<B>, Fail> {
     match served.end {
         ConnectionEnd::Session(SessionEnd::End) => Ok(served.registry),
         _ => {
@@ -190,7 +201,7 @@ fn told_by<B: Book + Drop, R: Read>(
     reader: &mut R,
     clock: ListClock,
 ) -> Result<(Vec<u8>, ConnectionEnd), Fail> {
-    let registry = filled(alloc, opened, lines)?;
+    let registry = filled(alloc, opened, PAID, lines)?;
     let (told, served) = served(alloc, reader, clock, registry);
     let end = served.end;
     drop(served);
@@ -454,7 +465,7 @@ fn has_zone<B: Book + Drop>(
     at: Moment,
     wanted: &str,
 ) -> Result<bool, Fail> {
-    let mut registry = filled(alloc, opened, lines)?;
+    let mut registry = filled(alloc, opened, PAID, lines)?;
     let mut text = Vec::new(alloc);
     let written = zone_on(alloc, &mut registry, at, &mut text);
     drop(registry);

@@ -7,6 +7,8 @@ mod connections;
 #[cfg(test)]
 mod frames;
 #[cfg(test)]
+mod hidden;
+#[cfg(test)]
 mod http;
 #[cfg(test)]
 mod serving;
