@@ -1,1 +1,2 @@
 pub mod IsolationLemmas
+pub mod RunLemmas
