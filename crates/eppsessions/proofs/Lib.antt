@@ -1,3 +1,4 @@
 pub mod IsolationLemmas
+pub mod RunLemmas
 pub mod LateLemmas
 pub mod FollowLemmas

@@ -10,4 +10,4 @@ mod connection;
 mod laws;
 
 pub use connection::Connection;
-pub use laws::{frames_are_isolated, late_frames_fail};
+pub use laws::{alike_lists_send_the_same, frames_are_isolated, late_frames_fail};

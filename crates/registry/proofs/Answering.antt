@@ -1,4 +1,4 @@
--- Each call of the registry answers a question by the rules.
+-- Each call of the registry answers a question by the rules, where it answers.
 use Rattle.std.proofs.Common.{ℕ, max, Result, Ok, Err, IfOk, refl, sym, ap, ◌∙◌, arith}
 use Rattle.model.specs.Lapse.{lapsed}
 use Rattle.model.specs.Registry.{Registry}
@@ -12,31 +12,30 @@ use Rattle.protocol.specs.declared.reply.Reply.{Reply}
 use Rattle.registry.specs.Execution.{IsGreetingStep, IsOrderStep, IsSettlement, IsStep}
 use Rattle.registry.specs.Faces.{IsLookUp}
 
-module _ {E : Type 0} (clean : Type 0) (p : PolicyRules) (moment : ℕ) (before after : Registry) where
-  pub command_answered : (result : Result Reply E) (r : ℕ) (c : Command)
-      → IfOk result (λ a. clean → IsStep p r c moment before after a) → IfOk result (λ a. clean → IsCall p moment (command r c) before after (reply a))
-  command_answered (Ok a) r c step = λ taken. record { answered = ap reply (step taken).answered; left = (step taken).left }
-  command_answered (Err e) r c step = tt
+pub command_answered : {E : Type 0} (clean : Type 0) (p : PolicyRules) (moment : ℕ) (before after : Registry) (result : Result Reply E) (r : ℕ) (c : Command)
+    → IfOk result (λ a. clean → IsStep p r c moment before after a) → IfOk result (λ a. clean → IsCall p moment (command r c) before after (reply a))
+command_answered clean p moment before after (Ok a) r c step = λ taken. record { answered = ap reply (step taken).answered; left = (step taken).left }
+command_answered clean p moment before after (Err e) r c step = tt
 
-  pub order_answered : (result : Result Code E) (o : Order)
-      → IfOk result (λ a. clean → IsOrderStep p o moment before after a) → IfOk result (λ a. clean → IsCall p moment (order o) before after (code a))
-  order_answered (Ok a) o step = λ taken. record { answered = ap code (step taken).answered; left = (step taken).left }
-  order_answered (Err e) o step = tt
+pub order_answered : {E : Type 0} (clean : Type 0) (p : PolicyRules) (moment : ℕ) (before after : Registry) (result : Result Code E) (o : Order)
+    → IfOk result (λ a. clean → IsOrderStep p o moment before after a) → IfOk result (λ a. clean → IsCall p moment (order o) before after (code a))
+order_answered clean p moment before after (Ok a) o step = λ taken. record { answered = ap code (step taken).answered; left = (step taken).left }
+order_answered clean p moment before after (Err e) o step = tt
 
-  pub greeting_answered : (result : Result ℕ E)
-      → IfOk result (λ a. clean → IsGreetingStep p moment before after a) → IfOk result (λ a. clean → IsCall p moment date before after (dated a))
-  greeting_answered (Ok a) step = λ taken. record { answered = ap dated (step taken).dated; left = (step taken).left }
-  greeting_answered (Err e) step = tt
+pub greeting_answered : {E : Type 0} (clean : Type 0) (p : PolicyRules) (moment : ℕ) (before after : Registry) (result : Result ℕ E)
+    → IfOk result (λ a. clean → IsGreetingStep p moment before after a) → IfOk result (λ a. clean → IsCall p moment date before after (dated a))
+greeting_answered clean p moment before after (Ok a) step = λ taken. record { answered = ap dated (step taken).dated; left = (step taken).left }
+greeting_answered clean p moment before after (Err e) step = tt
 
-  pub settlement_answered : (result : Result ℕ E) (at_most : ℕ)
-      → IfOk result (λ done. clean → IsSettlement p moment at_most before after done) → IfOk result (λ done. clean → IsCall p moment look_up before after (shown (lapsed p moment before)))
-  settlement_answered (Ok done) at_most step = λ taken. record {
-    answered = refl;
-    left = (step taken).unnoticed ∙ sym (lapses-on p (max moment before.clock) (max moment before.clock) (omega arith) before);
-  }
-  settlement_answered (Err e) at_most step = tt
+pub settlement_answered : {E : Type 0} (clean : Type 0) (p : PolicyRules) (moment : ℕ) (before after : Registry) (result : Result ℕ E) (at_most : ℕ)
+    → IfOk result (λ done. clean → IsSettlement p moment at_most before after done) → IfOk result (λ done. clean → IsCall p moment look_up before after (shown (lapsed p moment before)))
+settlement_answered clean p moment before after (Ok done) at_most step = λ taken. record {
+  answered = refl;
+  left = (step taken).unnoticed ∙ sym (lapses-on p (max moment before.clock) (max moment before.clock) (omega arith) before);
+}
+settlement_answered clean p moment before after (Err e) at_most step = tt
 
-  pub look_up_answered : {X : Type 0} (result : Result X E) (find : Registry → X)
-      → IfOk result (λ found. clean → IsLookUp p find moment before after found) → IfOk result (λ found. clean → IsCall p moment look_up before after (shown (lapsed p moment before)))
-  look_up_answered (Ok found) find step = λ taken. record { answered = refl; left = (step taken).left }
-  look_up_answered (Err e) find step = tt
+pub look_up_answered : {E X : Type 0} (clean : Type 0) (p : PolicyRules) (moment : ℕ) (before after : Registry) (result : Result X E) (find : Registry → X)
+    → IfOk result (λ found. clean → IsLookUp p find moment before after found) → IfOk result (λ found. clean → IsCall p moment look_up before after (shown (lapsed p moment before)))
+look_up_answered clean p moment before after (Ok found) find step = λ taken. record { answered = refl; left = (step taken).left }
+look_up_answered clean p moment before after (Err e) find step = tt

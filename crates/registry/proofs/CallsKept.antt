@@ -1,5 +1,5 @@
 -- What every call keeps follows from the question that it answers.
-use Rattle.std.proofs.Common.{◌≡◌, ℕ, ◌≤◌, max, true, Result, Ok, Err, IfOk, OnOk, Some, inr, refl, sym, subst, ◌∙◌, arith}
+use Rattle.std.proofs.Common.{◌≡◌, ℕ, ◌≤◌, max, true, Result, Ok, Err, IfOk, OnOk, Some, inr, refl, sym, ap, subst, ◌∙◌, arith}
 use Rattle.model.specs.Lapse.{lapsed, now}
 use Rattle.model.specs.Money.{MoneyFollows}
 use Rattle.model.specs.Registry.{Registry}
@@ -15,6 +15,7 @@ use Rattle.protocol.specs.declared.order.Order.{Order}
 use Rattle.registry.specs.declared.fault.Fault.{Fault}
 use Rattle.registry.specs.declared.fault.Fault.TheVariants as faults
 use Rattle.registry.specs.Calls.{CallKeeps, IsKept, StepKeeps}
+use Rattle.registry.specs.Crashes.{Outlives}
 use Rattle.registry.specs.Execution.{SameTerms}
 use Rattle.registry.specs.Money.{CallKeepsMoney}
 use Rattle.registry.specs.WellFormed.{BookCanBeReopened, CallKeepsWellFormed, KeepsWellFormed, StaysWellFormed}
@@ -24,7 +25,8 @@ use Rattle.rules.specs.Steps.{effect}
 use Rattle.rules.proofs.LapsedLemmas.{serial-lapsed}
 use Rattle.rules.proofs.MoneyLaws.{money-effect-now, money-lapsed-now, money-order-now}
 use Rattle.rules.proofs.RegistryLemmas.{registry-effect, registry-lapsed, registry-now, registry-order}
-use Rattle.store.specs.Book.{BookState, Follows, Stored}
+use Rattle.store.specs.Book.{BookState, Follows, LeavesSame, Stored}
+use Rattle.registry.proofs.CrashLemmas.{gave_up_by, outlives_later}
 
 -- ---- a well formed registry
 
@@ -45,6 +47,14 @@ keeps-in-time p moment early before after left is = subst (IsRegistry p) (sym le
 
 pub reopened : (p : PolicyRules) (state : BookState) → (state.is_clean ≡ true → state.content.terms ≡ Some (terms_of p)) → BookCanBeReopened p state
 reopened p state kept clean formed = inr (p, kept clean, formed)
+
+-- ---- refusals stay counted
+
+follows-itself : (s : BookState) → Follows s s
+follows-itself s = record { clean = λ clean. clean; counted = omega arith }
+
+follows-on : (old mid new : BookState) → Follows old mid → Follows mid new → Follows old new
+follows-on old mid new first then = record { clean = λ clean. first.clean (then.clean clean); counted = omega (arith, first.counted, then.counted) }
 
 -- ---- each call
 
@@ -91,4 +101,26 @@ module _ (p : PolicyRules) (sound : IsSound p) (moment : ℕ) (early : moment �
 
 -- one that comes too late does nothing
 pub kept_late : {A : Type 0} (p : PolicyRules) (moment : ℕ) (x : Question) (told : A → Answer) (makes : Stored → Stored → Type 0) (s : BookState) → CallKeeps p moment x told makes (Err faults.Moment) p s s
-kept_late p moment x told makes s = record { policy = refl; follows = record { clean = λ clean. clean; counted = omega arith }; crash = λ left may. may; answered = tt }
+kept_late p moment x told makes s = record { policy = refl; follows = follows-itself s; crash = λ left may. may; answered = tt }
+
+-- ---- a call inside
+
+-- a transaction was begun, and work was done in it
+pub step_kept : {A : Type 0} (p : PolicyRules) (makes : Stored → Stored → Type 0) (result : Result A Fault) (old mid new : BookState)
+    → Follows old mid → LeavesSame old mid → (mid.is_clean ≡ true → mid.content ≡ old.content)
+    → Follows mid new → OnOk result (SameTerms mid new) → Outlives result makes mid new → StepKeeps p makes result p old new
+step_kept {A} p makes result old mid new follows same content then terms crash = record {
+  policy = refl;
+  follows = follows-on old mid new follows then;
+  crash = outlives_later result makes old mid new follows same content crash;
+  terms = by result terms;
+}
+  where
+    by : (result : Result A Fault) → OnOk result (SameTerms mid new) → OnOk result (SameTerms old new)
+    by (Ok it) terms = λ clean. terms clean ∙ ap (λ (held : Stored). held.terms) (content (then.clean clean))
+    by (Err fault) terms = tt
+
+-- or it couldn't be begun
+pub step_gave_up : {A : Type 0} (p : PolicyRules) (makes : Stored → Stored → Type 0) (fault : Fault) (old new : BookState)
+    → Follows old new → LeavesSame old new → StepKeeps {A = A} p makes (Err fault) p old new
+step_gave_up p makes fault old new follows same = record { policy = refl; follows = follows; crash = gave_up_by fault makes old new same; terms = tt }

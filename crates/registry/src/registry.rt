@@ -93,6 +93,7 @@ impl<B: Book + Drop> Registry<B> {
     ///
     /// The reply, and what the registrar sees afterwards, are those in every registry that the
     /// registrar can't tell from this one. A well formed registry stays well formed.
+    #[tactic(auto, using(crate::proofs::CallsKept::kept_late))]
     pub fn execute(
         &mut self,
         caller: RegistrarNo,
@@ -124,6 +125,7 @@ impl<B: Book + Drop> Registry<B> {
     /// `ObjectMissing` where its registrar or its object isn't there or its name doesn't read,
     /// `StatusProhibits` where it comes too late, or `ParameterPolicy` where a status is amiss.
     /// A well formed registry stays well formed.
+    #[tactic(auto, using(crate::proofs::CallsKept::kept_late))]
     pub fn operator(&mut self, order: &Order, moment: Moment) -> Result<Code, Fault>
         ensures step { IfOk result (λ code. OrderSteps self.old.policy order.now moment code (B.state self.old.book) (B.state self.new.book)) }
         ensures fault { IfErr result (λ fault. Fails fault (B.state self.old.book) (B.state self.new.book)) }
@@ -141,6 +143,7 @@ impl<B: Book + Drop> Registry<B> {
     /// Answers hello at a moment with the server's date (RFC 5730, 2.4), which is the clock; a moment
     /// before the clock counts as the clock. Nobody's command is counted. A well formed registry
     /// stays well formed.
+    #[tactic(auto, using(crate::proofs::CallsKept::kept_late))]
     pub fn greet(&mut self, moment: Moment) -> Result<Moment, Fault>
         ensures step { IfOk result (λ date. Greets self.old.policy moment date (B.state self.old.book) (B.state self.new.book)) }
         ensures fault { IfErr result (λ fault. Fails fault (B.state self.old.book) (B.state self.new.book)) }
@@ -158,6 +161,7 @@ impl<B: Book + Drop> Registry<B> {
     /// Lets objects lapse that are due by a moment, the first so many by due moment, contacts first, by
     /// name, and gives how many they were; one moment before the clock counts as the clock. No later
     /// call can tell whether it was done, but this one. A well formed registry stays well formed.
+    #[tactic(auto, using(crate::proofs::CallsKept::kept_late))]
     pub fn settle(&mut self, moment: Moment, at_most: u32) -> Result<u32, Fault>
         ensures step { IfOk result (λ done. Settles self.old.policy moment at_most done (B.state self.old.book) (B.state self.new.book)) }
         ensures fault { IfErr result (λ fault. Fails fault (B.state self.old.book) (B.state self.new.book)) }
@@ -262,6 +266,7 @@ impl<B: Book + Drop> Registry<B> {
     }
 
     /// Looks something up at a moment, which every call may do that tells what everyone may know.
+    #[tactic(auto, using(crate::proofs::CallsKept::kept_late))]
     fn look_up<L: LookUp>(&mut self, what: &L, moment: Moment) -> Result<L::Found, Fault>
         ensures step { IfOk result (λ found. LooksUp self.old.policy (L.finds what.now self.old.policy) moment found (B.state self.old.book) (B.state self.new.book)) }
         ensures fault { IfErr result (λ fault. Fails fault (B.state self.old.book) (B.state self.new.book)) }
@@ -277,7 +282,7 @@ impl<B: Book + Drop> Registry<B> {
     }
 
     /// Does the work of a call in a transaction of its own, and keeps what it did.
-    #[tactic(auto, using(crate::proofs::CrashLemmas::gave_up_by, crate::proofs::CrashLemmas::outlives_later))]
+    #[tactic(auto, using(crate::proofs::CallsKept::step_gave_up))]
     fn transact<W: Work>(&mut self, work: &W) -> Result<W::Answer, Fault>
         ensures step { IfOk result (λ answer. (B.state self.new.book).is_clean ≡ true → W.step work.now self.old.policy (B.state self.old.book).content.registry (B.state self.new.book).content.registry answer) }
         ensures fault { IfErr result (λ fault. Fails fault (B.state self.old.book) (B.state self.new.book)) }

@@ -16,6 +16,10 @@ returns-in-Ok-clause-opened g c =
       well_formed = opens-kept c.args.policy old new c.in-Ok.ensures.opened;
       reopens = reopened c.args.policy new (λ clean. ap (λ (held : Stored). held.terms) (c.in-Ok.ensures.opened.content clean));
       tells_alike = λ clean. alike-lists-tell-the-same c.args.policy new.content.registry;
-      crash = c.open_in.ensures.crash;
+      crash = c.in-Ok.ensures.crash;
       follows = c.open_in.ensures.follows;
     }
+
+pub returns-in-Err-clause-refused : goal.returns-in-Err-clause-refused
+returns-in-Err-clause-refused g c =
+    record { refuses = c.in-Err.ensures.refused; ours = c.in-Err.ensures.refused_ours; crash = c.in-Err.ensures.crash; follows = c.open_in.ensures.follows }

@@ -1,0 +1,110 @@
+"""How long a file takes to be opened, and how long the log beside it becomes.
+
+usage: python3 openings.py TLDREG [DOMAINS..]     (the program as rt ci builds it)
+
+For each number of domains (1,000, 10,000 and 100,000 where none is given) a client creates that many over frames, 1,000
+written at once, under the example policy. The program is ended by a signal, as at a crash, and started again. Printed
+are, each of one run:
+
+file, log   megabytes of the database file and of the log beside it at the end of the creates, and of the log at its
+            longest while they were made
+opening     seconds from the program's start until its port takes a connection, by when the file was read whole and
+            opened; its peak memory until then, in megabytes; and how many bytes it read by then, as a multiple of the
+            two files' bytes
+lapse       seconds of `zone` at a moment two years later, by when each name has renewed itself and all that is kept in
+            one transaction; megabytes of the log afterwards
+"""
+import os
+import subprocess
+import sys
+import tempfile
+import time
+from datetime import datetime, timedelta, timezone
+from pathlib import Path
+
+import make_script
+import rows
+
+POLICY = str(rows.HERE.parent / "examples" / "policy.toml")
+MEGABYTE = 10 ** 6
+
+
+def size(path):
+    return os.path.getsize(path) if os.path.exists(path) else 0
+
+
+def moment(years=0):
+    return f"{datetime.now(timezone.utc) + timedelta(days=366 * years):%Y-%m-%dT%H:%M:%SZ}"
+
+
+def end(server):
+    server.kill()
+    server.wait()
+
+
+def fill(program, file, domains, port):
+    """Creates the domains, and returns how long the log was at its longest."""
+    subprocess.run([program, "deposit", POLICY, file, moment(), "alfa", str(10 ** 12)], check=True,
+                   stdout=subprocess.DEVNULL)
+    server = rows.served(program, POLICY, file, port)
+    client, longest = rows.Client(port, "alfa"), 0
+    client.send([make_script.CONTACT])
+    for first in range(1, domains + 1, 1000):
+        client.send([make_script.create(number) for number in range(first, min(first + 1000, domains + 1))])
+        longest = max(longest, size(f"{file}-wal"))
+    client.close()
+    end(server)
+    return longest
+
+
+def of_process(server, name):
+    """A number that the system keeps of a process: kilobytes of status, bytes of io."""
+    for part in ("status", "io"):
+        for line in Path(f"/proc/{server.pid}/{part}").read_text().splitlines():
+            if line.startswith(f"{name}:"):
+                return int(line.split()[1])
+    raise KeyError(name)
+
+
+def opening(program, file, port):
+    begun = time.perf_counter()
+    server = rows.served(program, POLICY, file, port)
+    while not listens(port):
+        assert server.poll() is None, "serve has ended"
+        time.sleep(0.0005)
+    seconds = time.perf_counter() - begun
+    peak, read = of_process(server, "VmHWM") * 1024, of_process(server, "rchar")
+    end(server)
+    return seconds, peak, read
+
+
+def listens(port):
+    """Whether a port of this machine is listened on: no connection is made, which the program would serve."""
+    wanted = f"0100007F:{port:04X}"
+    lines = Path("/proc/net/tcp").read_text().splitlines()[1:]
+    return any(line.split()[1] == wanted and line.split()[3] == "0A" for line in lines)
+
+
+def lapse(program, file):
+    begun = time.perf_counter()
+    subprocess.run([program, "zone", POLICY, file, moment(2)], check=True, stdout=subprocess.DEVNULL)
+    return time.perf_counter() - begun
+
+
+def main(words):
+    program = words[0]
+    print("domains   file    log longest | opening  peak  read | lapse    log")
+    for place, domains in enumerate([int(word) for word in words[1:]] or [1000, 10000, 100000]):
+        with tempfile.TemporaryDirectory(dir="/var/tmp") as folder:
+            file, port = os.path.join(folder, "registry.db"), 7720 + 2 * place
+            longest = fill(program, file, domains, port)
+            bytes_there = size(file), size(f"{file}-wal")
+            seconds, peak, read = opening(program, file, port + 1)
+            lapsed = lapse(program, file)
+            print(f"{domains:7} {bytes_there[0] / MEGABYTE:6.1f} {bytes_there[1] / MEGABYTE:6.1f} {longest / MEGABYTE:7.1f} | "
+                  f"{seconds:7.2f} {peak / MEGABYTE:5.0f} {read / sum(bytes_there):5.2f} | {lapsed:5.1f} "
+                  f"{size(file + '-wal') / MEGABYTE:6.1f}", flush=True)
+
+
+if __name__ == "__main__":
+    main(sys.argv[1:])
