@@ -265,16 +265,24 @@ fn fail_after_each(
     Err(Fail::from("never passes"))
 }
 
+/// Lets a file fail after each number of calls in a case.
+fn fail_in(rt: &(impl Abort + AllocGlobal), case: &Case, trouble: Trouble) -> Result<(), Fail> {
+    let alloc = rt.alloc();
+    let earlier = earlier_image(alloc, case)?;
+    let mut findings = Findings {
+        earlier,
+        written: Found::nothing(alloc),
+        synchronised: Found::nothing(alloc),
+    };
+    let failed = fail_after_each(rt, case, trouble, &mut findings);
+    drop(findings);
+    failed
+}
+
 /// Every case, over files of which one fails.
 fn leaves_all_or_nothing(rt: &(impl Abort + AllocGlobal), trouble: Trouble) -> Result<(), Fail> {
-    let alloc = rt.alloc();
     for case in CASES {
-        let mut findings = Findings {
-            earlier: earlier_image(alloc, case)?,
-            written: Found::nothing(alloc),
-            synchronised: Found::nothing(alloc),
-        };
-        fail_after_each(rt, case, trouble, &mut findings)?;
+        fail_in(rt, case, trouble)?;
     }
     Ok(())
 }
