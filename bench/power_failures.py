@@ -16,6 +16,7 @@ The program opens each such state, and SQLite's own library reads it then: the d
 all that were answered and at most the next, and balance and counter are those of as many. Printed is how many states
 there were, and each that is wrong.
 """
+import hashlib
 import os
 import random
 import re
@@ -170,8 +171,9 @@ def main(words):
             answered += is_answer
             for how in ["written", "synchronised", *["writes"] * DRAWN, *["sectors"] * DRAWN]:
                 state = database.left(chance, how), log.left(chance, how)
-                if (answered, state) not in seen:
-                    seen.add((answered, state))
+                sums = answered, *(hashlib.sha256(it).digest() for it in state)
+                if sums not in seen:
+                    seen.add(sums)
                     found = fault(program, folder, state, answered)
                     if found:
                         wrong += 1

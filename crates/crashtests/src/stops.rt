@@ -1,7 +1,10 @@
 //! A file fails at each of its calls in turn, until a command passes, and what lies in the files is opened
 //! again: what was written, and what was synchronised.
 
-use crate::cases::{CASES, Case, Look};
+use crate::cases::{
+    Case, Look, acknowledgement, approval, create, first_opening, one_registrar_more, rename,
+    report, settlement,
+};
 use crate::disks::{File, Image, Limits, UNLIMITED, lose_what_was_not_synchronised};
 use crate::registries::{Left, NOT_OPENED, NOT_TAKEN_UP, Work, work_in};
 use sqlite::{Files, Options};
@@ -281,7 +284,16 @@ fn fail_in(rt: &(impl Abort + AllocGlobal), case: &Case, trouble: Trouble) -> Re
 
 /// Every case, over files of which one fails.
 fn leaves_all_or_nothing(rt: &(impl Abort + AllocGlobal), trouble: Trouble) -> Result<(), Fail> {
-    for case in CASES {
+    for case in [
+        create(),
+        approval(),
+        rename(),
+        report(),
+        acknowledgement(),
+        settlement(),
+        first_opening(),
+        one_registrar_more(),
+    ] {
         fail_in(rt, case, trouble)?;
     }
     Ok(())
