@@ -8,18 +8,18 @@ are, each of one run:
 
 file, log   megabytes of the database file and of the log beside it at the end of the creates, and of the log at its
             longest while they were made
-opening     seconds from the program's start until its port takes a connection, by when the file was read whole and
-            opened; its peak memory until then, in megabytes; and how many bytes it read by then, as a multiple of the
-            two files' bytes
-lapse       seconds of `zone` at a moment two years later, by when each name has renewed itself and all that is kept in
-            one transaction; megabytes of the log afterwards
+opening     seconds from the program's start until it listens, by when the file was read whole and opened, and how many
+            of them the processor worked for it; its peak memory until then, and megabytes that it read by then
+lapse       seconds of one command when the domains have become older and each renews itself before it is judged, all
+            in one transaction; megabytes of the log afterwards
 """
 import os
+import sqlite3
 import subprocess
 import sys
 import tempfile
 import time
-from datetime import datetime, timedelta, timezone
+from datetime import datetime, timezone
 from pathlib import Path
 
 import make_script
@@ -33,8 +33,8 @@ def size(path):
     return os.path.getsize(path) if os.path.exists(path) else 0
 
 
-def moment(years=0):
-    return f"{datetime.now(timezone.utc) + timedelta(days=366 * years):%Y-%m-%dT%H:%M:%SZ}"
+def moment():
+    return f"{datetime.now(timezone.utc):%Y-%m-%dT%H:%M:%SZ}"
 
 
 def end(server):
@@ -66,6 +66,11 @@ def of_process(server, name):
     raise KeyError(name)
 
 
+def processor_seconds(server):
+    words = Path(f"/proc/{server.pid}/stat").read_text().rsplit(")", 1)[1].split()
+    return sum(int(it) for it in words[11:13]) / os.sysconf("SC_CLK_TCK")
+
+
 def opening(program, file, port):
     begun = time.perf_counter()
     server = rows.served(program, POLICY, file, port)
@@ -73,9 +78,9 @@ def opening(program, file, port):
         assert server.poll() is None, "serve has ended"
         time.sleep(0.0005)
     seconds = time.perf_counter() - begun
-    peak, read = of_process(server, "VmHWM") * 1024, of_process(server, "rchar")
+    peak, read, worked = of_process(server, "VmHWM") * 1024, of_process(server, "rchar"), processor_seconds(server)
     end(server)
-    return seconds, peak, read
+    return seconds, worked, peak / MEGABYTE, read / MEGABYTE
 
 
 def listens(port):
@@ -85,25 +90,34 @@ def listens(port):
     return any(line.split()[1] == wanted and line.split()[3] == "0A" for line in lines)
 
 
-def lapse(program, file):
+def lapse(program, file, port):
+    older = 370 * 86400
+    database = sqlite3.connect(file)
+    database.executescript(f"UPDATE domain SET created = created - {older}, due = due - {older}; UPDATE line SET recorded = "
+                           f"recorded - {older}, started = started - {older};")
+    database.close()
+    server = rows.served(program, POLICY, file, port)
+    client = rows.Client(port, "alfa")
     begun = time.perf_counter()
-    subprocess.run([program, "zone", POLICY, file, moment(2)], check=True, stdout=subprocess.DEVNULL)
-    return time.perf_counter() - begun
+    client.send([{"cmd": "balance"}])
+    seconds = time.perf_counter() - begun
+    client.close()
+    end(server)
+    return seconds
 
 
 def main(words):
     program = words[0]
-    print("domains   file    log longest | opening  peak  read | lapse    log")
+    print("domains   file    log longest | opening worked  peak   read | lapse    log")
     for place, domains in enumerate([int(word) for word in words[1:]] or [1000, 10000, 100000]):
         with tempfile.TemporaryDirectory(dir="/var/tmp") as folder:
-            file, port = os.path.join(folder, "registry.db"), 7720 + 2 * place
+            file, port = os.path.join(folder, "registry.db"), 7720 + 3 * place
             longest = fill(program, file, domains, port)
-            bytes_there = size(file), size(f"{file}-wal")
-            seconds, peak, read = opening(program, file, port + 1)
-            lapsed = lapse(program, file)
-            print(f"{domains:7} {bytes_there[0] / MEGABYTE:6.1f} {bytes_there[1] / MEGABYTE:6.1f} {longest / MEGABYTE:7.1f} | "
-                  f"{seconds:7.2f} {peak / MEGABYTE:5.0f} {read / sum(bytes_there):5.2f} | {lapsed:5.1f} "
-                  f"{size(file + '-wal') / MEGABYTE:6.1f}", flush=True)
+            there = [size(file) / MEGABYTE, size(f"{file}-wal") / MEGABYTE, longest / MEGABYTE]
+            seconds, worked, peak, read = opening(program, file, port + 1)
+            lapsed, log = lapse(program, file, port + 2), size(f"{file}-wal") / MEGABYTE
+            print(f"{domains:7} {there[0]:6.1f} {there[1]:6.1f} {there[2]:7.1f} | {seconds:7.2f} {worked:6.2f} {peak:5.0f} "
+                  f"{read:6.1f} | {lapsed:5.1f} {log:6.1f}", flush=True)
 
 
 if __name__ == "__main__":

@@ -1,10 +1,14 @@
-//! The machine stops at each call on a disk, until a command passes, and the files are opened again.
+//! A file fails at each of its calls in turn, until a command passes, and what lies in the files is opened
+//! again: what was written, and what was synchronised.
 
-use crate::cases::{CASES, Case, Look};
+use crate::cases::{
+    Case, Look, acknowledgement, approval, create, first_opening, one_registrar_more, rename,
+    report, settlement,
+};
 use crate::disks::{File, Image, Limits, UNLIMITED, lose_what_was_not_synchronised};
 use crate::registries::{Left, NOT_OPENED, NOT_TAKEN_UP, Work, work_in};
 use sqlite::{Files, Options};
-use std::alloc::Global;
+use std::alloc::{AllocError, Global};
 use std::process::Abort;
 use std::test::Fail;
 
@@ -145,6 +149,34 @@ fn is_right(case: &Case, is_kept: bool, said_then: &str, found: &str) -> bool {
     }
 }
 
+/// What lies in files afterwards, where all that was written was kept, and where nothing was of what wasn't
+/// synchronised; and whether each call was passed on.
+#[derive(Drop)]
+struct Remains {
+    written: Image,
+    synchronised: Image,
+    had_no_trouble: bool,
+}
+
+fn remains_of(
+    alloc: Global,
+    files: Files<File>,
+    which: Which,
+    calls: u64,
+) -> Result<Remains, AllocError> {
+    let mut files = files;
+    let had_no_trouble = calls_of(&files, which) < calls;
+    let written = Image::of(alloc, &files);
+    lose_what_was_not_synchronised(&mut files);
+    let synchronised = Image::of(alloc, &files);
+    drop(files);
+    Ok(Remains {
+        written: written?,
+        synchronised: synchronised?,
+        had_no_trouble,
+    })
+}
+
 /// What was found in files last.
 #[derive(Drop)]
 struct Found {
@@ -161,8 +193,7 @@ impl Found {
     }
 
     /// Opens what lies in files, unless the same lay there before.
-    fn look(&mut self, alloc: Global, files: &Files<File>, looks: &[Look]) -> Result<(), Fail> {
-        let image = Image::of(alloc, files)?;
+    fn look(&mut self, alloc: Global, image: Image, looks: &[Look]) -> Result<(), Fail> {
         if image != self.image || self.told.is_empty() {
             self.told = seen(alloc, &image, looks)?;
             self.image = image;
@@ -171,55 +202,99 @@ impl Found {
     }
 }
 
-/// Lets a file fail after each number of calls in turn, until none fails: after how many that was.
-fn fail_at_each_call(
+/// What lay in the files before a case's command, and what was found in them last.
+#[derive(Drop)]
+struct Findings {
+    earlier: Image,
+    written: Found,
+    synchronised: Found,
+}
+
+/// Lets a file fail after so many calls, and compares what is found: whether no call failed.
+fn fail_after(
     rt: &(impl Abort + AllocGlobal),
     case: &Case,
     trouble: Trouble,
-) -> Result<u64, Fail> {
+    calls: u64,
+    findings: &mut Findings,
+) -> Result<bool, Fail> {
     let alloc = rt.alloc();
-    let name = case.name;
-    let image = earlier_image(alloc, case)?;
-    let (mut written, mut synchronised) = (Found::nothing(alloc), Found::nothing(alloc));
-    for calls in 0..MANY {
-        let left = tried(alloc, case, &image, trouble, calls)?;
-        let (said, said_then) = (left.said, left.said_then);
-        let is_kept = said.as_str() == case.told;
+    let left = tried(alloc, case, &findings.earlier, trouble, calls)?;
+    let (said, said_then) = (left.said, left.said_then);
+    let is_kept = said.as_str() == case.told;
+    assert!(rt;
+        is_kept || is_fault(said.as_str()),
+        "{}, {trouble:?} {calls}: {said}",
+        case.name
+    );
+    let Some(files) = left.files else {
+        return Ok(false);
+    };
+    let remains = remains_of(alloc, files, trouble.0, calls)?;
+    findings.written.look(alloc, remains.written, case.looks)?;
+    findings
+        .synchronised
+        .look(alloc, remains.synchronised, case.looks)?;
+    for it in [
+        findings.written.told.as_str(),
+        findings.synchronised.told.as_str(),
+    ] {
         assert!(rt;
-            is_kept || is_fault(said.as_str()),
-            "{name}, {trouble:?} {calls}: {said}"
+            is_right(case, is_kept, said_then.as_str(), it),
+            "{}, {trouble:?} {calls}: {said}{said_then}{it}",
+            case.name
         );
-        let Some(files) = left.files else {
-            continue;
-        };
-        let mut files = files;
-        let is_last = calls_of(&files, trouble.0) < calls;
-        written.look(alloc, &files, case.looks)?;
-        lose_what_was_not_synchronised(&mut files);
-        synchronised.look(alloc, &files, case.looks)?;
-        drop(files);
-        for it in [written.told.as_str(), synchronised.told.as_str()] {
-            assert!(rt;
-                is_right(case, is_kept, said_then.as_str(), it),
-                "{name}, {trouble:?} {calls}: {said}{said_then}{it}"
-            );
-        }
-        if is_last {
-            assert!(rt; is_kept, "{name}, {trouble:?} {calls}: {said}");
-            return Ok(calls);
+    }
+    assert!(rt;
+        is_kept || !remains.had_no_trouble,
+        "{}, {trouble:?}: {said}",
+        case.name
+    );
+    Ok(remains.had_no_trouble)
+}
+
+/// Lets a file fail after each number of calls in turn, until no call fails.
+fn fail_after_each(
+    rt: &(impl Abort + AllocGlobal),
+    case: &Case,
+    trouble: Trouble,
+    findings: &mut Findings,
+) -> Result<(), Fail> {
+    for calls in 0..MANY {
+        if fail_after(rt, case, trouble, calls, findings)? {
+            return Ok(());
         }
     }
     Err(Fail::from("never passes"))
 }
 
+/// Lets a file fail after each number of calls in a case.
+fn fail_in(rt: &(impl Abort + AllocGlobal), case: &Case, trouble: Trouble) -> Result<(), Fail> {
+    let alloc = rt.alloc();
+    let earlier = earlier_image(alloc, case)?;
+    let mut findings = Findings {
+        earlier,
+        written: Found::nothing(alloc),
+        synchronised: Found::nothing(alloc),
+    };
+    let failed = fail_after_each(rt, case, trouble, &mut findings);
+    drop(findings);
+    failed
+}
+
 /// Every case, over files of which one fails.
-fn leaves_all_or_nothing(
-    rt: &(impl Abort + AllocGlobal + Print),
-    trouble: Trouble,
-) -> Result<(), Fail> {
-    for case in CASES {
-        let calls = fail_at_each_call(rt, case, trouble)?;
-        let _ = println!(rt; "{} {trouble:?} {calls}", case.name);
+fn leaves_all_or_nothing(rt: &(impl Abort + AllocGlobal), trouble: Trouble) -> Result<(), Fail> {
+    for case in [
+        create(),
+        approval(),
+        rename(),
+        report(),
+        acknowledgement(),
+        settlement(),
+        first_opening(),
+        one_registrar_more(),
+    ] {
+        fail_in(rt, case, trouble)?;
     }
     Ok(())
 }
@@ -242,4 +317,14 @@ fn where_the_database_stops(rt: HostRuntime) -> Result<(), Fail> {
 #[test]
 fn where_the_log_stumbles(rt: HostRuntime) -> Result<(), Fail> {
     leaves_all_or_nothing(&rt, (Which::Log, How::Stumbles, LATER))
+}
+
+#[test]
+fn where_the_log_stumbles_while_it_is_written_back(rt: HostRuntime) -> Result<(), Fail> {
+    leaves_all_or_nothing(&rt, (Which::Log, How::Stumbles, AT_ONCE))
+}
+
+#[test]
+fn where_the_database_stumbles(rt: HostRuntime) -> Result<(), Fail> {
+    leaves_all_or_nothing(&rt, (Which::Database, How::Stumbles, AT_ONCE))
 }

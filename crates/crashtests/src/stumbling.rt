@@ -17,9 +17,7 @@ pub struct Stumbling<D: Disk> {
 }
 
 impl<D: Disk> Stumbling<D> {
-    pub fn new(inner: D, stumbles_after: u64) -> Stumbling<D>
-        ensures { (result.inner ≡ inner) × (result.sync_refused ≡ false) }
-    {
+    pub fn new(inner: D, stumbles_after: u64) -> Stumbling<D> {
         Stumbling {
             inner,
             calls: 0,
