@@ -75,7 +75,7 @@ module _ (p : PolicyRules) (sound : IsSound p) (moment : ℕ) (early : moment �
   -- ---- money
 
   pub paid : (x : Question) (before after : Registry) (a : Answer) → IsCall p moment x before after a → CallKeepsMoney p moment x before after
-  paid (command r c) before after a is formed = subst (MoneyFollows p moment (now p before)) (sym is.left) (money-effect-now p moment before sound early formed r c)
+  paid (command r c) before after a is = λ formed. subst (MoneyFollows p moment (now p before)) (sym is.left) (money-effect-now p moment before sound early formed r c)
   paid (order o) before after a is = subst (MoneyFollows p moment (now p before)) (sym is.left) (money-order-now p moment before o)
   paid date before after a is = subst (MoneyFollows p moment (now p before)) (sym is.left) (money-lapsed-now p moment before)
   paid look_up before after a is = subst (MoneyFollows p moment (now p before)) (sym is.left) (money-lapsed-now p moment before)
