@@ -95,13 +95,13 @@ fn work_over(
 ) -> Result<Left, Fail> {
     match adopt(conn, alloc) {
         Ok(book) => work_with(alloc, book, work),
-        Err(fault) => not_taken_up(alloc, fault),
+        Err(refused) => not_taken_up(alloc, refused),
     }
 }
 
 /// A book that wasn't taken up.
-fn not_taken_up(alloc: Global, _fault: BookFault) -> Result<Left, Fail> {
-    Left::new(alloc, NOT_TAKEN_UP, None)
+fn not_taken_up(alloc: Global, refused: (BookFault, FileStore<File>)) -> Result<Left, Fail> {
+    Left::new(alloc, NOT_TAKEN_UP, Some(refused.1.close()))
 }
 
 fn work_with<B: FileBook + Drop>(alloc: Global, book: B, work: &Work<'_>) -> Result<Left, Fail>
