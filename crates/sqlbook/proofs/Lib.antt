@@ -8,4 +8,3 @@ pub mod ReplacingLemmas
 pub mod SteadyLemmas
 pub mod ReopeningLemmas
 pub mod BeginningLemmas
-pub mod SeenLemmas
