@@ -7,7 +7,7 @@ pub returns-in_err-begin-clause-keeps : goal.returns-in_err-begin-clause-keeps
 returns-in_err-begin-clause-keeps g c =
     let p = err_from_is_err_and c.from_residual.result c.from_residual.ensures.1 in
     rw p.1 (step_gave_up c.args.self.now.policy (Makes (g.W.Work.step c.args.work.now c.args.self.now.policy)) p.0
-      (g.B.Book.state c.args.self.now.book) (g.B.Book.state c.begin.new.self) c.begin.ensures.follows c.begin.ensures.leaves)
+    (g.B.Book.state c.args.self.now.book) (g.B.Book.state c.begin.new.self) c.begin.ensures.follows c.begin.ensures.leaves)
 
 pub returns-clause-keeps : goal.returns-clause-keeps
 returns-clause-keeps g c =
