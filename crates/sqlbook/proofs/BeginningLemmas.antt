@@ -1,5 +1,5 @@
 -- What a book is over rows that were adopted.
-use Rattle.std.proofs.Common.{◌≡◌, ◌&&◌, ℕ, true, List, [], ◌∷◌, map, refl, sym, ap, subst, ◌∙◌}
+use Rattle.std.proofs.Common.{◌≡◌, ◌&&◌, ℕ, Bool, true, false, List, [], ◌∷◌, map, refl, sym, ap, subst, ◌∙◌}
 use Rattle.std.proofs.lemmas.Bool.{and_parts}
 use Rattle.sqlite.proofs.ListingLemmas.{empty_is_sound}
 use Rattle.sqlite_trees.specs.Objects.{catalog_tree}
@@ -19,11 +19,16 @@ use Rattle.transactions.specs.States.{Remains, StateOf}
 use Rattle.sqlbook.specs.Beginning.{IsFoundNew, IsTaken, IsTakenFrom}
 use Rattle.sqlbook.specs.Meaning.{are_right, stored_of}
 use Rattle.sqlbook.specs.Seen.{are_all_right, meant, seen}
+use Rattle.sqlbook.specs.Steady.{IsSteady}
 
 taken-as : (r : Ready) (trees : Trees) (x : Content) → IsTakenAs r trees x → IsTaken r trees (stored_of x)
 taken-as Empty trees x it = ap stored_of it
 taken-as Used trees x it = ap stored_of it.0
 taken-as Other trees x it = ap stored_of it
+
+and-true : (b : Bool) → (b && true) ≡ b
+and-true true = refl
+and-true false = refl
 
 -- ---- rows that were adopted
 module _ (trees : Trees) (rows : StateOf Content) (adopted : IsAdopted trees rows) where
@@ -33,6 +38,16 @@ module _ (trees : Trees) (rows : StateOf Content) (adopted : IsAdopted trees row
   -- the book is clean where they are honest and the sums are right
   pub clean_if_right : rows.is_honest ≡ true → are_right rows.content ≡ true → (rows.is_clean && are_right rows.before) ≡ true
   clean_if_right honest right = ap (λ b. b && are_right rows.before) (adopted.answers honest) ∙ ap are_right adopted.before ∙ right
+
+  -- its sums are as right as they were, and so they are wherever a crash may leave them
+  pub steady_adopted : IsSteady false are_right rows
+  steady_adopted = record {
+    sums = λ clean. sym (ap are_right adopted.before);
+    idle = λ closed. adopted.before;
+    clean = λ e. absurd cc;
+    begun = λ e. absurd cc;
+    leaves = λ clean. ap (are_all_right are_right) (adopted.leaves clean) ∙ and-true (are_right rows.content) ∙ sym (ap are_right adopted.before);
+  }
 
   right-rows : rows.is_clean ≡ true → are_all_right are_right rows.crash_leaves ≡ true → are_right rows.content ≡ true
   right-rows clean e = (and_parts (are_right rows.content) true (subst (λ (leaves : List (Remains Content)). are_all_right are_right leaves ≡ true) (adopted.leaves clean) e)).0
