@@ -22,9 +22,9 @@ const INFO: &str = r#"{"cmd":"info","name":"foo.test","obj":"domain"}"#;
 /// The numbers of the hosts, of three digits each, so that their names are in the order of their numbers.
 const FIRST: u32 = 100;
 
-const BEHIND_LAST: u32 = 420;
+const BEHIND_LAST: u32 = 440;
 
-/// The name of a host: 201 bytes.
+/// The name of a host: 198 bytes.
 fn name_of(alloc: Global, number: u32) -> Result<String, Fail> {
     let label = "abcdefghijklmnopqrstuvwxyzabcdefghijklmnopqrstuvwxyzabcdefgh";
     Ok(format!(in alloc; "h{number}.{label}.{label}.{label}.x.foo.test")?)
@@ -66,7 +66,7 @@ fn wanted(alloc: Global) -> Result<Vec<u8>, Fail> {
     let names = listed(alloc)?;
     let front =
         "{\"code\":1000,\"data\":{\"admin\":[],\"clID\":\"alfa\",\"crDate\":\"2029-01-01T00:00:00Z\",\"exDate\":\"2030-01-01T00:00:00Z\",\"hosts\":[],\"name\":\"foo.test\",\"registrant\":\"c-alfa\",\"rgp\":[\"addPeriod\"],\"roid\":\"D1_2-REG\",\"secret\":\"foo-secret\",\"status\":[\"inactive\"],\"subordinate\":[";
-    let back = "],\"tech\":[]},\"msg\":\"Command completed successfully\",\"svTRID\":\"alfa-323\"}";
+    let back = "],\"tech\":[]},\"msg\":\"Command completed successfully\",\"svTRID\":\"alfa-343\"}";
     let reply = format!(in alloc; "{front}{names}{back}")?;
     let mut frame = Vec::new(alloc);
     let total = reply.len().saturating_add(4).min(99_999) as u32;
