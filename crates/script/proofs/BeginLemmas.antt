@@ -2,7 +2,7 @@
 use Rattle.std.proofs.Common.{◌≡◌, ◌⊎◌, inl, inr, ◌<◌, ◌==◌, ◌++◌, ℕ, false, List, [], ◌∷◌, length, take, drop, Some, None, IfSome, Result, Ok, Err, refl, sym, ap, subst, ◌∙◌, codes, append-nil, append_assoc, take-append-drop}
 use Rattle.std.proofs.lemmas.Grind.{flat_map-append}
 use Rattle.std.proofs.lemmas.List.{append_cancel_left}
-use Rattle.std.proofs.KnownBytes.{Appends-kept, Appends-nil, Appends-trans, Keeps-refl, append_known-moved}
+use Rattle.std.proofs.KnownBytes.{Appends-nil, Appends-trans, append_known-moved}
 use Rattle.std.specs.Prelude.{Option, OnErr, OnOk}
 use Rattle.std.specs.declared.io.ErrorKind.{ErrorKind}
 use Rattle.std.specs.declared.io.ErrorKind.TheVariants.{OutOfMemory}
@@ -13,7 +13,7 @@ use Rattle.policy.specs.Rules.{PolicyRules}
 use Rattle.script.specs.declared.exit.Exit.{Exit}
 use Rattle.script.specs.declared.exit.Exit.TheVariants as exits
 use Rattle.script.specs.Exits.{exit_of}
-use Rattle.script.specs.Runs.{Answers, AppendsFront, BeginsBehind, Begins, BreaksAt, EndsBehind, EndsIn, Finishes, Prints, Stops, Writes, lines_of, printed}
+use Rattle.script.specs.Runs.{Answers, AppendsFront, BeginsBehind, Begins, BreaksAt, EndsBehind, EndsIn, Prints, Writes, lines_of, printed}
 use Rattle.script.proofs.RunLemmas.{AreTold, Prints-told, Reads, next_lines, under}
 
 -- ---- fronts of known bytes
@@ -158,6 +158,16 @@ fault_of_kind _ = inl refl
 
 pub fault_by : (exit : Exit) (kind : ErrorKind) → exit ≡ exit_of kind → IsFault exit
 fault_by exit kind is = subst IsFault (sym is) (fault_of_kind kind)
+
+-- ---- a run that a fault ends before its first line
+
+nothing_begun : (p : PolicyRules) (before : Registry) (input : List ℕ) → Begins p before input []
+nothing_begun p before input = record { lines = []; others = lines_of input; split = refl; after = before; replies = []; prints = (refl, refl); rest = []; text = refl }
+
+pub never_begun : (A : Type 0) (exit : Exit) (p : PolicyRules) (before : Registry) (a old : Option (List ℕ)) → IsFault exit → IfSome a (λ input. A → EndsIn p before before input old old exit)
+never_begun A exit p before None old is = tt
+never_begun A exit p before (Some input) old (inl is) = λ unused. rw is ([], Appends-nil old, nothing_begun p before input)
+never_begun A exit p before (Some input) old (inr is) = λ unused. rw is ([], Appends-nil old, nothing_begun p before input)
 
 fault_ends : (exit : Exit) (p : PolicyRules) (before after : Registry) (input : List ℕ) (old : Option (List ℕ)) (pending : List ℕ) (new : Option (List ℕ)) → IsFault exit → Writes old new (BeginsBehind pending p before input) → EndsBehind p before after input old pending new exit
 fault_ends exit p before after input old pending new (inl is) begun = rw is begun

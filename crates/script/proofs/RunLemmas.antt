@@ -1,15 +1,14 @@
 -- Runs, line by line.
 use Rattle.std.proofs.Common.{◌≡◌, ◌+◌, ◌<◌, ◌==◌, ℕ, Bool, true, false, cond, List, [], ◌∷◌, ◌++◌, length, Some, None, IfSome, refl, sym, ap, subst, ◌∙◌, codes, append-nil, append_assoc, arith}
 use Rattle.std.proofs.lemmas.Grind.{common_steps, flat_map-append}
-use Rattle.std.proofs.KnownBytes.{Appends-kept, Appends-nil, Appends-trans}
+use Rattle.std.proofs.KnownBytes.{Appends-nil, Appends-trans}
 use Rattle.std.specs.Prelude.{Option}
 use Rattle.std.specs.Io.BufRead.{DropsThrough, drop_through, strip_last, take_through}
 use Rattle.std.specs.Io.KnownBytes.{Appends, IsAtEnd}
 use Rattle.policy.specs.Rules.{PolicyRules}
-use Rattle.script.specs.declared.exit.Exit.{Exit}
 use Rattle.script.specs.declared.exit.Exit.TheVariants as exits
-use Rattle.script.specs.Runs.{Answers, EndsIn, HaltsAt, LeavesAsWas, Prints, TellsLine, begun_with, kept, lines_of, printed}
-use Rattle.store.specs.Book.{BookState, Follows, Stored}
+use Rattle.script.specs.Runs.{Answers, EndsIn, Prints, TellsLine, begun_with, lines_of, printed}
+use Rattle.store.specs.Book.{BookState, Follows}
 use Rattle.model.specs.Registry.{Registry}
 
 -- ---- the lines of an input

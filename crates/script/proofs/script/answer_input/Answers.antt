@@ -1,9 +1,19 @@
-use Rattle.std.proofs.Common.{ap, ◌∙◌}
+use Rattle.std.proofs.Common.{ap, inr, ◌∙◌}
 use Rattle.std.proofs.lemmas.Result.{err_from_is_err_and}
-use Rattle.script.proofs.BeginLemmas.{fault_by}
+use Rattle.script.proofs.BeginLemmas.{fault_by, never_begun}
 use Rattle.script.proofs.EndLemmas.{Ends-buffered, Ends-unflushed, Ends-unwritten}
 use Rattle.script.specs.Runs.{end_of}
 use Rattle.script.proofs.script.answer_input.Goals as goal
+
+pub returns-in_err-reader-clause-ends : goal.returns-in_err-reader-clause-ends
+returns-in_err-reader-clause-ends g c =
+    let gave = err_from_is_err_and c.from_residual.result c.from_residual.ensures.1 in
+    never_begun _ (end_of c.from_residual.result) _ _ _ _ (fault_by _ _ (ap end_of gave.1 ∙ gave.2))
+
+pub returns-in_err-pending-clause-ends : goal.returns-in_err-pending-clause-ends
+returns-in_err-pending-clause-ends g c =
+    let gave = err_from_is_err_and c.from_residual-in_err-pending.result c.from_residual-in_err-pending.ensures.1 in
+    never_begun _ (end_of c.from_residual-in_err-pending.result) _ _ _ _ (inr (ap end_of gave.1 ∙ gave.2))
 
 pub returns-clause-ends : goal.returns-clause-ends
 returns-clause-ends g c =
