@@ -1,5 +1,5 @@
 -- A book that was adopted is found as it is, and a crash leaves nothing else of it.
-use Rattle.std.proofs.Common.{◌≡◌, ◌&&◌, ℕ, true, List, [], ◌∷◌, map, Result, Ok, Err, IfOk, refl, sym, ap, subst, ◌∙◌}
+use Rattle.std.proofs.Common.{◌≡◌, ◌&&◌, ℕ, true, false, List, [], ◌∷◌, map, Result, Ok, Err, IfOk, refl, sym, ap, subst, ◌∙◌}
 use Rattle.std.proofs.Math.Logic.{∥∥₁_map}
 use Rattle.std.proofs.lemmas.Bool.{and_parts}
 use Rattle.sqlite_disk.specs.declared.Disk.{Ghosts}
@@ -16,6 +16,7 @@ use Rattle.tables.specs.Adoption.{IsAdopted}
 use Rattle.tables.specs.Content.{Content}
 use Rattle.transactions.specs.States.{Has, Remains, StateOf}
 use Rattle.transactions.proofs.LeavingLemmas.{has-alone}
+use Rattle.sqlbook.specs.Beginning.{IsTakenFrom}
 use Rattle.sqlbook.specs.Files.{AreTakenIn}
 use Rattle.sqlbook.proofs.BeginningLemmas.{rows_new}
 use Rattle.sqlbook.specs.Meaning.{are_right, stored_of}
@@ -58,6 +59,15 @@ new-files-are-books image rows refused taken none =
     }
 
 -- ---- what the functions give
+
+-- what holds of a result holds of what is handed on of it
+pub handed_on : {A E F : Type 0} (given : Result A E) (had : Result A F) (P : A → Type 0) → IfOk given (λ it. had ≡ Ok it) → IfOk had P → IfOk given P
+handed_on {A} {E} {F} (Ok it) had P is holds = subst (λ (r : Result A F). IfOk r P) is holds
+handed_on (Err fault) had P is holds = tt
+
+pub idle_in : {A E : Type 0} (result : Result A E) (stood : A → BookState) (trees : Trees) → IfOk result (λ it. IsTakenFrom trees (stood it)) → IfOk result (λ it. (stood it).is_open ≡ false)
+idle_in (Ok it) stood trees taken = taken.idle
+idle_in (Err fault) stood trees taken = tt
 
 pub taken_in : {A E : Type 0} (result : Result A E) (rows : A → StateOf Content) (image : Image) (conn : State) → (HasCleanDisk conn → FindsIn image conn)
     → IfOk result (λ it. IsAdopted conn.committed.trees (rows it)) → IfOk result (λ it. (rows it).is_clean ≡ true → HasCleanDisk conn)

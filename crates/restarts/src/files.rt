@@ -1,5 +1,5 @@
 //! The database of a file, the book in it, and the registry.
-ghost use Rattle.std.specs.Prelude.{◌≡◌, true, false, IfOk};
+ghost use Rattle.std.specs.Prelude.{◌≡◌, true, false, IfOk, Ok};
 ghost use Rattle.sqlite.specs.Files.{file_state};
 ghost use Rattle.sqlite.specs.Start.{FindsIn};
 ghost use Rattle.sqlite.specs.State.{HasCleanDisk};
@@ -56,7 +56,15 @@ pub fn book_in<S: Start>(rt: &HostRuntime, path: &str, start: S) -> Result<FileB
     ensures idle { IfOk result (λ book. (book_of book.records.store book.refused).is_open ≡ false) }
 {
     let conn = connect(rt, path, start)?;
-    match adopt(conn, rt.alloc()) {
+    or_fault(adopt(conn, rt.alloc()))
+}
+
+/// What was taken up, or the fault; what it was to be taken from is let go. It knows neither of the two, since
+/// a value of a known kind that may fall costs the prover much.
+fn or_fault<B, S: Drop>(adopted: Result<B, (BookFault, S)>) -> Result<B, BookFault>
+    ensures { IfOk result (λ book. adopted ≡ Ok book) }
+{
+    match adopted {
         Ok(book) => Ok(book),
         Err((fault, _)) => Err(fault),
     }

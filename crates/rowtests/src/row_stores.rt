@@ -140,6 +140,14 @@ fn make<S: Alter>(conn: &mut Connection<S>, has_tables: bool, texts: &[&str]) ->
     conn.execute_batch("COMMIT")
 }
 
+/// What was taken up, or the fault; what it was to be taken from is let go.
+fn or_fault<T, S: Drop>(adopted: Result<T, (BookFault, S)>) -> Result<T, BookFault> {
+    match adopted {
+        Ok(store) => Ok(store),
+        Err((fault, _)) => Err(fault),
+    }
+}
+
 fn adopted(
     alloc: Global,
     has_tables: bool,
@@ -147,10 +155,7 @@ fn adopted(
 ) -> Result<RowStore<MemStore>, BookFault> {
     let mut conn = Connection::open_in_memory(alloc)?;
     match make(&mut conn, has_tables, texts) {
-        Ok(()) => match RowStore::adopt(conn, alloc) {
-            Ok(store) => Ok(store),
-            Err((fault, _)) => Err(fault),
-        },
+        Ok(()) => or_fault(RowStore::adopt(conn, alloc)),
         Err(_) => {
             drop(conn);
             Err(BookFault::Store)

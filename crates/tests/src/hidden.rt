@@ -152,7 +152,7 @@ fn printed(alloc: Global, script: &str) -> Result<Vec<u8>, Fail> {
 }
 
 /// The lines that are told alfa, and the codes of the others.
-fn told(alloc: Global, script: &str) -> Result<Told, Fail> {
+fn told_by(alloc: Global, script: &str) -> Result<Told, Fail> {
     let printed = printed(alloc, script)?;
     let mut told = Told {
         alfa: String::new(alloc),
@@ -185,8 +185,8 @@ fn alfa_is_told_the_same(rt: HostRuntime) -> Result<(), Fail> {
         let script = format!(in alloc; "{OPENING}{lines}")?;
         let other_script = changed(alloc, &script, hidden)?;
         assert!(&rt; script != other_script);
-        let first = told(alloc, &script)?;
-        let second = told(alloc, &other_script)?;
+        let first = told_by(alloc, &script)?;
+        let second = told_by(alloc, &other_script)?;
         assert!(&rt; first.alfa == second.alfa && first.codes == second.codes);
         assert_eq!(&rt; first.alfa.split('\n').count(), count + 1);
     }
@@ -212,8 +212,8 @@ fn a_right_secret_tells(rt: HostRuntime) -> Result<(), Fail> {
     let alloc = rt.alloc();
     let script = format!(in alloc; "{OPENING}{ASKED}")?;
     let other_script = changed(alloc, &script, HIDDEN)?;
-    let first = told(alloc, &format!(in alloc; "{script}{PRESENTED}")?)?;
-    let second = told(alloc, &format!(in alloc; "{other_script}{PRESENTED}")?)?;
+    let first = told_by(alloc, &format!(in alloc; "{script}{PRESENTED}")?)?;
+    let second = told_by(alloc, &format!(in alloc; "{other_script}{PRESENTED}")?)?;
     assert!(&rt; first.alfa.ends_with(RIGHT) && second.alfa.ends_with(WRONG));
     Ok(())
 }
