@@ -5,7 +5,7 @@ use crate::disks::File;
 use fixtures::{POLICY, policy_of};
 use registry::Registry;
 use script::run_on;
-use sqlbook::{Origin, SqlBook, adopt, into_files};
+use sqlbook::{Found, SqlBook, adopt, into_files};
 use sqlite::{Connection, FileStore, Files, Options};
 use std::alloc::Global;
 use std::test::Fail;
@@ -66,7 +66,7 @@ trait FileBook: Book {
     fn files(self) -> Files<File>;
 }
 
-impl<O: Origin<FileStore<File>> + Drop> FileBook for SqlBook<FileStore<File>, O> {
+impl FileBook for SqlBook<FileStore<File>, Found> {
     fn files(self) -> Files<File> {
         into_files(self)
     }
