@@ -188,7 +188,7 @@ fn alfa_is_told_the_same(rt: HostRuntime) -> Result<(), Fail> {
         let first = told_by(alloc, &script)?;
         let second = told_by(alloc, &other_script)?;
         assert!(&rt; first.alfa == second.alfa && first.codes == second.codes);
-        assert_eq!(&rt; first.alfa.split('\n').count(), count + 1);
+        assert_eq!(&rt; first.alfa.split('\n').count(), count.saturating_add(1));
     }
     Ok(())
 }
