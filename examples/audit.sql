@@ -47,3 +47,7 @@ SELECT 'domain', name, 'due', due,
   CASE WHEN deleted IS NULL THEN min(expiry, coalesce(completed, expiry))
     ELSE max(deleted + redemption, coalesce(restore_requested + restore, 0)) + pending END AS owed
 FROM dated WHERE due > owed;
+
+-- and the same beside what a domain names
+SELECT 'link', link.id, 'due', link.due, domain.due AS owed
+FROM link JOIN domain ON domain.id = link.domain WHERE link.due <> domain.due;

@@ -82,7 +82,7 @@ passed p moment now old mid new first told then second = record {
 -- ---- a settlement
 
 -- what a registry becomes doesn't hang on where its clock stood
-same-lapse : (p : PolicyRules) (u : ℕ) (s : Registry) → lapse p u (at u s) ≡ lapse p u s
+pub same-lapse : (p : PolicyRules) (u : ℕ) (s : Registry) → lapse p u (at u s) ≡ lapse p u s
 unfolding accounts_at
 same-lapse p u s = refl
 

@@ -1,7 +1,7 @@
 -- What is due lapses one after another as the whole registry does.
 use Rattle.std.proofs.Common.{◌≡◌, ◌<◌, ℕ, Bool, true, false, cond, ◌&&◌, ◌||◌, nat_le, nat_lt, map, List, [], ◌∷◌, Option, Some, None, refl, sym, ap, ◌∙◌, arith}
 use Rattle.std.proofs.lemmas.Bool.Decides.{nat_tests}
-use Rattle.std.specs.Prelude.{fold, option_and_then, option_map}
+use Rattle.std.specs.Prelude.{filter, fold, option_and_then, option_map}
 use Rattle.std.specs.BTreeSet.{insert_key}
 use Rattle.std.specs.Cmp.{Equal-is, eq_by_cmp_equiv}
 use Rattle.std.specs.Cmp.Lexicographic.{nat_list_cmp_total, slice_cmp}
@@ -16,11 +16,11 @@ use Rattle.accounts.specs.Entries.{posted}
 use Rattle.lifecycle.specs.Lapse.{completes_at, due_at, due_by as transfer_due_by, lapse as lapse_domain, lapse_contact}
 use Rattle.lifecycle.specs.Periods.{passed}
 use Rattle.model.specs.declared.object.Object.TheVariants as objects
-use Rattle.model.specs.Lapse.{Choice, among, at, is_named, lapse, lapse_each, lapse_one, now, with_contact_lapsed, with_domain_lapsed}
+use Rattle.model.specs.Lapse.{Choice, among, at, is_named, lapse, lapse_each, lapse_one, lapse_some, now, with_contact_lapsed, with_domain_lapsed}
 use Rattle.model.specs.LapseLaws.{HasAllDue}
 use Rattle.model.specs.Objects.{object_at}
 use Rattle.model.specs.Registry.{Registry}
-use Rattle.model.proofs.OneByOneLemmas.{each-due-lapses-as-all, lapses-on-from-each}
+use Rattle.model.proofs.OneByOneLemmas.{each-due-lapses-as-all, each-lapses-as-some, lapses-on-from-each}
 use Rattle.objects.specs.declared.contact.Contact.{Contact}
 use Rattle.objects.specs.declared.domain.Domain.{Domain}
 use Rattle.objects.specs.declared.host.Host.{Host}
@@ -32,6 +32,9 @@ use Rattle.policy.specs.Rules.{PolicyRules}
 use Rattle.rules.specs.declared.change.Change.TheVariants.{LapseContact, LapseDomain}
 use Rattle.rules.specs.Changes.{changed, changed_all}
 use Rattle.rules.specs.Lapsing.{gift, lapse_changes}
+use Rattle.concerns.specs.declared.given.Names.{Names}
+use Rattle.concerns.specs.Concerns.{HasConcerned, concerned}
+use Rattle.store.specs.Due as dues
 use Rattle.store.specs.declared.due.Due.{Due}
 use Rattle.store.specs.Due.{contact_due, domain_due, due_by, due_cmp, due_then, found_due, kind_rank, with_due}
 use Rattle.registry.specs.Lapsing.{dues_lapsed}
@@ -78,7 +81,7 @@ with_kind kinds.Contact name rest = (subjects.Contact, name) ∷ rest
 with_kind kinds.Domain name rest = (subjects.Domain, name) ∷ rest
 with_kind kinds.Host name rest = rest
 
-objects_of : List Due → List (Subject × List ℕ)
+pub objects_of : List Due → List (Subject × List ℕ)
 objects_of [] = []
 objects_of (d ∷ ds) = with_kind d.kind d.name (objects_of ds)
 
@@ -279,3 +282,57 @@ some-lapsed p t ds s e =
     ap (now p) (each p t ds s)
     ∙ ap (λ (u : ℕ). lapse p u (at u (lapse_each p t named s))) clock
     ∙ lapses-on-from-each p named t t t (omega arith) s
+
+-- what has lapsed one after another has done so together
+pub each-as-some : (p : PolicyRules) (t : ℕ) (ds : List Due) (s : Registry) → dues_lapsed p t ds s ≡ lapse_some p (among (objects_of ds)) t s
+each-as-some p t ds s = each p t ds s ∙ each-lapses-as-some p t (objects_of ds) s
+
+-- ---- what concerns a registrar and some names
+
+same-name : (name n : List ℕ) → is_named name n ≡ true → name ≡ n
+same-name name n e = slice_cmp-IsAntisymmetric nat_cmp-IsAntisymmetric name n ((Equal-is (slice_cmp nat_cmp name n)).0 e)
+
+module _ (ch : Choice) where
+  picked-so : (b : Bool) (kind : ObjectKind) (name n : List ℕ) → own b kind name n ≡ true → dues.picks kind (ch.contacts name) (ch.domains name) ≡ picks b ch n
+  unfolding picks own
+  picked-so true kinds.Domain name n e = ap ch.domains (same-name name n e)
+  picked-so true kinds.Contact name n e = cc
+  picked-so true kinds.Host name n e = cc
+  picked-so false kinds.Contact name n e = ap ch.contacts (same-name name n e)
+  picked-so false kinds.Domain name n e = cc
+  picked-so false kinds.Host name n e = cc
+
+  filtered-after : (b : Bool) (n : List ℕ) → picks b ch n ≡ true → (d : Due) (ds : List Due) → (chosen b ds n ≡ true → chosen b (filter (dues.is_picked ch) ds) n ≡ true)
+      → chosen b (d ∷ ds) n ≡ true → chosen b (filter (dues.is_picked ch) (d ∷ ds)) n ≡ true
+  filtered-after b n pick d ds later e = by (own b d.kind d.name n) refl
+    where
+      kept : (c : Bool) → chosen b (filter (dues.is_picked ch) ds) n ≡ true → chosen b (cond c (d ∷ filter (dues.is_picked ch) ds) (filter (dues.is_picked ch) ds)) n ≡ true
+      kept true h = chosen-cons b d (filter (dues.is_picked ch) ds) n ∙ or-true (own b d.kind d.name n) (chosen b (filter (dues.is_picked ch) ds) n) h
+      kept false h = h
+
+      by : (o : Bool) → own b d.kind d.name n ≡ o → chosen b (filter (dues.is_picked ch) (d ∷ ds)) n ≡ true
+      by true mine =
+          ap (λ (c : Bool). chosen b (cond c (d ∷ filter (dues.is_picked ch) ds) (filter (dues.is_picked ch) ds)) n) (picked-so b d.kind d.name n mine ∙ pick)
+          ∙ chosen-cons b d (filter (dues.is_picked ch) ds) n ∙ or-first (own b d.kind d.name n) (chosen b (filter (dues.is_picked ch) ds) n) mine
+      by false other = kept (dues.is_picked ch d) (later (sym (chosen-cons b d ds n ∙ ap (λ (o : Bool). o || chosen b ds n) other) ∙ e))
+
+  -- of what is due, what is picked is chosen still
+  filtered : (b : Bool) (n : List ℕ) → picks b ch n ≡ true → (ds : List Due) → chosen b ds n ≡ true → chosen b (filter (dues.is_picked ch) ds) n ≡ true
+  filtered b n pick [] e = e
+  filtered b n pick (d ∷ ds) e = filtered-after b n pick d ds (filtered b n pick ds) e
+
+module _ (p : PolicyRules) (r : Option ℕ) (g : Names) (t : ℕ) (s : Registry) where
+  none-concerned : (name : List ℕ) (c : Contact) → get s.contacts name ≡ Some c → picks false (concerned r g s) name ≡ true → chosen false (dues.due_for p r g t s) name ≡ false
+      → (o : Option Transfer) → transfer_due_by t c.transfer ≡ o → transfer_due_by t c.transfer ≡ None
+  none-concerned name c there picked out None e = e
+  none-concerned name c there picked out (Some x) e =
+      absurd (not-both p t s (chosen false (dues.due_for p r g t s) name)
+      (filtered (concerned r g s) false name picked (due_by p t s) (contact-chosen p t s name c x.ac_date there (transfer-due p t s c.transfer x e))) out)
+
+  pub has-concerned : HasConcerned p r g t (among (objects_of (dues.due_for p r g t s))) s
+  unfolding chosen picks
+  has-concerned = record {
+    contacts = λ name c there picked out. none-concerned name c there picked out (transfer_due_by t c.transfer) refl;
+    domains = λ name d there picked out. ahead-or-passed p t s (due_at p d) (nat_lt t (due_at p d)) refl
+        (λ has. not-both p t s (chosen true (dues.due_for p r g t s) name) (filtered (concerned r g s) true name picked (due_by p t s) (domain-chosen p t s name d there has)) out);
+  }

@@ -6,4 +6,6 @@ pub mod LapseSteps
 pub mod CrashLemmas
 pub mod Answering
 pub mod CallsKept
+pub mod FaceLemmas
+pub mod PassingSteps
 mod CallLemmas

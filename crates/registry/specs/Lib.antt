@@ -1,5 +1,6 @@
 pub mod Faults
 pub mod Lapsing
+pub mod Passing
 pub mod Execution
 pub mod Faces
 pub mod Opening

@@ -11,6 +11,7 @@ mod greeting;
 mod lapse;
 mod opening;
 mod order;
+mod passing;
 mod registry;
 mod settlement;
 mod transaction;

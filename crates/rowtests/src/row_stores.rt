@@ -53,6 +53,7 @@ fn link(contact: Option<i64>, host: Option<i64>) -> LinkRow {
         contact,
         host,
         role: 0,
+        due: 0,
     }
 }
 

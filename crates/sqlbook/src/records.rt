@@ -11,6 +11,7 @@ use basis::list::Seq;
 use basis::registrar::RegistrarNo;
 use basis::text::Text;
 use calendar::Moment;
+use concerns::Names;
 use facts::{HOLDING_LIMIT, Superordinate};
 use objects::{Contact, Domain, Host, Roid};
 use policy::{Policy, Terms};
@@ -204,6 +205,17 @@ impl<S: Alter, O: Origin<S>> Records for SqlRecords<S, O> {
 
     fn due(&mut self, moment: Moment, policy: &Policy) -> Result<Seq<Due>, BookFault> {
         let said = sqldue::due(&mut self.store, self.alloc, moment, policy);
+        or_back::<S, O, _>(&mut self.store, said)
+    }
+
+    fn due_near(
+        &mut self,
+        caller: Option<RegistrarNo>,
+        names: &Names,
+        moment: Moment,
+        policy: &Policy,
+    ) -> Result<Seq<Due>, BookFault> {
+        let said = sqldue::due_near(&mut self.store, self.alloc, caller, names, moment, policy);
         or_back::<S, O, _>(&mut self.store, said)
     }
 

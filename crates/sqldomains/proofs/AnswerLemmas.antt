@@ -54,7 +54,7 @@ number-of-contact xs given name rows (Some row) id same asked one is =
     subst (IsNumberOfContact xs name) (sym is) (row, found.0, bytes_is row.name given found.1 ∙ same, refl)
 
 -- the row of a contact whose name something leads to
-row-of-contact : (xs : Content) (name : List ℕ) (id : ℤ) → contact_name xs id ≡ Some name → (row : contact_table.Contact) × Has xs.contacts row × (row.name ≡ name) × (row.id ≡ id)
+pub row-of-contact : (xs : Content) (name : List ℕ) (id : ℤ) → contact_name xs id ≡ Some name → (row : contact_table.Contact) × Has xs.contacts row × (row.name ≡ name) × (row.id ≡ id)
 row-of-contact xs name id e = go (get_by contact_table.contacts.key xs.contacts id) refl e
   where
     go : (o : Option contact_table.Contact) → get_by contact_table.contacts.key xs.contacts id ≡ o → option_map (λ (r : contact_table.Contact). r.name) o ≡ Some name
@@ -96,7 +96,7 @@ number-of-host xs given name rows (Some row) id same asked one is =
     subst (IsNumberOfHost xs name) (sym is) (row, found.0, bytes_is row.name given found.1 ∙ same, refl)
 
 -- the row of a host whose name something leads to
-row-of-host : (xs : Content) (name : List ℕ) (id : ℤ) → host_name xs id ≡ Some name → (row : host_table.Host) × Has xs.hosts row × (row.name ≡ name) × (row.id ≡ id)
+pub row-of-host : (xs : Content) (name : List ℕ) (id : ℤ) → host_name xs id ≡ Some name → (row : host_table.Host) × Has xs.hosts row × (row.name ≡ name) × (row.id ≡ id)
 row-of-host xs name id e = go (get_by host_table.hosts.key xs.hosts id) refl e
   where
     go : (o : Option host_table.Host) → get_by host_table.hosts.key xs.hosts id ≡ o → option_map (λ (r : host_table.Host). r.name) o ≡ Some name

@@ -16,7 +16,7 @@ use Rattle.columns.specs.Registrations.{columns_with, registration_columns}
 use Rattle.columns.specs.Roids.{roid_columns}
 use Rattle.columns.specs.Steps.{◌>>=◌}
 use Rattle.columns.proofs.DomainLemmas.{domain_back}
-use Rattle.columns.proofs.ReadLemmas.{same_some, step}
+use Rattle.columns.proofs.ReadLemmas.{passed, same_some, step}
 use Rattle.tables.specs.Contact as contact_table
 use Rattle.tables.specs.Content.{Content, domains_to}
 use Rattle.tables.specs.Domain as table
@@ -31,7 +31,7 @@ use Rattle.sqlobjects.specs.Stages.{AreOthersKept, IsPlaced}
 use Rattle.sqlobjects.proofs.PutLemmas.{apart, drop-stands, found-added, map_of, none-stands, others-removed, placed-added, placed-put, none-removed, put-stands, row_there, filter-has}
 use Rattle.sqldomains.specs.declared.domain_rows.Beside.{Beside}
 use Rattle.sqldomains.specs.Changes.{IsDomainPut, sponsor_in}
-use Rattle.sqldomains.specs.Domains.{domain_of, domains_of, links_of, registrant_alone, with_links}
+use Rattle.sqldomains.specs.Domains.{are_dated, dated, domain_of, domains_of, links_of, registrant_alone, with_links}
 use Rattle.sqldomains.specs.Stages.{AreLinksCleared, AreLinksPut, AreOtherPartsKept, IsDomainAdded, IsDomainDropped, IsDomainPlaced, IsDomainPlacedAt, IsDomainRemoved, IsTransferCleared, IsTransferPut, row_beside}
 use Rattle.sqldomains.proofs.LinkRowLemmas.{links-alike}
 
@@ -49,8 +49,8 @@ module _ (xs ys : Content) (id : ℤ) (kept : AreOtherPartsKept id xs ys) where
   reads-alike r other =
       let links : links_of ys r ≡ links_of xs r =
       λ i. ap (λ (x : Content). contact_name x r.registrant) kept.rest i >>= (λ a.
-      (ap (with_links ys (registrant_alone a)) (kept.links r.id other)
-      ∙ links-alike xs ys (λ k. ap (λ (x : Content). contact_name x k) kept.rest) (λ k. ap (λ (x : Content). host_name x k) kept.rest) (filter (link_with_domain r.id) xs.links) (registrant_alone a)) i) in
+      dated r.due (kept.links r.id other i) >>= (λ rows.
+      links-alike xs ys (λ k. ap (λ (x : Content). contact_name x k) kept.rest) (λ k. ap (λ (x : Content). host_name x k) kept.rest) rows (registrant_alone a) i)) in
       λ i. links i >>= (λ l. last_transfer (kept.transfers r.id other i) >>= (λ transfer. domain_in r l transfer))
 
   contact-same : (row : contact_table.Contact) → contact_of ys row ≡ contact_of xs row
@@ -205,7 +205,7 @@ added-placed xs m beside d row add found whole none =
 -- ---- put
 
 module _ (xs m b ys : Content) (beside : Beside) (d : Domain) (row : table.Domain) (whole : IsWhole xs) (after : IsWhole ys) (is : IsDomain d) (registrant : contact_name xs beside.registrant ≡ Some d.links.registrant)
-    (placed : IsDomainPlaced d beside row xs m) (named_by : AreLinksPut row.id d.links m b) (with : IsTransferPut row.id d.transfer b ys) where
+    (placed : IsDomainPlaced d beside row xs m) (named_by : AreLinksPut row.id row.due d.links m b) (with : IsTransferPut row.id d.transfer b ys) where
   rows_now : IsPlaced name_of d.name row xs.domains ys.domains
   rows_now = subst (IsPlaced name_of d.name row xs.domains) (sym (ap (λ (x : Content). x.domains) with.others.rest ∙ ap (λ (x : Content). x.domains) named_by.others.rest)) placed.rows
 
@@ -220,11 +220,16 @@ module _ (xs m b ys : Content) (beside : Beside) (d : Domain) (row : table.Domai
   links_now =
       ap (λ (x : Content). with_links ys (registrant_alone d.links.registrant) (filter (link_with_domain row.id) x.links)) with.others.rest
       ∙ links-alike b ys (λ k. ap (λ (x : Content). contact_name x k) with.others.rest) (λ k. ap (λ (x : Content). host_name x k) with.others.rest) (filter (link_with_domain row.id) b.links) (registrant_alone d.links.registrant)
-      ∙ named_by.here
+      ∙ named_by.here.all
+
+  dated_now : dated row.due (filter (link_with_domain row.id) ys.links) ≡ Some (filter (link_with_domain row.id) ys.links)
+  dated_now = passed (filter (link_with_domain row.id) ys.links) (are_dated row.due (filter (link_with_domain row.id) ys.links))
+      (ap (λ (x : Content). are_dated row.due (filter (link_with_domain row.id) x.links)) with.others.rest ∙ named_by.here.dated)
 
   reads_now : domain_of ys row ≡ Some d
   reads_now =
-      (λ i. (registrant_now i >>= (λ a. with_links ys (registrant_alone a) (filter (link_with_domain row.id) ys.links))) >>= (λ l. last_transfer (filter (transfer_with_domain row.id) ys.transfers) >>= (λ transfer. domain_in row l transfer)))
+      (λ i. (registrant_now i >>= (λ a. dated row.due (filter (link_with_domain row.id) ys.links) >>= (λ rows. with_links ys (registrant_alone a) rows))) >>= (λ l. last_transfer (filter (transfer_with_domain row.id) ys.transfers) >>= (λ transfer. domain_in row l transfer)))
+      ∙ (λ i. (dated_now i >>= (λ rows. with_links ys (registrant_alone d.links.registrant) rows)) >>= (λ l. last_transfer (filter (transfer_with_domain row.id) ys.transfers) >>= (λ transfer. domain_in row l transfer)))
       ∙ (λ i. links_now i >>= (λ l. with.last i >>= (λ transfer. domain_in row l transfer)))
       ∙ domain_back row.id beside.registrant beside.due d row is placed.is
 

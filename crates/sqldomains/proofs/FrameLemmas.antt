@@ -27,7 +27,7 @@ use Rattle.sqlobjects.specs.Changes.{IsContactPut, IsHostPut, contact_name, host
 use Rattle.sqlobjects.specs.Objects.{last_transfer}
 use Rattle.sqlobjects.specs.Sponsors.{IsFollowed, domain_sponsor, follows, with_sponsor}
 use Rattle.sqlobjects.proofs.PutLemmas.{has-filter}
-use Rattle.sqldomains.specs.Domains.{domain_entry, domain_of, domains_of, linked_name, registrant_alone, with_links, with_name}
+use Rattle.sqldomains.specs.Domains.{are_dated, dated, domain_entry, domain_of, domains_of, linked_name, registrant_alone, with_links, with_name}
 use Rattle.sqldomains.proofs.LinkRowLemmas.{get_by-has}
 
 -- a row whose numbers lead to the same names
@@ -47,6 +47,11 @@ entries-where : {R E : Type 0} (f g : R → Option E) (rows : List R) → ((row 
 entries-where f g [] same = refl
 entries-where f g (row ∷ rows) same = λ i. cons_option (same row (inl refl) i) (entries-where f g rows (λ r h. same r (inr h)) i)
 
+-- what follows on a test, where what was tested gives the same
+if-kept : {A B : Type 0} (b : Bool) (x : A) (f g : A → Option B) → f x ≡ g x → (cond b (Some x) None >>= f) ≡ (cond b (Some x) None >>= g)
+if-kept true x f g e = e
+if-kept false x f g e = refl
+
 module _ (xs ys : Content) (links : ys.links ≡ xs.links) (domains : ys.domains ≡ xs.domains) (transfers : (id : ℤ) → filter (transfer_with_domain id) ys.transfers ≡ filter (transfer_with_domain id) xs.transfers)
     (registrants : (row : table.Domain) → Has xs.domains row → contact_name ys row.registrant ≡ contact_name xs row.registrant)
     (names : (row : Link) → Has xs.links row → (role : Role) → linked_name ys role row.contact row.host ≡ linked_name xs role row.contact row.host) where
@@ -58,8 +63,9 @@ module _ (xs ys : Content) (links : ys.links ≡ xs.links) (domains : ys.domains
   reads-same : (row : table.Domain) → Has xs.domains row → domain_of ys row ≡ domain_of xs row
   reads-same row there =
       λ i. (registrants row there i >>= (λ a.
-      (ap (λ ls. with_links ys (registrant_alone a) (filter (link_with_domain row.id) ls)) links
-      ∙ links-where (filter (link_with_domain row.id) xs.links) (λ r h. (has-filter (link_with_domain row.id) xs.links r h).0) (registrant_alone a)) i))
+      (ap (λ ls. dated row.due (filter (link_with_domain row.id) ls) >>= (λ rows. with_links ys (registrant_alone a) rows)) links
+      ∙ if-kept (are_dated row.due (filter (link_with_domain row.id) xs.links)) (filter (link_with_domain row.id) xs.links) (λ rows. with_links ys (registrant_alone a) rows) (λ rows. with_links xs (registrant_alone a) rows)
+      (links-where (filter (link_with_domain row.id) xs.links) (λ r h. (has-filter (link_with_domain row.id) xs.links r h).0) (registrant_alone a))) i))
       >>= (λ l. last_transfer (transfers row.id i) >>= (λ transfer. domain_in row l transfer))
 
   domains-same : domains_of ys ≡ domains_of xs

@@ -9,3 +9,4 @@ pub mod FrameLemmas
 pub mod NameOrderLemmas
 pub mod BelowLemmas
 pub mod SponsorLemmas
+pub mod LeadingLemmas

@@ -1,5 +1,5 @@
 -- Rows that lead from a domain, removed and added.
-use Rattle.std.proofs.Common.{◌≡◌, inl, inr, ◌+◌, ◌<◌, ◌<ℤ◌, get_or, length, take, ℕ, ℤ, cond, List, [], ◌∷◌, ◌++◌, filter, Option, Some, None, option_map, refl, sym, ap, subst, ◌∙◌, append_assoc, arith, int_eq}
+use Rattle.std.proofs.Common.{◌≡◌, inl, inr, ◌+◌, ◌<◌, ◌<ℤ◌, get_or, length, take, ℕ, ℤ, Bool, true, false, ◌&&◌, cond, List, [], ◌∷◌, ◌++◌, filter, Option, Some, None, option_map, refl, sym, ap, subst, ◌∙◌, append_assoc, arith, int_eq}
 use Rattle.std.proofs.lemmas.Bool.Decides.{Decides-int_eq}
 use Rattle.std.proofs.lemmas.Int.{ints}
 use Rattle.std.proofs.lemmas.List.{append-nil, take_more}
@@ -23,7 +23,7 @@ use Rattle.tables.specs.Whole.{IsWhole}
 use Rattle.tables.proofs.RowLemmas.{all_at}
 use Rattle.sqlobjects.specs.Changes.{contact_name, host_name}
 use Rattle.sqlobjects.proofs.PutLemmas.{filter-append, filter-append_pass, filter-delete, filter-deleted}
-use Rattle.sqldomains.specs.Domains.{linked_name, registrant_alone, with_link, with_links, with_name}
+use Rattle.sqldomains.specs.Domains.{are_dated, linked_name, registrant_alone, with_link, with_links, with_name}
 use Rattle.sqldomains.specs.Links.{IsNumberOfContact, IsNumberOfHost}
 use Rattle.sqldomains.specs.Stages.{AreLinksCleared, AreLinksPut, AreNamesAdded, AreOtherLinksKept, IsLinkTo, Names, with_names}
 use Rattle.sqldomains.proofs.LinkedLemmas.{registrant-more}
@@ -65,25 +65,39 @@ with-more xs (r ∷ rows) l row =
     (λ i. with_link xs l r >>= (λ n. with-more xs rows n row i))
     ∙ sym (bind-assoc (with_link xs l r) (λ n. with_links xs n rows) (λ m. with_link xs m row))
 
-one-leads : (xs : Content) (id k : ℤ) (role : Role) (name : List ℕ) (row : Link) (m : Links) → IsLinkTo xs id role name row → with_link xs m (record row { id = k }) ≡ Some (with_name m role name)
-one-leads xs id k role name row m is =
+one-leads : (xs : Content) (id due k : ℤ) (role : Role) (name : List ℕ) (row : Link) (m : Links) → IsLinkTo xs id due role name row → with_link xs m (record row { id = k }) ≡ Some (with_name m role name)
+one-leads xs id due k role name row m is =
     (λ i. (ap role_in is.role_is ∙ role_back role) i >>= (λ r. linked_name xs r row.contact row.host >>= (λ n. Some (with_name m r n))))
     ∙ (λ i. is.leads i >>= (λ n. Some (with_name m role n)))
 
-pub name-added : (id : ℤ) (role : Role) (name : List ℕ) (xs : Content) (row : Link) → IsLinkTo xs id role name row
-    → AreNamesAdded id role (name ∷ []) xs (links_to (appended table.links (λ k. record row { id = k })) xs)
-name-added id role name xs row is =
+-- one more that says so
+dated-more : (due : ℤ) (rows : List Link) (row : Link) → are_dated due rows ≡ true → row.due ≡ due → are_dated due (rows ++ row ∷ []) ≡ true
+dated-more due [] row all is = ap (λ b. b && true) ((Decides-int_eq row.due due).1 is)
+dated-more due (r ∷ rows) row all is = go (int_eq r.due due) (are_dated due rows) all (λ e. dated-more due rows row e is)
+  where
+    go : (a b : Bool) → (a && b) ≡ true → (b ≡ true → are_dated due (rows ++ row ∷ []) ≡ true) → (a && are_dated due (rows ++ row ∷ [])) ≡ true
+    go true true e more = more refl
+    go true false e more = cc
+    go false b e more = cc
+
+pub name-added : (id due : ℤ) (role : Role) (name : List ℕ) (xs : Content) (row : Link) → IsLinkTo xs id due role name row
+    → AreNamesAdded id due role (name ∷ []) xs (links_to (appended table.links (λ k. record row { id = k })) xs)
+name-added id due role name xs row is =
     let k = next_key table.links.key xs.links in
     let new : Link = record row { id = k } in
     let ys : Content = links_to (appended table.links (λ k. record row { id = k })) xs in
+    let more : filter (link_with_domain id) ys.links ≡ filter (link_with_domain id) xs.links ++ new ∷ [] = filter-append_pass (link_with_domain id) xs.links new ((Decides-int_eq row.domain id).1 is.domain) in
     record {
-      here = λ l before.
-          ap (λ r. with_links ys (registrant_alone r) (filter (link_with_domain id) ys.links)) (registrant-more l role name)
-          ∙ links-alike xs ys (λ i. refl) (λ i. refl) (filter (link_with_domain id) ys.links) (registrant_alone l.registrant)
-          ∙ ap (with_links xs (registrant_alone l.registrant)) (filter-append_pass (link_with_domain id) xs.links new ((Decides-int_eq row.domain id).1 is.domain))
-          ∙ with-more xs (filter (link_with_domain id) xs.links) (registrant_alone l.registrant) new
-          ∙ ap (λ o. o >>= (λ m. with_link xs m new)) before
-          ∙ one-leads xs id k role name row l is;
+      here = λ l before. record {
+        all =
+            ap (λ r. with_links ys (registrant_alone r) (filter (link_with_domain id) ys.links)) (registrant-more l role name)
+            ∙ links-alike xs ys (λ i. refl) (λ i. refl) (filter (link_with_domain id) ys.links) (registrant_alone l.registrant)
+            ∙ ap (with_links xs (registrant_alone l.registrant)) more
+            ∙ with-more xs (filter (link_with_domain id) xs.links) (registrant_alone l.registrant) new
+            ∙ ap (λ o. o >>= (λ m. with_link xs m new)) before.all
+            ∙ one-leads xs id due k role name row l is;
+        dated = ap (are_dated due) more ∙ dated-more due (filter (link_with_domain id) xs.links) new before.dated is.due_is;
+      };
       others = record {
         domains = λ other apart. filter-append (link_with_domain other) xs.links new (ap (λ n. int_eq n other) is.domain ∙ apart);
         rest = refl;
@@ -92,8 +106,8 @@ name-added id role name xs row is =
 
 -- ---- several
 
-pub none-named : (id : ℤ) (role : Role) (xs : Content) → AreNamesAdded id role [] xs xs
-none-named id role xs = record { here = λ l is. is; others = record { domains = λ other apart. refl; rest = refl } }
+pub none-named : (id due : ℤ) (role : Role) (xs : Content) → AreNamesAdded id due role [] xs xs
+none-named id due role xs = record { here = λ l is. is; others = record { domains = λ other apart. refl; rest = refl } }
 
 with_names-append : (role : Role) (ts us : List (List ℕ)) (l : Links) → with_names role l (ts ++ us) ≡ with_names role (with_names role l ts) us
 with_names-append role [] us l = refl
@@ -105,11 +119,11 @@ then-kept id a b c one two = record {
   rest = two.rest ∙ ap (λ (x : Content). record x { links = c.links }) one.rest;
 }
 
-pub next-named : (id : ℤ) (role : Role) (ts : List (List ℕ)) (i : ℕ) (t : List ℕ) (a b c : Content) → i < length ts → t ≡ get_or ts i t → AreNamesAdded id role (take i ts) a b → AreNamesAdded id role (t ∷ []) b c
-    → AreNamesAdded id role (take (i + 1) ts) a c
-next-named id role ts i t a b c within is one two =
-    subst (λ l. AreNamesAdded id role l a c) (ap (λ x. take i ts ++ x ∷ []) is ∙ sym (take_more ts i t within)) (record {
-      here = λ l before. subst (λ m. Names id m c) (sym (with_names-append role (take i ts) (t ∷ []) l)) (two.here (with_names role l (take i ts)) (one.here l before));
+pub next-named : (id due : ℤ) (role : Role) (ts : List (List ℕ)) (i : ℕ) (t : List ℕ) (a b c : Content) → i < length ts → t ≡ get_or ts i t → AreNamesAdded id due role (take i ts) a b → AreNamesAdded id due role (t ∷ []) b c
+    → AreNamesAdded id due role (take (i + 1) ts) a c
+next-named id due role ts i t a b c within is one two =
+    subst (λ l. AreNamesAdded id due role l a c) (ap (λ x. take i ts ++ x ∷ []) is ∙ sym (take_more ts i t within)) (record {
+      here = λ l before. subst (λ m. Names id due m c) (sym (with_names-append role (take i ts) (t ∷ []) l)) (two.here (with_names role l (take i ts)) (one.here l before));
       others = then-kept id a b c one.others two.others;
     })
 
@@ -142,13 +156,13 @@ in-all l =
     ∙ ap (λ m. with_names roles.Host m l.hosts) (techs l.tech (record (registrant_alone l.registrant) { admin = l.admin }))
     ∙ all_hosts l.hosts (record (registrant_alone l.registrant) { admin = l.admin; tech = l.tech })
 
-pub links-put : (id number : ℤ) (l : Links) (a b c d e : Content) → number ≡ id → AreLinksCleared number a b → AreNamesAdded id roles.Admin l.admin b c → AreNamesAdded id roles.Tech l.tech c d → AreNamesAdded id roles.Host l.hosts d e
-    → AreLinksPut id l a e
-links-put id number l a b c d e same clear admin tech host =
+pub links-put : (id due number : ℤ) (l : Links) (a b c d e : Content) → number ≡ id → AreLinksCleared number a b → AreNamesAdded id due roles.Admin l.admin b c → AreNamesAdded id due roles.Tech l.tech c d → AreNamesAdded id due roles.Host l.hosts d e
+    → AreLinksPut id due l a e
+links-put id due number l a b c d e same clear admin tech host =
     let cleared : AreLinksCleared id a b = subst (λ k. AreLinksCleared k a b) same clear in
-    let start : Names id (registrant_alone l.registrant) b = ap (with_links b (registrant_alone l.registrant)) cleared.none in
+    let start : Names id due (registrant_alone l.registrant) b = record { all = ap (with_links b (registrant_alone l.registrant)) cleared.none; dated = ap (are_dated due) cleared.none } in
     record {
-      here = subst (λ m. Names id m e) (in-all l) (host.here _ (tech.here _ (admin.here _ start)));
+      here = subst (λ m. Names id due m e) (in-all l) (host.here _ (tech.here _ (admin.here _ start)));
       others = then-kept id a b e cleared.others (then-kept id b c e admin.others (then-kept id c d e tech.others host.others));
     }
 

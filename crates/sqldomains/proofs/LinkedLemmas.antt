@@ -20,7 +20,7 @@ use Rattle.columns.specs.Numbers.{years_in}
 use Rattle.columns.specs.Registrations.{registration_in}
 use Rattle.columns.specs.Steps.{◌>>=◌}
 use Rattle.columns.specs.Texts.{statuses_in}
-use Rattle.columns.proofs.ReadLemmas.{same_some, step}
+use Rattle.columns.proofs.ReadLemmas.{kept, same_some, step}
 use Rattle.objects.specs.declared.roid.ObjectKind.TheVariants as kinds
 use Rattle.tables.specs.Content.{Content}
 use Rattle.tables.specs.Domain as table
@@ -31,7 +31,7 @@ use Rattle.meanings.specs.Read.{first_read, or_else}
 use Rattle.sqlobjects.specs.Changes.{contact_name, host_name}
 use Rattle.sqlobjects.specs.Objects.{last_transfer}
 use Rattle.sqlobjects.proofs.PutLemmas.{has-filter, only_named}
-use Rattle.sqldomains.specs.Domains.{domain_of, domains_of, links_of, registrant_alone, linked_name, with_link, with_links, with_name}
+use Rattle.sqldomains.specs.Domains.{are_dated, dated, domain_of, domains_of, links_of, registrant_alone, linked_name, with_link, with_links, with_name}
 use Rattle.sqldomains.proofs.FoundLemmas.{domain-named}
 
 -- ---- the domains that rows mean, one by one
@@ -78,6 +78,7 @@ pub record Naming (xs : Content) (row : table.Domain) (links : Links) : Type 0 w
   pub registrant : List ℕ
   pub registrant_is : contact_name xs row.registrant ≡ Some registrant
   pub all : with_links xs (registrant_alone registrant) (filter (link_with_domain row.id) xs.links) ≡ Some links
+  pub are_so : are_dated row.due (filter (link_with_domain row.id) xs.links) ≡ true
 
 pub naming : (xs : Content) (row : table.Domain) (d : Domain) → domain_of xs row ≡ Some d → Naming xs row d.links
 naming xs row d e =
@@ -85,7 +86,10 @@ naming xs row d e =
     let transfer = step (last_transfer (filter (transfer_with_domain row.id) xs.transfers)) _ d links.rest in
     let same = links-read row links.given transfer.given d transfer.rest in
     let registrant = step (contact_name xs row.registrant) _ links.given links.is in
-    record { registrant = registrant.given; registrant_is = registrant.is; all = registrant.rest ∙ ap Some same }
+    let found = filter (link_with_domain row.id) xs.links in
+    let rows = step (dated row.due found) (λ rows. with_links xs (registrant_alone registrant.given) rows) links.given registrant.rest in
+    let so = kept found rows.given (are_dated row.due found) rows.is in
+    record { registrant = registrant.given; registrant_is = registrant.is; all = ap (with_links xs (registrant_alone registrant.given)) so.1 ∙ rows.rest ∙ ap Some same; are_so = so.0 }
 
 -- ---- names in the lists
 
@@ -125,7 +129,7 @@ host-leads xs row (Some c) host new at e = cc
 
 -- one name more, in its list
 module _ (xs : Content) (name : List ℕ) (l : Links) (row : Link) where
-  admin-more : (role : Role) (new : List ℕ) → linked_name xs role row.contact row.host ≡ Some new → has_name (with_name l role new).admin name ≡ true → (has_name l.admin name ≡ true) ⊎ LeadsToContact xs name row
+  pub admin-more : (role : Role) (new : List ℕ) → linked_name xs role row.contact row.host ≡ Some new → has_name (with_name l role new).admin name ≡ true → (has_name l.admin name ≡ true) ⊎ LeadsToContact xs name row
   admin-more roles.Admin new e has = go (is_there name l.admin new has)
     where
       go : (has_name l.admin name ≡ true) ⊎ (new ≡ name) → (has_name l.admin name ≡ true) ⊎ LeadsToContact xs name row
@@ -134,7 +138,7 @@ module _ (xs : Content) (name : List ℕ) (l : Links) (row : Link) where
   admin-more roles.Tech new e has = inl has
   admin-more roles.Host new e has = inl has
 
-  tech-more : (role : Role) (new : List ℕ) → linked_name xs role row.contact row.host ≡ Some new → has_name (with_name l role new).tech name ≡ true → (has_name l.tech name ≡ true) ⊎ LeadsToContact xs name row
+  pub tech-more : (role : Role) (new : List ℕ) → linked_name xs role row.contact row.host ≡ Some new → has_name (with_name l role new).tech name ≡ true → (has_name l.tech name ≡ true) ⊎ LeadsToContact xs name row
   tech-more roles.Tech new e has = go (is_there name l.tech new has)
     where
       go : (has_name l.tech name ≡ true) ⊎ (new ≡ name) → (has_name l.tech name ≡ true) ⊎ LeadsToContact xs name row
@@ -180,7 +184,7 @@ module _ (xs : Content) (name : List ℕ) (pick : Links → List (List ℕ)) (Le
           at (inl before) = inl before
           at (inr leads) = inr (row, inl refl, leads)
 
-registrant-kept : (xs : Content) (rows : List Link) (l m : Links) → with_links xs l rows ≡ Some m → m.registrant ≡ l.registrant
+pub registrant-kept : (xs : Content) (rows : List Link) (l m : Links) → with_links xs l rows ≡ Some m → m.registrant ≡ l.registrant
 registrant-kept xs [] l m e = sym (ap (λ (z : Links). z.registrant) (same_some l m e))
 registrant-kept xs (row ∷ rows) l m e =
     let first = step (with_link xs l row) (λ n. with_links xs n rows) m e in

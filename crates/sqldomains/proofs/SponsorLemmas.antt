@@ -102,6 +102,7 @@ host-sponsors name value old new it =
 
 -- what a domain has of its rows
 pub record Parts (xs : Content) (row : table.Domain) (d : Domain) : Type 0 where
+  pub roid : roid_in kinds.Domain row.creator row.serial ≡ Some d.roid
   pub sponsor : registrar_in row.sponsor ≡ Some d.sponsor
   pub transfer : last_transfer (filter (transfer_with_domain row.id) xs.transfers) ≡ Some d.transfer
 
@@ -119,6 +120,7 @@ parts xs row d e =
     let transferred = step (maybe_moment_in row.transferred) _ r.given created.rest in
     let updated = step (maybe_moment_in row.updated) _ r.given transferred.rest in
     record {
+      roid = roid.is ∙ (λ i. Some (same_some _ r.given updated.rest i).roid) ∙ ap (λ (z : Domain). Some z.roid) (same_some _ d x.rest);
       sponsor = sponsor.is ∙ (λ i. Some (same_some _ r.given updated.rest i).sponsor) ∙ ap (λ (z : Domain). Some z.sponsor) (same_some _ d x.rest);
       transfer = transfer.is ∙ ap (λ (z : Domain). Some z.transfer) (same_some _ d x.rest);
     }

@@ -1,9 +1,9 @@
 -- The domains that rows mean.
-use Rattle.std.specs.Prelude.{ℕ, ℤ, List, [], ◌∷◌, ◌++◌, filter, Option, Some, None}
+use Rattle.std.specs.Prelude.{ℕ, ℤ, Bool, if◌then◌else◌, List, [], ◌∷◌, ◌++◌, filter, Option, Some, None}
 use Rattle.std.specs.Cmp.Lexicographic.{slice_cmp}
 use Rattle.std.specs.FinMap.{FinMap, from_entries}
-use Rattle.std.specs.List.{filter_map}
-use Rattle.std.specs.Ordering.{nat_cmp}
+use Rattle.std.specs.List.{filter_map, list_all}
+use Rattle.std.specs.Ordering.{int_eq, nat_cmp}
 use Rattle.objects.specs.declared.domain.Domain.{Domain}
 use Rattle.objects.specs.declared.domain.Links.{Links}
 use Rattle.columns.specs.declared.code.Role.{Role}
@@ -56,11 +56,20 @@ with_links xs l (row ∷ rows) = do
 abbrev pub registrant_alone : List ℕ → Links
 registrant_alone name = record { registrant = name; admin = []; tech = []; hosts = [] }
 
+-- each row says when its domain is due
+abbrev pub are_dated : ℤ → List Link → Bool
+are_dated due rows = list_all (λ (l : Link). int_eq l.due due) rows
+
+-- these rows, if each does
+abbrev pub dated : ℤ → List Link → Option (List Link)
+dated due rows = if are_dated due rows then Some rows else None
+
 -- what the domain of a row names, if all rows of it read
 abbrev pub links_of : Content → domain_table.Domain → Option Links
 links_of xs row = do
   registrant ← contact_name xs row.registrant
-  with_links xs (registrant_alone registrant) (filter (link_with_domain row.id) xs.links)
+  rows ← dated row.due (filter (link_with_domain row.id) xs.links)
+  with_links xs (registrant_alone registrant) rows
 
 -- ---- domains
 

@@ -1,5 +1,5 @@
 -- What single steps of a change of a domain make.
-use Rattle.std.specs.Prelude.{◌≡◌, ℕ, ℤ, pos, false, List, [], ◌++◌, ◌∷◌, filter, Option, Some, None, option_map}
+use Rattle.std.specs.Prelude.{◌≡◌, ℕ, ℤ, pos, true, false, List, [], ◌++◌, ◌∷◌, filter, Option, Some, None, option_map}
 use Rattle.std.specs.Ordering.{int_eq}
 use Rattle.sqlite_keyed.specs.Lists.{delete_where}
 use Rattle.objects.specs.declared.domain.Domain.{Domain}
@@ -21,7 +21,7 @@ use Rattle.sqlobjects.specs.Changes.{contact_name, host_name}
 use Rattle.sqlobjects.specs.Objects.{last_transfer}
 use Rattle.sqlobjects.specs.Stages.{IsPlaced}
 use Rattle.sqldomains.specs.declared.domain_rows.Beside.{Beside}
-use Rattle.sqldomains.specs.Domains.{linked_name, registrant_alone, with_links, with_name}
+use Rattle.sqldomains.specs.Domains.{are_dated, linked_name, registrant_alone, with_links, with_name}
 
 -- ---- transfers
 
@@ -52,9 +52,10 @@ pub record AreOtherLinksKept (id : ℤ) (old new : Content) : Type 0 where
   pub domains : (other : ℤ) → int_eq id other ≡ false → filter (link_with_domain other) new.links ≡ filter (link_with_domain other) old.links
   pub rest : new ≡ record old { links = new.links }
 
--- the rows of the domain with this number lead to this
-abbrev pub Names : ℤ → Links → Content → Type 0
-Names id links xs = with_links xs (registrant_alone links.registrant) (filter (link_with_domain id) xs.links) ≡ Some links
+-- the rows of the domain with this number lead to this, and say that it is due then
+pub record Names (id due : ℤ) (links : Links) (xs : Content) : Type 0 where
+  pub all : with_links xs (registrant_alone links.registrant) (filter (link_with_domain id) xs.links) ≡ Some links
+  pub dated : are_dated due (filter (link_with_domain id) xs.links) ≡ true
 
 -- with more in a role
 abbrev pub with_names : Role → Links → List (List ℕ) → Links
@@ -66,23 +67,26 @@ pub record AreLinksCleared (id : ℤ) (old new : Content) : Type 0 where
   pub none : filter (link_with_domain id) new.links ≡ []
   pub others : AreOtherLinksKept id old new
 
--- a row that leads from a domain to what has this name
-pub record IsLinkTo (xs : Content) (id : ℤ) (role : Role) (name : List ℕ) (row : Link) : Type 0 where
+-- a row that leads from a domain, which is due then, to what has this name
+pub record IsLinkTo (xs : Content) (id due : ℤ) (role : Role) (name : List ℕ) (row : Link) : Type 0 where
   pub domain : row.domain ≡ id
+  pub due_is : row.due ≡ due
   pub role_is : row.role ≡ role_column role
   pub leads : linked_name xs role row.contact row.host ≡ Some name
 
 -- the same of a contact in a role, and of a host
-pub record IsContactLinkTo (xs : Content) (id : ℤ) (role : Role) (name : List ℕ) (row : Link) : Type 0 where
+pub record IsContactLinkTo (xs : Content) (id due : ℤ) (role : Role) (name : List ℕ) (row : Link) : Type 0 where
   pub domain : row.domain ≡ id
+  pub due_is : row.due ≡ due
   pub role_is : row.role ≡ role_column role
   pub contact : ℤ
   pub contact_is : row.contact ≡ Some contact
   pub host_is : row.host ≡ None
   pub name_is : contact_name xs contact ≡ Some name
 
-pub record IsHostLinkTo (xs : Content) (id : ℤ) (name : List ℕ) (row : Link) : Type 0 where
+pub record IsHostLinkTo (xs : Content) (id due : ℤ) (name : List ℕ) (row : Link) : Type 0 where
   pub domain : row.domain ≡ id
+  pub due_is : row.due ≡ due
   pub role_is : row.role ≡ role_column roles.Host
   pub host : ℤ
   pub contact_is : row.contact ≡ None
@@ -90,13 +94,13 @@ pub record IsHostLinkTo (xs : Content) (id : ℤ) (name : List ℕ) (row : Link)
   pub name_is : host_name xs host ≡ Some name
 
 -- the domain with this number names these besides
-pub record AreNamesAdded (id : ℤ) (role : Role) (names : List (List ℕ)) (old new : Content) : Type 0 where
-  pub here : (links : Links) → Names id links old → Names id (with_names role links names) new
+pub record AreNamesAdded (id due : ℤ) (role : Role) (names : List (List ℕ)) (old new : Content) : Type 0 where
+  pub here : (links : Links) → Names id due links old → Names id due (with_names role links names) new
   pub others : AreOtherLinksKept id old new
 
 -- the domain with this number names this
-pub record AreLinksPut (id : ℤ) (links : Links) (old new : Content) : Type 0 where
-  pub here : Names id links new
+pub record AreLinksPut (id due : ℤ) (links : Links) (old new : Content) : Type 0 where
+  pub here : Names id due links new
   pub others : AreOtherLinksKept id old new
 
 -- ---- rows of domains

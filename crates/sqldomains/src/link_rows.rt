@@ -22,7 +22,7 @@ pub(crate) fn put_links<S: Alter>(
     links: &Links,
 ) -> Result<(), BookFault>
     requires { store.old.is_open ≡ true }
-    ensures { Turns result (AreLinksPut domain.now.id links.now) store.old store.new }
+    ensures { Turns result (AreLinksPut domain.now.id domain.now.due links.now) store.old store.new }
 {
     let number = number_of(domain);
     clear_links(store, number)?;
@@ -52,7 +52,7 @@ fn add_names<S: Alter>(
     names: &[Text],
 ) -> Result<(), BookFault>
     requires { store.old.is_open ≡ true }
-    ensures { Turns result (AreNamesAdded domain.now.id role names.now) store.old store.new }
+    ensures { Turns result (AreNamesAdded domain.now.id domain.now.due role names.now) store.old store.new }
 {
     for name in names {
         add_name(store, domain, role, name)?;
@@ -68,7 +68,7 @@ fn add_name<S: Alter>(
     name: &Text,
 ) -> Result<(), BookFault>
     requires { store.old.is_open ≡ true }
-    ensures { Turns result (AreNamesAdded domain.now.id role (name.now ∷ [])) store.old store.new }
+    ensures { Turns result (AreNamesAdded domain.now.id domain.now.due role (name.now ∷ [])) store.old store.new }
 {
     let row = row_to(store, domain, role, name)?;
     store.append_link(&row)?;
@@ -82,7 +82,7 @@ fn row_to<S: Alter>(
     role: Role,
     name: &Text,
 ) -> Result<LinkRow, BookFault>
-    ensures { Meets result (IsLinkTo store.old.content domain.now.id role name.now) store.old store.new }
+    ensures { Meets result (IsLinkTo store.old.content domain.now.id domain.now.due role name.now) store.old store.new }
 {
     match role {
         Role::Host => row_to_host(store, domain, name),
@@ -95,7 +95,7 @@ fn row_to_host<S: Alter>(
     domain: &DomainRow,
     name: &Text,
 ) -> Result<LinkRow, BookFault>
-    ensures { Meets result (IsHostLinkTo store.old.content domain.now.id name.now) store.old store.new }
+    ensures { Meets result (IsHostLinkTo store.old.content domain.now.id domain.now.due name.now) store.old store.new }
 {
     let id = host_number(store, name)?;
     Ok(LinkRow {
@@ -104,6 +104,7 @@ fn row_to_host<S: Alter>(
         contact: None,
         host: Some(id),
         role: role_column(Role::Host),
+        due: domain.due,
     })
 }
 
@@ -113,7 +114,7 @@ fn row_to_contact<S: Alter>(
     role: Role,
     name: &Text,
 ) -> Result<LinkRow, BookFault>
-    ensures { Meets result (IsContactLinkTo store.old.content domain.now.id role name.now) store.old store.new }
+    ensures { Meets result (IsContactLinkTo store.old.content domain.now.id domain.now.due role name.now) store.old store.new }
 {
     let id = contact_number(store, name)?;
     Ok(LinkRow {
@@ -122,6 +123,7 @@ fn row_to_contact<S: Alter>(
         contact: Some(id),
         host: None,
         role: role_column(role),
+        due: domain.due,
     })
 }
 

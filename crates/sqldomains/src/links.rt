@@ -26,7 +26,24 @@ pub(crate) fn links_of<S: Alter>(
     let registrant = contact_name(store, row.registrant)?;
     let number = number_of(row);
     let rows = store.links_by_domain(number)?;
+    let rows = dated(row, rows)?;
     with_links(store, registrant_alone(alloc, registrant), rows)
+}
+
+/// These rows of a domain's links, if each says when the domain's row is due.
+fn dated(row: &DomainRow, rows: Seq<LinkRow>) -> Result<Seq<LinkRow>, BookFault>
+    ensures { IfOk result (λ links. spec.dated row.now.due rows ≡ Some links) }
+{
+    if !are_dated(row, rows.as_slice()) {
+        return Err(BookFault::Store);
+    }
+    Ok(rows)
+}
+
+fn are_dated(row: &DomainRow, rows: &[LinkRow]) -> bool
+    ensures { result ≡ spec.are_dated row.now.due rows.now }
+{
+    rows.iter().all(|link| link.due == row.due)
 }
 
 pub(crate) fn number_of(row: &DomainRow) -> Number

@@ -97,11 +97,11 @@ has-come t m u e = go (nat_lt t m) refl e
 
 -- ---- contacts
 
-record IsContactRow (row : contact_table.Contact) (c : Contact) : Type 0 where
+pub record IsContactRow (row : contact_table.Contact) (c : Contact) : Type 0 where
   pub name : c.name ≡ row.name
   pub due : maybe_due_column c.transfer ≡ row.due
 
-contact-row : (xs : Content) (row : contact_table.Contact) (c : Contact) → contact_of xs row ≡ Some c → IsContactRow row c
+pub contact-row : (xs : Content) (row : contact_table.Contact) (c : Contact) → contact_of xs row ≡ Some c → IsContactRow row c
 contact-row xs row c e =
     let transfer = step (last_transfer (filter (transfer_with_contact row.id) xs.transfers)) (contact_in row) c e in
     let r = step (registration_in kinds.Contact (columns_of row)) _ c transfer.rest in
@@ -112,17 +112,17 @@ contact-row xs row c e =
       due = ap (λ (x : Contact). maybe_due_column x.transfer) (sym due.1) ∙ same_is_equal (maybe_due_column transfer.given) row.due due.0;
     }
 
-contact-stands : (xs : Content) (row : contact_table.Contact) (c : Contact) → IsWhole xs → Has xs.contacts row → contact_of xs row ≡ Some c → get (contacts_of xs) row.name ≡ Some c
+pub contact-stands : (xs : Content) (row : contact_table.Contact) (c : Contact) → IsWhole xs → Has xs.contacts row → contact_of xs row ≡ Some c → get (contacts_of xs) row.name ≡ Some c
 contact-stands xs row c whole there reads =
     sym (contact-named xs row.name) ∙ ap (first_read (contact_of xs)) (only_named contact_table.contacts.key (λ (r : contact_table.Contact). r.name) xs.contacts row whole.keyed.contacts whole.named.contacts there) ∙ ap (λ o. or_else o None) reads
 
-contact-under : (xs : Content) (n : List ℕ) (c : Contact) → get (contacts_of xs) n ≡ Some c → (row : contact_table.Contact) × Has xs.contacts row × (contact_of xs row ≡ Some c) × (row.name ≡ n)
+pub contact-under : (xs : Content) (n : List ℕ) (c : Contact) → get (contacts_of xs) n ≡ Some c → (row : contact_table.Contact) × Has xs.contacts row × (contact_of xs row ≡ Some c) × (row.name ≡ n)
 contact-under xs n c e =
     let it = first-has (contact_of xs) (filter (contact_table.contact_with_name n) xs.contacts) c (contact-named xs n ∙ e) in
     let there = has-filter (contact_table.contact_with_name n) xs.contacts it.0 it.1 in
     (it.0, there.0, it.2, bytes_is it.0.name n there.1)
 
-never-before : (m : ℕ) → int_le (pos 0) (pos m) ≡ true
+pub never-before : (m : ℕ) → int_le (pos 0) (pos m) ≡ true
 never-before m = grind (arith)
 
 both : (a b : Bool) → a ≡ true → b ≡ true → (a && b) ≡ true
@@ -137,12 +137,17 @@ column-within t u (Some x) e = go (is_pending_state x.state) e
     go true f = both (int_le (pos 0) (pos x.ac_date)) (int_le (pos x.ac_date) (pos t)) (never-before x.ac_date) (has-come t x.ac_date u f)
     go false f = cc
 
+-- a contact that is due has a row that may be
+pub contact-within : (xs : Content) (t : ℕ) (row : contact_table.Contact) (c : Contact) (d : Due) → contact_of xs row ≡ Some c → contact_due t (row.name, c) ≡ Some d → contact_table.contact_within_due (pos t) row ≡ true
+contact-within xs t row c d reads due =
+    let moment = some-due kinds.Contact row.name (option_and_then (passed t) (completes_at c.transfer)) d due in
+    ap (is_due_by (pos t)) (sym (contact-row xs row c reads).due) ∙ column-within t moment.0 c.transfer moment.1
+
 contact-asked : (xs : Content) (t : ℕ) (row : contact_table.Contact) (c : Contact) (d : Due) → Has xs.contacts row → contact_of xs row ≡ Some c → contact_due t (row.name, c) ≡ Some d
     → Has (spec.contacts_until t xs) row
 contact-asked xs t row c d there reads due =
-    let moment = some-due kinds.Contact row.name (option_and_then (passed t) (completes_at c.transfer)) d due in
-    let within : contact_table.contact_within_due (pos t) row ≡ true = ap (is_due_by (pos t)) (sym (contact-row xs row c reads).due) ∙ column-within t moment.0 c.transfer moment.1 in
-    sorted-has (by_then_key contact_table.contacts contact_table.by_due) (filter (contact_table.contact_within_due (pos t)) xs.contacts) row (filter-has (contact_table.contact_within_due (pos t)) xs.contacts row there within)
+    sorted-has (by_then_key contact_table.contacts contact_table.by_due) (filter (contact_table.contact_within_due (pos t)) xs.contacts) row
+    (filter-has (contact_table.contact_within_due (pos t)) xs.contacts row there (contact-within xs t row c d reads due))
 
 pub contacts-found : (xs : Content) (t : ℕ) (found : List Due) → IsWhole xs → spec.with_rows (spec.contact_in t xs) [] (spec.contacts_until t xs) ≡ Some found → found ≡ found_due (contact_due t) [] (entries (contacts_of xs))
 contacts-found xs t found whole e =
@@ -181,12 +186,17 @@ module _ (xs : Content) (p : PolicyRules) (t : ℕ) (whole : IsWhole xs) (days :
   row-right : (row : domain_table.Domain) → Has xs.domains row → is_due_right p.days xs row ≡ true
   row-right row there = all-has (is_due_right p.days xs) xs.domains row (sym (ap (λ o. option_map_or (λ ds. list_all (is_due_right ds xs) xs.domains) o true) days) ∙ right) there
 
-  domain-asked : (row : domain_table.Domain) (d : Domain) (it : Due) → Has xs.domains row → domain_of xs row ≡ Some d → domain_due p t (row.name, d) ≡ Some it → Has (spec.domains_until t xs) row
-  domain-asked row d it there reads due =
+  -- a domain that is due has a row that may be
+  pub domain-within : (row : domain_table.Domain) (d : Domain) (it : Due) → Has xs.domains row → domain_of xs row ≡ Some d → domain_due p t (row.name, d) ≡ Some it → domain_table.domain_within_due (pos t) row ≡ true
+  domain-within row d it there reads due =
       let moment = some-due kinds.Domain row.name (passed t (due_at p d)) it due in
       let column : int_le row.due (pos (due_at (rules_with p.days) d)) ≡ true = sym (ap (λ o. option_map_or (λ x. int_le row.due (pos (due_at (rules_with p.days) x))) o true) reads) ∙ row-right row there in
-      let within : domain_table.domain_within_due (pos t) row ≡ true = no-later row.due (pos (due_at p d)) (pos t) (ap (λ m. int_le row.due (pos m)) (sym (same-due p d)) ∙ column) (has-come t (due_at p d) moment.0 moment.1) in
-      sorted-has (by_then_key domain_table.domains domain_table.by_due) (filter (domain_table.domain_within_due (pos t)) xs.domains) row (filter-has (domain_table.domain_within_due (pos t)) xs.domains row there within)
+      no-later row.due (pos (due_at p d)) (pos t) (ap (λ m. int_le row.due (pos m)) (sym (same-due p d)) ∙ column) (has-come t (due_at p d) moment.0 moment.1)
+
+  domain-asked : (row : domain_table.Domain) (d : Domain) (it : Due) → Has xs.domains row → domain_of xs row ≡ Some d → domain_due p t (row.name, d) ≡ Some it → Has (spec.domains_until t xs) row
+  domain-asked row d it there reads due =
+      sorted-has (by_then_key domain_table.domains domain_table.by_due) (filter (domain_table.domain_within_due (pos t)) xs.domains) row
+      (filter-has (domain_table.domain_within_due (pos t)) xs.domains row there (domain-within row d it there reads due))
 
   domains-found : (found all : List Due) → InOrder found → spec.with_rows (spec.domain_in p t xs) found (spec.domains_until t xs) ≡ Some all → all ≡ found_due (domain_due p t) found (entries (domains_of xs))
   domains-found found all rise e =

@@ -1,5 +1,5 @@
 -- What is found due of rows is what is due of the objects that stand.
-use Rattle.std.proofs.Common.{◌≡◌, ◌⊎◌, inl, inr, ℕ, Bool, true, false, cond, List, [], ◌∷◌, Option, Some, None, option_map, refl, sym, ap, subst, ◌∙◌}
+use Rattle.std.proofs.Common.{◌≡◌, ◌⊎◌, inl, inr, ℕ, Bool, true, false, cond, List, [], ◌∷◌, filter, Option, Some, None, option_map, refl, sym, ap, subst, ◌∙◌}
 use Rattle.std.specs.Cmp.Lexicographic.{nat_list_cmp_total, slice_cmp}
 use Rattle.std.specs.FinMap.{FinMap, IsAntisymmetric, entries, find, get, get-entries, nat_cmp-IsAntisymmetric, slice_cmp-IsAntisymmetric}
 use Rattle.std.specs.Ordering.{eq_by_cmp, nat_cmp, ordering_then}
@@ -7,7 +7,7 @@ use Rattle.std.specs.declared.cmp.Ordering.{Ordering}
 use Rattle.std.specs.declared.cmp.Ordering.TheVariants.{Less, Equal, Greater}
 use Rattle.sqlite_rules.specs.Lists.{Has}
 use Rattle.basis.proofs.EntryLaws.{Each, each_entry}
-use Rattle.sqlobjects.proofs.PutLemmas.{bytes_is}
+use Rattle.sqlobjects.proofs.PutLemmas.{bytes_is, filter-has, has-filter}
 use Rattle.objects.specs.declared.roid.ObjectKind.{ObjectKind}
 use Rattle.objects.specs.declared.roid.ObjectKind.TheVariants as kinds
 use Rattle.columns.proofs.ReadLemmas.{same_some, step}
@@ -70,16 +70,16 @@ module _ {X : Type 0} (test : X → Option Due) where
   one-rises None found rise = rise
   one-rises (Some new) found rise = insert-rises due_cmp due_cmp_total due_same found new rise
 
-  found-keeps : (found : List Due) (xs : List X) (d : Due) → Has found d → Has (found_due test found xs) d
+  pub found-keeps : (found : List Due) (xs : List X) (d : Due) → Has found d → Has (found_due test found xs) d
   found-keeps found [] d there = there
   found-keeps found (x ∷ xs) d there = found-keeps (with_due (test x) found) xs d (one-keeps (test x) found d there)
 
-  found-has : (found : List Due) (xs : List X) (x : X) (d : Due) → Has xs x → test x ≡ Some d → Has (found_due test found xs) d
+  pub found-has : (found : List Due) (xs : List X) (x : X) (d : Due) → Has xs x → test x ≡ Some d → Has (found_due test found xs) d
   found-has found [] x d there e = absurd there
   found-has found (y ∷ ys) x d (inl same) e = found-keeps (with_due (test y) found) ys d (one-has (test y) found d (ap test (sym same) ∙ e))
   found-has found (y ∷ ys) x d (inr later) e = found-has (with_due (test y) found) ys x d later e
 
-  found-from : (found : List Due) (xs : List X) (d : Due) → Has (found_due test found xs) d → Has found d ⊎ ((x : X) × Has xs x × (test x ≡ Some d))
+  pub found-from : (found : List Due) (xs : List X) (d : Due) → Has (found_due test found xs) d → Has found d ⊎ ((x : X) × Has xs x × (test x ≡ Some d))
   found-from found [] d there = inl there
   found-from found (y ∷ ys) d there = go (found-from (with_due (test y) found) ys d there)
     where
@@ -115,7 +115,7 @@ same-found test other found xs ys rise there back =
 -- ---- rows that read
 
 -- what a row shows to be due
-abbrev shown : Option (Option Due) → Option Due
+abbrev pub shown : Option (Option Due) → Option Due
 shown None = None
 shown (Some due) = due
 
@@ -123,7 +123,7 @@ one-row : (found more : List Due) (o : Option (Option Due)) → with_row found o
 one-row found more None e = cc
 one-row found more (Some due) e = same_some (with_due due found) more e
 
-rows-read : {R : Type 0} (read : R → Option (Option Due)) (found all : List Due) (rows : List R) → with_rows read found rows ≡ Some all → all ≡ found_due (λ r. shown (read r)) found rows
+pub rows-read : {R : Type 0} (read : R → Option (Option Due)) (found all : List Due) (rows : List R) → with_rows read found rows ≡ Some all → all ≡ found_due (λ r. shown (read r)) found rows
 rows-read read found all [] e = sym (same_some found all e)
 rows-read read found all (row ∷ rows) e =
     let first = step (with_row found (read row)) (λ more. with_rows read more rows) all e in
@@ -132,12 +132,12 @@ rows-read read found all (row ∷ rows) e =
 
 -- ---- entries
 
-entry-is : {X : Type 0} (m : FinMap (slice_cmp nat_cmp) X) (es : List (List ℕ × X)) → Each (λ n x. get m n ≡ Some x) es → (e : List ℕ × X) → Has es e → get m e.0 ≡ Some e.1
+pub entry-is : {X : Type 0} (m : FinMap (slice_cmp nat_cmp) X) (es : List (List ℕ × X)) → Each (λ n x. get m n ≡ Some x) es → (e : List ℕ × X) → Has es e → get m e.0 ≡ Some e.1
 entry-is m [] each e there = absurd there
 entry-is m (f ∷ fs) each e (inl same) = (λ i. get m ((same i).0)) ∙ each.0 ∙ ap (λ (g : _). Some g.1) (sym same)
 entry-is m (f ∷ fs) each e (inr later) = entry-is m fs each.1 e later
 
-has-found : {X : Type 0} (es : List (List ℕ × X)) (n : List ℕ) (x : X) → find (slice_cmp nat_cmp) n es ≡ Some x → Has es (n, x)
+pub has-found : {X : Type 0} (es : List (List ℕ × X)) (n : List ℕ) (x : X) → find (slice_cmp nat_cmp) n es ≡ Some x → Has es (n, x)
 has-found [] n x e = cc
 has-found {X} (f ∷ fs) n x e = go (eq_by_cmp (slice_cmp nat_cmp) n f.0) refl e (has-found fs n x)
   where
@@ -172,3 +172,60 @@ module _ {R X : Type 0} (name : R → List ℕ) (its : X → List ℕ) (read : R
       let row = under e.0 e.1 (entry-there e there) in
       let passes : test (name row.0, e.1) ≡ Some d = (λ i. test (row.3 i, e.1)) ∙ is in
       (row.0, complete row.0 e.1 d row.1 row.2 passes, (λ i. shown (option_map (λ x. test (its x, x)) (row.2 i))) ∙ (λ i. test (named row.0 e.1 row.2 i, e.1)) ∙ passes))
+
+-- ---- what is picked of it
+
+-- what passes a test of a list in order is in order
+module _ (pick : Due → Bool) where
+  picked-rises : (ds : List Due) → InOrder ds → InOrder (filter pick ds)
+  picked-rises [] rise = tt
+  picked-rises (d ∷ ds) rise = go (pick d) (picked-rises ds rise.1)
+    where
+      go : (b : Bool) → InOrder (filter pick ds) → InOrder (cond b (d ∷ filter pick ds) (filter pick ds))
+      go true more = (λ q there. rise.0 q (has-filter pick ds q there).0, more)
+      go false more = more
+
+  -- lists in order that have the same of what passes
+  pub same-picked : (ds es : List Due) → InOrder ds → InOrder es → ((d : Due) → pick d ≡ true → Has ds d → Has es d) → ((d : Due) → pick d ≡ true → Has es d → Has ds d) → filter pick ds ≡ filter pick es
+  same-picked ds es rise other there back =
+      same-list due_cmp due_cmp_total due_same (filter pick ds) (filter pick es) (picked-rises ds rise) (picked-rises es other)
+      (λ d has. let it = has-filter pick ds d has in filter-has pick es d (there d it.1 it.0) it.1)
+      (λ d has. let it = has-filter pick es d has in filter-has pick ds d (back d it.1 it.0) it.1)
+
+module _ {R X : Type 0} (name : R → List ℕ) (its : X → List ℕ) (read : R → Option X) (test : List ℕ × X → Option Due) (rows asked : List R) (m : FinMap (slice_cmp nat_cmp) X) where
+  abbrev due_of_row : R → Option (Option Due)
+  due_of_row row = option_map (λ x. test (its x, x)) (read row)
+
+  given_row : (row : R) (d : Due) (o : Option X) → read row ≡ o → shown (option_map (λ x. test (its x, x)) o) ≡ Some d → (x : X) × (read row ≡ Some x) × (test (its x, x) ≡ Some d)
+  given_row row d None is e = cc
+  given_row row d (Some x) is e = (x, is, e)
+
+  -- what is found of rows that stand is found of the objects
+  pub objects-found : ((row : R) (x : X) → read row ≡ Some x → its x ≡ name row) → ((row : R) (x : X) → Has rows row → read row ≡ Some x → get m (name row) ≡ Some x) → ((row : R) → Has asked row → Has rows row)
+      → (found other : List Due) → ((d : Due) → Has found d → Has other d) → (d : Due) → Has (found_due (λ r. shown (due_of_row r)) found asked) d → Has (found_due test other (entries m)) d
+  objects-found named stands sound found other before d has = go (found-from (λ r. shown (due_of_row r)) found asked d has)
+    where
+      go : Has found d ⊎ ((row : R) × Has asked row × (shown (due_of_row row) ≡ Some d)) → Has (found_due test other (entries m)) d
+      go (inl there) = found-keeps test other (entries m) d (before d there)
+      go (inr it) =
+          let row = it.0 in
+          let given = given_row row d (read row) refl it.2 in
+          found-has test other (entries m) (name row, given.0) d
+          (has-found (entries m) (name row) given.0 (sym (get-entries m (name row)) ∙ stands row given.0 (sound row it.1) given.1))
+          ((λ i. test (sym (named row given.0 given.1) i, given.0)) ∙ given.2)
+
+  -- what is found of the objects and picked is found of rows among which are all that are picked
+  pub rows-found : (pick : Due → Bool) → ((row : R) (x : X) → read row ≡ Some x → its x ≡ name row) → ((n : List ℕ) (x : X) → get m n ≡ Some x → (row : R) × Has rows row × (read row ≡ Some x) × (name row ≡ n))
+      → ((row : R) (x : X) (d : Due) → Has rows row → read row ≡ Some x → test (name row, x) ≡ Some d → pick d ≡ true → Has asked row)
+      → (found other : List Due) → ((d : Due) → pick d ≡ true → Has other d → Has found d) → (d : Due) → pick d ≡ true → Has (found_due test other (entries m)) d → Has (found_due (λ r. shown (due_of_row r)) found asked) d
+  rows-found pick named under complete found other before d picked has = go (found-from test other (entries m) d has)
+    where
+      go : Has other d ⊎ ((e : List ℕ × X) × Has (entries m) e × (test e ≡ Some d)) → Has (found_due (λ r. shown (due_of_row r)) found asked) d
+      go (inl there) = found-keeps (λ r. shown (due_of_row r)) found asked d (before d picked there)
+      go (inr it) =
+          let e = it.0 in
+          let there : get m e.0 ≡ Some e.1 = entry-is m (entries m) (each_entry (slice_cmp nat_cmp) nat_list_cmp_total (slice_cmp-IsAntisymmetric nat_cmp-IsAntisymmetric) (λ n x. get m n ≡ Some x) m (λ n x same. same)) e it.1 in
+          let row = under e.0 e.1 there in
+          let passes : test (name row.0, e.1) ≡ Some d = (λ i. test (row.3 i, e.1)) ∙ it.2 in
+          found-has (λ r. shown (due_of_row r)) found asked row.0 d (complete row.0 e.1 d row.1 row.2 passes picked)
+          ((λ i. shown (option_map (λ x. test (its x, x)) (row.2 i))) ∙ (λ i. test (named row.0 e.1 row.2 i, e.1)) ∙ passes)

@@ -3,3 +3,4 @@ pub mod OrderLemmas
 pub mod FoundLemmas
 pub mod DueLemmas
 pub mod AnswerLemmas
+pub mod NearLemmas

@@ -68,7 +68,7 @@ fn contact_rows<S: Alter>(
 }
 
 /// Those of these rows' contacts that are due.
-fn of_contacts<S: Alter>(
+pub(crate) fn of_contacts<S: Alter>(
     store: &mut RowStore<S>,
     alloc: Global,
     moment: Moment,
@@ -127,7 +127,7 @@ fn domain_rows<S: Alter>(
     store.domains_until_due(number(moment))
 }
 
-fn with_domains<S: Alter>(
+pub(crate) fn with_domains<S: Alter>(
     store: &mut RowStore<S>,
     alloc: Global,
     moment: Moment,
@@ -182,14 +182,14 @@ fn with_due(
     Ok(found)
 }
 
-fn number(moment: Moment) -> Number
+pub(crate) fn number(moment: Moment) -> Number
     ensures { result ≡ moment_column moment }
 {
     Number::new(moment.secs())
 }
 
 /// An ordered set as a list.
-fn listed(alloc: Global, found: BTreeSet<Due>) -> Result<Seq<Due>, AllocError>
+pub(crate) fn listed(alloc: Global, found: BTreeSet<Due>) -> Result<Seq<Due>, AllocError>
     ensures { IfOk result (λ due. due ≡ found.keys) }
 {
     let mut due = Vec::with_capacity(alloc, found.len())?;

@@ -9,7 +9,9 @@
 mod checking;
 mod finding;
 mod length;
+mod near;
 
 pub use checking::{due_for, standing};
 pub use finding::due;
 pub use length::same_days;
+pub use near::due_near;

@@ -6,7 +6,7 @@ ghost use Rattle.store.specs.Kept.{GaveUp, stands};
 use crate::book::Book;
 use crate::due::Due;
 use crate::records::Records;
-use crate::{applying, finding, seeing};
+use crate::{applying, concerning, finding, seeing};
 use basis::list::Seq;
 use basis::registrar::RegistrarNo;
 use basis::text::Text;
@@ -164,6 +164,32 @@ impl<R: Records> Book for Kept<R> {
 
     fn due(&mut self, moment: Moment, policy: &Policy) -> Result<Seq<Due>, BookFault> {
         match self.records.due(moment, policy) {
+            Ok(due) => Ok(due),
+            Err(fault) => self.give_up(fault),
+        }
+    }
+
+    fn due_for(
+        &mut self,
+        caller: Option<RegistrarNo>,
+        command: &Command,
+        moment: Moment,
+        policy: &Policy,
+    ) -> Result<Seq<Due>, BookFault> {
+        match concerning::due_for(&mut self.records, caller, command, moment, policy) {
+            Ok(due) => Ok(due),
+            Err(fault) => self.give_up(fault),
+        }
+    }
+
+    fn due_at(
+        &mut self,
+        kind: ObjectKind,
+        name: &Text,
+        moment: Moment,
+        policy: &Policy,
+    ) -> Result<Seq<Due>, BookFault> {
+        match concerning::due_at(&mut self.records, kind, name, moment, policy) {
             Ok(due) => Ok(due),
             Err(fault) => self.give_up(fault),
         }

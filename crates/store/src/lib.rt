@@ -5,6 +5,7 @@
 mod applying;
 mod book;
 mod changing;
+mod concerning;
 mod content;
 mod due;
 mod edit;

@@ -12,6 +12,7 @@ use basis::list::Seq;
 use basis::registrar::RegistrarNo;
 use basis::text::Text;
 use calendar::Moment;
+use concerns::Names;
 use facts::Superordinate;
 use objects::{Contact, Domain, Host, Roid};
 use policy::{Policy, Terms};
@@ -161,6 +162,22 @@ impl Records for Plain {
     }
 
     fn due(&mut self, moment: Moment, policy: &Policy) -> Result<Seq<Due>, BookFault> {
+        self.settle()?;
+        if self.is_quiet(moment, policy) {
+            return Ok(Seq::new(self.content.alloc));
+        }
+        self.quiet = Some(self.content.quiet_from(policy));
+        Ok(self.content.due_by(moment, policy)?)
+    }
+
+    /// All that is due: each object is looked at in any case.
+    fn due_near(
+        &mut self,
+        _caller: Option<RegistrarNo>,
+        _names: &Names,
+        moment: Moment,
+        policy: &Policy,
+    ) -> Result<Seq<Due>, BookFault> {
         self.settle()?;
         if self.is_quiet(moment, policy) {
             return Ok(Seq::new(self.content.alloc));

@@ -8,7 +8,8 @@ ghost use Rattle.basis.specs.Bag.{remade};
 ghost use Rattle.facts.specs.Facts as facts;
 ghost use Rattle.model.specs.Registry.{account_of};
 ghost use Rattle.store.specs.Book.{with_terms};
-ghost use Rattle.store.specs.Due.{due_by};
+ghost use Rattle.concerns.specs.Concerns.{concerned};
+ghost use Rattle.store.specs.Due.{due_by, due_for, is_picked};
 ghost use Rattle.store.specs.Faces.{domain_names, host_addresses_at};
 ghost use Rattle.store.specs.Ledgers.{counters_of};
 ghost use Rattle.store.specs.Lookups.{has_contact, has_host};
@@ -22,6 +23,7 @@ use basis::list::Seq;
 use basis::registrar::RegistrarNo;
 use basis::text::Text;
 use calendar::Moment;
+use concerns::Names;
 use facts::{HOLDING_LIMIT, Superordinate};
 use objects::{Contact, Domain, Host, Roid};
 use policy::{Policy, Terms};
@@ -141,6 +143,17 @@ pub trait Records {
     /// contacts first, then by name.
     fn due(&mut self, moment: Moment, policy: &Policy) -> Result<Seq<Due>, BookFault>
         ensures { Finds result (due_by policy.now moment (kept self.old).content.registry) (kept self.old) (kept self.new) };
+
+    /// Some of what is due by a moment, in the same order: all that concerns a registrar, if one is given,
+    /// and some names is among it. What isn't near these isn't looked at, where there is a way around it.
+    fn due_near(
+        &mut self,
+        caller: Option<RegistrarNo>,
+        names: &Names,
+        moment: Moment,
+        policy: &Policy,
+    ) -> Result<Seq<Due>, BookFault>
+        ensures { Meets result (λ due. filter (is_picked (concerned caller names.now (kept self.old).content.registry)) due ≡ due_for policy.now caller names.now moment (kept self.old).content.registry) (kept self.old) (kept self.new) };
 
     // ---- changes
 

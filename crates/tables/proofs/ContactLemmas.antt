@@ -1,7 +1,8 @@
 -- What the statements on the table `contact` mean.
-use Rattle.std.proofs.Common.{ap, pos, negsuc, drop, Equal, ◌≡◌, refl, List, [], ◌∷◌, ℕ, ℤ, filter, codes, false}
+use Rattle.std.proofs.Common.{ap, pos, negsuc, take, drop, ◌∙◌, Equal, ◌≡◌, refl, List, [], ◌∷◌, ℕ, ℤ, filter, codes, false}
 use Rattle.sqlite_value.specs.declared.value.Value.TheVariants.{Null, Int, Text}
 use Rattle.sqlite_value.specs.declared.keys.Collation.TheVariants.{Binary}
+use Rattle.std.specs.List.{take-map}
 use Rattle.std.specs.Ordering.{ordering_then}
 use Rattle.sqlite_value.specs.Order.{value_cmp}
 use Rattle.sqlite_value.proofs.OrderLemmas.{value_cmp-Int}
@@ -10,7 +11,7 @@ use Rattle.sqlite_sql.specs.declared.ops.BinaryOp.TheVariants.{Compare}
 use Rattle.sqlite_sql.specs.Term.{Term, lit, col, op2}
 use Rattle.sqlite_schema.specs.declared.schema.Table.{Table}
 use Rattle.sqlite_typed.specs.Columns.{or_null}
-use Rattle.sqlite_typed.proofs.TestLemmas.{at_ints, at_texts, last_term, then_key, last_key}
+use Rattle.sqlite_typed.proofs.TestLemmas.{at_ints, at_texts, then_term, last_term, then_key, last_key}
 use Rattle.sqlite_keyed.specs.Keyed.{insert_by}
 use Rattle.sqlite_keyed.specs.Lists.{delete_where}
 use Rattle.sqlite.specs.Listing.{understood}
@@ -23,8 +24,8 @@ use Rattle.rows.proofs.AppendLemmas.{appends}
 use Rattle.rows.proofs.CastLemmas.{cast_int, cast_null, cast_text, cast_maybe_int, cast_maybe_text}
 use Rattle.rows.proofs.QuietLemmas.{quiet_if_idle}
 use Rattle.tables.proofs.DueLemmas.{at_due}
-use Rattle.tables.specs.Tables.{contact, registry, contact_by_id, contact_by_name, contact_until_due, contact_put, contact_append, contact_remove_id}
-use Rattle.tables.specs.Contact.{Contact, contact_shown, contacts, contact_with_id, contact_with_name, contact_within_due, by_due, contacts_by_due}
+use Rattle.tables.specs.Tables.{contact, registry, contact_by_id, contact_by_name, contact_until_due, contact_first_until_due, contact_by_sponsor_until_due, contact_put, contact_append, contact_remove_id}
+use Rattle.tables.specs.Contact.{Contact, contact_shown, contacts, contact_with_id, contact_with_name, contact_within_due, contact_of_sponsor_within, by_due, contacts_by_due}
 use Rattle.tables.specs.Content.{contacts_to}
 use Rattle.tables.specs.Statements.{Alters, Asks}
 use Rattle.tables.proofs.TableLemmas.{asks_contacts, alters_contacts}
@@ -64,6 +65,23 @@ until_due_is = record { names = codes "id" ∷ codes "name" ∷ codes "creator" 
 pub until_due_asks : (due : ℤ) → Asks contact_shown contact_until_due (Int due ∷ []) (λ c. contacts_by_due (filter (contact_within_due due) c.contacts))
 until_due_asks due = asks_contacts contact_shown contact_until_due (Int due ∷ []) _ (λ xs. contacts_by_due (filter (contact_within_due due) xs)) until_due_is (λ db xs rows h answer.
     sorts contacts _ columns due_columns (negsuc 0) (Int due ∷ []) (contact_within_due due) contact_shown by_due (λ x. at_due x.due due) (λ x. refl) due_order db xs rows h answer)
+
+pub first_until_due_is : IsSelect registry contact_first_until_due (sorted_query 3 (op2 (Compare Ge Binary) (col 1 19) (lit (Int (pos 0))) ∷ op2 (Compare Le Binary) (col 1 19) (col 0 0) ∷ []) columns due_columns (pos 1))
+unfolding understood everything
+first_until_due_is = record { names = codes "id" ∷ codes "name" ∷ codes "creator" ∷ codes "serial" ∷ codes "sponsor" ∷ codes "created" ∷ codes "transferred" ∷ codes "updated" ∷ codes "statuses" ∷ codes "secret" ∷ codes "postal_name" ∷ codes "org" ∷ codes "street" ∷ codes "city" ∷ codes "state" ∷ codes "postal_code" ∷ codes "country" ∷ codes "voice" ∷ codes "due" ∷ codes "mail" ∷ []; command = refl; plain = (refl, refl); unlisted = refl }
+
+pub first_until_due_asks : (due : ℤ) → Asks contact_shown contact_first_until_due (Int due ∷ []) (λ c. take 1 (contacts_by_due (filter (contact_within_due due) c.contacts)))
+first_until_due_asks due = asks_contacts contact_shown contact_first_until_due (Int due ∷ []) _ (λ xs. take 1 (contacts_by_due (filter (contact_within_due due) xs))) first_until_due_is (λ db xs rows h answer.
+    sorts contacts _ columns due_columns (pos 1) (Int due ∷ []) (contact_within_due due) contact_shown by_due (λ x. at_due x.due due) (λ x. refl) due_order db xs rows h answer
+    ∙ take-map contact_shown 1 (contacts_by_due (filter (contact_within_due due) xs)))
+
+pub by_sponsor_until_due_is : IsSelect registry contact_by_sponsor_until_due (select_query 3 (op2 (Compare Eq Binary) (col 1 5) (col 0 0) ∷ op2 (Compare Ge Binary) (col 1 19) (lit (Int (pos 0))) ∷ op2 (Compare Le Binary) (col 1 19) (col 0 1) ∷ []) columns)
+unfolding understood everything
+by_sponsor_until_due_is = record { names = codes "id" ∷ codes "name" ∷ codes "creator" ∷ codes "serial" ∷ codes "sponsor" ∷ codes "created" ∷ codes "transferred" ∷ codes "updated" ∷ codes "statuses" ∷ codes "secret" ∷ codes "postal_name" ∷ codes "org" ∷ codes "street" ∷ codes "city" ∷ codes "state" ∷ codes "postal_code" ∷ codes "country" ∷ codes "voice" ∷ codes "due" ∷ codes "mail" ∷ []; command = refl; plain = (refl, refl); unlisted = refl }
+
+pub by_sponsor_until_due_asks : (sponsor due : ℤ) → Asks contact_shown contact_by_sponsor_until_due (Int sponsor ∷ Int due ∷ []) (λ c. filter (contact_of_sponsor_within sponsor due) c.contacts)
+by_sponsor_until_due_asks sponsor due = asks_contacts contact_shown contact_by_sponsor_until_due (Int sponsor ∷ Int due ∷ []) _ (λ xs. filter (contact_of_sponsor_within sponsor due) xs) by_sponsor_until_due_is (λ db xs rows h answer.
+    selects contacts _ _ (Int sponsor ∷ Int due ∷ []) (contact_of_sponsor_within sponsor due) contact_shown (λ x. then_term (at_ints false Eq x.sponsor sponsor) (at_due x.due due)) (λ x. refl) db xs rows h answer)
 
 listed : Listed contacts registry 2 table
 listed = record { is = refl; tree = refl; quiet = quiet_if_idle registry refl; uncounted = refl; unstamped = refl; casts = λ x. simp (cast_int, cast_null, cast_text, cast_maybe_int, cast_maybe_text) }

@@ -10,7 +10,7 @@ use Rattle.sqlite_sql.specs.declared.ops.CompareOp.TheVariants.{Eq, Le}
 use Rattle.sqlite_sql.specs.declared.ops.BinaryOp.TheVariants.{Compare}
 use Rattle.sqlite_sql.specs.Term.{Term, lit, col, op2}
 use Rattle.sqlite_schema.specs.declared.schema.Table.{Table}
-use Rattle.sqlite_typed.proofs.TestLemmas.{at_ints, at_texts, last_term, then_key, last_key}
+use Rattle.sqlite_typed.proofs.TestLemmas.{at_ints, at_texts, last_term, then_key, last_key, then_term}
 use Rattle.sqlite_keyed.specs.Keyed.{insert_by}
 use Rattle.sqlite_keyed.specs.Lists.{delete_where}
 use Rattle.sqlite_keyed.proofs.ListLemmas.{filter_all, all_of}
@@ -23,8 +23,8 @@ use Rattle.rows.proofs.PutLemmas.{puts}
 use Rattle.rows.proofs.AppendLemmas.{appends}
 use Rattle.rows.proofs.CastLemmas.{cast_int, cast_null, cast_text, cast_maybe_int, cast_maybe_text}
 use Rattle.rows.proofs.QuietLemmas.{quiet_if_idle}
-use Rattle.tables.specs.Tables.{domain, registry, domain_all, domain_by_id, domain_by_name, domain_first_by_registrant, domain_until_due, domain_put, domain_append, domain_remove_id}
-use Rattle.tables.specs.Domain.{Domain, domain_shown, domains, domain_with_id, domain_with_name, domain_with_registrant, domain_within_due, by_due, domains_by_due}
+use Rattle.tables.specs.Tables.{domain, registry, domain_all, domain_by_id, domain_by_name, domain_first_by_registrant, domain_until_due, domain_put, domain_append, domain_remove_id, domain_first_until_due, domain_by_sponsor_until_due, domain_by_registrant_until_due, domain_by_roid}
+use Rattle.tables.specs.Domain.{Domain, domain_shown, domains, domain_with_id, domain_with_name, domain_with_registrant, domain_within_due, by_due, domains_by_due, domain_of_sponsor_within, domain_of_registrant_within, domain_with_roid}
 use Rattle.tables.specs.Content.{domains_to}
 use Rattle.tables.specs.Statements.{Alters, Asks}
 use Rattle.tables.proofs.TableLemmas.{asks_domains, alters_domains}
@@ -81,6 +81,39 @@ until_due_is = record { names = codes "id" ∷ codes "name" ∷ codes "creator" 
 pub until_due_asks : (v : ℤ) → Asks domain_shown domain_until_due (Int v ∷ []) (λ c. domains_by_due (filter (domain_within_due v) c.domains))
 until_due_asks v = asks_domains domain_shown domain_until_due (Int v ∷ []) _ (λ xs. domains_by_due (filter (domain_within_due v) xs)) until_due_is (λ db xs rows h answer.
     sorts domains _ columns due_columns (negsuc 0) (Int v ∷ []) (domain_within_due v) domain_shown by_due (λ x. last_term (at_ints false Le x.due v)) (λ x. refl) due_order db xs rows h answer)
+
+pub first_until_due_is : IsSelect registry domain_first_until_due (sorted_query 5 (op2 (Compare Le Binary) (col 1 15) (col 0 0) ∷ []) columns due_columns (pos 1))
+unfolding understood everything
+first_until_due_is = record { names = codes "id" ∷ codes "name" ∷ codes "creator" ∷ codes "serial" ∷ codes "sponsor" ∷ codes "created" ∷ codes "years" ∷ codes "transferred" ∷ codes "updated" ∷ codes "statuses" ∷ codes "secret" ∷ codes "registrant" ∷ codes "deleted" ∷ codes "restore_requested" ∷ codes "due" ∷ []; command = refl; plain = (refl, refl); unlisted = refl }
+
+pub first_until_due_asks : (v : ℤ) → Asks domain_shown domain_first_until_due (Int v ∷ []) (λ c. take 1 (domains_by_due (filter (domain_within_due v) c.domains)))
+first_until_due_asks v = asks_domains domain_shown domain_first_until_due (Int v ∷ []) _ (λ xs. take 1 (domains_by_due (filter (domain_within_due v) xs))) first_until_due_is (λ db xs rows h answer.
+    sorts domains _ columns due_columns (pos 1) (Int v ∷ []) (domain_within_due v) domain_shown by_due (λ x. last_term (at_ints false Le x.due v)) (λ x. refl) due_order db xs rows h answer
+    ∙ take-map domain_shown 1 (domains_by_due (filter (domain_within_due v) xs)))
+
+pub by_sponsor_until_due_is : IsSelect registry domain_by_sponsor_until_due (select_query 5 (op2 (Compare Eq Binary) (col 1 5) (col 0 0) ∷ op2 (Compare Le Binary) (col 1 15) (col 0 1) ∷ []) columns)
+unfolding understood everything
+by_sponsor_until_due_is = record { names = codes "id" ∷ codes "name" ∷ codes "creator" ∷ codes "serial" ∷ codes "sponsor" ∷ codes "created" ∷ codes "years" ∷ codes "transferred" ∷ codes "updated" ∷ codes "statuses" ∷ codes "secret" ∷ codes "registrant" ∷ codes "deleted" ∷ codes "restore_requested" ∷ codes "due" ∷ []; command = refl; plain = (refl, refl); unlisted = refl }
+
+pub by_sponsor_until_due_asks : (sponsor due : ℤ) → Asks domain_shown domain_by_sponsor_until_due (Int sponsor ∷ Int due ∷ []) (λ c. filter (domain_of_sponsor_within sponsor due) c.domains)
+by_sponsor_until_due_asks sponsor due = asks_domains domain_shown domain_by_sponsor_until_due (Int sponsor ∷ Int due ∷ []) _ (λ xs. filter (domain_of_sponsor_within sponsor due) xs) by_sponsor_until_due_is (λ db xs rows h answer.
+    selects domains _ _ (Int sponsor ∷ Int due ∷ []) (domain_of_sponsor_within sponsor due) domain_shown (λ x. then_term (at_ints false Eq x.sponsor sponsor) (last_term (at_ints false Le x.due due))) (λ x. refl) db xs rows h answer)
+
+pub by_registrant_until_due_is : IsSelect registry domain_by_registrant_until_due (select_query 5 (op2 (Compare Eq Binary) (col 1 12) (col 0 0) ∷ op2 (Compare Le Binary) (col 1 15) (col 0 1) ∷ []) columns)
+unfolding understood everything
+by_registrant_until_due_is = record { names = codes "id" ∷ codes "name" ∷ codes "creator" ∷ codes "serial" ∷ codes "sponsor" ∷ codes "created" ∷ codes "years" ∷ codes "transferred" ∷ codes "updated" ∷ codes "statuses" ∷ codes "secret" ∷ codes "registrant" ∷ codes "deleted" ∷ codes "restore_requested" ∷ codes "due" ∷ []; command = refl; plain = (refl, refl); unlisted = refl }
+
+pub by_registrant_until_due_asks : (registrant due : ℤ) → Asks domain_shown domain_by_registrant_until_due (Int registrant ∷ Int due ∷ []) (λ c. filter (domain_of_registrant_within registrant due) c.domains)
+by_registrant_until_due_asks registrant due = asks_domains domain_shown domain_by_registrant_until_due (Int registrant ∷ Int due ∷ []) _ (λ xs. filter (domain_of_registrant_within registrant due) xs) by_registrant_until_due_is (λ db xs rows h answer.
+    selects domains _ _ (Int registrant ∷ Int due ∷ []) (domain_of_registrant_within registrant due) domain_shown (λ x. then_term (at_ints false Eq x.registrant registrant) (last_term (at_ints false Le x.due due))) (λ x. refl) db xs rows h answer)
+
+pub by_roid_is : IsSelect registry domain_by_roid (select_query 5 (op2 (Compare Eq Binary) (col 1 3) (col 0 0) ∷ op2 (Compare Eq Binary) (col 1 4) (col 0 1) ∷ []) columns)
+unfolding understood everything
+by_roid_is = record { names = codes "id" ∷ codes "name" ∷ codes "creator" ∷ codes "serial" ∷ codes "sponsor" ∷ codes "created" ∷ codes "years" ∷ codes "transferred" ∷ codes "updated" ∷ codes "statuses" ∷ codes "secret" ∷ codes "registrant" ∷ codes "deleted" ∷ codes "restore_requested" ∷ codes "due" ∷ []; command = refl; plain = (refl, refl); unlisted = refl }
+
+pub by_roid_asks : (creator serial : ℤ) → Asks domain_shown domain_by_roid (Int creator ∷ Int serial ∷ []) (λ c. filter (domain_with_roid creator serial) c.domains)
+by_roid_asks creator serial = asks_domains domain_shown domain_by_roid (Int creator ∷ Int serial ∷ []) _ (λ xs. filter (domain_with_roid creator serial) xs) by_roid_is (λ db xs rows h answer.
+    selects domains _ _ (Int creator ∷ Int serial ∷ []) (domain_with_roid creator serial) domain_shown (λ x. then_term (at_ints false Eq x.creator creator) (last_term (at_ints false Eq x.serial serial))) (λ x. refl) db xs rows h answer)
 
 listed : Listed domains registry 3 table
 listed = record { is = refl; tree = refl; quiet = quiet_if_idle registry refl; uncounted = refl; unstamped = refl; casts = λ x. simp (cast_int, cast_null, cast_text, cast_maybe_int, cast_maybe_text) }

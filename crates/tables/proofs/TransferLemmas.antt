@@ -1,12 +1,12 @@
 -- What the statements on the table `transfer` mean.
-use Rattle.std.proofs.Common.{ap, drop, refl, List, [], ◌∷◌, ℤ, filter, codes}
+use Rattle.std.proofs.Common.{ap, false, pos, drop, refl, List, [], ◌∷◌, ℤ, filter, codes}
 use Rattle.sqlite_value.specs.declared.value.Value.TheVariants.{Null, Int}
 use Rattle.sqlite_value.specs.declared.keys.Collation.TheVariants.{Binary}
-use Rattle.sqlite_sql.specs.declared.ops.CompareOp.TheVariants.{Eq}
+use Rattle.sqlite_sql.specs.declared.ops.CompareOp.TheVariants.{Eq, Ge}
 use Rattle.sqlite_sql.specs.declared.ops.BinaryOp.TheVariants.{Compare}
 use Rattle.sqlite_sql.specs.Term.{Term, lit, col, op2}
 use Rattle.sqlite_schema.specs.declared.schema.Table.{Table}
-use Rattle.sqlite_typed.proofs.TestLemmas.{at_points_to, last_term}
+use Rattle.sqlite_typed.proofs.TestLemmas.{at_ints, at_points_to, then_term, last_term}
 use Rattle.sqlite_keyed.specs.Lists.{delete_where}
 use Rattle.sqlite.specs.Listing.{understood}
 use Rattle.sqlite_tied.specs.Compute.{everything}
@@ -16,8 +16,9 @@ use Rattle.rows.proofs.WriteLemmas.{deletes}
 use Rattle.rows.proofs.AppendLemmas.{appends}
 use Rattle.rows.proofs.CastLemmas.{cast_int, cast_null, cast_text, cast_maybe_int, cast_maybe_text}
 use Rattle.rows.proofs.QuietLemmas.{quiet_if_idle}
-use Rattle.tables.specs.Tables.{transfer, registry, transfer_by_contact, transfer_by_domain, transfer_append, transfer_remove_contact, transfer_remove_domain}
-use Rattle.tables.specs.Transfer.{Transfer, transfer_shown, transfers, transfer_with_contact, transfer_with_domain}
+use Rattle.tables.proofs.DueLemmas.{at_ever}
+use Rattle.tables.specs.Tables.{transfer, registry, transfer_by_contact, transfer_by_domain, transfer_pending_by_requester, transfer_pending_by_losing, transfer_append, transfer_remove_contact, transfer_remove_domain}
+use Rattle.tables.specs.Transfer.{Transfer, transfer_shown, transfers, transfer_with_contact, transfer_with_domain, transfer_pending_by, transfer_pending_from}
 use Rattle.tables.specs.Content.{transfers_to}
 use Rattle.tables.specs.Statements.{Alters, Asks}
 use Rattle.tables.proofs.TableLemmas.{asks_transfers, alters_transfers}
@@ -43,6 +44,22 @@ by_domain_is = record { names = codes "id" ∷ codes "contact" ∷ codes "domain
 pub by_domain_asks : (v : ℤ) → Asks transfer_shown transfer_by_domain (Int v ∷ []) (λ c. filter (transfer_with_domain v) c.transfers)
 by_domain_asks v = asks_transfers transfer_shown transfer_by_domain (Int v ∷ []) _ (λ xs. filter (transfer_with_domain v) xs) by_domain_is (λ db xs rows h answer.
     selects transfers _ _ (Int v ∷ []) (transfer_with_domain v) transfer_shown (λ x. last_term (at_points_to x.domain v)) (λ x. refl) db xs rows h answer)
+
+pub pending_by_requester_is : IsSelect registry transfer_pending_by_requester (select_query 13 (op2 (Compare Eq Binary) (col 1 4) (col 0 0) ∷ op2 (Compare Ge Binary) (col 1 8) (lit (Int (pos 0))) ∷ []) columns)
+unfolding understood everything
+pending_by_requester_is = record { names = codes "id" ∷ codes "contact" ∷ codes "domain" ∷ codes "requester" ∷ codes "losing" ∷ codes "requested" ∷ codes "ac_date" ∷ codes "due" ∷ codes "state" ∷ []; command = refl; plain = (refl, refl); unlisted = refl }
+
+pub pending_by_requester_asks : (requester : ℤ) → Asks transfer_shown transfer_pending_by_requester (Int requester ∷ []) (λ c. filter (transfer_pending_by requester) c.transfers)
+pending_by_requester_asks requester = asks_transfers transfer_shown transfer_pending_by_requester (Int requester ∷ []) _ (λ xs. filter (transfer_pending_by requester) xs) pending_by_requester_is (λ db xs rows h answer.
+    selects transfers _ _ (Int requester ∷ []) (transfer_pending_by requester) transfer_shown (λ x. then_term (at_ints false Eq x.requester requester) (at_ever x.due)) (λ x. refl) db xs rows h answer)
+
+pub pending_by_losing_is : IsSelect registry transfer_pending_by_losing (select_query 13 (op2 (Compare Eq Binary) (col 1 5) (col 0 0) ∷ op2 (Compare Ge Binary) (col 1 8) (lit (Int (pos 0))) ∷ []) columns)
+unfolding understood everything
+pending_by_losing_is = record { names = codes "id" ∷ codes "contact" ∷ codes "domain" ∷ codes "requester" ∷ codes "losing" ∷ codes "requested" ∷ codes "ac_date" ∷ codes "due" ∷ codes "state" ∷ []; command = refl; plain = (refl, refl); unlisted = refl }
+
+pub pending_by_losing_asks : (losing : ℤ) → Asks transfer_shown transfer_pending_by_losing (Int losing ∷ []) (λ c. filter (transfer_pending_from losing) c.transfers)
+pending_by_losing_asks losing = asks_transfers transfer_shown transfer_pending_by_losing (Int losing ∷ []) _ (λ xs. filter (transfer_pending_from losing) xs) pending_by_losing_is (λ db xs rows h answer.
+    selects transfers _ _ (Int losing ∷ []) (transfer_pending_from losing) transfer_shown (λ x. then_term (at_ints false Eq x.losing losing) (at_ever x.due)) (λ x. refl) db xs rows h answer)
 
 listed : Listed transfers registry 9 table
 listed = record { is = refl; tree = refl; quiet = quiet_if_idle registry refl; uncounted = refl; unstamped = refl; casts = λ x. simp (cast_int, cast_null, cast_text, cast_maybe_int, cast_maybe_text) }

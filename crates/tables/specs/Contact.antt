@@ -1,5 +1,5 @@
 -- Contacts, and how they lie in their table.
-use Rattle.std.specs.Prelude.{Bool, ℕ, ℤ, List, [], ◌∷◌, Option, refl}
+use Rattle.std.specs.Prelude.{◌&&◌, Bool, ℕ, ℤ, List, [], ◌∷◌, Option, refl}
 use Rattle.std.specs.declared.cmp.Ordering.{Ordering}
 use Rattle.std.specs.Ordering.{int_cmp, int_eq, on}
 use Rattle.sqlite_value.specs.declared.value.Value.TheVariants.{Int, Null, Text}
@@ -54,6 +54,9 @@ contact_with_name v x = bytes_eq x.name v
 
 abbrev pub contact_within_due : ℤ → Contact → Bool
 contact_within_due due x = is_due_by due x.due
+
+abbrev pub contact_of_sponsor_within : ℤ → ℤ → Contact → Bool
+contact_of_sponsor_within sponsor due x = int_eq x.sponsor sponsor && is_due_by due x.due
 
 abbrev pub by_due : List (Contact → Contact → Ordering)
 by_due = on (λ (x : Contact). x.due) (nulls_first int_cmp) ∷ []

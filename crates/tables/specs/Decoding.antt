@@ -36,7 +36,7 @@ abbrev pub address_in : Row → Address
 address_in r = record { id = int_of (column r 0); host = int_of (column r 2); address = bytes_of (column r 3) }
 
 abbrev pub link_in : Row → Link
-link_in r = record { id = int_of (column r 0); domain = int_of (column r 2); contact = unless_null int_of (column r 3); host = unless_null int_of (column r 4); role = int_of (column r 5) }
+link_in r = record { id = int_of (column r 0); domain = int_of (column r 2); contact = unless_null int_of (column r 3); host = unless_null int_of (column r 4); role = int_of (column r 5); due = int_of (column r 6) }
 
 abbrev pub line_in : Row → Line
 line_in r = record { id = int_of (column r 0); account = int_of (column r 2); kind = int_of (column r 3); creator = unless_null int_of (column r 4); serial = unless_null int_of (column r 5); years = int_of (column r 6); cents = int_of (column r 7); started = unless_null int_of (column r 8); refunded = unless_null int_of (column r 9); recorded = int_of (column r 10) }

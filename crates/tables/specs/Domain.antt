@@ -1,5 +1,5 @@
 -- Domains, and how they lie in their table.
-use Rattle.std.specs.Prelude.{Bool, int_le, ℕ, ℤ, List, [], ◌∷◌, Option, refl}
+use Rattle.std.specs.Prelude.{◌&&◌, Bool, int_le, ℕ, ℤ, List, [], ◌∷◌, Option, refl}
 use Rattle.std.specs.declared.cmp.Ordering.{Ordering}
 use Rattle.std.specs.Ordering.{int_cmp, int_eq, on}
 use Rattle.sqlite_value.specs.declared.value.Value.TheVariants.{Int, Null, Text}
@@ -48,6 +48,15 @@ domain_with_registrant v x = int_eq x.registrant v
 
 abbrev pub domain_within_due : ℤ → Domain → Bool
 domain_within_due v x = int_le x.due v
+
+abbrev pub domain_of_sponsor_within : ℤ → ℤ → Domain → Bool
+domain_of_sponsor_within sponsor due x = int_eq x.sponsor sponsor && int_le x.due due
+
+abbrev pub domain_of_registrant_within : ℤ → ℤ → Domain → Bool
+domain_of_registrant_within registrant due x = int_eq x.registrant registrant && int_le x.due due
+
+abbrev pub domain_with_roid : ℤ → ℤ → Domain → Bool
+domain_with_roid creator serial x = int_eq x.creator creator && int_eq x.serial serial
 
 abbrev pub by_due : List (Domain → Domain → Ordering)
 by_due = on (λ (x : Domain). x.due) int_cmp ∷ []

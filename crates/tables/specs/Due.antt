@@ -5,3 +5,8 @@ use Rattle.std.specs.Prelude.{◌&&◌, Bool, false, int_le, ℤ, pos, Option, S
 abbrev pub is_due_by : ℤ → Option ℤ → Bool
 is_due_by moment None = false
 is_due_by moment (Some due) = int_le (pos 0) due && int_le due moment
+
+-- it has a moment, which is none before 1970
+abbrev pub is_due : Option ℤ → Bool
+is_due None = false
+is_due (Some due) = int_le (pos 0) due

@@ -55,6 +55,12 @@ contact_by_name = codes "SELECT id, name, creator, serial, sponsor, created, tra
 abbrev pub contact_until_due : List ℕ
 contact_until_due = codes "SELECT id, name, creator, serial, sponsor, created, transferred, updated, statuses, secret, postal_name, org, street, city, state, postal_code, country, voice, due, mail FROM contact WHERE due >= 0 AND due <= ?1 ORDER BY due, id"
 
+abbrev pub contact_first_until_due : List ℕ
+contact_first_until_due = codes "SELECT id, name, creator, serial, sponsor, created, transferred, updated, statuses, secret, postal_name, org, street, city, state, postal_code, country, voice, due, mail FROM contact WHERE due >= 0 AND due <= ?1 ORDER BY due, id LIMIT 1"
+
+abbrev pub contact_by_sponsor_until_due : List ℕ
+contact_by_sponsor_until_due = codes "SELECT id, name, creator, serial, sponsor, created, transferred, updated, statuses, secret, postal_name, org, street, city, state, postal_code, country, voice, due, mail FROM contact WHERE sponsor = ?1 AND due >= 0 AND due <= ?2 ORDER BY id"
+
 abbrev pub contact_put : List ℕ
 contact_put = codes "INSERT INTO contact (id, name, creator, serial, sponsor, created, transferred, updated, statuses, secret, postal_name, org, street, city, state, postal_code, country, voice, due, mail) VALUES (?1, ?2, ?3, ?4, ?5, ?6, ?7, ?8, ?9, ?10, ?11, ?12, ?13, ?14, ?15, ?16, ?17, ?18, ?19, ?20) ON CONFLICT (id) DO UPDATE SET name = excluded.name, creator = excluded.creator, serial = excluded.serial, sponsor = excluded.sponsor, created = excluded.created, transferred = excluded.transferred, updated = excluded.updated, statuses = excluded.statuses, secret = excluded.secret, postal_name = excluded.postal_name, org = excluded.org, street = excluded.street, city = excluded.city, state = excluded.state, postal_code = excluded.postal_code, country = excluded.country, voice = excluded.voice, due = excluded.due, mail = excluded.mail"
 
@@ -86,6 +92,18 @@ domain_first_by_registrant = codes "SELECT id, name, creator, serial, sponsor, c
 
 abbrev pub domain_until_due : List ℕ
 domain_until_due = codes "SELECT id, name, creator, serial, sponsor, created, years, transferred, updated, statuses, secret, registrant, deleted, restore_requested, due FROM domain WHERE due <= ?1 ORDER BY due, id"
+
+abbrev pub domain_first_until_due : List ℕ
+domain_first_until_due = codes "SELECT id, name, creator, serial, sponsor, created, years, transferred, updated, statuses, secret, registrant, deleted, restore_requested, due FROM domain WHERE due <= ?1 ORDER BY due, id LIMIT 1"
+
+abbrev pub domain_by_sponsor_until_due : List ℕ
+domain_by_sponsor_until_due = codes "SELECT id, name, creator, serial, sponsor, created, years, transferred, updated, statuses, secret, registrant, deleted, restore_requested, due FROM domain WHERE sponsor = ?1 AND due <= ?2 ORDER BY id"
+
+abbrev pub domain_by_registrant_until_due : List ℕ
+domain_by_registrant_until_due = codes "SELECT id, name, creator, serial, sponsor, created, years, transferred, updated, statuses, secret, registrant, deleted, restore_requested, due FROM domain WHERE registrant = ?1 AND due <= ?2 ORDER BY id"
+
+abbrev pub domain_by_roid : List ℕ
+domain_by_roid = codes "SELECT id, name, creator, serial, sponsor, created, years, transferred, updated, statuses, secret, registrant, deleted, restore_requested, due FROM domain WHERE creator = ?1 AND serial = ?2 ORDER BY id"
 
 abbrev pub domain_put : List ℕ
 domain_put = codes "INSERT INTO domain (id, name, creator, serial, sponsor, created, years, transferred, updated, statuses, secret, registrant, deleted, restore_requested, due) VALUES (?1, ?2, ?3, ?4, ?5, ?6, ?7, ?8, ?9, ?10, ?11, ?12, ?13, ?14, ?15) ON CONFLICT (id) DO UPDATE SET name = excluded.name, creator = excluded.creator, serial = excluded.serial, sponsor = excluded.sponsor, created = excluded.created, years = excluded.years, transferred = excluded.transferred, updated = excluded.updated, statuses = excluded.statuses, secret = excluded.secret, registrant = excluded.registrant, deleted = excluded.deleted, restore_requested = excluded.restore_requested, due = excluded.due"
@@ -145,25 +163,31 @@ address_remove_host = codes "DELETE FROM address WHERE host = ?1"
 -- ---- link
 
 abbrev pub link : Table
-link = keyed_table (codes "link") (filled (codes "domain") Integer ∷ nullable (codes "contact") Integer ∷ nullable (codes "host") Integer ∷ filled (codes "role") Integer ∷ []) ([]) (reference_to (codes "domain") 2 ∷ reference_to (codes "contact") 3 ∷ reference_to (codes "host") 4 ∷ [])
+link = keyed_table (codes "link") (filled (codes "domain") Integer ∷ nullable (codes "contact") Integer ∷ nullable (codes "host") Integer ∷ filled (codes "role") Integer ∷ filled (codes "due") Integer ∷ []) ([]) (reference_to (codes "domain") 2 ∷ reference_to (codes "contact") 3 ∷ reference_to (codes "host") 4 ∷ [])
 
 abbrev pub link_create : List ℕ
-link_create = codes "CREATE TABLE link (id INTEGER PRIMARY KEY, domain INTEGER NOT NULL REFERENCES domain (id), contact INTEGER REFERENCES contact (id), host INTEGER REFERENCES host (id), role INTEGER NOT NULL) STRICT"
+link_create = codes "CREATE TABLE link (id INTEGER PRIMARY KEY, domain INTEGER NOT NULL REFERENCES domain (id), contact INTEGER REFERENCES contact (id), host INTEGER REFERENCES host (id), role INTEGER NOT NULL, due INTEGER NOT NULL) STRICT"
 
 abbrev pub link_by_domain : List ℕ
-link_by_domain = codes "SELECT id, domain, contact, host, role FROM link WHERE domain = ?1 ORDER BY id"
+link_by_domain = codes "SELECT id, domain, contact, host, role, due FROM link WHERE domain = ?1 ORDER BY id"
 
 abbrev pub link_by_host : List ℕ
-link_by_host = codes "SELECT id, domain, contact, host, role FROM link WHERE host = ?1 ORDER BY id"
+link_by_host = codes "SELECT id, domain, contact, host, role, due FROM link WHERE host = ?1 ORDER BY id"
 
 abbrev pub link_first_by_contact : List ℕ
-link_first_by_contact = codes "SELECT id, domain, contact, host, role FROM link WHERE contact = ?1 ORDER BY id LIMIT 1"
+link_first_by_contact = codes "SELECT id, domain, contact, host, role, due FROM link WHERE contact = ?1 ORDER BY id LIMIT 1"
 
 abbrev pub link_first_by_host : List ℕ
-link_first_by_host = codes "SELECT id, domain, contact, host, role FROM link WHERE host = ?1 ORDER BY id LIMIT 1"
+link_first_by_host = codes "SELECT id, domain, contact, host, role, due FROM link WHERE host = ?1 ORDER BY id LIMIT 1"
+
+abbrev pub link_by_contact_until_due : List ℕ
+link_by_contact_until_due = codes "SELECT id, domain, contact, host, role, due FROM link WHERE contact = ?1 AND due <= ?2 ORDER BY id"
+
+abbrev pub link_by_host_until_due : List ℕ
+link_by_host_until_due = codes "SELECT id, domain, contact, host, role, due FROM link WHERE host = ?1 AND due <= ?2 ORDER BY id"
 
 abbrev pub link_append : List ℕ
-link_append = codes "INSERT INTO link (domain, contact, host, role) VALUES (?1, ?2, ?3, ?4)"
+link_append = codes "INSERT INTO link (domain, contact, host, role, due) VALUES (?1, ?2, ?3, ?4, ?5)"
 
 abbrev pub link_remove_domain : List ℕ
 link_remove_domain = codes "DELETE FROM link WHERE domain = ?1"
@@ -221,6 +245,12 @@ transfer_by_contact = codes "SELECT id, contact, domain, requester, losing, requ
 
 abbrev pub transfer_by_domain : List ℕ
 transfer_by_domain = codes "SELECT id, contact, domain, requester, losing, requested, ac_date, due, state FROM transfer WHERE domain = ?1 ORDER BY id"
+
+abbrev pub transfer_pending_by_requester : List ℕ
+transfer_pending_by_requester = codes "SELECT id, contact, domain, requester, losing, requested, ac_date, due, state FROM transfer WHERE requester = ?1 AND due >= 0 ORDER BY id"
+
+abbrev pub transfer_pending_by_losing : List ℕ
+transfer_pending_by_losing = codes "SELECT id, contact, domain, requester, losing, requested, ac_date, due, state FROM transfer WHERE losing = ?1 AND due >= 0 ORDER BY id"
 
 abbrev pub transfer_append : List ℕ
 transfer_append = codes "INSERT INTO transfer (contact, domain, requester, losing, requested, ac_date, due, state) VALUES (?1, ?2, ?3, ?4, ?5, ?6, ?7, ?8)"
@@ -284,10 +314,10 @@ abbrev pub domain_due_create : List ℕ
 domain_due_create = codes "CREATE INDEX domain_due ON domain (due)"
 
 abbrev pub domain_sponsor : Index
-domain_sponsor = index_on 5 (codes "domain_sponsor") (5 ∷ [])
+domain_sponsor = index_on 5 (codes "domain_sponsor") (5 ∷ 15 ∷ [])
 
 abbrev pub domain_sponsor_create : List ℕ
-domain_sponsor_create = codes "CREATE INDEX domain_sponsor ON domain (sponsor)"
+domain_sponsor_create = codes "CREATE INDEX domain_sponsor ON domain (sponsor, due)"
 
 abbrev pub host_above : Index
 host_above = index_on 7 (codes "host_above") (5 ∷ [])
@@ -344,10 +374,46 @@ abbrev pub transfer_domain_create : List ℕ
 transfer_domain_create = codes "CREATE INDEX transfer_domain ON transfer (domain)"
 
 abbrev pub transfer_requester : Index
-transfer_requester = index_on 13 (codes "transfer_requester") (4 ∷ [])
+transfer_requester = index_on 13 (codes "transfer_requester") (4 ∷ 8 ∷ [])
 
 abbrev pub transfer_requester_create : List ℕ
-transfer_requester_create = codes "CREATE INDEX transfer_requester ON transfer (requester)"
+transfer_requester_create = codes "CREATE INDEX transfer_requester ON transfer (requester, due)"
+
+abbrev pub contact_sponsor : Index
+contact_sponsor = index_on 3 (codes "contact_sponsor") (5 ∷ 19 ∷ [])
+
+abbrev pub contact_sponsor_create : List ℕ
+contact_sponsor_create = codes "CREATE INDEX contact_sponsor ON contact (sponsor, due)"
+
+abbrev pub domain_roid : Index
+domain_roid = index_on 5 (codes "domain_roid") (3 ∷ 4 ∷ [])
+
+abbrev pub domain_roid_create : List ℕ
+domain_roid_create = codes "CREATE INDEX domain_roid ON domain (creator, serial)"
+
+abbrev pub domain_registrant_due : Index
+domain_registrant_due = index_on 5 (codes "domain_registrant_due") (12 ∷ 15 ∷ [])
+
+abbrev pub domain_registrant_due_create : List ℕ
+domain_registrant_due_create = codes "CREATE INDEX domain_registrant_due ON domain (registrant, due)"
+
+abbrev pub link_contact_due : Index
+link_contact_due = index_on 10 (codes "link_contact_due") (3 ∷ 6 ∷ [])
+
+abbrev pub link_contact_due_create : List ℕ
+link_contact_due_create = codes "CREATE INDEX link_contact_due ON link (contact, due)"
+
+abbrev pub link_host_due : Index
+link_host_due = index_on 10 (codes "link_host_due") (4 ∷ 6 ∷ [])
+
+abbrev pub link_host_due_create : List ℕ
+link_host_due_create = codes "CREATE INDEX link_host_due ON link (host, due)"
+
+abbrev pub transfer_losing : Index
+transfer_losing = index_on 13 (codes "transfer_losing") (5 ∷ 8 ∷ [])
+
+abbrev pub transfer_losing_create : List ℕ
+transfer_losing_create = codes "CREATE INDEX transfer_losing ON transfer (losing, due)"
 
 -- ---- the schema with its indexes
 
@@ -393,12 +459,30 @@ with_transfer_domain = indexed with_transfer_contact (record transfer { tree = 1
 abbrev pub with_transfer_requester : Schema
 with_transfer_requester = indexed with_transfer_domain (record transfer { tree = 13 }) transfer_requester
 
+abbrev pub with_contact_sponsor : Schema
+with_contact_sponsor = indexed with_transfer_requester (record contact { tree = 3 }) contact_sponsor
+
+abbrev pub with_domain_roid : Schema
+with_domain_roid = indexed with_contact_sponsor (record domain { tree = 5 }) domain_roid
+
+abbrev pub with_domain_registrant_due : Schema
+with_domain_registrant_due = indexed with_domain_roid (record domain { tree = 5 }) domain_registrant_due
+
+abbrev pub with_link_contact_due : Schema
+with_link_contact_due = indexed with_domain_registrant_due (record link { tree = 10 }) link_contact_due
+
+abbrev pub with_link_host_due : Schema
+with_link_host_due = indexed with_link_contact_due (record link { tree = 10 }) link_host_due
+
+abbrev pub with_transfer_losing : Schema
+with_transfer_losing = indexed with_link_host_due (record transfer { tree = 13 }) transfer_losing
+
 abbrev pub registry : Schema
-registry = with_transfer_requester
+registry = with_transfer_losing
 
 -- the texts that make it, in their order
 abbrev pub creation : List (List ℕ)
-creation = meta_create ∷ account_create ∷ contact_create ∷ domain_create ∷ host_create ∷ address_create ∷ link_create ∷ line_create ∷ message_create ∷ transfer_create ∷ contact_due_create ∷ domain_registrant_create ∷ domain_due_create ∷ domain_sponsor_create ∷ host_above_create ∷ address_host_create ∷ link_domain_create ∷ link_contact_create ∷ link_host_create ∷ line_object_create ∷ message_queue_create ∷ transfer_contact_create ∷ transfer_domain_create ∷ transfer_requester_create ∷ []
+creation = meta_create ∷ account_create ∷ contact_create ∷ domain_create ∷ host_create ∷ address_create ∷ link_create ∷ line_create ∷ message_create ∷ transfer_create ∷ contact_due_create ∷ domain_registrant_create ∷ domain_due_create ∷ domain_sponsor_create ∷ host_above_create ∷ address_host_create ∷ link_domain_create ∷ link_contact_create ∷ link_host_create ∷ line_object_create ∷ message_queue_create ∷ transfer_contact_create ∷ transfer_domain_create ∷ transfer_requester_create ∷ contact_sponsor_create ∷ domain_roid_create ∷ domain_registrant_due_create ∷ link_contact_due_create ∷ link_host_due_create ∷ transfer_losing_create ∷ []
 
 -- the number of this schema, which the table `meta` keeps
 abbrev pub schema_number : ℤ

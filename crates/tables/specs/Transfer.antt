@@ -1,10 +1,12 @@
 -- The last transfer of each object that had one, and how they lie in their table.
-use Rattle.std.specs.Prelude.{Bool, ℤ, [], ◌∷◌, Option, refl}
+use Rattle.std.specs.Prelude.{◌&&◌, Bool, ℤ, [], ◌∷◌, Option, refl}
+use Rattle.std.specs.Ordering.{int_eq}
 use Rattle.sqlite_value.specs.declared.value.Value.TheVariants.{Int, Null}
 use Rattle.sqlite_value.specs.Order.{Row}
 use Rattle.sqlite_keyed.specs.Rules.{points_to}
 use Rattle.sqlite_typed.specs.Columns.{or_null}
 use Rattle.rows.specs.Layouts.{Layout}
+use Rattle.tables.specs.Due.{is_due}
 
 pub record Transfer : Type 0 where
   pub id : ℤ
@@ -33,3 +35,11 @@ transfer_with_contact v x = points_to x.contact v
 
 abbrev pub transfer_with_domain : ℤ → Transfer → Bool
 transfer_with_domain v x = points_to x.domain v
+
+-- one that is pending, asked for by this account
+abbrev pub transfer_pending_by : ℤ → Transfer → Bool
+transfer_pending_by requester x = int_eq x.requester requester && is_due x.due
+
+-- one that is pending, which this account loses
+abbrev pub transfer_pending_from : ℤ → Transfer → Bool
+transfer_pending_from losing x = int_eq x.losing losing && is_due x.due

@@ -1,11 +1,11 @@
 //! Contacts.
-ghost use Rattle.std.specs.Prelude.{◌≡◌, true, filter, IfOk};
+ghost use Rattle.std.specs.Prelude.{◌≡◌, true, filter, take, IfOk};
 ghost use Rattle.sqlite_keyed.specs.Keyed.{insert_by};
 ghost use Rattle.sqlite_keyed.specs.Lists.{delete_where};
 ghost use Rattle.tables.specs.Content.{contacts_to};
 ghost use Rattle.transactions.specs.States.{Finds, Makes};
 ghost use Rattle.rows.specs.Layouts.{appended};
-ghost use Rattle.tables.specs.Contact.{Contact, contact_shown, contacts, contact_with_id, contact_with_name, contact_within_due, contacts_by_due};
+ghost use Rattle.tables.specs.Contact.{Contact, contact_shown, contacts, contact_with_id, contact_with_name, contact_within_due, contact_of_sponsor_within, contacts_by_due};
 
 use crate::store::RowStore;
 use basis::list::Seq;
@@ -23,6 +23,12 @@ const BY_NAME: &str =
 
 const UNTIL_DUE: &str =
     "SELECT id, name, creator, serial, sponsor, created, transferred, updated, statuses, secret, postal_name, org, street, city, state, postal_code, country, voice, due, mail FROM contact WHERE due >= 0 AND due <= ?1 ORDER BY due, id";
+
+const FIRST_UNTIL_DUE: &str =
+    "SELECT id, name, creator, serial, sponsor, created, transferred, updated, statuses, secret, postal_name, org, street, city, state, postal_code, country, voice, due, mail FROM contact WHERE due >= 0 AND due <= ?1 ORDER BY due, id LIMIT 1";
+
+const BY_SPONSOR_UNTIL_DUE: &str =
+    "SELECT id, name, creator, serial, sponsor, created, transferred, updated, statuses, secret, postal_name, org, street, city, state, postal_code, country, voice, due, mail FROM contact WHERE sponsor = ?1 AND due >= 0 AND due <= ?2 ORDER BY id";
 
 const PUT: &str =
     "INSERT INTO contact (id, name, creator, serial, sponsor, created, transferred, updated, statuses, secret, postal_name, org, street, city, state, postal_code, country, voice, due, mail) VALUES (?1, ?2, ?3, ?4, ?5, ?6, ?7, ?8, ?9, ?10, ?11, ?12, ?13, ?14, ?15, ?16, ?17, ?18, ?19, ?20) ON CONFLICT (id) DO UPDATE SET name = excluded.name, creator = excluded.creator, serial = excluded.serial, sponsor = excluded.sponsor, created = excluded.created, transferred = excluded.transferred, updated = excluded.updated, statuses = excluded.statuses, secret = excluded.secret, postal_name = excluded.postal_name, org = excluded.org, street = excluded.street, city = excluded.city, state = excluded.state, postal_code = excluded.postal_code, country = excluded.country, voice = excluded.voice, due = excluded.due, mail = excluded.mail";
@@ -219,6 +225,25 @@ impl<S: Alter> RowStore<S> {
         ensures { Finds result (contacts_by_due (filter (contact_within_due due) self.old.content.contacts)) self.old self.new }
     {
         self.select(UNTIL_DUE, params![due])
+    }
+
+    /// The first of those whose `due` is this moment or one before, in the order in which they are due, if
+    /// there is any.
+    pub fn first_contacts_until_due(&mut self, due: Number) -> Result<Seq<ContactRow>, BookFault>
+        ensures { Finds result (take 1 (contacts_by_due (filter (contact_within_due due) self.old.content.contacts))) self.old self.new }
+    {
+        self.select(FIRST_UNTIL_DUE, params![due])
+    }
+
+    /// Those whose `sponsor` is this and whose `due` is this moment or one before.
+    pub fn contacts_by_sponsor_until_due(
+        &mut self,
+        sponsor: Number,
+        due: Number,
+    ) -> Result<Seq<ContactRow>, BookFault>
+        ensures { Finds result (filter (contact_of_sponsor_within sponsor due) self.old.content.contacts) self.old self.new }
+    {
+        self.select(BY_SPONSOR_UNTIL_DUE, params![sponsor, due])
     }
 
     /// Puts a row in the place of the one with its number, or beside all others.

@@ -5,7 +5,7 @@ ghost use Rattle.sqlite_keyed.specs.Lists.{delete_where};
 ghost use Rattle.tables.specs.Content.{domains_to};
 ghost use Rattle.transactions.specs.States.{Finds, Makes};
 ghost use Rattle.rows.specs.Layouts.{appended};
-ghost use Rattle.tables.specs.Domain.{Domain, domains, domain_with_id, domain_with_name, domain_with_registrant, domain_within_due, domains_by_due};
+ghost use Rattle.tables.specs.Domain.{Domain, domains, domain_with_id, domain_with_name, domain_with_registrant, domain_within_due, domain_of_sponsor_within, domain_of_registrant_within, domain_with_roid, domains_by_due};
 
 use crate::store::RowStore;
 use basis::list::Seq;
@@ -29,6 +29,18 @@ const FIRST_BY_REGISTRANT: &str =
 
 const UNTIL_DUE: &str =
     "SELECT id, name, creator, serial, sponsor, created, years, transferred, updated, statuses, secret, registrant, deleted, restore_requested, due FROM domain WHERE due <= ?1 ORDER BY due, id";
+
+const FIRST_UNTIL_DUE: &str =
+    "SELECT id, name, creator, serial, sponsor, created, years, transferred, updated, statuses, secret, registrant, deleted, restore_requested, due FROM domain WHERE due <= ?1 ORDER BY due, id LIMIT 1";
+
+const BY_SPONSOR_UNTIL_DUE: &str =
+    "SELECT id, name, creator, serial, sponsor, created, years, transferred, updated, statuses, secret, registrant, deleted, restore_requested, due FROM domain WHERE sponsor = ?1 AND due <= ?2 ORDER BY id";
+
+const BY_REGISTRANT_UNTIL_DUE: &str =
+    "SELECT id, name, creator, serial, sponsor, created, years, transferred, updated, statuses, secret, registrant, deleted, restore_requested, due FROM domain WHERE registrant = ?1 AND due <= ?2 ORDER BY id";
+
+const BY_ROID: &str =
+    "SELECT id, name, creator, serial, sponsor, created, years, transferred, updated, statuses, secret, registrant, deleted, restore_requested, due FROM domain WHERE creator = ?1 AND serial = ?2 ORDER BY id";
 
 const PUT: &str =
     "INSERT INTO domain (id, name, creator, serial, sponsor, created, years, transferred, updated, statuses, secret, registrant, deleted, restore_requested, due) VALUES (?1, ?2, ?3, ?4, ?5, ?6, ?7, ?8, ?9, ?10, ?11, ?12, ?13, ?14, ?15) ON CONFLICT (id) DO UPDATE SET name = excluded.name, creator = excluded.creator, serial = excluded.serial, sponsor = excluded.sponsor, created = excluded.created, years = excluded.years, transferred = excluded.transferred, updated = excluded.updated, statuses = excluded.statuses, secret = excluded.secret, registrant = excluded.registrant, deleted = excluded.deleted, restore_requested = excluded.restore_requested, due = excluded.due";
@@ -174,6 +186,47 @@ impl<S: Alter> RowStore<S> {
         ensures { Finds result (domains_by_due (filter (domain_within_due due) self.old.content.domains)) self.old self.new }
     {
         self.select(UNTIL_DUE, params![due])
+    }
+
+    /// The first of those whose `due` is this moment or one before, in the order in which they are due, if
+    /// there is any.
+    pub fn first_domains_until_due(&mut self, due: Number) -> Result<Seq<DomainRow>, BookFault>
+        ensures { Finds result (take 1 (domains_by_due (filter (domain_within_due due) self.old.content.domains))) self.old self.new }
+    {
+        self.select(FIRST_UNTIL_DUE, params![due])
+    }
+
+    /// Those whose `sponsor` is this and whose `due` is this moment or one before.
+    pub fn domains_by_sponsor_until_due(
+        &mut self,
+        sponsor: Number,
+        due: Number,
+    ) -> Result<Seq<DomainRow>, BookFault>
+        ensures { Finds result (filter (domain_of_sponsor_within sponsor due) self.old.content.domains) self.old self.new }
+    {
+        self.select(BY_SPONSOR_UNTIL_DUE, params![sponsor, due])
+    }
+
+    /// Those whose `registrant` is this and whose `due` is this moment or one before.
+    pub fn domains_by_registrant_until_due(
+        &mut self,
+        registrant: Number,
+        due: Number,
+    ) -> Result<Seq<DomainRow>, BookFault>
+        ensures { Finds result (filter (domain_of_registrant_within registrant due) self.old.content.domains) self.old self.new }
+    {
+        self.select(BY_REGISTRANT_UNTIL_DUE, params![registrant, due])
+    }
+
+    /// Those that this registrar created with this number.
+    pub fn domains_by_roid(
+        &mut self,
+        creator: Number,
+        serial: Number,
+    ) -> Result<Seq<DomainRow>, BookFault>
+        ensures { Finds result (filter (domain_with_roid creator serial) self.old.content.domains) self.old self.new }
+    {
+        self.select(BY_ROID, params![creator, serial])
     }
 
     /// Puts a row in the place of the one with its number, or beside all others.

@@ -4,7 +4,7 @@ ghost use Rattle.sqlite_keyed.specs.Lists.{delete_where};
 ghost use Rattle.tables.specs.Content.{links_to};
 ghost use Rattle.transactions.specs.States.{Finds, Makes};
 ghost use Rattle.rows.specs.Layouts.{appended};
-ghost use Rattle.tables.specs.Link.{Link, links, link_with_domain, link_with_contact, link_with_host};
+ghost use Rattle.tables.specs.Link.{Link, links, link_with_domain, link_with_contact, link_with_host, link_of_contact_within, link_of_host_within};
 
 use crate::store::RowStore;
 use basis::list::Seq;
@@ -15,18 +15,25 @@ use std::marker::Model;
 use transactions::BookFault;
 
 const BY_DOMAIN: &str =
-    "SELECT id, domain, contact, host, role FROM link WHERE domain = ?1 ORDER BY id";
+    "SELECT id, domain, contact, host, role, due FROM link WHERE domain = ?1 ORDER BY id";
 
 const BY_HOST: &str =
-    "SELECT id, domain, contact, host, role FROM link WHERE host = ?1 ORDER BY id";
+    "SELECT id, domain, contact, host, role, due FROM link WHERE host = ?1 ORDER BY id";
 
 const FIRST_BY_CONTACT: &str =
-    "SELECT id, domain, contact, host, role FROM link WHERE contact = ?1 ORDER BY id LIMIT 1";
+    "SELECT id, domain, contact, host, role, due FROM link WHERE contact = ?1 ORDER BY id LIMIT 1";
 
 const FIRST_BY_HOST: &str =
-    "SELECT id, domain, contact, host, role FROM link WHERE host = ?1 ORDER BY id LIMIT 1";
+    "SELECT id, domain, contact, host, role, due FROM link WHERE host = ?1 ORDER BY id LIMIT 1";
 
-const APPEND: &str = "INSERT INTO link (domain, contact, host, role) VALUES (?1, ?2, ?3, ?4)";
+const BY_CONTACT_UNTIL_DUE: &str =
+    "SELECT id, domain, contact, host, role, due FROM link WHERE contact = ?1 AND due <= ?2 ORDER BY id";
+
+const BY_HOST_UNTIL_DUE: &str =
+    "SELECT id, domain, contact, host, role, due FROM link WHERE host = ?1 AND due <= ?2 ORDER BY id";
+
+const APPEND: &str =
+    "INSERT INTO link (domain, contact, host, role, due) VALUES (?1, ?2, ?3, ?4, ?5)";
 
 const REMOVE_DOMAIN: &str = "DELETE FROM link WHERE domain = ?1";
 
@@ -38,6 +45,8 @@ pub struct LinkRow {
     pub contact: Option<i64>,
     pub host: Option<i64>,
     pub role: i64,
+    /// That of the domain.
+    pub due: i64,
 }
 
 impl Model for LinkRow {
@@ -51,6 +60,7 @@ impl Model for LinkRow {
       contact = x.contact;
       host = x.host;
       role = x.role;
+      due = x.due;
     } };
 }
 
@@ -59,7 +69,7 @@ impl LinkRow {
     ghost use Rattle.tables.specs.Link.{link_shown};
 
     /// Its columns as parameters, its number first.
-    fn params(&self) -> [ValueRef<'_>; 5]
+    fn params(&self) -> [ValueRef<'_>; 6]
         ensures { bound result ≡ link_shown self.now }
     {
         [
@@ -68,6 +78,7 @@ impl LinkRow {
             maybe_number(self.contact),
             maybe_number(self.host),
             self.role.to_sql(),
+            self.due.to_sql(),
         ]
     }
 }
@@ -84,6 +95,7 @@ impl Record for LinkRow {
             contact: row.get(2)?,
             host: row.get(3)?,
             role: row.get(4)?,
+            due: row.get(5)?,
         })
     }
 }
@@ -115,6 +127,28 @@ impl<S: Alter> RowStore<S> {
         ensures { Finds result (take 1 (filter (link_with_host host) self.old.content.links)) self.old self.new }
     {
         self.select(FIRST_BY_HOST, params![host])
+    }
+
+    /// Those whose `contact` is this and whose `due` is this moment or one before.
+    pub fn links_by_contact_until_due(
+        &mut self,
+        contact: Number,
+        due: Number,
+    ) -> Result<Seq<LinkRow>, BookFault>
+        ensures { Finds result (filter (link_of_contact_within contact due) self.old.content.links) self.old self.new }
+    {
+        self.select(BY_CONTACT_UNTIL_DUE, params![contact, due])
+    }
+
+    /// Those whose `host` is this and whose `due` is this moment or one before.
+    pub fn links_by_host_until_due(
+        &mut self,
+        host: Number,
+        due: Number,
+    ) -> Result<Seq<LinkRow>, BookFault>
+        ensures { Finds result (filter (link_of_host_within host due) self.old.content.links) self.old self.new }
+    {
+        self.select(BY_HOST_UNTIL_DUE, params![host, due])
     }
 
     /// Adds a row at the end, with the number after the last one. The given row's number isn't looked at.

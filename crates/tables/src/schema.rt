@@ -30,7 +30,7 @@ const ADDRESS: &str =
     "CREATE TABLE address (id INTEGER PRIMARY KEY, host INTEGER NOT NULL REFERENCES host (id), address TEXT NOT NULL) STRICT";
 
 const LINK: &str =
-    "CREATE TABLE link (id INTEGER PRIMARY KEY, domain INTEGER NOT NULL REFERENCES domain (id), contact INTEGER REFERENCES contact (id), host INTEGER REFERENCES host (id), role INTEGER NOT NULL) STRICT";
+    "CREATE TABLE link (id INTEGER PRIMARY KEY, domain INTEGER NOT NULL REFERENCES domain (id), contact INTEGER REFERENCES contact (id), host INTEGER REFERENCES host (id), role INTEGER NOT NULL, due INTEGER NOT NULL) STRICT";
 
 const LINE: &str =
     "CREATE TABLE line (id INTEGER PRIMARY KEY, account INTEGER NOT NULL REFERENCES account (id), kind INTEGER NOT NULL, creator INTEGER, serial INTEGER, years INTEGER NOT NULL, cents INTEGER NOT NULL, started INTEGER, refunded INTEGER, recorded INTEGER NOT NULL) STRICT";
@@ -47,7 +47,7 @@ const DOMAIN_REGISTRANT: &str = "CREATE INDEX domain_registrant ON domain (regis
 
 const DOMAIN_DUE: &str = "CREATE INDEX domain_due ON domain (due)";
 
-const DOMAIN_SPONSOR: &str = "CREATE INDEX domain_sponsor ON domain (sponsor)";
+const DOMAIN_SPONSOR: &str = "CREATE INDEX domain_sponsor ON domain (sponsor, due)";
 
 const HOST_ABOVE: &str = "CREATE INDEX host_above ON host (above)";
 
@@ -68,7 +68,20 @@ const TRANSFER_CONTACT: &str = "CREATE INDEX transfer_contact ON transfer (conta
 
 const TRANSFER_DOMAIN: &str = "CREATE INDEX transfer_domain ON transfer (domain)";
 
-const TRANSFER_REQUESTER: &str = "CREATE INDEX transfer_requester ON transfer (requester)";
+const TRANSFER_REQUESTER: &str = "CREATE INDEX transfer_requester ON transfer (requester, due)";
+
+const CONTACT_SPONSOR: &str = "CREATE INDEX contact_sponsor ON contact (sponsor, due)";
+
+const DOMAIN_ROID: &str = "CREATE INDEX domain_roid ON domain (creator, serial)";
+
+const DOMAIN_REGISTRANT_DUE: &str =
+    "CREATE INDEX domain_registrant_due ON domain (registrant, due)";
+
+const LINK_CONTACT_DUE: &str = "CREATE INDEX link_contact_due ON link (contact, due)";
+
+const LINK_HOST_DUE: &str = "CREATE INDEX link_host_due ON link (host, due)";
+
+const TRANSFER_LOSING: &str = "CREATE INDEX transfer_losing ON transfer (losing, due)";
 
 /// Makes the tables and their indexes, in a transaction on a database that was never used.
 pub fn create<S: Alter>(conn: &mut Connection<S>) -> Result<(), Error>
@@ -104,6 +117,12 @@ pub fn create<S: Alter>(conn: &mut Connection<S>) -> Result<(), Error>
             TRANSFER_CONTACT,
             TRANSFER_DOMAIN,
             TRANSFER_REQUESTER,
+            CONTACT_SPONSOR,
+            DOMAIN_ROID,
+            DOMAIN_REGISTRANT_DUE,
+            LINK_CONTACT_DUE,
+            LINK_HOST_DUE,
+            TRANSFER_LOSING,
         ],
     )
 }

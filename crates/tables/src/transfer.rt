@@ -4,7 +4,7 @@ ghost use Rattle.sqlite_keyed.specs.Lists.{delete_where};
 ghost use Rattle.tables.specs.Content.{transfers_to};
 ghost use Rattle.transactions.specs.States.{Finds, Makes};
 ghost use Rattle.rows.specs.Layouts.{appended};
-ghost use Rattle.tables.specs.Transfer.{Transfer, transfers, transfer_with_contact, transfer_with_domain};
+ghost use Rattle.tables.specs.Transfer.{Transfer, transfers, transfer_with_contact, transfer_with_domain, transfer_pending_by, transfer_pending_from};
 
 use crate::store::RowStore;
 use basis::list::Seq;
@@ -19,6 +19,12 @@ const BY_CONTACT: &str =
 
 const BY_DOMAIN: &str =
     "SELECT id, contact, domain, requester, losing, requested, ac_date, due, state FROM transfer WHERE domain = ?1 ORDER BY id";
+
+const PENDING_BY_REQUESTER: &str =
+    "SELECT id, contact, domain, requester, losing, requested, ac_date, due, state FROM transfer WHERE requester = ?1 AND due >= 0 ORDER BY id";
+
+const PENDING_BY_LOSING: &str =
+    "SELECT id, contact, domain, requester, losing, requested, ac_date, due, state FROM transfer WHERE losing = ?1 AND due >= 0 ORDER BY id";
 
 const APPEND: &str =
     "INSERT INTO transfer (contact, domain, requester, losing, requested, ac_date, due, state) VALUES (?1, ?2, ?3, ?4, ?5, ?6, ?7, ?8)";
@@ -114,6 +120,26 @@ impl<S: Alter> RowStore<S> {
         ensures { Finds result (filter (transfer_with_domain domain) self.old.content.transfers) self.old self.new }
     {
         self.select(BY_DOMAIN, params![domain])
+    }
+
+    /// Those that are pending and whose `requester` is this.
+    pub fn pending_transfers_by_requester(
+        &mut self,
+        requester: Number,
+    ) -> Result<Seq<TransferRow>, BookFault>
+        ensures { Finds result (filter (transfer_pending_by requester) self.old.content.transfers) self.old self.new }
+    {
+        self.select(PENDING_BY_REQUESTER, params![requester])
+    }
+
+    /// Those that are pending and whose `losing` is this.
+    pub fn pending_transfers_by_losing(
+        &mut self,
+        losing: Number,
+    ) -> Result<Seq<TransferRow>, BookFault>
+        ensures { Finds result (filter (transfer_pending_from losing) self.old.content.transfers) self.old self.new }
+    {
+        self.select(PENDING_BY_LOSING, params![losing])
     }
 
     /// Adds a row at the end, with the number after the last one. The given row's number isn't looked at.

@@ -5,4 +5,4 @@ use Rattle.sqldomains.proofs.link_rows.add_names.Given as goal
 
 -- those so far were added
 abbrev pub invariant-loop-name : goal.invariant-loop-name
-invariant-loop-name g l = Became (AreNamesAdded l.domain.id l.role (take l.name-index l.names)) l.fn.store l.store
+invariant-loop-name g l = Became (AreNamesAdded l.domain.id l.domain.due l.role (take l.name-index l.names)) l.fn.store l.store

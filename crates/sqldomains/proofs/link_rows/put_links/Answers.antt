@@ -10,6 +10,7 @@ use Rattle.sqldomains.proofs.link_rows.put_links.Goals as goal
 pub returns : goal.returns
 returns g c =
     let id = c.args.domain.now.id in
+    let due = c.args.domain.now.due in
     let number = c.number_of-number.result in
     let links = c.args.links.now in
     let old = c.args.store.now in
@@ -17,15 +18,15 @@ returns g c =
     let first = c.add_names.new.store in
     let second = c.add_names-2.new.store in
     let new = c.add_names-3.new.store in
-    let admin = subst (λ names. Became (AreNamesAdded id roles.Admin names) cleared first) c.as_slice.ensures (c.in_ok-add_names.ensures {u = tt}) in
-    let tech = subst (λ names. Became (AreNamesAdded id roles.Tech names) first second) c.as_slice-2.ensures (c.in_ok-add_names-2.ensures {u = tt}) in
-    let host = subst (λ names. Became (AreNamesAdded id roles.Host names) second new) c.as_slice-3.ensures (c.in_ok-add_names-3.ensures {u = tt}) in
-    then-became (AreLinksCleared number) (λ b e. (a : Content) → AreLinksCleared number a b → AreLinksPut id links a e) (AreLinksPut id links) old cleared new
+    let admin = subst (λ names. Became (AreNamesAdded id due roles.Admin names) cleared first) c.as_slice.ensures (c.in_ok-add_names.ensures {u = tt}) in
+    let tech = subst (λ names. Became (AreNamesAdded id due roles.Tech names) first second) c.as_slice-2.ensures (c.in_ok-add_names-2.ensures {u = tt}) in
+    let host = subst (λ names. Became (AreNamesAdded id due roles.Host names) second new) c.as_slice-3.ensures (c.in_ok-add_names-3.ensures {u = tt}) in
+    then-became (AreLinksCleared number) (λ b e. (a : Content) → AreLinksCleared number a b → AreLinksPut id due links a e) (AreLinksPut id due links) old cleared new
     (c.in_ok-clear_links.ensures {u = tt})
-    (then-became (AreNamesAdded id roles.Admin links.admin) (λ m e. (a b : Content) → AreLinksCleared number a b → AreNamesAdded id roles.Admin links.admin b m → AreLinksPut id links a e) (λ b e. (a : Content) → AreLinksCleared number a b → AreLinksPut id links a e) cleared first new
+    (then-became (AreNamesAdded id due roles.Admin links.admin) (λ m e. (a b : Content) → AreLinksCleared number a b → AreNamesAdded id due roles.Admin links.admin b m → AreLinksPut id due links a e) (λ b e. (a : Content) → AreLinksCleared number a b → AreLinksPut id due links a e) cleared first new
     admin
-    (then-became (AreNamesAdded id roles.Tech links.tech) (AreNamesAdded id roles.Host links.hosts) (λ m e. (a b : Content) → AreLinksCleared number a b → AreNamesAdded id roles.Admin links.admin b m → AreLinksPut id links a e) first second new
+    (then-became (AreNamesAdded id due roles.Tech links.tech) (AreNamesAdded id due roles.Host links.hosts) (λ m e. (a b : Content) → AreLinksCleared number a b → AreNamesAdded id due roles.Admin links.admin b m → AreLinksPut id due links a e) first second new
     tech host
-    (λ clean t h a b x y. links-put id number links a b first.content second.content new.content c.number_of-number.ensures x y t h))
+    (λ clean t h a b x y. links-put id due number links a b first.content second.content new.content c.number_of-number.ensures x y t h))
     (λ clean y more a x. more a cleared.content x y))
     (λ clean x more. more old.content x)

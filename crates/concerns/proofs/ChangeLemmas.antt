@@ -1,0 +1,493 @@
+-- What a command changes may be changed before the rest of what is due lapses, or afterwards.
+use Rattle.std.proofs.Common.{◌≡◌, ◌≢◌, ◌⊎◌, ⊎_elim, inl, inr, ℕ, Bool, true, false, cond, not, ◌&&◌, ◌||◌, List, [], ◌∷◌, ◌++◌, map, Option, Some, None, is_some, option_map, refl, sym, ap, subst, ◌∙◌, arith}
+use Rattle.std.specs.Prelude.{fold}
+use Rattle.std.specs.Cmp.{nat_cmp_total}
+use Rattle.std.specs.Cmp.Lexicographic.{slice_cmp, nat_list_cmp_total}
+use Rattle.std.specs.FinMap.{FinMap, entries, get, insert, remove, get-insert, get-remove, nat_cmp-IsAntisymmetric, same_map}
+use Rattle.std.specs.Option.{option_map_or}
+use Rattle.std.specs.Ordering.{eq_by_cmp, nat_cmp}
+use Rattle.std.proofs.lemmas.Bool.{or_parts}
+use Rattle.accounts.specs.declared.account.Account.{Account}
+use Rattle.accounts.specs.declared.entries.LapseEntry.{LapseEntry}
+use Rattle.accounts.specs.declared.entries.LapseEntry.TheVariants.{Notice, Renewal, Start}
+use Rattle.accounts.specs.declared.entries.Posting.{Posting}
+use Rattle.accounts.specs.declared.line.Line.{Line}
+use Rattle.accounts.specs.declared.line.LineKind.TheVariants as lines
+use Rattle.accounts.specs.declared.line.TransferRefund.{TransferRefund}
+use Rattle.accounts.specs.declared.line.TransferStart.{TransferStart}
+use Rattle.accounts.specs.declared.message.Message.{Message}
+use Rattle.accounts.specs.Account.{empty_account, saturating_next}
+use Rattle.accounts.specs.Entries.{entered, posted, renewal_line}
+use Rattle.accounts.specs.LineChanges.{refund-elsewhere, refund-stays, start-elsewhere, start-stays}
+use Rattle.accounts.specs.Lines.{begins_by, in_order, is_kind, is_of, is_on, is_same_roid, transfer_refunded, transfer_started}
+use Rattle.accounts.specs.MessageOrder.{message_cmp_total}
+use Rattle.accounts.specs.Messages.{message_cmp}
+use Rattle.accounts.specs.Queue.{put}
+use Rattle.accounts.proofs.EntryLaws.{entries-swap, insert_key-swap, postings_commute}
+use Rattle.accounts.proofs.LineLaws.{lines_in_order}
+use Rattle.accounts.proofs.MessageLaws.{message_cmp_only}
+use Rattle.basis.specs.Bag.{add, bag_of, remade}
+use Rattle.basis.specs.Maps.{map_values}
+use Rattle.basis.specs.Sweeps.{change_at, given, given_list, kept, kept_list}
+use Rattle.basis.proofs.ApartLaws.{get-kept, given_apart, given_insert}
+use Rattle.basis.proofs.BagLaws.{add-add, remade-add, remade-bag_of}
+use Rattle.basis.proofs.ChangeLaws.{change_at-commutes}
+use Rattle.basis.proofs.MapLemmas.{entries-map_values, get-map_values, names_apart}
+use Rattle.basis.proofs.SweepLaws.{entries-kept, fold_append, swap}
+use Rattle.lifecycle.specs.declared.change.AccountChange.{AccountChange}
+use Rattle.lifecycle.specs.declared.change.AccountChange.TheVariants.{Charge, RefundRunning, RefundTransfer, Lapse, Tell, Ack, CountCommand, TakeSerial}
+use Rattle.lifecycle.specs.declared.change.Notification.{Notification}
+use Rattle.lifecycle.specs.declared.lapsed.Lapsed.{Lapsed}
+use Rattle.lifecycle.specs.Changes.{changed as account_changed, numbered, told_by_command}
+use Rattle.lifecycle.specs.Lapse.{due_by, lapse, lapse_by, lapse_contact, leaves, lived, purged, renewals}
+use Rattle.lifecycle.specs.Phases.{purge_at}
+use Rattle.lifecycle.specs.Turns.{turns}
+use Rattle.objects.specs.declared.contact.Contact.{Contact}
+use Rattle.objects.specs.declared.domain.Deletion.{Deletion}
+use Rattle.objects.specs.declared.domain.Domain.{Domain}
+use Rattle.objects.specs.declared.roid.Roid.{Roid}
+use Rattle.objects.specs.declared.transfer.Transfer.{Transfer}
+use Rattle.policy.specs.Rules.{PolicyRules}
+use Rattle.protocol.specs.declared.command.Command.{Command}
+use Rattle.model.specs.Lapse.{Choice, accounts_at, at, lapse as lapse_registry, lapse_if, lapse_some, now, postings}
+use Rattle.model.specs.LapseLaws.{HasAllDue}
+use Rattle.model.specs.Registry.{Registry, account_of}
+use Rattle.model.proofs.LapseLaws.{all-due-lapse-as-all, lapses-on-from-some}
+use Rattle.model.proofs.SweepLemmas.{gives, left, registry}
+use Rattle.rules.specs.declared.change.Change.{Change}
+use Rattle.rules.specs.declared.change.Change.TheVariants.{MoveClock, OpenAccount, PutContact, DropContact, PutDomain, DropDomain, PutHost, DropHost, RenameHost, LapseContact, LapseDomain, Give}
+use Rattle.rules.specs.Changes.{changed, changed_all, with_account, with_host_renamed}
+use Rattle.concerns.specs.declared.given.Names.{Names}
+use Rattle.concerns.specs.Concerns.{IsSettledIn, concerned, is_about, without}
+use Rattle.concerns.proofs.PostedLemmas.{AllPost, IsElsewhere, contact-elsewhere, domain-elsewhere, post-both, post-given, post-weaker}
+use Rattle.concerns.proofs.ConcernLemmas.{is_in}
+use Rattle.concerns.proofs.FactsLemmas.{contact-not-about, domain-not-about, roid-off}
+use Rattle.rules.proofs.LineEntryLemmas.{AllOff, IsOff}
+use Rattle.concerns.proofs.OffLemmas.{on-one, same_name}
+use Rattle.concerns.proofs.OffLemmas.{completed-off, domain-off}
+use Rattle.rules.proofs.NamedLemmas.{drop-cases, put-cases, remade-cases}
+
+-- ---- a sweep of a map, one of whose names it leaves alone
+
+module _ {X : Type 0} (f : List ℕ → X → Lapsed X) (m : FinMap (slice_cmp nat_cmp) X) (k : List ℕ) (alone : (x : X) → f k x ≡ leaves x []) where
+  at-own : (q : List ℕ) (b : Bool) (v : X) (o : Option X) → eq_by_cmp (slice_cmp nat_cmp) q k ≡ b → option_map_or (left f q) (cond b (Some v) o) None ≡ cond b (Some v) (option_map_or (left f q) o None)
+  at-own q true v o e = ap (λ (n : List ℕ). left f n v) (same_name q k e) ∙ ap (λ (l : Lapsed X). l.object) (alone v)
+  at-own q false v o e = refl
+
+  kept-insert : (v : X) → kept (left f) (insert m k v) ≡ insert (kept (left f) m) k v
+  kept-insert v = same_map nat_list_cmp_total names_apart _ _ (λ q.
+      get-kept (slice_cmp nat_cmp) nat_list_cmp_total names_apart (left f) (insert m k v) q ∙ ap (λ (o : Option X). option_map_or (left f q) o None) (get-insert nat_list_cmp_total m k v q)
+      ∙ at-own q (eq_by_cmp (slice_cmp nat_cmp) q k) v (get m q) refl
+      ∙ sym (get-insert nat_list_cmp_total (kept (left f) m) k v q ∙ ap (cond (eq_by_cmp (slice_cmp nat_cmp) q k) (Some v)) (get-kept (slice_cmp nat_cmp) nat_list_cmp_total names_apart (left f) m q)))
+
+  at-none : (q : List ℕ) (b : Bool) (o : Option X) → option_map_or (left f q) (cond b None o) None ≡ cond b None (option_map_or (left f q) o None)
+  at-none q true o = refl
+  at-none q false o = refl
+
+  kept-remove : kept (left f) (remove m k) ≡ remove (kept (left f) m) k
+  kept-remove = same_map nat_list_cmp_total names_apart _ _ (λ q.
+      get-kept (slice_cmp nat_cmp) nat_list_cmp_total names_apart (left f) (remove m k) q ∙ ap (λ (o : Option X). option_map_or (left f q) o None) (get-remove nat_list_cmp_total m k q)
+      ∙ at-none q (eq_by_cmp (slice_cmp nat_cmp) q k) (get m q)
+      ∙ sym (get-remove nat_list_cmp_total (kept (left f) m) k q ∙ ap (cond (eq_by_cmp (slice_cmp nat_cmp) q k) None) (get-kept (slice_cmp nat_cmp) nat_list_cmp_total names_apart (left f) m q)))
+
+  abbrev Accounts : Type 0
+  Accounts = FinMap nat_cmp Account
+
+  silent : (o : Option X) → option_map_or (gives f k) o [] ≡ []
+  silent None = refl
+  silent (Some x) = ap (λ (l : Lapsed X). l.postings) (alone x)
+
+  given-removed : (a : Accounts) → fold posted a (given (gives f) (remove m k)) ≡ fold posted a (given (gives f) m)
+  given-removed a = sym (given_apart (slice_cmp nat_cmp) nat_list_cmp_total names_apart posted postings_commute (gives f) m k a
+      ∙ ap (λ (es : List Posting). fold posted (fold posted a es) (given (gives f) (remove m k))) (silent (get m k)))
+
+  given-inserted : (v : X) (a : Accounts) → fold posted a (given (gives f) (insert m k v)) ≡ fold posted a (given (gives f) m)
+  given-inserted v a = given_insert (slice_cmp nat_cmp) nat_list_cmp_total names_apart posted postings_commute (gives f) m k v a
+      ∙ ap (λ (es : List Posting). fold posted (fold posted a es) (given (gives f) (remove m k))) (silent (Some v)) ∙ given-removed a
+
+-- ---- a host that is renamed
+
+module _ (p : PolicyRules) (t : ℕ) (old new : List ℕ) where
+  abbrev ren : Domain → Domain
+  ren d = with_host_renamed old new d
+
+  abbrev mapped : Lapsed Domain → Lapsed Domain
+  mapped l = record { object = option_map ren l.object; postings = l.postings }
+
+  lived-renamed : (d : Domain) (o : Option Transfer) → lived p t o (ren d) ≡ mapped (lived p t o d)
+  unfolding turns renewals
+  lived-renamed d None = refl
+  lived-renamed d (Some x) = refl
+
+  purged-renamed : (d : Domain) (x : Deletion) (b : Bool) → (let l : Lapsed Domain = cond b (leaves (ren d) []) (purged p x (ren d)) in l) ≡ mapped (cond b (leaves d []) (purged p x d))
+  purged-renamed d x true = refl
+  purged-renamed d x false = refl
+
+  by-renamed : (d : Domain) (o : Option Deletion) → lapse_by p t o (ren d) ≡ mapped (lapse_by p t o d)
+  by-renamed d None = lived-renamed d (due_by t d.transfer)
+  by-renamed d (Some x) = purged-renamed d x _
+
+  lapse-renamed : (d : Domain) → lapse p t (ren d) ≡ mapped (lapse p t d)
+  lapse-renamed d = by-renamed d d.deletion
+
+  if-renamed : (b : Bool) (d : Domain) → lapse_if b (lapse p t (ren d)) (ren d) ≡ mapped (lapse_if b (lapse p t d) d)
+  if-renamed true d = lapse-renamed d
+  if-renamed false d = refl
+
+module _ {X : Type 0} (f : List ℕ → X → Lapsed X) (g : X → X) (turned : (name : List ℕ) (x : X) → f name (g x) ≡ (let l : Lapsed X = record { object = option_map g (f name x).object; postings = (f name x).postings } in l)) where
+  at-mapped : (q : List ℕ) (o : Option X) → option_map_or (left f q) (option_map g o) None ≡ option_map g (option_map_or (left f q) o None)
+  at-mapped q None = refl
+  at-mapped q (Some x) = ap (λ (l : Lapsed X). l.object) (turned q x)
+
+  kept-mapped : (m : FinMap (slice_cmp nat_cmp) X) → kept (left f) (map_values (λ name. g) m) ≡ map_values (λ name. g) (kept (left f) m)
+  kept-mapped m = same_map nat_list_cmp_total names_apart _ _ (λ q.
+      get-kept (slice_cmp nat_cmp) nat_list_cmp_total names_apart (left f) (map_values (λ name. g) m) q
+      ∙ ap (λ (o : Option X). option_map_or (left f q) o None) (get-map_values (slice_cmp nat_cmp) nat_list_cmp_total names_apart (λ name. g) m q)
+      ∙ at-mapped q (get m q)
+      ∙ sym (get-map_values (slice_cmp nat_cmp) nat_list_cmp_total names_apart (λ name. g) (kept (left f) m) q ∙ ap (option_map g) (get-kept (slice_cmp nat_cmp) nat_list_cmp_total names_apart (left f) m q)))
+
+  list-mapped : (es : List (List ℕ × X)) → given_list (gives f) (map (λ (e : List ℕ × X). (e.0, g e.1)) es) ≡ given_list (gives f) es
+  list-mapped [] = refl
+  list-mapped (e ∷ es) = λ i. (turned e.0 e.1 i).postings ++ list-mapped es i
+
+  given-mapped : (m : FinMap (slice_cmp nat_cmp) X) → given (gives f) (map_values (λ name. g) m) ≡ given (gives f) m
+  given-mapped m = ap (given_list (gives f)) (entries-map_values (slice_cmp nat_cmp) (λ name. g) nat_list_cmp_total names_apart m) ∙ list-mapped (entries m)
+
+-- ---- a change of an account, and what time enters into it
+
+abbrev pub Swaps : AccountChange → PolicyRules → LapseEntry → Type 0
+Swaps what p w = (a : Account) → entered w (account_changed p what a) ≡ account_changed p what (entered w a)
+
+abbrev with_lines_so : Account → List Line → Account
+with_lines_so a ls = record a { lines = ls }
+
+module _ (p : PolicyRules) where
+  charge-swaps : (l : Line) → is_kind l.kind lines.Transfer ≡ false → (w : LapseEntry) → Swaps (Charge l) p w
+  charge-swaps l other (Renewal r) a = ap (with_lines_so a) (add-add in_order lines_in_order (renewal_line r) l a.lines)
+  charge-swaps l other (Start x) a = ap (with_lines_so a) (remade-add in_order lines_in_order (transfer_started x) l a.lines ∙ ap (λ (m : Line). add in_order m (remade in_order (transfer_started x) a.lines)) unstarted)
+    where
+      unstarted : transfer_started x l ≡ l
+      unstarted = ap (λ (b : Bool). cond ((b && (is_on x.roid l && not (is_some l.refunded))) && not (begins_by l.started l.years x.moment x.years)) (record l { started = Some x.moment; years = x.years }) l) other
+  charge-swaps l other (Notice m) a = refl
+
+  map-swap : (f g : Line → Line) → ((l : Line) → f (g l) ≡ g (f l)) → (ls : List Line) → map f (map g ls) ≡ map g (map f ls)
+  map-swap f g e [] = refl
+  map-swap f g e (l ∷ ls) = λ i. e l i ∷ map-swap f g e ls i
+
+  remade-swap : (f g : Line → Line) → ((l : Line) → f (g l) ≡ g (f l)) → (ls : List Line) → remade in_order f (remade in_order g ls) ≡ remade in_order g (remade in_order f ls)
+  remade-swap f g e ls =
+      remade-bag_of in_order lines_in_order f (map g ls) ∙ ap (bag_of in_order) (map-swap f g e ls) ∙ sym (remade-bag_of in_order lines_in_order g (map f ls))
+
+  refund-start : (x : TransferRefund) (y : TransferStart) → is_same_roid y.roid x.roid ≡ false → (l : Line) → transfer_started y (transfer_refunded x l) ≡ transfer_refunded x (transfer_started y l)
+  refund-start x y apart l = by (is_on y.roid l) refl
+    where
+      by : (b : Bool) → is_on y.roid l ≡ b → transfer_started y (transfer_refunded x l) ≡ transfer_refunded x (transfer_started y l)
+      by true on =
+          let off : is_on x.roid l ≡ false = on-one x.roid y.roid apart l on in
+          let later : is_on x.roid (transfer_started y l) ≡ false = ap (is_of x.roid) (start-stays y l) ∙ off in
+          ap (transfer_started y) (refund-elsewhere x l off) ∙ sym (refund-elsewhere x (transfer_started y l) later)
+      by false off =
+          let later : is_on y.roid (transfer_refunded x l) ≡ false = ap (is_of y.roid) (refund-stays x l) ∙ off in
+          start-elsewhere y (transfer_refunded x l) later ∙ ap (transfer_refunded x) (sym (start-elsewhere y l off))
+
+  refund-swaps : (x : TransferRefund) (w : LapseEntry) → IsOff x.roid w → Swaps (RefundTransfer x) p w
+  refund-swaps x (Renewal r) off a = ap (with_lines_so a) (sym (remade-add in_order lines_in_order (transfer_refunded x) (renewal_line r) a.lines))
+  refund-swaps x (Start y) off a = ap (with_lines_so a) (remade-swap (transfer_started y) (transfer_refunded x) (refund-start x y off) a.lines)
+  refund-swaps x (Notice m) off a = refl
+
+  tell-swaps : (n : Notification) (w : LapseEntry) → Swaps (Tell n) p w
+  tell-swaps n (Renewal r) a = refl
+  tell-swaps n (Start x) a = refl
+  tell-swaps n (Notice m) a =
+      ap (λ (ms : List Message). let b : Account = record a { queue = ms; messages = saturating_next a.messages } in b)
+      (insert_key-swap message_cmp message_cmp_total message_cmp_only m (numbered (saturating_next a.messages) n) a.queue)
+
+  lapse-swaps : (v w : LapseEntry) → Swaps (Lapse v) p w
+  lapse-swaps v w a = entries-swap w v a
+
+  count-swaps : (w : LapseEntry) → Swaps CountCommand p w
+  count-swaps (Renewal r) a = refl
+  count-swaps (Start x) a = refl
+  count-swaps (Notice m) a = refl
+
+  serial-swaps : (w : LapseEntry) → Swaps TakeSerial p w
+  serial-swaps (Renewal r) a = refl
+  serial-swaps (Start x) a = refl
+  serial-swaps (Notice m) a = refl
+
+-- ---- what is asked of a change
+
+module _ (p : PolicyRules) (r : Option ℕ) (g : Names) (u : Registry) where
+  abbrev chosen : Choice
+  chosen = concerned r g u
+
+  abbrev rest : Choice
+  rest = without chosen
+
+  -- a domain that is named has the ROID
+  abbrev pub IsNamedRoid : Roid → Type 0
+  IsNamedRoid roid = (n : List ℕ) × (d : Domain) × (is_in n g.domains ≡ true) × (get u.domains n ≡ Some d) × (roid ≡ d.roid)
+
+  -- whosever account it is
+  abbrev pub SuitsAny : AccountChange → Type 0
+  SuitsAny (Charge l) = is_kind l.kind lines.Transfer ≡ false
+  SuitsAny (RefundRunning x) = ⊥
+  SuitsAny (RefundTransfer x) = IsNamedRoid x.roid
+  SuitsAny (Lapse what) = Unit {0}
+  SuitsAny (Tell n) = Unit {0}
+  SuitsAny (Ack id) = ⊥
+  SuitsAny CountCommand = Unit {0}
+  SuitsAny TakeSerial = Unit {0}
+
+  -- It puts what is concerned in the place of what is, and changes the caller's account, or another so that it makes no
+  -- difference to what time enters into it.
+  abbrev pub Suits : Change → Type 0
+  Suits (MoveClock t) = ⊥
+  Suits (OpenAccount q) = ⊥
+  Suits (PutContact x) = chosen.contacts x.name ≡ true
+  Suits (DropContact name) = chosen.contacts name ≡ true
+  Suits (PutDomain d) = chosen.domains d.name ≡ true
+  Suits (DropDomain name) = chosen.domains name ≡ true
+  Suits (PutHost h) = Unit {0}
+  Suits (DropHost name) = Unit {0}
+  Suits (RenameHost old new) = Unit {0}
+  Suits (LapseContact name left) = ⊥
+  Suits (LapseDomain name left) = ⊥
+  Suits (Give q what) = (r ≡ Some q) ⊎ SuitsAny what
+
+  abbrev pub AllSuit : List Change → Type 0
+  AllSuit [] = Unit {0}
+  AllSuit (change ∷ changes) = Suits change × AllSuit changes
+
+-- ---- the rest, as it stands while the changes are made
+
+record IsRest (p : PolicyRules) (r : Option ℕ) (g : Names) (u v : Registry) : Type 0 where
+  contacts : (name : List ℕ) (x : Contact) → get v.contacts name ≡ Some x → (concerned r g u).contacts name ≡ false → is_about r x.sponsor x.transfer ≡ false
+  domains : (name : List ℕ) (d : Domain) → get v.domains name ≡ Some d → (concerned r g u).domains name ≡ false → is_about r d.sponsor d.transfer ≡ false
+  roids : (name : List ℕ) (d : Domain) → get v.domains name ≡ Some d → (concerned r g u).domains name ≡ false → (roid : Roid) → IsNamedRoid p r g u roid → is_same_roid d.roid roid ≡ false
+
+not-both : (b : Bool) → b ≡ true → b ≡ false → ⊥
+not-both true e f = cc
+not-both false e f = cc
+
+module _ (p : PolicyRules) (r : Option ℕ) (g : Names) (u : Registry) where
+  abbrev to_lapse : Choice
+  to_lapse = without (concerned r g u)
+
+  rest-changed : (change : Change) → Suits p r g u change → (v : Registry) → IsRest p r g u v → IsRest p r g u (changed p change v)
+  rest-changed (MoveClock t) suits v is = absurd suits
+  rest-changed (OpenAccount q) suits v is = absurd suits
+  rest-changed (PutContact x) suits v is = record {
+    contacts = λ name y at none. ⊎_elim
+        (λ put. absurd (not-both ((concerned r g u).contacts name) (ap (concerned r g u).contacts put.0 ∙ suits) none))
+        (λ before. is.contacts name y before none) (put-cases v.contacts x.name x name y at);
+    domains = is.domains;
+    roids = is.roids;
+  }
+  rest-changed (DropContact dropped) suits v is = record {
+    contacts = λ name y at none. is.contacts name y (drop-cases v.contacts dropped name y at).1 none;
+    domains = is.domains;
+    roids = is.roids;
+  }
+  rest-changed (PutDomain d) suits v is = record {
+    contacts = is.contacts;
+    domains = λ name e at none. ⊎_elim
+        (λ put. absurd (not-both ((concerned r g u).domains name) (ap (concerned r g u).domains put.0 ∙ suits) none))
+        (λ before. is.domains name e before none) (put-cases v.domains d.name d name e at);
+    roids = λ name e at none. ⊎_elim
+        (λ put. absurd (not-both ((concerned r g u).domains name) (ap (concerned r g u).domains put.0 ∙ suits) none))
+        (λ before. is.roids name e before none) (put-cases v.domains d.name d name e at);
+  }
+  rest-changed (DropDomain dropped) suits v is = record {
+    contacts = is.contacts;
+    domains = λ name e at none. is.domains name e (drop-cases v.domains dropped name e at).1 none;
+    roids = λ name e at none. is.roids name e (drop-cases v.domains dropped name e at).1 none;
+  }
+  rest-changed (PutHost h) suits v is = record { contacts = is.contacts; domains = is.domains; roids = is.roids }
+  rest-changed (DropHost name) suits v is = record { contacts = is.contacts; domains = is.domains; roids = is.roids }
+  rest-changed (RenameHost old new) suits v is = record {
+    contacts = is.contacts;
+    domains = λ name e at none. let was = remade-cases (with_host_renamed old new) v.domains name e at in subst (λ (z : Domain). is_about r z.sponsor z.transfer ≡ false) was.2 (is.domains name was.0 was.1 none);
+    roids = λ name e at none roid named. let was = remade-cases (with_host_renamed old new) v.domains name e at in subst (λ (z : Domain). is_same_roid z.roid roid ≡ false) was.2 (is.roids name was.0 was.1 none roid named);
+  }
+  rest-changed (LapseContact name left) suits v is = absurd suits
+  rest-changed (LapseDomain name left) suits v is = absurd suits
+  rest-changed (Give q what) suits v is = record { contacts = is.contacts; domains = is.domains; roids = is.roids }
+
+  -- ---- what the rest posts
+
+  -- a posting that is on no domain that is named
+  abbrev IsAside : Posting → Type 0
+  IsAside e = (roid : Roid) → IsNamedRoid p r g u roid → IsOff roid e.what
+
+  to-aside : (es : List Posting) → ((roid : Roid) → IsNamedRoid p r g u roid → AllOff roid es) → AllPost IsAside es
+  to-aside [] off = tt
+  to-aside (e ∷ es) off = ((λ roid named. (off roid named).0), to-aside es (λ roid named. (off roid named).1))
+
+  -- it makes the same of the account before the change and afterwards
+  abbrev Fits : ℕ → AccountChange → Posting → Type 0
+  Fits q what e = e.registrar ≡ q → Swaps what p e.what
+
+  swaps-any : (what : AccountChange) → SuitsAny p r g u what → (e : Posting) → IsAside e → Swaps what p e.what
+  swaps-any (Charge l) suits e aside = charge-swaps p l suits e.what
+  swaps-any (RefundRunning x) suits e aside = absurd suits
+  swaps-any (RefundTransfer x) suits e aside = refund-swaps p x e.what (aside x.roid suits)
+  swaps-any (Lapse v) suits e aside = lapse-swaps p v e.what
+  swaps-any (Tell n) suits e aside = tell-swaps p n e.what
+  swaps-any (Ack id) suits e aside = absurd suits
+  swaps-any CountCommand suits e aside = count-swaps p e.what
+  swaps-any TakeSerial suits e aside = serial-swaps p e.what
+
+  module _ (t : ℕ) where
+    abbrev fc : List ℕ → Contact → Lapsed Contact
+    fc name x = lapse_if (to_lapse.contacts name) (lapse_contact t x) x
+
+    abbrev fd : List ℕ → Domain → Lapsed Domain
+    fd name d = lapse_if (to_lapse.domains name) (lapse p t d) d
+
+    abbrev rest_postings : Registry → List Posting
+    rest_postings v = postings fc fd v
+
+    module _ (v : Registry) (is : IsRest p r g u v) where
+      rest-posts : (P : Posting → Type 0)
+          → ((x : Contact) → is_about r x.sponsor x.transfer ≡ false → AllPost P (lapse_contact t x).postings)
+          → ((d : Domain) → is_about r d.sponsor d.transfer ≡ false → ((roid : Roid) → IsNamedRoid p r g u roid → is_same_roid d.roid roid ≡ false) → AllPost P (lapse p t d).postings)
+          → AllPost P (rest_postings v)
+      rest-posts P of-contact of-domain = post-both P (given (gives fc) v.contacts) (given (gives fd) v.domains)
+          (post-given P (gives fc) v.contacts (λ name x at. by-contact name x at ((concerned r g u).contacts name) refl))
+          (post-given P (gives fd) v.domains (λ name d at. by-domain name d at ((concerned r g u).domains name) refl))
+        where
+          by-contact : (name : List ℕ) (x : Contact) → get v.contacts name ≡ Some x → (b : Bool) → (concerned r g u).contacts name ≡ b → AllPost P (lapse_if (not b) (lapse_contact t x) x).postings
+          by-contact name x at true e = tt
+          by-contact name x at false e = of-contact x (is.contacts name x at e)
+
+          by-domain : (name : List ℕ) (d : Domain) → get v.domains name ≡ Some d → (b : Bool) → (concerned r g u).domains name ≡ b → AllPost P (lapse_if (not b) (lapse p t d) d).postings
+          by-domain name d at true e = tt
+          by-domain name d at false e = of-domain d (is.domains name d at e) (is.roids name d at e)
+
+      fits-own : (q : ℕ) (what : AccountChange) → r ≡ Some q → AllPost (Fits q what) (rest_postings v)
+      fits-own q what own = rest-posts (Fits q what)
+          (λ x none. post-weaker (IsElsewhere q) (Fits q what) (λ e other same. absurd (other same)) (lapse_contact t x).postings (contact-elsewhere q t x (ap (λ (o : Option ℕ). is_about o x.sponsor x.transfer) (sym own) ∙ none)))
+          (λ d none off. post-weaker (IsElsewhere q) (Fits q what) (λ e other same. absurd (other same)) (lapse p t d).postings (domain-elsewhere q t p d (ap (λ (o : Option ℕ). is_about o d.sponsor d.transfer) (sym own) ∙ none)))
+
+      fits-any : (q : ℕ) (what : AccountChange) → SuitsAny p r g u what → AllPost (Fits q what) (rest_postings v)
+      fits-any q what suits = rest-posts (Fits q what)
+          (λ x none. post-weaker IsAside (Fits q what) (λ e aside same. swaps-any what suits e aside) (lapse_contact t x).postings (to-aside (lapse_contact t x).postings (λ roid named. completed-off p roid (due_by t x.transfer) x)))
+          (λ d none off. post-weaker IsAside (Fits q what) (λ e aside same. swaps-any what suits e aside) (lapse p t d).postings (to-aside (lapse p t d).postings (λ roid named. domain-off p roid t d (off roid named))))
+
+      fits : (q : ℕ) (what : AccountChange) → Suits p r g u (Give q what) → AllPost (Fits q what) (rest_postings v)
+      fits q what suits = ⊎_elim (fits-own q what) (fits-any q what) suits
+
+    -- ---- each change
+
+    -- an account that is changed, and what time enters
+    give-posted : (q : ℕ) (what : AccountChange) (es : List Posting) → AllPost (Fits q what) es → (m : FinMap nat_cmp Account)
+        → fold posted (change_at empty_account q (account_changed p what) m) es ≡ change_at empty_account q (account_changed p what) (fold posted m es)
+    give-posted q what [] all m = refl
+    give-posted q what (e ∷ es) all m =
+        ap (λ (n : FinMap nat_cmp Account). fold posted n es) (change_at-commutes nat_cmp nat_cmp_total nat_cmp-IsAntisymmetric empty_account m e.registrar q (entered e.what) (account_changed p what) all.0)
+        ∙ give-posted q what es all.1 (posted m e)
+
+    contact-alone : (name : List ℕ) → (concerned r g u).contacts name ≡ true → (x : Contact) → fc name x ≡ leaves x []
+    contact-alone name e x = ap (λ (b : Bool). lapse_if (not b) (lapse_contact t x) x) e
+
+    domain-alone : (name : List ℕ) → (concerned r g u).domains name ≡ true → (d : Domain) → fd name d ≡ leaves d []
+    domain-alone name e d = ap (λ (b : Bool). lapse_if (not b) (lapse p t d) d) e
+
+    abbrev lapsed_rest : Registry → Registry
+    lapsed_rest v = lapse_some p to_lapse t v
+
+    -- other contacts that post the same
+    with-contacts : (v : Registry) (m n : FinMap (slice_cmp nat_cmp) Contact) → kept (left fc) m ≡ n → ((a : FinMap nat_cmp Account) → fold posted a (given (gives fc) m) ≡ fold posted a (given (gives fc) v.contacts))
+        → lapsed_rest (record v { contacts = m }) ≡ record (lapsed_rest v) { contacts = n }
+    with-contacts v m n kept-so same = λ i. registry (kept-so i) v.hosts (kept (left fd) v.domains)
+        ((fold_append posted v.accounts (given (gives fc) m) (given (gives fd) v.domains)
+        ∙ ap (λ (a : FinMap nat_cmp Account). fold posted a (given (gives fd) v.domains)) (same v.accounts)
+        ∙ sym (fold_append posted v.accounts (given (gives fc) v.contacts) (given (gives fd) v.domains))) i) v.clock
+
+    with-domains : (v : Registry) (m n : FinMap (slice_cmp nat_cmp) Domain) → kept (left fd) m ≡ n → ((a : FinMap nat_cmp Account) → fold posted a (given (gives fd) m) ≡ fold posted a (given (gives fd) v.domains))
+        → lapsed_rest (record v { domains = m }) ≡ record (lapsed_rest v) { domains = n }
+    with-domains v m n kept-so same = λ i. registry (kept (left fc) v.contacts) v.hosts (kept-so i)
+        ((fold_append posted v.accounts (given (gives fc) v.contacts) (given (gives fd) m)
+        ∙ same (fold posted v.accounts (given (gives fc) v.contacts))
+        ∙ sym (fold_append posted v.accounts (given (gives fc) v.contacts) (given (gives fd) v.domains))) i) v.clock
+
+    commutes : (change : Change) → Suits p r g u change → (v : Registry) → IsRest p r g u v → lapsed_rest (changed p change v) ≡ changed p change (lapsed_rest v)
+    commutes (MoveClock m) suits v is = absurd suits
+    commutes (OpenAccount q) suits v is = absurd suits
+    commutes (PutContact x) suits v is = with-contacts v (insert v.contacts x.name x) (insert (kept (left fc) v.contacts) x.name x)
+        (kept-insert fc v.contacts x.name (contact-alone x.name suits) x) (given-inserted fc v.contacts x.name (contact-alone x.name suits) x)
+    commutes (DropContact name) suits v is = with-contacts v (remove v.contacts name) (remove (kept (left fc) v.contacts) name)
+        (kept-remove fc v.contacts name (contact-alone name suits)) (given-removed fc v.contacts name (contact-alone name suits))
+    commutes (PutDomain d) suits v is = with-domains v (insert v.domains d.name d) (insert (kept (left fd) v.domains) d.name d)
+        (kept-insert fd v.domains d.name (domain-alone d.name suits) d) (given-inserted fd v.domains d.name (domain-alone d.name suits) d)
+    commutes (DropDomain name) suits v is = with-domains v (remove v.domains name) (remove (kept (left fd) v.domains) name)
+        (kept-remove fd v.domains name (domain-alone name suits)) (given-removed fd v.domains name (domain-alone name suits))
+    commutes (PutHost h) suits v is = refl
+    commutes (DropHost name) suits v is = refl
+    commutes (RenameHost old new) suits v is = with-domains v (map_values (λ name. with_host_renamed old new) v.domains) (map_values (λ name. with_host_renamed old new) (kept (left fd) v.domains))
+        (kept-mapped fd (with_host_renamed old new) (λ name d. if-renamed p t old new (to_lapse.domains name) d) v.domains)
+        (λ a. ap (fold posted a) (given-mapped fd (with_host_renamed old new) (λ name d. if-renamed p t old new (to_lapse.domains name) d) v.domains))
+    commutes (LapseContact name left) suits v is = absurd suits
+    commutes (LapseDomain name left) suits v is = absurd suits
+    commutes (Give q what) suits v is = ap (λ (m : FinMap nat_cmp Account). record (lapsed_rest v) { accounts = m }) (give-posted q what (rest_postings v) (fits v is q what suits) v.accounts)
+
+    commute-all : (changes : List Change) → AllSuit p r g u changes → (v : Registry) → IsRest p r g u v → lapsed_rest (changed_all p changes v) ≡ changed_all p changes (lapsed_rest v)
+    commute-all [] suit v is = refl
+    commute-all (change ∷ changes) suit v is = commute-all changes suit.1 (changed p change v) (rest-changed change suit.0 v is) ∙ ap (changed_all p changes) (commutes change suit.0 v is)
+
+  -- ---- the clock stands
+
+  clock-stands : (change : Change) → Suits p r g u change → (v : Registry) → (changed p change v).clock ≡ v.clock
+  clock-stands (MoveClock m) suits v = absurd suits
+  clock-stands (OpenAccount q) suits v = absurd suits
+  clock-stands (PutContact x) suits v = refl
+  clock-stands (DropContact name) suits v = refl
+  clock-stands (PutDomain d) suits v = refl
+  clock-stands (DropDomain name) suits v = refl
+  clock-stands (PutHost h) suits v = refl
+  clock-stands (DropHost name) suits v = refl
+  clock-stands (RenameHost old new) suits v = refl
+  clock-stands (LapseContact name left) suits v = absurd suits
+  clock-stands (LapseDomain name left) suits v = absurd suits
+  clock-stands (Give q what) suits v = refl
+
+  clocks-stand : (changes : List Change) → AllSuit p r g u changes → (v : Registry) → (changed_all p changes v).clock ≡ v.clock
+  clocks-stand [] suit v = refl
+  clocks-stand (change ∷ changes) suit v = clocks-stand changes suit.1 (changed p change v) ∙ clock-stands change suit.0 v
+
+  -- ---- all changes of what is settled in what is concerned
+
+  module _ (is : IsSettledIn p (concerned r g u) u) where
+    has-all : HasAllDue p u.clock to_lapse u
+    has-all = record {
+      contacts = λ name x at out. is.contacts name x at (not-false ((concerned r g u).contacts name) out);
+      domains = λ name d at out. is.domains name d at (not-false ((concerned r g u).domains name) out);
+    }
+      where
+        not-false : (b : Bool) → not b ≡ false → b ≡ true
+        not-false true e = refl
+        not-false false e = cc
+
+    -- what the registry is now, is itself with the rest lapsed
+    now-is : lapse_some p to_lapse u.clock u ≡ now p u
+    now-is = all-due-lapse-as-all p u.clock to_lapse u has-all
+
+    rest-is : IsRest p r g u u
+    rest-is = record {
+      contacts = λ name x at none. contact-not-about p r g u is name x at none;
+      domains = λ name d at none. domain-not-about p r g u is name d at none;
+      roids = λ name d at none roid named. ap (λ (x : Roid). is_same_roid d.roid x) named.4 ∙ roid-off p r g u is name d at none named.0 named.1 named.2 named.3;
+    }
+
+    rest-later : (v : Registry) → v.clock ≡ u.clock → now p (lapse_some p to_lapse u.clock v) ≡ now p v
+    unfolding accounts_at
+    rest-later v e =
+        ap (λ (t : ℕ). lapse_registry p t (lapse_some p to_lapse u.clock v)) e
+        ∙ lapses-on-from-some p to_lapse u.clock u.clock v.clock (omega arith) v
+        ∙ ap (λ (t : ℕ). lapse_registry p t v) (sym e)
+
+    pub changed-now : (changes : List Change) → AllSuit p r g u changes → now p (changed_all p changes u) ≡ now p (changed_all p changes (now p u))
+    changed-now changes suit =
+        sym (rest-later (changed_all p changes u) (clocks-stand changes suit u))
+        ∙ ap (now p) (commute-all u.clock changes suit u rest-is ∙ ap (changed_all p changes) now-is)

@@ -1,0 +1,6 @@
+use Rattle.concerns.proofs.CommandLemmas.{answer-now, effect-now}
+use Rattle.concerns.proofs.FactsLemmas.{facts-now}
+use Rattle.concerns.proofs.laws.commands_are_answered_as_now.Goals as goal
+
+pub returns : goal.returns
+returns c = record { facts = λ p r x s is. facts-now p r x s is; answered = answer-now; left = effect-now }

@@ -1,0 +1,255 @@
+-- Time passes in a transaction, with what somebody asks for.
+use Rattle.std.proofs.Common.{◌≡◌, ℕ, true, max, Result, Ok, Err, IfOk, OnOk, List, [], ◌∷◌, Option, Some, None, refl, sym, subst, ap, ◌∙◌, ℤ, arith}
+use Rattle.concerns.specs.declared.given.Names.{Names}
+use Rattle.concerns.specs.Concerns.{IsSettledIn, concerned}
+use Rattle.concerns.specs.ConcernLaws.{IsSettledFor}
+use Rattle.concerns.specs.Names.{named_by, no_names}
+use Rattle.concerns.proofs.CommandLemmas.{answer-now, effect-now}
+use Rattle.concerns.proofs.ConcernLemmas.{caught-up}
+use Rattle.concerns.proofs.OrderLemmas.{deposit-effect-now, nothing-due, status-answer-now, status-effect-now}
+use Rattle.model.specs.Lapse.{among, at, lapsed, now}
+use Rattle.facts.specs.Facts.{facts}
+use Rattle.model.specs.Registry.{Registry, account_of}
+use Rattle.model.proofs.LapseLaws.{lapses-on}
+use Rattle.objects.specs.declared.roid.ObjectKind.{ObjectKind}
+use Rattle.policy.specs.Rules.{PolicyRules}
+use Rattle.protocol.specs.declared.code.Code.{Code}
+use Rattle.protocol.specs.declared.command.Command.{Command}
+use Rattle.protocol.specs.declared.order.Order.TheVariants as orders
+use Rattle.protocol.specs.declared.order.StatusOrder.{StatusOrder}
+use Rattle.protocol.specs.declared.reply.Reply.{Reply}
+use Rattle.protocol.specs.Orders.{name_ordered}
+use Rattle.registry.specs.declared.registry.Prepared.{Prepared}
+use Rattle.registry.specs.Execution.{Greets, IsGreetingStep, IsOrderStep, IsPrepared, IsStep, Keeps, OrderSteps, Steps, at_moment}
+use Rattle.registry.specs.Faces.{LooksUp}
+use Rattle.registry.specs.Lapsing.{dues_lapsed, with_dues_lapsed}
+use Rattle.registry.specs.Passing.{IsPassed, Passes, Reaches, names_at, status_at}
+use Rattle.registry.proofs.LapseSteps.{same-lapse}
+use Rattle.registry.proofs.LapsingLemmas.{each-as-some, has-concerned, objects_of, some-lapsed}
+use Rattle.rules.specs.declared.change.Change.TheVariants.{MoveClock}
+use Rattle.rules.specs.Changes.{changed_all}
+use Rattle.rules.specs.Decisions.{decided}
+use Rattle.rules.specs.Orders.{deposit_decision, order_answer, order_effect}
+use Rattle.rules.specs.Steps.{answer, effect, reply_of}
+use Rattle.registry.specs.declared.fault.Fault.{Fault}
+use Rattle.store.specs.declared.due.Due.{Due}
+use Rattle.store.specs.Book.{BookState, Commits, Follows, IsSame, Moves, Stored, with_changes}
+use Rattle.store.specs.Due.{due_for}
+
+-- ---- of a registry
+
+module _ (p : PolicyRules) (r : Option ℕ) (g : Names) (moment : ℕ) (before : Registry) where
+  abbrev u : ℕ
+  u = max moment before.clock
+
+  abbrev asked : List Due
+  asked = due_for p r g u (at u before)
+
+  -- what concerns the registrar and the names has lapsed
+  pub passed-for : IsPassed p r g moment before (dues_lapsed p u asked (at u before))
+  passed-for = record {
+    clock = ap (λ (s : Registry). s.clock) (each-as-some p u asked (at u before));
+    settled = subst (λ (s : Registry). IsSettledIn p (concerned r g s) s) (sym (each-as-some p u asked (at u before))) (caught-up p r g u (among (objects_of asked)) (at u before) (has-concerned p r g u (at u before)));
+    future = some-lapsed p u asked (at u before) refl ∙ same-lapse p u before;
+  }
+
+-- nothing has, where nothing is named and nobody asks
+pub passed-alone : (p : PolicyRules) (moment : ℕ) (before : Registry) → IsPassed p None no_names moment before (at (max moment before.clock) before)
+passed-alone p moment before = record {
+  clock = refl;
+  settled = nothing-due p (at (max moment before.clock) before);
+  future = same-lapse p (max moment before.clock) before;
+}
+
+-- ---- of a book
+
+pub passes : (p : PolicyRules) (r : Option ℕ) (g : Names) (moment clock : ℕ) (due : List Due) (old moved listed mid : BookState)
+    → Moves old moved (with_changes p (MoveClock moment ∷ []) old.content) → (moved.is_clean ≡ true → clock ≡ max moment old.content.registry.clock) → Follows moved listed
+    → IsSame moved listed → (listed.is_clean ≡ true → due ≡ due_for p r g clock moved.content.registry) → Follows listed mid
+    → Moves listed mid (with_dues_lapsed p clock due listed.content) → Passes p r g moment old mid
+passes p r g moment clock due old moved listed mid first told listing same found lapsing second = record {
+  counted = second.counted ∙ same.counted ∙ first.counted;
+  opened = second.opened;
+  passed = λ clean. subst (IsPassed p r g moment s) (sym (left clean)) (passed-for p r g moment s);
+  terms = λ clean. ap (λ (held : Stored). held.terms) (second.content clean ∙ ap (with_dues_lapsed p clock due) (same.content (lapsing.clean clean) ∙ first.content (clean-moved clean)));
+  before = λ clean. second.before clean ∙ same.before (lapsing.clean clean) ∙ first.before (clean-moved clean);
+}
+  where
+    s : Registry
+    s = old.content.registry
+
+    m : ℕ
+    m = max moment s.clock
+
+    clean-moved : mid.is_clean ≡ true → moved.is_clean ≡ true
+    clean-moved clean = listing.clean (lapsing.clean clean)
+
+    moved-is : mid.is_clean ≡ true → moved.content.registry ≡ at m s
+    moved-is clean = ap (λ (held : Stored). held.registry) (first.content (clean-moved clean))
+
+    clock-is : mid.is_clean ≡ true → clock ≡ m
+    clock-is clean = told (clean-moved clean)
+
+    due-is : mid.is_clean ≡ true → due ≡ due_for p r g m (at m s)
+    due-is clean = found (lapsing.clean clean) ∙ (λ i. due_for p r g (clock-is clean i) (moved-is clean i))
+
+    left : mid.is_clean ≡ true → mid.content.registry ≡ dues_lapsed p m (due_for p r g m (at m s)) (at m s)
+    left clean =
+        ap (λ (held : Stored). held.registry) (second.content clean)
+        ∙ (λ i. dues_lapsed p (clock-is clean i) (due-is clean i) (same.content (lapsing.clean clean) i).registry)
+        ∙ ap (dues_lapsed p m (due_for p r g m (at m s))) (moved-is clean)
+
+pub passes-alone : (p : PolicyRules) (moment : ℕ) (old new : BookState) → Moves old new (with_changes p (MoveClock moment ∷ []) old.content) → Passes p None no_names moment old new
+passes-alone p moment old new moved = record {
+  counted = moved.counted;
+  opened = moved.opened;
+  passed = λ clean. subst (IsPassed p None no_names moment old.content.registry) (sym (ap (λ (held : Stored). held.registry) (moved.content clean))) (passed-alone p moment old.content.registry);
+  terms = λ clean. ap (λ (held : Stored). held.terms) (moved.content clean);
+  before = moved.before;
+}
+
+-- where the clock moved, time passed
+pub alone-passes : (p : PolicyRules) (moment : ℕ) (old new : BookState) (r : Result ℕ Fault) → OnOk r (Moves old new (with_changes p (MoveClock moment ∷ []) old.content)) → OnOk r (Passes p None no_names moment old new)
+alone-passes p moment old new (Ok clock) moved = passes-alone p moment old new moved
+alone-passes p moment old new (Err fault) moved = moved
+
+-- ---- steps from there
+
+module _ (p : PolicyRules) (moment : ℕ) (before mid after : Registry) where
+  -- a command is answered, and leaves what it changes
+  pub step-of : (r : ℕ) (c : Command) (reply : Reply) → IsPassed p (Some r) (named_by c) moment before mid → reply ≡ answer p r c mid → after ≡ effect p r c mid → IsStep p r c moment before after reply
+  step-of r c reply is told left = record {
+    answered = told ∙ sym (answer-now p r c mid is.settled) ∙ ap (answer p r c) is.future;
+    left = ap (now p) left ∙ effect-now p r c mid is.settled ∙ ap (λ (s : Registry). now p (effect p r c s)) is.future;
+  }
+
+-- ---- commands in a book
+
+pub executed : (p : PolicyRules) (r : ℕ) (c : Command) (moment clock : ℕ) (prepared : Prepared) (reply : Reply) (old mid looked new : BookState)
+    → Passes p (Some r) (named_by c) moment old mid → (mid.is_clean ≡ true → clock ≡ max moment old.content.registry.clock) → Follows mid looked
+    → IsSame mid looked → (looked.is_clean ≡ true → IsPrepared p r c clock (facts p r c mid.content.registry) prepared) → Follows looked new
+    → reply ≡ prepared.reply → Keeps looked new (with_changes p prepared.changes looked.content) → Steps p r c moment reply old new
+executed p r c moment clock prepared reply old mid looked new first told looking same decided-so keeping given kept clean =
+    let looked-clean : looked.is_clean ≡ true = keeping.clean clean in
+    let mid-clean : mid.is_clean ≡ true = looking.clean looked-clean in
+    let is = first.passed mid-clean in
+    let clock-is : clock ≡ mid.content.registry.clock = told mid-clean ∙ sym is.clock in
+    let by = decided-so looked-clean in
+    let stood : looked.content.registry ≡ mid.content.registry = ap (λ (held : Stored). held.registry) (same.content looked-clean) in
+    step-of p moment old.content.registry mid.content.registry new.content.registry r c reply is
+    (given ∙ by.reply ∙ ap (λ (t : ℕ). reply_of p r c (decided p r t c (facts p r c mid.content.registry)).verdict (account_of r mid.content.registry).commands) clock-is)
+    (ap (λ (held : Stored). held.registry) (kept.content clean)
+    ∙ (λ i. changed_all p (by.changes i) (stood i))
+    ∙ ap (λ (t : ℕ). changed_all p (decided p r t c (facts p r c mid.content.registry)).changes mid.content.registry) clock-is)
+
+pub executes : (p : PolicyRules) (r : ℕ) (c : Command) (moment clock : ℕ) (prepared : Prepared) (result : Result Reply Fault) (old mid looked new : BookState)
+    → Passes p (Some r) (named_by c) moment old mid → (mid.is_clean ≡ true → clock ≡ max moment old.content.registry.clock) → Follows mid looked
+    → IsSame mid looked → (looked.is_clean ≡ true → IsPrepared p r c clock (facts p r c mid.content.registry) prepared) → Follows looked new
+    → IfOk result (λ reply. reply ≡ prepared.reply) → OnOk result (Keeps looked new (with_changes p prepared.changes looked.content)) → IfOk result (λ reply. Steps p r c moment reply old new)
+executes p r c moment clock prepared (Ok reply) old mid looked new first told looking same decided-so keeping given kept = executed p r c moment clock prepared reply old mid looked new first told looking same decided-so keeping given kept
+executes p r c moment clock prepared (Err fault) old mid looked new first told looking same decided-so keeping given kept = tt
+
+-- ---- orders in a book
+
+settled-for : (p : PolicyRules) (kind : ObjectKind) (name : Option (List ℕ)) (u : Registry) → IsSettledIn p (concerned None (names_at kind name) u) u → IsSettledFor p kind name u
+settled-for p kind None u is = is
+settled-for p kind (Some name) u is = is
+
+-- the registry of a moment is what it is by then
+now-lapsed : (p : PolicyRules) (moment : ℕ) (s : Registry) → now p (lapsed p moment s) ≡ lapsed p moment s
+now-lapsed p moment s = lapses-on p (max moment s.clock) (max moment s.clock) (omega arith) s
+
+pub ordered : (p : PolicyRules) (o : StatusOrder) (moment : ℕ) (name : Option (List ℕ)) (code : Code) (old mid new : BookState)
+    → name ≡ name_ordered p.zone o → Passes p None (names_at o.kind name) moment old mid → Follows mid new
+    → (new.is_clean ≡ true → code ≡ (status_at o name mid.content.registry).code) → Keeps mid new (with_changes p (status_at o name mid.content.registry).changes mid.content)
+    → OrderSteps p (orders.Status o) moment code old new
+ordered p o moment name code old mid new named first keeping told kept clean =
+    let is = first.passed (keeping.clean clean) in
+    let s : Registry = mid.content.registry in
+    let settled : IsSettledFor p o.kind (name_ordered p.zone o) s = subst (λ (n : Option (List ℕ)). IsSettledFor p o.kind n s) named (settled-for p o.kind name s is.settled) in
+    record {
+      answered = told clean ∙ ap (λ (n : Option (List ℕ)). (status_at o n s).code) named ∙ sym (status-answer-now p o s settled) ∙ ap (order_answer p (orders.Status o)) is.future;
+      left = ap (now p) (ap (λ (held : Stored). held.registry) (kept.content clean) ∙ ap (λ (n : Option (List ℕ)). changed_all p (status_at o n s).changes s) named)
+          ∙ status-effect-now p o s settled ∙ ap (λ (u : Registry). now p (order_effect p (orders.Status o) u)) is.future;
+    }
+
+pub deposited-in : (p : PolicyRules) (id : List ℕ) (cents : ℤ) (moment clock : ℕ) (code : Code) (old mid new : BookState)
+    → Passes p None no_names moment old mid → (mid.is_clean ≡ true → clock ≡ max moment old.content.registry.clock) → Follows mid new
+    → code ≡ (deposit_decision p clock id cents).code → Keeps mid new (with_changes p (deposit_decision p clock id cents).changes mid.content)
+    → OrderSteps p (orders.Deposit id cents) moment code old new
+deposited-in p id cents moment clock code old mid new first told keeping given kept clean =
+    let is = first.passed (keeping.clean clean) in
+    let s : Registry = mid.content.registry in
+    let clock-is = told (keeping.clean clean) in
+    record {
+      answered = given ∙ ap (λ (t : ℕ). (deposit_decision p t id cents).code) clock-is;
+      left = ap (now p) (ap (λ (held : Stored). held.registry) (kept.content clean) ∙ ap (λ (t : ℕ). changed_all p (deposit_decision p t id cents).changes s) (clock-is ∙ sym is.clock))
+          ∙ deposit-effect-now p s id cents ∙ ap (λ (u : Registry). now p (order_effect p (orders.Deposit id cents) u)) is.future;
+    }
+
+pub orders-set : {E : Type 0} (p : PolicyRules) (o : StatusOrder) (moment : ℕ) (name : Option (List ℕ)) (made : Result (Option (List ℕ)) E) (result : Result Code Fault) (old tried mid new : BookState)
+    → IfOk made (λ n. n ≡ name_ordered p.zone o) → made ≡ Ok name → tried ≡ old → Passes p None (names_at o.kind name) moment tried mid → Follows mid new
+    → IfOk result (λ code. new.is_clean ≡ true → code ≡ (status_at o name mid.content.registry).code) → OnOk result (Keeps mid new (with_changes p (status_at o name mid.content.registry).changes mid.content))
+    → IfOk result (λ code. OrderSteps p (orders.Status o) moment code old new)
+orders-set {E} p o moment name made (Ok code) old tried mid new read is same first keeping told kept =
+    ordered p o moment name code old mid new (subst (λ (m : Result (Option (List ℕ)) E). IfOk m (λ n. n ≡ name_ordered p.zone o)) is read) (subst (λ (b : BookState). Passes p None (names_at o.kind name) moment b mid) same first) keeping told kept
+orders-set p o moment name made (Err fault) old tried mid new read is same first keeping told kept = tt
+
+pub orders-paid : (p : PolicyRules) (id : List ℕ) (cents : ℤ) (moment clock : ℕ) (result : Result Code Fault) (old mid new : BookState)
+    → Passes p None no_names moment old mid → (mid.is_clean ≡ true → clock ≡ max moment old.content.registry.clock) → Follows mid new
+    → IfOk result (λ code. code ≡ (deposit_decision p clock id cents).code) → OnOk result (Keeps mid new (with_changes p (deposit_decision p clock id cents).changes mid.content))
+    → IfOk result (λ code. OrderSteps p (orders.Deposit id cents) moment code old new)
+orders-paid p id cents moment clock (Ok code) old mid new first told keeping given kept = deposited-in p id cents moment clock code old mid new first told keeping given kept
+orders-paid p id cents moment clock (Err fault) old mid new first told keeping given kept = tt
+
+-- ---- hello in a book
+
+pub greeted : (p : PolicyRules) (moment date : ℕ) (old mid new : BookState) → Passes p None no_names moment old mid → (mid.is_clean ≡ true → date ≡ max moment old.content.registry.clock)
+    → Follows mid new → Commits mid new → Greets p moment date old new
+greeted p moment date old mid new first told committing kept clean =
+    let is = first.passed (committing.clean clean) in
+    record {
+      dated = told (committing.clean clean);
+      left = ap (λ (held : Stored). now p held.registry) (kept.content clean) ∙ is.future ∙ sym (now-lapsed p moment old.content.registry);
+    }
+
+-- ---- look-ups in a book
+
+pub reached-by : {X : Type 0} (p : PolicyRules) (find : Registry → X) (g : Names) (moment : ℕ) (old new : BookState)
+    → ((s : Registry) → IsSettledIn p (concerned None g s) s → find (now p s) ≡ find s) → Passes p None g moment old new → Reaches p find moment old new
+reached-by p find g moment old new stands first = record {
+  counted = first.counted;
+  opened = first.opened;
+  found = λ clean. let is = first.passed clean in sym (stands new.content.registry is.settled) ∙ ap find is.future;
+  future = λ clean. (first.passed clean).future;
+  terms = first.terms;
+  before = first.before;
+}
+
+pub reached-all : {X : Type 0} (p : PolicyRules) (find : Registry → X) (moment : ℕ) (old new : BookState) → Moves old new (at_moment p moment old.content) → Reaches p find moment old new
+reached-all p find moment old new moved = record {
+  counted = moved.counted;
+  opened = moved.opened;
+  found = λ clean. ap (λ (held : Stored). find held.registry) (moved.content clean);
+  future = λ clean. ap (λ (held : Stored). now p held.registry) (moved.content clean) ∙ now-lapsed p moment old.content.registry;
+  terms = λ clean. ap (λ (held : Stored). held.terms) (moved.content clean);
+  before = moved.before;
+}
+
+pub looked-up : {X : Type 0} (p : PolicyRules) (find : Registry → X) (moment : ℕ) (it : X) (old mid looked new : BookState)
+    → Reaches p find moment old mid → Follows mid looked → IsSame mid looked → (looked.is_clean ≡ true → it ≡ find mid.content.registry) → Follows looked new → Commits looked new
+    → LooksUp p find moment it old new
+looked-up p find moment it old mid looked new first looking same told committing kept clean =
+    let looked-clean : looked.is_clean ≡ true = committing.clean clean in
+    let mid-clean : mid.is_clean ≡ true = looking.clean looked-clean in
+    record {
+      told = told looked-clean ∙ first.found mid-clean;
+      left = ap (λ (held : Stored). now p held.registry) (kept.content clean ∙ same.content looked-clean) ∙ first.future mid-clean ∙ sym (now-lapsed p moment old.content.registry);
+    }
+
+pub looks-up : {X : Type 0} (p : PolicyRules) (find : Registry → X) (moment : ℕ) (it : X) (result : Result X Fault) (old mid looked new : BookState)
+    → Reaches p find moment old mid → Follows mid looked → IsSame mid looked → (looked.is_clean ≡ true → it ≡ find mid.content.registry) → Follows looked new
+    → IfOk result (λ found. found ≡ it) → OnOk result (Commits looked new) → IfOk result (λ found. LooksUp p find moment found old new)
+looks-up p find moment it (Ok found) old mid looked new first looking same told committing given kept =
+    looked-up p find moment found old mid looked new first looking same (λ clean. given ∙ told clean) committing kept
+looks-up p find moment it (Err fault) old mid looked new first looking same told committing given kept = tt

@@ -1,0 +1,12 @@
+use Rattle.concerns.specs.Names.{named_of}
+use Rattle.model.specs.Registry.{Registry}
+use Rattle.objects.specs.declared.roid.ObjectKind.TheVariants as kinds
+use Rattle.store.specs.Faces.{host_face_at}
+use Rattle.registry.proofs.FaceLemmas.{host-face-now}
+use Rattle.registry.proofs.PassingSteps.{reached-by}
+use Rattle.registry.proofs.faces.HostAtLookUp.reach.Goals as goal
+
+pub returns-clause-reached : goal.returns-clause-reached
+returns-clause-reached g c =
+    reached-by c.args.policy.now (λ (s : Registry). host_face_at c.args.policy.now s c.args.self.now.0.now) (named_of kinds.Host c.args.self.now.0.now) c.args.moment (g.B.Book.state c.args.book.now) (g.B.Book.state c.pass_with.new.book)
+    (host-face-now c.args.policy.now c.args.self.now.0.now) c.in_ok-pass_with.ensures.moved

@@ -1,0 +1,98 @@
+//! How time passes in an open transaction: what somebody asks for lapses, and all else that is due stays
+//! behind the clock until it is asked for or settled.
+ghost use Rattle.std.specs.Prelude.{◌≡◌, max, true, Some, None, IfOk, IfErr, OnOk};
+ghost use Rattle.concerns.specs.Names.{named_by, no_names};
+ghost use Rattle.registry.specs.Execution.{GoesBack};
+ghost use Rattle.registry.specs.Passing.{Passes, names_at};
+ghost use Rattle.store.specs.Book.{Follows};
+
+use crate::fault::Fault;
+use crate::lapse::{due_at, due_for, lapse_each};
+use crate::transaction::move_clock;
+use basis::registrar::RegistrarNo;
+use basis::text::Text;
+use calendar::Moment;
+use objects::ObjectKind;
+use policy::Policy;
+use protocol::Command;
+use std::alloc::Global;
+use store::Book;
+
+/// Lets time pass up to a moment, lets what concerns a registrar's command lapse, and gives the clock.
+pub(crate) fn pass_for<B: Book>(
+    book: &mut B,
+    alloc: Global,
+    caller: RegistrarNo,
+    command: &Command,
+    moment: Moment,
+    policy: &Policy,
+) -> Result<Moment, Fault>
+    requires { (B.state book.old).is_open ≡ true }
+    ensures moved { OnOk result (Passes policy.now (Some caller) (named_by command.now) moment (B.state book.old) (B.state book.new)) }
+    ensures clock { IfOk result (λ clock. (B.state book.new).is_clean ≡ true → clock ≡ max moment (B.state book.old).content.registry.clock) }
+    ensures fault { IfErr result (λ fault. GoesBack fault (B.state book.old) (B.state book.new)) }
+    ensures follows { Follows (B.state book.old) (B.state book.new) }
+{
+    let now = move_clock(book, alloc, moment, policy)?;
+    let due = due_for(book, caller, command, now, policy)?;
+    lapse_each(book, alloc, due, now, policy)?;
+    Ok(now)
+}
+
+/// The same for what an info of an object concerns, if its name is there; else nothing lapses.
+pub(crate) fn pass_at<B: Book>(
+    book: &mut B,
+    alloc: Global,
+    kind: ObjectKind,
+    name: &Option<Text>,
+    moment: Moment,
+    policy: &Policy,
+) -> Result<Moment, Fault>
+    requires { (B.state book.old).is_open ≡ true }
+    ensures moved { OnOk result (Passes policy.now None (names_at kind name.now) moment (B.state book.old) (B.state book.new)) }
+    ensures clock { IfOk result (λ clock. (B.state book.new).is_clean ≡ true → clock ≡ max moment (B.state book.old).content.registry.clock) }
+    ensures fault { IfErr result (λ fault. GoesBack fault (B.state book.old) (B.state book.new)) }
+    ensures follows { Follows (B.state book.old) (B.state book.new) }
+{
+    match name {
+        None => pass_alone(book, alloc, moment, policy),
+        Some(name) => pass_with(book, alloc, kind, name, moment, policy),
+    }
+}
+
+/// Lets time pass up to a moment, and gives the clock. Nothing lapses.
+pub(crate) fn pass_alone<B: Book>(
+    book: &mut B,
+    alloc: Global,
+    moment: Moment,
+    policy: &Policy,
+) -> Result<Moment, Fault>
+    requires { (B.state book.old).is_open ≡ true }
+    ensures moved { OnOk result (Passes policy.now None no_names moment (B.state book.old) (B.state book.new)) }
+    ensures clock { IfOk result (λ clock. (B.state book.new).is_clean ≡ true → clock ≡ max moment (B.state book.old).content.registry.clock) }
+    ensures fault { IfErr result (λ fault. GoesBack fault (B.state book.old) (B.state book.new)) }
+    ensures follows { Follows (B.state book.old) (B.state book.new) }
+{
+    move_clock(book, alloc, moment, policy)
+}
+
+/// The same for what an info of an object concerns.
+pub(crate) fn pass_with<B: Book>(
+    book: &mut B,
+    alloc: Global,
+    kind: ObjectKind,
+    name: &Text,
+    moment: Moment,
+    policy: &Policy,
+) -> Result<Moment, Fault>
+    requires { (B.state book.old).is_open ≡ true }
+    ensures moved { OnOk result (Passes policy.now None (names_at kind (Some name.now)) moment (B.state book.old) (B.state book.new)) }
+    ensures clock { IfOk result (λ clock. (B.state book.new).is_clean ≡ true → clock ≡ max moment (B.state book.old).content.registry.clock) }
+    ensures fault { IfErr result (λ fault. GoesBack fault (B.state book.old) (B.state book.new)) }
+    ensures follows { Follows (B.state book.old) (B.state book.new) }
+{
+    let now = move_clock(book, alloc, moment, policy)?;
+    let due = due_at(book, kind, name, now, policy)?;
+    lapse_each(book, alloc, due, now, policy)?;
+    Ok(now)
+}
