@@ -195,7 +195,14 @@ impl Run<'_> {
     ) -> Result<usize> {
         let end = format!(in alloc; "{exit}")?;
         let printed = after_replies(printed, replies_of(self.prelude));
-        compare(alloc, self.transcript, self.settled, printed, end.as_bytes(), differences)
+        compare(
+            alloc,
+            self.transcript,
+            self.settled,
+            printed,
+            end.as_bytes(),
+            differences,
+        )
     }
 }
 
@@ -245,159 +252,6 @@ fn moment_of(sent: &[u8]) -> &[u8] {
 /// Whether a reply tells how much a settlement did.
 fn tells_what_is_settled(reply: &[u8]) -> bool {
     reply.starts_with(b"{\"code\":1000,\"data\":{\"done\":")
-}
-
-/// How many replies must follow.
-    pub replies: usize,
-    /// How many of them are as written.
-    pub as_written: usize,
-    /// What differs, as it is printed.
-    pub differences: Vec<u8>,
-}
-
-/// What is settled before each line of a transcript, at that line's moment.
-#[derive(Clone, Copy)]
-enum Settled {
-    Nothing,
-    OneObject,
-    All,
-}
-
-impl Settled {
-    /// The operator's line behind its moment, if there is one.
-    fn order(self) -> Option<&'static [u8]> {
-        match self {
-            Settled::Nothing => None,
-            Settled::OneObject => Some(b" operator {\"at_most\":1,\"order\":\"settle\"}"),
-            Settled::All => Some(b" operator {\"at_most\":1000000,\"order\":\"settle\"}"),
-        }
-    }
-
-    /// The same before a line of a script, of which an empty one has no moment.
-    fn order_before(self, sent: &[u8]) -> Option<&'static [u8]> {
-        if sent.is_empty() {
-            return None;
-        }
-        self.order()
-    }
-}
-
-/// Runs a transcript under a policy, behind the lines of its prelude. Where its script is to end well, it is run
-/// with settlements before each of its lines, too: no reply hangs on them but those that tell how much a settlement
-/// did.
-pub fn run_transcript(
-    alloc: Global,
-    policy: &[u8],
-    prelude: &[Line<'_>],
-    transcript: Transcript<'_>,
-) -> Result<Outcome> {
-    let mut differences = Vec::new(alloc);
-    let mut as_written = replies_of(transcript.lines);
-    for settled in [Settled::Nothing, Settled::OneObject, Settled::All] {
-        if settled.order().is_none() || transcript.end().is_empty() {
-            let run = Run {
-                policy,
-                prelude,
-                transcript,
-                settled,
-            };
-            as_written = as_written.min(run.compared(alloc, &mut differences)?);
-        }
-    }
-    Ok(Outcome {
-        replies: replies_of(transcript.lines),
-        as_written,
-        differences,
-    })
-}
-
-/// A run of a transcript.
-#[derive(Clone, Copy)]
-struct Run<'a> {
-    policy: &'a [u8],
-    prelude: &'a [Line<'a>],
-    transcript: Transcript<'a>,
-    settled: Settled,
-}
-
-impl Run<'_> {
-    /// How many replies are as written over both books, that in the rows of a database and that in ordered maps;
-    /// what differs is added.
-    fn compared(self, alloc: Global, differences: &mut Vec<u8>) -> Result<usize> {
-        let script = self.script(alloc)?;
-        let mut printed = Vec::new(alloc);
-        let exit = run_script(alloc, self.policy, script.as_slice(), &mut printed);
-        let over_rows = self.judge(alloc, &printed, exit, differences)?;
-        let mut printed = Vec::new(alloc);
-        let exit = run_over_maps(alloc, self.policy, script.as_slice(), &mut printed);
-        let over_maps = self.judge(alloc, &printed, exit, differences)?;
-        Ok(over_rows.min(over_maps))
-    }
-
-    fn script(self, alloc: Global) -> Result<Vec<u8>> {
-        let mut script = Vec::new(alloc);
-        add_script(&mut script, self.prelude, Settled::Nothing)?;
-        add_script(&mut script, self.transcript.lines, self.settled)?;
-        Ok(script)
-    }
-
-    /// How many replies of what was printed, behind those of the prelude, are as written; what differs is added.
-    fn judge(
-        self,
-        alloc: Global,
-        printed: &[u8],
-        exit: Exit,
-        differences: &mut Vec<u8>,
-    ) -> Result<usize> {
-        let end = format!(in alloc; "{exit}")?;
-        let printed = after_replies(printed, replies_of(self.prelude));
-        compare(alloc, self.transcript, self.settled, printed, end.as_bytes(), differences)
-    }
-}
-
-/// Answers a script over a registry in ordered maps, which starts empty.
-fn run_over_maps(alloc: Global, policy: &[u8], script: &[u8], printed: &mut Vec<u8>) -> Exit {
-    let policy = match Policy::read(alloc, policy) {
-        Ok(policy) => policy,
-        Err(fault) => return Exit::Policy(fault),
-    };
-    match Registry::open(alloc, PlainBook::new(alloc), policy) {
-        Ok(mut registry) => {
-            let exit = run_on(alloc, &mut registry, script, printed);
-            drop(registry);
-            exit
-        }
-        Err((fault, book)) => {
-            drop(book);
-            Exit::Open(fault)
-        }
-    }
-}
-
-/// How many replies of what was printed, behind so many of the prelude, are as written; what differs is
-/// added.
-fn judge(
-    alloc: Global,
-    transcript: Transcript<'_>,
-    before: usize,
-    printed: &[u8],
-    exit: Exit,
-    differences: &mut Vec<u8>,
-) -> Result<usize> {
-    let end = format!(in alloc; "{exit}")?;
-    let printed = after_replies(printed, before);
-    compare(alloc, transcript, printed, end.as_bytes(), differences)
-}
-
-/// Adds the lines of the script.
-fn add_script(script: &mut Vec<u8>, lines: &[Line<'_>]) -> Result<()> {
-    for line in lines {
-        if let Mark::Sent(sent) = line.mark {
-            script.extend_from_slice(sent)?;
-            script.push(LINE_FEED)?;
-        }
-    }
-    Ok(())
 }
 
 /// How many replies must follow.
