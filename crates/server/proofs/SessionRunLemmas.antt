@@ -298,14 +298,14 @@ sessions-are-sent-the-same p caller (a ∷ xs) (b ∷ ys) s t x y same (firsts, 
     let carried : has_failed a.outcome ≡ false = text-carried-out a.outcome both.0 in
     let carried2 : has_failed b.outcome ≡ false = text-carried-out b.outcome both2.0 in
     let asked : asked_by caller b ≡ asked_by caller a =
-        asked-some caller b carried2 ∙ sym (λ i. map (λ (q : Question). (moments i, q)) (questions_said caller (payloads i))) ∙ sym (asked-some caller a carried) in
+    asked-some caller b carried2 ∙ sym (λ i. map (λ (q : Question). (moments i, q)) (questions_said caller (payloads i))) ∙ sym (asked-some caller a carried) in
     let answered : (firsts ≡ seconds) × (now p u ≡ now p v) =
-        answers-are-determined p (asked_by caller a) firsts seconds s t u v same run (subst (λ (qs : List (ℕ × Question)). IsRun p qs seconds t v) asked run2) in
+    answers-are-determined p (asked_by caller a) firsts seconds s t u v same run (subst (λ (qs : List (ℕ × Question)). IsRun p qs seconds t v) asked run2) in
     let outcomes : a.outcome ≡ b.outcome =
-        text-told (outcome_by p caller a.payload firsts) a.outcome both.0 (told carried)
-        ∙ (λ i. outcome_by p caller (payloads i) (answered.0 i))
-        ∙ sym (text-told (outcome_by p caller b.payload seconds) b.outcome both2.0 (told2 carried2)) in
+    text-told (outcome_by p caller a.payload firsts) a.outcome both.0 (told carried)
+    ∙ (λ i. outcome_by p caller (payloads i) (answered.0 i))
+    ∙ sym (text-told (outcome_by p caller b.payload seconds) b.outcome both2.0 (told2 carried2)) in
     let turns : a ≡ b = λ i. record { payload = payloads i; moment = moments i; outcome = outcomes i } in
     let rest = sessions-are-sent-the-same p (caller_after p caller a) xs ys u v x y answered.1 more
-        (subst (λ (c : Option ℕ). AreAnswered p c ys v y) (sym (ap (caller_after p caller) turns)) more2) (ap (drop 1) alike) both.1 both2.1 in
+    (subst (λ (c : Option ℕ). AreAnswered p c ys v y) (sym (ap (caller_after p caller) turns)) more2) (ap (drop 1) alike) both.1 both2.1 in
     ((λ i. turns i ∷ rest.0 i), rest.1)
