@@ -3,3 +3,4 @@ pub mod Http
 pub mod Connections
 pub mod HandOver
 pub mod Public
+pub mod SessionRuns

@@ -1,6 +1,7 @@
 //! What the first byte of a connection tells, and what everyone can tell.
 ghost use Rattle.server.specs.Connections.{FramesBeginConnections};
 ghost use Rattle.server.specs.Public.{PublicTextsAgree};
+ghost use Rattle.server.specs.SessionRuns.{SessionsAreAnswered, SessionsAreRuns, SessionsAreSentTheSame};
 
 /// Every frame begins a connection of EPP, so none is taken for another protocol.
 pub fn frames_begin_connections()
@@ -12,4 +13,13 @@ pub fn frames_begin_connections()
 /// nothing of an account.
 pub fn public_texts_agree()
     ensures { PublicTextsAgree }
+{}
+
+/// A session is its frames, answered one after another, and they are a run of the registry: what is said of
+/// runs is said of sessions, to the byte. So are two sessions with the same frames at the same moments sent the
+/// same, in registries that are the same by then, whatever was settled before.
+pub fn sessions_are_runs()
+    ensures answered { SessionsAreAnswered }
+    ensures runs { SessionsAreRuns }
+    ensures same { SessionsAreSentTheSame }
 {}

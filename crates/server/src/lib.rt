@@ -19,6 +19,6 @@ pub use at_moment::AtMoment;
 pub use clock::MachineClock;
 pub use connection::{ConnectionEnd, Served, serve_one};
 pub use http::HttpEnd;
-pub use laws::{frames_begin_connections, public_texts_agree};
+pub use laws::{frames_begin_connections, public_texts_agree, sessions_are_runs};
 pub use listener::serve_each;
 pub use zone::{HandOverFault, zone_on};

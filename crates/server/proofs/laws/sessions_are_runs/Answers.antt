@@ -1,0 +1,11 @@
+use Rattle.server.proofs.SessionRunLemmas.{sessions-are-answered, sessions-are-runs, sessions-are-sent-the-same}
+use Rattle.server.proofs.laws.sessions_are_runs.Goals as goal
+
+pub returns-clause-answered : goal.returns-clause-answered
+returns-clause-answered c = sessions-are-answered
+
+pub returns-clause-runs : goal.returns-clause-runs
+returns-clause-runs c = sessions-are-runs
+
+pub returns-clause-same : goal.returns-clause-same
+returns-clause-same c = sessions-are-sent-the-same

@@ -1,0 +1,138 @@
+-- A session as a run of the registry: what its frames ask, one after another, and what is sent for the answers.
+use Rattle.std.specs.Prelude.{◌≡◌, ℕ, Bool, true, false, if◌then◌else◌, List, [], ◌∷◌, ◌++◌, map, take, Option, Some, None}
+use Rattle.std.specs.List.{list_all}
+use Rattle.eppcommands.specs.Session.{before_login, in_session}
+use Rattle.eppframes.specs.Frames.{frame}
+use Rattle.eppframes.specs.Texts.{closing_text}
+use Rattle.eppsessions.specs.Answers.{Tells, caller_of, greeting_outcome, login_code, nobodys_outcome, reply_outcome}
+use Rattle.model.specs.Lapse.{now}
+use Rattle.model.specs.Registry.{Registry}
+use Rattle.policy.specs.Rules.{PolicyRules}
+use Rattle.privacy.specs.Runs.{Answer, Question, code, command, date, dated, reply, shown}
+use Rattle.protocol.specs.declared.session.BeforeLogin.{BeforeLogin}
+use Rattle.protocol.specs.declared.session.BeforeLogin.TheVariants as before
+use Rattle.protocol.specs.declared.session.InSession.{InSession}
+use Rattle.protocol.specs.declared.session.InSession.TheVariants as within
+use Rattle.protocol.specs.Codes.{code_of_form}
+use Rattle.runs.specs.Runs.{IsRun}
+use Rattle.sessions.specs.Outcomes.{Outcome, ended, failed, lost, replied}
+use Rattle.sessions.specs.Sessions.{Session, Standing, Turn, frames}
+use Rattle.sessions.specs.declared.session.SessionEnd.{SessionEnd}
+use Rattle.server.specs.Connections.{AnswersAt, Desk}
+
+-- ---- what a frame asks
+
+-- what a registrar says that is logged in (RFC 5730, 2.4, 2.5)
+abbrev pub question_within : ℕ → InSession → Question
+question_within r within.Hello = date
+question_within r (within.Ordinary c) = command r c
+
+-- before that hello alone asks the registry
+abbrev pub questions_before : BeforeLogin → List Question
+questions_before before.Hello = date ∷ []
+questions_before (before.Login cl_trid c) = []
+questions_before (before.Refused cl_trid fault) = []
+
+abbrev pub questions_said : Option ℕ → List ℕ → List Question
+questions_said None payload = questions_before (before_login payload)
+questions_said (Some r) payload = question_within r (in_session payload) ∷ []
+
+abbrev pub has_failed : Outcome → Bool
+has_failed (replied text) = false
+has_failed (ended text) = false
+has_failed failed = true
+has_failed lost = false
+
+-- by its moment; a frame that failed asked nothing
+abbrev pub asked_by : Option ℕ → Turn → List (ℕ × Question)
+asked_by caller turn = if has_failed turn.outcome then [] else map (λ q. (turn.moment, q)) (questions_said caller turn.payload)
+
+-- ---- who sends the next one
+
+abbrev pub caller_with : PolicyRules → BeforeLogin → Option ℕ
+caller_with p before.Hello = None
+caller_with p (before.Login cl_trid c) = caller_of p c
+caller_with p (before.Refused cl_trid fault) = None
+
+abbrev pub caller_after : PolicyRules → Option ℕ → Turn → Option ℕ
+caller_after p None turn = if has_failed turn.outcome then None else caller_with p (before_login turn.payload)
+caller_after p (Some r) turn = Some r
+
+-- ---- what is sent for the answers
+
+abbrev pub outcome_told : Answer → Outcome
+outcome_told (reply it) = reply_outcome it
+outcome_told (dated moment) = greeting_outcome moment
+outcome_told (code it) = failed
+outcome_told (shown s) = failed
+
+abbrev pub first_told : List Answer → Outcome
+first_told [] = failed
+first_told (a ∷ answers) = outcome_told a
+
+abbrev pub outcome_before : PolicyRules → BeforeLogin → List Answer → Outcome
+outcome_before p before.Hello answers = first_told answers
+outcome_before p (before.Login cl_trid c) answers = nobodys_outcome cl_trid (login_code p c)
+outcome_before p (before.Refused cl_trid fault) answers = nobodys_outcome cl_trid (code_of_form fault)
+
+-- of a frame, by the answers to what it asks
+abbrev pub outcome_by : PolicyRules → Option ℕ → List ℕ → List Answer → Outcome
+outcome_by p None payload answers = outcome_before p (before_login payload) answers
+outcome_by p (Some r) payload answers = first_told answers
+
+-- ---- frames one after another
+
+-- Each asks what it asks, and a frame that didn't fail is sent what the answers come to, unless that found no memory.
+abbrev pub AreAnswered : PolicyRules → Option ℕ → List Turn → Registry → Registry → Type 0
+AreAnswered p caller [] old new = new ≡ old
+AreAnswered p caller (turn ∷ turns) old new =
+    (answers : List Answer) × (between : Registry)
+    × IsRun p (asked_by caller turn) answers old between
+    × (has_failed turn.outcome ≡ false → Tells (outcome_by p caller turn.payload answers) turn.outcome)
+    × AreAnswered p (caller_after p caller turn) turns between new
+
+-- all that they ask
+abbrev pub asked_over : PolicyRules → Option ℕ → List Turn → List (ℕ × Question)
+asked_over p caller [] = []
+asked_over p caller (turn ∷ turns) = asked_by caller turn ++ asked_over p (caller_after p caller turn) turns
+
+-- The frames of a session, the last among them: they are answered one after another, and what was written is what is
+-- sent for them, or a beginning of it; the closing text may come last.
+pub record IsAnsweredAll (p : PolicyRules) (old : Desk) (written : List ℕ) (new : Desk) : Type 0 where
+  pub turns : List Turn
+  pub answered : AreAnswered p old.caller turns old.book.content.registry new.book.content.registry
+  pub length : ℕ
+  pub bytes : written ≡ take length (frames turns ++ frame closing_text)
+
+-- ---- laws
+
+-- A session with the book of a registry, from which nothing wrong was taken by its end, is its frames answered.
+abbrev pub SessionsAreAnswered : Type 0
+SessionsAreAnswered = (p : PolicyRules) (old new : Standing Desk) (written : List ℕ) (end : SessionEnd)
+    → Session (AnswersAt p) old written new end → new.peer.book.is_clean ≡ true → IsAnsweredAll p old.peer written new.peer
+
+-- Frames that are answered one after another are a run, so that the laws of runs say of sessions what they say.
+abbrev pub SessionsAreRuns : Type 0
+SessionsAreRuns = (p : PolicyRules) (caller : Option ℕ) (turns : List Turn) (old new : Registry)
+    → AreAnswered p caller turns old new → (answers : List Answer) × IsRun p (asked_over p caller turns) answers old new
+
+-- it was carried out, and its text found memory
+abbrev pub has_text : Outcome → Bool
+has_text (replied text) = true
+has_text (ended text) = true
+has_text failed = false
+has_text lost = false
+
+abbrev pub are_sent : List Turn → Bool
+are_sent turns = list_all (λ turn. has_text turn.outcome) turns
+
+-- what is said, and when
+abbrev pub said : List Turn → List (ℕ × List ℕ)
+said turns = map (λ turn. (turn.moment, turn.payload)) turns
+
+-- The same frames at the same moments, in registries that are the same now, whatever was settled before: where each is
+-- sent a text, each is sent the same bytes, and what is left is the same now.
+abbrev pub SessionsAreSentTheSame : Type 0
+SessionsAreSentTheSame = (p : PolicyRules) (caller : Option ℕ) (xs ys : List Turn) (s t x y : Registry)
+    → now p s ≡ now p t → AreAnswered p caller xs s x → AreAnswered p caller ys t y
+    → said xs ≡ said ys → are_sent xs ≡ true → are_sent ys ≡ true → (xs ≡ ys) × (now p x ≡ now p y)
