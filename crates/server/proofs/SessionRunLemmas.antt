@@ -1,14 +1,13 @@
 -- The frames of a session are answered one after another, and that is a run.
 use Rattle.std.proofs.Common.{◌≡◌, ◌⊎◌, inl, inr, ℕ, zero, suc, Bool, true, false, true≢false, List, [], ◌∷◌, ◌++◌, map, take, drop, Option, Some, None, refl, sym, ap, subst, ◌∙◌, append_assoc, append-nil}
 use Rattle.std.specs.Prelude.{if◌then◌else◌}
-use Rattle.std.specs.List.{flat_map, list_all}
 use Rattle.std.proofs.lemmas.Bool.{and_parts}
 use Rattle.std.proofs.lemmas.Grind.{flat_map-append}
 use Rattle.eppcommands.specs.Session.{before_login, in_session}
 use Rattle.eppframes.specs.Frames.{frame}
 use Rattle.eppframes.specs.Texts.{closing_text}
 use Rattle.eppreplies.specs.Reply.{reply_text}
-use Rattle.eppsessions.specs.Answers.{AnswersHello, AnswersOpening, AnswersRegistrar, AnswersSaid, AnswersStranger, GivesUp, IsGreeted, Tells, is_last}
+use Rattle.eppsessions.specs.Answers.{AnswersHello, AnswersOpening, AnswersRegistrar, AnswersSaid, AnswersStranger, GivesUp, Tells, is_last}
 use Rattle.eppsessions.proofs.FollowLemmas.{answers_follow, follows_on, same_follows}
 use Rattle.model.specs.Lapse.{now}
 use Rattle.model.specs.Registry.{Registry}
@@ -21,11 +20,11 @@ use Rattle.protocol.specs.declared.session.InSession.TheVariants as within
 use Rattle.runs.specs.Runs.{IsRun}
 use Rattle.runs.proofs.SettlementLemmas.{answers-are-determined}
 use Rattle.sessions.specs.Outcomes.{Outcome, ended, failed, lost, replied, sent}
-use Rattle.sessions.specs.Sessions.{Ends, IsTurn, Rests, Run, Session, Standing, Turn, frames}
+use Rattle.sessions.specs.Sessions.{Ends, IsTurn, Rests, Run, Standing, Turn, frames}
 use Rattle.sessions.specs.declared.session.SessionEnd.{SessionEnd}
 use Rattle.sessions.specs.declared.session.SessionEnd.TheVariants.{Logout, End, Cut, Length, ReadFault, WriteFault, Lost}
 use Rattle.server.specs.Connections.{AnswersAt, Desk}
-use Rattle.server.specs.SessionRuns.{AreAnswered, IsAnsweredAll, SessionsAreAnswered, SessionsAreRuns, SessionsAreSentTheSame, are_sent, asked_by, asked_over, caller_after, caller_with, has_failed, has_text, outcome_before, outcome_by, outcome_told, question_within, questions_before, questions_said, said}
+use Rattle.server.specs.SessionRuns.{AreAnswered, IsAnsweredAll, SessionsAreAnswered, SessionsAreRuns, SessionsAreSentTheSame, are_sent, asked_by, asked_over, caller_after, caller_with, has_failed, has_text, outcome_before, outcome_by, outcome_told, question_within, questions_before, questions_said}
 use Rattle.store.specs.Book.{BookState, Follows, Stored}
 
 -- ---- one frame
@@ -35,7 +34,7 @@ record IsOne (p : PolicyRules) (caller : Option ℕ) (turn : Turn) (old new : Re
   pub answers : List Answer
   pub run : IsRun p (asked_by caller turn) answers old new
   pub told : has_failed turn.outcome ≡ false → Tells (outcome_by p caller turn.payload answers) turn.outcome
-  pub caller : next ≡ caller_after p caller turn
+  pub sender : next ≡ caller_after p caller turn
 
 asked-none : (caller : Option ℕ) (turn : Turn) → has_failed turn.outcome ≡ true → asked_by caller turn ≡ []
 asked-none caller turn e = ap (λ (b : Bool). let xs : List (ℕ × Question) = if b then [] else map (λ q. (turn.moment, q)) (questions_said caller turn.payload) in xs) e
@@ -54,7 +53,7 @@ one-failed p caller turn old new next gave same stays =
       answers = [];
       run = subst (λ (xs : List (ℕ × Question)). IsRun p xs [] old new) (sym (asked-none caller turn is)) (refl, same);
       told = λ e. absurd (true≢false (sym is ∙ e));
-      caller = stays ∙ sym (caller-failed p caller turn is);
+      sender = stays ∙ sym (caller-failed p caller turn is);
     }
 
 one-answered : (p : PolicyRules) (caller : Option ℕ) (turn : Turn) (old new : Registry) (next : Option ℕ) (answers : List Answer) → has_failed turn.outcome ≡ false
@@ -64,7 +63,7 @@ one-answered p caller turn old new next answers is run told stays = record {
   answers = answers;
   run = subst (λ (xs : List (ℕ × Question)). IsRun p xs answers old new) (sym (asked-some caller turn is)) run;
   told = λ e. told;
-  caller = stays;
+  sender = stays;
 }
 
 told-so : (wanted outcome : Outcome) → has_failed wanted ≡ false → Tells wanted outcome → has_failed outcome ≡ false
@@ -184,7 +183,7 @@ answered-on : (p : PolicyRules) (turns rest : List Turn) (old mid : Standing Des
 answered-on p [] rest old mid new same clean more = subst (λ (s : Standing Desk). AreAnswered p s.peer.caller rest s.peer.book.content.registry new) same more
 answered-on p (turn ∷ turns) rest old mid new (goes, next, is, run) clean more =
     let one = one-turn p old.peer.caller next.peer.caller turn old.peer.book next.peer.book is.outcome ((run-follows p turns next mid run).clean clean) in
-    (one.answers, next.peer.book.content.registry, one.run, one.told, subst (λ (c : Option ℕ). AreAnswered p c (turns ++ rest) next.peer.book.content.registry new) one.caller (answered-on p turns rest next mid new run clean more))
+    (one.answers, next.peer.book.content.registry, one.run, one.told, subst (λ (c : Option ℕ). AreAnswered p c (turns ++ rest) next.peer.book.content.registry new) one.sender (answered-on p turns rest next mid new run clean more))
 
 answered-last : (p : PolicyRules) (turn : Turn) (old new : Standing Desk) → IsTurn (AnswersAt p) turn old new → new.peer.book.is_clean ≡ true
     → AreAnswered p old.peer.caller (turn ∷ []) old.peer.book.content.registry new.peer.book.content.registry
@@ -222,7 +221,7 @@ module _ (p : PolicyRules) (turns : List Turn) (old mid new : Standing Desk) (wr
       record {
         turns = turns ++ [];
         answered = subst (λ (d : Desk). AreAnswered p old.peer.caller (turns ++ []) old.peer.book.content.registry d.book.content.registry) peer
-            (answered-on p turns [] old mid mid.peer.book.content.registry run (ap (λ (d : Desk). d.book.is_clean) (sym peer) ∙ clean) refl);
+            (answered-on p turns [] old mid mid.peer.book.content.registry run (ap (λ (d : Desk). d.book.is_clean) peer ∙ clean) refl);
         length = it.0;
         bytes = bytes ∙ it.1 ∙ ap (λ (ts : List Turn). take it.0 (frames ts ++ frame closing_text)) (sym (append-nil turns));
       }
