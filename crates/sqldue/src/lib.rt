@@ -6,8 +6,11 @@
 //! other days than those that the rows were written under.
 #![tactic(auto)]
 
+mod by_names;
+mod by_registrar;
 mod checking;
 mod finding;
+mod joining;
 mod length;
 mod near;
 
