@@ -62,10 +62,9 @@ use Rattle.concerns.specs.Concerns.{IsSettledIn, concerned, is_about, without}
 use Rattle.concerns.proofs.PostedLemmas.{AllPost, IsElsewhere, contact-elsewhere, domain-elsewhere, post-both, post-given, post-weaker}
 use Rattle.concerns.proofs.ConcernLemmas.{is_in}
 use Rattle.concerns.proofs.FactsLemmas.{contact-not-about, domain-not-about, roid-off}
-use Rattle.rules.proofs.LineEntryLemmas.{AllOff, IsOff}
-use Rattle.concerns.proofs.OffLemmas.{on-one, same_name}
-use Rattle.concerns.proofs.OffLemmas.{completed-off, domain-off}
-use Rattle.rules.proofs.NamedLemmas.{drop-cases, put-cases, remade-cases}
+use Rattle.rules.proofs.LineEntryLemmas.{AllOff, IsOff, on-one}
+use Rattle.rules.proofs.LineTimeLemmas.{completed-off, domain-off}
+use Rattle.rules.proofs.NamedLemmas.{drop-cases, put-cases, remade-cases, same_name}
 
 -- ---- a sweep of a map, one of whose names it leaves alone
 

@@ -67,7 +67,7 @@ use Rattle.concerns.proofs.PostedLemmas.{AllPost, IsElsewhere, contact-elsewhere
 use Rattle.concerns.proofs.ConcernLemmas.{any-in, any-read, in-filter_map, in-first, in-itself, in-second, is_in}
 use Rattle.rules.proofs.LapsedLemmas.{domain-left}
 use Rattle.rules.proofs.LineEntryLemmas.{AllOff, IsKeptOff, entered_lines, keep-posted, off-both, off-keep}
-use Rattle.concerns.proofs.OffLemmas.{completed-off, domain-off}
+use Rattle.rules.proofs.LineTimeLemmas.{completed-off, domain-off}
 use Rattle.rules.proofs.PostingLemmas.{due-is}
 use Rattle.rules.proofs.TransferLemmas.{graces-elsewhere}
 

@@ -1,4 +1,3 @@
-pub mod OffLemmas
 pub mod PostedLemmas
 pub mod ConcernLemmas
 pub mod FactsLemmas

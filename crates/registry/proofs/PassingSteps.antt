@@ -19,8 +19,8 @@ use Rattle.protocol.specs.declared.order.Order.TheVariants as orders
 use Rattle.protocol.specs.declared.order.StatusOrder.{StatusOrder}
 use Rattle.protocol.specs.declared.reply.Reply.{Reply}
 use Rattle.protocol.specs.Orders.{name_ordered}
-use Rattle.registry.specs.declared.registry.Prepared.{Prepared}
-use Rattle.registry.specs.Execution.{Greets, IsGreetingStep, IsOrderStep, IsPrepared, IsStep, Keeps, OrderSteps, Steps, at_moment}
+use Rattle.registry.specs.declared.command.Prepared.{Prepared}
+use Rattle.registry.specs.Execution.{Greets, IsGreetingStep, IsOrderStep, IsPrepared, IsStep, OrderSteps, Steps, at_moment}
 use Rattle.registry.specs.Faces.{LooksUp}
 use Rattle.registry.specs.Lapsing.{dues_lapsed, with_dues_lapsed}
 use Rattle.registry.specs.Passing.{IsPassed, Passes, Reaches, names_at, status_at}
@@ -33,7 +33,7 @@ use Rattle.rules.specs.Orders.{deposit_decision, order_answer, order_effect}
 use Rattle.rules.specs.Steps.{answer, effect, reply_of}
 use Rattle.registry.specs.declared.fault.Fault.{Fault}
 use Rattle.store.specs.declared.due.Due.{Due}
-use Rattle.store.specs.Book.{BookState, Commits, Follows, IsSame, Moves, Stored, with_changes}
+use Rattle.store.specs.Book.{BookState, Follows, IsSame, Moves, Stored, with_changes}
 use Rattle.store.specs.Due.{due_for}
 
 -- ---- of a registry
@@ -128,7 +128,7 @@ module _ (p : PolicyRules) (moment : ℕ) (before mid after : Registry) where
 pub executed : (p : PolicyRules) (r : ℕ) (c : Command) (moment clock : ℕ) (prepared : Prepared) (reply : Reply) (old mid looked new : BookState)
     → Passes p (Some r) (named_by c) moment old mid → (mid.is_clean ≡ true → clock ≡ max moment old.content.registry.clock) → Follows mid looked
     → IsSame mid looked → (looked.is_clean ≡ true → IsPrepared p r c clock (facts p r c mid.content.registry) prepared) → Follows looked new
-    → reply ≡ prepared.reply → Keeps looked new (with_changes p prepared.changes looked.content) → Steps p r c moment reply old new
+    → reply ≡ prepared.reply → Moves looked new (with_changes p prepared.changes looked.content) → Steps p r c moment reply old new
 executed p r c moment clock prepared reply old mid looked new first told looking same decided-so keeping given kept clean =
     let looked-clean : looked.is_clean ≡ true = keeping.clean clean in
     let mid-clean : mid.is_clean ≡ true = looking.clean looked-clean in
@@ -145,7 +145,7 @@ executed p r c moment clock prepared reply old mid looked new first told looking
 pub executes : (p : PolicyRules) (r : ℕ) (c : Command) (moment clock : ℕ) (prepared : Prepared) (result : Result Reply Fault) (old mid looked new : BookState)
     → Passes p (Some r) (named_by c) moment old mid → (mid.is_clean ≡ true → clock ≡ max moment old.content.registry.clock) → Follows mid looked
     → IsSame mid looked → (looked.is_clean ≡ true → IsPrepared p r c clock (facts p r c mid.content.registry) prepared) → Follows looked new
-    → IfOk result (λ reply. reply ≡ prepared.reply) → OnOk result (Keeps looked new (with_changes p prepared.changes looked.content)) → IfOk result (λ reply. Steps p r c moment reply old new)
+    → IfOk result (λ reply. reply ≡ prepared.reply) → OnOk result (Moves looked new (with_changes p prepared.changes looked.content)) → IfOk result (λ reply. Steps p r c moment reply old new)
 executes p r c moment clock prepared (Ok reply) old mid looked new first told looking same decided-so keeping given kept = executed p r c moment clock prepared reply old mid looked new first told looking same decided-so keeping given kept
 executes p r c moment clock prepared (Err fault) old mid looked new first told looking same decided-so keeping given kept = tt
 
@@ -161,7 +161,7 @@ now-lapsed p moment s = lapses-on p (max moment s.clock) (max moment s.clock) (o
 
 pub ordered : (p : PolicyRules) (o : StatusOrder) (moment : ℕ) (name : Option (List ℕ)) (code : Code) (old mid new : BookState)
     → name ≡ name_ordered p.zone o → Passes p None (names_at o.kind name) moment old mid → Follows mid new
-    → (new.is_clean ≡ true → code ≡ (status_at o name mid.content.registry).code) → Keeps mid new (with_changes p (status_at o name mid.content.registry).changes mid.content)
+    → (new.is_clean ≡ true → code ≡ (status_at o name mid.content.registry).code) → Moves mid new (with_changes p (status_at o name mid.content.registry).changes mid.content)
     → OrderSteps p (orders.Status o) moment code old new
 ordered p o moment name code old mid new named first keeping told kept clean =
     let is = first.passed (keeping.clean clean) in
@@ -175,7 +175,7 @@ ordered p o moment name code old mid new named first keeping told kept clean =
 
 pub deposited-in : (p : PolicyRules) (id : List ℕ) (cents : ℤ) (moment clock : ℕ) (code : Code) (old mid new : BookState)
     → Passes p None no_names moment old mid → (mid.is_clean ≡ true → clock ≡ max moment old.content.registry.clock) → Follows mid new
-    → code ≡ (deposit_decision p clock id cents).code → Keeps mid new (with_changes p (deposit_decision p clock id cents).changes mid.content)
+    → code ≡ (deposit_decision p clock id cents).code → Moves mid new (with_changes p (deposit_decision p clock id cents).changes mid.content)
     → OrderSteps p (orders.Deposit id cents) moment code old new
 deposited-in p id cents moment clock code old mid new first told keeping given kept clean =
     let is = first.passed (keeping.clean clean) in
@@ -189,7 +189,7 @@ deposited-in p id cents moment clock code old mid new first told keeping given k
 
 pub orders-set : {E : Type 0} (p : PolicyRules) (o : StatusOrder) (moment : ℕ) (name : Option (List ℕ)) (made : Result (Option (List ℕ)) E) (result : Result Code Fault) (old tried mid new : BookState)
     → IfOk made (λ n. n ≡ name_ordered p.zone o) → made ≡ Ok name → tried ≡ old → Passes p None (names_at o.kind name) moment tried mid → Follows mid new
-    → IfOk result (λ code. new.is_clean ≡ true → code ≡ (status_at o name mid.content.registry).code) → OnOk result (Keeps mid new (with_changes p (status_at o name mid.content.registry).changes mid.content))
+    → IfOk result (λ code. new.is_clean ≡ true → code ≡ (status_at o name mid.content.registry).code) → OnOk result (Moves mid new (with_changes p (status_at o name mid.content.registry).changes mid.content))
     → IfOk result (λ code. OrderSteps p (orders.Status o) moment code old new)
 orders-set {E} p o moment name made (Ok code) old tried mid new read is same first keeping told kept =
     ordered p o moment name code old mid new (subst (λ (m : Result (Option (List ℕ)) E). IfOk m (λ n. n ≡ name_ordered p.zone o)) is read) (subst (λ (b : BookState). Passes p None (names_at o.kind name) moment b mid) same first) keeping told kept
@@ -197,21 +197,20 @@ orders-set p o moment name made (Err fault) old tried mid new read is same first
 
 pub orders-paid : (p : PolicyRules) (id : List ℕ) (cents : ℤ) (moment clock : ℕ) (result : Result Code Fault) (old mid new : BookState)
     → Passes p None no_names moment old mid → (mid.is_clean ≡ true → clock ≡ max moment old.content.registry.clock) → Follows mid new
-    → IfOk result (λ code. code ≡ (deposit_decision p clock id cents).code) → OnOk result (Keeps mid new (with_changes p (deposit_decision p clock id cents).changes mid.content))
+    → IfOk result (λ code. code ≡ (deposit_decision p clock id cents).code) → OnOk result (Moves mid new (with_changes p (deposit_decision p clock id cents).changes mid.content))
     → IfOk result (λ code. OrderSteps p (orders.Deposit id cents) moment code old new)
 orders-paid p id cents moment clock (Ok code) old mid new first told keeping given kept = deposited-in p id cents moment clock code old mid new first told keeping given kept
 orders-paid p id cents moment clock (Err fault) old mid new first told keeping given kept = tt
 
 -- ---- hello in a book
 
-pub greeted : (p : PolicyRules) (moment date : ℕ) (old mid new : BookState) → Passes p None no_names moment old mid → (mid.is_clean ≡ true → date ≡ max moment old.content.registry.clock)
-    → Follows mid new → Commits mid new → Greets p moment date old new
-greeted p moment date old mid new first told committing kept clean =
-    let is = first.passed (committing.clean clean) in
-    record {
-      dated = told (committing.clean clean);
-      left = ap (λ (held : Stored). now p held.registry) (kept.content clean) ∙ is.future ∙ sym (now-lapsed p moment old.content.registry);
-    }
+pub greets : (p : PolicyRules) (moment : ℕ) (result : Result ℕ Fault) (old new : BookState) → OnOk result (Passes p None no_names moment old new)
+    → IfOk result (λ date. new.is_clean ≡ true → date ≡ max moment old.content.registry.clock) → IfOk result (λ date. Greets p moment date old new)
+greets p moment (Ok date) old new first told clean = record {
+  dated = told clean;
+  left = (first.passed clean).future ∙ sym (now-lapsed p moment old.content.registry);
+}
+greets p moment (Err fault) old new first told = tt
 
 -- ---- look-ups in a book
 
@@ -236,20 +235,17 @@ reached-all p find moment old new moved = record {
   before = moved.before;
 }
 
-pub looked-up : {X : Type 0} (p : PolicyRules) (find : Registry → X) (moment : ℕ) (it : X) (old mid looked new : BookState)
-    → Reaches p find moment old mid → Follows mid looked → IsSame mid looked → (looked.is_clean ≡ true → it ≡ find mid.content.registry) → Follows looked new → Commits looked new
-    → LooksUp p find moment it old new
-looked-up p find moment it old mid looked new first looking same told committing kept clean =
-    let looked-clean : looked.is_clean ≡ true = committing.clean clean in
-    let mid-clean : mid.is_clean ≡ true = looking.clean looked-clean in
+pub looked-up : {X : Type 0} (p : PolicyRules) (find : Registry → X) (moment : ℕ) (it : X) (old mid new : BookState)
+    → Reaches p find moment old mid → Follows mid new → IsSame mid new → (new.is_clean ≡ true → it ≡ find mid.content.registry) → LooksUp p find moment it old new
+looked-up p find moment it old mid new first looking same told clean =
+    let mid-clean : mid.is_clean ≡ true = looking.clean clean in
     record {
-      told = told looked-clean ∙ first.found mid-clean;
-      left = ap (λ (held : Stored). now p held.registry) (kept.content clean ∙ same.content looked-clean) ∙ first.future mid-clean ∙ sym (now-lapsed p moment old.content.registry);
+      told = told clean ∙ first.found mid-clean;
+      left = ap (λ (held : Stored). now p held.registry) (same.content clean) ∙ first.future mid-clean ∙ sym (now-lapsed p moment old.content.registry);
     }
 
-pub looks-up : {X : Type 0} (p : PolicyRules) (find : Registry → X) (moment : ℕ) (it : X) (result : Result X Fault) (old mid looked new : BookState)
-    → Reaches p find moment old mid → Follows mid looked → IsSame mid looked → (looked.is_clean ≡ true → it ≡ find mid.content.registry) → Follows looked new
-    → IfOk result (λ found. found ≡ it) → OnOk result (Commits looked new) → IfOk result (λ found. LooksUp p find moment found old new)
-looks-up p find moment it (Ok found) old mid looked new first looking same told committing given kept =
-    looked-up p find moment found old mid looked new first looking same (λ clean. given ∙ told clean) committing kept
-looks-up p find moment it (Err fault) old mid looked new first looking same told committing given kept = tt
+pub looks-up : {X : Type 0} (p : PolicyRules) (find : Registry → X) (moment : ℕ) (result : Result X Fault) (old mid new : BookState)
+    → Reaches p find moment old mid → Follows mid new → OnOk result (IsSame mid new) → IfOk result (λ it. new.is_clean ≡ true → it ≡ find mid.content.registry)
+    → IfOk result (λ found. LooksUp p find moment found old new)
+looks-up p find moment (Ok found) old mid new first looking same told = looked-up p find moment found old mid new first looking same told
+looks-up p find moment (Err fault) old mid new first looking same told = tt

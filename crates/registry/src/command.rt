@@ -9,7 +9,8 @@ ghost use Rattle.verdict.specs.ResponseData.{id_of};
 ghost use Rattle.protocol.specs.Requests.{cl_trid_of};
 
 use crate::fault::Fault;
-use crate::transaction::{advance_clock, apply, facts_for, or_rollback};
+use crate::passing::pass_for;
+use crate::transaction::{apply, facts_for, or_rollback};
 use crate::work::Work;
 use basis::list::Seq;
 use basis::registrar::RegistrarNo;
@@ -58,7 +59,7 @@ fn execute_in<B: Book>(
     ensures follows { Follows (B.state book.old) (B.state book.new) }
     ensures leaves { LeavesSame (B.state book.old) (B.state book.new) }
 {
-    let now = advance_clock(book, alloc, moment, policy)?;
+    let now = pass_for(book, alloc, caller, command, moment, policy)?;
     let prepared = prepare(book, alloc, caller, command, now, policy)?;
     make_prepared(book, prepared, policy)
 }

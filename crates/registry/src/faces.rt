@@ -6,12 +6,13 @@ ghost use Rattle.store.specs.Book.{Follows, IsSame, LeavesSame};
 ghost use Rattle.store.specs.Faces.{contact_face_at, domain_face_at, domain_names, host_addresses_at, host_face_at};
 
 use crate::fault::Fault;
+use crate::passing::pass_with;
 use crate::transaction::advance_clock;
 use crate::work::Work;
 use basis::list::Seq;
 use basis::text::Text;
 use calendar::Moment;
-use objects::{ContactFace, DomainFace, HostFace};
+use objects::{ContactFace, DomainFace, HostFace, ObjectKind};
 use policy::Policy;
 use std::alloc::Global;
 use store::Book;
@@ -22,6 +23,7 @@ pub(crate) trait LookUp {
     ghost use Rattle.model.specs.Registry.{Registry};
     ghost use Rattle.policy.specs.Rules.{PolicyRules};
     ghost use Rattle.registry.specs.Execution.{GoesBack};
+    ghost use Rattle.registry.specs.Passing.{Reaches};
     ghost use Rattle.store.specs.Book.{Follows, IsSame, LeavesSame};
 
     /// What is found.
@@ -29,6 +31,20 @@ pub(crate) trait LookUp {
 
     /// What it is in a registry.
     ghost finds: { Self → PolicyRules → Registry → Self.Found };
+
+    /// Lets time pass up to a moment in an open transaction, and all lapse that bears on it.
+    fn reach<B: Book>(
+        &self,
+        book: &mut B,
+        alloc: Global,
+        moment: Moment,
+        policy: &Policy,
+    ) -> Result<(), Fault>
+        requires { (B.state book.old).is_open ≡ true }
+        ensures reached { OnOk result (Reaches policy.now (finds self.now policy.now) moment (B.state book.old) (B.state book.new)) }
+        ensures fault { IfErr result (λ fault. GoesBack fault (B.state book.old) (B.state book.new)) }
+        ensures follows { Follows (B.state book.old) (B.state book.new) }
+        ensures leaves { LeavesSame (B.state book.old) (B.state book.new) };
 
     /// Looks it up in an open transaction.
     fn look<B: Book>(&self, book: &mut B, policy: &Policy) -> Result<Self::Found, Fault>
@@ -49,6 +65,17 @@ impl LookUp for DomainAt<'_> {
 
     ghost finds = { λ it p s. domain_face_at p s it.0.now };
 
+    fn reach<B: Book>(
+        &self,
+        book: &mut B,
+        alloc: Global,
+        moment: Moment,
+        policy: &Policy,
+    ) -> Result<(), Fault> {
+        pass_with(book, alloc, ObjectKind::Domain, self.0, moment, policy)?;
+        Ok(())
+    }
+
     fn look<B: Book>(&self, book: &mut B, policy: &Policy) -> Result<Option<DomainFace>, Fault> {
         Ok(book.domain_face(self.0, policy)?)
     }
@@ -62,6 +89,17 @@ impl LookUp for HostAt<'_> {
     type Found = Option<HostFace>;
 
     ghost finds = { λ it p s. host_face_at p s it.0.now };
+
+    fn reach<B: Book>(
+        &self,
+        book: &mut B,
+        alloc: Global,
+        moment: Moment,
+        policy: &Policy,
+    ) -> Result<(), Fault> {
+        pass_with(book, alloc, ObjectKind::Host, self.0, moment, policy)?;
+        Ok(())
+    }
 
     fn look<B: Book>(&self, book: &mut B, policy: &Policy) -> Result<Option<HostFace>, Fault> {
         Ok(book.host_face(self.0, policy)?)
@@ -77,6 +115,17 @@ impl LookUp for ContactAt<'_> {
 
     ghost finds = { λ it p s. contact_face_at s it.0.now };
 
+    fn reach<B: Book>(
+        &self,
+        book: &mut B,
+        alloc: Global,
+        moment: Moment,
+        policy: &Policy,
+    ) -> Result<(), Fault> {
+        pass_with(book, alloc, ObjectKind::Contact, self.0, moment, policy)?;
+        Ok(())
+    }
+
     fn look<B: Book>(&self, book: &mut B, _: &Policy) -> Result<Option<ContactFace>, Fault> {
         Ok(book.contact_face(self.0)?)
     }
@@ -91,6 +140,17 @@ impl LookUp for DomainNames {
 
     ghost finds = { λ _ p s. domain_names s };
 
+    fn reach<B: Book>(
+        &self,
+        book: &mut B,
+        alloc: Global,
+        moment: Moment,
+        policy: &Policy,
+    ) -> Result<(), Fault> {
+        advance_clock(book, alloc, moment, policy)?;
+        Ok(())
+    }
+
     fn look<B: Book>(&self, book: &mut B, _: &Policy) -> Result<Seq<Text>, Fault> {
         Ok(book.domain_names()?)
     }
@@ -104,6 +164,17 @@ impl LookUp for AddressesAt<'_> {
     type Found = Option<Seq<Text>>;
 
     ghost finds = { λ it p s. host_addresses_at s it.0.now };
+
+    fn reach<B: Book>(
+        &self,
+        book: &mut B,
+        alloc: Global,
+        moment: Moment,
+        policy: &Policy,
+    ) -> Result<(), Fault> {
+        pass_with(book, alloc, ObjectKind::Host, self.0, moment, policy)?;
+        Ok(())
+    }
 
     fn look<B: Book>(&self, book: &mut B, _: &Policy) -> Result<Option<Seq<Text>>, Fault> {
         Ok(book.host_addresses(self.0)?)
@@ -128,7 +199,7 @@ impl<L: LookUp> Work for LookUpWork<'_, L> {
         alloc: Global,
         policy: &Policy,
     ) -> Result<L::Found, Fault> {
-        advance_clock(book, alloc, self.moment, policy)?;
+        self.what.reach(book, alloc, self.moment, policy)?;
         self.what.look(book, policy)
     }
 }

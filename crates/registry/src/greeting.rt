@@ -2,14 +2,14 @@
 ghost use Rattle.registry.specs.Execution.{IsGreetingStep};
 
 use crate::fault::Fault;
-use crate::transaction::advance_clock;
+use crate::passing::pass_alone;
 use crate::work::Work;
 use calendar::Moment;
 use policy::Policy;
 use std::alloc::Global;
 use store::Book;
 
-/// Hello at a moment.
+/// Hello at a moment. Nothing lapses.
 #[derive(Drop)]
 pub(crate) struct GreetingWork {
     pub moment: Moment,
@@ -21,6 +21,6 @@ impl Work for GreetingWork {
     ghost step = { λ it p before after date. IsGreetingStep p it.moment before after date };
 
     fn work<B: Book>(&self, book: &mut B, alloc: Global, policy: &Policy) -> Result<Moment, Fault> {
-        advance_clock(book, alloc, self.moment, policy)
+        pass_alone(book, alloc, self.moment, policy)
     }
 }

@@ -1,17 +1,22 @@
 //! How what is due lapses in an open transaction.
-ghost use Rattle.std.specs.Prelude.{◌≡◌, true, IfOk, IfErr, OnOk};
+ghost use Rattle.std.specs.Prelude.{◌≡◌, true, Some, None, IfOk, IfErr, OnOk};
+ghost use Rattle.concerns.specs.Names.{named_by, named_of};
 ghost use Rattle.registry.specs.Execution.{GoesBack};
 ghost use Rattle.registry.specs.Lapsing as spec;
 ghost use Rattle.store.specs.Book.{Follows, IsSame, LeavesSame, Moves, with_changes};
-ghost use Rattle.store.specs.Due.{due_by};
+ghost use Rattle.store.specs.Due.{due_by, due_for};
 ghost use Rattle.model.specs.Objects.{object_at};
 ghost use Rattle.rules.specs.Lapsing.{lapse_changes};
 
 use crate::fault::Fault;
 use crate::transaction::{apply, object_at, or_rollback};
 use basis::list::Seq;
+use basis::registrar::RegistrarNo;
+use basis::text::Text;
 use calendar::Moment;
+use objects::ObjectKind;
 use policy::Policy;
+use protocol::Command;
 use rules::{Change, lapse_changes};
 use std::alloc::Global;
 use store::{Book, Due};
@@ -26,6 +31,42 @@ pub(crate) fn due<B: Book>(book: &mut B, moment: Moment, policy: &Policy) -> Res
     ensures leaves { LeavesSame (B.state book.old) (B.state book.new) }
 {
     Ok(book.due(moment, policy)?)
+}
+
+/// What is due by a moment and concerns a registrar's command, in an open transaction.
+pub(crate) fn due_for<B: Book>(
+    book: &mut B,
+    caller: RegistrarNo,
+    command: &Command,
+    moment: Moment,
+    policy: &Policy,
+) -> Result<Seq<Due>, Fault>
+    requires { (B.state book.old).is_open ≡ true }
+    ensures found { IfOk result (λ due. (B.state book.new).is_clean ≡ true → due ≡ due_for policy.now (Some caller) (named_by command.now) moment (B.state book.old).content.registry) }
+    ensures same { OnOk result (IsSame (B.state book.old) (B.state book.new)) }
+    ensures fault { IfErr result (λ fault. GoesBack fault (B.state book.old) (B.state book.new)) }
+    ensures follows { Follows (B.state book.old) (B.state book.new) }
+    ensures leaves { LeavesSame (B.state book.old) (B.state book.new) }
+{
+    Ok(book.due_for(Some(caller), command, moment, policy)?)
+}
+
+/// The same of an info of an object, whoever asks.
+pub(crate) fn due_at<B: Book>(
+    book: &mut B,
+    kind: ObjectKind,
+    name: &Text,
+    moment: Moment,
+    policy: &Policy,
+) -> Result<Seq<Due>, Fault>
+    requires { (B.state book.old).is_open ≡ true }
+    ensures found { IfOk result (λ due. (B.state book.new).is_clean ≡ true → due ≡ due_for policy.now None (named_of kind name.now) moment (B.state book.old).content.registry) }
+    ensures same { OnOk result (IsSame (B.state book.old) (B.state book.new)) }
+    ensures fault { IfErr result (λ fault. GoesBack fault (B.state book.old) (B.state book.new)) }
+    ensures follows { Follows (B.state book.old) (B.state book.new) }
+    ensures leaves { LeavesSame (B.state book.old) (B.state book.new) }
+{
+    Ok(book.due_at(kind, name, moment, policy)?)
 }
 
 /// Lets all that is due by a moment lapse up to it, one object after another.

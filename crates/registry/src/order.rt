@@ -1,16 +1,20 @@
 //! How an order of the operator is carried out.
-ghost use Rattle.std.specs.Prelude.{◌≡◌, true, IfOk, IfErr, OnOk};
+ghost use Rattle.std.specs.Prelude.{◌≡◌, true, option_and_then, IfOk, IfErr, OnOk};
 ghost use Rattle.registry.specs.Execution.{GoesBack, IsOrderStep, IsWithin, OrderSteps, SameTerms};
-ghost use Rattle.rules.specs.Orders.{deposit_decision, status_decision};
+ghost use Rattle.protocol.specs.declared.order.Order.TheVariants as orders;
+ghost use Rattle.registry.specs.Passing.{status_at};
+ghost use Rattle.rules.specs.Orders.{deposit_decision};
 ghost use Rattle.store.specs.Book.{Follows, IsSame, LeavesSame, Moves, with_changes};
-ghost use Rattle.model.specs.Objects.{object_ordered};
+ghost use Rattle.model.specs.Objects.{object_at};
 
 use crate::fault::Fault;
-use crate::transaction::{advance_clock, apply, object_at, or_rollback};
+use crate::passing::{pass_alone, pass_at};
+use crate::transaction::{apply, object_at, or_rollback};
 use crate::work::Work;
 use basis::text::Text;
 use calendar::Moment;
 use model::Object;
+use objects::ObjectKind;
 use policy::Policy;
 use protocol::{Code, Order, StatusOrder};
 use rules::{OrderDecision, decide_deposit, decide_order};
@@ -50,30 +54,72 @@ fn execute_order_in<B: Book>(
     ensures follows { Follows (B.state book.old) (B.state book.new) }
     ensures leaves { LeavesSame (B.state book.old) (B.state book.new) }
 {
-    let now = advance_clock(book, alloc, moment, policy)?;
     match order {
-        Order::Status(order) => set_statuses(book, alloc, order, policy),
+        Order::Status(order) => set_statuses_at(book, alloc, order, moment, policy),
         Order::Deposit { registrar, cents } => {
-            deposit(book, alloc, registrar, *cents, now, policy)
+            deposit_at(book, alloc, registrar, *cents, moment, policy)
         }
     }
 }
 
-/// Sets and takes away statuses in an open transaction.
-fn set_statuses<B: Book>(
+/// Sets and takes away statuses at a moment. What an info of the object concerns lapses before.
+fn set_statuses_at<B: Book>(
     book: &mut B,
     alloc: Global,
     order: &StatusOrder,
+    moment: Moment,
     policy: &Policy,
 ) -> Result<Code, Fault>
     requires { (B.state book.old).is_open ≡ true }
-    ensures code { IfOk result (λ code. (B.state book.new).is_clean ≡ true → code ≡ (status_decision policy.now.zone order.now (B.state book.old).content.registry).code) }
-    ensures made { OnOk result (Moves (B.state book.old) (B.state book.new) (with_changes policy.now (status_decision policy.now.zone order.now (B.state book.old).content.registry).changes (B.state book.old).content)) }
+    ensures step { IfOk result (λ code. OrderSteps policy.now (orders.Status order.now) moment code (B.state book.old) (B.state book.new)) }
+    ensures terms { OnOk result (SameTerms (B.state book.old) (B.state book.new)) }
+    ensures within { OnOk result (IsWithin (B.state book.old) (B.state book.new)) }
     ensures fault { IfErr result (λ fault. GoesBack fault (B.state book.old) (B.state book.new)) }
     ensures follows { Follows (B.state book.old) (B.state book.new) }
     ensures leaves { LeavesSame (B.state book.old) (B.state book.new) }
 {
-    let object = object_ordered(book, alloc, order, policy)?;
+    let name = or_rollback(book, order.object_name(alloc, policy.zone()))?;
+    pass_at(book, alloc, order.kind, &name, moment, policy)?;
+    set_statuses(book, alloc, order, &name, policy)
+}
+
+/// Enters what a registrar paid, at a moment. Nothing lapses before.
+fn deposit_at<B: Book>(
+    book: &mut B,
+    alloc: Global,
+    registrar: &Text,
+    cents: i64,
+    moment: Moment,
+    policy: &Policy,
+) -> Result<Code, Fault>
+    requires { (B.state book.old).is_open ≡ true }
+    ensures step { IfOk result (λ code. OrderSteps policy.now (orders.Deposit registrar.now cents) moment code (B.state book.old) (B.state book.new)) }
+    ensures terms { OnOk result (SameTerms (B.state book.old) (B.state book.new)) }
+    ensures within { OnOk result (IsWithin (B.state book.old) (B.state book.new)) }
+    ensures fault { IfErr result (λ fault. GoesBack fault (B.state book.old) (B.state book.new)) }
+    ensures follows { Follows (B.state book.old) (B.state book.new) }
+    ensures leaves { LeavesSame (B.state book.old) (B.state book.new) }
+{
+    let now = pass_alone(book, alloc, moment, policy)?;
+    deposit(book, alloc, registrar, cents, now, policy)
+}
+
+/// Sets and takes away statuses of the object of this name in an open transaction.
+fn set_statuses<B: Book>(
+    book: &mut B,
+    alloc: Global,
+    order: &StatusOrder,
+    name: &Option<Text>,
+    policy: &Policy,
+) -> Result<Code, Fault>
+    requires { (B.state book.old).is_open ≡ true }
+    ensures code { IfOk result (λ code. (B.state book.new).is_clean ≡ true → code ≡ (status_at order.now name.now (B.state book.old).content.registry).code) }
+    ensures made { OnOk result (Moves (B.state book.old) (B.state book.new) (with_changes policy.now (status_at order.now name.now (B.state book.old).content.registry).changes (B.state book.old).content)) }
+    ensures fault { IfErr result (λ fault. GoesBack fault (B.state book.old) (B.state book.new)) }
+    ensures follows { Follows (B.state book.old) (B.state book.new) }
+    ensures leaves { LeavesSame (B.state book.old) (B.state book.new) }
+{
+    let object = object_named(book, order.kind, name)?;
     let OrderDecision { code, changes } = or_rollback(book, decide_order(alloc, order, object))?;
     apply(book, changes, policy)?;
     Ok(code)
@@ -101,22 +147,21 @@ fn deposit<B: Book>(
     Ok(code)
 }
 
-/// The object that an order names, in an open transaction.
-fn object_ordered<B: Book>(
+/// The object of a kind under a name, if there is a name, in an open transaction.
+fn object_named<B: Book>(
     book: &mut B,
-    alloc: Global,
-    order: &StatusOrder,
-    policy: &Policy,
+    kind: ObjectKind,
+    name: &Option<Text>,
 ) -> Result<Option<Object>, Fault>
     requires { (B.state book.old).is_open ≡ true }
-    ensures found { IfOk result (λ object. (B.state book.new).is_clean ≡ true → object ≡ object_ordered policy.now.zone order.now (B.state book.old).content.registry) }
+    ensures found { IfOk result (λ object. (B.state book.new).is_clean ≡ true → object ≡ option_and_then (object_at (B.state book.old).content.registry kind) name.now) }
     ensures same { OnOk result (IsSame (B.state book.old) (B.state book.new)) }
     ensures fault { IfErr result (λ fault. GoesBack fault (B.state book.old) (B.state book.new)) }
     ensures follows { Follows (B.state book.old) (B.state book.new) }
     ensures leaves { LeavesSame (B.state book.old) (B.state book.new) }
 {
-    match or_rollback(book, order.object_name(alloc, policy.zone()))? {
+    match name {
         None => Ok(None),
-        Some(name) => object_at(book, order.kind, &name),
+        Some(name) => object_at(book, kind, name),
     }
 }

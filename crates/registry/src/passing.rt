@@ -4,7 +4,7 @@ ghost use Rattle.std.specs.Prelude.{◌≡◌, max, true, Some, None, IfOk, IfEr
 ghost use Rattle.concerns.specs.Names.{named_by, no_names};
 ghost use Rattle.registry.specs.Execution.{GoesBack};
 ghost use Rattle.registry.specs.Passing.{Passes, names_at};
-ghost use Rattle.store.specs.Book.{Follows};
+ghost use Rattle.store.specs.Book.{Follows, LeavesSame};
 
 use crate::fault::Fault;
 use crate::lapse::{due_at, due_for, lapse_each};
@@ -32,6 +32,7 @@ pub(crate) fn pass_for<B: Book>(
     ensures clock { IfOk result (λ clock. (B.state book.new).is_clean ≡ true → clock ≡ max moment (B.state book.old).content.registry.clock) }
     ensures fault { IfErr result (λ fault. GoesBack fault (B.state book.old) (B.state book.new)) }
     ensures follows { Follows (B.state book.old) (B.state book.new) }
+    ensures leaves { LeavesSame (B.state book.old) (B.state book.new) }
 {
     let now = move_clock(book, alloc, moment, policy)?;
     let due = due_for(book, caller, command, now, policy)?;
@@ -53,6 +54,7 @@ pub(crate) fn pass_at<B: Book>(
     ensures clock { IfOk result (λ clock. (B.state book.new).is_clean ≡ true → clock ≡ max moment (B.state book.old).content.registry.clock) }
     ensures fault { IfErr result (λ fault. GoesBack fault (B.state book.old) (B.state book.new)) }
     ensures follows { Follows (B.state book.old) (B.state book.new) }
+    ensures leaves { LeavesSame (B.state book.old) (B.state book.new) }
 {
     match name {
         None => pass_alone(book, alloc, moment, policy),
@@ -72,6 +74,7 @@ pub(crate) fn pass_alone<B: Book>(
     ensures clock { IfOk result (λ clock. (B.state book.new).is_clean ≡ true → clock ≡ max moment (B.state book.old).content.registry.clock) }
     ensures fault { IfErr result (λ fault. GoesBack fault (B.state book.old) (B.state book.new)) }
     ensures follows { Follows (B.state book.old) (B.state book.new) }
+    ensures leaves { LeavesSame (B.state book.old) (B.state book.new) }
 {
     move_clock(book, alloc, moment, policy)
 }
@@ -90,6 +93,7 @@ pub(crate) fn pass_with<B: Book>(
     ensures clock { IfOk result (λ clock. (B.state book.new).is_clean ≡ true → clock ≡ max moment (B.state book.old).content.registry.clock) }
     ensures fault { IfErr result (λ fault. GoesBack fault (B.state book.old) (B.state book.new)) }
     ensures follows { Follows (B.state book.old) (B.state book.new) }
+    ensures leaves { LeavesSame (B.state book.old) (B.state book.new) }
 {
     let now = move_clock(book, alloc, moment, policy)?;
     let due = due_at(book, kind, name, now, policy)?;

@@ -91,7 +91,7 @@ waits-asks roid l off = by (is_kind l.kind kinds.Transfer) (is_on roid l) off
     by false b off = refl
 
 -- a line on one domain isn't on another
-on-one : (roid other : Roid) → is_same_roid other roid ≡ false → (l : Line) → is_on other l ≡ true → is_on roid l ≡ false
+pub on-one : (roid other : Roid) → is_same_roid other roid ≡ false → (l : Line) → is_on other l ≡ true → is_on roid l ≡ false
 on-one roid other apart l on = by l.roid on
   where
     by : (of : Option Roid) → is_of other of ≡ true → is_of roid of ≡ false

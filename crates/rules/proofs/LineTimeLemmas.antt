@@ -64,10 +64,10 @@ module _ (p : PolicyRules) (roid : Roid) where
   by-off t None d off = lived-off t (due_by t d.transfer) d off
   by-off t (Some x) d off = purged-off d x (nat_lt t (purge_at p x))
 
-  domain-off : (t : ℕ) (d : Domain) → is_same_roid d.roid roid ≡ false → AllOff roid (lapse p t d).postings
+  pub domain-off : (t : ℕ) (d : Domain) → is_same_roid d.roid roid ≡ false → AllOff roid (lapse p t d).postings
   domain-off t d off = by-off t d.deletion d off
 
-  completed-off : (o : Option Transfer) (c : Contact) → AllOff roid (contact_completed o c).postings
+  pub completed-off : (o : Option Transfer) (c : Contact) → AllOff roid (contact_completed o c).postings
   completed-off None c = tt
   completed-off (Some x) c = (tt, (tt, tt))
 

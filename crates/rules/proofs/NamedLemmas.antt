@@ -20,7 +20,7 @@ pub there-is : {X : Type 0} (o : Option X) → IsSome o → (x : X) × (o ≡ So
 there-is None e = absurd cc
 there-is (Some x) e = (x, refl)
 
-same_name : (n k : List ℕ) → eq_by_cmp (slice_cmp nat_cmp) n k ≡ true → n ≡ k
+pub same_name : (n k : List ℕ) → eq_by_cmp (slice_cmp nat_cmp) n k ≡ true → n ≡ k
 same_name n k e = names_apart n k ((Equal-is (slice_cmp nat_cmp n k)).0 e)
 
 itself : (k : List ℕ) → eq_by_cmp (slice_cmp nat_cmp) k k ≡ true
