@@ -14,7 +14,7 @@ mod joining;
 mod length;
 mod near;
 
-pub use checking::{due_for, standing};
+pub use checking::{due_of_domain, standing};
 pub use finding::due;
 pub use length::same_days;
 pub use near::due_near;
