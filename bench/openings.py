@@ -93,7 +93,7 @@ def listens(port):
 def lapse(program, file, port):
     older = 370 * 86400
     database = sqlite3.connect(file)
-    database.executescript(f"UPDATE domain SET created = created - {older}, due = due - {older}; UPDATE line SET recorded = "
+    database.executescript(f"UPDATE domain SET created = created - {older}, due = due - {older}; UPDATE link SET due = due - {older}; UPDATE line SET recorded = "
                            f"recorded - {older}, started = started - {older};")
     database.close()
     server = rows.served(program, POLICY, file, port)
