@@ -411,7 +411,7 @@ module _ (p : PolicyRules) (r : ℕ) where
   facts-at-names (Asked cl_trid q) u is =
       let c : Command = Asked cl_trid q in
       let host : (name : List ℕ) → is_in name (named_by c).hosts ≡ true → host_facts (mixed p r c u is) c name ≡ host_facts (plain p r c u is) c name =
-          λ name e. host-facts p r c u is name e (λ above at. in-second above (domains_asked q) _ (in-filter_map last_two_of above name (named_by c).hosts e at)) in
+      λ name e. host-facts p r c u is name e (λ above at. in-second above (domains_asked q) _ (in-filter_map last_two_of above name (named_by c).hosts e at)) in
       λ i. record (facts_by (plain p r c u is) c) {
         contacts = map-within p r c u is (contact_facts (mixed p r c u is) c) (contact_facts (plain p r c u is) c) (contacts_asked q) (λ name e. contact-facts p r c u is name (contacts-acted q name e)) i;
         domains = map-within p r c u is (domain_facts (mixed p r c u is) c) (domain_facts (plain p r c u is) c) (domains_asked q) (λ name e. domain-facts p r c u is name (in-first name (domains_asked q) _ e)) i;

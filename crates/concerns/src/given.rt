@@ -98,11 +98,7 @@ fn hosts_in(alloc: Global, request: &Request) -> Result<Seq<Text>, AllocError>
 }
 
 /// Those that it acts on, and those above these hosts.
-fn domains_in(
-    alloc: Global,
-    request: &Request,
-    hosts: &[Text],
-) -> Result<Seq<Text>, AllocError>
+fn domains_in(alloc: Global, request: &Request, hosts: &[Text]) -> Result<Seq<Text>, AllocError>
     ensures { IfOk result (λ names. names ≡ (asks_of request.now).domains ++ spec.above hosts.now) }
 {
     let names = with_given(Seq::new(alloc), request.domains())?;

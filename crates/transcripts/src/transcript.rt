@@ -99,30 +99,111 @@ pub struct Outcome {
     pub differences: Vec<u8>,
 }
 
-/// Runs a transcript under a policy, behind the lines of its prelude, over both books: that in the rows of
-/// a database and that in ordered maps.
+/// What is settled before each line of a transcript, at that line's moment.
+#[derive(Clone, Copy)]
+enum Settled {
+    Nothing,
+    OneObject,
+    All,
+}
+
+impl Settled {
+    /// The operator's line behind its moment, if there is one.
+    fn order(self) -> Option<&'static [u8]> {
+        match self {
+            Settled::Nothing => None,
+            Settled::OneObject => Some(b" operator {\"at_most\":1,\"order\":\"settle\"}"),
+            Settled::All => Some(b" operator {\"at_most\":1000000,\"order\":\"settle\"}"),
+        }
+    }
+
+    /// The same before a line of a script, of which an empty one has no moment.
+    fn order_before(self, sent: &[u8]) -> Option<&'static [u8]> {
+        if sent.is_empty() {
+            return None;
+        }
+        self.order()
+    }
+}
+
+/// Runs a transcript under a policy, behind the lines of its prelude. Where its script is to end well, it is run
+/// with settlements before each of its lines, too: no reply hangs on them but those that tell how much a settlement
+/// did.
 pub fn run_transcript(
     alloc: Global,
     policy: &[u8],
     prelude: &[Line<'_>],
     transcript: Transcript<'_>,
 ) -> Result<Outcome> {
-    let mut script = Vec::new(alloc);
-    add_script(&mut script, prelude)?;
-    add_script(&mut script, transcript.lines)?;
-    let before = replies_of(prelude);
     let mut differences = Vec::new(alloc);
-    let mut printed = Vec::new(alloc);
-    let exit = run_script(alloc, policy, script.as_slice(), &mut printed);
-    let over_rows = judge(alloc, transcript, before, &printed, exit, &mut differences)?;
-    let mut printed = Vec::new(alloc);
-    let exit = run_over_maps(alloc, policy, script.as_slice(), &mut printed);
-    let over_maps = judge(alloc, transcript, before, &printed, exit, &mut differences)?;
+    let mut as_written = replies_of(transcript.lines);
+    for settled in [Settled::Nothing, Settled::OneObject, Settled::All] {
+        if settled.order().is_none() || transcript.end().is_empty() {
+            let run = Run {
+                policy,
+                prelude,
+                transcript,
+                settled,
+            };
+            as_written = as_written.min(run.compared(alloc, &mut differences)?);
+        }
+    }
     Ok(Outcome {
         replies: replies_of(transcript.lines),
-        as_written: over_rows.min(over_maps),
+        as_written,
         differences,
     })
+}
+
+/// A run of a transcript.
+#[derive(Clone, Copy)]
+struct Run<'a> {
+    policy: &'a [u8],
+    prelude: &'a [Line<'a>],
+    transcript: Transcript<'a>,
+    settled: Settled,
+}
+
+impl Run<'_> {
+    /// How many replies are as written over both books, that in the rows of a database and that in ordered maps;
+    /// what differs is added.
+    fn compared(self, alloc: Global, differences: &mut Vec<u8>) -> Result<usize> {
+        let script = self.script(alloc)?;
+        let mut printed = Vec::new(alloc);
+        let exit = run_script(alloc, self.policy, script.as_slice(), &mut printed);
+        let over_rows = self.judge(alloc, &printed, exit, differences)?;
+        let mut printed = Vec::new(alloc);
+        let exit = run_over_maps(alloc, self.policy, script.as_slice(), &mut printed);
+        let over_maps = self.judge(alloc, &printed, exit, differences)?;
+        Ok(over_rows.min(over_maps))
+    }
+
+    fn script(self, alloc: Global) -> Result<Vec<u8>> {
+        let mut script = Vec::new(alloc);
+        add_script(&mut script, self.prelude, Settled::Nothing)?;
+        add_script(&mut script, self.transcript.lines, self.settled)?;
+        Ok(script)
+    }
+
+    /// How many replies of what was printed, behind those of the prelude, are as written; what differs is added.
+    fn judge(
+        self,
+        alloc: Global,
+        printed: &[u8],
+        exit: Exit,
+        differences: &mut Vec<u8>,
+    ) -> Result<usize> {
+        let end = format!(in alloc; "{exit}")?;
+        let printed = after_replies(printed, replies_of(self.prelude));
+        compare(
+            alloc,
+            self.transcript,
+            self.settled,
+            printed,
+            end.as_bytes(),
+            differences,
+        )
+    }
 }
 
 /// Answers a script over a registry in ordered maps, which starts empty.
@@ -144,30 +225,33 @@ fn run_over_maps(alloc: Global, policy: &[u8], script: &[u8], printed: &mut Vec<
     }
 }
 
-/// How many replies of what was printed, behind so many of the prelude, are as written; what differs is
-/// added.
-fn judge(
-    alloc: Global,
-    transcript: Transcript<'_>,
-    before: usize,
-    printed: &[u8],
-    exit: Exit,
-    differences: &mut Vec<u8>,
-) -> Result<usize> {
-    let end = format!(in alloc; "{exit}")?;
-    let printed = after_replies(printed, before);
-    compare(alloc, transcript, printed, end.as_bytes(), differences)
-}
-
-/// Adds the lines of the script.
-fn add_script(script: &mut Vec<u8>, lines: &[Line<'_>]) -> Result<()> {
+/// Adds the lines of the script, and what is settled before each.
+fn add_script(script: &mut Vec<u8>, lines: &[Line<'_>], settled: Settled) -> Result<()> {
     for line in lines {
         if let Mark::Sent(sent) = line.mark {
+            if let Some(order) = settled.order_before(sent) {
+                script.extend_from_slice(moment_of(sent))?;
+                script.extend_from_slice(order)?;
+                script.push(LINE_FEED)?;
+            }
             script.extend_from_slice(sent)?;
             script.push(LINE_FEED)?;
         }
     }
     Ok(())
+}
+
+/// The moment of a line of a script: what stands before its first blank.
+fn moment_of(sent: &[u8]) -> &[u8] {
+    match sent.iter().position(|byte| *byte == b' ') {
+        Some(end) => &sent[..end],
+        None => sent,
+    }
+}
+
+/// Whether a reply tells how much a settlement did.
+fn tells_what_is_settled(reply: &[u8]) -> bool {
+    reply.starts_with(b"{\"code\":1000,\"data\":{\"done\":")
 }
 
 /// How many replies must follow.
@@ -203,23 +287,31 @@ fn after_replies(printed: &[u8], replies: usize) -> &[u8] {
 }
 
 /// Compares what was printed, and the end, with what must follow; counts the replies that are as written.
+/// Behind settlements it isn't asked how much another one did.
 fn compare(
     alloc: Global,
     transcript: Transcript<'_>,
+    settled: Settled,
     printed: &[u8],
     end: &[u8],
     differences: &mut Vec<u8>,
 ) -> Result<usize> {
+    let is_settled = settled.order().is_some();
     let mut as_written = 0;
     let mut rest = printed;
     let mut sent: &[u8] = b"";
     for line in transcript.lines {
         match line.mark {
-            Mark::Sent(text) => sent = text,
+            Mark::Sent(text) => {
+                sent = text;
+                if settled.order_before(sent).is_some() {
+                    rest = cut(rest).1;
+                }
+            }
             Mark::Reply(wanted) => {
                 let (given, others) = cut(rest);
                 rest = others;
-                if given == wanted {
+                if given == wanted || is_settled && tells_what_is_settled(wanted) {
                     as_written += 1;
                 } else {
                     add_line_number(alloc, differences, line.number)?;
@@ -230,6 +322,17 @@ fn compare(
             _ => {}
         }
     }
+    compare_end(transcript, rest, end, differences)?;
+    Ok(as_written)
+}
+
+/// Compares what is left of what was printed, and the end, with nothing and what must follow.
+fn compare_end(
+    transcript: Transcript<'_>,
+    rest: &[u8],
+    end: &[u8],
+    differences: &mut Vec<u8>,
+) -> Result<()> {
     if !rest.is_empty() {
         add_line(differences, b"more than these replies", b"")?;
         add_texts(differences, b"", rest)?;
@@ -238,7 +341,7 @@ fn compare(
         add_line(differences, b"the end", b"")?;
         add_texts(differences, transcript.end(), end)?;
     }
-    Ok(as_written)
+    Ok(())
 }
 
 fn add_line_number(alloc: Global, differences: &mut Vec<u8>, number: usize) -> Result<()> {
