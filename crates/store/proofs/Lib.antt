@@ -9,3 +9,4 @@ pub mod LinesOnLemmas
 pub mod GivingLemmas
 pub mod RenameLemmas
 pub mod PlainLemmas
+pub mod OnceLemmas

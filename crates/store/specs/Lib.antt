@@ -12,3 +12,4 @@ pub mod Quiet
 pub mod Records
 pub mod Tables
 pub mod Kept
+pub mod Once

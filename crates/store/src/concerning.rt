@@ -1,5 +1,5 @@
 //! What of that which is due concerns a registrar and some names, as it is found in records.
-ghost use Rattle.std.specs.Prelude.{◌≡◌, ◌||◌, None, IfOk};
+ghost use Rattle.std.specs.Prelude.{◌≡◌, ◌||◌, None, option_map, IfOk};
 ghost use Rattle.std.specs.FinMap as finmap;
 ghost use Rattle.concerns.specs.Concerns as spec;
 ghost use Rattle.concerns.specs.Names as names;
@@ -187,11 +187,21 @@ fn contacts_meant<R: Records>(records: &mut R, names: &[Text]) -> Result<Seq<Tex
 {
     let mut meant = copies(records.alloc(), names)?;
     for name in names {
-        if let Some(contact) = records.contact(name)? {
-            meant.push(contact.name)?;
+        if let Some(found) = name_of_contact(records, name)? {
+            meant.push(found)?;
         }
     }
     Ok(meant)
+}
+
+/// The name that the contact bears which stands under one.
+fn name_of_contact<R: Records>(records: &mut R, name: &Text) -> Result<Option<Text>, BookFault>
+    ensures { Finds result (option_map spec.contact_name (finmap.get (R.kept records.old).content.registry.contacts name.now)) (R.kept records.old) (R.kept records.new) }
+{
+    match records.contact(name)? {
+        None => Ok(None),
+        Some(contact) => Ok(Some(contact.name)),
+    }
 }
 
 /// The names that are meant, and the identifiers of the domains under the names.

@@ -1,0 +1,83 @@
+-- What a book does below one that refuses a call is what that one does.
+use Rattle.std.proofs.Common.{◌≡◌, ◌⊎◌, inl, inr, ℕ, ◌+◌, ◌<◌, ◌≤◌, min, Bool, true, false, ◌&&◌, nat_eq, nat_lt, List, Result, Ok, Err, OnOk, refl, sym, ap, subst, ◌∙◌, arith}
+use Rattle.std.proofs.lemmas.Bool.{and_parts, and_from}
+use Rattle.std.proofs.lemmas.Bool.Decides.{nat_tests}
+use Rattle.transactions.specs.declared.fault.BookFault.{BookFault}
+use Rattle.transactions.specs.declared.fault.BookFault.TheVariants.{Memory, Store}
+use Rattle.transactions.specs.States.{Has, Remains, holding}
+use Rattle.store.specs.Book.{Answers, Begins, BookState, Commits, FaultLeaves, Follows, HasRefused, IsBack, IsSame, LeavesHeld, LeavesSame, Moves, NoRefusal, StillAnswers, Stored}
+use Rattle.store.specs.Once.{RefusesOnce, with_refusals}
+
+abbrev most : ℕ
+most = 0xFFFF_FFFF_FFFF_FFFF
+
+risen : (b : Bool) (g old new : ℕ) → nat_lt (min (old + g) most) (min (new + g) most) ≡ b → old < new → (min (old + g) most < min (new + g) most) ⊎ (min (new + g) most ≡ most)
+risen true g old new is more = inl (grind (arith, nat_tests, is))
+risen false g old new is more = inr (grind (arith, nat_tests, is, more))
+
+module _ (g : ℕ) (old new : BookState) where
+  abbrev was : BookState
+  was = with_refusals g old
+
+  abbrev is : BookState
+  is = with_refusals g new
+
+  honest-below : (s : BookState) → (with_refusals g s).is_honest ≡ true → s.is_honest ≡ true
+  honest-below s e = (and_parts s.is_honest (nat_eq g 0) e).0
+
+  pub refused-too : HasRefused old new → HasRefused was is
+  refused-too (inl more) = risen (nat_lt (min (old.refused + g) most) (min (new.refused + g) most)) g old.refused new.refused refl more
+  refused-too (inr all) = inr (omega (arith, all))
+
+  pub silent-too : NoRefusal old new → NoRefusal was is
+  silent-too same = ap (λ (n : ℕ). min (n + g) most) same
+
+  pub same-too : IsSame old new → IsSame was is
+  same-too it = record { counted = silent-too it.counted; opened = it.opened; content = it.content; before = it.before }
+
+  pub back-too : IsBack old new → IsBack was is
+  back-too it = record { closed = it.closed; content = it.content }
+
+  pub follows-too : Follows old new → Follows was is
+  follows-too it = record { clean = it.clean; counted = omega (arith, it.counted) }
+
+  pub leaves-too : LeavesSame old new → LeavesSame was is
+  leaves-too it = record {
+    honest = λ e. let both = and_parts new.is_honest (nat_eq g 0) e in and_from old.is_honest (nat_eq g 0) (it.honest both.0) both.1;
+    same = it.same;
+  }
+
+  pub answers-too : StillAnswers old new → StillAnswers was is
+  answers-too still before e =
+      let both = and_parts new.is_honest (nat_eq g 0) e in
+      still (λ h. before (and_from old.is_honest (nat_eq g 0) h both.1)) both.0
+
+  pub begins-too : Begins old new → Begins was is
+  begins-too it = record { counted = silent-too it.counted; opened = it.opened; content = it.content; before = it.before }
+
+  pub moves-too : (held : Stored) → Moves old new held → Moves was is held
+  moves-too held it = record { counted = silent-too it.counted; opened = it.opened; content = it.content; before = it.before }
+
+  pub commits-too : Commits old new → Commits was is
+  commits-too it = record { counted = silent-too it.counted; closed = it.closed; content = it.content }
+
+  pub fault-too : {A : Type 0} (result : Result A BookFault) → FaultLeaves result old new → FaultLeaves result was is
+  fault-too (Ok value) it = it
+  fault-too (Err Memory) it = (back-too it.0, silent-too it.1)
+  fault-too (Err Store) it = (back-too it.0, refused-too it.1)
+
+  pub held-too : {A E : Type 0} (result : Result A E) → LeavesHeld result old new → LeavesHeld result was is
+  held-too (Ok value) it = record {
+    honest = λ e. let both = and_parts new.is_honest (nat_eq g 0) e in and_from old.is_honest (nat_eq g 0) (it.honest both.0) both.1;
+    answered = λ e. it.answered (honest-below new e);
+    answers = λ e. it.answers (honest-below new e);
+    kept = it.kept;
+    tried = it.tried;
+  }
+  held-too (Err fault) it = record {
+    honest = λ e. let both = and_parts new.is_honest (nat_eq g 0) e in and_from old.is_honest (nat_eq g 0) (it.honest both.0) both.1;
+    answered = λ e. it.answered (honest-below new e);
+    answers = tt;
+    kept = tt;
+    tried = it.tried;
+  }

@@ -1,0 +1,244 @@
+//! A book that refuses one call.
+ghost use Rattle.std.specs.Prelude.{◌≡◌, ◌≢◌, true, Err};
+ghost use Rattle.store.specs.Once.{RefusesOnce, with_refusals};
+
+use crate::book::Book;
+use crate::due::Due;
+use basis::list::Seq;
+use basis::registrar::RegistrarNo;
+use basis::text::Text;
+use calendar::Moment;
+use facts::Facts;
+use model::Object;
+use objects::{ContactFace, DomainFace, HostFace, ObjectKind};
+use policy::{Policy, Terms};
+use protocol::Command;
+use rules::Change;
+use transactions::{BookFault, Ready};
+
+/// A book over another one, of which one call answers Store, whatever it is, and all others what the other
+/// book answers. With it tests show that nothing is left of a call in which any one step was refused. What
+/// it refused itself had no cause, so from then on it doesn't say that it is honest.
+#[derive(Drop)]
+pub struct OnceBook<B> {
+    inner: B,
+    place: u64,
+    calls: u64,
+    refused: u64,
+}
+
+impl<B> OnceBook<B> {
+    /// A book that refuses one call, behind so many others; with `u64::MAX` none.
+    pub fn new(inner: B, place: u64) -> OnceBook<B>
+        ensures inner { result.inner ≡ inner }
+        ensures refused { result.refused ≡ 0 }
+    {
+        OnceBook {
+            inner,
+            place,
+            calls: 0,
+            refused: 0,
+        }
+    }
+
+    /// How many calls were made so far that could have been refused.
+    pub fn calls(&self) -> u64 {
+        self.calls
+    }
+
+    /// Whether it has refused its call.
+    pub fn has_refused(&self) -> bool
+        ensures { result ≡ true → self.now.refused ≢ 0 }
+    {
+        self.refused > 0
+    }
+
+    /// The book below, as it is.
+    pub fn into_inner(self) -> B
+        ensures { result ≡ self.inner }
+    {
+        self.inner
+    }
+
+    /// Whether the call that begins is the one.
+    fn is_next(&mut self) -> bool
+        ensures inner { self.new.inner ≡ self.old.inner }
+        ensures refused { self.new.refused ≡ self.old.refused }
+    {
+        let is_next = self.calls == self.place && self.refused == 0;
+        self.calls = self.calls.saturating_add(1);
+        is_next
+    }
+}
+
+impl<B: Book> OnceBook<B> {
+    /// Goes back, and counts a refusal.
+    fn give_up<T>(&mut self) -> Result<T, BookFault>
+        ensures fault { result ≡ Err BookFault.Store }
+        ensures back { RefusesOnce (with_refusals self.old.refused (B.state self.old.inner)) (with_refusals self.new.refused (B.state self.new.inner)) }
+    {
+        if self.inner.active() {
+            self.inner.back();
+        }
+        self.refused = self.refused.saturating_add(1);
+        Err(BookFault::Store)
+    }
+}
+
+impl<B: Book> Book for OnceBook<B> {
+    ghost use Rattle.store.specs.Once.{with_refusals};
+
+    ghost state = { λ b. with_refusals b.refused (B.state b.inner) };
+
+    fn active(&self) -> bool {
+        self.inner.active()
+    }
+
+    fn refusals(&self) -> u64 {
+        self.inner.refusals().saturating_add(self.refused)
+    }
+
+    fn ready(&mut self) -> Result<Ready, BookFault> {
+        if self.is_next() {
+            return self.give_up();
+        }
+        self.inner.ready()
+    }
+
+    fn clock(&mut self) -> Result<Moment, BookFault> {
+        if self.is_next() {
+            return self.give_up();
+        }
+        self.inner.clock()
+    }
+
+    fn terms(&mut self) -> Result<Option<Terms>, BookFault> {
+        if self.is_next() {
+            return self.give_up();
+        }
+        self.inner.terms()
+    }
+
+    fn facts_for(
+        &mut self,
+        caller: RegistrarNo,
+        command: &Command,
+        policy: &Policy,
+    ) -> Result<Facts, BookFault> {
+        if self.is_next() {
+            return self.give_up();
+        }
+        self.inner.facts_for(caller, command, policy)
+    }
+
+    fn object_at(&mut self, kind: ObjectKind, name: &Text) -> Result<Option<Object>, BookFault> {
+        if self.is_next() {
+            return self.give_up();
+        }
+        self.inner.object_at(kind, name)
+    }
+
+    fn domain_face(
+        &mut self,
+        name: &Text,
+        policy: &Policy,
+    ) -> Result<Option<DomainFace>, BookFault> {
+        if self.is_next() {
+            return self.give_up();
+        }
+        self.inner.domain_face(name, policy)
+    }
+
+    fn host_face(&mut self, name: &Text, policy: &Policy) -> Result<Option<HostFace>, BookFault> {
+        if self.is_next() {
+            return self.give_up();
+        }
+        self.inner.host_face(name, policy)
+    }
+
+    fn contact_face(&mut self, name: &Text) -> Result<Option<ContactFace>, BookFault> {
+        if self.is_next() {
+            return self.give_up();
+        }
+        self.inner.contact_face(name)
+    }
+
+    fn domain_names(&mut self) -> Result<Seq<Text>, BookFault> {
+        if self.is_next() {
+            return self.give_up();
+        }
+        self.inner.domain_names()
+    }
+
+    fn host_addresses(&mut self, name: &Text) -> Result<Option<Seq<Text>>, BookFault> {
+        if self.is_next() {
+            return self.give_up();
+        }
+        self.inner.host_addresses(name)
+    }
+
+    fn due(&mut self, moment: Moment, policy: &Policy) -> Result<Seq<Due>, BookFault> {
+        if self.is_next() {
+            return self.give_up();
+        }
+        self.inner.due(moment, policy)
+    }
+
+    fn due_for(
+        &mut self,
+        caller: Option<RegistrarNo>,
+        command: &Command,
+        moment: Moment,
+        policy: &Policy,
+    ) -> Result<Seq<Due>, BookFault> {
+        if self.is_next() {
+            return self.give_up();
+        }
+        self.inner.due_for(caller, command, moment, policy)
+    }
+
+    fn due_at(
+        &mut self,
+        kind: ObjectKind,
+        name: &Text,
+        moment: Moment,
+        policy: &Policy,
+    ) -> Result<Seq<Due>, BookFault> {
+        if self.is_next() {
+            return self.give_up();
+        }
+        self.inner.due_at(kind, name, moment, policy)
+    }
+
+    fn begin(&mut self) -> Result<(), BookFault> {
+        if self.is_next() {
+            return self.give_up();
+        }
+        self.inner.begin()
+    }
+
+    fn apply(&mut self, changes: Seq<Change>, policy: &Policy) -> Result<(), BookFault> {
+        if self.is_next() {
+            return self.give_up();
+        }
+        self.inner.apply(changes, policy)
+    }
+
+    fn keep_terms(&mut self, terms: Terms) -> Result<(), BookFault> {
+        if self.is_next() {
+            return self.give_up();
+        }
+        self.inner.keep_terms(terms)
+    }
+
+    fn commit(&mut self) -> Result<(), BookFault> {
+        if self.is_next() {
+            return self.give_up();
+        }
+        self.inner.commit()
+    }
+
+    fn back(&mut self) {
+        self.inner.back();
+    }
+}
