@@ -7,14 +7,13 @@ use Rattle.model.specs.WellFormed.{IsRegistry, last_clock}
 use Rattle.model.proofs.LapseLaws.{lapsed-is-settled}
 use Rattle.policy.specs.Rules.{PolicyRules, IsRegistrar, IsSound}
 use Rattle.policy.specs.Terms.{terms_of}
-use Rattle.privacy.specs.Laws.{IsStepOfTwo}
 use Rattle.privacy.specs.Runs.{Answer, IsCall, Question, command, date, look_up, order}
 use Rattle.privacy.proofs.RunLemmas.{calls-are-steps-of-two}
 use Rattle.protocol.specs.declared.command.Command.{Command}
 use Rattle.protocol.specs.declared.order.Order.{Order}
 use Rattle.registry.specs.declared.fault.Fault.{Fault}
 use Rattle.registry.specs.declared.fault.Fault.TheVariants as faults
-use Rattle.registry.specs.Calls.{CallKeeps, IsKept, StepKeeps}
+use Rattle.registry.specs.Calls.{CallKeeps, StepKeeps}
 use Rattle.registry.specs.Crashes.{Outlives}
 use Rattle.registry.specs.Execution.{SameTerms}
 use Rattle.registry.specs.Money.{CallKeepsMoney}

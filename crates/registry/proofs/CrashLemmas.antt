@@ -1,5 +1,5 @@
 -- What a crash leaves after one call and another.
-use Rattle.std.proofs.Common.{◌≡◌, ◌⊎◌, inl, inr, ⊎_elim, true, Result, Ok, Err, IfErr, OnOk, List, sym, ap, subst, ◌∙◌}
+use Rattle.std.proofs.Common.{◌≡◌, inl, inr, ⊎_elim, true, Result, Ok, Err, IfErr, OnOk, List, sym, ap, subst, ◌∙◌}
 use Rattle.policy.specs.Rules.{PolicyRules}
 use Rattle.registry.specs.declared.fault.Fault.{Fault}
 use Rattle.registry.specs.declared.fault.Fault.TheVariants as faults

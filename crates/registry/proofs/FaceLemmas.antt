@@ -1,20 +1,17 @@
 -- What everyone may know of an object is the same whether all that is due has lapsed, or what an info of it
 -- concerns.
-use Rattle.std.proofs.Common.{◌≡◌, ℕ, Bool, List, [], ◌∷◌, Option, Some, None, option_and_then, option_map, refl, ap, ◌∙◌}
+use Rattle.std.proofs.Common.{◌≡◌, ℕ, List, [], ◌∷◌, Option, Some, None, option_and_then, option_map, refl, ap, ◌∙◌}
 use Rattle.std.specs.FinMap.{get}
-use Rattle.facts.specs.Facts.{is_linked_contact, is_linked_host, superordinate_of_domain}
-use Rattle.facts.specs.declared.facts.Superordinate.{Superordinate}
+use Rattle.facts.specs.Facts.{superordinate_of_domain}
 use Rattle.lifecycle.specs.Phases.{phase}
 use Rattle.model.specs.Lapse.{now}
 use Rattle.model.specs.Registry.{Registry}
 use Rattle.names.specs.Zone.{last_two_of}
 use Rattle.objects.specs.declared.contact.Contact.{Contact}
-use Rattle.objects.specs.declared.contact.ContactFace.{ContactFace}
 use Rattle.objects.specs.declared.domain.Domain.{Domain}
 use Rattle.objects.specs.declared.domain.DomainFace.{DomainFace}
 use Rattle.objects.specs.declared.grace.Graces.{Graces}
 use Rattle.objects.specs.declared.host.Host.{Host}
-use Rattle.objects.specs.declared.host.HostFace.{HostFace}
 use Rattle.objects.specs.declared.roid.ObjectKind.TheVariants as kinds
 use Rattle.objects.specs.Contacts.{contact_face_of}
 use Rattle.objects.specs.Domains.{face_of}
@@ -23,8 +20,7 @@ use Rattle.concerns.specs.Concerns.{IsSettledIn, concerned}
 use Rattle.concerns.specs.Names.{named_of}
 use Rattle.concerns.proofs.ConcernLemmas.{in-filter_map, in-itself}
 use Rattle.concerns.proofs.FactsLemmas.{contact-at, contact-linked, domain-at, graces-now, host-linked}
-use Rattle.store.specs.Faces.{contact_face_at, domain_face, domain_face_at, host_addresses_at, host_face, host_face_at}
-use Rattle.store.specs.Lookups.{superordinate_in}
+use Rattle.store.specs.Faces.{contact_face_at, domain_face, domain_face_at, host_addresses_at, host_face_at}
 use Rattle.verdict.specs.ResponseData.{host_info, with_shown_link}
 
 module _ (p : PolicyRules) (name : List ℕ) (u : Registry) where

@@ -20,7 +20,7 @@ use Rattle.protocol.specs.declared.order.StatusOrder.{StatusOrder}
 use Rattle.protocol.specs.declared.reply.Reply.{Reply}
 use Rattle.protocol.specs.Orders.{name_ordered}
 use Rattle.registry.specs.declared.command.Prepared.{Prepared}
-use Rattle.registry.specs.Execution.{Greets, IsGreetingStep, IsOrderStep, IsPrepared, IsStep, OrderSteps, Steps, at_moment}
+use Rattle.registry.specs.Execution.{Greets, IsPrepared, IsStep, OrderSteps, Steps, at_moment}
 use Rattle.registry.specs.Faces.{LooksUp}
 use Rattle.registry.specs.Lapsing.{dues_lapsed, with_dues_lapsed}
 use Rattle.registry.specs.Passing.{IsPassed, Passes, Reaches, names_at, status_at}
@@ -206,7 +206,7 @@ orders-paid p id cents moment clock (Err fault) old mid new first told keeping g
 
 pub greets : (p : PolicyRules) (moment : ℕ) (result : Result ℕ Fault) (old new : BookState) → OnOk result (Passes p None no_names moment old new)
     → IfOk result (λ date. new.is_clean ≡ true → date ≡ max moment old.content.registry.clock) → IfOk result (λ date. Greets p moment date old new)
-greets p moment (Ok date) old new first told clean = record {
+greets p moment (Ok date) old new first told = λ clean. record {
   dated = told clean;
   left = (first.passed clean).future ∙ sym (now-lapsed p moment old.content.registry);
 }

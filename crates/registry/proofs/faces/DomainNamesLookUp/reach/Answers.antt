@@ -1,4 +1,3 @@
-use Rattle.model.specs.Registry.{Registry}
 use Rattle.store.specs.Faces.{domain_names}
 use Rattle.registry.proofs.PassingSteps.{reached-all}
 use Rattle.registry.proofs.faces.DomainNamesLookUp.reach.Goals as goal

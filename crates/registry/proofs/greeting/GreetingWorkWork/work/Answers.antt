@@ -1,5 +1,5 @@
 use Rattle.registry.proofs.PassingSteps.{greets}
-use Rattle.registry.proofs.greeting.GreetingWork.work.Goals as goal
+use Rattle.registry.proofs.greeting.GreetingWorkWork.work.Goals as goal
 
 pub returns-clause-done : goal.returns-clause-done
 returns-clause-done g c =

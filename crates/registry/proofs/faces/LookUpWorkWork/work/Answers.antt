@@ -1,5 +1,5 @@
 use Rattle.registry.proofs.PassingSteps.{looks-up}
-use Rattle.registry.proofs.faces.LookUpWork.work.Goals as goal
+use Rattle.registry.proofs.faces.LookUpWorkWork.work.Goals as goal
 
 pub returns-clause-done : goal.returns-clause-done
 returns-clause-done g c =
