@@ -48,6 +48,6 @@ SELECT 'domain', name, 'due', due,
     ELSE max(deleted + redemption, coalesce(restore_requested + restore, 0)) + pending END AS owed
 FROM dated WHERE due > owed;
 
--- and the same beside what a domain names
+-- the same, beside each contact and host that a domain names
 SELECT 'link', link.id, 'due', link.due, domain.due AS owed
 FROM link JOIN domain ON domain.id = link.domain WHERE link.due <> domain.due;

@@ -13,7 +13,7 @@ use basis::text::Text;
 use calendar::Moment;
 use objects::Domain;
 use policy::Policy;
-use sqldue::{due_for, same_days, standing};
+use sqldue::{due_of_domain, same_days, standing};
 use sqlheld::recount;
 use sqlite::Alter;
 use sqlobjects::follow;
@@ -34,7 +34,7 @@ pub fn put_domain<S: Alter>(
     requires { store.old.is_open ≡ true }
     ensures { Alters result stored_of are_right (tables.domain_put name (Some domain) (stored_of store.old.content)) store.old store.new }
 {
-    let due = due_for(&domain, policy);
+    let due = due_of_domain(&domain, policy);
     replace(store, alloc, &name, &Some(domain), due, policy)
 }
 

@@ -55,7 +55,7 @@ module _ (xs : Content) (row : table.Domain) (d : Domain) (reads : domain_of xs 
   is = naming xs row d reads
 
   dated-so : (l : Link) → Has (filter (link_with_domain row.id) xs.links) l → l.due ≡ row.due
-  dated-so l there = same_int l.due row.due (each-passes (λ (x : Link). int_eq x.due row.due) (filter (link_with_domain row.id) xs.links) is.are_so l there)
+  dated-so l there = same_int l.due row.due (each-passes (λ (x : Link). int_eq x.due row.due) (filter (link_with_domain row.id) xs.links) is.all_dated l there)
 
   listed-leads : (pick : Links → List (List ℕ)) (Leads : Link → Type 0) → ((r : List ℕ) → has_name (pick (registrant_alone r)) name ≡ false)
       → ((l : Links) (r : Link) (role : Role) (new : List ℕ) → linked_name xs role r.contact r.host ≡ Some new → has_name (pick (with_name l role new)) name ≡ true → (has_name (pick l) name ≡ true) ⊎ Leads r)

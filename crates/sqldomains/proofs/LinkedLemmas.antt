@@ -78,7 +78,7 @@ pub record Naming (xs : Content) (row : table.Domain) (links : Links) : Type 0 w
   pub registrant : List ℕ
   pub registrant_is : contact_name xs row.registrant ≡ Some registrant
   pub all : with_links xs (registrant_alone registrant) (filter (link_with_domain row.id) xs.links) ≡ Some links
-  pub are_so : are_dated row.due (filter (link_with_domain row.id) xs.links) ≡ true
+  pub all_dated : are_dated row.due (filter (link_with_domain row.id) xs.links) ≡ true
 
 pub naming : (xs : Content) (row : table.Domain) (d : Domain) → domain_of xs row ≡ Some d → Naming xs row d.links
 naming xs row d e =
@@ -89,7 +89,7 @@ naming xs row d e =
     let found = filter (link_with_domain row.id) xs.links in
     let rows = step (dated row.due found) (λ rows. with_links xs (registrant_alone registrant.given) rows) links.given registrant.rest in
     let so = kept found rows.given (are_dated row.due found) rows.is in
-    record { registrant = registrant.given; registrant_is = registrant.is; all = ap (with_links xs (registrant_alone registrant.given)) so.1 ∙ rows.rest ∙ ap Some same; are_so = so.0 }
+    record { registrant = registrant.given; registrant_is = registrant.is; all = ap (with_links xs (registrant_alone registrant.given)) so.1 ∙ rows.rest ∙ ap Some same; all_dated = so.0 }
 
 -- ---- names in the lists
 

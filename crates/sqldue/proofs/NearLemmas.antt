@@ -42,7 +42,7 @@ use Rattle.meanings.proofs.StateLemmas.{reads-on, stays-on}
 use Rattle.tables.specs.Contact as contact_table
 use Rattle.tables.specs.Content.{Content}
 use Rattle.tables.specs.Domain as domain_table
-use Rattle.tables.specs.Due.{is_due, is_due_by}
+use Rattle.tables.specs.Due.{falls_due, is_due_by}
 use Rattle.tables.specs.Host as host_table
 use Rattle.tables.specs.Link as link_table
 use Rattle.tables.specs.Transfer as transfer_table
@@ -58,7 +58,7 @@ use Rattle.sqldomains.proofs.SponsorLemmas.{parts, sponsor-read}
 use Rattle.sqlterms.specs.Terms.{days_of}
 use Rattle.sqldue.specs.Dues.{dues_are_right}
 use Rattle.sqldue.specs.Finding as spec
-use Rattle.sqldue.specs.Near.{IsFoundNear, concerned_in, contact_numbered, contact_of_transfer, contacts_asked, contacts_named, contacts_near, contacts_sponsored, domain_numbered, domain_of_link, domain_of_transfer, domains_alike, domains_asked, domains_by_names, domains_named, domains_near, domains_sponsored, domains_to_contact, domains_to_contacts, domains_to_host, domains_to_hosts, each_of, hosts_named, is_any, is_behind, pending_of}
+use Rattle.sqldue.specs.Near.{HasAllNear, IsFoundNear, concerned_in, contact_numbered, contact_of_transfer, contacts_asked, contacts_found, contacts_named, contacts_near, contacts_sponsored, domain_numbered, domain_of_link, domain_of_transfer, domains_alike, domains_asked, domains_by_names, domains_found, domains_named, domains_near, domains_sponsored, domains_to_contact, domains_to_contacts, domains_to_host, domains_to_hosts, each_of, hosts_named, is_any, is_behind, pending_of}
 use Rattle.sqldue.proofs.FoundLemmas.{InOrder, found-rises, objects-found, rows-found, rows-read, same-picked, shown}
 use Rattle.sqldue.proofs.DueLemmas.{all-found, contact-row, contact-stands, contact-under, contact-within, domain-within, never-before}
 
@@ -227,14 +227,14 @@ pending-has xs r x row there reads at = go (is_pending_state x.state) refl at
     go : (b : Bool) → is_pending_state x.state ≡ b → (b && names r x) ≡ true → Has (pending_of (Some r) xs) row
     go false is e = cc
     go true is e =
-        let due : is_due row.due ≡ true = sym (ap (λ (z : transfer_table.Transfer). is_due z.due) written) ∙ ap (λ b. is_due (cond b (Some (pos x.ac_date)) None)) is ∙ never-before x.ac_date in
+        let due : falls_due row.due ≡ true = sym (ap (λ (z : transfer_table.Transfer). falls_due z.due) written) ∙ ap (λ b. falls_due (cond b (Some (pos x.ac_date)) None)) is ∙ never-before x.ac_date in
         ⊎_elim
         (λ asked. has-left (filter (transfer_table.transfer_pending_by (registrar_column r)) xs.transfers) (filter (transfer_table.transfer_pending_from (registrar_column r)) xs.transfers) row
         (filter-has (transfer_table.transfer_pending_by (registrar_column r)) xs.transfers row there
-        (and_from (int_eq row.requester (registrar_column r)) (is_due row.due) (equal row.requester (registrar_column r) (sym (ap (λ (z : transfer_table.Transfer). z.requester) written) ∙ ap registrar_column (eqb-true x.requester r asked))) due)))
+        (and_from (int_eq row.requester (registrar_column r)) (falls_due row.due) (equal row.requester (registrar_column r) (sym (ap (λ (z : transfer_table.Transfer). z.requester) written) ∙ ap registrar_column (eqb-true x.requester r asked))) due)))
         (λ lost. has-right (filter (transfer_table.transfer_pending_by (registrar_column r)) xs.transfers) (filter (transfer_table.transfer_pending_from (registrar_column r)) xs.transfers) row
         (filter-has (transfer_table.transfer_pending_from (registrar_column r)) xs.transfers row there
-        (and_from (int_eq row.losing (registrar_column r)) (is_due row.due) (equal row.losing (registrar_column r) (sym (ap (λ (z : transfer_table.Transfer). z.losing) written) ∙ ap registrar_column (eqb-true x.losing_registrar r lost))) due)))
+        (and_from (int_eq row.losing (registrar_column r)) (falls_due row.due) (equal row.losing (registrar_column r) (sym (ap (λ (z : transfer_table.Transfer). z.losing) written) ∙ ap registrar_column (eqb-true x.losing_registrar r lost))) due)))
         (or_cases (x.requester == r) (x.losing_registrar == r) e)
 
 points : (to : Option ℤ) (id : ℤ) → to ≡ Some id → points_to to id ≡ true
@@ -510,11 +510,11 @@ nothing-due xs p t whole days right still =
 pub near-told : (s a b c d e : StateOf Content) (p : PolicyRules) (r : Option ℕ) (g : Names) (m : ℕ) (pending first second : List transfer_table.Transfer) (cfound crows : List contact_table.Contact) (contacts : List Due) (dfound drows : List domain_table.Domain) (all list : List Due)
     → Reads s a × (a.is_clean ≡ true → pending ≡ pending_of r s.content)
     → first ≡ pending
-    → Reads a b × (b.is_clean ≡ true → cfound ≡ contacts_sponsored r m a.content ++ (each_of (contact_of_transfer a.content) first ++ each_of (contacts_named a.content) g.contacts))
+    → Reads a b × (b.is_clean ≡ true → cfound ≡ contacts_found r first g m a.content)
     → crows ≡ filter (contact_table.contact_within_due (pos m)) cfound
     → Reads b c × (c.is_clean ≡ true → spec.with_rows (spec.contact_in m b.content) [] crows ≡ Some contacts)
     → second ≡ pending
-    → Reads c d × (d.is_clean ≡ true → dfound ≡ domains_sponsored r m c.content ++ (each_of (domain_of_transfer c.content) second ++ domains_by_names g m c.content))
+    → Reads c d × (d.is_clean ≡ true → dfound ≡ domains_found r second g m c.content)
     → drows ≡ filter (domain_table.domain_within_due (pos m)) dfound
     → Reads d e × (e.is_clean ≡ true → spec.with_rows (spec.domain_in p m d.content) contacts drows ≡ Some all)
     → list ≡ all
@@ -536,8 +536,8 @@ near-told s a b c d e p r g m pending first second cfound crows contacts dfound 
           let pend : pending ≡ pending_of r s.content = asked.1 at_a in
           let here : first ≡ pending_of r s.content = one ∙ pend in
           let there : second ≡ pending_of r s.content = two ∙ pend in
-          let cs : crows ≡ contacts_asked r g m s.content = ckept ∙ ap (filter (contact_table.contact_within_due (pos m))) (cgot.1 at_b ∙ (λ i. contacts_sponsored r m (of_a i) ++ (each_of (contact_of_transfer (of_a i)) (here i) ++ each_of (contacts_named (of_a i)) g.contacts))) in
-          let ds : drows ≡ domains_asked r g m s.content = dkept ∙ ap (filter (domain_table.domain_within_due (pos m))) (dgot.1 at_d ∙ (λ i. domains_sponsored r m (of_c i) ++ (each_of (domain_of_transfer (of_c i)) (there i) ++ domains_by_names g m (of_c i)))) in
+          let cs : crows ≡ contacts_asked r g m s.content = ckept ∙ ap (filter (contact_table.contact_within_due (pos m))) (cgot.1 at_b ∙ (λ i. contacts_found r (here i) g m (of_a i))) in
+          let ds : drows ≡ domains_asked r g m s.content = dkept ∙ ap (filter (domain_table.domain_within_due (pos m))) (dgot.1 at_d ∙ (λ i. domains_found r (there i) g m (of_c i))) in
           record {
             contacts = contacts;
             first = sym (λ i. spec.with_rows (spec.contact_in m (of_b i)) [] (cs i)) ∙ cread.1 at_c;
@@ -550,10 +550,7 @@ module _ (s a b : StateOf Content) (p : PolicyRules) (r : Option ℕ) (g : Names
   abbrev chosen : Due → Bool
   chosen = is_picked (concerned_in r g s.content)
 
-  abbrev all_due : List Due
-  all_due = found_due (domain_due p m) (found_due (contact_due m) [] (entries (contacts_of s.content))) (entries (domains_of s.content))
-
-  pub nothing-told : (list : List Due) → list ≡ [] → behind ≡ false → Reads s b × (b.is_clean ≡ true → dues_are_right s.content ≡ true → filter chosen list ≡ filter chosen all_due)
+  pub nothing-told : (list : List Due) → list ≡ [] → behind ≡ false → Reads s b × (b.is_clean ≡ true → dues_are_right s.content ≡ true → HasAllNear p r g m s.content list)
   nothing-told list none still = (
     reads-on s a b days.0 asked.0,
     λ clean right.
@@ -562,7 +559,7 @@ module _ (s a b : StateOf Content) (p : PolicyRules) (r : Option ℕ) (g : Names
         ap (filter chosen) (none ∙ nothing-due s.content p m (subst IsWhole same (whole at_a)) (days.1 at_a) right (sym (ap (is_behind m) same) ∙ sym (asked.1 clean) ∙ still)),
   )
 
-  pub near-picked : (c : StateOf Content) (found : Result (List Due) BookFault) → Meets found (IsFoundNear p r g m b.content) b c → Meets found (λ due. dues_are_right s.content ≡ true → filter chosen due ≡ filter chosen all_due) s c
+  pub near-picked : (c : StateOf Content) (found : Result (List Due) BookFault) → Meets found (IsFoundNear p r g m b.content) b c → Meets found (λ due. dues_are_right s.content ≡ true → HasAllNear p r g m s.content due) s c
   near-picked c (Err fault) met = stays-on s b c (reads-on s a b days.0 asked.0) met
   near-picked c (Ok due) met =
       let sb = reads-on s a b days.0 asked.0 in (

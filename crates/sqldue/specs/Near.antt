@@ -1,13 +1,13 @@
 -- What may be due of that which concerns a registrar and some names, as it is found by indexes.
 use Rattle.std.specs.Prelude.{◌≡◌, ℕ, ℤ, ◌==◌, Bool, not, ◌||◌, length, take, List, [], ◌∷◌, ◌++◌, filter, Option, Some, None}
 use Rattle.columns.specs.Numbers.{moment_column, registrar_column}
-use Rattle.concerns.specs.Concerns.{concerns_domain, contact_name, domain_name, domain_roid, is_about, meant, read_at}
+use Rattle.concerns.specs.Concerns.{concerned}
 use Rattle.concerns.specs.declared.given.Names.{Names}
-use Rattle.std.specs.FinMap.{get}
 use Rattle.model.specs.Lapse.{Choice}
-use Rattle.objects.specs.Links.{has_name}
-use Rattle.objects.specs.declared.contact.Contact.{Contact}
-use Rattle.protocol.specs.Requests.{holds_of}
+use Rattle.model.specs.Registry.{Registry, blank}
+use Rattle.policy.specs.Rules.{PolicyRules}
+use Rattle.store.specs.declared.due.Due.{Due}
+use Rattle.store.specs.Due.{due_for, is_picked}
 use Rattle.tables.specs.Contact as contact_table
 use Rattle.tables.specs.Content.{Content}
 use Rattle.tables.specs.Domain as domain_table
@@ -15,10 +15,8 @@ use Rattle.tables.specs.Host as host_table
 use Rattle.tables.specs.Link as link_table
 use Rattle.tables.specs.Transfer as transfer_table
 use Rattle.sqldomains.specs.Domains.{domains_of}
-use Rattle.policy.specs.Rules.{PolicyRules}
-use Rattle.store.specs.declared.due.Due.{Due}
-use Rattle.sqldue.specs.Finding.{contact_in, contacts_until, domain_in, domains_until, with_rows}
 use Rattle.sqlobjects.specs.Objects.{contacts_of}
+use Rattle.sqldue.specs.Finding.{contact_in, contacts_until, domain_in, domains_until, with_rows}
 
 -- ---- whether anything is due at all
 
@@ -30,12 +28,16 @@ is_behind t xs = is_any (take 1 (contacts_until t xs)) || is_any (take 1 (domain
 
 -- ---- what is concerned
 
--- that which concerns a registrar and some names, by the objects that rows mean
+-- the contacts and domains that rows mean, as a registry that has nothing else
+abbrev pub objects_in : Content → Registry
+objects_in xs = record blank { contacts = contacts_of xs; domains = domains_of xs }
+
 abbrev pub concerned_in : Option ℕ → Names → Content → Choice
-concerned_in r g xs = record {
-  contacts = λ name. has_name (meant contact_name (contacts_of xs) g.contacts) name || holds_of (λ (x : Contact). is_about r x.sponsor x.transfer) (get (contacts_of xs) name);
-  domains = λ name. has_name (meant domain_name (domains_of xs) g.domains) name || holds_of (concerns_domain r g (read_at domain_roid (domains_of xs) g.domains)) (get (domains_of xs) name);
-}
+concerned_in r g xs = concerned r g (objects_in xs)
+
+-- of this the same is concerned as of all that is due by a moment
+abbrev pub HasAllNear : PolicyRules → Option ℕ → Names → ℕ → Content → List Due → Type 0
+HasAllNear p r g t xs due = filter (is_picked (concerned_in r g xs)) due ≡ due_for p r g t (objects_in xs)
 
 -- ---- rows found one after another
 
@@ -109,8 +111,15 @@ domains_to_hosts t xs name = each_of (domains_to_host t xs) (hosts_named xs name
 
 -- ---- all of them
 
+-- where these transfers are pending
+abbrev pub contacts_found : Option ℕ → List transfer_table.Transfer → Names → ℕ → Content → List contact_table.Contact
+contacts_found r pending g t xs =
+    contacts_sponsored r t xs
+    ++ (each_of (contact_of_transfer xs) pending
+    ++ each_of (contacts_named xs) g.contacts)
+
 abbrev pub contacts_near : Option ℕ → Names → ℕ → Content → List contact_table.Contact
-contacts_near r g t xs = contacts_sponsored r t xs ++ (each_of (contact_of_transfer xs) (pending_of r xs) ++ each_of (contacts_named xs) g.contacts)
+contacts_near r g t xs = contacts_found r (pending_of r xs) g t xs
 
 abbrev pub domains_by_names : Names → ℕ → Content → List domain_table.Domain
 domains_by_names g t xs =
@@ -118,8 +127,14 @@ domains_by_names g t xs =
     ++ (each_of (domains_to_contacts t xs) g.contacts
     ++ each_of (domains_to_hosts t xs) g.hosts)
 
+abbrev pub domains_found : Option ℕ → List transfer_table.Transfer → Names → ℕ → Content → List domain_table.Domain
+domains_found r pending g t xs =
+    domains_sponsored r t xs
+    ++ (each_of (domain_of_transfer xs) pending
+    ++ domains_by_names g t xs)
+
 abbrev pub domains_near : Option ℕ → Names → ℕ → Content → List domain_table.Domain
-domains_near r g t xs = domains_sponsored r t xs ++ (each_of (domain_of_transfer xs) (pending_of r xs) ++ domains_by_names g t xs)
+domains_near r g t xs = domains_found r (pending_of r xs) g t xs
 
 -- of these, those that may be due: no other is read
 abbrev pub contacts_asked : Option ℕ → Names → ℕ → Content → List contact_table.Contact

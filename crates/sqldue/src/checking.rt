@@ -25,7 +25,7 @@ use tables::{DomainRow, RowStore};
 use transactions::BookFault;
 
 /// When a domain's row is due: when the domain is, or at the last moment where that lies past it.
-pub fn due_for(domain: &Domain, policy: &Policy) -> Moment
+pub fn due_of_domain(domain: &Domain, policy: &Policy) -> Moment
     ensures { int_le (numbers.moment_column result) (pos (lapse.due_at (rules_with policy.now.days) domain.now)) ≡ true }
 {
     let last = last_moment();
@@ -94,5 +94,5 @@ fn due_in(row: &DomainRow) -> Result<Moment, BookFault>
 fn is_no_later(due: Moment, domain: &Domain, policy: &Policy) -> bool
     ensures { result ≡ true → int_le (numbers.moment_column due) (pos (lapse.due_at (rules_with policy.now.days) domain.now)) ≡ true }
 {
-    due <= due_for(domain, policy)
+    due <= due_of_domain(domain, policy)
 }

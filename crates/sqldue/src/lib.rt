@@ -6,12 +6,15 @@
 //! other days than those that the rows were written under.
 #![tactic(auto)]
 
+mod by_names;
+mod by_registrar;
 mod checking;
 mod finding;
+mod joining;
 mod length;
 mod near;
 
-pub use checking::{due_for, standing};
+pub use checking::{due_of_domain, standing};
 pub use finding::due;
 pub use length::same_days;
 pub use near::due_near;

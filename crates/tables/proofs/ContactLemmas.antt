@@ -33,6 +33,10 @@ use Rattle.tables.proofs.TableLemmas.{asks_contacts, alters_contacts}
 abbrev columns : List Term
 columns = col 1 0 ∷ col 1 2 ∷ col 1 3 ∷ col 1 4 ∷ col 1 5 ∷ col 1 6 ∷ col 1 7 ∷ col 1 8 ∷ col 1 9 ∷ col 1 10 ∷ col 1 11 ∷ col 1 12 ∷ col 1 13 ∷ col 1 14 ∷ col 1 15 ∷ col 1 16 ∷ col 1 17 ∷ col 1 18 ∷ col 1 19 ∷ col 1 20 ∷ []
 
+-- and what they are called
+abbrev titles : List (List ℕ)
+titles = codes "id" ∷ codes "name" ∷ codes "creator" ∷ codes "serial" ∷ codes "sponsor" ∷ codes "created" ∷ codes "transferred" ∷ codes "updated" ∷ codes "statuses" ∷ codes "secret" ∷ codes "postal_name" ∷ codes "org" ∷ codes "street" ∷ codes "city" ∷ codes "state" ∷ codes "postal_code" ∷ codes "country" ∷ codes "voice" ∷ codes "due" ∷ codes "mail" ∷ []
+
 abbrev due_columns : List Term
 due_columns = col 1 19 ∷ []
 
@@ -41,7 +45,7 @@ table = record contact { tree = 3 }
 
 pub by_id_is : IsSelect registry contact_by_id (select_query 3 (op2 (Compare Eq Binary) (col 1 0) (col 0 0) ∷ []) columns)
 unfolding understood everything
-by_id_is = record { names = codes "id" ∷ codes "name" ∷ codes "creator" ∷ codes "serial" ∷ codes "sponsor" ∷ codes "created" ∷ codes "transferred" ∷ codes "updated" ∷ codes "statuses" ∷ codes "secret" ∷ codes "postal_name" ∷ codes "org" ∷ codes "street" ∷ codes "city" ∷ codes "state" ∷ codes "postal_code" ∷ codes "country" ∷ codes "voice" ∷ codes "due" ∷ codes "mail" ∷ []; command = refl; plain = (refl, refl); unlisted = refl }
+by_id_is = record { names = titles; command = refl; plain = (refl, refl); unlisted = refl }
 
 pub by_id_asks : (v : ℤ) → Asks contact_shown contact_by_id (Int v ∷ []) (λ c. filter (contact_with_id v) c.contacts)
 by_id_asks v = asks_contacts contact_shown contact_by_id (Int v ∷ []) _ (λ xs. filter (contact_with_id v) xs) by_id_is (λ db xs rows h answer.
@@ -49,7 +53,7 @@ by_id_asks v = asks_contacts contact_shown contact_by_id (Int v ∷ []) _ (λ xs
 
 pub by_name_is : IsSelect registry contact_by_name (select_query 3 (op2 (Compare Eq Binary) (col 1 2) (col 0 0) ∷ []) columns)
 unfolding understood everything
-by_name_is = record { names = codes "id" ∷ codes "name" ∷ codes "creator" ∷ codes "serial" ∷ codes "sponsor" ∷ codes "created" ∷ codes "transferred" ∷ codes "updated" ∷ codes "statuses" ∷ codes "secret" ∷ codes "postal_name" ∷ codes "org" ∷ codes "street" ∷ codes "city" ∷ codes "state" ∷ codes "postal_code" ∷ codes "country" ∷ codes "voice" ∷ codes "due" ∷ codes "mail" ∷ []; command = refl; plain = (refl, refl); unlisted = refl }
+by_name_is = record { names = titles; command = refl; plain = (refl, refl); unlisted = refl }
 
 pub by_name_asks : (v : List ℕ) → Asks contact_shown contact_by_name (Text v ∷ []) (λ c. filter (contact_with_name v) c.contacts)
 by_name_asks v = asks_contacts contact_shown contact_by_name (Text v ∷ []) _ (λ xs. filter (contact_with_name v) xs) by_name_is (λ db xs rows h answer.
@@ -60,7 +64,7 @@ due_order x y = then_key (value_cmp-maybe_int x.due y.due) (last_key (value_cmp-
 
 pub until_due_is : IsSelect registry contact_until_due (sorted_query 3 (op2 (Compare Ge Binary) (col 1 19) (lit (Int (pos 0))) ∷ op2 (Compare Le Binary) (col 1 19) (col 0 0) ∷ []) columns due_columns (negsuc 0))
 unfolding understood everything
-until_due_is = record { names = codes "id" ∷ codes "name" ∷ codes "creator" ∷ codes "serial" ∷ codes "sponsor" ∷ codes "created" ∷ codes "transferred" ∷ codes "updated" ∷ codes "statuses" ∷ codes "secret" ∷ codes "postal_name" ∷ codes "org" ∷ codes "street" ∷ codes "city" ∷ codes "state" ∷ codes "postal_code" ∷ codes "country" ∷ codes "voice" ∷ codes "due" ∷ codes "mail" ∷ []; command = refl; plain = (refl, refl); unlisted = refl }
+until_due_is = record { names = titles; command = refl; plain = (refl, refl); unlisted = refl }
 
 pub until_due_asks : (due : ℤ) → Asks contact_shown contact_until_due (Int due ∷ []) (λ c. contacts_by_due (filter (contact_within_due due) c.contacts))
 until_due_asks due = asks_contacts contact_shown contact_until_due (Int due ∷ []) _ (λ xs. contacts_by_due (filter (contact_within_due due) xs)) until_due_is (λ db xs rows h answer.
@@ -68,7 +72,7 @@ until_due_asks due = asks_contacts contact_shown contact_until_due (Int due ∷ 
 
 pub first_until_due_is : IsSelect registry contact_first_until_due (sorted_query 3 (op2 (Compare Ge Binary) (col 1 19) (lit (Int (pos 0))) ∷ op2 (Compare Le Binary) (col 1 19) (col 0 0) ∷ []) columns due_columns (pos 1))
 unfolding understood everything
-first_until_due_is = record { names = codes "id" ∷ codes "name" ∷ codes "creator" ∷ codes "serial" ∷ codes "sponsor" ∷ codes "created" ∷ codes "transferred" ∷ codes "updated" ∷ codes "statuses" ∷ codes "secret" ∷ codes "postal_name" ∷ codes "org" ∷ codes "street" ∷ codes "city" ∷ codes "state" ∷ codes "postal_code" ∷ codes "country" ∷ codes "voice" ∷ codes "due" ∷ codes "mail" ∷ []; command = refl; plain = (refl, refl); unlisted = refl }
+first_until_due_is = record { names = titles; command = refl; plain = (refl, refl); unlisted = refl }
 
 pub first_until_due_asks : (due : ℤ) → Asks contact_shown contact_first_until_due (Int due ∷ []) (λ c. take 1 (contacts_by_due (filter (contact_within_due due) c.contacts)))
 first_until_due_asks due = asks_contacts contact_shown contact_first_until_due (Int due ∷ []) _ (λ xs. take 1 (contacts_by_due (filter (contact_within_due due) xs))) first_until_due_is (λ db xs rows h answer.
@@ -77,7 +81,7 @@ first_until_due_asks due = asks_contacts contact_shown contact_first_until_due (
 
 pub by_sponsor_until_due_is : IsSelect registry contact_by_sponsor_until_due (select_query 3 (op2 (Compare Eq Binary) (col 1 5) (col 0 0) ∷ op2 (Compare Ge Binary) (col 1 19) (lit (Int (pos 0))) ∷ op2 (Compare Le Binary) (col 1 19) (col 0 1) ∷ []) columns)
 unfolding understood everything
-by_sponsor_until_due_is = record { names = codes "id" ∷ codes "name" ∷ codes "creator" ∷ codes "serial" ∷ codes "sponsor" ∷ codes "created" ∷ codes "transferred" ∷ codes "updated" ∷ codes "statuses" ∷ codes "secret" ∷ codes "postal_name" ∷ codes "org" ∷ codes "street" ∷ codes "city" ∷ codes "state" ∷ codes "postal_code" ∷ codes "country" ∷ codes "voice" ∷ codes "due" ∷ codes "mail" ∷ []; command = refl; plain = (refl, refl); unlisted = refl }
+by_sponsor_until_due_is = record { names = titles; command = refl; plain = (refl, refl); unlisted = refl }
 
 pub by_sponsor_until_due_asks : (sponsor due : ℤ) → Asks contact_shown contact_by_sponsor_until_due (Int sponsor ∷ Int due ∷ []) (λ c. filter (contact_of_sponsor_within sponsor due) c.contacts)
 by_sponsor_until_due_asks sponsor due = asks_contacts contact_shown contact_by_sponsor_until_due (Int sponsor ∷ Int due ∷ []) _ (λ xs. filter (contact_of_sponsor_within sponsor due) xs) by_sponsor_until_due_is (λ db xs rows h answer.

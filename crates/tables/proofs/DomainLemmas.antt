@@ -32,6 +32,10 @@ use Rattle.tables.proofs.TableLemmas.{asks_domains, alters_domains}
 abbrev columns : List Term
 columns = col 1 0 ∷ col 1 2 ∷ col 1 3 ∷ col 1 4 ∷ col 1 5 ∷ col 1 6 ∷ col 1 7 ∷ col 1 8 ∷ col 1 9 ∷ col 1 10 ∷ col 1 11 ∷ col 1 12 ∷ col 1 13 ∷ col 1 14 ∷ col 1 15 ∷ []
 
+-- and what they are called
+abbrev titles : List (List ℕ)
+titles = codes "id" ∷ codes "name" ∷ codes "creator" ∷ codes "serial" ∷ codes "sponsor" ∷ codes "created" ∷ codes "years" ∷ codes "transferred" ∷ codes "updated" ∷ codes "statuses" ∷ codes "secret" ∷ codes "registrant" ∷ codes "deleted" ∷ codes "restore_requested" ∷ codes "due" ∷ []
+
 abbrev due_columns : List Term
 due_columns = col 1 15 ∷ []
 
@@ -40,7 +44,7 @@ table = record domain { tree = 5 }
 
 pub all_is : IsSelect registry domain_all (select_query 5 ([]) columns)
 unfolding understood everything
-all_is = record { names = codes "id" ∷ codes "name" ∷ codes "creator" ∷ codes "serial" ∷ codes "sponsor" ∷ codes "created" ∷ codes "years" ∷ codes "transferred" ∷ codes "updated" ∷ codes "statuses" ∷ codes "secret" ∷ codes "registrant" ∷ codes "deleted" ∷ codes "restore_requested" ∷ codes "due" ∷ []; command = refl; plain = (refl, refl); unlisted = refl }
+all_is = record { names = titles; command = refl; plain = (refl, refl); unlisted = refl }
 
 pub all_asks : Asks domain_shown domain_all [] (λ c. c.domains)
 all_asks = asks_domains domain_shown domain_all [] _ (λ xs. xs) all_is (λ db xs rows h answer.
@@ -48,7 +52,7 @@ all_asks = asks_domains domain_shown domain_all [] _ (λ xs. xs) all_is (λ db x
 
 pub by_id_is : IsSelect registry domain_by_id (select_query 5 (op2 (Compare Eq Binary) (col 1 0) (col 0 0) ∷ []) columns)
 unfolding understood everything
-by_id_is = record { names = codes "id" ∷ codes "name" ∷ codes "creator" ∷ codes "serial" ∷ codes "sponsor" ∷ codes "created" ∷ codes "years" ∷ codes "transferred" ∷ codes "updated" ∷ codes "statuses" ∷ codes "secret" ∷ codes "registrant" ∷ codes "deleted" ∷ codes "restore_requested" ∷ codes "due" ∷ []; command = refl; plain = (refl, refl); unlisted = refl }
+by_id_is = record { names = titles; command = refl; plain = (refl, refl); unlisted = refl }
 
 pub by_id_asks : (v : ℤ) → Asks domain_shown domain_by_id (Int v ∷ []) (λ c. filter (domain_with_id v) c.domains)
 by_id_asks v = asks_domains domain_shown domain_by_id (Int v ∷ []) _ (λ xs. filter (domain_with_id v) xs) by_id_is (λ db xs rows h answer.
@@ -56,7 +60,7 @@ by_id_asks v = asks_domains domain_shown domain_by_id (Int v ∷ []) _ (λ xs. f
 
 pub by_name_is : IsSelect registry domain_by_name (select_query 5 (op2 (Compare Eq Binary) (col 1 2) (col 0 0) ∷ []) columns)
 unfolding understood everything
-by_name_is = record { names = codes "id" ∷ codes "name" ∷ codes "creator" ∷ codes "serial" ∷ codes "sponsor" ∷ codes "created" ∷ codes "years" ∷ codes "transferred" ∷ codes "updated" ∷ codes "statuses" ∷ codes "secret" ∷ codes "registrant" ∷ codes "deleted" ∷ codes "restore_requested" ∷ codes "due" ∷ []; command = refl; plain = (refl, refl); unlisted = refl }
+by_name_is = record { names = titles; command = refl; plain = (refl, refl); unlisted = refl }
 
 pub by_name_asks : (v : List ℕ) → Asks domain_shown domain_by_name (Text v ∷ []) (λ c. filter (domain_with_name v) c.domains)
 by_name_asks v = asks_domains domain_shown domain_by_name (Text v ∷ []) _ (λ xs. filter (domain_with_name v) xs) by_name_is (λ db xs rows h answer.
@@ -64,7 +68,7 @@ by_name_asks v = asks_domains domain_shown domain_by_name (Text v ∷ []) _ (λ 
 
 pub first_by_registrant_is : IsSelect registry domain_first_by_registrant (limited_query 5 (op2 (Compare Eq Binary) (col 1 12) (col 0 0) ∷ []) columns (pos 1))
 unfolding understood everything
-first_by_registrant_is = record { names = codes "id" ∷ codes "name" ∷ codes "creator" ∷ codes "serial" ∷ codes "sponsor" ∷ codes "created" ∷ codes "years" ∷ codes "transferred" ∷ codes "updated" ∷ codes "statuses" ∷ codes "secret" ∷ codes "registrant" ∷ codes "deleted" ∷ codes "restore_requested" ∷ codes "due" ∷ []; command = refl; plain = (refl, refl); unlisted = refl }
+first_by_registrant_is = record { names = titles; command = refl; plain = (refl, refl); unlisted = refl }
 
 pub first_by_registrant_asks : (v : ℤ) → Asks domain_shown domain_first_by_registrant (Int v ∷ []) (λ c. take 1 (filter (domain_with_registrant v) c.domains))
 first_by_registrant_asks v = asks_domains domain_shown domain_first_by_registrant (Int v ∷ []) _ (λ xs. take 1 (filter (domain_with_registrant v) xs)) first_by_registrant_is (λ db xs rows h answer.
@@ -76,7 +80,7 @@ due_order x y = then_key (value_cmp-Int x.due y.due) (last_key (value_cmp-Int x.
 
 pub until_due_is : IsSelect registry domain_until_due (sorted_query 5 (op2 (Compare Le Binary) (col 1 15) (col 0 0) ∷ []) columns due_columns (negsuc 0))
 unfolding understood everything
-until_due_is = record { names = codes "id" ∷ codes "name" ∷ codes "creator" ∷ codes "serial" ∷ codes "sponsor" ∷ codes "created" ∷ codes "years" ∷ codes "transferred" ∷ codes "updated" ∷ codes "statuses" ∷ codes "secret" ∷ codes "registrant" ∷ codes "deleted" ∷ codes "restore_requested" ∷ codes "due" ∷ []; command = refl; plain = (refl, refl); unlisted = refl }
+until_due_is = record { names = titles; command = refl; plain = (refl, refl); unlisted = refl }
 
 pub until_due_asks : (v : ℤ) → Asks domain_shown domain_until_due (Int v ∷ []) (λ c. domains_by_due (filter (domain_within_due v) c.domains))
 until_due_asks v = asks_domains domain_shown domain_until_due (Int v ∷ []) _ (λ xs. domains_by_due (filter (domain_within_due v) xs)) until_due_is (λ db xs rows h answer.
@@ -84,7 +88,7 @@ until_due_asks v = asks_domains domain_shown domain_until_due (Int v ∷ []) _ (
 
 pub first_until_due_is : IsSelect registry domain_first_until_due (sorted_query 5 (op2 (Compare Le Binary) (col 1 15) (col 0 0) ∷ []) columns due_columns (pos 1))
 unfolding understood everything
-first_until_due_is = record { names = codes "id" ∷ codes "name" ∷ codes "creator" ∷ codes "serial" ∷ codes "sponsor" ∷ codes "created" ∷ codes "years" ∷ codes "transferred" ∷ codes "updated" ∷ codes "statuses" ∷ codes "secret" ∷ codes "registrant" ∷ codes "deleted" ∷ codes "restore_requested" ∷ codes "due" ∷ []; command = refl; plain = (refl, refl); unlisted = refl }
+first_until_due_is = record { names = titles; command = refl; plain = (refl, refl); unlisted = refl }
 
 pub first_until_due_asks : (v : ℤ) → Asks domain_shown domain_first_until_due (Int v ∷ []) (λ c. take 1 (domains_by_due (filter (domain_within_due v) c.domains)))
 first_until_due_asks v = asks_domains domain_shown domain_first_until_due (Int v ∷ []) _ (λ xs. take 1 (domains_by_due (filter (domain_within_due v) xs))) first_until_due_is (λ db xs rows h answer.
@@ -93,7 +97,7 @@ first_until_due_asks v = asks_domains domain_shown domain_first_until_due (Int v
 
 pub by_sponsor_until_due_is : IsSelect registry domain_by_sponsor_until_due (select_query 5 (op2 (Compare Eq Binary) (col 1 5) (col 0 0) ∷ op2 (Compare Le Binary) (col 1 15) (col 0 1) ∷ []) columns)
 unfolding understood everything
-by_sponsor_until_due_is = record { names = codes "id" ∷ codes "name" ∷ codes "creator" ∷ codes "serial" ∷ codes "sponsor" ∷ codes "created" ∷ codes "years" ∷ codes "transferred" ∷ codes "updated" ∷ codes "statuses" ∷ codes "secret" ∷ codes "registrant" ∷ codes "deleted" ∷ codes "restore_requested" ∷ codes "due" ∷ []; command = refl; plain = (refl, refl); unlisted = refl }
+by_sponsor_until_due_is = record { names = titles; command = refl; plain = (refl, refl); unlisted = refl }
 
 pub by_sponsor_until_due_asks : (sponsor due : ℤ) → Asks domain_shown domain_by_sponsor_until_due (Int sponsor ∷ Int due ∷ []) (λ c. filter (domain_of_sponsor_within sponsor due) c.domains)
 by_sponsor_until_due_asks sponsor due = asks_domains domain_shown domain_by_sponsor_until_due (Int sponsor ∷ Int due ∷ []) _ (λ xs. filter (domain_of_sponsor_within sponsor due) xs) by_sponsor_until_due_is (λ db xs rows h answer.
@@ -101,7 +105,7 @@ by_sponsor_until_due_asks sponsor due = asks_domains domain_shown domain_by_spon
 
 pub by_registrant_until_due_is : IsSelect registry domain_by_registrant_until_due (select_query 5 (op2 (Compare Eq Binary) (col 1 12) (col 0 0) ∷ op2 (Compare Le Binary) (col 1 15) (col 0 1) ∷ []) columns)
 unfolding understood everything
-by_registrant_until_due_is = record { names = codes "id" ∷ codes "name" ∷ codes "creator" ∷ codes "serial" ∷ codes "sponsor" ∷ codes "created" ∷ codes "years" ∷ codes "transferred" ∷ codes "updated" ∷ codes "statuses" ∷ codes "secret" ∷ codes "registrant" ∷ codes "deleted" ∷ codes "restore_requested" ∷ codes "due" ∷ []; command = refl; plain = (refl, refl); unlisted = refl }
+by_registrant_until_due_is = record { names = titles; command = refl; plain = (refl, refl); unlisted = refl }
 
 pub by_registrant_until_due_asks : (registrant due : ℤ) → Asks domain_shown domain_by_registrant_until_due (Int registrant ∷ Int due ∷ []) (λ c. filter (domain_of_registrant_within registrant due) c.domains)
 by_registrant_until_due_asks registrant due = asks_domains domain_shown domain_by_registrant_until_due (Int registrant ∷ Int due ∷ []) _ (λ xs. filter (domain_of_registrant_within registrant due) xs) by_registrant_until_due_is (λ db xs rows h answer.
@@ -109,7 +113,7 @@ by_registrant_until_due_asks registrant due = asks_domains domain_shown domain_b
 
 pub by_roid_is : IsSelect registry domain_by_roid (select_query 5 (op2 (Compare Eq Binary) (col 1 3) (col 0 0) ∷ op2 (Compare Eq Binary) (col 1 4) (col 0 1) ∷ []) columns)
 unfolding understood everything
-by_roid_is = record { names = codes "id" ∷ codes "name" ∷ codes "creator" ∷ codes "serial" ∷ codes "sponsor" ∷ codes "created" ∷ codes "years" ∷ codes "transferred" ∷ codes "updated" ∷ codes "statuses" ∷ codes "secret" ∷ codes "registrant" ∷ codes "deleted" ∷ codes "restore_requested" ∷ codes "due" ∷ []; command = refl; plain = (refl, refl); unlisted = refl }
+by_roid_is = record { names = titles; command = refl; plain = (refl, refl); unlisted = refl }
 
 pub by_roid_asks : (creator serial : ℤ) → Asks domain_shown domain_by_roid (Int creator ∷ Int serial ∷ []) (λ c. filter (domain_with_roid creator serial) c.domains)
 by_roid_asks creator serial = asks_domains domain_shown domain_by_roid (Int creator ∷ Int serial ∷ []) _ (λ xs. filter (domain_with_roid creator serial) xs) by_roid_is (λ db xs rows h answer.

@@ -1,5 +1,5 @@
 -- What the statements on the table `link` mean.
-use Rattle.std.proofs.Common.{ap, pos, take, drop, ◌∙◌, refl, List, [], ◌∷◌, ℤ, filter, codes, false}
+use Rattle.std.proofs.Common.{ap, pos, take, drop, ◌∙◌, refl, List, [], ◌∷◌, ℕ, ℤ, filter, codes, false}
 use Rattle.sqlite_value.specs.declared.value.Value.TheVariants.{Null, Int}
 use Rattle.sqlite_value.specs.declared.keys.Collation.TheVariants.{Binary}
 use Rattle.std.specs.List.{take-map}
@@ -26,12 +26,16 @@ use Rattle.tables.proofs.TableLemmas.{asks_links, alters_links}
 abbrev columns : List Term
 columns = col 1 0 ∷ col 1 2 ∷ col 1 3 ∷ col 1 4 ∷ col 1 5 ∷ col 1 6 ∷ []
 
+-- and what they are called
+abbrev titles : List (List ℕ)
+titles = codes "id" ∷ codes "domain" ∷ codes "contact" ∷ codes "host" ∷ codes "role" ∷ codes "due" ∷ []
+
 abbrev table : Table
 table = record link { tree = 10 }
 
 pub by_domain_is : IsSelect registry link_by_domain (select_query 10 (op2 (Compare Eq Binary) (col 1 2) (col 0 0) ∷ []) columns)
 unfolding understood everything
-by_domain_is = record { names = codes "id" ∷ codes "domain" ∷ codes "contact" ∷ codes "host" ∷ codes "role" ∷ codes "due" ∷ []; command = refl; plain = (refl, refl); unlisted = refl }
+by_domain_is = record { names = titles; command = refl; plain = (refl, refl); unlisted = refl }
 
 pub by_domain_asks : (v : ℤ) → Asks link_shown link_by_domain (Int v ∷ []) (λ c. filter (link_with_domain v) c.links)
 by_domain_asks v = asks_links link_shown link_by_domain (Int v ∷ []) _ (λ xs. filter (link_with_domain v) xs) by_domain_is (λ db xs rows h answer.
@@ -39,7 +43,7 @@ by_domain_asks v = asks_links link_shown link_by_domain (Int v ∷ []) _ (λ xs.
 
 pub by_host_is : IsSelect registry link_by_host (select_query 10 (op2 (Compare Eq Binary) (col 1 4) (col 0 0) ∷ []) columns)
 unfolding understood everything
-by_host_is = record { names = codes "id" ∷ codes "domain" ∷ codes "contact" ∷ codes "host" ∷ codes "role" ∷ codes "due" ∷ []; command = refl; plain = (refl, refl); unlisted = refl }
+by_host_is = record { names = titles; command = refl; plain = (refl, refl); unlisted = refl }
 
 pub by_host_asks : (v : ℤ) → Asks link_shown link_by_host (Int v ∷ []) (λ c. filter (link_with_host v) c.links)
 by_host_asks v = asks_links link_shown link_by_host (Int v ∷ []) _ (λ xs. filter (link_with_host v) xs) by_host_is (λ db xs rows h answer.
@@ -47,7 +51,7 @@ by_host_asks v = asks_links link_shown link_by_host (Int v ∷ []) _ (λ xs. fil
 
 pub first_by_contact_is : IsSelect registry link_first_by_contact (limited_query 10 (op2 (Compare Eq Binary) (col 1 3) (col 0 0) ∷ []) columns (pos 1))
 unfolding understood everything
-first_by_contact_is = record { names = codes "id" ∷ codes "domain" ∷ codes "contact" ∷ codes "host" ∷ codes "role" ∷ codes "due" ∷ []; command = refl; plain = (refl, refl); unlisted = refl }
+first_by_contact_is = record { names = titles; command = refl; plain = (refl, refl); unlisted = refl }
 
 pub first_by_contact_asks : (v : ℤ) → Asks link_shown link_first_by_contact (Int v ∷ []) (λ c. take 1 (filter (link_with_contact v) c.links))
 first_by_contact_asks v = asks_links link_shown link_first_by_contact (Int v ∷ []) _ (λ xs. take 1 (filter (link_with_contact v) xs)) first_by_contact_is (λ db xs rows h answer.
@@ -56,7 +60,7 @@ first_by_contact_asks v = asks_links link_shown link_first_by_contact (Int v ∷
 
 pub first_by_host_is : IsSelect registry link_first_by_host (limited_query 10 (op2 (Compare Eq Binary) (col 1 4) (col 0 0) ∷ []) columns (pos 1))
 unfolding understood everything
-first_by_host_is = record { names = codes "id" ∷ codes "domain" ∷ codes "contact" ∷ codes "host" ∷ codes "role" ∷ codes "due" ∷ []; command = refl; plain = (refl, refl); unlisted = refl }
+first_by_host_is = record { names = titles; command = refl; plain = (refl, refl); unlisted = refl }
 
 pub first_by_host_asks : (v : ℤ) → Asks link_shown link_first_by_host (Int v ∷ []) (λ c. take 1 (filter (link_with_host v) c.links))
 first_by_host_asks v = asks_links link_shown link_first_by_host (Int v ∷ []) _ (λ xs. take 1 (filter (link_with_host v) xs)) first_by_host_is (λ db xs rows h answer.
@@ -65,7 +69,7 @@ first_by_host_asks v = asks_links link_shown link_first_by_host (Int v ∷ []) _
 
 pub by_contact_until_due_is : IsSelect registry link_by_contact_until_due (select_query 10 (op2 (Compare Eq Binary) (col 1 3) (col 0 0) ∷ op2 (Compare Le Binary) (col 1 6) (col 0 1) ∷ []) columns)
 unfolding understood everything
-by_contact_until_due_is = record { names = codes "id" ∷ codes "domain" ∷ codes "contact" ∷ codes "host" ∷ codes "role" ∷ codes "due" ∷ []; command = refl; plain = (refl, refl); unlisted = refl }
+by_contact_until_due_is = record { names = titles; command = refl; plain = (refl, refl); unlisted = refl }
 
 pub by_contact_until_due_asks : (contact due : ℤ) → Asks link_shown link_by_contact_until_due (Int contact ∷ Int due ∷ []) (λ c. filter (link_of_contact_within contact due) c.links)
 by_contact_until_due_asks contact due = asks_links link_shown link_by_contact_until_due (Int contact ∷ Int due ∷ []) _ (λ xs. filter (link_of_contact_within contact due) xs) by_contact_until_due_is (λ db xs rows h answer.
@@ -73,7 +77,7 @@ by_contact_until_due_asks contact due = asks_links link_shown link_by_contact_un
 
 pub by_host_until_due_is : IsSelect registry link_by_host_until_due (select_query 10 (op2 (Compare Eq Binary) (col 1 4) (col 0 0) ∷ op2 (Compare Le Binary) (col 1 6) (col 0 1) ∷ []) columns)
 unfolding understood everything
-by_host_until_due_is = record { names = codes "id" ∷ codes "domain" ∷ codes "contact" ∷ codes "host" ∷ codes "role" ∷ codes "due" ∷ []; command = refl; plain = (refl, refl); unlisted = refl }
+by_host_until_due_is = record { names = titles; command = refl; plain = (refl, refl); unlisted = refl }
 
 pub by_host_until_due_asks : (host due : ℤ) → Asks link_shown link_by_host_until_due (Int host ∷ Int due ∷ []) (λ c. filter (link_of_host_within host due) c.links)
 by_host_until_due_asks host due = asks_links link_shown link_by_host_until_due (Int host ∷ Int due ∷ []) _ (λ xs. filter (link_of_host_within host due) xs) by_host_until_due_is (λ db xs rows h answer.

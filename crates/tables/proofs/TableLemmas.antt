@@ -1,7 +1,9 @@
 -- Statements on one of the ten tables, as statements on all of them.
-use Rattle.std.proofs.Common.{◌≡◌, ◌≢◌, true, ℕ, List, [], map, Option, ◌∙◌, subst, sym}
+use Rattle.std.proofs.Common.{◌≡◌, ◌≢◌, true, ℕ, List, [], ◌∷◌, map, Option, ◌∙◌, ap, ap₂, subst, sym}
 use Rattle.std.specs.List.{AllByRecursion}
+use Rattle.sqlite_value.specs.declared.value.Value.{Value}
 use Rattle.sqlite_value.specs.Order.{Row}
+use Rattle.sqlite.specs.Values.{bound_value}
 use Rattle.sqlite_trees.specs.Tree.{Trees}
 use Rattle.sqlite_sql.specs.Query.{Query, IsAnswer}
 use Rattle.sqlite_sql.specs.Program.{overlay}
@@ -321,3 +323,10 @@ asks-by {R} {shown} {sql} {row} {given} {f} e a = subst (λ (r : Row). Asks show
 
 pub alters-by : {sql : List ℕ} {row given : Row} {f : Content → Content} → given ≡ row → Alters sql row f → Alters sql given f
 alters-by {sql} {row} {given} {f} e a = subst (λ (r : Row). Alters sql r f) (sym e) a
+
+-- the last of some parameters, and one before others
+pub bound-last : {v w : Value} → v ≡ w → bound_value v ∷ [] ≡ bound_value w ∷ []
+bound-last e = ap (λ (v : Value). bound_value v ∷ []) e
+
+pub bound-then : {v w : Value} {rest more : Row} → v ≡ w → rest ≡ more → bound_value v ∷ rest ≡ bound_value w ∷ more
+bound-then e f = ap₂ (λ (v : Value) (row : Row). bound_value v ∷ row) e f

@@ -1,5 +1,5 @@
 -- What the statements on the table `transfer` mean.
-use Rattle.std.proofs.Common.{ap, false, pos, drop, refl, List, [], ◌∷◌, ℤ, filter, codes}
+use Rattle.std.proofs.Common.{ap, false, pos, drop, refl, List, [], ◌∷◌, ℕ, ℤ, filter, codes}
 use Rattle.sqlite_value.specs.declared.value.Value.TheVariants.{Null, Int}
 use Rattle.sqlite_value.specs.declared.keys.Collation.TheVariants.{Binary}
 use Rattle.sqlite_sql.specs.declared.ops.CompareOp.TheVariants.{Eq, Ge}
@@ -26,12 +26,16 @@ use Rattle.tables.proofs.TableLemmas.{asks_transfers, alters_transfers}
 abbrev columns : List Term
 columns = col 1 0 ∷ col 1 2 ∷ col 1 3 ∷ col 1 4 ∷ col 1 5 ∷ col 1 6 ∷ col 1 7 ∷ col 1 8 ∷ col 1 9 ∷ []
 
+-- and what they are called
+abbrev titles : List (List ℕ)
+titles = codes "id" ∷ codes "contact" ∷ codes "domain" ∷ codes "requester" ∷ codes "losing" ∷ codes "requested" ∷ codes "ac_date" ∷ codes "due" ∷ codes "state" ∷ []
+
 abbrev table : Table
 table = record transfer { tree = 13 }
 
 pub by_contact_is : IsSelect registry transfer_by_contact (select_query 13 (op2 (Compare Eq Binary) (col 1 2) (col 0 0) ∷ []) columns)
 unfolding understood everything
-by_contact_is = record { names = codes "id" ∷ codes "contact" ∷ codes "domain" ∷ codes "requester" ∷ codes "losing" ∷ codes "requested" ∷ codes "ac_date" ∷ codes "due" ∷ codes "state" ∷ []; command = refl; plain = (refl, refl); unlisted = refl }
+by_contact_is = record { names = titles; command = refl; plain = (refl, refl); unlisted = refl }
 
 pub by_contact_asks : (v : ℤ) → Asks transfer_shown transfer_by_contact (Int v ∷ []) (λ c. filter (transfer_with_contact v) c.transfers)
 by_contact_asks v = asks_transfers transfer_shown transfer_by_contact (Int v ∷ []) _ (λ xs. filter (transfer_with_contact v) xs) by_contact_is (λ db xs rows h answer.
@@ -39,7 +43,7 @@ by_contact_asks v = asks_transfers transfer_shown transfer_by_contact (Int v ∷
 
 pub by_domain_is : IsSelect registry transfer_by_domain (select_query 13 (op2 (Compare Eq Binary) (col 1 3) (col 0 0) ∷ []) columns)
 unfolding understood everything
-by_domain_is = record { names = codes "id" ∷ codes "contact" ∷ codes "domain" ∷ codes "requester" ∷ codes "losing" ∷ codes "requested" ∷ codes "ac_date" ∷ codes "due" ∷ codes "state" ∷ []; command = refl; plain = (refl, refl); unlisted = refl }
+by_domain_is = record { names = titles; command = refl; plain = (refl, refl); unlisted = refl }
 
 pub by_domain_asks : (v : ℤ) → Asks transfer_shown transfer_by_domain (Int v ∷ []) (λ c. filter (transfer_with_domain v) c.transfers)
 by_domain_asks v = asks_transfers transfer_shown transfer_by_domain (Int v ∷ []) _ (λ xs. filter (transfer_with_domain v) xs) by_domain_is (λ db xs rows h answer.
@@ -47,7 +51,7 @@ by_domain_asks v = asks_transfers transfer_shown transfer_by_domain (Int v ∷ [
 
 pub pending_by_requester_is : IsSelect registry transfer_pending_by_requester (select_query 13 (op2 (Compare Eq Binary) (col 1 4) (col 0 0) ∷ op2 (Compare Ge Binary) (col 1 8) (lit (Int (pos 0))) ∷ []) columns)
 unfolding understood everything
-pending_by_requester_is = record { names = codes "id" ∷ codes "contact" ∷ codes "domain" ∷ codes "requester" ∷ codes "losing" ∷ codes "requested" ∷ codes "ac_date" ∷ codes "due" ∷ codes "state" ∷ []; command = refl; plain = (refl, refl); unlisted = refl }
+pending_by_requester_is = record { names = titles; command = refl; plain = (refl, refl); unlisted = refl }
 
 pub pending_by_requester_asks : (requester : ℤ) → Asks transfer_shown transfer_pending_by_requester (Int requester ∷ []) (λ c. filter (transfer_pending_by requester) c.transfers)
 pending_by_requester_asks requester = asks_transfers transfer_shown transfer_pending_by_requester (Int requester ∷ []) _ (λ xs. filter (transfer_pending_by requester) xs) pending_by_requester_is (λ db xs rows h answer.
@@ -55,7 +59,7 @@ pending_by_requester_asks requester = asks_transfers transfer_shown transfer_pen
 
 pub pending_by_losing_is : IsSelect registry transfer_pending_by_losing (select_query 13 (op2 (Compare Eq Binary) (col 1 5) (col 0 0) ∷ op2 (Compare Ge Binary) (col 1 8) (lit (Int (pos 0))) ∷ []) columns)
 unfolding understood everything
-pending_by_losing_is = record { names = codes "id" ∷ codes "contact" ∷ codes "domain" ∷ codes "requester" ∷ codes "losing" ∷ codes "requested" ∷ codes "ac_date" ∷ codes "due" ∷ codes "state" ∷ []; command = refl; plain = (refl, refl); unlisted = refl }
+pending_by_losing_is = record { names = titles; command = refl; plain = (refl, refl); unlisted = refl }
 
 pub pending_by_losing_asks : (losing : ℤ) → Asks transfer_shown transfer_pending_by_losing (Int losing ∷ []) (λ c. filter (transfer_pending_from losing) c.transfers)
 pending_by_losing_asks losing = asks_transfers transfer_shown transfer_pending_by_losing (Int losing ∷ []) _ (λ xs. filter (transfer_pending_from losing) xs) pending_by_losing_is (λ db xs rows h answer.

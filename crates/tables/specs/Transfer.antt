@@ -6,7 +6,7 @@ use Rattle.sqlite_value.specs.Order.{Row}
 use Rattle.sqlite_keyed.specs.Rules.{points_to}
 use Rattle.sqlite_typed.specs.Columns.{or_null}
 use Rattle.rows.specs.Layouts.{Layout}
-use Rattle.tables.specs.Due.{is_due}
+use Rattle.tables.specs.Due.{falls_due}
 
 pub record Transfer : Type 0 where
   pub id : ℤ
@@ -38,8 +38,8 @@ transfer_with_domain v x = points_to x.domain v
 
 -- one that is pending, asked for by this account
 abbrev pub transfer_pending_by : ℤ → Transfer → Bool
-transfer_pending_by requester x = int_eq x.requester requester && is_due x.due
+transfer_pending_by requester x = int_eq x.requester requester && falls_due x.due
 
 -- one that is pending, which this account loses
 abbrev pub transfer_pending_from : ℤ → Transfer → Bool
-transfer_pending_from losing x = int_eq x.losing losing && is_due x.due
+transfer_pending_from losing x = int_eq x.losing losing && falls_due x.due

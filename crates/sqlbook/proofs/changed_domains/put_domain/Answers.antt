@@ -10,7 +10,7 @@ returns g c =
     let new = c.replace.new.store in
     let days = c.args.policy.now.days in
     let domain = c.args.domain in
-    let due = c.due_for-due.result in
-    let early = early-of days due domain c.due_for-due.ensures in
+    let due = c.due_of_domain-due.result in
+    let early = early-of days due domain c.due_of_domain-due.ensures in
     alters c.replace.result (IsReplaced c.args.name days (Some domain) due) _ old new c.replace.ensures
     (λ clean it. (replaced c.args.name days (Some domain) due old.content new.content it early, replaced-right c.args.name days (Some domain) due old.content new.content it early))

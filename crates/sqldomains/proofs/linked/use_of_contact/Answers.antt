@@ -14,10 +14,11 @@ returns-in-Some g c =
 
 pub returns : goal.returns
 returns g c =
+    let s = c.args.store.now in
     let first = c.in_ok-row.ensures {u = tt} in
-    let second = c.in_ok-link.ensures {u = tt} in
-    let third = c.in_ok-domain_at.ensures {u = tt} in
-    let both = reads-on c.args.store.now c.registered_by.new.store c.link_to_contact.new.store first.0 second.0 in (
-      reads-on c.args.store.now c.link_to_contact.new.store c.domain_at.new.store both third.0,
-      λ e. subst (λ (xs : Content). Has xs.domains c.in_ok-domain_at.field-0) (both.content (third.0.clean e)) (third.1 e),
+    let link = c.in_ok-link.ensures {u = tt} in
+    let found = c.in_ok-domain_at.ensures {u = tt} in
+    let both = reads-on s c.registered_by.new.store c.link_to_contact.new.store first.0 link.0 in (
+      reads-on s c.link_to_contact.new.store c.domain_at.new.store both found.0,
+      λ e. subst (λ (xs : Content). Has xs.domains c.in_ok-domain_at.field-0) (both.content (found.0.clean e)) (found.1 e),
     )

@@ -1,12 +1,9 @@
-use Rattle.std.proofs.Common.{[], ◌∷◌, ap}
-use Rattle.sqlite_value.specs.declared.value.Value.{Value}
-use Rattle.sqlite.specs.Values.{bound_value}
 use Rattle.tables.proofs.TransferLemmas.{remove_contact_alters}
-use Rattle.tables.proofs.TableLemmas.{alters-by}
+use Rattle.tables.proofs.TableLemmas.{alters-by, bound-last}
 use Rattle.tables.proofs.store.RowStore.remove_transfers_by_contact.Goals as goal
 
 pub write-requires-clause-means : goal.write-requires-clause-means
-write-requires-clause-means g c = (_, alters-by (ap (λ (v : Value). bound_value v ∷ []) c.params-to_sql.ensures) (remove_contact_alters c.args.contact))
+write-requires-clause-means g c = (_, alters-by (bound-last c.params-to_sql.ensures) (remove_contact_alters c.args.contact))
 
 pub returns : goal.returns
-returns g c = c.write.ensures _ (alters-by (ap (λ (v : Value). bound_value v ∷ []) c.params-to_sql.ensures) (remove_contact_alters c.args.contact))
+returns g c = c.write.ensures _ (alters-by (bound-last c.params-to_sql.ensures) (remove_contact_alters c.args.contact))

@@ -1,12 +1,9 @@
-use Rattle.std.proofs.Common.{[], ◌∷◌, ap}
-use Rattle.sqlite_value.specs.declared.value.Value.{Value}
-use Rattle.sqlite.specs.Values.{bound_value}
 use Rattle.tables.proofs.TransferLemmas.{by_contact_asks, by_contact_is}
-use Rattle.tables.proofs.TableLemmas.{asks-by}
+use Rattle.tables.proofs.TableLemmas.{asks-by, bound-last}
 use Rattle.tables.proofs.store.RowStore.transfers_by_contact.Goals as goal
 
 pub select-requires : goal.select-requires
 select-requires g c = by_contact_is.plain
 
 pub returns : goal.returns
-returns g c = c.select.ensures _ (asks-by (ap (λ (v : Value). bound_value v ∷ []) c.params-to_sql.ensures) (by_contact_asks c.args.contact))
+returns g c = c.select.ensures _ (asks-by (bound-last c.params-to_sql.ensures) (by_contact_asks c.args.contact))

@@ -1,5 +1,5 @@
 use Rattle.std.proofs.Common.{◌≡◌, ◌++◌}
-use Rattle.sqldue.proofs.near.joined.Given as goal
+use Rattle.sqldue.proofs.joining.joined.Given as goal
 
 -- with those that are left, all of them
 abbrev pub invariant-loop-row : goal.invariant-loop-row

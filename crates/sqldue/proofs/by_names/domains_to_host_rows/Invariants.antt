@@ -1,7 +1,7 @@
 use Rattle.std.proofs.Common.{◌≡◌, ◌++◌, true, drop}
 use Rattle.transactions.specs.States.{Reads}
 use Rattle.sqldue.specs.Near as spec
-use Rattle.sqldue.proofs.near.domains_to_host_rows.Given as goal
+use Rattle.sqldue.proofs.by_names.domains_to_host_rows.Given as goal
 
 -- with what those that are left give, what all of them do
 abbrev pub invariant-loop-row : goal.invariant-loop-row
