@@ -19,29 +19,59 @@ pub enum Kind {
     Maps,
 }
 
-/// What became of a line behind the prelude.
+/// What is sent behind the prelude: a line, so many times, and what is looked at then.
+#[derive(Clone, Copy)]
+pub struct Script<'a> {
+    pub line: &'a str,
+    pub times: u32,
+    pub looks: &'a str,
+}
+
+impl<'a> Script<'a> {
+    /// A line and the looks.
+    pub fn of(line: &'a str) -> Script<'a> {
+        Script {
+            line,
+            times: 1,
+            looks: LOOKS,
+        }
+    }
+}
+
+/// What became of a line.
 #[derive(Drop)]
-struct Tried {
-    /// Its reply, in the end, and those to the looks behind it.
-    reply: Vec<u8>,
-    looks: Vec<u8>,
+pub struct Tried {
+    /// Its reply, the last if it was sent several times, and those to the looks.
+    pub reply: Vec<u8>,
+    pub looks: Vec<u8>,
     /// How many calls were made of the book in all, and whether one was refused.
-    calls: u64,
-    has_refused: bool,
+    pub calls: u64,
+    pub has_refused: bool,
 }
 
 /// Refuses each call of a line in turn, and gives how many there are.
 pub fn refuse_each(alloc: Global, kind: Kind, line: &str) -> Result<u64> {
-    let undisturbed = tried(alloc, kind, u64::MAX, line, LOOKS)?;
+    let script = Script::of(line);
+    let undisturbed = tried(alloc, kind, u64::MAX, script)?;
     if !is_accepted(&undisturbed.reply) {
         bail!("not accepted, though nothing was refused to it");
     }
-    let first = tried(alloc, kind, u64::MAX, "", "")?.calls;
-    let end = tried(alloc, kind, u64::MAX, line, "")?.calls;
+    let first = calls_of(alloc, kind, line, 0)?;
+    let end = calls_of(alloc, kind, line, 1)?;
     for place in first..end {
-        compare(&tried(alloc, kind, place, line, LOOKS)?, &undisturbed)?;
+        compare(&tried(alloc, kind, place, script)?, &undisturbed)?;
     }
     Ok(end.saturating_sub(first))
+}
+
+/// How many calls on the book the prelude makes, and a line that is sent so many times.
+fn calls_of(alloc: Global, kind: Kind, line: &str, times: u32) -> Result<u64> {
+    let script = Script {
+        line,
+        times,
+        looks: "",
+    };
+    Ok(tried(alloc, kind, u64::MAX, script)?.calls)
 }
 
 /// Whether a reply has a code below 2000, or is a greeting.
@@ -60,15 +90,14 @@ fn compare(disturbed: &Tried, undisturbed: &Tried) -> Result<()> {
     Ok(())
 }
 
-/// Opens a new registry whose book refuses the call behind so many, and sends it the prelude, a line, and what is
-/// looked at behind it.
-fn tried(alloc: Global, kind: Kind, place: u64, line: &str, looks: &str) -> Result<Tried> {
+/// Opens a new registry whose book refuses the call behind so many, and sends it the prelude and a script.
+pub fn tried(alloc: Global, kind: Kind, place: u64, script: Script<'_>) -> Result<Tried> {
     match kind {
         Kind::Rows => match in_memory(alloc) {
-            Ok(book) => tried_over(alloc, book, place, line, looks),
+            Ok(book) => tried_over(alloc, book, place, script),
             Err(_) => bail!("no memory for a database"),
         },
-        Kind::Maps => tried_over(alloc, PlainBook::new(alloc), place, line, looks),
+        Kind::Maps => tried_over(alloc, PlainBook::new(alloc), place, script),
     }
 }
 
@@ -76,8 +105,7 @@ fn tried_over<B: Book + Drop>(
     alloc: Global,
     book: B,
     place: u64,
-    line: &str,
-    looks: &str,
+    script: Script<'_>,
 ) -> Result<Tried>
     requires { (B.state book).is_open ≡ false }
 {
@@ -86,7 +114,7 @@ fn tried_over<B: Book + Drop>(
         bail!("no policy");
     };
     match Registry::open(alloc, OnceBook::new(book, place), policy) {
-        Ok(registry) => tried_in(alloc, registry, line, looks),
+        Ok(registry) => tried_in(alloc, registry, script),
         Err((_, book)) => {
             drop(book);
             bail!("not opened")
@@ -97,11 +125,10 @@ fn tried_over<B: Book + Drop>(
 fn tried_in<B: Book + Drop>(
     alloc: Global,
     registry: Registry<OnceBook<B>>,
-    line: &str,
-    looks: &str,
+    script: Script<'_>,
 ) -> Result<Tried> {
     let mut registry = registry;
-    let said = said_by(alloc, &mut registry, line, looks);
+    let said = said_by(alloc, &mut registry, script);
     let book = registry.into_book();
     let (calls, has_refused) = (book.calls(), book.has_refused());
     drop(book);
@@ -119,20 +146,30 @@ fn tried_in<B: Book + Drop>(
 fn said_by<B: Book + Drop>(
     alloc: Global,
     registry: &mut Registry<B>,
-    line: &str,
-    looks: &str,
+    script: Script<'_>,
 ) -> Result<(Vec<u8>, Vec<u8>)> {
-    reply_to(alloc, registry, PRELUDE)?;
-    let reply = match sent(alloc, registry, line)? {
-        Some(reply) => reply,
-        None => reply_to(alloc, registry, line)?,
-    };
-    let looks = reply_to(alloc, registry, looks)?;
+    replies_to(alloc, registry, PRELUDE)?;
+    let mut reply = Vec::new(alloc);
+    for _ in 0..script.times {
+        reply = reply_in_the_end(alloc, registry, script.line)?;
+    }
+    let looks = replies_to(alloc, registry, script.looks)?;
     Ok((reply, looks))
 }
 
+fn reply_in_the_end<B: Book + Drop>(
+    alloc: Global,
+    registry: &mut Registry<B>,
+    line: &str,
+) -> Result<Vec<u8>> {
+    match sent(alloc, registry, line)? {
+        Some(reply) => Ok(reply),
+        None => replies_to(alloc, registry, line),
+    }
+}
+
 /// The replies to lines that are all carried out.
-fn reply_to<B: Book + Drop>(
+pub fn replies_to<B: Book + Drop>(
     alloc: Global,
     registry: &mut Registry<B>,
     lines: &str,
@@ -143,8 +180,8 @@ fn reply_to<B: Book + Drop>(
     }
 }
 
-/// The replies to lines. With none, what keeps the book refused a call to the first, and nothing was printed.
-fn sent<B: Book + Drop>(
+/// The replies to lines. With none, a call on the book was refused, or memory was, and nothing is printed.
+pub fn sent<B: Book + Drop>(
     alloc: Global,
     registry: &mut Registry<B>,
     lines: &str,
@@ -152,7 +189,8 @@ fn sent<B: Book + Drop>(
     let mut printed = Vec::new(alloc);
     match run_on(alloc, registry, lines.as_bytes(), &mut printed) {
         Exit::Done => Ok(Some(printed)),
-        Exit::Registry(Fault::Store) if printed.is_empty() => Ok(None),
+        Exit::Registry(Fault::Store | Fault::Memory) | Exit::Memory | Exit::File
+            if printed.is_empty() => { Ok(None) }
         _ => bail!("a script that ended otherwise"),
     }
 }
