@@ -3,3 +3,4 @@ mod PeerLemmas
 mod HttpLemmas
 mod LentLemmas
 mod PublicLemmas
+mod ListeningLemmas

@@ -1,5 +1,6 @@
 pub mod Clocks
 pub mod Http
 pub mod Connections
+pub mod Listening
 pub mod HandOver
 pub mod Public
