@@ -1,4 +1,6 @@
 mod HeadLemmas
 mod RequestLemmas
+mod RouteLemmas
+mod WireLemmas
 mod Plain
 pub mod AnswerLemmas

@@ -8,6 +8,13 @@ abbrev pub joined : List (List ℕ) → List ℕ
 joined [] = []
 joined (piece ∷ pieces) = piece ++ joined pieces
 
+-- codes (RFC 9110, 15)
+abbrev pub code_of : Outcome → ℕ
+code_of Found = 200
+code_of BadRequest = 400
+code_of NotFound = 404
+code_of MethodNotAllowed = 405
+
 -- code and reason (RFC 9110, 15)
 abbrev pub status_of : Outcome → List ℕ
 status_of Found = codes "200 OK"

@@ -9,6 +9,7 @@ use crate::entity::contact_body;
 use crate::head::{Reading, read_head};
 use crate::nameserver::nameserver_body;
 use crate::request::{Request, request_of};
+use crate::routes::Routes;
 use crate::source::FaceSource;
 use crate::wire::{Outcome, answer_without_object, response};
 use basis::text::Text;
@@ -17,9 +18,10 @@ use objects::{ContactFace, DomainFace, HostFace};
 use std::alloc::{AllocError, Global};
 
 /// Answers the head that the bytes begin with. Bytes that begin with none are a bad request, also
-/// where they are cut. At most one look-up is made.
+/// where they are cut. At most one look-up is made. The routes are made once, for all answers.
 pub fn answer<F: FaceSource>(
     alloc: Global,
+    routes: &Routes,
     head: &[u8],
     source: &mut F,
 ) -> Result<Vec<u8>, F::Fault>
@@ -28,7 +30,7 @@ pub fn answer<F: FaceSource>(
 {
     match read_head(head) {
         Reading::Whole(asked) => {
-            let request = request_of(alloc, asked.method, asked.target)?;
+            let request = request_of(alloc, routes, asked.method, asked.target)?;
             answer_request(alloc, request, source)
         }
         Reading::Cut => Ok(answer_without_object(alloc, Outcome::BadRequest)?),

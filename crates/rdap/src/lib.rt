@@ -2,7 +2,7 @@
 //! domains, hosts and contacts.
 //!
 //! - `head`: the head that bytes begin with.
-//! - `request`: what its method and its target ask for.
+//! - `request`: what its method and its target ask for, by the paths of `routes`.
 //! - `answering`: the answer, by a `source` of faces; `wire`: how it stands on the wire.
 //! - `domain`, `nameserver`, `entity`: the bodies, of `body` and the words of `status`.
 //! - `laws`: an answer is a function of the head, the policy and the faces.
@@ -16,6 +16,7 @@ mod head;
 mod laws;
 mod nameserver;
 mod request;
+mod routes;
 mod source;
 mod status;
 mod wire;
@@ -27,6 +28,7 @@ pub use head::{Asked, MOST_BYTES, MOST_FIELDS, Reading, read_head};
 pub use laws::answers_agree;
 pub use nameserver::nameserver_body;
 pub use request::{Request, request_of};
+pub use routes::Routes;
 pub use source::FaceSource;
 pub use status::{grace_word, status_word, status_words};
 pub use wire::{Outcome, answer_without_object, response};

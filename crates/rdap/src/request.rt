@@ -1,9 +1,14 @@
 //! What a request asks for (RFC 9082, 3.1).
-ghost use Rattle.std.specs.Prelude.{◌≡◌, ◌<◌, MatchOption, IfOk, IfSome, length, true, false, option_copied};
+ghost use Rattle.std.specs.Prelude.{◌≡◌, ◌<◌, MatchOption, IfOk, IfSome, Some, codes, length, true, false};
+ghost use Rattle.std.specs.Str.{bytes_eq};
 ghost use Rattle.rdap.specs.Requests as spec;
+ghost use Rattle.rdap.specs.Routes.{request_for};
 
+use crate::routes::{Kind, Routes};
 use crate::wire::Outcome;
 use basis::text::Text;
+use http::Method;
+use http::method::MethodError;
 use std::alloc::{AllocError, Global};
 use std::str;
 
@@ -22,15 +27,31 @@ pub enum Request {
 /// What is asked for by a method and a target. Another method than GET is told before a target that
 /// can't be read, and that before a path that isn't there.
 #[tactic(auto, unfolding(crate::specs::Requests::request_of))]
-pub fn request_of(alloc: Global, method: &[u8], target: &[u8]) -> Result<Request, AllocError>
+pub fn request_of(
+    alloc: Global,
+    routes: &Routes,
+    method: &[u8],
+    target: &[u8],
+) -> Result<Request, AllocError>
     ensures { IfOk result (λ request. request ≡ spec.request_of method.now target.now) }
 {
-    if method != b"GET".as_slice() {
+    if !is_get(alloc, method)? {
         return Ok(Request::Refused(Outcome::MethodNotAllowed));
     }
     match plain_path(path_of(target)) {
-        Some(path) => request_at(alloc, path),
+        Some(path) => request_at(alloc, routes, path),
         None => Ok(Request::Refused(Outcome::BadRequest)),
+    }
+}
+
+/// Whether a method is GET (RFC 9110, 9.3.1). Case counts.
+fn is_get(alloc: Global, method: &[u8]) -> Result<bool, AllocError>
+    ensures { IfOk result (λ is. is ≡ bytes_eq method.now (codes "GET")) }
+{
+    match Method::from_bytes(alloc, method) {
+        Ok(method) => Ok(method == Method::GET),
+        Err(MethodError::OutOfMemory) => Err(AllocError),
+        Err(MethodError::Invalid) => Ok(false),
     }
 }
 
@@ -72,27 +93,31 @@ fn plain_path(path: &[u8]) -> Option<&str>
     }
 }
 
-fn request_at(alloc: Global, path: &str) -> Result<Request, AllocError>
+/// What a path asks for, by its route.
+fn request_at(alloc: Global, routes: &Routes, path: &str) -> Result<Request, AllocError>
     ensures { IfOk result (λ request. request ≡ spec.request_at path.now) }
 {
-    if path == "/help" {
-        return Ok(Request::Help);
-    }
-    if let Some(name) = name_in("/domain/", path) {
-        return Ok(Request::Domain(Text::from_str(alloc, name)?));
-    }
-    if let Some(name) = name_in("/nameserver/", path) {
-        return Ok(Request::Nameserver(Text::from_str(alloc, name)?));
-    }
-    contact_at(alloc, name_in("/entity/", path))
-}
-
-fn contact_at(alloc: Global, handle: Option<&str>) -> Result<Request, AllocError>
-    ensures { IfOk result (λ request. request ≡ spec.contact_at (option_copied handle.entry)) }
-{
-    let Some(handle) = handle else {
+    let Ok(found) = routes.router.at(path) else {
         return Ok(Request::Refused(Outcome::NotFound));
     };
+    let name = found.params.get("name").unwrap_or("");
+    request_for(alloc, *found.value, name)
+}
+
+fn request_for(alloc: Global, kind: Kind, name: &str) -> Result<Request, AllocError>
+    ensures { IfOk result (λ request. request ≡ request_for kind name.now) }
+{
+    match kind {
+        Kind::Domain => Ok(Request::Domain(Text::from_str(alloc, name)?)),
+        Kind::Nameserver => Ok(Request::Nameserver(Text::from_str(alloc, name)?)),
+        Kind::Entity => contact_at(alloc, name),
+        Kind::Help => Ok(Request::Help),
+    }
+}
+
+fn contact_at(alloc: Global, handle: &str) -> Result<Request, AllocError>
+    ensures { IfOk result (λ request. request ≡ spec.contact_at (Some handle.now)) }
+{
     if is_handle(handle.as_bytes()) {
         Ok(Request::Entity(Text::from_str(alloc, handle)?))
     } else {
@@ -106,34 +131,4 @@ fn is_handle(handle: &[u8]) -> bool
     handle
         .iter()
         .all(|byte| byte.is_ascii_alphanumeric() || *byte == b'-')
-}
-
-/// The last segment of a path below a folder.
-fn name_in<'p>(folder: &str, path: &'p str) -> Option<&'p str>
-    ensures { option_copied result ≡ spec.name_in folder.now path.now }
-{
-    let name = after(folder, path)?;
-    if is_segment(name.as_bytes()) {
-        Some(name)
-    } else {
-        None
-    }
-}
-
-fn after<'p>(front: &str, text: &'p str) -> Option<&'p str>
-    ensures { option_copied result ≡ spec.after front.now text.now }
-{
-    text.strip_prefix(front)
-}
-
-fn is_segment(name: &[u8]) -> bool
-    ensures { result ≡ spec.is_segment name.now }
-{
-    !name.is_empty() && !has_slash(name)
-}
-
-fn has_slash(name: &[u8]) -> bool
-    ensures { result ≡ spec.has_slash name.now }
-{
-    name.iter().any(|byte| *byte == b'/')
 }

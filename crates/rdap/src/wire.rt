@@ -2,6 +2,7 @@
 ghost use Rattle.std.specs.Prelude.{◌≡◌, IfOk, length, string_bytes};
 ghost use Rattle.rdap.specs.Answers as spec;
 
+use http::StatusCode;
 use std::alloc::{AllocError, Global};
 
 /// What becomes of a request.
@@ -14,15 +15,15 @@ pub enum Outcome {
 }
 
 impl Outcome {
-    /// Its code and its reason (RFC 9110, 15).
-    fn status(self) -> &'static str
-        ensures { result.now ≡ spec.status_of self }
+    /// Its status code (RFC 9110, 15).
+    fn status(self) -> StatusCode
+        ensures { result ≡ spec.code_of self }
     {
         match self {
-            Outcome::Found => "200 OK",
-            Outcome::BadRequest => "400 Bad Request",
-            Outcome::NotFound => "404 Not Found",
-            Outcome::MethodNotAllowed => "405 Method Not Allowed",
+            Outcome::Found => StatusCode::OK,
+            Outcome::BadRequest => StatusCode::BAD_REQUEST,
+            Outcome::NotFound => StatusCode::NOT_FOUND,
+            Outcome::MethodNotAllowed => StatusCode::METHOD_NOT_ALLOWED,
         }
     }
 

@@ -3,4 +3,5 @@ mod PeerLemmas
 mod HttpLemmas
 mod LentLemmas
 mod PublicLemmas
+mod ListeningLemmas
 mod SessionRunLemmas

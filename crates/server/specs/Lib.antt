@@ -1,6 +1,7 @@
 pub mod Clocks
 pub mod Http
 pub mod Connections
+pub mod Listening
 pub mod HandOver
 pub mod Public
 pub mod SessionRuns

@@ -8,7 +8,7 @@ use calendar::Moment;
 use names::{DomainName, HostName};
 use objects::{ContactFace, DomainFace, HostFace};
 use policy::Policy;
-use rdap::{FaceSource, answer};
+use rdap::{FaceSource, Routes, answer};
 use registry::{Fault, Registry};
 use std::alloc::Global;
 use store::Book;
@@ -79,6 +79,7 @@ pub(crate) struct Asked<B: Book> {
 /// Answers a request's head by what everyone may know of a registry at a moment.
 pub(crate) fn answer_at<B: Book + Drop>(
     alloc: Global,
+    routes: &Routes,
     head: &[u8],
     moment: Moment,
     registry: Registry<B>,
@@ -89,7 +90,7 @@ pub(crate) fn answer_at<B: Book + Drop>(
     ensures policy { result.registry.policy ≡ registry.policy }
 {
     let mut source = AtMoment::new(registry, moment);
-    let answer = answer(alloc, head, &mut source);
+    let answer = answer(alloc, routes, head, &mut source);
     Asked {
         answer,
         registry: source.into_registry(),

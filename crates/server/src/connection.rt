@@ -12,6 +12,7 @@ ghost use Rattle.store.specs.Book.{Follows};
 use crate::http::{HttpEnd, serve_http};
 use eppframes::Clock;
 use eppsessions::Connection;
+use rdap::Routes;
 use registry::Registry;
 use sessions::{SessionEnd, serve_session};
 use std::alloc::Global;
@@ -44,6 +45,7 @@ pub struct Served<B: Book> {
 /// answered by what everyone may know of the registry at the clock's moment.
 pub fn serve_one<R: Read, W: Write, C: Clock, B: Book + Drop>(
     alloc: Global,
+    routes: &Routes,
     reader: &mut R,
     writer: &mut W,
     clock: &mut C,
@@ -62,7 +64,14 @@ pub fn serve_one<R: Read, W: Write, C: Clock, B: Book + Drop>(
     };
     let first = &first[..count];
     if !begins_frame(first) {
-        return serve_other(alloc, &mut first.chain(reader), writer, clock, registry);
+        return serve_other(
+            alloc,
+            routes,
+            &mut first.chain(reader),
+            writer,
+            clock,
+            registry,
+        );
     }
     serve_epp(alloc, &mut first.chain(reader), writer, clock, registry)
 }
@@ -99,6 +108,7 @@ fn serve_epp<R: Read, W: Write, C: Clock, B: Book + Drop>(
 /// Serves a connection of HTTP.
 fn serve_other<R: Read, W: Write, C: Clock, B: Book + Drop>(
     alloc: Global,
+    routes: &Routes,
     reader: &mut R,
     writer: &mut W,
     clock: &mut C,
@@ -107,7 +117,7 @@ fn serve_other<R: Read, W: Write, C: Clock, B: Book + Drop>(
     ensures served { (end : HttpEnd) × (result.end ≡ ends.Http end) × AnswersHttp registry.policy (R.remaining reader.old) (C.moments clock.old) (B.state registry.book) (W.contents writer.old) (W.contents writer.new) (C.moments clock.new) (B.state result.registry.book) end }
     ensures policy { result.registry.policy ≡ registry.policy }
 {
-    let served = serve_http(alloc, reader, writer, clock, registry);
+    let served = serve_http(alloc, routes, reader, writer, clock, registry);
     Served {
         registry: served.registry,
         end: ConnectionEnd::Http(served.end),

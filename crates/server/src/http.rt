@@ -5,7 +5,7 @@ ghost use Rattle.server.specs.Http.{AnswersHttp, IsRead, IsWritten};
 
 use crate::at_moment::answer_at;
 use eppframes::Clock;
-use rdap::{MOST_BYTES, Reading, read_head};
+use rdap::{MOST_BYTES, Reading, Routes, read_head};
 use registry::{Fault, Registry};
 use std::alloc::{AllocError, Global};
 use std::io::{ErrorKind, Read, Write};
@@ -33,6 +33,7 @@ pub(crate) struct HttpServed<B: Book> {
 /// Answers the request that a connection begins with. What follows its head isn't looked at.
 pub(crate) fn serve_http<R: Read, W: Write, C: Clock, B: Book + Drop>(
     alloc: Global,
+    routes: &Routes,
     reader: &mut R,
     writer: &mut W,
     clock: &mut C,
@@ -47,12 +48,13 @@ pub(crate) fn serve_http<R: Read, W: Write, C: Clock, B: Book + Drop>(
             end: HttpEnd::Unanswered,
         };
     };
-    answer_request(alloc, &head, writer, clock, registry)
+    answer_request(alloc, routes, &head, writer, clock, registry)
 }
 
 /// Answers a request by its head, at the clock's moment.
 fn answer_request<W: Write, C: Clock, B: Book + Drop>(
     alloc: Global,
+    routes: &Routes,
     head: &[u8],
     writer: &mut W,
     clock: &mut C,
@@ -62,7 +64,7 @@ fn answer_request<W: Write, C: Clock, B: Book + Drop>(
     ensures policy { result.registry.policy ≡ registry.policy }
 {
     let moment = clock.moment();
-    let asked = answer_at(alloc, head, moment, registry);
+    let asked = answer_at(alloc, routes, head, moment, registry);
     let end = write_answer(writer, asked.answer);
     HttpServed {
         registry: asked.registry,

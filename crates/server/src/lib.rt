@@ -20,5 +20,5 @@ pub use clock::MachineClock;
 pub use connection::{ConnectionEnd, Served, serve_one};
 pub use http::HttpEnd;
 pub use laws::{frames_begin_connections, public_texts_agree, sessions_are_runs};
-pub use listener::serve_each;
+pub use listener::{serve_each, serve_each_within};
 pub use zone::{HandOverFault, zone_on};

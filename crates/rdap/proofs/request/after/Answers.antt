@@ -1,5 +1,0 @@
-use Rattle.rdap.proofs.RequestLemmas.{stripped}
-use Rattle.rdap.proofs.request.after.Goals as goal
-
-pub returns : goal.returns
-returns c = stripped c.args.front.now c.args.text.now c.strip_prefix.result c.strip_prefix.ensures.cases
