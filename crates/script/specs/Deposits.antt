@@ -1,10 +1,11 @@
--- The operator's order `deposit`, given alone.
+-- The operator's orders, given alone: how one ends that isn't told of.
 use Rattle.std.specs.Prelude.{ℕ, ◌⊎◌, List, Option}
 use Rattle.std.specs.Io.KnownBytes.{Keeps}
 use Rattle.policy.specs.Rules.{PolicyRules}
 use Rattle.protocol.specs.declared.code.Code.{Code}
-use Rattle.protocol.specs.declared.order.Order.{Order}
-use Rattle.registry.specs.Execution.{Fails, IsUnchanged, OrderSteps}
+use Rattle.protocol.specs.declared.order.OperatorRequest.{OperatorRequest}
+use Rattle.protocol.specs.declared.order.OperatorRequest.TheVariants as requests
+use Rattle.registry.specs.Execution.{Fails, IsUnchanged, OrderSteps, Settles}
 use Rattle.script.specs.declared.exit.Exit.{Exit}
 use Rattle.script.specs.declared.exit.Exit.TheVariants as exits
 use Rattle.store.specs.Book.{BookState}
@@ -15,14 +16,15 @@ IsOfMachine exits.File = Unit {0}
 IsOfMachine exits.Memory = Unit {0}
 IsOfMachine _ = ⊥
 
--- an order takes its step, whatever it is answered
-abbrev pub IsCarriedOut : PolicyRules → Order → ℕ → BookState → BookState → Type 0
-IsCarriedOut p order moment old new = (code : Code) × OrderSteps p order moment code old new
+-- an order or a settlement takes its step, whatever it is answered
+abbrev pub IsCarriedOut : PolicyRules → OperatorRequest → ℕ → BookState → BookState → Type 0
+IsCarriedOut p (requests.Order order) moment old new = (code : Code) × OrderSteps p order moment code old new
+IsCarriedOut p (requests.Settle at_most) moment old new = (done : ℕ) × Settles p moment at_most done old new
 
--- How an order ends that isn't told of: the registry gave up, and nothing is printed; or it was carried
--- out, but the output failed, or memory did; or memory failed before.
-abbrev pub EndsUntold : PolicyRules → Order → ℕ → (old new : BookState) → (before after : Option (List ℕ)) → Exit → Type 0
-EndsUntold p order moment old new before after (exits.Registry fault) = Fails fault old new × Keeps before after
-EndsUntold p order moment old new before after exits.File = IsCarriedOut p order moment old new
-EndsUntold p order moment old new before after exits.Memory = IsUnchanged old new ⊎ IsCarriedOut p order moment old new
-EndsUntold p order moment old new before after _ = ⊥
+-- How what is to be done ends that isn't told of: the registry gave up, and nothing is printed; or it was
+-- done, but the output failed, or memory did; or memory failed before.
+abbrev pub EndsUntold : (BookState → BookState → Type 0) → (old new : BookState) → (before after : Option (List ℕ)) → Exit → Type 0
+EndsUntold Does old new before after (exits.Registry fault) = Fails fault old new × Keeps before after
+EndsUntold Does old new before after exits.File = Does old new
+EndsUntold Does old new before after exits.Memory = IsUnchanged old new ⊎ Does old new
+EndsUntold Does old new before after _ = ⊥

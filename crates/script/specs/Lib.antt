@@ -2,3 +2,4 @@ pub mod Lines
 pub mod Exits
 pub mod Runs
 pub mod Deposits
+pub mod Orders

@@ -2,17 +2,18 @@
 ghost use Rattle.std.specs.Prelude.{◌≡◌, ◌≤◌, ◌++◌, codes, None, IfErr, IfOk, OnOk};
 ghost use Rattle.std.specs.Io.KnownBytes.{Appends};
 ghost use Rattle.eppreplies.specs.Answer.{answer_text};
+ghost use Rattle.protocol.specs.declared.order.OperatorRequest.TheVariants as requests;
 ghost use Rattle.protocol.specs.declared.order.Order.TheVariants as orders;
-ghost use Rattle.registry.specs.Execution.{Fails, OrderSteps, last_call};
-ghost use Rattle.script.specs.Deposits.{EndsUntold, IsOfMachine};
+ghost use Rattle.registry.specs.Execution.{OrderSteps, last_call};
+ghost use Rattle.script.specs.Deposits.{EndsUntold, IsCarriedOut};
 ghost use Rattle.store.specs.Book.{Follows};
 
 use crate::exit::Exit;
+use crate::order::carry_out_order;
 use basis::text::Text;
 use calendar::Moment;
-use eppreplies::order_bytes;
 use protocol::{Code, Order};
-use registry::{Fault, Registry};
+use registry::Registry;
 use std::alloc::Global;
 use std::io::Write;
 use store::Book;
@@ -32,47 +33,14 @@ pub fn deposit_on<B: Book + Drop, W: Write>(
     ensures step { IfOk result (λ code. OrderSteps registry.old.policy (orders.Deposit registrar.now cents) moment code (B.state registry.old.book) (B.state registry.new.book)) }
     ensures early { OnOk result (moment ≤ last_call) }
     ensures told { IfOk result (λ code. Appends (W.contents writer.old) (W.contents writer.new) (answer_text code None ++ codes "\n")) }
-    ensures stopped { IfErr result (EndsUntold registry.old.policy (orders.Deposit registrar.now cents) moment (B.state registry.old.book) (B.state registry.new.book) (W.contents writer.old) (W.contents writer.new)) }
+    ensures stopped { IfErr result (EndsUntold
+        (IsCarriedOut registry.old.policy (requests.Order (orders.Deposit registrar.now cents)) moment)
+        (B.state registry.old.book) (B.state registry.new.book)
+        (W.contents writer.old) (W.contents writer.new)) }
     ensures follows { Follows (B.state registry.old.book) (B.state registry.new.book) }
     ensures policy { registry.new.policy ≡ registry.old.policy }
 {
     let registrar = Text::from_str(alloc, registrar)?;
-    match enter(registry, registrar, cents, moment) {
-        Ok(code) => {
-            print_answer(alloc, code, writer)?;
-            Ok(code)
-        }
-        Err(fault) => Err(Exit::Registry(fault)),
-    }
-}
-
-/// Enters what a registrar has paid.
-fn enter<B: Book + Drop>(
-    registry: &mut Registry<B>,
-    registrar: Text,
-    cents: i64,
-    moment: Moment,
-) -> Result<Code, Fault>
-    ensures step { IfOk result (λ code. OrderSteps registry.old.policy (orders.Deposit registrar cents) moment code (B.state registry.old.book) (B.state registry.new.book)) }
-    ensures early { OnOk result (moment ≤ last_call) }
-    ensures fault { IfErr result (λ fault. Fails fault (B.state registry.old.book) (B.state registry.new.book)) }
-    ensures follows { Follows (B.state registry.old.book) (B.state registry.new.book) }
-    ensures policy { registry.new.policy ≡ registry.old.policy }
-{
     let order = Order::Deposit { registrar, cents };
-    let entered = registry.operator(&order, moment);
-    drop(order);
-    entered
-}
-
-/// Prints the answer to an order.
-fn print_answer<W: Write>(alloc: Global, code: Code, writer: &mut W) -> Result<(), Exit>
-    ensures told { OnOk result (Appends (W.contents writer.old) (W.contents writer.new) (answer_text code None ++ codes "\n")) }
-    ensures stopped { IfErr result IsOfMachine }
-{
-    let mut line = order_bytes(alloc, code, None)?;
-    line.push(b'\n')?;
-    writer.write_all(&line)?;
-    writer.flush()?;
-    Ok(())
+    carry_out_order(alloc, registry, order, moment, writer)
 }

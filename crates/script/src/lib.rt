@@ -6,9 +6,11 @@ mod deposit;
 mod exit;
 mod line;
 mod memory;
+mod order;
 mod script;
 
 pub use deposit::deposit_on;
 pub use exit::Exit;
 pub use line::{Line, Sender};
+pub use order::order_on;
 pub use script::{run_on, run_script};

@@ -2,7 +2,7 @@
 
 use calendar::Moment;
 use script::Exit;
-use std::env;
+use std::env::{self, Args};
 use std::rt::Env;
 
 /// What a command line asks for.
@@ -12,7 +12,7 @@ pub enum Task {
     Run {
         policy: String,
     },
-    /// `serve`, `zone` or `deposit` with `POLICY DB`, and what the job has besides
+    /// `serve`, `zone`, `deposit` or `order` with `POLICY DB`, and what the job has besides
     OnDatabase {
         policy: String,
         database: String,
@@ -37,11 +37,16 @@ pub enum Job {
         registrar: String,
         cents: i64,
     },
+    /// `order POLICY DB MOMENT JSON`
+    Order {
+        moment: Moment,
+        json: String,
+    },
 }
 
 /// The task of the words behind the program's name.
 pub fn read_task(rt: &(impl Env + AllocGlobal)) -> Result<Task, Exit> {
-    let mut words = env::args(rt)?.skip(1);
+    let mut words = words_of(rt)?.skip(1);
     let word = given(words.next())?;
     let policy = given(words.next())?;
     let task = if word.as_str() == "run" {
@@ -61,6 +66,10 @@ pub fn read_task(rt: &(impl Env + AllocGlobal)) -> Result<Task, Exit> {
                 registrar: given(words.next())?,
                 cents: cents_of(given(words.next())?.as_str())?,
             },
+            "order" => Job::Order {
+                moment: moment_of(first.as_str())?,
+                json: given(words.next())?,
+            },
             _ => return Err(Exit::Usage),
         };
         Task::OnDatabase {
@@ -72,6 +81,17 @@ pub fn read_task(rt: &(impl Env + AllocGlobal)) -> Result<Task, Exit> {
     match words.next() {
         None => Ok(task),
         Some(_) => Err(Exit::Usage),
+    }
+}
+
+/// All words. One that isn't UTF-8 makes a wrong command line.
+fn words_of(rt: &(impl Env + AllocGlobal)) -> Result<Args, Exit> {
+    match env::args(rt) {
+        Ok(words) => Ok(words),
+        Err(error) => match Exit::from(error) {
+            Exit::File => Err(Exit::Usage),
+            exit => Err(exit),
+        },
     }
 }
 

@@ -12,7 +12,7 @@ use database::{is_in_memory, open, policy_in};
 use policy::Policy;
 use protocol::Code;
 use registry::{OpenFault, Registry};
-use script::{Exit, deposit_on, run_script};
+use script::{Exit, deposit_on, order_on, run_script};
 use server::{HandOverFault, MachineClock, serve_each, zone_on};
 use sqlite::Unknown;
 use std::net::{Ipv4Addr, TcpListener};
@@ -79,6 +79,7 @@ fn work<B: Book + Drop>(rt: &HostRuntime, registry: Registry<B>, job: &Job) -> R
             registrar,
             cents,
         } => deposit(rt, registry, *moment, registrar.as_str(), *cents),
+        Job::Order { moment, json } => order(rt, registry, *moment, json.as_str()),
     }
 }
 
@@ -119,7 +120,25 @@ fn deposit<B: Book + Drop>(
     let (mut registry, out) = (registry, &mut io::writer(rt));
     let code = deposit_on(rt.alloc(), &mut registry, moment, registrar, cents, out);
     drop(registry);
-    match code? {
+    end_of(code?)
+}
+
+/// Carries out what the operator sends at a moment, and prints the answer.
+fn order<B: Book + Drop>(
+    rt: &(impl Print + AllocGlobal),
+    registry: Registry<B>,
+    moment: Moment,
+    json: &str,
+) -> Result<(), Exit> {
+    let (mut registry, out) = (registry, &mut io::writer(rt));
+    let code = order_on(rt.alloc(), &mut registry, moment, json.as_bytes(), out);
+    drop(registry);
+    end_of(code?)
+}
+
+/// How the program ends where an answer was printed.
+fn end_of(code: Code) -> Result<(), Exit> {
+    match code {
         Code::Completed => Ok(()),
         _ => Err(Exit::Refused),
     }
