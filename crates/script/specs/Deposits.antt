@@ -18,13 +18,17 @@ IsOfMachine _ = ⊥
 
 -- an order or a settlement takes its step, whatever it is answered
 abbrev pub IsCarriedOut : PolicyRules → OperatorRequest → ℕ → BookState → BookState → Type 0
-IsCarriedOut p (requests.Order order) moment old new = (code : Code) × OrderSteps p order moment code old new
-IsCarriedOut p (requests.Settle at_most) moment old new = (done : ℕ) × Settles p moment at_most done old new
+IsCarriedOut p (requests.Order order) moment old new =
+    (code : Code) × OrderSteps p order moment code old new
+IsCarriedOut p (requests.Settle at_most) moment old new =
+    (done : ℕ) × Settles p moment at_most done old new
 
 -- How what is to be done ends that isn't told of: the registry gave up, and nothing is printed; or it was
 -- done, but the output failed, or memory did; or memory failed before.
-abbrev pub EndsUntold : (BookState → BookState → Type 0) → (old new : BookState) → (before after : Option (List ℕ)) → Exit → Type 0
-EndsUntold Does old new before after (exits.Registry fault) = Fails fault old new × Keeps before after
+abbrev pub EndsUntold : (BookState → BookState → Type 0)
+    → (old new : BookState) → (before after : Option (List ℕ)) → Exit → Type 0
+EndsUntold Does old new before after (exits.Registry fault) =
+    Fails fault old new × Keeps before after
 EndsUntold Does old new before after exits.File = Does old new
 EndsUntold Does old new before after exits.Memory = IsUnchanged old new ⊎ Does old new
 EndsUntold Does old new before after _ = ⊥

@@ -18,24 +18,30 @@ use Rattle.store.specs.Book.{BookState}
 abbrev pub IsOrdered : List ℕ → (OperatorRequest → Type 0) → Type 0
 IsOrdered payload P = (request : OperatorRequest) × (order_in payload ≡ Some request) × P request
 
--- An order takes its step, and the code of its answer is printed; of a settlement it is printed how many
--- objects lapsed.
-abbrev pub IsTold : PolicyRules → OperatorRequest → ℕ → Code → (old new : BookState) → (before after : Option (List ℕ)) → Type 0
+-- An order takes its step, and the code of its answer is printed; of a settlement it is printed
+-- how many objects lapsed.
+abbrev pub IsTold : PolicyRules → OperatorRequest → ℕ → Code
+    → (old new : BookState) → (before after : Option (List ℕ)) → Type 0
 IsTold p (requests.Order order) moment code old new before after =
-    OrderSteps p order moment code old new × Appends before after (answer_text code None ++ codes "\n")
+    OrderSteps p order moment code old new
+    × Appends before after (answer_text code None ++ codes "\n")
 IsTold p (requests.Settle at_most) moment code old new before after =
     (code ≡ Completed)
-    × (done : ℕ) × Settles p moment at_most done old new × Appends before after (answer_text Completed (Some done) ++ codes "\n")
+    × (done : ℕ) × Settles p moment at_most done old new
+    × Appends before after (answer_text Completed (Some done) ++ codes "\n")
 
 -- the payload wasn't carried out: it is of another form, or there was no memory to read it
-abbrev pub IsNoOrder : List ℕ → (old new : BookState) → (before after : Option (List ℕ)) → Exit → Type 0
+abbrev pub IsNoOrder : List ℕ → (old new : BookState)
+    → (before after : Option (List ℕ)) → Exit → Type 0
 IsNoOrder payload old new before after (exits.Script n) =
     (n ≡ 1) × (order_in payload ≡ None) × IsUnchanged old new × Keeps before after
 IsNoOrder payload old new before after exits.Memory = IsUnchanged old new × Keeps before after
 IsNoOrder payload old new before after _ = ⊥
 
 -- How a payload ends that isn't answered: it wasn't carried out, or it was and isn't told of.
-abbrev pub EndsUnanswered : PolicyRules → List ℕ → ℕ → (old new : BookState) → (before after : Option (List ℕ)) → Exit → Type 0
+abbrev pub EndsUnanswered : PolicyRules → List ℕ → ℕ
+    → (old new : BookState) → (before after : Option (List ℕ)) → Exit → Type 0
 EndsUnanswered p payload moment old new before after exit =
     IsNoOrder payload old new before after exit
-    ⊎ IsOrdered payload (λ request. EndsUntold (IsCarriedOut p request moment) old new before after exit)
+    ⊎ IsOrdered payload (λ request.
+    EndsUntold (IsCarriedOut p request moment) old new before after exit)
