@@ -16,3 +16,5 @@ mod long_replies;
 mod serving;
 #[cfg(test)]
 mod session_ends;
+#[cfg(test)]
+mod silent;
