@@ -9,6 +9,8 @@ mod frames;
 #[cfg(test)]
 mod hidden;
 #[cfg(test)]
+mod hostile;
+#[cfg(test)]
 mod http;
 #[cfg(test)]
 mod long_replies;
