@@ -61,10 +61,10 @@ fn told<R: Read>(alloc: Global, reader: &mut R) -> Result<(Vec<u8>, SessionEnd),
     told_at(alloc, reader, &[IN_2029; 8])
 }
 
-const ASKED: &[u8] =
+pub(crate) const ASKED: &[u8] =
     b"\0\0\0\x40{\"cmd\":\"login\",\"id\":\"alfa\",\"pw\":\"pass-alfa\",\"version\":\"1.0\"}\0\0\0\x14{\"cmd\":\"logout\"}";
 
-const TOLD: &[u8] =
+pub(crate) const TOLD: &[u8] =
     b"\0\0\0\x48{\"code\":1000,\"msg\":\"Command completed successfully\",\"svTRID\":\"ANON\"}\0\0\0\x5a{\"code\":1500,\"msg\":\"Command completed successfully; ending session\",\"svTRID\":\"alfa-1\"}";
 
 /// Whether the bytes above are answered as they should be, cut at two places.

@@ -106,7 +106,7 @@ fn told<B: Book + Drop>(
     let clock = clock_of(alloc, ASKED)?;
     let registry = filled(alloc, opened, PAID, &[LOGIN, CONTACT])?;
     let registry = filled(alloc, Ok(registry), ("beta", cents), lines)?;
-    let (told, served) = served(alloc, &mut whole(&asked), clock, registry);
+    let (told, served) = served(alloc, &mut whole(&asked), clock, registry)?;
     drop(ended(served)?);
     Ok(told)
 }

@@ -8,7 +8,7 @@ use calendar::Moment;
 use eppframes::ListClock;
 use fixtures::registry_of;
 use protocol::Order;
-use rdap::{Outcome, answer_without_object, response};
+use rdap::{Outcome, Routes, answer_without_object, response};
 use registry::Registry;
 use server::{ConnectionEnd, HttpEnd, Served, serve_one, zone_on};
 use sessions::SessionEnd;
@@ -129,11 +129,15 @@ pub(crate) fn served<R: Read, B: Book + Drop>(
     reader: &mut R,
     clock: ListClock,
     registry: Registry<B>,
-) -> (Vec<u8>, Served<B>) {
+) -> Result<(Vec<u8>, Served<B>), Fail> {
+    let Ok(routes) = Routes::new(alloc) else {
+        drop(registry);
+        return Err(Fail::from("no routes"));
+    };
     let mut clock = clock;
     let mut told = Vec::new(alloc);
-    let served = serve_one(alloc, reader, &mut told, &mut clock, registry);
-    (told, served)
+    let served = serve_one(alloc, &routes, reader, &mut told, &mut clock, registry);
+    Ok((told, served))
 }
 
 /// A registry that could be opened, after a payment and a session of these lines.
@@ -145,7 +149,7 @@ pub(crate) fn filled<B: Book + Drop>(
 ) -> Result<Registry<B>, Fail> {
     let mut registry = opened?;
     match prepared(alloc, &mut registry, payment, lines) {
-        Ok((asked, clock)) => ended(served(alloc, &mut whole(&asked), clock, registry).1),
+        Ok((asked, clock)) => ended(served(alloc, &mut whole(&asked), clock, registry)?.1),
         Err(fail) => {
             drop(registry);
             Err(fail)
@@ -202,7 +206,7 @@ fn told_by<B: Book + Drop, R: Read>(
     clock: ListClock,
 ) -> Result<(Vec<u8>, ConnectionEnd), Fail> {
     let registry = filled(alloc, opened, PAID, lines)?;
-    let (told, served) = served(alloc, reader, clock, registry);
+    let (told, served) = served(alloc, reader, clock, registry)?;
     let end = served.end;
     drop(served);
     Ok((told, end))

@@ -9,6 +9,8 @@ mod frames;
 #[cfg(test)]
 mod hidden;
 #[cfg(test)]
+mod hostile;
+#[cfg(test)]
 mod http;
 #[cfg(test)]
 mod long_replies;
@@ -16,3 +18,5 @@ mod long_replies;
 mod serving;
 #[cfg(test)]
 mod session_ends;
+#[cfg(test)]
+mod silent;

@@ -83,7 +83,7 @@ fn told<B: Book + Drop>(
     let asked = asked(alloc)?;
     let registry = filled(alloc, opened, PAID, &[LOGIN, CONTACT, DOMAIN])?;
     let clock = ListClock::of_list(VecDeque::new(alloc));
-    let (told, served) = served(alloc, &mut whole(&asked), clock, registry);
+    let (told, served) = served(alloc, &mut whole(&asked), clock, registry)?;
     drop(ended(served)?);
     Ok(told)
 }

@@ -3,9 +3,11 @@
 
 use crate::connections::framed;
 use crate::frames::{Interrupted, whole};
+use crate::silent::Standing;
 use calendar::Moment;
 use eppframes::ListClock;
 use fixtures::registry_of;
+use rdap::Routes;
 use registry::Registry;
 use server::{ConnectionEnd, HttpEnd, MachineClock, serve_each, serve_one};
 use sessions::SessionEnd;
@@ -87,7 +89,7 @@ fn exchanges(alloc: Global) -> Result<Vec<Exchange>, Fail> {
 }
 
 /// A client that sends bytes, and then no more.
-fn client_of<R>(rt: &R, listener: &TcpListener, asked: &[u8]) -> io::Result<TcpStream>
+pub(crate) fn client_of<R>(rt: &R, listener: &TcpListener, asked: &[u8]) -> io::Result<TcpStream>
 where
     R: Net<Listener = TcpListener, Stream = TcpStream>,
 {
@@ -114,6 +116,7 @@ where
 /// Serves a connection over a socket, and then reads what came back.
 fn over_a_socket<R, B: Book + Drop>(
     rt: &R,
+    routes: &Routes,
     listener: &TcpListener,
     exchange: &mut Exchange,
     registry: Registry<B>,
@@ -125,7 +128,14 @@ where
         panic!(rt; "not sent");
     };
     let clock = &mut exchange.clock;
-    let served = serve_one(rt.alloc(), &mut &stream, &mut &stream, clock, registry);
+    let served = serve_one(
+        rt.alloc(),
+        routes,
+        &mut &stream,
+        &mut &stream,
+        clock,
+        registry,
+    );
     drop(stream);
     assert!(rt; is_told(rt.alloc(), client, &exchange.wanted));
     assert_eq!(rt; served.end, ConnectionEnd::Session(exchange.end));
@@ -133,7 +143,7 @@ where
 }
 
 /// Whether these bytes come over a socket, and no others.
-fn is_told(alloc: Global, client: TcpStream, wanted: &[u8]) -> bool {
+pub(crate) fn is_told(alloc: Global, client: TcpStream, wanted: &[u8]) -> bool {
     let mut client = client;
     let mut told = Vec::new(alloc);
     let read = client.read_to_end(&mut told);
@@ -146,10 +156,11 @@ where
     R: Net<Listener = TcpListener, Stream = TcpStream> + Abort + AllocGlobal,
 {
     let listener = TcpListener::bind(rt, (Ipv4Addr::LOCALHOST, 0))?;
+    let routes = Routes::new(rt.alloc())?;
     let mut exchanges = exchanges(rt.alloc())?;
     let mut registry = registry;
     for exchange in exchanges.iter_mut() {
-        registry = over_a_socket(rt, &listener, exchange, registry);
+        registry = over_a_socket(rt, &routes, &listener, exchange, registry);
     }
     drop(registry);
     Ok(())
@@ -164,6 +175,7 @@ fn loopback(rt: HostRuntime) -> Result<(), Fail> {
 /// Serves a connection whose bytes come one a read.
 fn in_pieces<R: Abort + AllocGlobal, B: Book + Drop>(
     rt: &R,
+    routes: &Routes,
     exchange: &mut Exchange,
     registry: Registry<B>,
 ) -> Registry<B> {
@@ -171,7 +183,7 @@ fn in_pieces<R: Abort + AllocGlobal, B: Book + Drop>(
     reader.step = 1;
     let mut told = Vec::new(rt.alloc());
     let clock = &mut exchange.clock;
-    let served = serve_one(rt.alloc(), &mut reader, &mut told, clock, registry);
+    let served = serve_one(rt.alloc(), routes, &mut reader, &mut told, clock, registry);
     assert!(rt; told.as_slice() == exchange.wanted.as_slice());
     assert_eq!(rt; served.end, ConnectionEnd::Session(exchange.end));
     served.registry
@@ -182,10 +194,11 @@ fn all_in_pieces<R: Abort + AllocGlobal, B: Book + Drop>(
     rt: &R,
     registry: Registry<B>,
 ) -> Result<(), Fail> {
+    let routes = Routes::new(rt.alloc())?;
     let mut exchanges = exchanges(rt.alloc())?;
     let mut registry = registry;
     for exchange in exchanges.iter_mut() {
-        registry = in_pieces(rt, exchange, registry);
+        registry = in_pieces(rt, &routes, exchange, registry);
     }
     drop(registry);
     Ok(())
@@ -220,9 +233,10 @@ fn untold_end<B: Book + Drop, R: Read>(
     reader: &mut R,
     clock: &mut ListClock,
 ) -> Result<ConnectionEnd, Fail> {
+    let routes = Routes::new(alloc)?;
     let registry = opened?;
     let mut told = Vec::new(alloc);
-    let served = serve_one(alloc, reader, &mut told, clock, registry);
+    let served = serve_one(alloc, &routes, reader, &mut told, clock, registry);
     let end = served.end;
     drop(served);
     if !told.is_empty() {
@@ -252,9 +266,10 @@ fn told_end<B: Book + Drop, R: Read>(
     reader: &mut R,
 ) -> Result<(Vec<u8>, ConnectionEnd), Fail> {
     let mut clock = clock_of(alloc)?;
+    let routes = Routes::new(alloc)?;
     let registry = opened?;
     let mut told = Vec::new(alloc);
-    let served = serve_one(alloc, reader, &mut told, &mut clock, registry);
+    let served = serve_one(alloc, &routes, reader, &mut told, &mut clock, registry);
     let end = served.end;
     drop(served);
     Ok((told, end))
@@ -293,9 +308,9 @@ fn clients_of_a_listener(rt: HostRuntime) -> Result<(), Fail> {
     for exchange in exchanges.iter() {
         clients.push(client_of(&rt, &listener, &exchange.asked)?)?;
     }
-    let mut clock = clock_of(alloc)?;
+    let mut clock = MachineClock::new(&Standing);
     listener.set_nonblocking(true)?;
-    serve_each(alloc, &listener, &mut clock, registry_of(alloc)?);
+    drop(serve_each(alloc, &listener, &mut clock, registry_of(alloc)?));
     for (client, exchange) in clients.into_iter().zip(exchanges.iter()) {
         assert!(&rt; is_told(alloc, client, &exchange.wanted));
     }
