@@ -11,7 +11,7 @@ use Rattle.std.specs.Str as str
 use Rattle.sqlite_keyed.proofs.KeyedLemmas.{same_int}
 use Rattle.sqlite_keyed.specs.Rules.{points_to}
 use Rattle.sqlite_rules.specs.Lists.{Has}
-use Rattle.accounts.proofs.LineLaws.{itself-roid, same-roids}
+use Rattle.accounts.proofs.LineLaws.{same-roids}
 use Rattle.accounts.specs.Lines.{is_same_roid}
 use Rattle.objects.specs.Links.{has_name, names_contact, names_host}
 use Rattle.objects.specs.Transfers.{is_pending_state, names}
@@ -52,7 +52,7 @@ use Rattle.sqlobjects.specs.Objects.{contact_of, contacts_of, last_transfer}
 use Rattle.sqlobjects.proofs.PutLemmas.{filter-has, has-filter}
 use Rattle.sqldomains.specs.Domains.{domain_of, domains_of}
 use Rattle.sqldomains.proofs.AnswerLemmas.{equal}
-use Rattle.sqldomains.proofs.LeadingLemmas.{LinksContact, LinksHost, names-contact, names-host}
+use Rattle.sqldomains.proofs.LeadingLemmas.{LinksContact, names-contact, names-host}
 use Rattle.sqldomains.proofs.NameOrderLemmas.{name-read, row-under, stands-there}
 use Rattle.sqldomains.proofs.SponsorLemmas.{parts, sponsor-read}
 use Rattle.sqlterms.specs.Terms.{days_of}
