@@ -2,7 +2,7 @@
 ghost use Rattle.std.specs.Prelude.{◌≡◌, false};
 
 use crate::cases::{LOOKS, PRELUDE};
-use crate::refusing::{Kind, Script, Tried, replies_to, sent, tried};
+use crate::refusing::{Kind, Script, Tried, replies_to, sent, try_script};
 use anyhow::{Result, bail};
 use fixtures::{POLICY, policy_of};
 use registry::Registry;
@@ -44,13 +44,13 @@ struct Expected {
 /// Sends a line to a new registry behind the prelude, and again where it couldn't be carried out, and tells what is
 /// found then. Where it `stops` it doesn't send it, so that one can tell where its own part begins.
 pub fn find(alloc: Global, kind: Kind, line: &str, stops: bool) -> Result<Found> {
-    let once = tried(alloc, kind, u64::MAX, Script::of(line))?;
+    let once = try_script(alloc, kind, u64::MAX, Script::of(line))?;
     let sent_twice = Script {
         line,
         times: 2,
         looks: LOOKS,
     };
-    let twice = tried(alloc, kind, u64::MAX, sent_twice)?;
+    let twice = try_script(alloc, kind, u64::MAX, sent_twice)?;
     let expected = Expected { once, twice };
     match kind {
         Kind::Rows => match in_memory(alloc) {

@@ -52,14 +52,14 @@ pub struct Tried {
 /// Refuses each call of a line in turn, and gives how many there are.
 pub fn refuse_each(alloc: Global, kind: Kind, line: &str) -> Result<u64> {
     let script = Script::of(line);
-    let undisturbed = tried(alloc, kind, u64::MAX, script)?;
+    let undisturbed = try_script(alloc, kind, u64::MAX, script)?;
     if !is_accepted(&undisturbed.reply) {
         bail!("not accepted, though nothing was refused to it");
     }
     let first = calls_of(alloc, kind, line, 0)?;
     let end = calls_of(alloc, kind, line, 1)?;
     for place in first..end {
-        compare(&tried(alloc, kind, place, script)?, &undisturbed)?;
+        compare(&try_script(alloc, kind, place, script)?, &undisturbed)?;
     }
     Ok(end.saturating_sub(first))
 }
@@ -71,7 +71,7 @@ fn calls_of(alloc: Global, kind: Kind, line: &str, times: u32) -> Result<u64> {
         times,
         looks: "",
     };
-    Ok(tried(alloc, kind, u64::MAX, script)?.calls)
+    Ok(try_script(alloc, kind, u64::MAX, script)?.calls)
 }
 
 /// Whether a reply has a code below 2000, or is a greeting.
@@ -91,22 +91,17 @@ fn compare(disturbed: &Tried, undisturbed: &Tried) -> Result<()> {
 }
 
 /// Opens a new registry whose book refuses the call behind so many, and sends it the prelude and a script.
-pub fn tried(alloc: Global, kind: Kind, place: u64, script: Script<'_>) -> Result<Tried> {
+pub fn try_script(alloc: Global, kind: Kind, place: u64, script: Script<'_>) -> Result<Tried> {
     match kind {
         Kind::Rows => match in_memory(alloc) {
-            Ok(book) => tried_over(alloc, book, place, script),
+            Ok(book) => try_over(alloc, book, place, script),
             Err(_) => bail!("no memory for a database"),
         },
-        Kind::Maps => tried_over(alloc, PlainBook::new(alloc), place, script),
+        Kind::Maps => try_over(alloc, PlainBook::new(alloc), place, script),
     }
 }
 
-fn tried_over<B: Book + Drop>(
-    alloc: Global,
-    book: B,
-    place: u64,
-    script: Script<'_>,
-) -> Result<Tried>
+fn try_over<B: Book + Drop>(alloc: Global, book: B, place: u64, script: Script<'_>) -> Result<Tried>
     requires { (B.state book).is_open ≡ false }
 {
     let Ok(policy) = policy_of(alloc, POLICY) else {
@@ -114,7 +109,7 @@ fn tried_over<B: Book + Drop>(
         bail!("no policy");
     };
     match Registry::open(alloc, OnceBook::new(book, place), policy) {
-        Ok(registry) => tried_in(alloc, registry, script),
+        Ok(registry) => try_in(alloc, registry, script),
         Err((_, book)) => {
             drop(book);
             bail!("not opened")
@@ -122,7 +117,7 @@ fn tried_over<B: Book + Drop>(
     }
 }
 
-fn tried_in<B: Book + Drop>(
+fn try_in<B: Book + Drop>(
     alloc: Global,
     registry: Registry<OnceBook<B>>,
     script: Script<'_>,

@@ -38,24 +38,25 @@ fn greatest(alloc: Global) -> Result<Vec<u8>, Fail> {
     Ok(payload)
 }
 
+/// Adds the frame of a payload.
+fn add_frame(frames: &mut Vec<u8>, payload: &[u8]) -> Result<(), Fail> {
+    match write_frame(frames, payload) {
+        Ok(()) => Ok(()),
+        Err(_) => Err(Fail::from("no frame")),
+    }
+}
+
 /// The frames of a session.
 fn frames(alloc: Global) -> Result<Vec<u8>, Fail> {
     let (_, login) = LOGIN;
     let greatest = greatest(alloc)?;
     let brackets = vec![in alloc; b'['; 128]?;
-    let payloads: [&[u8]; 5] = [
-        login.as_bytes(),
-        &greatest,
-        b"{}",
-        &brackets,
-        b"{\"cmd\":\"balance\",\"x\":1}",
-    ];
     let mut frames = Vec::new(alloc);
-    for payload in payloads {
-        if write_frame(&mut frames, payload).is_err() {
-            return Err(Fail::from("no frame"));
-        }
-    }
+    add_frame(&mut frames, login.as_bytes())?;
+    add_frame(&mut frames, &greatest)?;
+    add_frame(&mut frames, b"{}")?;
+    add_frame(&mut frames, &brackets)?;
+    add_frame(&mut frames, b"{\"cmd\":\"balance\",\"x\":1}")?;
     Ok(frames)
 }
 
@@ -75,7 +76,11 @@ fn payloads(rt: HostRuntime) -> Result<(), Fail> {
     let wanted = framed(alloc, REPLIES)?;
     let mut told = Vec::new(alloc);
     let end = met(alloc, registry_of(alloc), &mut whole(&asked), &mut told)?;
-    assert!(rt; asked[64..].starts_with(b"\0\x01\0\x04 "));
+    assert!(rt;
+        asked
+            .get(64..)
+            .is_some_and(|rest| rest.starts_with(b"\0\x01\0\x04 "))
+    );
     assert!(rt; told.as_slice() == wanted.as_slice());
     assert_eq!(rt; end, ConnectionEnd::Session(SessionEnd::End));
     Ok(())
@@ -132,7 +137,8 @@ fn frames_that_are_cut(rt: HostRuntime) -> Result<(), Fail> {
         let mut told = Vec::new(alloc);
         let mut reader = whole(&ASKED[..came]);
         let end = met(alloc, registry_of(alloc), &mut reader, &mut told)?;
-        assert!(rt; told.as_slice() == &TOLD[..count], "after {came} bytes");
+        assert!(rt; TOLD.starts_with(&told), "after {came} bytes");
+        assert_eq!(rt; told.len(), count);
         assert_eq!(rt; end, ConnectionEnd::Session(wanted));
     }
     Ok(())
