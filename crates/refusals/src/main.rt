@@ -10,6 +10,7 @@
 mod cases;
 mod growing;
 mod refusing;
+mod worked;
 
 use anyhow::{Context, Result, bail};
 use cases::CASES;
@@ -18,6 +19,7 @@ use refusing::{Kind, refuse_each};
 use std::env;
 use std::process::ExitCode;
 use std::rt::Env;
+use worked::run_row;
 
 /// Every case, with each call refused.
 fn run_all(rt: &(impl Print + AllocGlobal)) -> Result<()> {
@@ -26,6 +28,10 @@ fn run_all(rt: &(impl Print + AllocGlobal)) -> Result<()> {
         let over_maps = refuse_each(rt.alloc(), Kind::Maps, line).context(*name)?;
         println!(rt; "{name}: {over_rows} calls over rows, {over_maps} over ordered maps")?;
     }
+    for kind in [Kind::Rows, Kind::Maps] {
+        run_row(rt.alloc(), kind).context("a create that is refused three times")?;
+    }
+    println!(rt; "a create that is refused three times: as worked out by hand")?;
     Ok(())
 }
 
