@@ -40,6 +40,9 @@ fn greatest(alloc: Global) -> Result<Vec<u8>, Fail> {
 
 /// Adds the frame of a payload.
 fn add_frame(frames: &mut Vec<u8>, payload: &[u8]) -> Result<(), Fail> {
+    if payload.len() > 65_536 {
+        return Err(Fail::from("no frame"));
+    }
     match write_frame(frames, payload) {
         Ok(()) => Ok(()),
         Err(_) => Err(Fail::from("no frame")),
