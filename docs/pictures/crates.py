@@ -10,12 +10,12 @@ from pathlib import Path
 
 ROOT = Path(__file__).resolve().parent.parent.parent
 DATABASE = {"sqlite", "rows"}
-TESTS = ("tests", "wiretests", "rowtests", "crashtests", "fixtures", "transcripts")
+TESTS = ("tests", "wiretests", "rowtests", "fixtures", "transcripts", "refusals")
 GROUPS = [
     ("values and objects", "#eef3fa", ["basis", "calendar", "names", "policy", "objects", "accounts", "lifecycle"]),
     ("the wire", "#f3eefa", ["protocol", "eppforms", "eppcommands", "eppreplies", "eppwire", "streams", "eppframes",
                              "sessions"]),
-    ("the rules", "#e3f3e6", ["model", "facts", "verdict", "rules", "privacy"]),
+    ("the rules", "#e3f3e6", ["model", "facts", "verdict", "rules", "privacy", "concerns"]),
     ("the book and the registry", "#fbf0e3", ["transactions", "store", "registry", "runs", "eppsessions"]),
     ("the public", "#e6f4f4", ["zonefile", "rdap", "server"]),
 ]
