@@ -4,7 +4,7 @@ ghost use Rattle.std.specs.Prelude.{◌≡◌, false};
 use crate::cases::{LOOKS, PRELUDE};
 use anyhow::{Result, bail};
 use fixtures::{POLICY, policy_of};
-use registry::{Fault, Registry};
+use registry::Registry;
 use script::{Exit, run_on};
 use sqlbook::in_memory;
 use std::alloc::Global;
@@ -175,7 +175,11 @@ pub fn replies_to<B: Book + Drop>(
     }
 }
 
-/// The replies to lines. With none, a call on the book was refused, or memory was, and nothing is printed.
+/// What stands in the place of the reply to a line that couldn't be carried out.
+const FAILED: &[u8] = b"{\"code\":2400,\"msg\":\"Command failed\",\"svTRID\":\"ANON\"}\n";
+
+/// The replies to lines. With none, a call on the book was refused to the one line, or memory was: the fixed text
+/// is printed, or where memory lacked for that which stands around it nothing is.
 pub fn sent<B: Book + Drop>(
     alloc: Global,
     registry: &mut Registry<B>,
@@ -183,9 +187,9 @@ pub fn sent<B: Book + Drop>(
 ) -> Result<Option<Vec<u8>>> {
     let mut printed = Vec::new(alloc);
     match run_on(alloc, registry, lines.as_bytes(), &mut printed) {
+        Exit::Done if printed.as_slice() == FAILED => Ok(None),
         Exit::Done => Ok(Some(printed)),
-        Exit::Registry(Fault::Store | Fault::Memory) | Exit::Memory | Exit::File
-            if printed.is_empty() => { Ok(None) }
+        Exit::Memory | Exit::File if printed.is_empty() => Ok(None),
         _ => bail!("a script that ended otherwise"),
     }
 }
