@@ -1,5 +1,5 @@
 //! Contacts as rows. A contact's transfer is a row of its own.
-ghost use Rattle.std.specs.Prelude.{◌≡◌, true, IfOk};
+ghost use Rattle.std.specs.Prelude.{◌≡◌, ◌↔◌, IsTrue, IfOk};
 ghost use Rattle.columns.specs.Contacts as spec;
 ghost use Rattle.columns.specs.Texts.{statuses_in, street_in};
 
@@ -37,7 +37,7 @@ pub fn contact_row(
 
 /// Whether a contact's registrars have places: such a contact is read back from its row.
 pub fn is_contact(contact: &Contact) -> bool
-    ensures { result ≡ true → spec.IsContact contact.now }
+    ensures { IsTrue result ↔ spec.IsContact contact.now }
 {
     is_registration(&registration_of(contact))
 }

@@ -1,5 +1,5 @@
 //! Domains as rows. A domain's links and its transfer are rows of their own.
-ghost use Rattle.std.specs.Prelude.{◌≡◌, true, IfOk, IfSome, Some};
+ghost use Rattle.std.specs.Prelude.{◌≡◌, ◌↔◌, IsTrue, IfOk, IfSome, Some};
 ghost use Rattle.columns.specs.Domains as spec;
 ghost use Rattle.columns.specs.Texts.{statuses_in};
 
@@ -48,7 +48,7 @@ pub fn domain_row(
 
 /// Whether a domain's registrars have places: such a domain is read back from its row.
 pub fn is_domain(domain: &Domain) -> bool
-    ensures { result ≡ true → spec.IsDomain domain.now }
+    ensures { IsTrue result ↔ spec.IsDomain domain.now }
 {
     let _years = domain.years;
     show_deletion(domain.deletion);

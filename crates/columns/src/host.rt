@@ -1,5 +1,5 @@
 //! Hosts as rows. A host's addresses are rows of their own.
-ghost use Rattle.std.specs.Prelude.{◌≡◌, true, IfOk};
+ghost use Rattle.std.specs.Prelude.{◌≡◌, ◌↔◌, IsTrue, IfOk};
 ghost use Rattle.columns.specs.Above.{above};
 ghost use Rattle.columns.specs.Hosts as spec;
 ghost use Rattle.columns.specs.Texts.{statuses_in};
@@ -71,7 +71,7 @@ fn row_with(
 
 /// Whether a host's registrars have places: such a host is read back from its row.
 pub fn is_host(host: &Host) -> bool
-    ensures { result ≡ true → spec.IsHost host.now }
+    ensures { IsTrue result ↔ spec.IsHost host.now }
 {
     show_moment(host.created);
     show_maybe_moment(host.updated);

@@ -1,19 +1,19 @@
 //! Numbers as columns: registrars' places, counters, years and cents.
-ghost use Rattle.std.specs.Prelude.{◌≡◌, true, ◌<◌, ◌^◌, ℕ, Option, Some, IfSome};
+ghost use Rattle.std.specs.Prelude.{◌≡◌, ◌↔◌, IsTrue, ◌<◌, ◌^◌, ℕ, Option, Some, IfSome};
 ghost use Rattle.columns.specs.Numbers as spec;
 
 use basis::registrar::RegistrarNo;
 
 /// Whether a registrar has a place.
 pub(crate) fn is_place(registrar: RegistrarNo) -> bool
-    ensures { result ≡ true → spec.IsPlace registrar }
+    ensures { IsTrue result ↔ spec.IsPlace registrar }
 {
     registrar.place() != 0
 }
 
 /// Whether a registrar, if there is one, has a place.
 pub(crate) fn is_maybe_place(registrar: Option<RegistrarNo>) -> bool
-    ensures { result ≡ true → IfSome registrar spec.IsPlace }
+    ensures { IsTrue result ↔ IfSome registrar spec.IsPlace }
 {
     match registrar {
         None => true,

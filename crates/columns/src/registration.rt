@@ -1,5 +1,5 @@
 //! The columns that contacts and domains have in common.
-ghost use Rattle.std.specs.Prelude.{◌≡◌, true};
+ghost use Rattle.std.specs.Prelude.{◌≡◌, ◌↔◌, IsTrue};
 ghost use Rattle.columns.specs.Registrations as spec;
 
 use crate::moment::{
@@ -74,7 +74,7 @@ pub(crate) fn registration_of_columns(
 
 /// Whether its creator and its sponsor have places.
 pub(crate) fn is_registration(registration: &Registration) -> bool
-    ensures { result ≡ true → spec.IsRegistration registration.now }
+    ensures { IsTrue result ↔ spec.IsRegistration registration.now }
 {
     show_moment(registration.created);
     show_maybe_moment(registration.transferred);

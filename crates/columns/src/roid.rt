@@ -1,5 +1,5 @@
 //! Repository object identifiers as columns. Their kind is the table's.
-ghost use Rattle.std.specs.Prelude.{◌≡◌, true};
+ghost use Rattle.std.specs.Prelude.{◌≡◌, ◌↔◌, IsTrue};
 ghost use Rattle.columns.specs.Roids as spec;
 
 use crate::number::{
@@ -47,7 +47,7 @@ pub(crate) fn roid_of_columns(kind: ObjectKind, creator: i64, serial: i64) -> Op
 
 /// Whether its creator has a place.
 pub(crate) fn is_roid(roid: &Roid) -> bool
-    ensures { result ≡ true → spec.IsRoid roid.now }
+    ensures { IsTrue result ↔ spec.IsRoid roid.now }
 {
     let _serial = roid.serial;
     is_place(roid.creator)

@@ -1,5 +1,5 @@
 //! Transfers as rows.
-ghost use Rattle.std.specs.Prelude.{◌≡◌, true, Some, IfSome};
+ghost use Rattle.std.specs.Prelude.{◌≡◌, ◌↔◌, IsTrue, Some, IfSome};
 ghost use Rattle.objects.specs.declared.transfer.Transfer.{Transfer};
 ghost use Rattle.columns.specs.Transfers as spec;
 
@@ -35,7 +35,7 @@ pub fn transfer_row(
 
 /// Whether a transfer's registrars have places: such a transfer is read back from its row.
 pub fn is_transfer(transfer: &Transfer) -> bool
-    ensures { result ≡ true → spec.IsTransfer transfer.now }
+    ensures { IsTrue result ↔ spec.IsTransfer transfer.now }
 {
     show_moment(transfer.requested);
     show_moment(transfer.ac_date);

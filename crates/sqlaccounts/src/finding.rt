@@ -1,5 +1,5 @@
 //! Rows of lines that are looked for.
-ghost use Rattle.std.specs.Prelude.{◌≡◌, true, None, find, filter, option_map, IfOk, IfSome};
+ghost use Rattle.std.specs.Prelude.{◌≡◌, ◌↔◌, IsTrue, true, None, find, filter, option_map, IfOk, IfSome};
 ghost use Rattle.std.specs.Option.{option_copied};
 ghost use Rattle.columns.specs.Numbers.{is_place};
 ghost use Rattle.sqlaccounts.specs.Finding.{IsDomainRoid, is_row_about, is_row_on, reads_as};
@@ -68,7 +68,7 @@ fn all_rows<S: Alter>(
 
 /// Whether an identifier is a domain's, and its creator has a place.
 fn is_domain_roid(roid: &Roid) -> bool
-    ensures { result ≡ true → IsDomainRoid roid.now }
+    ensures { IsTrue result ↔ IsDomainRoid roid.now }
 {
     if roid.kind != ObjectKind::Domain {
         return false;

@@ -1,5 +1,6 @@
 //! Balances that change by so many cents.
-ghost use Rattle.std.specs.Prelude.{◌≡◌, ◌+ℤ◌, ◌-ℤ◌, pos, IfOk, IfSome};
+ghost use Rattle.std.specs.Prelude.{◌≡◌, ◌⊎◌, ◌+ℤ◌, ◌-ℤ◌, pos, FitsSigned, IfNone, IfOk, IfSome, OnErr};
+ghost use Rattle.std.specs.Int.{w128};
 ghost use Rattle.accounts.specs.Lines.{amount};
 ghost use Rattle.sqlaccounts.specs.Accounts.{balance_in};
 ghost use Rattle.sqlaccounts.specs.Changes.{IsPaid};
@@ -10,7 +11,8 @@ use transactions::BookFault;
 
 /// The row with so many cents more.
 pub(crate) fn paid(row: AccountRow, cents: i128) -> Result<AccountRow, BookFault>
-    ensures { IfOk result (IsPaid cents row) }
+    ensures paid { IfOk result (IsPaid cents row) }
+    ensures fits { OnErr result (¬ FitsSigned w128 (balance_in row.balance +ℤ cents)) }
 {
     let mut row = row;
     let Some(balance) = balance_after(row.balance, cents) else {
@@ -22,7 +24,8 @@ pub(crate) fn paid(row: AccountRow, cents: i128) -> Result<AccountRow, BookFault
 
 /// The row without what a line is worth.
 pub(crate) fn paid_back(row: AccountRow, line: &Line) -> Result<AccountRow, BookFault>
-    ensures { IfOk result (IsPaid (pos 0 -ℤ amount line.now) row) }
+    ensures paid { IfOk result (IsPaid (pos 0 -ℤ amount line.now) row) }
+    ensures fits { OnErr result ((¬ FitsSigned w128 (pos 0 -ℤ amount line.now)) ⊎ (¬ FitsSigned w128 (balance_in row.balance +ℤ (pos 0 -ℤ amount line.now)))) }
 {
     let cents = less(line.amount())?;
     paid(row, cents)
@@ -31,7 +34,8 @@ pub(crate) fn paid_back(row: AccountRow, line: &Line) -> Result<AccountRow, Book
 /// A balance with so many cents more, if it fits.
 #[tactic(auto, using(tables::proofs::BalanceLemmas::balance_read))]
 fn balance_after(balance: [u8; 16], cents: i128) -> Option<[u8; 16]>
-    ensures { IfSome result (λ after. balance_in after ≡ balance_in balance +ℤ cents) }
+    ensures sum { IfSome result (λ after. balance_in after ≡ balance_in balance +ℤ cents) }
+    ensures fits { IfNone result (¬ FitsSigned w128 (balance_in balance +ℤ cents)) }
 {
     let sum = i128::from_be_bytes(balance).checked_add(cents)?;
     Some(bytes_of_balance(sum))
@@ -39,7 +43,8 @@ fn balance_after(balance: [u8; 16], cents: i128) -> Option<[u8; 16]>
 
 /// So many cents less.
 fn less(cents: i128) -> Result<i128, BookFault>
-    ensures { IfOk result (λ less. less ≡ pos 0 -ℤ cents) }
+    ensures less { IfOk result (λ less. less ≡ pos 0 -ℤ cents) }
+    ensures fits { OnErr result (¬ FitsSigned w128 (pos 0 -ℤ cents)) }
 {
     match 0i128.checked_sub(cents) {
         Some(less) => Ok(less),

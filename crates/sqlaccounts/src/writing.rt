@@ -1,5 +1,5 @@
 //! Lines as rows that read as these lines.
-ghost use Rattle.std.specs.Prelude.{◌≡◌, true, IfOk, IfSome};
+ghost use Rattle.std.specs.Prelude.{◌↔◌, IsTrue, IfOk, IfSome};
 ghost use Rattle.calendar.specs.Moment.{IsMoment};
 ghost use Rattle.columns.specs.Lines.{IsLine};
 ghost use Rattle.columns.specs.Roids.{IsRoid};
@@ -28,7 +28,7 @@ pub(crate) fn written(registrar: RegistrarNo, line: &Line) -> Result<LineRow, Bo
 
 /// Whether a line's domain, if it has one, has an identifier that reads.
 fn is_line(line: &Line) -> bool
-    ensures { result ≡ true → IsLine line.now }
+    ensures { IsTrue result ↔ IsLine line.now }
 {
     let _years = line.years;
     show_moment(Some(line.recorded));
@@ -47,7 +47,7 @@ fn show_moment(moment: Option<Moment>)
 }
 
 fn has_creator(roid: &Option<Roid>) -> bool
-    ensures { result ≡ true → IfSome roid.now IsRoid }
+    ensures { IsTrue result ↔ IfSome roid.now IsRoid }
 {
     match roid {
         None => true,
@@ -57,7 +57,7 @@ fn has_creator(roid: &Option<Roid>) -> bool
 
 /// Whether an identifier's creator has a place.
 pub(crate) fn is_roid(roid: &Roid) -> bool
-    ensures { result ≡ true → IsRoid roid.now }
+    ensures { IsTrue result ↔ IsRoid roid.now }
 {
     let _serial = roid.serial;
     roid.creator.place() != 0

@@ -77,6 +77,10 @@ impl<S: Alter, O: Origin<S>> Records for SqlRecords<S, O> {
 
     ghost idle = { λ r e i. stored_of (r.steady.idle e i) };
 
+    ghost REFUSES = { true };
+
+    const REFUSES: bool = true;
+
     fn alloc(&self) -> Global {
         self.alloc
     }

@@ -104,6 +104,8 @@ removed-so id number xs b m same links transfer =
       domains =
           ap (λ (x : Content). delete_where (table.domain_with_id number) x.domains) transfer.others.rest
           ∙ ap (λ (x : Content). delete_where (table.domain_with_id number) x.domains) links.others.rest;
+      links = ap (λ (x : Content). filter (link_with_domain number) x.links) transfer.others.rest ∙ links.none;
+      transfers = transfer.none;
     })
 
 module _ (xs ys : Content) (name : List ℕ) (whole : IsWhole xs) (after : IsWhole ys) where

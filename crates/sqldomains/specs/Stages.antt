@@ -138,6 +138,8 @@ IsDomainPlacedAt found d beside row old new =
 pub record IsDomainRemoved (id : ℤ) (old new : Content) : Type 0 where
   pub kept : AreOtherPartsKept id old new
   pub domains : new.domains ≡ delete_where (table.domain_with_id id) old.domains
+  pub links : filter (link_with_domain id) new.links ≡ []
+  pub transfers : filter (transfer_with_domain id) new.transfers ≡ []
 
 -- the same of the row that was found, if there was one
 abbrev pub IsDomainDropped : Option table.Domain → Content → Content → Type 0

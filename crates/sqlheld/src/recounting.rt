@@ -1,5 +1,6 @@
 //! How many domains are held, counted anew where one domain comes in the place of another.
-ghost use Rattle.std.specs.Prelude.{◌≡◌, ◌==◌, ◌&&◌, ◌+ℤ◌, not, pos, true, IfOk, IfSome};
+ghost use Rattle.std.specs.Prelude.{◌≡◌, ◌==◌, ◌&&◌, ◌+ℤ◌, ◌-ℤ◌, not, pos, true, FitsSigned, IfNone, IfOk, IfSome, OnErr};
+ghost use Rattle.std.specs.Int.{w64};
 ghost use Rattle.meanings.specs.Calls.{Turns};
 ghost use Rattle.sqlheld.specs.Held.{counts_one, counts_where};
 ghost use Rattle.sqlheld.specs.Parties.{is_in};
@@ -93,7 +94,8 @@ fn one_more<S: Alter>(
 }
 
 fn with_less(row: AccountRow) -> Result<AccountRow, BookFault>
-    ensures { IfOk result (IsCounted 1 0 row) }
+    ensures counted { IfOk result (IsCounted 1 0 row) }
+    ensures least { OnErr result (¬ FitsSigned w64 (row.held -ℤ pos 1)) }
 {
     let mut row = row;
     let Some(held) = less(row.held) else {
@@ -104,7 +106,8 @@ fn with_less(row: AccountRow) -> Result<AccountRow, BookFault>
 }
 
 fn with_more(row: AccountRow) -> Result<AccountRow, BookFault>
-    ensures { IfOk result (IsCounted 0 1 row) }
+    ensures counted { IfOk result (IsCounted 0 1 row) }
+    ensures most { OnErr result (¬ FitsSigned w64 (row.held +ℤ pos 1)) }
 {
     let mut row = row;
     let Some(held) = more(row.held) else {
@@ -115,13 +118,15 @@ fn with_more(row: AccountRow) -> Result<AccountRow, BookFault>
 }
 
 fn less(held: i64) -> Option<i64>
-    ensures { IfSome result (λ after. after +ℤ pos 1 ≡ held +ℤ pos 0) }
+    ensures one { IfSome result (λ after. after +ℤ pos 1 ≡ held +ℤ pos 0) }
+    ensures least { IfNone result (¬ FitsSigned w64 (held -ℤ pos 1)) }
 {
     held.checked_sub(1)
 }
 
 fn more(held: i64) -> Option<i64>
-    ensures { IfSome result (λ after. after +ℤ pos 0 ≡ held +ℤ pos 1) }
+    ensures one { IfSome result (λ after. after +ℤ pos 0 ≡ held +ℤ pos 1) }
+    ensures most { IfNone result (¬ FitsSigned w64 (held +ℤ pos 1)) }
 {
     held.checked_add(1)
 }

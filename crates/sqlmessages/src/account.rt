@@ -1,5 +1,5 @@
 //! How many messages wait, in the row of an account.
-ghost use Rattle.std.specs.Prelude.{pos, negsuc, IfOk};
+ghost use Rattle.std.specs.Prelude.{◌≡◌, ◌<ℤ◌, pos, negsuc, IfOk, OnErr};
 ghost use Rattle.sqlmessages.specs.Rows.{IsWaitingMore};
 
 use tables::AccountRow;
@@ -7,7 +7,8 @@ use transactions::BookFault;
 
 /// The account, for which one message more waits.
 pub(crate) fn one_more(account: AccountRow) -> Result<AccountRow, BookFault>
-    ensures { IfOk result (λ changed. IsWaitingMore (pos 1) account changed) }
+    ensures more { IfOk result (λ changed. IsWaitingMore (pos 1) account changed) }
+    ensures full { OnErr result (account.waiting ≡ pos 9_223_372_036_854_775_807) }
 {
     let mut account = account;
     if account.waiting == i64::MAX {
@@ -19,7 +20,8 @@ pub(crate) fn one_more(account: AccountRow) -> Result<AccountRow, BookFault>
 
 /// The account, for which one message less waits.
 pub(crate) fn one_less(account: AccountRow) -> Result<AccountRow, BookFault>
-    ensures { IfOk result (λ changed. IsWaitingMore (negsuc 0) account changed) }
+    ensures less { IfOk result (λ changed. IsWaitingMore (negsuc 0) account changed) }
+    ensures none { OnErr result (account.waiting <ℤ pos 1) }
 {
     let mut account = account;
     if account.waiting < 1 {

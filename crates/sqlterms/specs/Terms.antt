@@ -1,6 +1,7 @@
 -- The terms of a registry: in the row of meta, and in the idents of accounts.
-use Rattle.std.specs.Prelude.{ℕ, ◌+◌, ◌==◌, ℤ, pos, Bool, false, nat_lt, List, [], ◌∷◌, ◌++◌, length, Option, Some, None, if◌then◌else◌, option_and_then}
+use Rattle.std.specs.Prelude.{ℕ, ◌+◌, ◌==◌, ℤ, pos, Bool, false, not, nat_lt, List, [], ◌∷◌, ◌++◌, length, Option, Some, None, if◌then◌else◌, option_and_then}
 use Rattle.std.specs.FinSet.{from_list}
+use Rattle.std.specs.Option.{option_map_or}
 use Rattle.std.specs.Ordering.{int_eq}
 use Rattle.basis.specs.Sets.{Names}
 use Rattle.columns.specs.Numbers.{natural_in}
@@ -92,6 +93,14 @@ terms_made zone reserved days prices ids = do
   p ← prices
   i ← ids
   Some (record { zone = zone; reserved = reserved; days = d; prices = p; ids = i })
+
+-- a row under which the registry was opened has a zone
+abbrev pub has_zone : Meta → Bool
+has_zone row = not (length row.zone == 0)
+
+-- terms were put down
+abbrev pub has_terms : Content → Bool
+has_terms xs = option_map_or has_zone (meta_of xs) false
 
 abbrev pub terms_at : Meta → List Account → Option Terms
 terms_at row accounts =

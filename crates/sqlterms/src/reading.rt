@@ -1,5 +1,5 @@
 //! The clock and the terms.
-ghost use Rattle.std.specs.Prelude.{◌≡◌, Some, IfOk};
+ghost use Rattle.std.specs.Prelude.{◌≡◌, true, is_some, Some, IfOk};
 ghost use Rattle.sqlterms.specs.Clock.{clock_of};
 ghost use Rattle.sqlterms.specs.Terms as spec;
 ghost use Rattle.transactions.specs.States.{Finds};
@@ -30,28 +30,32 @@ pub fn clock<S: Alter>(store: &mut RowStore<S>) -> Result<Moment, BookFault>
     }
 }
 
-/// The days of the periods, if the registry was opened. Columns that are none are none of terms.
+/// The days of the periods, if the registry was opened. Columns that are none are refused.
 pub fn days<S: Alter>(store: &mut RowStore<S>) -> Result<Option<Days>, BookFault>
-    ensures { Finds result (spec.days_of store.old.content) store.old store.new }
+    ensures found { Finds result (spec.days_of store.old.content) store.old store.new }
+    ensures all { IfOk result (λ days. store.new.is_clean ≡ true → is_some days ≡ spec.has_terms store.old.content) }
 {
     let Some(row) = maybe_meta(store)? else {
         return Ok(None);
     };
-    Ok(days_at(&row))
+    days_at(&row)
 }
 
-fn days_at(row: &MetaRow) -> Option<Days>
-    ensures { result ≡ spec.days_at row.now }
+fn days_at(row: &MetaRow) -> Result<Option<Days>, BookFault>
+    ensures found { IfOk result (λ days. days ≡ spec.days_at row.now) }
+    ensures all { IfOk result (λ days. is_some days ≡ spec.has_zone row.now) }
 {
     if row.zone.is_empty() {
-        return None;
+        return Ok(None);
     }
-    days_of(row)
+    let days = or_fault(days_of(row))?;
+    Ok(Some(days))
 }
 
-/// The terms that the registry is used under, if it was opened.
+/// The terms that the registry is used under, if it was opened. What doesn't read as terms is refused.
 pub fn terms<S: Alter>(store: &mut RowStore<S>, alloc: Global) -> Result<Option<Terms>, BookFault>
-    ensures { Finds result (spec.terms_of store.old.content) store.old store.new }
+    ensures found { Finds result (spec.terms_of store.old.content) store.old store.new }
+    ensures all { IfOk result (λ terms. store.new.is_clean ≡ true → is_some terms ≡ spec.has_terms store.old.content) }
 {
     let Some(row) = maybe_meta(store)? else {
         return Ok(None);

@@ -1,5 +1,5 @@
 //! Another clock, and other terms.
-ghost use Rattle.std.specs.Prelude.{◌≡◌, true, Some};
+ghost use Rattle.std.specs.Prelude.{◌≡◌, ◌↔◌, true, IsTrue, Some};
 ghost use Rattle.meanings.specs.Calls.{Turns};
 ghost use Rattle.sqlterms.specs.Changes.{IsClockSet, IsTermsSet};
 
@@ -58,7 +58,7 @@ pub fn set_terms<S: Alter>(
 
 /// Whether what was read are these terms.
 fn are(read: &Option<Terms>, value: &Terms) -> bool
-    ensures { result ≡ true → read.now ≡ Some value.now }
+    ensures { IsTrue result ↔ (read.now ≡ Some value.now) }
 {
     match read {
         None => false,

@@ -10,3 +10,4 @@ pub mod GivingLemmas
 pub mod RenameLemmas
 pub mod PlainLemmas
 pub mod OnceLemmas
+pub mod KeptLemmas

@@ -1,5 +1,6 @@
 -- How a book stands that is made of records.
-use Rattle.std.specs.Prelude.{◌≡◌, ℕ, ◌≤◌, true, false}
+use Rattle.std.specs.Prelude.{◌≡◌, ℕ, ◌≤◌, Bool, true, false, if◌then◌else◌}
+use Rattle.std.proofs.Common.{ap}
 use Rattle.transactions.specs.declared.fault.BookFault.{BookFault}
 use Rattle.transactions.specs.declared.fault.BookFault.TheVariants.{Memory, Store}
 use Rattle.store.specs.Book.{BookState, HasRefused, LeavesSame, NoRefusal}
@@ -16,6 +17,18 @@ stands s refused = record {
   readiness = s.readiness;
   crash_leaves = s.crash_leaves;
 }
+
+-- how often it refused, where it can refuse at all
+abbrev pub refusals_of : Bool → ℕ → ℕ
+refusals_of refuses refused = if refuses then refused else 0
+
+-- how a book stands whose records may refuse, or can't, and were refused so often
+abbrev pub state_of : RecordsState → Bool → ℕ → BookState
+state_of s refuses refused = stands s (refusals_of refuses refused)
+
+-- what can't refuse never did
+pub none_refused : (refuses : Bool) (refused : ℕ) → refuses ≡ false → refusals_of refuses refused ≡ 0
+none_refused refuses refused e = ap (λ (b : Bool). refusals_of b refused) e
 
 -- it went back, whatever was done in the transaction
 pub record GoesBack (old new : BookState) : Type 0 where

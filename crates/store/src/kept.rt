@@ -1,7 +1,8 @@
 //! A book that is made of records.
-ghost use Rattle.std.specs.Prelude.{◌≡◌, ◌≤◌, Err};
+ghost use Rattle.std.specs.Prelude.{◌≡◌, ◌≤◌};
 ghost use Rattle.store.specs.Book.{HasRefused};
-ghost use Rattle.store.specs.Kept.{GaveUp, stands};
+ghost use Rattle.store.specs.Kept as spec;
+ghost use Rattle.store.specs.Kept.{GaveUp, stands, state_of};
 
 use crate::book::Book;
 use crate::due::Due;
@@ -56,51 +57,66 @@ impl<R: Records> Kept<R> {
         self.refused = self.refused.saturating_add(1);
     }
 
-    /// Goes back because of a fault, and counts a refusal.
-    fn give_up<T>(&mut self, fault: BookFault) -> Result<T, BookFault>
-        ensures fault { result ≡ Err fault }
-        ensures back { GaveUp fault (stands (R.kept self.old.records) self.old.refused) (stands (R.kept self.new.records) self.new.refused) }
+    /// Goes back because of a fault, and counts a refusal. What can't refuse gives up for want of memory,
+    /// whatever it says. Gives what is to be answered.
+    #[tactic(auto, using(crate::proofs::KeptLemmas::counts))]
+    fn give_up(&mut self, fault: BookFault) -> BookFault
+        ensures { GaveUp result (state_of (R.kept self.old.records) R.REFUSES self.old.refused) (state_of (R.kept self.new.records) R.REFUSES self.new.refused) }
     {
         self.records.back();
+        if !R::REFUSES {
+            return BookFault::Memory;
+        }
         match fault {
             BookFault::Memory => {}
             BookFault::Store => self.count(),
         }
-        Err(fault)
+        fault
     }
 }
 
-impl<R: Records> Book for Kept<R> {
-    ghost use Rattle.store.specs.Kept.{stands};
+/// How often what keeps a book refused, where it can refuse at all.
+fn refusals_of(refuses: bool, refused: u64) -> u64
+    ensures { result ≡ spec.refusals_of refuses refused }
+{
+    if refuses { refused } else { 0 }
+}
 
-    ghost state = { λ b. stands (R.kept b.records) b.refused };
+impl<R: Records> Book for Kept<R> {
+    ghost use Rattle.store.specs.Kept.{none_refused, state_of};
+
+    ghost state = { λ b. state_of (R.kept b.records) R.REFUSES b.refused };
+
+    ghost refuses = { R.REFUSES };
+
+    ghost silent = { λ b e. none_refused R.REFUSES b.refused e };
 
     fn active(&self) -> bool {
         self.records.is_open()
     }
 
     fn refusals(&self) -> u64 {
-        self.refused
+        refusals_of(R::REFUSES, self.refused)
     }
 
     fn ready(&mut self) -> Result<Ready, BookFault> {
         match self.records.ready() {
             Ok(ready) => Ok(ready),
-            Err(fault) => self.give_up(fault),
+            Err(fault) => Err(self.give_up(fault)),
         }
     }
 
     fn clock(&mut self) -> Result<Moment, BookFault> {
         match self.records.clock() {
             Ok(clock) => Ok(clock),
-            Err(fault) => self.give_up(fault),
+            Err(fault) => Err(self.give_up(fault)),
         }
     }
 
     fn terms(&mut self) -> Result<Option<Terms>, BookFault> {
         match self.records.terms() {
             Ok(terms) => Ok(terms),
-            Err(fault) => self.give_up(fault),
+            Err(fault) => Err(self.give_up(fault)),
         }
     }
 
@@ -112,14 +128,14 @@ impl<R: Records> Book for Kept<R> {
     ) -> Result<Facts, BookFault> {
         match finding::facts_for(&mut self.records, caller, command, policy) {
             Ok(facts) => Ok(facts),
-            Err(fault) => self.give_up(fault),
+            Err(fault) => Err(self.give_up(fault)),
         }
     }
 
     fn object_at(&mut self, kind: ObjectKind, name: &Text) -> Result<Option<Object>, BookFault> {
         match finding::object_at(&mut self.records, kind, name) {
             Ok(object) => Ok(object),
-            Err(fault) => self.give_up(fault),
+            Err(fault) => Err(self.give_up(fault)),
         }
     }
 
@@ -130,42 +146,42 @@ impl<R: Records> Book for Kept<R> {
     ) -> Result<Option<DomainFace>, BookFault> {
         match seeing::domain_face(&mut self.records, name, policy) {
             Ok(face) => Ok(face),
-            Err(fault) => self.give_up(fault),
+            Err(fault) => Err(self.give_up(fault)),
         }
     }
 
     fn host_face(&mut self, name: &Text, policy: &Policy) -> Result<Option<HostFace>, BookFault> {
         match seeing::host_face(&mut self.records, name, policy) {
             Ok(face) => Ok(face),
-            Err(fault) => self.give_up(fault),
+            Err(fault) => Err(self.give_up(fault)),
         }
     }
 
     fn contact_face(&mut self, name: &Text) -> Result<Option<ContactFace>, BookFault> {
         match seeing::contact_face(&mut self.records, name) {
             Ok(face) => Ok(face),
-            Err(fault) => self.give_up(fault),
+            Err(fault) => Err(self.give_up(fault)),
         }
     }
 
     fn domain_names(&mut self) -> Result<Seq<Text>, BookFault> {
         match self.records.domain_names() {
             Ok(names) => Ok(names),
-            Err(fault) => self.give_up(fault),
+            Err(fault) => Err(self.give_up(fault)),
         }
     }
 
     fn host_addresses(&mut self, name: &Text) -> Result<Option<Seq<Text>>, BookFault> {
         match self.records.host_addresses(name) {
             Ok(addresses) => Ok(addresses),
-            Err(fault) => self.give_up(fault),
+            Err(fault) => Err(self.give_up(fault)),
         }
     }
 
     fn due(&mut self, moment: Moment, policy: &Policy) -> Result<Seq<Due>, BookFault> {
         match self.records.due(moment, policy) {
             Ok(due) => Ok(due),
-            Err(fault) => self.give_up(fault),
+            Err(fault) => Err(self.give_up(fault)),
         }
     }
 
@@ -178,7 +194,7 @@ impl<R: Records> Book for Kept<R> {
     ) -> Result<Seq<Due>, BookFault> {
         match concerning::due_for(&mut self.records, caller, command, moment, policy) {
             Ok(due) => Ok(due),
-            Err(fault) => self.give_up(fault),
+            Err(fault) => Err(self.give_up(fault)),
         }
     }
 
@@ -191,35 +207,35 @@ impl<R: Records> Book for Kept<R> {
     ) -> Result<Seq<Due>, BookFault> {
         match concerning::due_at(&mut self.records, kind, name, moment, policy) {
             Ok(due) => Ok(due),
-            Err(fault) => self.give_up(fault),
+            Err(fault) => Err(self.give_up(fault)),
         }
     }
 
     fn begin(&mut self) -> Result<(), BookFault> {
         match self.records.begin() {
             Ok(()) => Ok(()),
-            Err(fault) => self.give_up(fault),
+            Err(fault) => Err(self.give_up(fault)),
         }
     }
 
     fn apply(&mut self, changes: Seq<Change>, policy: &Policy) -> Result<(), BookFault> {
         match applying::apply(&mut self.records, changes, policy) {
             Ok(()) => Ok(()),
-            Err(fault) => self.give_up(fault),
+            Err(fault) => Err(self.give_up(fault)),
         }
     }
 
     fn keep_terms(&mut self, terms: Terms) -> Result<(), BookFault> {
         match self.records.set_terms(terms) {
             Ok(()) => Ok(()),
-            Err(fault) => self.give_up(fault),
+            Err(fault) => Err(self.give_up(fault)),
         }
     }
 
     fn commit(&mut self) -> Result<(), BookFault> {
         match self.records.commit() {
             Ok(()) => Ok(()),
-            Err(fault) => self.give_up(fault),
+            Err(fault) => Err(self.give_up(fault)),
         }
     }
 

@@ -28,7 +28,7 @@ pub use due::Due;
 pub use kept::Kept;
 pub use ledgers::Counters;
 pub use once::OnceBook;
-pub use plain::{Plain, PlainBook};
+pub use plain::{Plain, PlainBook, never_refuses};
 pub use records::Records;
 pub use renamed::with_host_renamed;
 pub use transactions::{BookFault, Ready};

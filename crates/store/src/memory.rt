@@ -1,5 +1,5 @@
 //! Records in memory.
-ghost use Rattle.std.specs.Prelude.{◌≡◌};
+ghost use Rattle.std.specs.Prelude.{◌≡◌, false};
 ghost use Rattle.store.specs.Plain as spec;
 
 use crate::due::Due;
@@ -35,6 +35,10 @@ impl Records for Plain {
     ghost kept = { plain_records };
 
     ghost idle = { λ b e. rw e (λ i. at_begin b) };
+
+    ghost REFUSES = { false };
+
+    const REFUSES: bool = false;
 
     fn alloc(&self) -> Global {
         self.content.alloc

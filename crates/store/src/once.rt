@@ -1,5 +1,5 @@
 //! A book that refuses one call.
-ghost use Rattle.std.specs.Prelude.{◌≡◌, ◌≢◌, true, Err};
+ghost use Rattle.std.specs.Prelude.{◌≡◌, ◌≢◌, ◌↔◌, ◌+◌, ◌&&◌, min, nat_eq, true, IsTrue, Err};
 ghost use Rattle.store.specs.Once.{RefusesOnce, with_refusals};
 
 use crate::book::Book;
@@ -31,6 +31,8 @@ impl<B> OnceBook<B> {
     /// A book that refuses one call, behind so many others; with `u64::MAX` none.
     pub fn new(inner: B, place: u64) -> OnceBook<B>
         ensures inner { result.inner ≡ inner }
+        ensures place { result.place ≡ place }
+        ensures calls { result.calls ≡ 0 }
         ensures refused { result.refused ≡ 0 }
     {
         OnceBook {
@@ -42,13 +44,15 @@ impl<B> OnceBook<B> {
     }
 
     /// How many calls were made so far that could have been refused.
-    pub fn calls(&self) -> u64 {
+    pub fn calls(&self) -> u64
+        ensures { result ≡ self.now.calls }
+    {
         self.calls
     }
 
     /// Whether it has refused its call.
     pub fn has_refused(&self) -> bool
-        ensures { result ≡ true → self.now.refused ≢ 0 }
+        ensures { IsTrue result ↔ self.now.refused ≢ 0 }
     {
         self.refused > 0
     }
@@ -63,7 +67,10 @@ impl<B> OnceBook<B> {
     /// Whether the call that begins is the one.
     fn is_next(&mut self) -> bool
         ensures inner { self.new.inner ≡ self.old.inner }
+        ensures place { self.new.place ≡ self.old.place }
         ensures refused { self.new.refused ≡ self.old.refused }
+        ensures counted { self.new.calls ≡ min (self.old.calls + 1) 0xFFFF_FFFF_FFFF_FFFF }
+        ensures next { result ≡ (nat_eq self.old.calls self.old.place && nat_eq self.old.refused 0) }
     {
         let is_next = self.calls == self.place && self.refused == 0;
         self.calls = self.calls.saturating_add(1);
@@ -86,9 +93,15 @@ impl<B: Book> OnceBook<B> {
 }
 
 impl<B: Book> Book for OnceBook<B> {
+    ghost use Rattle.std.specs.Prelude.{true};
+    ghost use Rattle.store.specs.Kept.{none_refused};
     ghost use Rattle.store.specs.Once.{with_refusals};
 
     ghost state = { λ b. with_refusals b.refused (B.state b.inner) };
+
+    ghost refuses = { true };
+
+    ghost silent = { λ b e. none_refused true (with_refusals b.refused (B.state b.inner)).refused e };
 
     fn active(&self) -> bool {
         self.inner.active()

@@ -11,6 +11,12 @@ use basis::list::Seq;
 /// A book in memory.
 pub type PlainBook = Kept<Plain>;
 
+/// Does nothing. It tells a proof that ordered maps never refused anything. As each fault of Store is
+/// counted, no call on a book of theirs answers one: it gives up for want of memory alone.
+pub fn never_refuses(book: &PlainBook)
+    ensures { (⟦<PlainBook as Book>⟧.state book.now).refused ≡ 0 }
+{}
+
 /// Records in ordered maps, with what undoes the changes of the open transaction. A change costs a
 /// look-up and a copy of what it replaces; nothing is copied when a transaction begins.
 #[derive(Drop)]

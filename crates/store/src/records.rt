@@ -1,5 +1,5 @@
 //! What a book keeps, by key.
-ghost use Rattle.std.specs.Prelude.{◌≡◌, true, false, nat_le, length, slice_get, option_map, Some, None};
+ghost use Rattle.std.specs.Prelude.{◌≡◌, Bool, true, false, nat_le, length, slice_get, option_map, Some, None};
 ghost use Rattle.std.specs.FinMap as finmap;
 ghost use Rattle.std.specs.List.{filter};
 ghost use Rattle.accounts.specs.Lines as lines;
@@ -41,6 +41,11 @@ pub trait Records {
     ghost kept: { Self → RecordsState };
 
     ghost idle: { (r : Self) → IsIdle (kept r) };
+
+    ghost REFUSES: { Bool };
+
+    /// Whether what keeps them may refuse a call, as a database may and ordered maps can't.
+    const REFUSES: bool;
 
     /// Where answers are put.
     fn alloc(&self) -> Global;

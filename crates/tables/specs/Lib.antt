@@ -19,3 +19,4 @@ pub mod Stored
 pub mod Whole
 pub mod Adoption
 pub mod Reopening
+pub mod Faults

@@ -1,5 +1,6 @@
 //! The ten tables in a database as rows, with transactions.
 ghost use Rattle.std.specs.Prelude.{◌≡◌, false, true, ⊤, List, map, IfErr, IfOk, OnOk};
+ghost use Rattle.tables.specs.Faults as faults;
 
 use crate::adoption::reread;
 use crate::form::Form;
@@ -40,7 +41,9 @@ impl<S: Alter> Model for RowStore<S> {
 }
 
 /// What an error of the database is to a book.
-pub(crate) fn fault_of(error: &Error) -> BookFault {
+pub(crate) fn fault_of(error: &Error) -> BookFault
+    ensures { result ≡ faults.fault_of error.now }
+{
     match error {
         Error::SqliteFailure(ErrorCode::OutOfMemory) => BookFault::Memory,
         _ => BookFault::Store,

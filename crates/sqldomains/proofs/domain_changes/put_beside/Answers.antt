@@ -21,7 +21,7 @@ returns g c =
     let both = then-became (AreLinksPut row.id row.due d.links) (IsTransferPut row.id d.transfer)
     (λ m e. (a : Content) → IsWhole a → IsWhole e → IsDomainPlaced d beside row a m → contact_name a beside.registrant ≡ Some d.links.registrant → IsDomainPut d.name (Some d) (Some beside.due) a e) middle linked new
     (c.in_ok-put_links.ensures {u = tt}) (c.in_ok-put_transfer.ensures {u = tt})
-    (λ clean links transfer a whole after placed registrant. domain-put a middle.content linked.content new.content beside d row whole after (c.is_domain.ensures c.if-not-is_domain.false) registrant placed links transfer) in
+    (λ clean links transfer a whole after placed registrant. domain-put a middle.content linked.content new.content beside d row whole after (c.is_domain.ensures.0 c.if-not-is_domain.false) registrant placed links transfer) in
     became-whole (λ a m. IsWhole a → IsDomainPlaced d beside row a m)
     (λ m e. (a : Content) → IsWhole a → IsWhole e → IsDomainPlaced d beside row a m → contact_name a beside.registrant ≡ Some d.links.registrant → IsDomainPut d.name (Some d) (Some beside.due) a e)
     (λ a e. contact_name a beside.registrant ≡ Some d.links.registrant → IsDomainPut d.name (Some d) (Some beside.due) a e) IsWhole old middle new

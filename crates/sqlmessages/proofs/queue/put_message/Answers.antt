@@ -22,4 +22,4 @@ returns g c =
     let new = c.in_ok-account-2.account in
     then-made (λ xs. accounts_to (λ rows. insert_by accounts.key rows new) (messages_to (appended messages (λ id. record it.row { id = id })) xs)) _
     c.args.store.now c.look.new.store c.append.new.store e.0 (c.in_ok-append.ensures {u = tt})
-    (λ clean. put_in c.args.store.now.content c.args.registrar c.args.message it (e.1 clean) new (sym c.is_empty-is_there.ensures ∙ c.if-is_there.false) (c.in_ok-account-2.ensures {u = tt}))
+    (λ clean. put_in c.args.store.now.content c.args.registrar c.args.message it (e.1 clean) new (sym c.is_empty-is_there.ensures ∙ c.if-is_there.false) c.in_ok-account-2.ensures.more)

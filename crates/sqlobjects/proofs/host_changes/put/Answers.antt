@@ -17,4 +17,4 @@ returns g c =
     let row = c.in_ok-row.row in
     became-whole (IsHostPlacedRight host row) (AreAddressesPut row.id host.addresses) (IsHostPut host.name (Some host)) IsWhole old middle new
     c.in_ok-row.ensures (subst (λ texts. Became (AreAddressesPut row.id texts) middle new) c.as_slice.ensures (c.in_ok-put_addresses.ensures {u = tt})) c.whole.ensures c.whole-2.ensures
-    (λ whole after placed with. host-put old.content middle.content new.content host row whole after (c.is_host.ensures c.if-not-is_host.false) (found-right old.content host.name placed.found placed.was) (placed.placed whole) with)
+    (λ whole after placed with. host-put old.content middle.content new.content host row whole after (c.is_host.ensures.0 c.if-not-is_host.false) (found-right old.content host.name placed.found placed.was) (placed.placed whole) with)

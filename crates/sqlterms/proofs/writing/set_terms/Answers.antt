@@ -12,7 +12,7 @@ use Rattle.sqlterms.proofs.writing.set_terms.Goals as goal
 pub returns : goal.returns
 returns g c =
     let e = c.in_ok-meta.ensures {u = tt} in
-    let read = c.in_ok-read.ensures {u = tt} in
+    let read = c.in_ok-read.ensures.found in
     let row = c.in_ok-row.row in
     let written = c.in_ok-put_meta.ensures {u = tt} in
     let named = c.in_ok-name_accounts.ensures {u = tt} in
@@ -23,4 +23,4 @@ returns g c =
     (e.1 (written.clean (named.clean (read.0.clean clean))))
     (c.in_ok-row.ensures {u = tt} ∙ ap (with_terms c.args.value.now (string_bytes c.in_ok-labels.labels)) c.meta_or_new.ensures)
     renaming
-    (sym (read.1 clean) ∙ c.are-same.ensures c.if-not-same.false))
+    (sym (read.1 clean) ∙ c.are-same.ensures.0 c.if-not-same.false))
