@@ -6,6 +6,8 @@
 #[cfg(test)]
 mod deposits;
 #[cfg(test)]
+mod registrars;
+#[cfg(test)]
 mod registries;
 #[cfg(test)]
 mod row_stores;

@@ -4,6 +4,7 @@
 ghost use Rattle.std.specs.Prelude.{◌≡◌, false, IfOk};
 
 use fixtures::registry_over;
+use policy::Policy;
 use registry::Registry;
 use script::{Exit, run_on};
 use sqlbook::{Made, SqlBook, in_memory};
@@ -26,6 +27,22 @@ fn opened<B: Book + Drop>(alloc: Global, made: Result<B, BookFault>) -> Result<R
 {
     let book = made?;
     Ok(registry_over(alloc, book)?)
+}
+
+/// Opens a registry over a book that could be made.
+pub fn opened_under<B: Book + Drop>(
+    alloc: Global,
+    made: Result<B, BookFault>,
+    policy: Policy,
+) -> Result<(), Fail>
+    requires { IfOk made (λ book. (B.state book).is_open ≡ false) }
+{
+    let book = made?;
+    match Registry::open(alloc, book, policy) {
+        Ok(registry) => drop(registry),
+        Err(_) => return Err(Fail::from("not opened")),
+    }
+    Ok(())
 }
 
 /// What a script prints over a registry.

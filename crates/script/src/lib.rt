@@ -12,5 +12,6 @@ mod script;
 pub use deposit::deposit_on;
 pub use exit::Exit;
 pub use line::{Line, Sender};
+pub use memory::execute_in_memory;
 pub use order::order_on;
 pub use script::{run_on, run_script};

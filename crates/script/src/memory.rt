@@ -1,20 +1,21 @@
 //! The book in memory that a script runs over: the ten tables of a database.
 ghost use Rattle.std.specs.Prelude.{◌≡◌, true, IfOk};
+ghost use Rattle.policy.specs.Rules.{IsRegistrar};
+ghost use Rattle.rules.specs.Isolation.{IsIsolated};
 ghost use Rattle.script.specs.Runs.{kept, start};
 
+use basis::registrar::RegistrarNo;
+use calendar::Moment;
 use policy::Policy;
-use registry::{OpenFault, Registry};
-use sqlbook::{Made, SqlBook, in_memory};
-use sqlite::MemStore;
+use protocol::{Command, Reply};
+use registry::{Fault, OpenFault, Registry};
+use sqlbook::{MemoryBook, in_memory};
 use std::alloc::Global;
 use store::{Book, BookFault};
 
-/// The book of a script.
-pub(crate) type ScriptBook = SqlBook<MemStore, Made>;
-
 /// A registry in memory that was never used.
-pub(crate) fn open(alloc: Global, policy: Policy) -> Result<Registry<ScriptBook>, OpenFault>
-    ensures start { IfOk result (λ registry. kept (⟦<ScriptBook as Book>⟧.state registry.book) ≡ start policy) }
+pub(crate) fn open(alloc: Global, policy: Policy) -> Result<Registry<MemoryBook>, OpenFault>
+    ensures start { IfOk result (λ registry. kept (⟦<MemoryBook as Book>⟧.state registry.book) ≡ start policy) }
     ensures policy { IfOk result (λ registry. registry.policy ≡ policy) }
 {
     let book = match in_memory(alloc) {
@@ -28,7 +29,27 @@ pub(crate) fn open(alloc: Global, policy: Policy) -> Result<Registry<ScriptBook>
     }
 }
 
+/// The headline, of a database in memory. The reply to a registrar's command is the one that the rules give
+/// in every registry that agrees with this one on what that registrar may see, and what it sees afterwards
+/// agrees again. It is `execute`, whose clause has the premise that nothing wrong was taken from what
+/// keeps the book; from memory nothing ever is.
+pub fn execute_in_memory(
+    registry: &mut Registry<MemoryBook>,
+    caller: RegistrarNo,
+    command: &Command,
+    moment: Moment,
+) -> Result<Reply, Fault>
+    requires { IsRegistrar registry.old.policy caller }
+    ensures { IfOk result (λ reply. IsIsolated registry.old.policy caller command.now moment
+        (⟦<MemoryBook as Book>⟧.state registry.old.book).content.registry
+        (⟦<MemoryBook as Book>⟧.state registry.new.book).content.registry reply) }
+{
+    let reply = registry.execute(caller, command, moment);
+    is_clean(registry);
+    reply
+}
+
 /// Nothing wrong is ever taken from memory.
-pub(crate) fn is_clean(registry: &Registry<ScriptBook>)
-    ensures { (⟦<ScriptBook as Book>⟧.state registry.now.book).is_clean ≡ true }
+pub(crate) fn is_clean(registry: &Registry<MemoryBook>)
+    ensures { (⟦<MemoryBook as Book>⟧.state registry.now.book).is_clean ≡ true }
 {}

@@ -7,7 +7,7 @@ ghost use Rattle.store.specs.Book.{Follows};
 
 use crate::answer::answer;
 use crate::exit::Exit;
-use crate::memory::{ScriptBook, is_clean, open};
+use crate::memory::{is_clean, open};
 use policy::Policy;
 use registry::Registry;
 use std::alloc::{AllocError, Global};
@@ -55,11 +55,11 @@ fn run_under<R: Read + Drop, W: Write>(
 /// Answers a script over a registry in memory.
 fn run_over<R: Read + Drop, W: Write>(
     alloc: Global,
-    registry: Registry<ScriptBook>,
+    registry: Registry<MemoryBook>,
     reader: R,
     writer: &mut W,
 ) -> Exit
-    ensures { IfSome (R.remaining reader) (λ input. Ends registry.policy (kept (⟦<ScriptBook as Book>⟧.state registry.book)) input (W.contents writer.old) (W.contents writer.new) result) }
+    ensures { IfSome (R.remaining reader) (λ input. Ends registry.policy (kept (⟦<MemoryBook as Book>⟧.state registry.book)) input (W.contents writer.old) (W.contents writer.new) result) }
 {
     let mut registry = registry;
     let exit = run_on(alloc, &mut registry, reader, writer);

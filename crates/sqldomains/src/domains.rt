@@ -1,10 +1,11 @@
 //! Domains, by name.
-ghost use Rattle.std.specs.Prelude.{◌≡◌, IfOk, Some, filter};
+ghost use Rattle.std.specs.Prelude.{◌≡◌, true, IfOk, Some, filter};
 ghost use Rattle.std.specs.FinMap.{get};
 ghost use Rattle.columns.specs.Domains.{domain_in};
-ghost use Rattle.meanings.specs.Read.{first_read};
+ghost use Rattle.meanings.specs.Read.{IsRead, first_read};
 ghost use Rattle.sqldomains.specs.Domains as spec;
 ghost use Rattle.sqlobjects.specs.Objects as objects_spec;
+ghost use Rattle.tables.specs.Domain.{domain_with_name};
 ghost use Rattle.tables.specs.Transfer.{transfer_with_domain};
 ghost use Rattle.transactions.specs.States.{Finds, Meets};
 
@@ -25,7 +26,8 @@ pub fn domain<S: Alter>(
     alloc: Global,
     name: &Text,
 ) -> Result<Option<Domain>, BookFault>
-    ensures { Finds result (get (spec.domains_of store.old.content) name.now) store.old store.new }
+    ensures found { Finds result (get (spec.domains_of store.old.content) name.now) store.old store.new }
+    ensures read { IfOk result (λ domain. store.new.is_clean ≡ true → IsRead (filter (domain_with_name name.now) store.old.content.domains) domain) }
 {
     let rows = store.domains_by_name(name.as_str())?;
     first_domain(store, alloc, rows)
@@ -37,7 +39,8 @@ fn first_domain<S: Alter>(
     alloc: Global,
     rows: Seq<DomainRow>,
 ) -> Result<Option<Domain>, BookFault>
-    ensures { Finds result (first_read (spec.domain_of store.old.content) rows) store.old store.new }
+    ensures found { Finds result (first_read (spec.domain_of store.old.content) rows) store.old store.new }
+    ensures read { IfOk result (λ domain. IsRead rows domain) }
 {
     let Some(row) = only(rows)? else {
         return Ok(None);

@@ -1,11 +1,12 @@
 //! Contacts, by name.
-ghost use Rattle.std.specs.Prelude.{◌≡◌, IfOk, Some, filter, is_some};
+ghost use Rattle.std.specs.Prelude.{◌≡◌, true, IfOk, Some, filter, is_some};
 ghost use Rattle.std.specs.FinMap.{get};
 ghost use Rattle.columns.specs.Contacts.{contact_in};
+ghost use Rattle.tables.specs.Contact.{contact_with_name};
 ghost use Rattle.tables.specs.Transfer.{transfer_with_contact};
 ghost use Rattle.transactions.specs.States.{Finds, Meets};
 ghost use Rattle.sqlobjects.specs.Objects as spec;
-ghost use Rattle.meanings.specs.Read.{first_read};
+ghost use Rattle.meanings.specs.Read.{IsRead, first_read};
 
 use basis::list::Seq;
 use basis::text::Text;
@@ -24,7 +25,8 @@ pub fn contact<S: Alter>(
     alloc: Global,
     name: &Text,
 ) -> Result<Option<Contact>, BookFault>
-    ensures { Finds result (get (spec.contacts_of store.old.content) name.now) store.old store.new }
+    ensures found { Finds result (get (spec.contacts_of store.old.content) name.now) store.old store.new }
+    ensures read { IfOk result (λ contact. store.new.is_clean ≡ true → IsRead (filter (contact_with_name name.now) store.old.content.contacts) contact) }
 {
     let rows = store.contacts_by_name(name.as_str())?;
     first_contact(store, alloc, rows)
@@ -36,7 +38,8 @@ fn first_contact<S: Alter>(
     alloc: Global,
     rows: Seq<ContactRow>,
 ) -> Result<Option<Contact>, BookFault>
-    ensures { Finds result (first_read (spec.contact_of store.old.content) rows) store.old store.new }
+    ensures found { Finds result (first_read (spec.contact_of store.old.content) rows) store.old store.new }
+    ensures read { IfOk result (λ contact. IsRead rows contact) }
 {
     let Some(row) = only(rows)? else {
         return Ok(None);

@@ -1,10 +1,11 @@
 //! Hosts, by name.
-ghost use Rattle.std.specs.Prelude.{◌≡◌, IfOk, Some, is_some, option_map};
+ghost use Rattle.std.specs.Prelude.{◌≡◌, true, filter, IfOk, Some, is_some, option_map};
 ghost use Rattle.std.specs.FinMap.{get};
 ghost use Rattle.columns.specs.Hosts.{host_in};
+ghost use Rattle.tables.specs.Host.{host_with_name};
 ghost use Rattle.transactions.specs.States.{Finds, Meets};
 ghost use Rattle.sqlobjects.specs.Objects as spec;
-ghost use Rattle.meanings.specs.Read.{first_read};
+ghost use Rattle.meanings.specs.Read.{IsRead, first_read};
 
 use basis::list::Seq;
 use basis::text::Text;
@@ -23,7 +24,8 @@ pub fn host<S: Alter>(
     alloc: Global,
     name: &Text,
 ) -> Result<Option<Host>, BookFault>
-    ensures { Finds result (get (spec.hosts_of store.old.content) name.now) store.old store.new }
+    ensures found { Finds result (get (spec.hosts_of store.old.content) name.now) store.old store.new }
+    ensures read { IfOk result (λ host. store.new.is_clean ≡ true → IsRead (filter (host_with_name name.now) store.old.content.hosts) host) }
 {
     let rows = store.hosts_by_name(name.as_str())?;
     first_host(store, alloc, rows)
@@ -35,7 +37,8 @@ fn first_host<S: Alter>(
     alloc: Global,
     rows: Seq<HostRow>,
 ) -> Result<Option<Host>, BookFault>
-    ensures { Finds result (first_read (spec.host_of store.old.content) rows) store.old store.new }
+    ensures found { Finds result (first_read (spec.host_of store.old.content) rows) store.old store.new }
+    ensures read { IfOk result (λ host. IsRead rows host) }
 {
     let Some(row) = only(rows)? else {
         return Ok(None);

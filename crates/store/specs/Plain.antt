@@ -9,7 +9,7 @@ use Rattle.store.specs.declared.plain.Plain.{Plain}
 use Rattle.store.specs.Book.{BookState, Stored}
 pub use Rattle.store.specs.Contents.{content_of, registry_in}
 use Rattle.store.specs.Edits.{edited, undone_all}
-use Rattle.store.specs.Kept.{stands}
+use Rattle.store.specs.Kept.{state_of}
 use Rattle.store.specs.Records.{RecordsState}
 
 -- what was held when the transaction began
@@ -41,7 +41,7 @@ abbrev pub PlainBook : Type 0
 PlainBook = Kept Plain
 
 abbrev pub plain_state : PlainBook → BookState
-plain_state b = stands (plain_records b.records) b.refused
+plain_state b = state_of (plain_records b.records) false b.refused
 
 -- nothing is left to undo but what an open transaction did
 pub record IsSettled (old : RecordsState) (new : Plain) : Type 0 where

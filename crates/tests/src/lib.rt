@@ -9,6 +9,8 @@ mod faces;
 #[cfg(test)]
 mod hidden;
 #[cfg(test)]
+mod lines;
+#[cfg(test)]
 mod messages;
 #[cfg(test)]
 mod moments;
