@@ -100,7 +100,7 @@ module _ (p : PolicyRules) (sound : IsSound p) (moment : ℕ) (early : moment �
 
 -- one that comes too late does nothing
 pub kept_late : {A : Type 0} (p : PolicyRules) (moment : ℕ) (x : Question) (told : A → Answer) (makes : Stored → Stored → Type 0) (s : BookState) → CallKeeps p moment x told makes (Err faults.Moment) p s s
-kept_late p moment x told makes s = record { policy = refl; follows = follows-itself s; crash = λ left may. may; answered = tt }
+kept_late p moment x told makes s = record { policy = refl; follows = follows-itself s; crash = (λ left may. may, refl); answered = tt }
 
 -- ---- a call inside
 
@@ -122,4 +122,4 @@ step_kept {A} p makes result old mid new follows same content then terms crash =
 -- or it couldn't be begun
 pub step_gave_up : {A : Type 0} (p : PolicyRules) (makes : Stored → Stored → Type 0) (fault : Fault) (old new : BookState)
     → Follows old new → LeavesSame old new → StepKeeps {A = A} p makes (Err fault) p old new
-step_gave_up p makes fault old new follows same = record { policy = refl; follows = follows; crash = gave_up_by fault makes old new same; terms = tt }
+step_gave_up p makes fault old new follows same = record { policy = refl; follows = follows; crash = (gave_up_by fault makes old new same, same.ready); terms = tt }

@@ -28,6 +28,7 @@ gave_up_by faults.Moment makes old new same = left_alone old new same
 pub kept_alone : {A E : Type 0} (result : Result A E) (mid new : BookState) → LeavesHeld result mid new → OnOk result (Commits mid new) → OnOk result (LeavesItself new)
 unfolding may_leave
 kept_alone (Ok it) mid new held commits = record {
+  used = held.used;
   answers = held.answers;
   alone = λ left may. held.kept left may.1 ∙ ap holding (sym (commits.content (held.answers may.0)));
 }
@@ -44,7 +45,7 @@ kept_or_not result makes old mid new follows same made held left may =
 pub outlives_by : {A : Type 0} (result : Result A Fault) (makes : Stored → Stored → Type 0) (old mid new : BookState) → Follows old mid → LeavesSame old mid → (mid.is_clean ≡ true → makes old.content mid.content)
     → LeavesHeld result mid new → OnOk result (Commits mid new) → IfErr result (λ fault. GoesBack fault mid new) → Outlives result makes old new
 outlives_by (Ok it) makes old mid new follows same made held commits back = kept_alone (Ok it) mid new held commits
-outlives_by (Err fault) makes old mid new follows same made held commits back = go fault back (kept_or_not (Err fault) makes old mid new follows same made held)
+outlives_by (Err fault) makes old mid new follows same made held commits back = (go fault back (kept_or_not (Err fault) makes old mid new follows same made held), held.as_before ∙ same.ready)
   where
     go : (fault : Fault) → GoesBack fault mid new → LeavesOldOrMade makes old new → GivesUpTo fault makes old new
     go faults.Memory back left = left
@@ -64,9 +65,9 @@ later makes old mid new follows same content then = λ left may.
 pub outlives_later : {A : Type 0} (result : Result A Fault) (makes : Stored → Stored → Type 0) (old mid new : BookState) → Follows old mid → LeavesSame old mid → (mid.is_clean ≡ true → mid.content ≡ old.content)
     → Outlives result makes mid new → Outlives result makes old new
 outlives_later (Ok it) makes old mid new follows same content then = then
-outlives_later (Err faults.Memory) makes old mid new follows same content then = later makes old mid new follows same content then
-outlives_later (Err faults.Store) makes old mid new follows same content then = later makes old mid new follows same content then
-outlives_later (Err faults.Moment) makes old mid new follows same content then = older old mid new same then
+outlives_later (Err faults.Memory) makes old mid new follows same content then = (later makes old mid new follows same content then.0, then.1 ∙ same.ready)
+outlives_later (Err faults.Store) makes old mid new follows same content then = (later makes old mid new follows same content then.0, then.1 ∙ same.ready)
+outlives_later (Err faults.Moment) makes old mid new follows same content then = (older old mid new same then.0, then.1 ∙ same.ready)
 
 pub opening_later : {A : Type 0} (result : Result A OpenFault) (p : PolicyRules) (old mid new : BookState) → Follows old mid → LeavesSame old mid → (mid.is_clean ≡ true → mid.content ≡ old.content)
     → OutlivesOpening result p mid new → OutlivesOpening result p old new

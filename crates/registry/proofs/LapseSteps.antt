@@ -31,7 +31,7 @@ begins p t all s is_open = record {
   content = λ clean. refl;
   before = λ clean. refl;
   follows = record { clean = λ clean. clean; counted = omega arith };
-  leaves = record { honest = λ honest. honest; same = refl };
+  leaves = record { honest = λ honest. honest; same = refl; ready = refl };
 }
 
 pub goes-on : (p : PolicyRules) (t : ℕ) (d : Due) (left all : List Due) (old mid new : BookState) → IsUnderWay p t (d ∷ left) all old mid
@@ -42,7 +42,7 @@ goes-on p t d left all old mid new is moved then leaves = record {
   content = λ clean. ap (with_dues_lapsed p t left) (moved.content clean) ∙ is.content (then.clean clean);
   before = λ clean. moved.before clean ∙ is.before (then.clean clean);
   follows = record { clean = λ clean. is.follows.clean (then.clean clean); counted = omega (arith, is.follows.counted, then.counted) };
-  leaves = record { honest = λ honest. is.leaves.honest (leaves.honest honest); same = leaves.same ∙ is.leaves.same };
+  leaves = record { honest = λ honest. is.leaves.honest (leaves.honest honest); same = leaves.same ∙ is.leaves.same; ready = leaves.ready ∙ is.leaves.ready };
 }
 
 pub done : (p : PolicyRules) (t : ℕ) (all : List Due) (old new : BookState) → IsUnderWay p t [] all old new → Moves old new (with_dues_lapsed p t all old.content)

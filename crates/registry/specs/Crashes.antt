@@ -21,10 +21,11 @@ GivesUpTo faults.Memory makes old new = LeavesOldOrMade makes old new
 GivesUpTo faults.Store makes old new = LeavesOldOrMade makes old new
 GivesUpTo faults.Moment makes old new = LeavesOld old new
 
--- The same of any such call: once it answered, a crash leaves what is held now, and nothing else.
+-- The same of any such call: once it answered, a crash leaves what is held now, and nothing else. There is a
+-- book then, and where it gave up there is one if there was one.
 abbrev pub Outlives : {A : Type 0} → Result A Fault → (Stored → Stored → Type 0) → BookState → BookState → Type 0
 Outlives (Ok it) makes old new = LeavesItself new
-Outlives (Err fault) makes old new = GivesUpTo fault makes old new
+Outlives (Err fault) makes old new = GivesUpTo fault makes old new × (new.readiness ≡ old.readiness)
 
 -- ---- openings
 

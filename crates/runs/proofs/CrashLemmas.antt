@@ -193,9 +193,9 @@ pub carried-out : {A : Type 0} (p : PolicyRules) (call : Call) (makes : Stored �
     → ((before after : Stored) → before.terms ≡ Some (terms_of p) → makes before after → Leads call before after)
     → OnOk result (new.is_clean ≡ true → makes old.content new.content) → IsCarriedOut p result makes old new → Happens (event_of result call) old new
 carried-out p call makes (Ok it) old new leads step done = (done.follows, λ clean. leads old.content new.content (done.kept (done.follows.clean clean)) (step clean), done.crash)
-carried-out p call makes (Err faults.Memory) old new leads step done = gave-way p call makes old new leads done.kept done.follows done.fault.0.content done.crash
-carried-out p call makes (Err faults.Store) old new leads step done = gave-way p call makes old new leads done.kept done.follows done.fault.0.content done.crash
-carried-out p call makes (Err faults.Moment) old new leads step done = (done.follows, done.fault.0.content, done.crash)
+carried-out p call makes (Err faults.Memory) old new leads step done = gave-way p call makes old new leads done.kept done.follows done.fault.0.content done.crash.0
+carried-out p call makes (Err faults.Store) old new leads step done = gave-way p call makes old new leads done.kept done.follows done.fault.0.content done.crash.0
+carried-out p call makes (Err faults.Moment) old new leads step done = (done.follows, done.fault.0.content, done.crash.0)
 
 -- what is made is a step, under the same terms
 pub stepped : {A : Type 0} (step : Registry → Registry → A → Type 0) (result : Result A Fault) (old new : BookState)

@@ -64,6 +64,7 @@ module _ {C X : Type 0} (means : C → X) (right : C → Bool) (is_made : Bool) 
           let was = keeps.answered p.0 in
           both-true old.is_clean (right old.before) was (sym (steady.sums was) ∙ sym right-kept ∙ p.1);
       leaves = λ left h. has-alone (holding (means old.content)) left (subst (λ l. Has (map (meant means) l) left) noted h);
+      ready = keeps.ready;
     }
 
   -- ---- it isn't, and what was begun is undone
@@ -107,6 +108,7 @@ module _ {C X : Type 0} (means : C → X) (right : C → Bool) (is_made : Bool) 
         | inr more ↦ has-either (map (meant means) old.crash_leaves) (holding (means old.content)) left
             (subst (λ l. Has l left) (meant-more means old.crash_leaves (holding old.content)) (subst (λ l. Has (map (meant means) l) left) (closes.leaves.same ∙ more) h))
       ];
+      ready = closes.leaves.ready ∙ fails.ready;
     }
 
   -- ---- either

@@ -45,6 +45,7 @@ module _ (g : ℕ) (old new : BookState) where
   leaves-too it = record {
     honest = λ e. let both = and_parts new.is_honest (nat_eq g 0) e in and_from old.is_honest (nat_eq g 0) (it.honest both.0) both.1;
     same = it.same;
+    ready = it.ready;
   }
 
   pub answers-too : StillAnswers old new → StillAnswers was is
@@ -73,6 +74,8 @@ module _ (g : ℕ) (old new : BookState) where
     answers = λ e. it.answers (honest-below new e);
     kept = it.kept;
     tried = it.tried;
+    used = it.used;
+    as_before = it.as_before;
   }
   held-too (Err fault) it = record {
     honest = λ e. let both = and_parts new.is_honest (nat_eq g 0) e in and_from old.is_honest (nat_eq g 0) (it.honest both.0) both.1;
@@ -80,4 +83,6 @@ module _ (g : ℕ) (old new : BookState) where
     answers = tt;
     kept = tt;
     tried = it.tried;
+    used = it.used;
+    as_before = it.as_before;
   }

@@ -1,6 +1,5 @@
 -- What records in memory hold, and a book that is made of them.
-use Rattle.std.specs.Prelude.{◌≡◌, ◌-◌, length, take, List, true, if◌then◌else◌, [], Option, Some, None}
-use Rattle.policy.specs.declared.terms.Terms.{Terms}
+use Rattle.std.specs.Prelude.{◌≡◌, ◌-◌, length, take, List, Bool, true, if◌then◌else◌, []}
 use Rattle.transactions.specs.declared.readiness.Ready.{Ready}
 use Rattle.transactions.specs.declared.readiness.Ready.TheVariants.{Empty, Used}
 use Rattle.store.specs.declared.edit.Edit.{Edit}
@@ -16,10 +15,9 @@ use Rattle.store.specs.Records.{RecordsState}
 abbrev pub at_begin : Plain → Stored
 at_begin b = undone_all b.undo (content_of b.content)
 
--- a book in memory is ready once it was opened
-abbrev pub readiness_of : Option Terms → Ready
-readiness_of None = Empty
-readiness_of (Some terms) = Used
+-- there is a book in memory once a transaction was kept
+abbrev pub readiness_of : Bool → Ready
+readiness_of used = if used then Used else Empty
 
 abbrev pub held_by : Plain → Stored
 held_by b = if b.is_open then content_of b.content else at_begin b
@@ -32,7 +30,7 @@ plain_records b = record {
   is_open = b.is_open;
   is_clean = true;
   is_honest = true;
-  readiness = readiness_of (held_by b).terms;
+  readiness = readiness_of b.is_used;
   crash_leaves = [];
 }
 

@@ -19,14 +19,11 @@ use policy::{Policy, Terms};
 use std::alloc::Global;
 use transactions::{BookFault, Ready};
 
-/// Records in memory are a book's once it was opened.
-fn readiness_of(terms: &Option<Terms>) -> Ready
-    ensures { result ≡ spec.readiness_of terms.now }
+/// Records in memory are a book's once a transaction was kept.
+fn readiness_of(is_used: bool) -> Ready
+    ensures { result ≡ spec.readiness_of is_used }
 {
-    match terms {
-        None => Ready::Empty,
-        Some(_) => Ready::Used,
-    }
+    if is_used { Ready::Used } else { Ready::Empty }
 }
 
 impl Records for Plain {
@@ -50,7 +47,7 @@ impl Records for Plain {
 
     fn ready(&mut self) -> Result<Ready, BookFault> {
         self.settle()?;
-        Ok(readiness_of(&self.content.terms))
+        Ok(readiness_of(self.is_used))
     }
 
     fn clock(&mut self) -> Result<Moment, BookFault> {
@@ -278,6 +275,7 @@ impl Records for Plain {
     fn commit(&mut self) -> Result<(), BookFault> {
         self.undo = Seq::new(self.content.alloc);
         self.is_open = false;
+        self.is_used = true;
         Ok(())
     }
 

@@ -1,9 +1,11 @@
 //! A book in memory.
+ghost use Rattle.std.specs.Prelude.{◌≡◌};
 ghost use Rattle.store.specs.Contents.{registry_in};
 ghost use Rattle.store.specs.Quiet.{IsQuiet};
 
 use crate::content::Content;
 use crate::edit::Edit;
+use crate::book::Book;
 use crate::kept::Kept;
 use crate::quiet::Quiet;
 use basis::list::Seq;
@@ -26,6 +28,8 @@ pub struct Plain {
     /// what is still to be undone, which the next call undoes first.
     pub(crate) undo: Seq<Edit>,
     pub(crate) is_open: bool,
+    /// Whether a transaction was ever kept: there is a book from then on.
+    pub(crate) is_used: bool,
     /// Until when nothing is due, where that is known.
     pub(crate) quiet: Option<Quiet>,
     ghost quiet_is: { IsQuiet quiet (registry_in content) },

@@ -43,6 +43,7 @@ impl Kept<Plain> {
             },
             undo: Seq::new(alloc),
             is_open: false,
+            is_used: false,
             quiet: None,
         })
     }
@@ -55,6 +56,7 @@ impl Plain {
     pub(crate) fn undo_all(&mut self) -> Result<(), AllocError>
         ensures at_begin { at_begin self.new ≡ at_begin self.old }
         ensures open { self.new.is_open ≡ self.old.is_open }
+        ensures used { self.new.is_used ≡ self.old.is_used }
         ensures ok { OnOk result (self.new.undo ≡ []) }
     {
         while !self.undo.is_empty() {
@@ -68,6 +70,7 @@ impl Plain {
         requires { 0 < length self.old.undo }
         ensures at_begin { at_begin self.new ≡ at_begin self.old }
         ensures open { self.new.is_open ≡ self.old.is_open }
+        ensures used { self.new.is_used ≡ self.old.is_used }
         ensures ok { OnOk result (length self.new.undo < length self.old.undo) }
     {
         if let Some(latest) = self.undo.as_slice().last() {
@@ -83,6 +86,7 @@ impl Plain {
     fn keep_inverse(&mut self, edit: &Edit) -> Result<(), AllocError>
         ensures content { content_of self.new.content ≡ content_of self.old.content }
         ensures open { self.new.is_open ≡ self.old.is_open }
+        ensures used { self.new.is_used ≡ self.old.is_used }
         ensures ok { OnOk result (LatestUndoes edit.now self.old self.new) }
         ensures err { OnErr result (at_begin self.new ≡ at_begin self.old) }
     {
@@ -94,6 +98,7 @@ impl Plain {
     /// Makes an edit that the latest undoes. Where there is no memory for it, the latest is dropped.
     fn set_kept(&mut self, edit: Edit) -> Result<(), AllocError>
         ensures open { self.new.is_open ≡ self.old.is_open }
+        ensures used { self.new.is_used ≡ self.old.is_used }
         ensures ok { OnOk result (content_of self.new.content ≡ edited edit (content_of self.old.content)) }
         ensures kept { OnOk result (at_begin self.new ≡ undone_all self.old.undo (edited edit (content_of self.old.content))) }
         ensures err { OnErr result (at_begin self.new ≡ undone_all (without_latest self.old.undo) (content_of self.old.content)) }
@@ -112,6 +117,7 @@ impl Plain {
     fn make(&mut self, edit: Edit) -> Result<(), AllocError>
         ensures at_begin { at_begin self.new ≡ at_begin self.old }
         ensures open { self.new.is_open ≡ self.old.is_open }
+        ensures used { self.new.is_used ≡ self.old.is_used }
         ensures ok { OnOk result (content_of self.new.content ≡ edited edit (content_of self.old.content)) }
     {
         match self.keep_inverse(&edit) {

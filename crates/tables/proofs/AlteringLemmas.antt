@@ -107,5 +107,5 @@ module _ (sql : List ℕ) (params : Row) (form : Form) (old new : State) (P : Tr
       content = λ e. let parts = and_parts new.is_clean new.is_open e in let clean = honest new parts.0 in
           rows-are form new.now.trees rows ∙ decoded (f (contents old.now.trees)) new.now (made clean (agreed clean parts.1)) ∙ ap f (sym (rows-are form old.now.trees rows));
       answers = λ was e. ap (λ (b : Bool). b && new.is_open) e ∙ open-after (answered-open old new P survives was) (honest new e);
-      leaves = leaves-same form form true true old new P leaves survives;
+      leaves = leaves-same form form true true old new P leaves survives refl;
     }

@@ -45,7 +45,7 @@ module _ (old mid : State) (P : Trees → Type 0) (survives : Survives old mid P
           let clean = honest mid e in
           let before = answered-open old mid P survives was clean in
           ap (λ (b : Bool). b && mid.is_open) e ∙ (made clean before (fits (was-honest old mid P survives clean) before)).1.shown.is_open;
-      leaves = leaves-same Unused Making true true old mid P leaves survives;
+      leaves = leaves-same Unused Making true true old mid P leaves survives refl;
     }
 
     pub guards-made : (HasCleanDisk mid → IsTrue old.is_open → Agrees Unused true old → (db : Trees) → mid.may_leave db → old.may_leave db ⊎ ⊥) → Guards true old leaves → Guards true mid leaves
@@ -95,6 +95,7 @@ module _ (old mid : State) (P : Trees → Type 0) (survives : Survives old mid P
       leaves = record {
         honest = λ e. clean-of old (was-honest old mid P survives (was-honest mid new Q later (honest new e)));
         same = refl;
+        ready = refl;
       };
     }
 

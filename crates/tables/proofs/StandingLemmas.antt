@@ -14,7 +14,7 @@ use Rattle.tables.specs.declared.form.Form.{Form}
 use Rattle.tables.specs.declared.form.Form.TheVariants.{Unused, Making, Made, Other}
 use Rattle.transactions.specs.States.{LeavesSame, Reads, Remains, Stays}
 use Rattle.tables.specs.Content.{Content}
-use Rattle.tables.specs.Stored.{Agrees, Bears, Fits, Guards, rows_in, stands, undone}
+use Rattle.tables.specs.Stored.{Agrees, Bears, Fits, Guards, readiness_of, rows_in, stands, undone}
 
 -- ---- clean and open
 
@@ -35,8 +35,15 @@ was-honest old new P it clean = omega (arith, it.clean, clean)
 
 -- ---- what a crash may leave
 
-pub leaves-same : (form after : Form) (begun still : Bool) (old new : State) (P : Trees → Type 0) (leaves : List (Remains Content)) → Survives old new P → LeavesSame (stands form begun old leaves) (stands after still new leaves)
-leaves-same form after begun still old new P leaves survives = record { honest = λ e. clean-of old (was-honest old new P survives (honest new e)); same = refl }
+pub leaves-same : (form after : Form) (begun still : Bool) (old new : State) (P : Trees → Type 0) (leaves : List (Remains Content)) → Survives old new P → readiness_of after ≡ readiness_of form → LeavesSame (stands form begun old leaves) (stands after still new leaves)
+leaves-same form after begun still old new P leaves survives ready = record { honest = λ e. clean-of old (was-honest old new P survives (honest new e)); same = refl; ready = ready }
+
+-- to undo what was begun makes no book, and unmakes none
+pub undone-ready : (form : Form) → readiness_of (undone form) ≡ readiness_of form
+undone-ready Unused = refl
+undone-ready Making = refl
+undone-ready Made = refl
+undone-ready Other = refl
 
 -- after a call that commits nothing
 pub guards-on : (begun still : Bool) (old new : State) (P : Trees → Type 0) (leaves : List (Remains Content)) → Survives old new P → Guards begun old leaves
@@ -149,7 +156,7 @@ module _ (form : Form) (begun : Bool) (old new : State) (auto : Bool) (tells : a
     stays-idle left is = record {
       clean = was-clean left;
       before = λ e. let parts = and_parts new.is_clean new.is_open e in let it = left (honest new parts.0) parts.1 in idle-home leaves it.0 parts.1 it.1 is;
-      leaves = leaves-same form (undone form) begun false old new P leaves survives;
+      leaves = leaves-same form (undone form) begun false old new P leaves survives (undone-ready form);
     }
 
     pub stays-held : Left → auto ≡ false → Stays (stands form begun old leaves) (stands form begun new leaves)
@@ -161,7 +168,7 @@ module _ (form : Form) (begun : Bool) (old new : State) (auto : Bool) (tells : a
           let same = (held-after it.0 it.1 is).0 in
           ap (λ (db : Database). if begun then rows_in (undone form) db.trees else rows_in form new.now.trees) same.committed_is
           ∙ ap (λ (db : Database). if begun then rows_in (undone form) old.committed.trees else rows_in form db.trees) same.now_is;
-      leaves = leaves-same form form begun begun old new P leaves survives;
+      leaves = leaves-same form form begun begun old new P leaves survives refl;
     }
 
 -- a call that changed nothing
@@ -175,7 +182,7 @@ reads-same form begun old new P leaves survives same = record {
   opened = refl;
   content = λ e. ap (λ (db : Database). rows_in form db.trees) (same (honest new (and_parts new.is_clean new.is_open e).0)).0.now_is;
   answers = λ was e. ap (λ (b : Bool). b && new.is_open) e ∙ (same (honest new e)).0.is_open;
-  leaves = leaves-same form form begun begun old new P leaves survives;
+  leaves = leaves-same form form begun begun old new P leaves survives refl;
 }
 
 -- ---- a call that changed nothing, or ended what there was, where no transaction is open
@@ -199,7 +206,7 @@ module _ (form : Form) (old new : State) (P : Trees → Type 0) (survives : Surv
   stays-looked leaves = record {
     clean = λ e. let p = and_parts new.is_clean new.is_open e in let clean = honest new p.0 in ap (λ (b : Bool). b && old.is_open) (clean-of old (was-honest old new P survives clean)) ∙ (was-idle clean p.1).0;
     before = λ e. let p = and_parts new.is_clean new.is_open e in let clean = honest new p.0 in ap (λ (db : Database). rows_in form db.trees) (still-there (stood clean) p.1 (was-idle clean p.1).1);
-    leaves = leaves-same form form false false old new P leaves survives;
+    leaves = leaves-same form form false false old new P leaves survives refl;
   }
 
 -- a text that was compiled, or refused

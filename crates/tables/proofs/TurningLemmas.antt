@@ -21,7 +21,7 @@ use Rattle.transactions.proofs.LeavingLemmas.{has-alone, has-either, has-front, 
 use Rattle.transactions.specs.States.{Closes, Fails, Keeps, Remains, Starts, Stays, holding}
 use Rattle.tables.specs.Content.{Content}
 use Rattle.tables.specs.Stored.{Agrees, Bears, Fits, Guards, IsLeftAs, committed, has_rows, leaves_of, left_in, readiness_of, rows_in, stands, undone}
-use Rattle.tables.proofs.StandingLemmas.{agrees-back, clean-of, guards-on, home, honest, leaves-same, was-honest}
+use Rattle.tables.proofs.StandingLemmas.{agrees-back, clean-of, guards-on, home, honest, leaves-same, undone-ready, was-honest}
 
 bears-committed : (form : Form) (now last : Database) → Bears form now last → Bears (committed form) now now
 bears-committed Unused now last it = (it.0, it.0)
@@ -121,7 +121,7 @@ module _ (form : Form) (old new : State) (P : Trees → Type 0) (survives : Surv
         opened = refl;
         content = λ e. let p = parts-of e in ap (λ (db : Database). rows_in form db.trees) (shows p.0 (agreed p.0 p.1)).now_is;
         answers = λ was e. ap (λ (b : Bool). b && new.is_open) e ∙ (begin-shows old new count (ran (honest new e))).is_open;
-        leaves = leaves-same form form false true old new P leaves survives;
+        leaves = leaves-same form form false true old new P leaves survives refl;
       }
 
     module _ (e : Error) (ran : HasCleanDisk new → Executes begin_text [] old new (Err e)) where
@@ -143,7 +143,7 @@ module _ (form : Form) (old new : State) (P : Trees → Type 0) (survives : Surv
             let p = parts-of c in
             let it = was-agreed p.0 p.1 in
             ap (λ (db : Database). rows_in form db.trees) ((gone p.0 it).undone p.1).0 ∙ ap (λ (f : Form). rows_in f old.committed.trees) (sym (it.making refl)) ∙ sym (home form false old leaves it);
-        leaves = leaves-same form form false false old new P leaves survives;
+        leaves = leaves-same form form false false old new P leaves survives refl;
       }
 
   -- ---- COMMIT
@@ -178,6 +178,7 @@ module _ (form : Form) (old new : State) (P : Trees → Type 0) (survives : Surv
         honest = λ e. clean-of old (was-honest old new P survives (honest new e));
         answered = λ e. clean-if-open (honest new e) (commit-shows old new count (ran (honest new e))).was_open;
         leaves = λ left h. has-alone (left_in (committed form) old) left h ∙ holding-it form old rows;
+        ready = ap (λ (left : Remains Content). left.readiness) (holding-it form old rows);
       }
 
       -- what the store of the connection keeps true while it is open
@@ -208,6 +209,7 @@ module _ (form : Form) (old new : State) (P : Trees → Type 0) (survives : Surv
         honest = λ c. clean-of old (was-honest old new P survives (honest new c));
         answered = λ c. let clean = honest new c in clean-if-open clean (guards.opened (was-honest old new P survives clean) refl);
         leaves = λ left h. elim (has-either leaves (left_in (committed form) old) left h) [ inl there ↦ inl there | inr is ↦ inr (is ∙ holding-it form old rows) ];
+        ready = undone-ready form;
       }
 
       pub guards-failed : has_rows form ≡ true → Guards true old leaves → (IsTrue old.is_open → IsDatabase old.now) → ((db : Trees) → P db → db ≡ old.now.trees) → Guards false new (leaves ++ left_in (committed form) old ∷ [])
@@ -256,5 +258,5 @@ module _ {C : Type 0} (state-of : C → State) (form : Form) (begun : Bool) (old
     clean = λ e. let p = parts-of form (state-of old) (state-of new) P survives leaves e in clean-if-open form (state-of old) (state-of new) P survives leaves p.0 (turned p.0 p.1).0;
     closed = refl;
     content = λ e. let p = parts-of form (state-of old) (state-of new) P survives leaves e in (turned p.0 p.1).1.1;
-    leaves = leaves-same form (undone form) begun false (state-of old) (state-of new) P leaves survives;
+    leaves = leaves-same form (undone form) begun false (state-of old) (state-of new) P leaves survives (undone-ready form);
   }

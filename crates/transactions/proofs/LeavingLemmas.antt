@@ -3,10 +3,10 @@ use Rattle.std.proofs.Common.{◌≡◌, ◌⊎◌, inl, inr, List, [], ◌∷�
 use Rattle.transactions.specs.States.{Has, LeavesSame, StateOf}
 
 pub leaves-refl : {X : Type 0} (s : StateOf X) → LeavesSame s s
-leaves-refl s = record { honest = λ e. e; same = refl }
+leaves-refl s = record { honest = λ e. e; same = refl; ready = refl }
 
 pub leaves-on : {X : Type 0} (s m t : StateOf X) → LeavesSame s m → LeavesSame m t → LeavesSame s t
-leaves-on s m t a b = record { honest = λ e. a.honest (b.honest e); same = b.same ∙ a.same }
+leaves-on s m t a b = record { honest = λ e. a.honest (b.honest e); same = b.same ∙ a.same; ready = b.ready ∙ a.ready }
 
 -- ---- one of a list with one more
 

@@ -34,10 +34,11 @@ holding held = record { readiness = Used; content = held }
 abbrev pub Answers : {X : Type 0} → StateOf X → Type 0
 Answers s = s.is_honest ≡ true → s.is_clean ≡ true
 
--- What a crash may leave is what it might have left before.
+-- What a crash may leave is what it might have left before, and there is a book where there was one.
 pub record LeavesSame {X : Type 0} (old new : StateOf X) : Type 0 where
   pub honest : new.is_honest ≡ true → old.is_honest ≡ true
   pub same : new.crash_leaves ≡ old.crash_leaves
+  pub ready : new.readiness ≡ old.readiness
 
 -- Whatever a call does: what was taken wrongly isn't forgotten, and going back leads where it led.
 pub record Stays {X : Type 0} (old new : StateOf X) : Type 0 where
@@ -94,7 +95,8 @@ pub record Closes {X : Type 0} (held : X) (old new : StateOf X) : Type 0 where
   pub content : new.is_clean ≡ true → new.content ≡ held
   pub leaves : LeavesSame old new
 
--- What was held is kept: it alone may be left by a crash. What keeps it answered until then, and does.
+-- What was held is kept: it alone may be left by a crash, and there is a book from now on. What keeps it
+-- answered until then, and does.
 pub record Keeps {X : Type 0} (old new : StateOf X) : Type 0 where
   pub clean : new.is_clean ≡ true → old.is_clean ≡ true
   pub closed : new.is_open ≡ false
@@ -103,6 +105,7 @@ pub record Keeps {X : Type 0} (old new : StateOf X) : Type 0 where
   pub honest : new.is_honest ≡ true → old.is_honest ≡ true
   pub answered : new.is_honest ≡ true → old.is_clean ≡ true
   pub leaves : (left : Remains X) → Has new.crash_leaves left → left ≡ holding old.content
+  pub ready : new.readiness ≡ Used
 
 -- What was held isn't kept, but a crash may leave it too. What keeps it answered until then.
 pub record Fails {X : Type 0} (old new : StateOf X) : Type 0 where
@@ -111,6 +114,7 @@ pub record Fails {X : Type 0} (old new : StateOf X) : Type 0 where
   pub honest : new.is_honest ≡ true → old.is_honest ≡ true
   pub answered : new.is_honest ≡ true → old.is_clean ≡ true
   pub leaves : (left : Remains X) → Has new.crash_leaves left → Has old.crash_leaves left ⊎ (left ≡ holding old.content)
+  pub ready : new.readiness ≡ old.readiness
 
 abbrev pub Begins : {A X : Type 0} → Result A BookFault → StateOf X → StateOf X → Type 0
 Begins (Ok done) old new = Starts old new

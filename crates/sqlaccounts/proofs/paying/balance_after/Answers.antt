@@ -4,8 +4,8 @@ use Rattle.tables.specs.Balance.{balance_bytes}
 use Rattle.tables.proofs.BalanceLemmas.{balance_read}
 use Rattle.sqlaccounts.proofs.paying.balance_after.Goals as goal
 
-pub returns : goal.returns
-returns c =
+pub returns-clause-sum : goal.returns-clause-sum
+returns-clause-sum c =
     let h = c.in_ok-sum.ensures {u = tt} in
     let before : FitsSigned w128 c.from_be_bytes.result = search rules in
     let after : FitsSigned w128 c.in_ok-sum.sum = subst (FitsSigned w128) (sym h.1) h.0 in

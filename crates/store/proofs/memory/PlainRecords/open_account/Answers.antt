@@ -5,4 +5,4 @@ use Rattle.store.proofs.memory.PlainRecords.open_account.Goals as goal
 
 pub returns-then-has : goal.returns-then-has
 returns-then-has c =
-    opens-same c.args.registrar (content_of c.args.self.now.content) (at_begin c.args.self.now) c.args.self.now.is_open c.requires (sym c.has.ensures ∙ c.if-has.true)
+    opens-same c.args.registrar (content_of c.args.self.now.content) (at_begin c.args.self.now) c.args.self.now.is_open c.args.self.now.is_used c.requires (sym c.has.ensures ∙ c.if-has.true)

@@ -20,6 +20,7 @@ returns-then-not-has_rows-clause-ends g c =
       honest = λ e. e;
       answered = λ e. ap (λ (b : Bool). b && s.is_open) e ∙ c.self.invariant.1.opened (honest s e) begun;
       leaves = λ left h. inl h;
+      ready = refl;
     })
 
 pub invariant_of-self : goal.invariant_of-self
