@@ -1,5 +1,5 @@
 -- What records in memory hold, and a book that is made of them.
-use Rattle.std.specs.Prelude.{◌≡◌, ◌-◌, length, take, List, Bool, true, if◌then◌else◌, []}
+use Rattle.std.specs.Prelude.{◌≡◌, ◌-◌, length, take, List, Bool, true, false, if◌then◌else◌, []}
 use Rattle.transactions.specs.declared.readiness.Ready.{Ready}
 use Rattle.transactions.specs.declared.readiness.Ready.TheVariants.{Empty, Used}
 use Rattle.store.specs.declared.edit.Edit.{Edit}
