@@ -348,14 +348,12 @@ class Server:
         return it
 
     def exchange(self, pieces):
-        """Sends all pieces and then no more, and reads up to the end."""
+        """Sends all pieces and then no more, and reads up to the end. Nothing of it may fail, whatever the pieces
+        have behind a logout or a length that no frame has: what is told is read to its end."""
         with self.connect() as it:
-            try:
-                for piece in pieces:
-                    it.sendall(piece)
-                it.shutdown(socket.SHUT_WR)
-            except OSError:
-                pass  # the server has closed, as behind a logout: what it told is read all the same
+            for piece in pieces:
+                it.sendall(piece)
+            it.shutdown(socket.SHUT_WR)
             return read_to_end(it)
 
     def leave(self, pieces):
@@ -375,14 +373,9 @@ class Server:
 
 def read_to_end(it):
     told = bytearray()
-    while True:
-        try:
-            piece = it.recv(1 << 16)
-        except ConnectionResetError:
-            return bytes(told)
-        if not piece:
-            return bytes(told)
+    while piece := it.recv(1 << 16):
         told += piece
+    return bytes(told)
 
 
 # ---- the connections

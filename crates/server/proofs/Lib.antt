@@ -5,3 +5,4 @@ mod LentLemmas
 mod PublicLemmas
 mod ListeningLemmas
 mod SessionRunLemmas
+mod ClosingLemmas

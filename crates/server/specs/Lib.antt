@@ -1,6 +1,7 @@
 pub mod Clocks
 pub mod Http
 pub mod Connections
+pub mod Closing
 pub mod Listening
 pub mod HandOver
 pub mod Public

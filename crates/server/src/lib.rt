@@ -8,6 +8,7 @@
 
 mod at_moment;
 mod clock;
+mod closing;
 mod connection;
 mod http;
 mod laws;

@@ -4,12 +4,13 @@ ghost use Rattle.server.specs.Listening.{ServesInTurn, ServesUnknown};
 ghost use Rattle.store.specs.Book.{Follows};
 
 use crate::clock::MachineClock;
+use crate::closing::let_go;
 use crate::connection::serve_one;
 use rdap::Routes;
 use registry::Registry;
 use std::alloc::Global;
 use std::io::{self, ErrorKind};
-use std::net::{Shutdown, TcpListener, TcpStream};
+use std::net::{TcpListener, TcpStream};
 use std::time::{self, Duration};
 use store::Book;
 
@@ -80,8 +81,7 @@ fn serve_stream<T: time::Clock, B: Book + Drop>(
         return registry;
     }
     let served = serve_one(alloc, routes, &mut &*stream, &mut &*stream, clock, registry);
-    // The client reads the end of the replies, also where it sent more frames.
-    let _ = stream.shutdown(Shutdown::Write);
+    let_go(alloc, stream, served.end);
     served.registry
 }
 

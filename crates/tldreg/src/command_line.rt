@@ -1,4 +1,8 @@
 //! The command line.
+ghost use Rattle.std.specs.Prelude.{◌≡◌, IfErr};
+ghost use Rattle.std.specs.Str.Parse.{ParsesSigned};
+ghost use Rattle.std.specs.Int.{w64};
+ghost use Rattle.tldreg.specs.Words as spec;
 
 use calendar::Moment;
 use script::Exit;
@@ -96,7 +100,9 @@ fn words_of(rt: &(impl Env + AllocGlobal)) -> Result<Args, Exit> {
 }
 
 /// A word, where there is one.
-fn given(word: Option<String>) -> Result<String, Exit> {
+fn given(word: Option<String>) -> Result<String, Exit>
+    ensures { result ≡ spec.given word }
+{
     match word {
         Some(word) => Ok(word),
         None => Err(Exit::Usage),
@@ -104,7 +110,9 @@ fn given(word: Option<String>) -> Result<String, Exit> {
 }
 
 /// A port, from 1 to 65535.
-fn port_of(word: &str) -> Result<u16, Exit> {
+fn port_of(word: &str) -> Result<u16, Exit>
+    ensures { spec.ReadsPort word.now result }
+{
     match word.parse() {
         Ok(0) | Err(_) => Err(Exit::Usage),
         Ok(port) => Ok(port),
@@ -112,7 +120,9 @@ fn port_of(word: &str) -> Result<u16, Exit> {
 }
 
 /// A moment's text.
-fn moment_of(word: &str) -> Result<Moment, Exit> {
+fn moment_of(word: &str) -> Result<Moment, Exit>
+    ensures { spec.ReadsMoment word.now result }
+{
     match Moment::read(word) {
         Some(moment) => Ok(moment),
         None => Err(Exit::Usage),
@@ -120,7 +130,10 @@ fn moment_of(word: &str) -> Result<Moment, Exit> {
 }
 
 /// A number of cents, whether so many can be deposited or not.
-fn cents_of(word: &str) -> Result<i64, Exit> {
+fn cents_of(word: &str) -> Result<i64, Exit>
+    ensures number { ParsesSigned w64 10 word.now result }
+    ensures usage { IfErr result (λ exit. exit ≡ Exit.Usage) }
+{
     match word.parse() {
         Ok(cents) => Ok(cents),
         Err(_) => Err(Exit::Usage),

@@ -1,5 +1,6 @@
 //! The database of a command line, and the policy that it is opened under.
-ghost use Rattle.std.specs.Prelude.{◌≡◌, false, IfOk};
+ghost use Rattle.std.specs.Prelude.{◌≡◌, false, IfOk, bytes_eq, codes};
+ghost use Rattle.tldreg.specs.Ends as spec;
 
 use policy::Policy;
 use registry::{OpenFault, Registry};
@@ -9,11 +10,11 @@ use std::fs;
 use std::rt::Files;
 use store::{Book, BookFault};
 
-/// The name of a database in memory, which is new in each run.
-const IN_MEMORY: &str = ":memory:";
-
-pub fn is_in_memory(database: &str) -> bool {
-    database == IN_MEMORY
+/// Whether it is the name of a database in memory, which is new in each run.
+pub fn is_in_memory(database: &str) -> bool
+    ensures { result ≡ bytes_eq database.now (codes ":memory:") }
+{
+    database == ":memory:"
 }
 
 /// The policy of a file.
@@ -43,7 +44,10 @@ pub fn open<B: Book + Drop>(
     }
 }
 
-fn exit_of(fault: BookFault) -> Exit {
+/// How the program ends where a book couldn't be made.
+fn exit_of(fault: BookFault) -> Exit
+    ensures { result ≡ spec.exit_of fault }
+{
     match fault {
         BookFault::Memory => Exit::Memory,
         BookFault::Store => Exit::Open(OpenFault::Store),

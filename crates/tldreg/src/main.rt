@@ -2,6 +2,7 @@
 #![tactic(auto)]
 
 ghost use Rattle.std.specs.Prelude.{◌≡◌, false, IfOk};
+ghost use Rattle.tldreg.specs.Ends as spec;
 
 mod command_line;
 mod database;
@@ -83,8 +84,10 @@ fn work<B: Book + Drop>(rt: &HostRuntime, registry: Registry<B>, job: &Job) -> R
     }
 }
 
-/// Serves connections to a port of this machine.
-fn serve<B: Book + Drop>(rt: &HostRuntime, registry: Registry<B>, port: u16) -> Result<(), Exit> {
+/// Serves connections to a port of this machine, which ends only where none can be accepted.
+fn serve<B: Book + Drop>(rt: &HostRuntime, registry: Registry<B>, port: u16) -> Result<(), Exit>
+    ensures { result ≡ Err Exit.Network }
+{
     let Ok(listener) = TcpListener::bind(rt, (Ipv4Addr::LOCALHOST, port)) else {
         return Err(Exit::Network);
     };
@@ -137,7 +140,9 @@ fn order<B: Book + Drop>(
 }
 
 /// How the program ends where an answer was printed.
-fn end_of(code: Code) -> Result<(), Exit> {
+fn end_of(code: Code) -> Result<(), Exit>
+    ensures { result ≡ spec.end_of code }
+{
     match code {
         Code::Completed => Ok(()),
         _ => Err(Exit::Refused),

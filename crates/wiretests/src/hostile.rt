@@ -92,10 +92,10 @@ const HELP: &[u8] = b"GET /help HTTP/1.1\r\n\r\n";
 const HELP_TOLD: &[u8] =
     b"HTTP/1.1 200 OK\r\nContent-Type: application/rdap+json\r\nContent-Length: 123\r\nConnection: close\r\n\r\n{\"notices\":[{\"description\":[\"Domain, nameserver and entity look-ups.\"],\"title\":\"Help\"}],\"rdapConformance\":[\"rdap_level_0\"]}";
 
-const BAD_REQUEST: &[u8] =
+pub(crate) const BAD_REQUEST: &[u8] =
     b"HTTP/1.1 400 Bad Request\r\nContent-Type: application/rdap+json\r\nContent-Length: 74\r\nConnection: close\r\n\r\n{\"errorCode\":400,\"rdapConformance\":[\"rdap_level_0\"],\"title\":\"Bad Request\"}";
 
-const NOT_ALLOWED: &[u8] =
+pub(crate) const NOT_ALLOWED: &[u8] =
     b"HTTP/1.1 405 Method Not Allowed\r\nContent-Type: application/rdap+json\r\nContent-Length: 81\r\nAllow: GET\r\nConnection: close\r\n\r\n{\"errorCode\":405,\"rdapConformance\":[\"rdap_level_0\"],\"title\":\"Method Not Allowed\"}";
 
 /// A head that an end of input cuts is a bad request; one of which a read fails isn't answered.

@@ -3,6 +3,8 @@
 #![tactic(auto)]
 
 #[cfg(test)]
+mod behind_the_end;
+#[cfg(test)]
 mod connections;
 #[cfg(test)]
 mod frames;

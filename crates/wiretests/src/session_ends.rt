@@ -120,7 +120,7 @@ fn every_write_that_fails(rt: HostRuntime) -> Result<(), Fail> {
     Ok(())
 }
 
-const CLOSING: &[u8] =
+pub(crate) const CLOSING: &[u8] =
     b"\0\0\0\x53{\"code\":2500,\"msg\":\"Command failed; server closing connection\",\"svTRID\":\"ANON\"}";
 
 const ENDS: &[(&[u8], &[u8], SessionEnd)] = &[
