@@ -72,7 +72,7 @@ pub record Lookups : Type 0 where
   pub domains_held : ℕ
   pub given_back : Domain → GivenBack
 
--- what a registrar lookups in a registry with a command
+-- what a registrar finds in a registry with a command
 abbrev pub lookups : PolicyRules → ℕ → Command → Registry → Lookups
 lookups p r c s = record {
   account = account_of r s;

@@ -3,6 +3,7 @@ pub mod LapseLaws
 pub mod OneByOneLemmas
 pub mod TermsLemmas
 pub mod LineLemmas
+pub mod StandardLemmas
 pub mod MoneyLemmas
 pub mod MoneyChangeLemmas
 pub mod MoneyLaws

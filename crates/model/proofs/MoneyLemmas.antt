@@ -1,5 +1,5 @@
 -- How lines follow from others, one change after another.
-use Rattle.std.proofs.Common.{◌≡◌, ◌⊎◌, inl, inr, ℕ, ◌+◌, ◌≤◌, Bool, true, false, cond, List, [], ◌∷◌, ◌++◌, map, Option, Some, None, is_some, refl, sym, ap, subst, ◌∙◌, arith, ◌≤ℤ◌}
+use Rattle.std.proofs.Common.{◌≡◌, ◌⊎◌, inl, inr, ℕ, ◌+◌, ◌≤◌, Bool, true, false, cond, List, [], ◌∷◌, ◌++◌, map, Option, Some, None, is_some, refl, sym, ap, subst, ◌∙◌, arith, pos, ◌+ℤ◌, ◌≤ℤ◌}
 use Rattle.std.specs.List.{AllByRecursion, sum_by}
 use Rattle.std.proofs.lemmas.Int.{ints}
 use Rattle.std.proofs.lemmas.List.{append_assoc, map-append, map-id}
@@ -8,10 +8,11 @@ use Rattle.accounts.specs.declared.line.Line.{Line}
 use Rattle.accounts.specs.declared.line.LineKind.{LineKind}
 use Rattle.accounts.specs.declared.line.LineKind.TheVariants as kinds
 use Rattle.accounts.specs.Lines.{amount, amount_of, balance, in_order, is_kind}
-use Rattle.accounts.proofs.LineLaws.{balance-bag_of, lines_in_order}
+use Rattle.accounts.proofs.LineLaws.{balance-append, balance-bag_of, lines_in_order}
 use Rattle.basis.specs.Bag.{add, bag_of, remade}
 use Rattle.basis.proofs.BagLaws.{remade-add, remade-bag_of}
-use Rattle.model.specs.Money.{HasBegun, HasSameGrace, IsRecorded, IsSameCharge, LineFollows, LinesFollow, renewal_cents}
+use Rattle.model.specs.Money.{AccountAges, HasBegun, HasSameGrace, IsRecorded, IsRenewal, IsSameCharge, IsSooner, LineFollows, LinesFollow, NoRefund}
+use Rattle.model.specs.MoneyLaws.{renewal_cents}
 
 -- ---- bags
 
@@ -57,6 +58,12 @@ line-itself L u l = record {
   once = λ t given. refl;
 }
 
+sooner-then : (start years first most other all : ℕ) → IsSooner start years first most → IsSooner first most other all → IsSooner start years other all
+sooner-then start years first most other all (inl lt) (inl less) = inl (omega (arith, lt, less))
+sooner-then start years first most other all (inl lt) (inr same) = inl (omega (arith, lt, same.0))
+sooner-then start years first most other all (inr same) (inl less) = inl (omega (arith, same.0, less))
+sooner-then start years first most other all (inr same) (inr again) = inr (omega (arith, same.0, again.0), omega (arith, same.1, again.1))
+
 -- what is lawful in one step is in both
 module _ (K L M : ℕ → Line → Type 0) (first : (t : ℕ) (l : Line) → K t l → M t l) (second : (t : ℕ) (l : Line) → L t l → M t l) (u v : ℕ) (le : u ≤ v) where
   pub line-then : (l m n : Line) → LineFollows K u l m → LineFollows L v m n → LineFollows M v l n
@@ -67,16 +74,38 @@ module _ (K L M : ℕ → Line → Type 0) (first : (t : ℕ) (l : Line) → K t
     once = λ t given. let kept : m ≡ l = a.once t given in b.once t (ap (λ (x : Line). x.refunded) kept ∙ given) ∙ kept;
   }
     where
-      begun-later : HasBegun u m → m.started ≡ n.started → HasBegun v n
-      begun-later h e = record {
+      begun-same : HasBegun u l m → HasSameGrace m n → HasBegun v l n
+      begun-same h same = record {
         transfer = ap (λ (k : LineKind). is_kind k kinds.Transfer) b.charge.kind ∙ h.transfer;
-        start = (h.start.0, sym e ∙ h.start.1, omega (arith, h.start.2, le));
+        start = h.start;
+        started = same.started ∙ h.started;
+        come = omega (arith, h.come, le);
+        sooner = λ other is. subst (λ (years : ℕ). IsSooner h.start years other l.years) (sym same.years) (h.sooner other is);
       }
 
-      by-grace : (HasSameGrace m n ⊎ HasBegun v n) → (HasSameGrace l m ⊎ HasBegun u m) → HasSameGrace l n ⊎ HasBegun v n
-      by-grace (inr begun) before = inr begun
+      same-begun : HasSameGrace l m → HasBegun v m n → HasBegun v l n
+      same-begun same h = record {
+        transfer = h.transfer;
+        start = h.start;
+        started = h.started;
+        come = h.come;
+        sooner = λ other is. subst (λ (most : ℕ). IsSooner h.start n.years other most) same.years (h.sooner other (same.started ∙ is));
+      }
+
+      begun-begun : HasBegun u l m → HasBegun v m n → HasBegun v l n
+      begun-begun g h = record {
+        transfer = h.transfer;
+        start = h.start;
+        started = h.started;
+        come = h.come;
+        sooner = λ other is. sooner-then h.start n.years g.start m.years other l.years (h.sooner g.start g.started) (g.sooner other is);
+      }
+
+      by-grace : (HasSameGrace m n ⊎ HasBegun v m n) → (HasSameGrace l m ⊎ HasBegun u l m) → HasSameGrace l n ⊎ HasBegun v l n
+      by-grace (inr begun) (inr before) = inr (begun-begun before begun)
+      by-grace (inr begun) (inl before) = inr (same-begun before begun)
       by-grace (inl same) (inl before) = inl (record { started = same.started ∙ before.started; years = same.years ∙ before.years })
-      by-grace (inl same) (inr before) = inr (begun-later before (sym same.started))
+      by-grace (inl same) (inr before) = inr (begun-same before same)
 
       by-refund : (t : ℕ) → l.refunded ≡ None → n.refunded ≡ Some t → (o : Option ℕ) → m.refunded ≡ o → M t n
       by-refund t none given None e = second t n (b.lawful t e given)
@@ -166,3 +195,25 @@ cents-kept L u f each (l ∷ ls) =
 
 pub cents-then : (L : ℕ → Line → Type 0) (u : ℕ) (f : Line → Line) → ((l : Line) → LineFollows L u l (f l)) → (new before : List Line) → sum_by renewal_cents (new ++ map f before) ≡ sum_by renewal_cents new + sum_by renewal_cents before
 cents-then L u f each new before = sum_by-append renewal_cents new (map f before) ∙ ap (λ (n : ℕ). sum_by renewal_cents new + n) (cents-kept L u f each before)
+
+-- ---- what time takes off a balance
+
+amount-least : (deposit given : Bool) (cents : ℕ) → pos 0 ≤ℤ (amount_of deposit given cents +ℤ pos cents)
+amount-least true given cents = omega (arith, ints)
+amount-least false true cents = omega (arith, ints)
+amount-least false false cents = omega (arith, ints)
+
+renewal-least : (l : Line) → IsRenewal l → pos 0 ≤ℤ (amount l +ℤ pos (renewal_cents l))
+renewal-least l is = subst (λ (cents : ℕ). pos 0 ≤ℤ (amount l +ℤ pos cents)) (sym (ap (λ (b : Bool). cond b l.cents 0) is.kind)) (amount-least (is_kind l.kind kinds.Deposit) (is_some l.refunded) l.cents)
+
+renewals-least : (ls : List Line) → AllByRecursion IsRenewal ls → pos 0 ≤ℤ (balance ls +ℤ pos (sum_by renewal_cents ls))
+unfolding balance
+renewals-least [] all = omega (arith, ints)
+renewals-least (l ∷ ls) all = omega (arith, ints, renewal-least l all.0, renewals-least ls all.1, sum_by-cons renewal_cents l ls)
+
+-- no more than the cents of the renewals
+pub ages-owe : (u : ℕ) (before found : List Line) (h : AccountAges u before found) → balance before ≤ℤ (balance found +ℤ pos (sum_by renewal_cents h.added))
+ages-owe u before found h = omega (arith, ints, same, balance-append h.added (map h.change before), balance-map NoRefund u h.change h.lines.each before, renewals-least h.added h.renewals)
+  where
+    same : balance found ≡ balance (h.added ++ map h.change before)
+    same = sym (balance-bag_of found) ∙ ap balance h.lines.lines ∙ balance-bag_of (h.added ++ map h.change before)

@@ -6,5 +6,6 @@ pub mod Shapes
 pub mod Standing
 pub mod View
 pub mod WellFormed
+pub mod Standards
 pub mod Money
 pub mod MoneyLaws

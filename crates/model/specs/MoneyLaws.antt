@@ -1,11 +1,12 @@
 -- What becomes of money over many calls.
-use Rattle.std.specs.Prelude.{◌≡◌, ◌⊎◌, ℕ, ◌≤◌, List, [], ◌∷◌, pos, ◌+ℤ◌, ◌≤ℤ◌}
+use Rattle.std.specs.Prelude.{◌≡◌, ◌⊎◌, ℕ, ◌≤◌, if◌then◌else◌, List, [], ◌∷◌, pos, ◌+ℤ◌, ◌≤ℤ◌}
 use Rattle.std.specs.List.{sum_by}
 use Rattle.accounts.specs.declared.line.Line.{Line}
-use Rattle.accounts.specs.Lines.{balance}
+use Rattle.accounts.specs.declared.line.LineKind.TheVariants as kinds
+use Rattle.accounts.specs.Lines.{balance, is_kind}
 use Rattle.policy.specs.Rules.{PolicyRules}
 use Rattle.model.specs.Lapse.{lapsed}
-use Rattle.model.specs.Money.{IsRefundable, LinesFollow, MoneyFollows, renewal_cents}
+use Rattle.model.specs.Money.{IsRefundable, LinesFollow, MoneyFollows}
 use Rattle.model.specs.Registry.{Registry, account_of}
 
 -- Calls one after another, each by its moment and the registry that it left. None is later than the
@@ -19,15 +20,25 @@ abbrev pub IsRefundableIn : PolicyRules → ℕ → List (ℕ × Registry) → R
 IsRefundableIn p r [] before t l = ⊥
 IsRefundableIn p r (call ∷ calls) before t l = IsRefundable p r (lapsed p call.0 before) call.1 t l ⊎ IsRefundableIn p r calls call.1 t l
 
--- but for the automatic renewals among the new lines, the balance isn't below zero, or no lower than it was
-abbrev pub IsCoveredOver : List Line → List Line → List Line → Type 0
-IsCoveredOver before after new =
-    (pos 0 ≤ℤ (balance after +ℤ pos (sum_by renewal_cents new))) ⊎ (balance before ≤ℤ (balance after +ℤ pos (sum_by renewal_cents new)))
+-- ---- what all of them make of an account
 
--- Over any calls no line of an account vanishes, each is given back once at most, lawfully in one of
--- the calls, and automatic renewals alone take the balance below zero.
+abbrev pub renewal_cents : Line → ℕ
+renewal_cents l = if is_kind l.kind kinds.AutoRenew then l.cents else 0
+
+-- A bound on debts: what is owed afterwards, or owed more than before, these automatic renewals cost.
+abbrev pub OwesRenewalsAtMost : List Line → List Line → List Line → Type 0
+OwesRenewalsAtMost before after added =
+    (pos 0 ≤ℤ (balance after +ℤ pos (sum_by renewal_cents added))) ⊎ (balance before ≤ℤ (balance after +ℤ pos (sum_by renewal_cents added)))
+
+pub record LinesFollowOver (IsLawful : ℕ → Line → Type 0) (last : ℕ) (before after : List Line) : Type 0 where
+  pub change : Line → Line
+  pub added : List Line
+  pub lines : LinesFollow IsLawful last before after change added
+  pub owed : OwesRenewalsAtMost before after added
+
+-- Over any calls no line of an account vanishes, each is given back once at most, lawfully in one of the calls,
+-- and debts are bounded. That in each of them automatic renewals alone take a balance below zero is what
+-- `AreCalls` says.
 abbrev pub MoneyFollowsOver : Type 0
 MoneyFollowsOver = (p : PolicyRules) (last : ℕ) (calls : List (ℕ × Registry)) (before after : Registry) → AreCalls p last calls before after → (r : ℕ)
-    → (change : Line → Line) × (new : List Line)
-    × LinesFollow (IsRefundableIn p r calls before) last (account_of r before).lines (account_of r after).lines change new
-    × IsCoveredOver (account_of r before).lines (account_of r after).lines new
+    → LinesFollowOver (IsRefundableIn p r calls before) last (account_of r before).lines (account_of r after).lines

@@ -47,7 +47,7 @@ view_with p secrets r s = record {
   domains = map_values (λ name. domain_sight p r s (secrets.domains name)) s.domains;
 }
 
--- the secrets of a command: info of a contact or a domain may present one
+-- the secrets of a command: info of a contact or a domain may present one, and so may a transfer
 abbrev pub secrets_of : Command → Secrets
 secrets_of c = record { contacts = presented_contact c; domains = presented c }
 

@@ -1,10 +1,11 @@
--- When a value of the registry's maps is a registry. What a registrar may learn is promised of every
--- value, so no promise of that asks for this: it is what the steps of the registry keep.
+-- When a value of the registry's maps is well formed: what every call of the registry keeps. A reply is promised of
+-- every value of the maps, and what a registrar sees afterwards of each that meets the standards (`Standards`), so
+-- no promise of what a registrar may learn asks for more.
 use Rattle.std.specs.Prelude.{◌≡◌, ◌≢◌, ℕ, ◌≤◌, ◌<◌, ◌^◌, ◌==◌, nat_lt, Bool, true, false, ◌&&◌, if◌then◌else◌, List, length, Option, Some, None, IsSome, ◌↔◌}
 use Rattle.std.specs.FinMap.{get}
 use Rattle.std.specs.List.{All, filter, list_any}
-use Rattle.accounts.specs.declared.account.Account.{Account}
 use Rattle.accounts.specs.declared.line.Line.{Line}
+use Rattle.accounts.specs.declared.message.Message.{Message}
 use Rattle.accounts.specs.Lines.{is_on, waits}
 use Rattle.names.specs.Zone.{superordinate_of}
 use Rattle.objects.specs.declared.contact.Contact.{Contact}
@@ -19,7 +20,7 @@ use Rattle.objects.specs.Links.{names_contact, names_host}
 use Rattle.objects.specs.Transfers.{is_pending, is_pending_state}
 use Rattle.policy.specs.Rules.{PolicyRules, IsRegistrar}
 use Rattle.model.specs.Registry.{Registry, account_of}
-use Rattle.model.specs.Shapes.{HasShapes}
+use Rattle.model.specs.Shapes.{HasShapes, end_of_expiries}
 
 -- the ROID of an object of this kind: its creator's own number for it (RFC 5730, 2.8)
 pub record HasRoid (p : PolicyRules) (s : Registry) (kind : ObjectKind) (roid : Roid) : Type 0 where
@@ -38,7 +39,8 @@ IsAfter moment None = Unit {0}
 IsAfter moment (Some earlier) = earlier ≤ moment
 
 -- A transfer lies between two registrars of the policy, and one that isn't pending has ended. It was
--- requested after the object's creation; one that is pending, after the last that was completed.
+-- requested after the object's creation; one that is pending, after the last that was completed. What is due
+-- is due before 2120, as expiries are.
 pub record IsTransfer (p : PolicyRules) (s : Registry) (created : ℕ) (transferred : Option ℕ) (t : Transfer) : Type 0 where
   pub requester : IsRegistrar p t.requester
   pub losing_registrar : IsRegistrar p t.losing_registrar
@@ -46,21 +48,34 @@ pub record IsTransfer (p : PolicyRules) (s : Registry) (created : ℕ) (transfer
   pub acted : is_pending_state t.state ≡ false → t.ac_date ≤ s.clock
   pub begun : created ≤ t.requested
   pub next : is_pending_state t.state ≡ true → IsAfter t.requested transferred
+  pub due : t.ac_date < end_of_expiries
 
 abbrev pub IsLastTransfer : PolicyRules → Registry → ℕ → Option ℕ → Option Transfer → Type 0
 IsLastTransfer p s created transferred None = Unit {0}
 IsLastTransfer p s created transferred (Some t) = IsTransfer p s created transferred t
 
--- a deleted domain has neither subordinate hosts nor a pending transfer (RFC 5731, 3.2.2)
+-- a moment that is kept is not before this one
+abbrev pub IsSince : ℕ → Option ℕ → Type 0
+IsSince moment None = Unit {0}
+IsSince moment (Some later) = moment ≤ later
+
+-- A deleted domain has neither subordinate hosts nor a pending transfer (RFC 5731, 3.2.2), and its restoration was
+-- requested since it was deleted (RFC 3915, 4.2.5).
 pub record IsDeleted (p : PolicyRules) (s : Registry) (d : Domain) (deletion : Deletion) : Type 0 where
   pub deleted : deletion.deleted ≤ s.clock
   pub requested : HasBeen s deletion.restore_requested
+  pub since : IsSince deletion.deleted deletion.restore_requested
   pub hosts : (host : List ℕ) → IsSome (get s.hosts host) → superordinate_of p.zone host ≢ Some d.name
   pub transfer : is_pending d.transfer ≡ false
 
 abbrev pub IsDeletion : PolicyRules → Registry → Domain → Option Deletion → Type 0
 IsDeletion p s d None = Unit {0}
 IsDeletion p s d (Some deletion) = IsDeleted p s d deletion
+
+-- a pending transfer takes the object from its sponsor
+abbrev pub IsFromSponsor : ℕ → Option Transfer → Type 0
+IsFromSponsor sponsor None = Unit {0}
+IsFromSponsor sponsor (Some t) = is_pending_state t.state ≡ true → t.losing_registrar ≡ sponsor
 
 pub record IsContactOf (p : PolicyRules) (s : Registry) (name : List ℕ) (c : Contact) : Type 0 where
   pub named : c.name ≡ name
@@ -70,6 +85,7 @@ pub record IsContactOf (p : PolicyRules) (s : Registry) (name : List ℕ) (c : C
   pub transferred : HasBeen s c.transferred
   pub updated : HasBeen s c.updated
   pub transfer : IsLastTransfer p s c.created c.transferred c.transfer
+  pub losing : IsFromSponsor c.sponsor c.transfer
 
 -- a host in the zone has its superordinate domain, and no registrar of its own (RFC 5732, 1.1)
 abbrev pub BelongsTo : PolicyRules → Registry → Option (List ℕ) → Option ℕ → Type 0
@@ -115,10 +131,12 @@ abbrev pub WasGiven : PolicyRules → Registry → Option Roid → Type 0
 WasGiven p s None = Unit {0}
 WasGiven p s (Some roid) = HasRoid p s kinds.Domain roid
 
--- a line is of a domain that is there or was, and no grace begins ahead of the clock
+-- a line is of a domain that is there or was, and none of its moments is ahead of the clock
 pub record IsLineOf (p : PolicyRules) (s : Registry) (l : Line) : Type 0 where
   pub roid : WasGiven p s l.roid
+  pub recorded : l.recorded ≤ s.clock
   pub started : HasBeen s l.started
+  pub refunded : HasBeen s l.refunded
 
 -- a grace began after a moment; after none, it began at all
 abbrev pub is_begun_after : Option ℕ → Option ℕ → Bool
@@ -167,6 +185,15 @@ pub record HasLines (p : PolicyRules) (s : Registry) : Type 0 where
   pub each : (r : ℕ) → All (IsLineOf p s) (account_of r s).lines
   pub domains : (name : List ℕ) (d : Domain) → get s.domains name ≡ Some d → HasLinesOn s d
 
+-- ---- what registrars are told
+
+-- a message is of a moment that has come
+abbrev pub HasCome : ℕ → Message → Type 0
+HasCome t m = m.moment ≤ t
+
+abbrev pub HasMessages : Registry → Type 0
+HasMessages s = (r : ℕ) → All (HasCome s.clock) (account_of r s).queue
+
 -- the latest moment at which a clock stands, as no call is taken later: 2099-12-31T23:59:59Z
 abbrev pub last_clock : ℕ
 last_clock = 4_102_444_799
@@ -176,16 +203,10 @@ pub record IsRegistry (p : PolicyRules) (s : Registry) : Type 0 where
   pub clock : s.clock ≤ last_clock
   pub objects : HasObjects p s
   pub lines : HasLines p s
+  pub messages : HasMessages s
   pub shapes : HasShapes p.zone s
 
--- Counters stay at their greatest value, and two objects would then share a ROID: each counter and
--- list of an account is far below it.
-pub record IsSmall (a : Account) : Type 0 where
-  pub commands : a.commands < 2 ^ 62
-  pub messages : a.messages < 2 ^ 62
-  pub serial : a.serial < 2 ^ 62
-  pub lines : length a.lines < 2 ^ 62
-  pub queue : length a.queue < 2 ^ 62
-
-abbrev pub AreSmall : Registry → Type 0
-AreSmall s = (r : ℕ) → IsSmall (account_of r s)
+-- A counter stays at its greatest value, and two objects would then share a ROID: the registrar's own number of what
+-- it creates is far below it.
+abbrev pub HasNumbersLeft : ℕ → Registry → Type 0
+HasNumbersLeft r s = (account_of r s).serial < 2 ^ 62

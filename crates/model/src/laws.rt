@@ -1,6 +1,7 @@
-//! What the definitions of the lapse of a registry, and of its money, come to.
+//! What the definitions of a registry, of its lapse and of its money come to.
 ghost use Rattle.model.specs.LapseLaws as spec;
 ghost use Rattle.model.specs.MoneyLaws.{MoneyFollowsOver};
+ghost use Rattle.model.specs.Standards.{RegistriesMeetStandards};
 
 /// Time may pass in any steps, and some objects may lapse before the others do.
 pub fn time_passes_in_any_steps()
@@ -23,6 +24,11 @@ pub fn objects_lapse_in_any_order()
 pub fn lapse_leaves_nothing_due()
     ensures settles { spec.LapsedIsSettled }
     ensures stays { spec.SettledIsNow }
+{}
+
+/// A well formed registry is one by the standards.
+pub fn registries_meet_standards()
+    ensures { RegistriesMeetStandards }
 {}
 
 /// What follows of money in each call follows over any calls, one after another.

@@ -29,10 +29,10 @@ use Rattle.registry.proofs.CrashLemmas.{gave_up_by, outlives_later}
 
 -- ---- a well formed registry
 
-stays : (p : PolicyRules) → IsSound p → (r : ℕ) (c : Command) (moment : ℕ) → moment ≤ last_clock → (before after : Registry) → IsRegistrar p r → CanBeAsked c → now p after ≡ now p (effect p r c (lapsed p moment before)) → StaysWellFormed p before after
+stays : (p : PolicyRules) → IsSound p → (r : ℕ) (c : Command) (moment : ℕ) → moment ≤ last_clock → (before after : Registry) → IsRegistrar p r → CanBeAsked c → now p after ≡ now p (effect p r c (lapsed p moment before)) → StaysWellFormed p r before after
 stays p sound r c moment early before after place few left is small =
     let passed : Registry = lapsed p moment before in
-    subst (IsRegistry p) (sym left) (registry-now p (effect p r c passed) (registry-effect p sound r c passed place (registry-lapsed p moment before early is) (lapsed-is-settled p (max moment before.clock) before) (omega (arith, (small r).serial, serial-lapsed p moment r before)) few))
+    subst (IsRegistry p) (sym left) (registry-now p (effect p r c passed) (registry-effect p sound r c passed place (registry-lapsed p moment before early is) (lapsed-is-settled p (max moment before.clock) before) (omega (arith, small, serial-lapsed p moment r before)) few))
 
 keeps-after-order : (p : PolicyRules) (o : Order) (moment : ℕ) → moment ≤ last_clock → (before after : Registry) → now p after ≡ now p (order_effect p o (lapsed p moment before)) → KeepsWellFormed p before after
 keeps-after-order p o moment early before after left is =

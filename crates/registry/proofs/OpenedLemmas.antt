@@ -36,7 +36,7 @@ use Rattle.model.specs.Lapse.{accounts_at, now, postings}
 use Rattle.model.specs.Registry.{Registry, account_of, blank}
 use Rattle.model.proofs.TermsLemmas.{same-lapse}
 use Rattle.model.specs.Shapes.{HasShapes}
-use Rattle.model.specs.WellFormed.{HasLines, HasObjects, IsLineOf, IsRegistry}
+use Rattle.model.specs.WellFormed.{HasCome, HasLines, HasMessages, HasObjects, IsLineOf, IsRegistry}
 
 -- ---- the accounts, once those of the first n registrars are open
 
@@ -124,6 +124,7 @@ kept-opened p q s zone more is =
       clock = is.clock;
       objects = kept-grown q p s (accounts-after n s) s.clock grows places is.objects;
       lines = lines-domains q p s t grows (λ r. ap (λ (a : Account). a.lines) (same-account n r s)) is.lines.domains is.lines;
+      messages = λ r. subst (λ (a : Account). All (HasCome s.clock) a.queue) (sym (same-account n r s)) (is.messages r);
       shapes = subst (λ (z : ZoneRules). HasShapes z t) zone of_q;
     })
 
@@ -156,12 +157,16 @@ no-lines p = record {
   domains = λ name d at. absurd (nothing-at (slice_cmp nat_cmp) name d at);
 }
 
+-- and no message
+no-messages : HasMessages blank
+no-messages r = subst (λ (o : Option Account). All (HasCome blank.clock) (unwrap_or o empty_account).queue) (sym (get-empty nat_cmp r)) (All-nil (HasCome blank.clock))
+
 -- no object, and so no shape
 no-shapes : (zone : ZoneRules) → HasShapes zone blank
 no-shapes zone = record { domains = λ name d at. absurd (nothing-at (slice_cmp nat_cmp) name d at); hosts = λ name h at. absurd (nothing-at (slice_cmp nat_cmp) name h at) }
 
 blank-is : (p : PolicyRules) → IsRegistry (without_registrars p) blank
-blank-is p = record { clock = omega arith; objects = no-objects p; lines = no-lines p; shapes = no-shapes p.zone }
+blank-is p = record { clock = omega arith; objects = no-objects p; lines = no-lines p; messages = no-messages; shapes = no-shapes p.zone }
 
 -- ---- a book is opened
 

@@ -89,7 +89,7 @@ Fails faults.Moment old new = IsUnchanged old new × NoRefusal old new
 abbrev pub SameTerms : BookState → BookState → Type 0
 SameTerms old new = new.is_clean ≡ true → new.content.terms ≡ old.content.terms
 
--- the same terms, with the registry as a call at a moment lookups it
+-- the same terms, with the registry as a call at a moment finds it
 abbrev pub at_moment : PolicyRules → ℕ → Stored → Stored
 at_moment p t s = record s { registry = lapsed p t s.registry }
 

@@ -1,16 +1,16 @@
 -- What the calls of the registry leave is well formed again.
-use Rattle.std.specs.Prelude.{◌≡◌, true, ◌⊎◌, Some}
+use Rattle.std.specs.Prelude.{◌≡◌, ℕ, true, ◌⊎◌, Some}
 use Rattle.model.specs.Lapse.{now}
 use Rattle.model.specs.Registry.{Registry}
-use Rattle.model.specs.WellFormed.{AreSmall, IsRegistry}
+use Rattle.model.specs.WellFormed.{HasNumbersLeft, IsRegistry}
 use Rattle.policy.specs.Rules.{PolicyRules}
 use Rattle.policy.specs.Terms.{terms_of}
 use Rattle.privacy.specs.Runs.{Question, command, date, look_up, order}
 use Rattle.store.specs.Book.{BookState, Stored, nothing}
 
--- A registrar's call on a well formed registry leaves one, where counters are far from their greatest.
-abbrev pub StaysWellFormed : PolicyRules → Registry → Registry → Type 0
-StaysWellFormed p before after = IsRegistry p (now p before) → AreSmall before → IsRegistry p (now p after)
+-- A registrar's call on a well formed registry leaves one, where its numbers are far from the greatest.
+abbrev pub StaysWellFormed : PolicyRules → ℕ → Registry → Registry → Type 0
+StaysWellFormed p r before after = IsRegistry p (now p before) → HasNumbersLeft r before → IsRegistry p (now p after)
 
 -- an order on a well formed registry leaves one; it creates nothing
 abbrev pub KeepsWellFormed : PolicyRules → Registry → Registry → Type 0
@@ -31,9 +31,9 @@ CanBeReopened p held = IsRegistry p (now p held.registry) → HoldsRegistry held
 
 -- ---- of books, if nothing wrong was taken from what keeps them
 
--- so every call keeps it, a command where counters are far from their greatest
+-- so every call keeps it, a command where its registrar's numbers are far from the greatest
 abbrev pub CallKeepsWellFormed : PolicyRules → Question → Registry → Registry → Type 0
-CallKeepsWellFormed p (command r c) before after = StaysWellFormed p before after
+CallKeepsWellFormed p (command r c) before after = StaysWellFormed p r before after
 CallKeepsWellFormed p (order o) before after = KeepsWellFormed p before after
 CallKeepsWellFormed p date before after = KeepsWellFormed p before after
 CallKeepsWellFormed p look_up before after = KeepsWellFormed p before after

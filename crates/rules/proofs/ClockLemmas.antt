@@ -14,6 +14,7 @@ use Rattle.rules.proofs.MeetingLemmas.{meets-decided}
 use Rattle.rules.proofs.ViewLemmas.{AllMeet, Meets}
 use Rattle.model.specs.Registry.{Registry}
 use Rattle.model.specs.WellFormed.{HasLines, IsRegistry}
+use Rattle.model.proofs.StandardLemmas.{registries-meet-standards}
 
 -- ---- what a registrar's view is told of its changes
 
@@ -36,7 +37,7 @@ clock-met_all p r [] s meet = refl
 clock-met_all p r (change ∷ changes) s meet = clock-met_all p r changes (changed p change s) meet.1 ∙ clock-met p r change s meet.0
 
 pub clock-effect : (p : PolicyRules) → IsSound p → (r : ℕ) (c : Command) (s : Registry) → IsRegistry p s → (effect p r c s).clock ≡ s.clock
-clock-effect p sound r c s is = clock-met_all p r (decision p r c s).changes s (meets-decided p sound r c s is)
+clock-effect p sound r c s is = clock-met_all p r (decision p r c s).changes s (meets-decided p sound r c s (registries-meet-standards p s is))
 
 -- ---- orders
 

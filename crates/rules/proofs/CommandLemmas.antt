@@ -183,7 +183,7 @@ module _ (p : PolicyRules) (r : ℕ) (cl_trid : Option (List ℕ)) (s : Registry
     kept-new-contact new =
         let request : Request = requests.CreateContact new in
         put-contact p numbered_too kept-numbered new.name (new_contact r s.clock (facts p r (Asked cl_trid request) s) new)
-        (record { named = refl; roid = has-given kinds.Contact request; sponsor = place; created = omega arith; transferred = tt; updated = tt; transfer = tt })
+        (record { named = refl; roid = has-given kinds.Contact request; sponsor = place; created = omega arith; transferred = tt; updated = tt; transfer = tt; losing = tt })
         (λ n x at same. absurd (ungiven kinds.Contact request kinds.Contact x.roid (is.contacts n x at).roid same))
 
     pub kept-new-domain : (new : NewDomain) → let f : Facts = facts p r (Asked cl_trid (requests.CreateDomain new)) s in f.reference_missing ≡ false

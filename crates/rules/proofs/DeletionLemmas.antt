@@ -92,7 +92,7 @@ module _ (p : PolicyRules) (r : ℕ) (cl_trid : Option (List ℕ)) (s : Registry
         transferred = k.transferred;
         updated = omega arith;
         transfer = k.transfer;
-        deletion = record { deleted = omega arith; requested = tt; hosts = λ host there above. alone d at host there (above ∙ ap (λ (q : List ℕ). Some q) k.named); transfer = settled };
+        deletion = record { deleted = omega arith; requested = tt; since = tt; hosts = λ host there above. alone d at host there (above ∙ ap (λ (q : List ℕ). Some q) k.named); transfer = settled };
         contacts = k.contacts;
         hosts = k.hosts;
       })

@@ -36,6 +36,7 @@ module _ (p q : PolicyRules) (s t : Registry) (grows : Grows p q s t) where
   transfer-grown created transferred (Some transfer) h = record {
     begun = h.begun;
     next = h.next;
+    due = h.due;
     requester = grows.place _ h.requester;
     losing_registrar = grows.place _ h.losing_registrar;
     requested = omega (arith, h.requested, grows.clock);
@@ -51,6 +52,7 @@ module _ (p q : PolicyRules) (s t : Registry) (grows : Grows p q s t) where
     transferred = been-grown c.transferred h.transferred;
     updated = been-grown c.updated h.updated;
     transfer = transfer-grown c.created c.transferred c.transfer h.transfer;
+    losing = h.losing;
   }
 
   belongs-grown : (above : Option (List ℕ)) (by : Option ℕ) → ((domain : List ℕ) → above ≡ Some domain → IsSome (get s.domains domain) → IsSome (get t.domains domain)) → BelongsTo p s above by → BelongsTo q t above by
@@ -81,6 +83,7 @@ module _ (p q : PolicyRules) (s t : Registry) (grows : Grows p q s t) where
   deletion-grown d links free (Some deletion) is h = record {
     deleted = omega (arith, h.deleted, grows.clock);
     requested = been-grown deletion.restore_requested h.requested;
+    since = h.since;
     hosts = λ host there. subst (λ (zone : ZoneRules). superordinate_of zone host ≢ Some d.name) grows.zone (⊎_elim (λ before. h.hosts host before) (λ other. other (is refl)) (free host there));
     transfer = h.transfer;
   }

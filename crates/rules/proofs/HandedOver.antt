@@ -1,8 +1,9 @@
 -- A domain that is handed over by a pending transfer begins with the grace of the transfer alone (RFC
 -- 3915, 3.1; RFC 5730, 2.9.3.4).
 use Rattle.std.proofs.Common.{◌≡◌, ◌≢◌, ℕ, ◌≤◌, ◌<◌, ◌==◌, nat_lt, nat_le, Bool, true, false, cond, not, ◌&&◌, List, length, Option, Some, None, is_some, refl, ap, subst, ◌∙◌, arith, eqb-true}
+use Rattle.std.specs.Prelude.{IfSome}
 use Rattle.std.specs.FinMap.{get}
-use Rattle.std.specs.List.{filter, list_any}
+use Rattle.std.specs.List.{list_any}
 use Rattle.std.proofs.lemmas.Bool.{and_parts}
 use Rattle.std.proofs.lemmas.Bool.Decides.{nat_tests}
 use Rattle.accounts.specs.declared.line.Line.{Line}
@@ -15,7 +16,6 @@ use Rattle.lifecycle.specs.Graces.{gives, graces, period_of, runs, runs_from}
 use Rattle.lifecycle.specs.Periods.{end}
 use Rattle.objects.specs.declared.domain.Domain.{Domain}
 use Rattle.objects.specs.declared.grace.Graces.{Graces}
-use Rattle.objects.specs.Graces.{no_graces}
 use Rattle.objects.specs.declared.roid.Roid.{Roid}
 use Rattle.objects.specs.declared.transfer.Transfer.{Transfer}
 use Rattle.objects.specs.Transfers.{is_pending_state}
@@ -23,8 +23,9 @@ use Rattle.policy.specs.declared.days.Period.{Period}
 use Rattle.policy.specs.declared.days.Period.TheVariants as periods
 use Rattle.policy.specs.Rules.{PolicyRules, IsSound}
 use Rattle.model.specs.Registry.{Registry, account_of}
-use Rattle.model.specs.WellFormed.{HasLines, HasLinesOn, IsAwaited, IsAwaitedIfPending, IsLastTransfer, IsLater, HasObjects, begins_after, charges_waiting, is_begun_after}
-use Rattle.model.proofs.LineLemmas.{and-false, any-of-one, none-remade, none-weaker}
+use Rattle.model.specs.Standards.{IsStandardRequest, IsTransferRecord, MeetsStandards}
+use Rattle.model.specs.WellFormed.{IsLater, begins_after, is_begun_after}
+use Rattle.model.proofs.LineLemmas.{and-false, any-of-one, none-remade}
 
 -- ---- one line
 
@@ -106,12 +107,10 @@ module _ (p : PolicyRules) (t : ℕ) (roid : Roid) (last : Option ℕ) (past : I
 
 -- ---- the lines of the registrar that a domain is handed over to
 
-module _ (p : PolicyRules) (s : Registry) (d : Domain) (x : Transfer) (on : HasLinesOn s d) (is : d.transfer ≡ Some x) (pending : is_pending_state x.state ≡ true) (requested : x.requested ≤ s.clock) where
+module _ (p : PolicyRules) (s : Registry) (d : Domain) (x : Transfer) (elsewhere : (r : ℕ) → r ≢ d.sponsor → list_any (begins_after d.roid d.transferred) (account_of r s).lines ≡ false)
+    (awaited : IsStandardRequest s d x) (requested : x.requested ≤ s.clock) (other : x.requester ≢ d.sponsor) where
   abbrev gained : List Line
   gained = (account_of x.requester s).lines
-
-  awaited : IsAwaited s d x
-  awaited = (subst (IsAwaitedIfPending s d) is on.awaited) pending
 
   past : IsLater s.clock d.transferred
   past = by d.transferred awaited.transferred
@@ -121,27 +120,11 @@ module _ (p : PolicyRules) (s : Registry) (d : Domain) (x : Transfer) (on : HasL
       by (Some moment) late = omega (arith, late, requested)
 
   none-later : list_any (begins_after d.roid d.transferred) gained ≡ false
-  none-later = on.elsewhere x.requester awaited.requester
-
-  -- no grace of the gaining registrar's runs that began by now
-  pub graces-before : graces p s.clock d.roid (Some s.clock) (account_of x.requester s).lines ≡ no_graces
-  unfolding graces
-  graces-before = λ i. record {
-    add = none-weaker (begins_after d.roid d.transferred) (gives kinds.Create p s.clock d.roid (Some s.clock)) (over-by p s.clock d.roid d.transferred past kinds.Create) gained none-later i;
-    auto_renew = none-weaker (begins_after d.roid d.transferred) (gives kinds.AutoRenew p s.clock d.roid (Some s.clock)) (over-by p s.clock d.roid d.transferred past kinds.AutoRenew) gained none-later i;
-    renew = none-weaker (begins_after d.roid d.transferred) (gives kinds.Renew p s.clock d.roid (Some s.clock)) (over-by p s.clock d.roid d.transferred past kinds.Renew) gained none-later i;
-    transfer = none-weaker (begins_after d.roid d.transferred) (gives kinds.Transfer p s.clock d.roid (Some s.clock)) (over-by p s.clock d.roid d.transferred past kinds.Transfer) gained none-later i;
-  }
+  none-later = elsewhere x.requester other
 
   module _ (sound : IsSound p) (years : ℕ) where
     abbrev begun : List Line
     begun = remade in_order (transfer_started (start p s.clock d.roid d.transferred past years)) gained
-
-    one : length (filter (waits d.roid) gained) ≡ 1
-    one = on.waiting x.requester ∙ ap (charges_waiting x.requester) is ∙ (λ i. cond (pending i && itself x.requester i) 1 0)
-      where
-        itself : (n : ℕ) → (n == n) ≡ true
-        itself n = grind (arith, nat_tests)
 
     none-after : (kind : LineKind) → is_kind kinds.Transfer kind ≡ false → list_any (gives kind p s.clock d.roid (Some s.clock)) begun ≡ false
     none-after kind other = none-remade in_order (begins_after d.roid d.transferred) (gives kind p s.clock d.roid (Some s.clock)) (transfer_started (start p s.clock d.roid d.transferred past years))
@@ -155,21 +138,17 @@ module _ (p : PolicyRules) (s : Registry) (d : Domain) (x : Transfer) (on : HasL
       auto_renew = none-after kinds.AutoRenew refl i;
       renew = none-after kinds.Renew refl i;
       transfer = any-of-one in_order (waits d.roid) (gives kinds.Transfer p s.clock d.roid (Some s.clock)) (transfer_started (start p s.clock d.roid d.transferred past years))
-          (begins p s.clock d.roid d.transferred past years sound) gained one i;
+          (begins p s.clock d.roid d.transferred past years sound) gained awaited.charge i;
     }
 
--- The domain at a name, of which a transfer is pending.
-module _ (p : PolicyRules) (s : Registry) (objects : HasObjects p s) (lines : HasLines p s) (name : List ℕ) (d : Domain) (x : Transfer)
-    (at : get s.domains name ≡ Some d) (is : d.transfer ≡ Some x) (pending : is_pending_state x.state ≡ true) where
-  requested-before : x.requested ≤ s.clock
-  requested-before = (subst (IsLastTransfer p s d.created d.transferred) is (objects.domains name d at).transfer).requested
+-- The domain at a name, of which a transfer is pending that its sponsor didn't ask for.
+module _ (p : PolicyRules) (s : Registry) (well : MeetsStandards p s) (name : List ℕ) (d : Domain) (x : Transfer)
+    (at : get s.domains name ≡ Some d) (is : d.transfer ≡ Some x) (pending : is_pending_state x.state ≡ true) (other : x.requester ≢ d.sponsor) where
+  last : IsTransferRecord p s x
+  last = subst (λ (o : Option Transfer). IfSome o (IsTransferRecord p s)) is (well.domains name d at).transfer
 
-  -- the registrar that asked for it isn't its sponsor
-  pub requester-elsewhere : x.requester ≢ d.sponsor
-  requester-elsewhere = (awaited p s d x (lines.domains name d at) is pending requested-before).requester
-
-  pub none-handed-over : graces p s.clock d.roid (Some s.clock) (account_of x.requester s).lines ≡ no_graces
-  none-handed-over = graces-before p s d x (lines.domains name d at) is pending requested-before
+  asked : IsStandardRequest s d x
+  asked = subst (λ (o : Option Transfer). IfSome o (λ (t : Transfer). is_pending_state t.state ≡ true → IsStandardRequest s d t)) is (well.domains name d at).awaited pending
 
   pub graces-handed-over : (sound : IsSound p) (years : ℕ) → graces p s.clock d.roid (Some s.clock) (remade in_order (transfer_started (record { roid = d.roid; moment = s.clock; years = years })) (account_of x.requester s).lines) ≡ transfer_alone
-  graces-handed-over sound years = graces-after p s d x (lines.domains name d at) is pending requested-before sound years
+  graces-handed-over sound years = graces-after p s d x (well.domains name d at).elsewhere asked last.requested other sound years

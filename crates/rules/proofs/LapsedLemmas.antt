@@ -114,6 +114,7 @@ module _ (p : PolicyRules) (t : ℕ) (s : Registry) (past : t ≤ s.clock) (is :
     acted = λ over. omega (arith, due, past);
     begun = k.begun;
     next = λ pending. absurd cc;
+    due = k.due;
   }
 
   contact-fits : (name : List ℕ) (c e : Contact) → IsContactOf p s name c → (lapse_contact t c).object ≡ Some e → IsContactOf p after name e
@@ -130,6 +131,7 @@ module _ (p : PolicyRules) (t : ℕ) (s : Registry) (past : t ≤ s.clock) (is :
         transferred = omega (arith, come, past);
         updated = k.updated;
         transfer = ended c.created c.transferred x come transfer;
+        losing = λ pending. absurd (let never : false ≡ true = pending in cc);
       }) e
 
   contact-there : (name : List ℕ) → IsSome (get s.contacts name) → IsSome (get after.contacts name)

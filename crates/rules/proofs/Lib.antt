@@ -41,3 +41,4 @@ pub mod MoneyTimeLemmas
 pub mod MoneyChangesLemmas
 pub mod MoneyCommandLemmas
 pub mod MoneyLaws
+pub mod MessageLemmas

@@ -90,9 +90,9 @@ awaited-ahead p s d deletion ahead x is pending = by d.deletion deletion ahead
 
 own-charge : (p : PolicyRules) (t : Registry) (r : ℕ) (name : List ℕ) (d : Domain) (line : Line) → get t.domains name ≡ Some d → IsItsOwn domain_roid t.domains name d.roid → HasRoid p t kinds.Domain d.roid
     → r ≡ d.sponsor → ((x : Transfer) → d.transfer ≡ Some x → is_pending_state x.state ≡ true → t.clock < x.ac_date)
-    → line.roid ≡ Some d.roid → is_kind line.kind lines.Transfer ≡ false → HasBeen t line.started → IsChargeIn p t r line
-own-charge p t r name d line at own has sponsor ahead of kind started = record {
-  fits = record { roid = subst (WasGiven p t) (sym of) has; started = started };
+    → line.roid ≡ Some d.roid → is_kind line.kind lines.Transfer ≡ false → line.recorded ≤ t.clock → HasBeen t line.started → HasBeen t line.refunded → IsChargeIn p t r line
+own-charge p t r name d line at own has sponsor ahead of kind recorded started refunded = record {
+  fits = record { roid = subst (WasGiven p t) (sym of) has; recorded = recorded; started = started; refunded = refunded };
   domains = λ n e there. by n e there (is_same_roid d.roid e.roid) refl;
 }
   where
@@ -146,9 +146,9 @@ module _ (p : PolicyRules) (r : ℕ) (cl_trid : Option (List ℕ)) (s : Registry
   put-again name d new at same = on-as-before counted d new same (has-counted.domains name d at)
 
   -- and is charged for
-  put-charged : (name : List ℕ) (d new : Domain) (line : Line) → get s.domains name ≡ Some d → new.name ≡ d.name → IsAsBefore d new → r ≡ d.sponsor → line.roid ≡ Some d.roid → is_kind line.kind lines.Transfer ≡ false → HasBeen s line.started
+  put-charged : (name : List ℕ) (d new : Domain) (line : Line) → get s.domains name ≡ Some d → new.name ≡ d.name → IsAsBefore d new → r ≡ d.sponsor → line.roid ≡ Some d.roid → is_kind line.kind lines.Transfer ≡ false → line.recorded ≤ s.clock → HasBeen s line.started → HasBeen s line.refunded
       → AllFitLines p (PutDomain new ∷ Give r (Charge line) ∷ []) counted
-  put-charged name d new line at called same sponsor of kind started =
+  put-charged name d new line at called same sponsor of kind recorded started refunded =
       let k = is.domains name d at in
       let t : Registry = changed p (PutDomain new) counted in (
         put-again name d new at same,
@@ -158,7 +158,7 @@ module _ (p : PolicyRules) (r : ℕ) (cl_trid : Option (List ℕ)) (s : Registry
               (given-there new.roid (subst (HasRoid p s kinds.Domain) (sym same.roid) k.roid))
               (sponsor ∙ sym same.sponsor)
               (λ x e pending. awaited-ahead p s d k.deletion (settled.domains name d at) x (sym same.transfer ∙ e) pending)
-              (of ∙ ap (λ (roid : Roid). Some roid) (sym same.roid)) kind (been line.started started),
+              (of ∙ ap (λ (roid : Roid). Some roid) (sym same.roid)) kind recorded (been line.started started) (been line.refunded refunded),
           tt,
         ),
       )
@@ -179,7 +179,7 @@ module _ (p : PolicyRules) (r : ℕ) (cl_trid : Option (List ℕ)) (s : Registry
   renewed : (q : Request) (f : Facts) (name : List ℕ) (seen : Sight) → IsSeen name seen → is_anothers domain_sponsor r seen ≡ false → AllFitLines p (renewal_changes p r s.clock q f seen) counted
   renewed q f name None e own = tt
   renewed q f name (Some (Full known)) e own =
-      put-charged name known.domain (renewed_domain s.clock (asks_of q).years known.domain) (charge_line lines.Renew p s.clock known.domain.roid q f) (found name known e) refl (record { roid = refl; sponsor = refl; created = refl; transferred = refl; transfer = refl }) (sponsored r known own) refl refl (omega arith)
+      put-charged name known.domain (renewed_domain s.clock (asks_of q).years known.domain) (charge_line lines.Renew p s.clock known.domain.roid q f) (found name known e) refl (record { roid = refl; sponsor = refl; created = refl; transferred = refl; transfer = refl }) (sponsored r known own) refl refl (omega arith) (omega arith) tt
   renewed q f name (Some (TransferParty face transfer)) e own = tt
   renewed q f name (Some (Public face)) e own = tt
 
@@ -192,7 +192,7 @@ module _ (p : PolicyRules) (r : ℕ) (cl_trid : Option (List ℕ)) (s : Registry
   restored : (q : Request) (f : Facts) (name : List ℕ) (seen : Sight) → IsSeen name seen → is_anothers domain_sponsor r seen ≡ false → AllFitLines p (report_changes p r s.clock q f seen) counted
   restored q f name None e own = tt
   restored q f name (Some (Full known)) e own =
-      put-charged name known.domain (restored_domain s.clock known.domain) (charge_line lines.Restore p s.clock known.domain.roid q f) (found name known e) refl (record { roid = refl; sponsor = refl; created = refl; transferred = refl; transfer = refl }) (sponsored r known own) refl refl tt
+      put-charged name known.domain (restored_domain s.clock known.domain) (charge_line lines.Restore p s.clock known.domain.roid q f) (found name known e) refl (record { roid = refl; sponsor = refl; created = refl; transferred = refl; transfer = refl }) (sponsored r known own) refl refl (omega arith) tt tt
   restored q f name (Some (TransferParty face transfer)) e own = tt
   restored q f name (Some (Public face)) e own = tt
 
@@ -200,9 +200,14 @@ module _ (p : PolicyRules) (r : ℕ) (cl_trid : Option (List ℕ)) (s : Registry
   ended name known d at true = tt
   ended name known d at false = put-again name d (deleted_domain s.clock known.given_back.years d) at (record { roid = refl; sponsor = refl; created = refl; transferred = refl; transfer = refl })
 
+  ended-clock : (known : DomainFacts) (d : Domain) (at_once : Bool) → (changed p (ending at_once s.clock known d) counted).clock ≡ s.clock
+  ended-clock known d true = refl
+  ended-clock known d false = refl
+
   deleted : (name : List ℕ) (known : DomainFacts) (seen : Sight) → IsSeen name seen → AllFitLines p (deletion_changes r s.clock known seen) counted
   deleted name known None e = tt
-  deleted name known (Some (Full full)) e = (ended name known full.domain (found name full e) (goes_at_once (Some (Full full))), (tt, tt))
+  deleted name known (Some (Full full)) e =
+      (ended name known full.domain (found name full e) (goes_at_once (Some (Full full))), (omega (arith, ended-clock known full.domain (goes_at_once (Some (Full full)))), tt))
   deleted name known (Some (TransferParty face transfer)) e = tt
   deleted name known (Some (Public face)) e = tt
 
@@ -268,7 +273,7 @@ module _ (p : PolicyRules) (r : ℕ) (cl_trid : Option (List ℕ)) (s : Registry
               own-charge p t r made.name made (charge_line lines.Create p s.clock made.roid request f) (put-is s.domains made.name made)
                   (λ n x there alike. ⊎_elim (λ put. put.0) (λ before. absurd (ungiven p r cl_trid s place is small kinds.Domain request kinds.Domain x.roid (is.domains n x before).roid alike)) (put-cases s.domains made.name made n x there))
                   (record { kind_is = given.kind_is; creator = given.creator; serial = given.serial })
-                  refl (λ x e pending. absurd cc) refl refl (omega arith),
+                  refl (λ x e pending. absurd cc) refl refl (omega arith) (omega arith) tt,
               tt,
             ),
           ),
@@ -357,7 +362,7 @@ module _ (p : PolicyRules) (s : Registry) (has : HasLines p s) (o : StatusOrder)
 
 deposited-place : (p : PolicyRules) (s : Registry) (cents : ℕ) (place : Option ℕ) → AllFitLines p (deposited_to s.clock cents place).changes s
 deposited-place p s cents None = tt
-deposited-place p s cents (Some r) = (record { fits = record { roid = tt; started = tt }; domains = λ name d at. inl refl }, tt)
+deposited-place p s cents (Some r) = (record { fits = record { roid = tt; recorded = omega arith; started = tt; refunded = tt }; domains = λ name d at. inl refl }, tt)
 
 deposited-cents : (p : PolicyRules) (s : Registry) (id : List ℕ) (cents : Option ℕ) → AllFitLines p (deposited p s.clock id cents).changes s
 deposited-cents p s id None = tt

@@ -182,10 +182,10 @@ started-line : (p : PolicyRules) (s : Registry) (x : TransferStart) → x.moment
 started-line p s x le l is = by (is_for_transfer x.roid l && not (begins_by l.started l.years x.moment x.years))
   where
     by : (b : Bool) → IsLineOf p s (cond b (record l { started = Some x.moment; years = x.years }) l)
-    by true = record { roid = is.roid; started = le }
+    by true = record { roid = is.roid; recorded = is.recorded; started = le; refunded = is.refunded }
     by false = is
 
 pub lines-kept : (p : PolicyRules) (s : Registry) (what : LapseEntry) → IsOf p s what → (ls : List Line) → AllByRecursion (IsLineOf p s) ls → AllByRecursion (IsLineOf p s) (entered_lines what ls)
-lines-kept p s (Renewal r) is ls all = all-add in_order (IsLineOf p s) (renewal_line r) ls (record { roid = is.0; started = is.1 }) all
+lines-kept p s (Renewal r) is ls all = all-add in_order (IsLineOf p s) (renewal_line r) ls (record { roid = is.0; recorded = is.1; started = is.1; refunded = tt }) all
 lines-kept p s (Start x) is ls all = all-remade in_order (IsLineOf p s) (IsLineOf p s) (transfer_started x) (started-line p s x is) ls all
 lines-kept p s (Notice m) is ls all = all

@@ -40,7 +40,7 @@ module _ (p q : PolicyRules) (s t : Registry) (grows : Grows p q s t) where
   given-grown (Some roid) h = roid-grown p q s t grows _ roid h
 
   pub line-grown : (l : Line) → IsLineOf p s l → IsLineOf q t l
-  line-grown l h = record { roid = given-grown l.roid h.roid; started = been-grown p q s t grows l.started h.started }
+  line-grown l h = record { roid = given-grown l.roid h.roid; recorded = omega (arith, h.recorded, grows.clock); started = been-grown p q s t grows l.started h.started; refunded = been-grown p q s t grows l.refunded h.refunded }
 
   module _ (same : (r : ℕ) → (account_of r t).lines ≡ (account_of r s).lines) where
     pub each-grown : HasLines p s → (r : ℕ) → All (IsLineOf q t) (account_of r t).lines
@@ -212,11 +212,11 @@ module _ (p : PolicyRules) (x : RunningRefund) where
           ap (λ (b : Bool). waits roid (cond b (record m { refunded = Some x.moment }) m)) none
       by (Some started) = begun started (runs p x.moment x.roid x.transferred (let m : Line = record l { started = Some started } in m))
 
-  refund-line : (s : Registry) (l : Line) → IsLineOf p s l → IsLineOf p s (back l)
-  refund-line s l h = by (runs p x.moment x.roid x.transferred l)
+  refund-line : (s : Registry) → x.moment ≤ s.clock → (l : Line) → IsLineOf p s l → IsLineOf p s (back l)
+  refund-line s come l h = by (runs p x.moment x.roid x.transferred l)
     where
       by : (b : Bool) → IsLineOf p s (cond b (record l { refunded = Some x.moment }) l)
-      by true = record { roid = h.roid; started = h.started }
+      by true = record { roid = h.roid; recorded = h.recorded; started = h.started; refunded = come }
       by false = h
 
   module _ (s : Registry) (r : ℕ) where
@@ -238,23 +238,23 @@ module _ (p : PolicyRules) (x : RunningRefund) where
       awaited = awaited-carried s refunded d d.transfer (λ y at pending none. none-refunded d.roid (Some y.ac_date) d.sponsor none) h.awaited;
     }
 
-    pub lines-refunded : HasLines p s → HasLines p (with_account r (with_lines (remade in_order (refunded_by p x))) s)
-    lines-refunded is =
+    pub lines-refunded : x.moment ≤ s.clock → HasLines p s → HasLines p (with_account r (with_lines (remade in_order (refunded_by p x))) s)
+    lines-refunded come is =
         let grows : Grows p p s refunded = account-grows s r (with_lines (remade in_order back)) p (λ a. omega arith) in
         record {
           each = λ q. All-from_recursion (IsLineOf p refunded) (account_of q refunded).lines
               (lines-keep s r (with_lines (remade in_order back)) (AllByRecursion (IsLineOf p refunded)) q
-              (λ own all. all-remade in_order (IsLineOf p refunded) (IsLineOf p refunded) back (refund-line refunded) (account_of q s).lines all)
+              (λ own all. all-remade in_order (IsLineOf p refunded) (IsLineOf p refunded) back (refund-line refunded come) (account_of q s).lines all)
               (all-weaker (IsLineOf p s) (IsLineOf p refunded) (line-grown p p s refunded grows) (account_of q s).lines (recursion_from_All (IsLineOf p s) (account_of q s).lines (is.each q))));
           domains = λ name d at. refunded-on d (is.domains name d at);
         }
 
 -- ---- each change
 
--- what is charged or given back to an account fits the domains that are there
+-- what is charged or given back to an account fits the domains that are there, and the clock
 abbrev pub FitsAccount : PolicyRules → ℕ → AccountChange → Registry → Type 0
 FitsAccount p r (Charge line) s = IsChargeIn p s r line
-FitsAccount p r (RefundRunning x) s = Unit {0}
+FitsAccount p r (RefundRunning x) s = x.moment ≤ s.clock
 FitsAccount p r (RefundTransfer x) s = ⊥
 FitsAccount p r (Lapse what) s = ⊥
 FitsAccount p r (Tell n) s = Unit {0}
@@ -286,7 +286,7 @@ serial-rises a = by (a.serial == 0xFFFF_FFFF_FFFF_FFFF)
 
 lines-account : (p : PolicyRules) (r : ℕ) (what : AccountChange) (s : Registry) → FitsAccount p r what s → HasLines p s → HasLines p (changed p (Give r what) s)
 lines-account p r (Charge line) s fits is = lines-charged p s r line fits is
-lines-account p r (RefundRunning x) s fits is = lines-refunded p x s r is
+lines-account p r (RefundRunning x) s fits is = lines-refunded p x s r fits is
 lines-account p r (RefundTransfer x) s fits is = absurd fits
 lines-account p r (Lapse what) s fits is = absurd fits
 lines-account p r (Tell n) s fits is = lines-counted p s r (account_changed p (Tell n)) (λ a. refl) (λ a. omega arith) is

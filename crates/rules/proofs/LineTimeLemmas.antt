@@ -209,7 +209,7 @@ module _ (p : PolicyRules) (t : ℕ) (s : Registry) (le : s.clock ≤ t) (object
       (keep-given P r (λ n d. (lapse p t d).postings) s.domains (λ n d there.
       let has = (objects.domains n d there).roid in
       by-of p later r d.deletion d (record { kind_is = has.kind_is; creator = has.creator; serial = has.serial })))) s
-      (all-weaker (IsLineOf p s) (IsLineOf p later) (λ l k. record { roid = given-later l.roid k.roid; started = begun-later l.started k.started }) (account_of r s).lines (recursion_from_All (IsLineOf p s) (account_of r s).lines (is.each r)))
+      (all-weaker (IsLineOf p s) (IsLineOf p later) (λ l k. record { roid = given-later l.roid k.roid; recorded = omega (arith, k.recorded, le); started = begun-later l.started k.started; refunded = begun-later l.refunded k.refunded }) (account_of r s).lines (recursion_from_All (IsLineOf p s) (account_of r s).lines (is.each r)))
 
   -- what is left of a domain, once all have lapsed
   left-on : (name : List ℕ) (d e : Domain) → get s.domains name ≡ Some d → (lapse p t d).object ≡ Some e → e.roid ≡ d.roid → HasLinesOn left e
@@ -228,7 +228,7 @@ module _ (p : PolicyRules) (t : ℕ) (s : Registry) (le : s.clock ≤ t) (object
   unfolding domains_at
   lines-lapse = record {
     each = λ r. All-from_recursion (IsLineOf p left) (account_of r left).lines
-        (all-weaker (IsLineOf p later) (IsLineOf p left) (λ l k. record { roid = given-left l.roid k.roid; started = begun-left l.started k.started }) (account_of r left).lines (each-line r));
+        (all-weaker (IsLineOf p later) (IsLineOf p left) (λ l k. record { roid = given-left l.roid k.roid; recorded = k.recorded; started = begun-left l.started k.started; refunded = begun-left l.refunded k.refunded }) (account_of r left).lines (each-line r));
     domains = λ name e found.
         let was = left-of (λ name. lapse p t) s.domains name e found in
         left-on name was.0 e was.1 was.2 (domain-left p t was.0 (λ (x : Domain). x.roid ≡ was.0.roid) (λ x gone. refl) (λ alive years. refl) (λ alive x due years. refl) e was.2);

@@ -101,7 +101,7 @@ module _ (p : PolicyRules) (s : Registry) (objects : HasObjects p s) (has : HasL
   -- ---- a transfer is asked for: its charge waits
 
   module _ (x : Transfer) (line : Line) (over : is_pending d.transfer ≡ false) (pending : is_pending_state x.state ≡ true)
-      (of : line.roid ≡ Some d.roid) (waiting : waits d.roid line ≡ true) (unbegun : line.started ≡ None) where
+      (of : line.roid ≡ Some d.roid) (waiting : waits d.roid line ≡ true) (unbegun : line.started ≡ None) (recorded : line.recorded ≤ s.clock) (unrefunded : line.refunded ≡ None) where
     abbrev asked : Domain
     asked = record d { transfer = Some x }
 
@@ -157,7 +157,7 @@ module _ (p : PolicyRules) (s : Registry) (objects : HasObjects p s) (has : HasL
         → HasLines p (with_account x.requester (with_lines (add in_order line)) (changed p (PutDomain (record d { transfer = Some x })) s))
     lines-asked losing other created transferred due ahead =
         lines-left asked refl x.requester charged charged-only
-        (λ ls all. all-add in_order (IsLineOf p (left asked refl x.requester charged)) line ls (record { roid = given line.roid of; started = begun line.started unbegun }) all)
+        (λ ls all. all-add in_order (IsLineOf p (left asked refl x.requester charged)) line ls (record { roid = given line.roid of; recorded = recorded; started = begun line.started unbegun; refunded = begun line.refunded unrefunded }) all)
         (asked-on losing other created transferred due ahead)
       where
         given : (o : Option Roid) → o ≡ Some d.roid → WasGiven p (left asked refl x.requester charged) o
@@ -226,7 +226,7 @@ module _ (p : PolicyRules) (s : Registry) (objects : HasObjects p s) (has : HasL
 
     -- ---- it is rejected or withdrawn: the charge is given back
 
-    module _ (moment : ℕ) where
+    module _ (moment : ℕ) (come : moment ≤ s.clock) where
       abbrev back : TransferRefund
       back = record { roid = d.roid; moment = moment }
 
@@ -255,11 +255,11 @@ module _ (p : PolicyRules) (s : Registry) (objects : HasObjects p s) (has : HasL
           by true e = given-back (is_kind l.kind lines.Transfer) (is_on d.roid l) (not (is_some l.started))
           by false e = e
 
-      refund-line : (t : Registry) (l : Line) → IsLineOf p t l → IsLineOf p t (transfer_refunded back l)
-      refund-line t l k = by (waits d.roid l)
+      refund-line : (t : Registry) → moment ≤ t.clock → (l : Line) → IsLineOf p t l → IsLineOf p t (transfer_refunded back l)
+      refund-line t here l k = by (waits d.roid l)
         where
           by : (b : Bool) → IsLineOf p t (cond b (record l { refunded = Some moment }) l)
-          by true = record { roid = k.roid; started = k.started }
+          by true = record { roid = k.roid; recorded = k.recorded; started = k.started; refunded = here }
           by false = k
 
       ended-on : HasLinesOn (left ended refl x.requester refunded) ended
@@ -273,4 +273,4 @@ module _ (p : PolicyRules) (s : Registry) (objects : HasObjects p s) (has : HasL
 
       pub lines-ended : HasLines p (with_account x.requester (with_lines (remade in_order (transfer_refunded (record { roid = d.roid; moment = moment })))) (changed p (PutDomain (record d { transfer = Some x })) s))
       lines-ended = lines-left ended refl x.requester refunded (remade-only (transfer_refunded back) (refund-elsewhere back) (refund-stays back))
-          (λ ls all. all-remade in_order (IsLineOf p (left ended refl x.requester refunded)) (IsLineOf p (left ended refl x.requester refunded)) (transfer_refunded back) (refund-line (left ended refl x.requester refunded)) ls all) ended-on
+          (λ ls all. all-remade in_order (IsLineOf p (left ended refl x.requester refunded)) (IsLineOf p (left ended refl x.requester refunded)) (transfer_refunded back) (refund-line (left ended refl x.requester refunded) come) ls all) ended-on

@@ -34,7 +34,7 @@ use Rattle.facts.specs.Facts.{contact_seen, domain_at, domain_facts, domain_seen
 use Rattle.model.specs.Registry.{Registry}
 use Rattle.model.specs.Standing.{graces_of}
 use Rattle.model.specs.View.{domain_sight}
-use Rattle.model.specs.WellFormed.{HasLines, HasObjects, IsRegistry}
+use Rattle.model.specs.Standards.{MeetsStandards}
 use Rattle.verdict.specs.Rules.{refusal_of}
 use Rattle.verdict.specs.Deletion.{goes_at_once}
 
@@ -54,7 +54,7 @@ meet-host : (p : PolicyRules) (r t : ℕ) (u : HostUpdate) (seen : Option Host) 
 meet-host p r t u None s = tt
 meet-host p r t u (Some h) s = meet-renaming p r (name_of u.name) (updated_host p.zone r t u h) u.new_name s
 
-module _ (p : PolicyRules) (r : ℕ) (cl_trid : Option (List ℕ)) (s : Registry) (is : HasObjects p s) where
+module _ (p : PolicyRules) (r : ℕ) (cl_trid : Option (List ℕ)) (s : Registry) (is : MeetsStandards p s) where
   -- the registry once the command is counted
   abbrev counted : Registry
   counted = with_account r with_command s
@@ -152,36 +152,36 @@ module _ (p : PolicyRules) (r : ℕ) (cl_trid : Option (List ℕ)) (s : Registry
   meet-deletion name = subst (λ (o : Option DomainFacts). AllMeet p r (deletion_at r s.clock o) counted) (sym (at-itself (name_of name) (known_at name))) (meet-known name (known_at name).seen refl)
 
   -- what an accepted command changes meets what is asked
-  meets : IsSound p → HasLines p s → (q : Request) → refusal_of p r s.clock q (facts p r (Asked cl_trid q) s) ≡ None → AllMeet p r (changes_of p r s.clock q (facts p r (Asked cl_trid q) s)) counted
+  meets : IsSound p → (q : Request) → refusal_of p r s.clock q (facts p r (Asked cl_trid q) s) ≡ None → AllMeet p r (changes_of p r s.clock q (facts p r (Asked cl_trid q) s)) counted
   unfolding changes_of
-  meets sound lines requests.Logout taken = tt
-  meets sound lines requests.Balance taken = tt
-  meets sound lines (requests.CreateContact new) taken = (tt, (inl refl, tt))
-  meets sound lines (requests.CreateDomain new) taken = (put-own p r counted (new_domain r s.clock (facts p r (Asked cl_trid (requests.CreateDomain new)) s) new) (eq-self r), (inl refl, (inl refl, tt)))
-  meets sound lines (requests.CreateHost new) taken = (tt, (inl refl, tt))
-  meets sound lines (requests.DeleteContact name) taken = (tt, tt)
-  meets sound lines (requests.DeleteDomain name) taken = meet-deletion name
-  meets sound lines (requests.DeleteHost name) taken = (tt, tt)
-  meets sound lines (requests.UpdateContact u) taken = meet-contact p r s.clock u (contact_seen (facts p r (Asked cl_trid (requests.UpdateContact u)) s) u.name) counted
-  meets sound lines (requests.UpdateDomain u) taken = meet-domain u
-  meets sound lines (requests.UpdateHost u) taken = meet-host p r s.clock u (host_seen (facts p r (Asked cl_trid (requests.UpdateHost u)) s) (name_of u.name)) counted
-  meets sound lines (requests.RenewDomain name expires years) taken = meet-renewal name expires years
-  meets sound lines (requests.RequestRestore name) taken = meet-restore name
-  meets sound lines (requests.ReportRestore name del_time res_time) taken = meet-report name del_time res_time
-  meets sound lines (requests.TransferContact name op secret) taken = meet-contact-transfers p r cl_trid s name op secret
-  meets sound lines (requests.TransferDomain name op secret) taken = meet-domain-transfers p sound r cl_trid s is lines name op secret taken
-  meets sound lines requests.PollRequest taken = tt
-  meets sound lines (requests.PollAck id) taken = (inl refl, tt)
-  meets sound lines (requests.CheckContact names) taken = tt
-  meets sound lines (requests.CheckDomain names) taken = tt
-  meets sound lines (requests.CheckHost names) taken = tt
-  meets sound lines (requests.InfoContact name secret) taken = tt
-  meets sound lines (requests.InfoDomain name secret) taken = tt
-  meets sound lines (requests.InfoHost name) taken = tt
+  meets sound requests.Logout taken = tt
+  meets sound requests.Balance taken = tt
+  meets sound (requests.CreateContact new) taken = (tt, (inl refl, tt))
+  meets sound (requests.CreateDomain new) taken = (put-own p r counted (new_domain r s.clock (facts p r (Asked cl_trid (requests.CreateDomain new)) s) new) (eq-self r), (inl refl, (inl refl, tt)))
+  meets sound (requests.CreateHost new) taken = (tt, (inl refl, tt))
+  meets sound (requests.DeleteContact name) taken = (tt, tt)
+  meets sound (requests.DeleteDomain name) taken = meet-deletion name
+  meets sound (requests.DeleteHost name) taken = (tt, tt)
+  meets sound (requests.UpdateContact u) taken = meet-contact p r s.clock u (contact_seen (facts p r (Asked cl_trid (requests.UpdateContact u)) s) u.name) counted
+  meets sound (requests.UpdateDomain u) taken = meet-domain u
+  meets sound (requests.UpdateHost u) taken = meet-host p r s.clock u (host_seen (facts p r (Asked cl_trid (requests.UpdateHost u)) s) (name_of u.name)) counted
+  meets sound (requests.RenewDomain name expires years) taken = meet-renewal name expires years
+  meets sound (requests.RequestRestore name) taken = meet-restore name
+  meets sound (requests.ReportRestore name del_time res_time) taken = meet-report name del_time res_time
+  meets sound (requests.TransferContact name op secret) taken = meet-contact-transfers p r cl_trid s name op secret
+  meets sound (requests.TransferDomain name op secret) taken = meet-domain-transfers p sound r cl_trid s is name op secret taken
+  meets sound requests.PollRequest taken = tt
+  meets sound (requests.PollAck id) taken = (inl refl, tt)
+  meets sound (requests.CheckContact names) taken = tt
+  meets sound (requests.CheckDomain names) taken = tt
+  meets sound (requests.CheckHost names) taken = tt
+  meets sound (requests.InfoContact name secret) taken = tt
+  meets sound (requests.InfoDomain name secret) taken = tt
+  meets sound (requests.InfoHost name) taken = tt
 
 -- what a command changes meets what is asked
-pub meets-decided : (p : PolicyRules) → IsSound p → (r : ℕ) (c : Command) (s : Registry) → IsRegistry p s → AllMeet p r (decision p r c s).changes s
+pub meets-decided : (p : PolicyRules) → IsSound p → (r : ℕ) (c : Command) (s : Registry) → MeetsStandards p s → AllMeet p r (decision p r c s).changes s
 unfolding changes_after
 meets-decided p sound r (Bad cl_trid fault) s is = (inl refl, tt)
 meets-decided p sound r (Asked cl_trid q) s is =
-    (inl refl, where-accepted p r s.clock q (facts p r (Asked cl_trid q) s) (λ changes. AllMeet p r changes (with_account r with_command s)) tt (meets p r cl_trid s is.objects sound is.lines q) cl_trid)
+    (inl refl, where-accepted p r s.clock q (facts p r (Asked cl_trid q) s) (λ changes. AllMeet p r changes (with_account r with_command s)) tt (meets p r cl_trid s is sound q) cl_trid)

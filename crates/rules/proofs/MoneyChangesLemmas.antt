@@ -20,7 +20,7 @@ use Rattle.rules.proofs.LineKeepingLemmas.{lines-keep}
 abbrev pub IsPaid : Line → List Line → Type 0
 IsPaid line ls = (pos 0 ≤ℤ amount line) ⊎ (pos 0 ≤ℤ (amount line +ℤ balance ls))
 
--- A charge is paid, what is given back is given back lawfully, and no grace begins ahead of the clock;
+-- A charge is paid, what is given back is given back lawfully, and nothing begins or is told ahead of the clock;
 -- automatic renewals are no part of it.
 abbrev pub FitsAccount : (ℕ → ℕ → Line → Type 0) → ℕ → PolicyRules → ℕ → AccountChange → List Line → Type 0
 FitsAccount L u p r (Charge line) ls = (line.refunded ≡ None) × IsPaid line ls
@@ -28,8 +28,8 @@ FitsAccount L u p r (RefundRunning x) ls = (l : Line) → runs p x.moment x.roid
 FitsAccount L u p r (RefundTransfer x) ls = (l : Line) → waits x.roid l ≡ true → L r x.moment (record l { refunded = Some x.moment })
 FitsAccount L u p r (Lapse (Renewal x)) ls = ⊥
 FitsAccount L u p r (Lapse (Start x)) ls = x.moment ≤ u
-FitsAccount L u p r (Lapse (Notice m)) ls = Unit {0}
-FitsAccount L u p r (Tell n) ls = Unit {0}
+FitsAccount L u p r (Lapse (Notice m)) ls = m.moment ≤ u
+FitsAccount L u p r (Tell n) ls = n.moment ≤ u
 FitsAccount L u p r (Ack id) ls = Unit {0}
 FitsAccount L u p r CountCommand ls = Unit {0}
 FitsAccount L u p r TakeSerial ls = Unit {0}

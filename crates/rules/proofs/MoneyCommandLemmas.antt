@@ -173,17 +173,17 @@ module _ (p : PolicyRules) (r : ℕ) (cl_trid : Option (List ℕ)) (s : Registry
 
   transferred : (op : TransferOp) (q : Request) (f : Facts) (d : Domain) (o : Option Transfer) → (op ≡ ops.Request → Covers (charge_of p s.clock q f))
       → AreLawful (domain_transferred_if p r s.clock op q f (transfer_after p r s.clock op d.sponsor o) d)
-  transferred ops.Request q f d o enough = (tt, ((refl, paid (charge_of p s.clock q f) (enough refl) counted same-counted), (tt, tt)))
+  transferred ops.Request q f d o enough = (tt, ((refl, paid (charge_of p s.clock q f) (enough refl) counted same-counted), (omega arith, tt)))
   transferred ops.Query q f d None enough = tt
   transferred ops.Query q f d (Some y) enough = tt
   transferred ops.Approve q f d None enough = tt
-  transferred ops.Approve q f d (Some y) enough = (omega arith, (tt, (tt, tt)))
+  transferred ops.Approve q f d (Some y) enough = (omega arith, (tt, (omega arith, tt)))
   transferred ops.Reject q f d None enough = tt
   transferred ops.Reject q f d (Some y) enough =
-      (tt, (λ l e. turned ClientRejected d y (inl refl) _ l (put-is s.domains d.name (domain_with_transfer (ended ClientRejected s.clock y) d)) e, (tt, tt)))
+      (tt, (λ l e. turned ClientRejected d y (inl refl) _ l (put-is s.domains d.name (domain_with_transfer (ended ClientRejected s.clock y) d)) e, (omega arith, tt)))
   transferred ops.Cancel q f d None enough = tt
   transferred ops.Cancel q f d (Some y) enough =
-      (tt, (λ l e. turned ClientCancelled d y (inr refl) _ l (put-is s.domains d.name (domain_with_transfer (ended ClientCancelled s.clock y) d)) e, (tt, tt)))
+      (tt, (λ l e. turned ClientCancelled d y (inr refl) _ l (put-is s.domains d.name (domain_with_transfer (ended ClientCancelled s.clock y) d)) e, (omega arith, tt)))
 
   domain-transferred : (op : TransferOp) (q : Request) (f : Facts) (seen : Sight) → (op ≡ ops.Request → Covers (charge_of p s.clock q f)) → AreLawful (domain_transfer_changes p r s.clock op q f seen)
   domain-transferred op q f None enough = tt
@@ -248,10 +248,10 @@ module _ (p : PolicyRules) (r : ℕ) (cl_trid : Option (List ℕ)) (s : Registry
       let q : Request = requests.ReportRestore name del_time res_time in
       restored q (known q) (unrefused p r s.clock q (known q) taken conditions.LacksMoney (search (inl, inr) depth 20)) (domain_seen (known q) (name_of name))
   lawful-accepted (requests.TransferContact name op secret) taken = contact-cases p r cl_trid s AreLawful tt
-      (λ n c at. (tt, (tt, tt)))
-      (λ n c at y e. (tt, (tt, tt)))
-      (λ n c at y e. (tt, (tt, tt)))
-      (λ n c at y e. (tt, (tt, tt)))
+      (λ n c at. (tt, (omega arith, tt)))
+      (λ n c at y e. (tt, (omega arith, tt)))
+      (λ n c at y e. (tt, (omega arith, tt)))
+      (λ n c at y e. (tt, (omega arith, tt)))
       name secret op
   lawful-accepted (requests.TransferDomain name op secret) taken =
       let q : Request = requests.TransferDomain name op secret in

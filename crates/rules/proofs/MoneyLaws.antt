@@ -1,15 +1,14 @@
 -- What becomes of the money of every account in a step of the rules, and as time passes.
 use Rattle.std.proofs.Common.{◌≡◌, ℕ, ◌≤◌, max, sym, subst, arith}
-use Rattle.accounts.specs.declared.line.Line.{Line}
 use Rattle.policy.specs.Rules.{PolicyRules, IsSound}
 use Rattle.protocol.specs.declared.command.Command.{Command}
 use Rattle.protocol.specs.declared.order.Order.{Order}
 use Rattle.model.specs.Lapse.{lapsed, now}
-use Rattle.model.specs.Money.{IsRefundable, MoneyFollows}
+use Rattle.model.specs.Money.{AccountAges, AccountFollows, IsRefundable, MoneyFollows}
 use Rattle.model.specs.Registry.{Registry, account_of}
 use Rattle.model.specs.WellFormed.{IsRegistry, last_clock}
 use Rattle.model.proofs.LapseLaws.{lapsed-is-settled, lapses-on, settled-is-now}
-use Rattle.model.proofs.MoneyChangeLemmas.{Ages, Follows, ages-follow}
+use Rattle.model.proofs.MoneyChangeLemmas.{Follows, follows-itself}
 use Rattle.rules.specs.Orders.{order_decision, order_effect}
 use Rattle.rules.specs.Steps.{decision, effect}
 use Rattle.rules.proofs.MoneyChangesLemmas.{changes-follow}
@@ -26,33 +25,31 @@ module _ (p : PolicyRules) (moment : ℕ) (before : Registry) where
   found-now : lapsed p moment (now p before) ≡ found
   found-now = lapses-on p before.clock (max moment before.clock) (omega arith) before
 
-  aged : (L : ℕ → Line → Type 0) (r : ℕ) → Ages L found.clock (account_of r (now p before)).lines (account_of r found).lines
-  aged L r = subst (λ (s : Registry). Ages L found.clock (account_of r (now p before)).lines (account_of r s).lines) found-now (lapse-ages L p found.clock r (now p before))
+  aged : (r : ℕ) → AccountAges found.clock (account_of r (now p before)).lines (account_of r found).lines
+  aged r = subst (λ (s : Registry). AccountAges found.clock (account_of r (now p before)).lines (account_of r s).lines) found-now (lapse-ages p found.clock r (now p before))
 
-  -- what follows in the lines of each account, in the registry as it is found
+  -- what follows in the lines of each account, from the registry as it is found
   abbrev Leaves : Registry → Type 0
-  Leaves after = (r : ℕ) → Follows (IsRefundable p r found after) found.clock (account_of r (now p before)).lines (account_of r after).lines
+  Leaves after = (r : ℕ) → Follows (IsRefundable p r found after) found.clock (account_of r found).lines (account_of r after).lines
 
   money-of : (after : Registry) → Leaves after → MoneyFollows p moment (now p before) after
-  money-of after leaves r = subst (λ (s : Registry). Follows (IsRefundable p r s after) s.clock (account_of r (now p before)).lines (account_of r after).lines) (sym found-now) (leaves r)
+  money-of after leaves r = subst (λ (s : Registry). AccountFollows p r s (now p before) after) (sym found-now) (record { aged = aged r; called = leaves r })
 
   -- time passes
   pub money-lapsed : MoneyFollows p moment (now p before) found
-  money-lapsed = money-of found (λ r. ages-follow (IsRefundable p r found found) found.clock _ _ (aged (IsRefundable p r found found) r))
+  money-lapsed = money-of found (λ r. follows-itself (IsRefundable p r found found) found.clock (account_of r found).lines)
 
   -- a registrar's command
   pub money-effect : (r : ℕ) (c : Command) → MoneyFollows p moment (now p before) (effect p r c found)
   money-effect r c = money-of (effect p r c found) (λ q.
-      let L : ℕ → Line → Type 0 = IsRefundable p q found (effect p r c found) in
-      changes-follow (λ k. IsRefundable p k found (effect p r c found)) found.clock p q (account_of q (now p before)).lines (decision p r c found).changes found
-      (tt, command-lawful p r c found) (ages-follow L found.clock _ _ (aged L q)))
+      changes-follow (λ k. IsRefundable p k found (effect p r c found)) found.clock p q (account_of q found).lines (decision p r c found).changes found
+      (tt, command-lawful p r c found) (follows-itself (IsRefundable p q found (effect p r c found)) found.clock (account_of q found).lines))
 
   -- an order of the operator
   pub money-order : (order : Order) → MoneyFollows p moment (now p before) (order_effect p order found)
   money-order order = money-of (order_effect p order found) (λ q.
-      let L : ℕ → Line → Type 0 = IsRefundable p q found (order_effect p order found) in
-      changes-follow (λ k. IsRefundable p k found (order_effect p order found)) found.clock p q (account_of q (now p before)).lines (order_decision p order found).changes found
-      (order-lawful p order found) (ages-follow L found.clock _ _ (aged L q)))
+      changes-follow (λ k. IsRefundable p k found (order_effect p order found)) found.clock p q (account_of q found).lines (order_decision p order found).changes found
+      (order-lawful p order found) (follows-itself (IsRefundable p q found (order_effect p order found)) found.clock (account_of q found).lines))
 
   -- what they leave has nothing due
   pub money-lapsed-now : MoneyFollows p moment (now p before) (now p found)
@@ -66,4 +63,4 @@ module _ (p : PolicyRules) (moment : ℕ) (before : Registry) where
   money-effect-now sound early is r c =
       let well : IsRegistry p found = registry-lapsed p moment before early is in
       subst (λ (s : Registry). MoneyFollows p moment (now p before) s)
-      (sym (settled-is-now p (effect p r c found) (settled-effect p sound r c found well.clock well.objects (lapsed-is-settled p found.clock before)))) (money-effect r c)
+      (sym (settled-is-now p (effect p r c found) (settled-effect p sound r c found well.clock (λ name d at. (well.objects.domains name d at).deletion) (lapsed-is-settled p found.clock before)))) (money-effect r c)

@@ -36,7 +36,7 @@ module _ (p : PolicyRules) (r : ℕ) (cl_trid : Option (List ℕ)) (s : Registry
   requested-now : (d : Domain) (deletion : Option Deletion) → IsDeletion p counted d deletion
       → IsDeletion p counted (restoring_domain s.clock d) (option_map (λ (x : Deletion). record x { restore_requested = Some s.clock }) deletion)
   requested-now d None h = tt
-  requested-now d (Some deletion) h = record { deleted = h.deleted; requested = omega arith; hosts = h.hosts; transfer = h.transfer }
+  requested-now d (Some deletion) h = record { deleted = h.deleted; requested = omega arith; since = h.deleted; hosts = h.hosts; transfer = h.transfer }
 
   -- what is known of the domain of a request
   abbrev seen_by : Request → GivenName → Option (Seen FullDomain DomainFace)

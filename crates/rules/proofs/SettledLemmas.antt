@@ -46,7 +46,7 @@ use Rattle.model.specs.LapseLaws.{IsSettled}
 use Rattle.model.specs.Objects.{object_at, object_ordered}
 use Rattle.model.specs.Registry.{Registry}
 use Rattle.model.specs.View.{domain_sight}
-use Rattle.model.specs.WellFormed.{IsDeletion, HasObjects, last_clock}
+use Rattle.model.specs.WellFormed.{IsDeletion, last_clock}
 use Rattle.lifecycle.specs.Transfers.{ended as ended_so, requested}
 use Rattle.objects.specs.declared.transfer.TransferState.TheVariants.{ClientApproved, ClientRejected, ClientCancelled}
 use Rattle.protocol.specs.declared.transfer.TransferOp.{TransferOp}
@@ -191,11 +191,15 @@ settled-changed_all p (change ∷ changes) s none is =
 
 -- ---- commands
 
+-- each domain that is deleted has neither subordinate hosts nor a pending transfer
+abbrev pub HasDeletions : PolicyRules → Registry → Type 0
+HasDeletions p s = (name : List ℕ) (d : Domain) → get s.domains name ≡ Some d → IsDeletion p s d d.deletion
+
 nothing-where : (p : PolicyRules) (t : ℕ) (changes : List Change) (b : Bool) → PutNothingDue p t changes → PutNothingDue p t (cond b changes [])
 nothing-where p t changes true h = h
 nothing-where p t changes false h = tt
 
-module _ (p : PolicyRules) (sound : IsSound p) (r : ℕ) (cl_trid : Option (List ℕ)) (s : Registry) (early : s.clock ≤ last_clock) (formed : HasObjects p s) (is : IsSettled p s) where
+module _ (p : PolicyRules) (sound : IsSound p) (r : ℕ) (cl_trid : Option (List ℕ)) (s : Registry) (early : s.clock ≤ last_clock) (formed : HasDeletions p s) (is : IsSettled p s) where
   abbrev t : ℕ
   t = s.clock
 
@@ -240,7 +244,7 @@ module _ (p : PolicyRules) (sound : IsSound p) (r : ℕ) (cl_trid : Option (List
   restored : (q : Request) (f : Facts) (name : List ℕ) (seen : Sight) → IsSeen name seen → PutNothingDue p t (report_changes p r t q f seen)
   restored q f name None e = tt
   restored q f name (Some (Full known)) e =
-      (restored-ahead p s t known.domain (formed.domains name known.domain (domain-full p r s None (get s.domains name) known (sym e))).deletion (not-due name known e), (tt, tt))
+      (restored-ahead p s t known.domain (formed name known.domain (domain-full p r s None (get s.domains name) known (sym e))) (not-due name known e), (tt, tt))
   restored q f name (Some (TransferParty face transfer)) e = tt
   restored q f name (Some (Public face)) e = tt
 
@@ -362,7 +366,7 @@ module _ (p : PolicyRules) (sound : IsSound p) (r : ℕ) (cl_trid : Option (List
   puts-nothing-due (requests.InfoHost name) taken = tt
 
 -- A registrar's command leaves nothing due where nothing was.
-pub settled-effect : (p : PolicyRules) → IsSound p → (r : ℕ) (c : Command) (s : Registry) → s.clock ≤ last_clock → HasObjects p s → IsSettled p s → IsSettled p (effect p r c s)
+pub settled-effect : (p : PolicyRules) → IsSound p → (r : ℕ) (c : Command) (s : Registry) → s.clock ≤ last_clock → HasDeletions p s → IsSettled p s → IsSettled p (effect p r c s)
 unfolding changes_after
 settled-effect p sound r (Bad cl_trid fault) s early formed is = settled-changed_all p (decision p r (Bad cl_trid fault) s).changes s (tt, tt) is
 settled-effect p sound r (Asked cl_trid q) s early formed is =

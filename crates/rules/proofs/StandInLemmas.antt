@@ -40,12 +40,13 @@ module _ (p : PolicyRules) (s : Registry) (name : List ℕ) where
     transferred = k.transferred;
     updated = been;
     transfer = k.transfer;
+    losing = k.losing;
   }
 
   deletion-same : (d : Domain) (years : ℕ) (updated : Option ℕ) (statuses : List Status) (secret : List ℕ) (links : Links) (deletion : Option Deletion)
       → IsDeletion p s d deletion → IsDeletion p s (record d { years = years; updated = updated; statuses = statuses; secret = secret; links = links }) deletion
   deletion-same d years updated statuses secret links None k = tt
-  deletion-same d years updated statuses secret links (Some deletion) k = record { deleted = k.deleted; requested = k.requested; hosts = k.hosts; transfer = k.transfer }
+  deletion-same d years updated statuses secret links (Some deletion) k = record { deleted = k.deleted; requested = k.requested; since = k.since; hosts = k.hosts; transfer = k.transfer }
 
   -- a domain with other content, registered for other years, which names what is there
   pub domain-updated : (d : Domain) (years : ℕ) (updated : Option ℕ) (statuses : List Status) (secret : List ℕ) (links : Links) → HasBeen s updated

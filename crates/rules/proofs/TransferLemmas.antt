@@ -41,11 +41,11 @@ use Rattle.objects.specs.Transfers.{is_pending_state}
 use Rattle.policy.specs.Rules.{PolicyRules, IsSound}
 use Rattle.model.specs.Registry.{Registry, account_of}
 use Rattle.model.specs.Standing.{graces_of}
-use Rattle.model.specs.WellFormed.{HasLines, HasObjects}
+use Rattle.model.specs.Standards.{MeetsStandards}
 use Rattle.rules.specs.declared.change.Change.TheVariants.{PutDomain, Give}
 use Rattle.rules.specs.Changes.{changed, with_account}
 use Rattle.rules.specs.Transfers.{contact_transfer_changes, domain_transfer_changes, domain_with_transfer}
-use Rattle.rules.proofs.HandedOver.{graces-handed-over, requester-elsewhere, transfer_alone}
+use Rattle.rules.proofs.HandedOver.{graces-handed-over, transfer_alone}
 use Rattle.rules.proofs.LineEntryLemmas.{AsksFor, test-elsewhere}
 use Rattle.rules.proofs.ViewLemmas.{AllMeet, KeepsGraces, Meets, account_of-with_account, lines-kept, own, same_number}
 use Rattle.rules.proofs.PutLemmas.{eq-self, kept-at, put-again, put-by}
@@ -122,8 +122,8 @@ not-same a b apart = by (eq_by_cmp nat_cmp a b) refl
     by true e = absurd (apart (same_number a b e))
     by false e = e
 
-module _ (p : PolicyRules) (sound : IsSound p) (r : ℕ) (s : Registry) (is : HasObjects p s) (lines : HasLines p s) (name : List ℕ) (d : Domain) (at : get s.domains name ≡ Some d)
-    (y : Transfer) (last : d.transfer ≡ Some y) (pending : is_pending_state y.state ≡ true) where
+module _ (p : PolicyRules) (sound : IsSound p) (r : ℕ) (s : Registry) (is : MeetsStandards p s) (name : List ℕ) (d : Domain) (at : get s.domains name ≡ Some d)
+    (y : Transfer) (last : d.transfer ≡ Some y) (pending : is_pending_state y.state ≡ true) (sponsored : r ≡ d.sponsor) where
   abbrev counted : Registry
   counted = with_account r with_command s
 
@@ -140,12 +140,15 @@ module _ (p : PolicyRules) (sound : IsSound p) (r : ℕ) (s : Registry) (is : Ha
   lines-counted : (k : ℕ) → (account_of k counted).lines ≡ (account_of k s).lines
   lines-counted k = lines-kept p r r with_command (λ a. refl) s k
 
-  other-sponsor : y.requester ≢ d.sponsor
-  other-sponsor = requester-elsewhere p s is lines name d y at last pending
+  -- whoever approves it is the sponsor
+  other-sponsor : eq_by_cmp nat_cmp y.requester r ≡ false → y.requester ≢ d.sponsor
+  other-sponsor apart same =
+      let never : true ≡ false = sym (ap (λ (k : ℕ). eq_by_cmp nat_cmp k r) (same ∙ sym sponsored) ∙ eq-self r) ∙ apart in
+      cc
 
   -- the requester's other domains have the graces that they had
-  pub start-keeps : KeepsGraces p y.requester (account_changed p (Lapse (Start start))) counted
-  start-keeps n e found own = by (is_same_roid d.roid e.roid) refl
+  start-keeps : y.requester ≢ d.sponsor → KeepsGraces p y.requester (account_changed p (Lapse (Start start))) counted
+  start-keeps other n e found own = by (is_same_roid d.roid e.roid) refl
     where
       by : (b : Bool) → is_same_roid d.roid e.roid ≡ b
           → graces p s.clock e.roid e.transferred (remade in_order (transfer_started start) (account_of y.requester counted).lines) ≡ graces p s.clock e.roid e.transferred (account_of y.requester counted).lines
@@ -153,8 +156,16 @@ module _ (p : PolicyRules) (sound : IsSound p) (r : ℕ) (s : Registry) (is : Ha
           let one : n ≡ name = is.domain_roids n name e d found at (sym (same-roids d.roid e.roid same)) in
           let alike : Some e ≡ Some d = sym found ∙ ap (get s.domains) one ∙ at in
           let it : e ≡ d = cc in
-          absurd (other-sponsor (sym own ∙ ap (λ (z : Domain). z.sponsor) it))
+          absurd (other (sym own ∙ ap (λ (z : Domain). z.sponsor) it))
       by false apart = graces-elsewhere p s.clock e.roid e.transferred start apart (account_of y.requester counted).lines
+
+  -- a requester that approves it sees its own account
+  pub start-meets : Meets p r (Give y.requester (Lapse (Start start))) counted
+  start-meets = by (eq_by_cmp nat_cmp y.requester r) refl
+    where
+      by : (b : Bool) → eq_by_cmp nat_cmp y.requester r ≡ b → Meets p r (Give y.requester (Lapse (Start start))) counted
+      by true same = inl (same_number y.requester r same)
+      by false apart = inr (start-keeps (other-sponsor apart))
 
   -- the registry once the grace of the transfer has begun
   abbrev begun : Registry
@@ -171,11 +182,11 @@ module _ (p : PolicyRules) (sound : IsSound p) (r : ℕ) (s : Registry) (is : Ha
 
   -- its requester sees it by its own lines, and any other with the grace of the transfer alone
   pub handed-meets : Meets p r (PutDomain handed) begun
-  handed-meets = put-by p r begun handed (eq_by_cmp nat_cmp y.requester r) refl (λ other.
+  handed-meets = put-by p r begun handed (eq_by_cmp nat_cmp y.requester r) refl (λ apart.
       ap (graces p s.clock d.roid (Some s.clock)) lines-begun
-      ∙ graces-handed-over p s is lines name d y at last pending sound years
+      ∙ graces-handed-over p s is name d y at last pending (other-sponsor apart) sound years
       ∙ sym (kept-at p r begun y.requester d.name d there
-      ∙ ap (λ (b : Bool). cond b (graces_of p begun d) transfer_alone) (not-same d.sponsor y.requester (λ same. other-sponsor (sym same)))))
+      ∙ ap (λ (b : Bool). cond b (graces_of p begun d) transfer_alone) (not-same d.sponsor y.requester (λ same. other-sponsor apart (sym same)))))
     where
       there : get s.domains d.name ≡ Some d
       there = ap (get s.domains) (is.domains name d at).named ∙ at
@@ -195,7 +206,7 @@ module _ (p : PolicyRules) (r : ℕ) (cl_trid : Option (List ℕ)) (s : Registry
       (λ n c at y e. (tt, (inr (λ name d at own. refl), tt)))
       name secret op
 
-module _ (p : PolicyRules) (sound : IsSound p) (r : ℕ) (cl_trid : Option (List ℕ)) (s : Registry) (is : HasObjects p s) (lines : HasLines p s) where
+module _ (p : PolicyRules) (sound : IsSound p) (r : ℕ) (cl_trid : Option (List ℕ)) (s : Registry) (is : MeetsStandards p s) where
   abbrev after_count : Registry
   after_count = with_account r with_command s
 
@@ -209,7 +220,7 @@ module _ (p : PolicyRules) (sound : IsSound p) (r : ℕ) (cl_trid : Option (List
       refusal_of p r s.clock q f ≡ None → AllMeet p r (domain_transfer_changes p r s.clock op q f (domain_seen f (name_of name))) (with_account r with_command s)
   meet-domain-transfers name op secret taken = domain-cases p r cl_trid s (Meet p r cl_trid s) tt
       (λ q f n d at askable. (again n d at (requested p r d.sponsor s.clock), (inl refl, (inr (λ name d at own. refl), tt))))
-      (λ q f n d at y e pending own. (inr (start-keeps p sound r s is lines n d at y e pending), (handed-meets p sound r s is lines n d at y e pending, (inr (λ name d at own. refl), tt))))
+      (λ q f n d at y e pending own. (start-meets p sound r s is n d at y e pending own, (handed-meets p sound r s is n d at y e pending own, (inr (λ name d at own. refl), tt))))
       (λ q f n d at y e pending. (again n d at (ended ClientRejected s.clock y), (inr (refund-keeps p y.requester (record { roid = d.roid; moment = s.clock }) (changed p (PutDomain (domain_with_transfer (ended ClientRejected s.clock y) d)) after_count)), (inr (λ name d at own. refl), tt))))
       (λ q f n d at y e pending. (again n d at (ended ClientCancelled s.clock y), (inr (refund-keeps p y.requester (record { roid = d.roid; moment = s.clock }) (changed p (PutDomain (domain_with_transfer (ended ClientCancelled s.clock y) d)) after_count)), (inr (λ name d at own. refl), tt))))
       name secret op taken

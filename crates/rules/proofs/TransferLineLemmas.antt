@@ -80,7 +80,7 @@ module _ (p : PolicyRules) (sound : IsSound p) (r : ℕ) (cl_trid : Option (List
       → HasLines p (with_account r (with_lines (bag_add in_order (transfer_line p s.clock d.roid q f))) (changed p (PutDomain (domain_with_transfer (requested p r d.sponsor s.clock) d)) counted))
   asked-kept q f name d at askable =
       let past = unlocked d.created d.transferred askable.unlocked in
-      lines-asked p counted objects lines name d at (requested p r d.sponsor s.clock) (transfer_line p s.clock d.roid q f) askable.over refl refl (line-waits q f d) refl
+      lines-asked p counted objects lines name d at (requested p r d.sponsor s.clock) (transfer_line p s.clock d.roid q f) askable.over refl refl (line-waits q f d) refl (omega arith) refl
       refl askable.other past.0 past.1 (omega (arith, early)) (omega (arith, early))
 
   pub lines-domain-transfers : (name : GivenName) (op : TransferOp) (secret : Option (List ℕ)) → let q : Request = TransferDomain name op secret in let f : Facts = facts p r (Asked cl_trid q) s in
@@ -88,6 +88,6 @@ module _ (p : PolicyRules) (sound : IsSound p) (r : ℕ) (cl_trid : Option (List
   lines-domain-transfers name op secret taken = domain-cases p r cl_trid s Kept lines
       (λ q f n d at askable. told p d.sponsor _ _ (asked-kept q f n d at askable))
       (λ q f n d at y e pending own. told p y.requester _ _ (lines-handed-over p counted objects lines n d at (ended ClientApproved s.clock y) y e pending refl refl refl (d.years + gained d s.clock) (gained d s.clock)))
-      (λ q f n d at y e pending. told p y.requester _ _ (lines-ended p counted objects lines n d at (ended ClientRejected s.clock y) y e pending refl refl s.clock))
-      (λ q f n d at y e pending. told p y.losing_registrar _ _ (lines-ended p counted objects lines n d at (ended ClientCancelled s.clock y) y e pending refl refl s.clock))
+      (λ q f n d at y e pending. told p y.requester _ _ (lines-ended p counted objects lines n d at (ended ClientRejected s.clock y) y e pending refl refl s.clock (omega arith)))
+      (λ q f n d at y e pending. told p y.losing_registrar _ _ (lines-ended p counted objects lines n d at (ended ClientCancelled s.clock y) y e pending refl refl s.clock (omega arith)))
       name secret op taken

@@ -11,7 +11,7 @@ use Rattle.registry.proofs.CallsKept.{formed, paid}
 use Rattle.rules.proofs.MoneyLaws.{money-lapsed}
 use Rattle.rules.proofs.RegistryLemmas.{registry-lapsed}
 use Rattle.privacy.specs.Runs.{Answer, IsCall, Question, command, date, look_up, order}
-use Rattle.runs.specs.Runs.{Turn, AreTurns, IsAskedIn, IsTurn, call, settlement}
+use Rattle.runs.specs.Runs.{Taken, Turn, AreTurns, IsAskedIn, IsTurn, call, calls_of, moment_of, settlement}
 use Rattle.runs.specs.RunLaws.{RunsKeepMoney, RunsKeepRegistries}
 
 call-keeps : (p : PolicyRules) → IsSound p → (moment : ℕ) → moment ≤ last_clock → (q : Question) (a : Answer) (before after : Registry) → IsAskedIn p q before → IsCall p moment q before after a → IsRegistry p (now p before) → IsRegistry p (now p after)
@@ -26,8 +26,8 @@ turn-keeps p sound (settlement moment at_most done) before after taken is = subs
 
 pub runs-keep-registries : RunsKeepRegistries
 runs-keep-registries p sound [] before after turns is = subst (λ s. IsRegistry p (now p s)) (sym turns) is
-runs-keep-registries p sound (turn ∷ others) before after turns is =
-    runs-keep-registries p sound others turns.0 after turns.2 (turn-keeps p sound turn before turns.0 turns.1 is)
+runs-keep-registries p sound (taken ∷ others) before after turns is =
+    runs-keep-registries p sound others taken.left after turns.1 (turn-keeps p sound taken.turn before taken.left turns.0 is)
 
 -- ---- money
 
@@ -37,10 +37,6 @@ call-follows p sound moment early (order o) a before after called is = paid p so
 call-follows p sound moment early date a before after called is = paid p sound moment early date before after a called
 call-follows p sound moment early look_up a before after called is = paid p sound moment early look_up before after a called
 
-abbrev moment_of : Turn → ℕ
-moment_of (call moment q a) = moment
-moment_of (settlement moment at_most done) = moment
-
 turn-early : (p : PolicyRules) (turn : Turn) (before after : Registry) → IsTurn p turn before after → moment_of turn ≤ last_clock
 turn-early p (call moment q a) before after taken = taken.0
 turn-early p (settlement moment at_most done) before after taken = taken.0
@@ -49,14 +45,15 @@ turn-follows : (p : PolicyRules) → IsSound p → (turn : Turn) (before after :
 turn-follows p sound (call moment q a) before after taken is = call-follows p sound moment taken.0 q a before after taken.2 is
 turn-follows p sound (settlement moment at_most done) before after taken is = subst (MoneyFollows p moment (now p before)) (sym taken.1.unnoticed) (money-lapsed p moment before)
 
-pub run-calls : (p : PolicyRules) → IsSound p → (turns : List Turn) (before after : Registry) → AreTurns p turns before after → IsRegistry p (now p before) → (calls : List (ℕ × Registry)) × AreCalls p last_clock calls (now p before) (now p after)
-run-calls p sound [] before after turns is = ([], ap (now p) turns)
-run-calls p sound (turn ∷ others) before after turns is =
-    let between : Registry = turns.0 in
-    let more : (calls : List (ℕ × Registry)) × AreCalls p last_clock calls (now p between) (now p after) = run-calls p sound others between after turns.2 (turn-keeps p sound turn before between turns.1 is) in
-    ((moment_of turn, now p between) ∷ more.0, (omega (arith, turn-early p turn before between turns.1, is.clock), turn-follows p sound turn before between turns.1 is, more.1))
+run-calls : (p : PolicyRules) → IsSound p → (turns : List Taken) (before after : Registry) → AreTurns p turns before after → IsRegistry p (now p before) → AreCalls p last_clock (calls_of p turns) (now p before) (now p after)
+run-calls p sound [] before after turns is = ap (now p) turns
+run-calls p sound (taken ∷ others) before after turns is = (
+  omega (arith, turn-early p taken.turn before taken.left turns.0, is.clock),
+  turn-follows p sound taken.turn before taken.left turns.0 is,
+  run-calls p sound others taken.left after turns.1 (turn-keeps p sound taken.turn before taken.left turns.0 is),
+)
 
 pub runs-keep-money : RunsKeepMoney
 runs-keep-money p sound turns before after taken is =
-    let are : (calls : List (ℕ × Registry)) × AreCalls p last_clock calls (now p before) (now p after) = run-calls p sound turns before after taken is in
-    (are.0, are.1, money-follows-over p last_clock are.0 (now p before) (now p after) are.1)
+    let calls : AreCalls p last_clock (calls_of p turns) (now p before) (now p after) = run-calls p sound turns before after taken is in
+    record { each = calls; together = money-follows-over p last_clock (calls_of p turns) (now p before) (now p after) calls }

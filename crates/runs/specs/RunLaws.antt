@@ -1,9 +1,7 @@
 -- The laws of runs.
 use Rattle.std.specs.Prelude.{◌≡◌, ◌≤◌, ℕ, false, List}
-use Rattle.accounts.specs.declared.line.Line.{Line}
 use Rattle.model.specs.Lapse.{lapse, lapsed, now}
-use Rattle.model.specs.Money.{LinesFollow}
-use Rattle.model.specs.MoneyLaws.{AreCalls, IsCoveredOver, IsRefundableIn}
+use Rattle.model.specs.MoneyLaws.{AreCalls, IsRefundableIn, LinesFollowOver}
 use Rattle.model.specs.Registry.{Registry, account_of}
 use Rattle.model.specs.WellFormed.{IsRegistry, last_clock}
 use Rattle.policy.specs.Rules.{PolicyRules, IsSound}
@@ -15,7 +13,7 @@ use Rattle.registry.specs.Execution.{IsGreetingStep, IsOrderStep, IsStep}
 use Rattle.privacy.specs.Alike.{Pair, AreAlike, firsts, seconds}
 use Rattle.privacy.specs.Laws.{none}
 use Rattle.privacy.specs.Runs.{Answer, IsCall, Question, code, command, date, dated, look_up, order, reply, shown}
-use Rattle.runs.specs.Runs.{Turn, AreTurns, IsLater, IsRun, IsSettledRun, answers_of, questions_of, settles_last, told_of}
+use Rattle.runs.specs.Runs.{Taken, Turn, AreTurns, IsLater, IsRun, IsSettledRun, answers_of, calls_of, questions_of, settles_last, told_of}
 
 -- ---- the steps of the registry's calls are calls of a run
 
@@ -63,19 +61,19 @@ SettlementsGoUnnoticed = (p : PolicyRules) (xs ys : List Turn) (s t x y : Regist
 
 -- a run on a well formed registry leaves one
 abbrev pub RunsKeepRegistries : Type 0
-RunsKeepRegistries = (p : PolicyRules) → IsSound p → (turns : List Turn) (before after : Registry) → AreTurns p turns before after
+RunsKeepRegistries = (p : PolicyRules) → IsSound p → (turns : List Taken) (before after : Registry) → AreTurns p turns before after
     → IsRegistry p (now p before) → IsRegistry p (now p after)
 
--- Each turn is a call by its moment and the registry that it left. In every account no line vanishes,
--- each is given back once at most, lawfully in one of them, and automatic renewals alone take the
--- balance below zero.
+-- What becomes of money in a run, in the registries that its own turns found and left. In each turn the money of
+-- every account follows: that is where automatic renewals alone take a balance below zero. And over all of
+-- them no line vanishes, each is given back once at most, lawfully in one of these turns, and debts are bounded.
+pub record MoneyFollowsTurns (p : PolicyRules) (turns : List Taken) (before after : Registry) : Type 0 where
+  pub each : AreCalls p last_clock (calls_of p turns) before after
+  pub together : (r : ℕ) → LinesFollowOver (IsRefundableIn p r (calls_of p turns) before) last_clock (account_of r before).lines (account_of r after).lines
+
 abbrev pub RunsKeepMoney : Type 0
-RunsKeepMoney = (p : PolicyRules) → IsSound p → (turns : List Turn) (before after : Registry) → AreTurns p turns before after
-    → IsRegistry p (now p before)
-    → (calls : List (ℕ × Registry)) × AreCalls p last_clock calls (now p before) (now p after)
-    × ((r : ℕ) → (change : Line → Line) × (new : List Line)
-    × LinesFollow (IsRefundableIn p r calls (now p before)) last_clock (account_of r (now p before)).lines (account_of r (now p after)).lines change new
-    × IsCoveredOver (account_of r (now p before)).lines (account_of r (now p after)).lines new)
+RunsKeepMoney = (p : PolicyRules) → IsSound p → (turns : List Taken) (before after : Registry) → AreTurns p turns before after
+    → IsRegistry p (now p before) → MoneyFollowsTurns p turns (now p before) (now p after)
 
 -- ---- what a registrar is told
 

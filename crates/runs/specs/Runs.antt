@@ -1,8 +1,8 @@
 -- Runs: what a registry is asked, one thing after another, and what it answers.
 use Rattle.std.specs.Prelude.{◌≡◌, ◌≤◌, ℕ, max, Bool, true, false, List, [], ◌∷◌, if◌then◌else◌}
-use Rattle.model.specs.Lapse.{lapse}
+use Rattle.model.specs.Lapse.{lapse, now}
 use Rattle.model.specs.Registry.{Registry}
-use Rattle.model.specs.WellFormed.{AreSmall, last_clock}
+use Rattle.model.specs.WellFormed.{HasNumbersLeft, last_clock}
 use Rattle.policy.specs.Rules.{PolicyRules, IsRegistrar}
 use Rattle.privacy.specs.Runs.{Answer, IsCall, Question, command, date, is_asked_by, look_up, order}
 use Rattle.registry.specs.Execution.{IsSettlement}
@@ -67,9 +67,9 @@ pub record IsLater (p : PolicyRules) (earlier later : Registry) : Type 0 where
 
 -- ---- of which the contracts of the calls speak
 
--- the caller is a registrar, its command was read, and its counters are far from their greatest
+-- the caller is a registrar, its command was read, and its own numbers are far from the greatest
 abbrev pub IsAskedIn : PolicyRules → Question → Registry → Type 0
-IsAskedIn p (command r c) before = IsRegistrar p r × CanBeAsked c × AreSmall before
+IsAskedIn p (command r c) before = IsRegistrar p r × CanBeAsked c × HasNumbersLeft r before
 IsAskedIn p (order o) before = Unit {0}
 IsAskedIn p date before = Unit {0}
 IsAskedIn p look_up before = Unit {0}
@@ -79,7 +79,21 @@ abbrev pub IsTurn : PolicyRules → Turn → Registry → Registry → Type 0
 IsTurn p (call moment q a) before after = (moment ≤ last_clock) × IsAskedIn p q before × IsCall p moment q before after a
 IsTurn p (settlement moment at_most done) before after = (moment ≤ last_clock) × IsSettlement p moment at_most before after done
 
--- turns one after another, with settlements at any moments
-abbrev pub AreTurns : PolicyRules → List Turn → Registry → Registry → Type 0
+-- a turn, and the registry that it left
+pub record Taken : Type 0 where
+  pub turn : Turn
+  pub left : Registry
+
+-- turns one after another, with settlements at any moments, each in the registry that the one before it left
+abbrev pub AreTurns : PolicyRules → List Taken → Registry → Registry → Type 0
 AreTurns p [] before after = after ≡ before
-AreTurns p (turn ∷ turns) before after = (between : Registry) × IsTurn p turn before between × AreTurns p turns between after
+AreTurns p (taken ∷ others) before after = IsTurn p taken.turn before taken.left × AreTurns p others taken.left after
+
+abbrev pub moment_of : Turn → ℕ
+moment_of (call moment q a) = moment
+moment_of (settlement moment at_most done) = moment
+
+-- these turns as calls: each by its moment, and by what the registry that it left is now
+abbrev pub calls_of : PolicyRules → List Taken → List (ℕ × Registry)
+calls_of p [] = []
+calls_of p (taken ∷ others) = (moment_of taken.turn, now p taken.left) ∷ calls_of p others

@@ -17,8 +17,9 @@ pub fn settlements_go_unnoticed()
     ensures unnoticed { spec.SettlementsGoUnnoticed }
 {}
 
-/// A run leaves a well formed registry, and its money follows in every account: no line vanishes, each
-/// is given back once at most and lawfully, and automatic renewals alone take a balance below zero.
+/// A run leaves a well formed registry, and in each of its turns the money of every account follows, in the
+/// registries that this very turn found and left: no line vanishes, each is given back once at most and
+/// lawfully, and automatic renewals alone take a balance below zero.
 pub fn runs_keep_money()
     ensures registries { spec.RunsKeepRegistries }
     ensures money { spec.RunsKeepMoney }

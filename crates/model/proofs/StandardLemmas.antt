@@ -1,0 +1,64 @@
+-- A well formed registry is one by the standards.
+use Rattle.std.proofs.Common.{◌≡◌, ℕ, true, cond, ◌&&◌, length, Option, Some, None, ◌∙◌}
+use Rattle.std.specs.Prelude.{IfSome}
+use Rattle.std.specs.List.{filter}
+use Rattle.accounts.specs.Lines.{waits}
+use Rattle.objects.specs.declared.domain.Domain.{Domain}
+use Rattle.objects.specs.declared.transfer.Transfer.{Transfer}
+use Rattle.objects.specs.Transfers.{is_pending_state}
+use Rattle.policy.specs.Rules.{PolicyRules}
+use Rattle.model.specs.Registry.{Registry, account_of}
+use Rattle.model.specs.Standards.{IsStandardRequest, IsTransferRecord, RegistriesMeetStandards}
+use Rattle.model.specs.WellFormed.{HasLinesOn, IsAwaitedIfPending, IsDomainOf, IsLastTransfer, charges_waiting}
+use Rattle.model.proofs.LineLemmas.{itself}
+
+record-of : (p : PolicyRules) (s : Registry) (created : ℕ) (transferred : Option ℕ) (o : Option Transfer) → IsLastTransfer p s created transferred o → IfSome o (IsTransferRecord p s)
+record-of p s created transferred None k = tt
+record-of p s created transferred (Some t) k = record { requester = k.requester; losing_registrar = k.losing_registrar; requested = k.requested; acted = k.acted }
+
+request-of : (s : Registry) (d : Domain) (o : Option Transfer) → IsAwaitedIfPending s d o → ((r : ℕ) → length (filter (waits d.roid) (account_of r s).lines) ≡ charges_waiting r o)
+    → IfSome o (λ (t : Transfer). is_pending_state t.state ≡ true → IsStandardRequest s d t)
+request-of s d None k waiting = tt
+request-of s d (Some t) k waiting = λ pending. let w = k pending in record {
+  created = w.created;
+  transferred = w.transferred;
+  charge = waiting t.requester ∙ (λ i. cond (pending i && itself t.requester i) 1 0);
+}
+
+pub registries-meet-standards : RegistriesMeetStandards
+registries-meet-standards p s is = record {
+  clock = is.clock;
+  accounts = is.objects.accounts;
+  contacts = λ name c at. let k = is.objects.contacts name c at in record {
+    named = k.named;
+    roid = k.roid;
+    sponsor = k.sponsor;
+    created = k.created;
+    transferred = k.transferred;
+    updated = k.updated;
+    transfer = record-of p s c.created c.transferred c.transfer k.transfer;
+  };
+  hosts = is.objects.hosts;
+  domains = λ name d at.
+      let k : IsDomainOf p s name d = is.objects.domains name d at in
+      let on : HasLinesOn s d = is.lines.domains name d at in
+      record {
+        named = k.named;
+        roid = k.roid;
+        sponsor = k.sponsor;
+        created = k.created;
+        transferred = k.transferred;
+        updated = k.updated;
+        transfer = record-of p s d.created d.transferred d.transfer k.transfer;
+        awaited = request-of s d d.transfer on.awaited on.waiting;
+        deletion = k.deletion;
+        contacts = k.contacts;
+        hosts = k.hosts;
+        elsewhere = on.elsewhere;
+      };
+  contact_roids = is.objects.contact_roids;
+  host_roids = is.objects.host_roids;
+  domain_roids = is.objects.domain_roids;
+  lines = is.lines.each;
+  messages = is.messages;
+}
