@@ -10,7 +10,7 @@ from pathlib import Path
 
 ROOT = Path(__file__).resolve().parent.parent.parent
 DATABASE = {"sqlite", "rows"}
-TESTS = ("tests", "wiretests", "rowtests", "fixtures", "transcripts", "refusals")
+TESTS = ("tests", "wiretests", "rowtests", "crashtests", "fixtures", "transcripts", "refusals")
 GROUPS = [
     ("values and objects", "#eef3fa", ["basis", "calendar", "names", "policy", "objects", "accounts", "lifecycle"]),
     ("the wire", "#f3eefa", ["protocol", "eppforms", "eppcommands", "eppreplies", "eppwire", "streams", "eppframes",

@@ -13,7 +13,9 @@ const MOST: usize = 1_000;
 fn longest_policy(alloc: Global) -> Result<String, Fail> {
     let mut text = String::from_str(alloc, POLICY)?;
     for place in 2..MOST {
-        let entry = format!(in alloc; "[[registrar]]\nid = \"r-{place}\"\npassword = \"pass-{place}\"\n")?;
+        let entry = format!(in alloc;
+            "[[registrar]]\nid = \"r-{place}\"\npassword = \"pass-{place}\"\n"
+        )?;
         text.push_str(entry.as_str())?;
     }
     Ok(text)

@@ -3,9 +3,9 @@ ghost use Rattle.std.specs.Prelude.{◌≡◌};
 ghost use Rattle.store.specs.Contents.{registry_in};
 ghost use Rattle.store.specs.Quiet.{IsQuiet};
 
+use crate::book::Book;
 use crate::content::Content;
 use crate::edit::Edit;
-use crate::book::Book;
 use crate::kept::Kept;
 use crate::quiet::Quiet;
 use basis::list::Seq;

@@ -1,9 +1,9 @@
 //! Accounts with many lines.
 
 use accounts::{Line, LineKind, Lines};
+use basis::registrar::RegistrarNo;
 use calendar::Moment;
 use objects::{ObjectKind, Roid};
-use basis::registrar::RegistrarNo;
 use std::process::Abort;
 use std::test::Fail;
 

@@ -24,7 +24,11 @@ impl time::Clock for Standing {
 }
 
 /// A client that sends bytes, and then stands still.
-pub(crate) fn silent_client_of<R>(rt: &R, listener: &TcpListener, sent: &[u8]) -> io::Result<TcpStream>
+pub(crate) fn silent_client_of<R>(
+    rt: &R,
+    listener: &TcpListener,
+    sent: &[u8],
+) -> io::Result<TcpStream>
 where
     R: Net<Listener = TcpListener, Stream = TcpStream>,
 {
