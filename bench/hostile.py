@@ -26,6 +26,7 @@ import json
 import random
 import re
 import resource
+import select
 import shutil
 import signal
 import socket
@@ -448,21 +449,38 @@ def fill(it):
 
 def peers(server):
     """A client that stands still, one that takes no reply, and a program without a descriptor to spare."""
+    silent_peer(server)
+    deaf_peer(server)
+    want_of_descriptors(server)
+
+
+def silent_peer(server):
     with server.connect() as silent:
         waited = hello(server)
         expect(50 < waited < 75, f"behind a silent client: {waited:.1f} seconds")
         expect(silent.recv(1) == b"", "the silent client wasn't left")
         print(f"hostile: the one behind a silent client was served after {waited:.1f} seconds", flush=True)
+
+
+def deaf_peer(server):
     with server.connect() as deaf:
         fill(deaf)
         waited = hello(server)
         expect(waited < 75, f"behind a client that takes no reply: {waited:.1f} seconds")
         print(f"hostile: the one behind a client that takes no reply was served after {waited:.1f} seconds", flush=True)
+
+
+def want_of_descriptors(server):
+    # the last connection is let go by then
+    time.sleep(1)
     held = len(list(Path(f"/proc/{server.process.pid}/fd").iterdir()))
-    before = resource.prlimit(server.process.pid, resource.RLIMIT_NOFILE, (held, 4_096))
+    before = resource.prlimit(server.process.pid, resource.RLIMIT_NOFILE)
+    resource.prlimit(server.process.pid, resource.RLIMIT_NOFILE, (held, before[1]))
+    # the program waits for a connection already, and has its descriptor
+    hello(server)
     with server.connect() as waiting:
         waiting.sendall(frame(b'{"cmd":"hello"}'))
-        time.sleep(1)
+        expect(not select.select([waiting], [], [], 2)[0], "a client is answered without a descriptor for it")
         server.goes_on()
         resource.prlimit(server.process.pid, resource.RLIMIT_NOFILE, before)
         waiting.shutdown(socket.SHUT_WR)
