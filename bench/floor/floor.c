@@ -1,5 +1,9 @@
-/* The floor of the figures: the statements that a registry over rows runs for a command, in the same
- * transactions, over the stock library, and nothing else. No rule is looked at, and no JSON is read.
+/* The floor of the figures: the statements that a careful C programmer would run for a command over these
+ * tables, in one transaction, over the stock library, and nothing else. No rule is looked at, and no JSON is read.
+ *
+ * It is frozen: it doesn't follow the program. A row is read once and written once, a row that is at hand isn't
+ * looked up again, and nothing is removed that can't be there. Why each statement is needed stands beside it. What the
+ * tables and their texts are it takes from the program (statements.py), but for two of its own.
  *
  * usage: floor DB DOMAINS COMMANDS [each]    (DB is a path where nothing is yet, or :memory:)
  *
@@ -24,30 +28,32 @@ struct subject {
     int64_t clock;
 };
 
-/* The statements of each command, as a registry over rows runs them, in their order. */
-#define HEAD BEGIN, META_ALL, META_ALL, META_PUT, META_ALL, META_ALL, CONTACT_UNTIL_DUE, DOMAIN_UNTIL_DUE
-#define DOMAIN_FOUND DOMAIN_BY_NAME, CONTACT_BY_ID, LINK_BY_DOMAIN, TRANSFER_BY_DOMAIN
-#define COUNTED ACCOUNT_BY_ID, ACCOUNT_BY_ID, ACCOUNT_BY_ID, ACCOUNT_PUT
-#define LINKS_PUT LINK_REMOVE_DOMAIN, TRANSFER_BY_DOMAIN, TRANSFER_REMOVE_DOMAIN
-#define CHARGED ACCOUNT_BY_ID, ACCOUNT_BY_ID, ACCOUNT_PUT, LINE_APPEND
-#define TOLD ACCOUNT_BY_ID, ACCOUNT_BY_ID, ACCOUNT_BY_ID, MESSAGE_SAME, MESSAGE_APPEND, ACCOUNT_PUT, ACCOUNT_BY_ID, ACCOUNT_PUT
+/* Every command begins a transaction, reads the clock and the terms, looks whether anything is due, and reads
+ * the account of its caller: five. */
+#define HEAD BEGIN, META_ALL, CONTACT_UNTIL_DUE, DOMAIN_UNTIL_DUE, ACCOUNT_BY_ID
+/* It counts itself on the account, with whatever else the account has from it; the clock moves; it is kept: three. */
+#define TAIL ACCOUNT_PUT, META_PUT, COMMIT
 
-static const enum statement CREATE[] = {
-    HEAD, CONTACT_BY_NAME, TRANSFER_BY_CONTACT, ACCOUNT_BY_ID, ACCOUNT_BY_ID, ACCOUNT_BY_ID, DOMAIN_BY_NAME,
-    COUNTED, DOMAIN_BY_NAME, HOST_BY_ABOVE, META_ALL, DOMAIN_BY_NAME, ACCOUNT_BY_ID, ACCOUNT_PUT,
-    CONTACT_BY_NAME, DOMAIN_BY_NAME, DOMAIN_APPEND, DOMAIN_BY_NAME, LINKS_PUT, COUNTED, CHARGED, COMMIT};
-static const enum statement CHECK[] = {
-    HEAD, ACCOUNT_BY_ID, DOMAIN_FOUND, META_ALL, LINE_BY_OBJECT, DOMAIN_BY_NAME, COUNTED, COMMIT};
+/* 12: the registrant has to be there, and the name not; the domain, and the line of its charge. */
+static const enum statement CREATE[] = {HEAD, CONTACT_BY_NAME, DOMAIN_BY_NAME, DOMAIN_APPEND, LINE_APPEND, TAIL};
+/* 10: two names, one of which is there. */
+static const enum statement CHECK[] = {HEAD, DOMAIN_BY_NAME, DOMAIN_BY_NAME, TAIL};
+/* 13: the domain with the name of its registrant, its links, its last transfer, the lines that tell its graces, and
+ * the hosts below it. */
 static const enum statement INFO[] = {
-    HEAD, ACCOUNT_BY_ID, DOMAIN_FOUND, META_ALL, LINE_BY_OBJECT, HOST_BY_ABOVE, COUNTED, COMMIT};
+    HEAD, DOMAIN_AND_REGISTRANT, LINK_BY_DOMAIN, TRANSFER_BY_DOMAIN, LINE_BY_OBJECT, HOST_BY_ABOVE, TAIL};
+/* 14: the domain, whether a transfer pends, and its lines; the domain anew, when its links are looked at again, and
+ * the line of the charge. */
 static const enum statement RENEW[] = {
-    HEAD, ACCOUNT_BY_ID, ACCOUNT_BY_ID, DOMAIN_FOUND, META_ALL, LINE_BY_OBJECT, COUNTED, DOMAIN_BY_NAME,
-    META_ALL, DOMAIN_FOUND, CONTACT_BY_NAME, DOMAIN_BY_NAME, DOMAIN_PUT, LINKS_PUT, CHARGED, COMMIT};
-static const enum statement BALANCE[] = {HEAD, ACCOUNT_BY_ID, ACCOUNT_BY_ID, COUNTED, COMMIT};
+    HEAD, DOMAIN_BY_NAME, TRANSFER_BY_DOMAIN, LINE_BY_OBJECT, DOMAIN_PUT, LINK_MOVE, LINE_APPEND, TAIL};
+/* 8. */
+static const enum statement BALANCE[] = {HEAD, TAIL};
+/* 20: the domain, whether a transfer pends, and its lines; the domain anew, when its links are looked at again, this
+ * transfer for the last one, and the line of the charge; the sponsor's account, whether the message is there, the
+ * message, and how many wait now. */
 static const enum statement REQUEST[] = {
-    HEAD, ACCOUNT_BY_ID, ACCOUNT_BY_ID, ACCOUNT_BY_ID, DOMAIN_FOUND, META_ALL, LINE_BY_OBJECT, COUNTED,
-    DOMAIN_BY_NAME, META_ALL, DOMAIN_FOUND, ACCOUNT_BY_ID, ACCOUNT_PUT, CONTACT_BY_NAME, DOMAIN_BY_NAME,
-    DOMAIN_PUT, LINKS_PUT, TRANSFER_APPEND, CHARGED, TOLD, COMMIT};
+    HEAD, DOMAIN_BY_NAME, TRANSFER_BY_DOMAIN, LINE_BY_OBJECT, DOMAIN_PUT, LINK_MOVE, TRANSFER_REMOVE_DOMAIN,
+    TRANSFER_APPEND, LINE_APPEND, ACCOUNT_BY_ID, MESSAGE_SAME, MESSAGE_APPEND, ACCOUNT_PUT, TAIL};
 
 static sqlite3 *db;
 static sqlite3_stmt *made[STATEMENTS];
@@ -97,7 +103,7 @@ static void bind_for(enum statement which, const struct subject *of) {
         bind(s, "tiiiinntttnttnntnnt", "c-alfa", N(1), N(1), N(1), of->clock, "", "key-alfa", "Ann", "Road 1", "Town", "DE",
              "ann@alfa.example");
         break;
-    case DOMAIN_BY_NAME: case HOST_BY_ABOVE: bind(s, "t", name); break;
+    case DOMAIN_BY_NAME: case DOMAIN_AND_REGISTRANT: case HOST_BY_ABOVE: bind(s, "t", name); break;
     case DOMAIN_APPEND:
         bind(s, "tiiiiinnttinni", name, N(1), of->domain, N(1), of->clock, N(1), "", "foo-secret", N(1), due);
         break;
@@ -108,6 +114,7 @@ static void bind_for(enum statement which, const struct subject *of) {
     case LINK_BY_DOMAIN: case LINK_REMOVE_DOMAIN: case TRANSFER_BY_DOMAIN: case TRANSFER_REMOVE_DOMAIN:
         bind(s, "i", of->domain);
         break;
+    case LINK_MOVE: bind(s, "ii", of->domain, due + 365 * day); break;
     case TRANSFER_APPEND:
         bind(s, "niiiiini", of->domain, of->registrar, N(1), of->clock, of->clock + 5 * day, N(0));
         break;
