@@ -92,7 +92,7 @@ fn due_in(row: &DomainRow) -> Result<Moment, BookFault>
 }
 
 fn is_no_later(due: Moment, domain: &Domain, policy: &Policy) -> bool
-    ensures { result ≡ int_le (numbers.moment_column due) (pos (lapse.due_at (rules_with policy.now.days) domain.now)) }
+    ensures { result ≡ true → int_le (numbers.moment_column due) (pos (lapse.due_at (rules_with policy.now.days) domain.now)) ≡ true }
 {
     due <= due_of_domain(domain, policy)
 }
