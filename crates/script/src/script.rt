@@ -10,6 +10,7 @@ use crate::exit::Exit;
 use crate::memory::{is_clean, open};
 use policy::Policy;
 use registry::Registry;
+use sqlbook::MemoryBook;
 use std::alloc::{AllocError, Global};
 use std::io::{self, BufRead, BufReader, Read, Write};
 use store::Book;
