@@ -401,6 +401,9 @@ class Run:
     def session(self):
         self.sent, count = self.chance.session(self.chance.choice(["alfa", "alfa", "alfa", "beta", None]))
         told = self.server.exchange(self.chance.pieces(self.sent))
+        # a length that no frame has may begin as a head does
+        if self.sent[:1] > b"\0":
+            return judge_head(told, self.answers)
         judge_session(self.sent, told, self.accounts)
         self.frames, self.sessions = self.frames + count, self.sessions + 1
 
