@@ -1,6 +1,7 @@
 """How long a file takes to be opened, and how long the log beside it becomes.
 
 usage: python3 openings.py TLDREG [DOMAINS..]     (the program as rt ci builds it)
+       python3 openings.py BEFORE,AFTER [DOMAINS..]     (two programs beside each other)
 
 For each number of domains (1,000, 10,000 and 100,000 where none is given) a client creates that many over frames, 1,000
 written at once, under the example policy. The program is ended by a signal, as at a crash, and started again. Printed
@@ -10,6 +11,8 @@ file, log   megabytes of the database file and of the log beside it at the end o
             longest while they were made
 opening     seconds from the program's start until it listens, by when the file was read whole and opened, and how many
             of them the processor worked for it; its peak memory until then, and megabytes that it read by then
+            where there are several programs, the first fills the file and each opens it, turn about, RUNS times: the
+            least of each number
 lapse       seconds of one command when the domains have become older and each renews itself before it is judged, all
             in one transaction; megabytes of the log afterwards
 """
@@ -25,6 +28,7 @@ from pathlib import Path
 import make_script
 import rows
 
+RUNS = 3
 POLICY = str(rows.HERE.parent / "examples" / "policy.toml")
 MEGABYTE = 10 ** 6
 
@@ -106,18 +110,29 @@ def lapse(program, file, port):
     return seconds
 
 
+def tell(domains, there, opened, end=""):
+    seconds, worked, peak, read = opened
+    print(f"{domains:7} {there[0]:6.1f} {there[1]:6.1f} {there[2]:7.1f} | {seconds:7.2f} {worked:6.2f} {peak:5.0f} "
+          f"{read:6.1f} |{end}", flush=True)
+
+
 def main(words):
-    program = words[0]
+    programs = words[0].split(",")
     print("domains   file    log longest | opening worked  peak   read | lapse    log")
     for place, domains in enumerate([int(word) for word in words[1:]] or [1000, 10000, 100000]):
         with tempfile.TemporaryDirectory(dir="/var/tmp") as folder:
-            file, port = os.path.join(folder, "registry.db"), 7720 + 3 * place
-            longest = fill(program, file, domains, port)
+            file, port = os.path.join(folder, "registry.db"), 7720 + 40 * place
+            longest = fill(programs[0], file, domains, port)
             there = [size(file) / MEGABYTE, size(f"{file}-wal") / MEGABYTE, longest / MEGABYTE]
-            seconds, worked, peak, read = opening(program, file, port + 1)
-            lapsed, log = lapse(program, file, port + 2), size(f"{file}-wal") / MEGABYTE
-            print(f"{domains:7} {there[0]:6.1f} {there[1]:6.1f} {there[2]:7.1f} | {seconds:7.2f} {worked:6.2f} {peak:5.0f} "
-                  f"{read:6.1f} | {lapsed:5.1f} {log:6.1f}", flush=True)
+            if len(programs) == 1:
+                opened = opening(programs[0], file, port + 1)
+                lapsed, log = lapse(programs[0], file, port + 2), size(f"{file}-wal") / MEGABYTE
+                tell(domains, there, opened, f" {lapsed:5.1f} {log:6.1f}")
+                continue
+            opened = [[opening(program, file, port + 1 + run * len(programs) + at)
+                       for at, program in enumerate(programs)] for run in range(RUNS)]
+            for runs in zip(*opened):
+                tell(domains, there, [min(numbers) for numbers in zip(*runs)])
 
 
 if __name__ == "__main__":

@@ -128,7 +128,7 @@ def on_file(program, domains, folder, port):
     server.wait()
     # no transfer before the lock has ended, so the domains become a hundred days older
     older = (f"UPDATE domain SET created = created - {LATER}, due = due - {LATER}; UPDATE link SET due = due - {LATER}; UPDATE line SET recorded = "
-             f"recorded - {LATER}, started = started - {LATER};")
+             f"recorded - {LATER}, started = started - {LATER}, ends = ends - {LATER};")
     subprocess.run(["sqlite3", file, older], check=True)
     server = served(program, policy, file, port)
     beta = Client(port, "beta")

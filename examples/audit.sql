@@ -36,18 +36,33 @@ SELECT 'contact', name, 'due', contact.due, (SELECT ac_date FROM transfer WHERE 
 FROM contact WHERE contact.due IS NOT owed;
 
 -- when time next changes a domain, which its column may say earlier and not later: it expires, a pending
--- transfer is approved, a restoration that was asked for isn't reported, or it is purged
-WITH dated AS (
+-- transfer is approved, or it is purged. Of a deleted domain the column is the end of pendingDelete, which
+-- begins when it can't be redeemed any more and a restoration that was asked for isn't reported; or the last
+-- moment, where that lies past it. Each period has the length that was in force when it began.
+WITH ends AS (
   SELECT domain.*, strftime('%s', created, 'unixepoch', years || ' years',
       CASE WHEN strftime('%d', created, 'unixepoch') <> strftime('%d', created, 'unixepoch', years || ' years') THEN '-1 day' ELSE '+0 days' END) + 0 AS expiry,
     (SELECT ac_date FROM transfer WHERE transfer.domain = domain.id AND state = 0) AS completed,
-    meta.days_redemption * 86400 AS redemption, meta.days_restore * 86400 AS restore, meta.days_pending_delete * 86400 AS pending
-  FROM domain, meta)
-SELECT 'domain', name, 'due', due,
-  CASE WHEN deleted IS NULL THEN min(expiry, coalesce(completed, expiry))
-    ELSE max(deleted + redemption, coalesce(restore_requested + restore, 0)) + pending END AS owed
-FROM dated WHERE due > owed;
+    deleted + 86400 * coalesce((SELECT days_redemption FROM days WHERE starts <= deleted ORDER BY id DESC LIMIT 1), meta.days_redemption) AS redeemed,
+    restore_requested + 86400 * coalesce((SELECT days_restore FROM days WHERE starts <= restore_requested ORDER BY id DESC LIMIT 1), meta.days_restore) AS restored
+  FROM domain, meta),
+begun AS (SELECT ends.*, max(redeemed, coalesce(restored, 0)) AS begins FROM ends),
+dated AS (
+  SELECT begun.*, min(7258118399, begins + 86400 * coalesce((SELECT days_pending_delete FROM days WHERE starts <= begins ORDER BY id DESC LIMIT 1), meta.days_pending_delete)) AS purged
+  FROM begun, meta)
+SELECT 'domain', name, 'due', due, CASE WHEN deleted IS NULL THEN min(expiry, coalesce(completed, expiry)) ELSE purged END AS owed
+FROM dated WHERE due > owed OR deleted IS NOT NULL AND due <> owed;
 
 -- the same, beside each contact and host that a domain names
 SELECT 'link', link.id, 'due', link.due, domain.due AS owed
 FROM link JOIN domain ON domain.id = link.domain WHERE link.due <> domain.due;
+
+-- when the grace of a line ends: it has the length that was in force when it began
+WITH graces AS (
+  SELECT line.*, (SELECT CASE kind WHEN 1 THEN days_add WHEN 2 THEN days_renew WHEN 3 THEN days_auto_renew WHEN 4 THEN days_transfer END
+    FROM (SELECT 0 AS id, 0 AS starts, days_add, days_renew, days_auto_renew, days_transfer FROM meta
+      UNION ALL SELECT id, starts, days_add, days_renew, days_auto_renew, days_transfer FROM days)
+    WHERE starts <= line.started ORDER BY id DESC LIMIT 1) AS length
+  FROM line)
+SELECT 'line', id, 'ends', ends, min(7258118399, started + 86400 * length) AS owed
+FROM graces WHERE ends IS NOT owed;

@@ -24,7 +24,7 @@ use Rattle.std.specs.Ordering.{eq_by_cmp, is_eq, nat_cmp, ordering_then}
 use Rattle.std.specs.declared.cmp.Ordering.{Ordering}
 use Rattle.std.specs.declared.cmp.Ordering.TheVariants.{Less, Equal, Greater}
 use Rattle.basis.specs.Bag.{add, bag_of, remade, same, taken}
-use Rattle.basis.proofs.BagLaws.{add-add, filter-bag_of, remade-bag_of, taken-absent, taken-add, taken-bag_of, taken-before, taken-behind, taken-present}
+use Rattle.basis.proofs.BagLaws.{add-add, any-bag_of, filter-bag_of, remade-bag_of, taken-absent, taken-add, taken-bag_of, taken-before, taken-behind, taken-present}
 use Rattle.objects.specs.declared.roid.Roid.{Roid}
 use Rattle.accounts.specs.declared.line.Line.{Line}
 use Rattle.accounts.specs.Groups.{IsBounded, IsGroup, IsGrouped, IsSmall, IsUnder, all_lines}
@@ -504,6 +504,16 @@ module _ (x : Line) where
     -- where the domain has none
     pub taken-nowhere : None ≡ lookup (at key) gs → bag (all_lines gs) ≡ taken in_order x (bag (all_lines gs))
     taken-nowhere e = sym (bag-absent (all_lines gs) (any-none x gs h.under (none_passes_from_lookup (at own) gs (by_key None e))))
+
+    -- a line is there where its group has it
+    pub absent-nowhere : None ≡ lookup (at key) gs → false ≡ any x (bag (all_lines gs))
+    absent-nowhere e =
+        sym (any-bag_of in_order (same in_order x) (all_lines gs)
+        ∙ any-none x gs h.under (none_passes_from_lookup (at own) gs (by_key None e)))
+
+    pub present-there : (ls : List Line) (b : Bool) → Some ls ≡ lookup (at key) gs → b ≡ any x ls → b ≡ any x (bag (all_lines gs))
+    present-there ls b e there =
+        there ∙ sym (any-bag_of in_order (same in_order x) (all_lines gs) ∙ any-found gs ls h.under apart (by_key (Some ls) e))
 
     -- where it has that line
     pub put-back : (ls : List Line) (b : Bool) → Some ls ≡ lookup (at key) gs → b ≡ any x ls → b ≡ true → add in_order x (taken in_order x (bag (all_lines gs))) ≡ bag (all_lines gs)

@@ -206,7 +206,8 @@ impl Groups {
 
     /// Whether a line is there, so that it can be taken out and put back.
     pub(crate) fn has(&self, line: &Line) -> bool
-        ensures { result ≡ true → add in_order line.now (taken in_order line.now self.now) ≡ self.now }
+        ensures there { result ≡ list_any (same in_order line.now) self.now }
+        ensures back { result ≡ true → add in_order line.now (taken in_order line.now self.now) ≡ self.now }
     {
         match self.groups.get(&key_of(&line.roid)) {
             None => false,

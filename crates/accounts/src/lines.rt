@@ -1,7 +1,7 @@
 //! The lines of an account as contracts see them: a bag, whatever the order in which they came.
 ghost use Rattle.std.specs.Prelude.{◌≡◌, [], true, IfOk, OnOk, OnErr};
-ghost use Rattle.std.specs.List.{filter};
-ghost use Rattle.basis.specs.Bag.{add, bag_of, remade, taken};
+ghost use Rattle.std.specs.List.{filter, list_any};
+ghost use Rattle.basis.specs.Bag.{add, bag_of, remade, same, taken};
 ghost use Rattle.accounts.specs.Lines as spec;
 ghost use Rattle.accounts.specs.Lines.{in_order};
 
@@ -55,7 +55,8 @@ impl Lines {
 
     /// Whether a line is there, so that it can be taken out and put back.
     pub fn has(&self, line: &Line) -> bool
-        ensures { result ≡ true → add in_order line.now (taken in_order line.now self.now) ≡ self.now }
+        ensures there { result ≡ list_any (same in_order line.now) self.now }
+        ensures back { result ≡ true → add in_order line.now (taken in_order line.now self.now) ≡ self.now }
     {
         self.groups.has(line)
     }

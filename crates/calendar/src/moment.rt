@@ -1,5 +1,5 @@
 //! Moments, and sums of them with days and years.
-ghost use Rattle.std.specs.Prelude.{◌≡◌, ◌/◌, ◌%◌, ℕ, pos, max, nat_lt, IfOk, IfSome, string_bytes};
+ghost use Rattle.std.specs.Prelude.{◌≡◌, ◌/◌, ◌%◌, ℕ, Some, pos, max, nat_lt, IfOk, IfSome, string_bytes};
 ghost use Rattle.std.specs.Str.{bytes_eq};
 ghost use Rattle.jiff.specs.Words.{civil_seconds};
 ghost use Rattle.calendar.specs.Calendar.{date_of, is_leap, month_length};
@@ -7,6 +7,7 @@ ghost use Rattle.calendar.specs.Ranks.{rank};
 ghost use Rattle.calendar.specs.Shown.{Shows};
 ghost use Rattle.calendar.specs.Text.{date_text, is_date, moment_text, parts_of};
 ghost use Rattle.calendar.specs.Reading.{AreShort};
+ghost use Rattle.calendar.specs.Named.{moment_named};
 ghost use Rattle.calendar.specs.Moment.{IsMoment, capped, checked, checked_signed, plus_days, plus_years, years_later};
 
 use crate::reading::{Parts, date_fields, parts_in};
@@ -226,6 +227,22 @@ impl Moment {
 
     /// The moment whose text it is, in the one form that [`text`](Moment::text) writes.
     pub fn read(text: &str) -> Option<Moment>
+        ensures value { result ≡ moment_named text.now }
+        ensures found { IfSome result (λ m. text.now ≡ moment_text m) }
+        ensures only { (m : ℕ) → IsMoment m → text.now ≡ moment_text m → result ≡ Some m }
+    {
+        match Moment::read_parts(text) {
+            Some(moment) => {
+                // Shows the prover that it is within the range.
+                let _secs = moment.secs();
+                Some(moment)
+            }
+            None => None,
+        }
+    }
+
+    /// The same, by the numbers that stand in the text.
+    fn read_parts(text: &str) -> Option<Moment>
         ensures found { IfSome result (λ m. text.now ≡ moment_text m) }
         ensures only { (m : ℕ) → IsMoment m → text.now ≡ moment_text m → result ≡ Some m }
     {

@@ -44,7 +44,7 @@ deletion_read deleted restore_requested d e =
       restore_requested_is = r.is ∙ λ i. Some ((same i).restore_requested);
     }
 
-no_deletion : (deleted : ℤ) (restore_requested : Option ℤ) → some_deletion_in deleted restore_requested ≡ Some None → ⊥
+pub no_deletion : (deleted : ℤ) (restore_requested : Option ℤ) → some_deletion_in deleted restore_requested ≡ Some None → ⊥
 no_deletion deleted restore_requested e =
     let m = step (moment_in deleted) _ None e in
     let r = step (maybe_moment_in restore_requested) _ None m.rest in
@@ -135,3 +135,7 @@ domain_is row links transfer d e =
       years = years_are row.years d.years read.years;
       deletion = deletion_is row.deleted row.restore_requested d.deletion read.deletion;
     }
+
+-- what is read was deleted as its row says
+pub deletion_reads : (row : table.Domain) (links : Links) (transfer : Option Transfer) (d : Domain) → domain_in row links transfer ≡ Some d → deletion_in row.deleted row.restore_requested ≡ Some d.deletion
+deletion_reads row links transfer d e = (is_read row links transfer d e).deletion

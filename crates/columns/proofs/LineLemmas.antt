@@ -58,28 +58,28 @@ record HasColumns (line : Line) (row : table.Line) : Type 0 where
   pub recorded : row.recorded ≡ moment_column line.recorded
   pub years : row.years ≡ years_column line.years
   pub cents_are : exact_column line.cents ≡ Some row.cents
-  pub started : row.started ≡ maybe_moment_column line.started
+  pub started : row.grace.started ≡ maybe_moment_column line.started
   pub refunded : row.refunded ≡ maybe_moment_column line.refunded
 
-has_columns : (id account : ℤ) (line : Line) (row : table.Line) → line_row id account line ≡ Some row → HasColumns line row
-has_columns id account line row e =
-    let domain = step (domain_columns line.roid) (λ d. exact_column line.cents >>= (λ c. Some (row_with id account line d c))) row e in
-    let cents = step (exact_column line.cents) (λ c. Some (row_with id account line domain.given c)) row domain.rest in
-    let same = same_some (row_with id account line domain.given cents.given) row cents.rest in
+has_columns : (id account : ℤ) (line : Line) (ends : Option ℤ) (row : table.Line) → line_row id account line ends ≡ Some row → HasColumns line row
+has_columns id account line ends row e =
+    let domain = step (domain_columns line.roid) (λ d. exact_column line.cents >>= (λ c. Some (row_with id account line ends d c))) row e in
+    let cents = step (exact_column line.cents) (λ c. Some (row_with id account line ends domain.given c)) row domain.rest in
+    let same = same_some (row_with id account line ends domain.given cents.given) row cents.rest in
     record {
       kind = sym (ap (λ (r : table.Line). r.kind) same);
       domain_is = domain.is ∙ λ i. Some (record { creator = (same i).creator; serial = (same i).serial });
       recorded = sym (ap (λ (r : table.Line). r.recorded) same);
       years = sym (ap (λ (r : table.Line). r.years) same);
       cents_are = cents.is ∙ λ i. Some ((same i).cents);
-      started = sym (ap (λ (r : table.Line). r.started) same);
+      started = sym (ap (λ (r : table.Line). r.grace.started) same);
       refunded = sym (ap (λ (r : table.Line). r.refunded) same);
     }
 
 -- what was written is read back
-pub line_back : (id account : ℤ) (line : Line) (row : table.Line) → IsLine line → line_row id account line ≡ Some row → line_in row ≡ Some line
-line_back id account line row is e =
-    let has = has_columns id account line row e in
+pub line_back : (id account : ℤ) (line : Line) (ends : Option ℤ) (row : table.Line) → IsLine line → line_row id account line ends ≡ Some row → line_in row ≡ Some line
+line_back id account line ends row is e =
+    let has = has_columns id account line ends row e in
     λ i. line_made
     ((ap kind_in has.kind ∙ kind_back line.kind) i)
     (maybe_domain_back line.roid row.creator row.serial is.roid has.domain_is i)
@@ -98,7 +98,7 @@ record IsRead (row : table.Line) (line : Line) : Type 0 where
   pub recorded : moment_in row.recorded ≡ Some line.recorded
   pub years : years_in row.years ≡ Some line.years
   pub cents : exact_in row.cents ≡ Some line.cents
-  pub started : maybe_moment_in row.started ≡ Some line.started
+  pub started : maybe_moment_in row.grace.started ≡ Some line.started
   pub refunded : maybe_moment_in row.refunded ≡ Some line.refunded
 
 is_read : (row : table.Line) (line : Line) → line_in row ≡ Some line → IsRead row line
@@ -108,7 +108,7 @@ is_read row line e =
     let recorded = step (moment_in row.recorded) _ line roid.rest in
     let years = step (years_in row.years) _ line recorded.rest in
     let cents = step (exact_in row.cents) _ line years.rest in
-    let started = step (maybe_moment_in row.started) _ line cents.rest in
+    let started = step (maybe_moment_in row.grace.started) _ line cents.rest in
     let refunded = step (maybe_moment_in row.refunded) _ line started.rest in
     let same : ◌≡◌ {A = Line} (record { kind = kind.given; roid = roid.given; recorded = recorded.given; years = years.given; cents = cents.given; started = started.given; refunded = refunded.given }) line = same_some _ _ refunded.rest in
     record {
@@ -122,16 +122,16 @@ is_read row line e =
     }
 
 -- what is read was written so
-pub line_written : (row : table.Line) (line : Line) → line_in row ≡ Some line → line_row row.id row.account line ≡ Some row
+pub line_written : (row : table.Line) (line : Line) → line_in row ≡ Some line → line_row row.id row.account line row.grace.ends ≡ Some row
 line_written row line e =
     let read = is_read row line e in
-    (λ i. maybe_domain_written row.creator row.serial line.roid read.roid i >>= (λ d. exact_written row.cents line.cents read.cents i >>= (λ c. Some (row_with row.id row.account line d c))))
+    (λ i. maybe_domain_written row.creator row.serial line.roid read.roid i >>= (λ d. exact_written row.cents line.cents read.cents i >>= (λ c. Some (row_with row.id row.account line row.grace.ends d c))))
     ∙ (λ i. Some (record row {
       kind = kind_written row.kind line.kind read.kind i;
       recorded = moment_written row.recorded line.recorded read.recorded i;
       years = years_written row.years line.years read.years i;
-      started = maybe_moment_written row.started line.started read.started i;
       refunded = maybe_moment_written row.refunded line.refunded read.refunded i;
+      grace = record row.grace { started = maybe_moment_written row.grace.started line.started read.started i };
     }))
 
 -- and is a line's
@@ -142,6 +142,6 @@ line_is row line e =
       roid = maybe_domain_is row.creator row.serial line.roid read.roid;
       recorded = moment_is row.recorded line.recorded read.recorded;
       years = years_are row.years line.years read.years;
-      started = maybe_moment_is row.started line.started read.started;
+      started = maybe_moment_is row.grace.started line.started read.started;
       refunded = maybe_moment_is row.refunded line.refunded read.refunded;
     }

@@ -63,7 +63,8 @@ columns_of row = record { creator = row.creator; serial = row.serial; sponsor = 
 abbrev pub postal_in : table.Postal → List (List ℕ) → Postal
 postal_in p street = record { name = p.name; org = p.org; street = street; city = p.city; sp = p.state; pc = p.postal_code; cc = p.country }
 
-abbrev pub contact_with : table.Contact → Registration → List Status → List (List ℕ) → Option Transfer → Contact
+abbrev pub contact_with : table.Contact → Registration → List Status → List (List ℕ)
+    → Option Transfer → Contact
 contact_with row r statuses street transfer = record {
   name = row.name;
   roid = r.roid;
@@ -80,7 +81,8 @@ contact_with row r statuses street transfer = record {
 }
 
 -- the contact of these parts, if all are there, and it is due when its transfer says
-abbrev pub contact_made : table.Contact → Option (List Status) → List (List ℕ) → Option Transfer → Option Contact
+abbrev pub contact_made : table.Contact → Option (List Status) → List (List ℕ) → Option Transfer
+    → Option Contact
 contact_made row statuses street transfer = do
   r ← registration_in kinds.Contact (columns_of row)
   s ← statuses
@@ -88,4 +90,5 @@ contact_made row statuses street transfer = do
 
 -- the contact of a row, if each column reads, whose last transfer is this
 abbrev pub contact_in : table.Contact → Option Transfer → Option Contact
-contact_in row transfer = contact_made row (statuses_in row.statuses) (street_in row.postal.street) transfer
+contact_in row transfer =
+    contact_made row (statuses_in row.statuses) (street_in row.postal.street) transfer

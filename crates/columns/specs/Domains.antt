@@ -77,7 +77,8 @@ deletion_in None None = Some None
 deletion_in None (Some restore_requested) = None
 deletion_in (Some deleted) restore_requested = some_deletion_in deleted restore_requested
 
-abbrev pub domain_with : table.Domain → Registration → ℕ → List Status → Option Deletion → Links → Option Transfer → Domain
+abbrev pub domain_with : table.Domain → Registration → ℕ → List Status → Option Deletion → Links
+    → Option Transfer → Domain
 domain_with row r years statuses deletion links transfer = record {
   name = row.name;
   roid = r.roid;
@@ -94,7 +95,8 @@ domain_with row r years statuses deletion links transfer = record {
 }
 
 -- the domain of these parts, if all are there
-abbrev pub domain_made : table.Domain → Option (List Status) → Links → Option Transfer → Option Domain
+abbrev pub domain_made : table.Domain → Option (List Status) → Links → Option Transfer
+    → Option Domain
 domain_made row statuses links transfer = do
   r ← registration_in kinds.Domain (columns_of row)
   y ← years_in row.years

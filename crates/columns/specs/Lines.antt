@@ -32,8 +32,8 @@ abbrev pub domain_columns : Option Roid → Option DomainColumns
 domain_columns None = Some (record { creator = None; serial = None })
 domain_columns (Some roid) = option_map not_null (roid_columns Domain roid)
 
-abbrev pub row_with : ℤ → ℤ → Line → DomainColumns → ℤ → table.Line
-row_with id account line domain cents = record {
+abbrev pub row_with : ℤ → ℤ → Line → Option ℤ → DomainColumns → ℤ → table.Line
+row_with id account line ends domain cents = record {
   id = id;
   account = account;
   kind = kind_column line.kind;
@@ -42,16 +42,17 @@ row_with id account line domain cents = record {
   recorded = moment_column line.recorded;
   years = years_column line.years;
   cents = cents;
-  started = maybe_moment_column line.started;
   refunded = maybe_moment_column line.refunded;
+  grace = record { started = maybe_moment_column line.started; ends = ends };
 }
 
--- the row of a line, under its number and its account's
-abbrev pub line_row : ℤ → ℤ → Line → Option table.Line
-line_row id account line = do
+-- The row of a line, under its number and its account's. When its grace ends is no part of the line: that
+-- column is given.
+abbrev pub line_row : ℤ → ℤ → Line → Option ℤ → Option table.Line
+line_row id account line ends = do
   domain ← domain_columns line.roid
   cents ← exact_column line.cents
-  Some (row_with id account line domain cents)
+  Some (row_with id account line ends domain cents)
 
 -- ---- read
 
@@ -63,7 +64,8 @@ maybe_domain_in None (Some serial) = None
 maybe_domain_in (Some creator) None = None
 
 -- the line of these parts, if all are there
-abbrev pub line_made : Option LineKind → Option (Option Roid) → Option ℕ → Option ℕ → Option ℕ → Option (Option ℕ) → Option (Option ℕ) → Option Line
+abbrev pub line_made : Option LineKind → Option (Option Roid) → Option ℕ → Option ℕ → Option ℕ
+    → Option (Option ℕ) → Option (Option ℕ) → Option Line
 line_made kind roid recorded years cents started refunded = do
   k ← kind
   r ← roid
@@ -74,8 +76,8 @@ line_made kind roid recorded years cents started refunded = do
   b ← refunded
   Some (record { kind = k; roid = r; recorded = m; years = y; cents = c; started = s; refunded = b })
 
--- the line of a row, if each column reads
+-- the line of a row, if each column but that of its grace's end reads
 abbrev pub line_in : table.Line → Option Line
 line_in row =
     line_made (kind_in row.kind) (maybe_domain_in row.creator row.serial) (moment_in row.recorded) (years_in row.years)
-    (exact_in row.cents) (maybe_moment_in row.started) (maybe_moment_in row.refunded)
+    (exact_in row.cents) (maybe_moment_in row.grace.started) (maybe_moment_in row.refunded)

@@ -44,7 +44,8 @@ command_columns number notice = do
 
 -- time's messages stand before those of commands, by letter; a command's by its number
 abbrev pub origin_columns : Origin → Option OriginColumns
-origin_columns (Lapse notice) = Some (record { class = pos 0; number = lapse_notice_column notice; notice = pos 0 })
+origin_columns (Lapse notice) =
+    Some (record { class = pos 0; number = lapse_notice_column notice; notice = pos 0 })
 origin_columns (Command number notice) = command_columns number notice
 
 -- the row of a message, under its number and its account's
@@ -67,7 +68,8 @@ command_made number notice = do
   Some (Command n k)
 
 -- the origin of these columns, by what is read of them
-abbrev pub origin_made : OriginColumns → Option LapseNotice → Option ℕ → Option CommandNotice → Option Origin
+abbrev pub origin_made : OriginColumns → Option LapseNotice → Option ℕ → Option CommandNotice
+    → Option Origin
 origin_made columns letter number notice =
     if int_eq columns.class (pos 0) && int_eq columns.notice (pos 0) then lapse_made letter
     else (if int_eq columns.class (pos 1) then command_made number notice else None)

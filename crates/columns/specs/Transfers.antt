@@ -48,7 +48,8 @@ is_same None (Some b) = false
 is_same (Some a) None = false
 
 -- the transfer of these parts, if all are there
-abbrev pub transfer_made : Option ℕ → Option ℕ → Option ℕ → Option ℕ → Option TransferState → Option Transfer
+abbrev pub transfer_made : Option ℕ → Option ℕ → Option ℕ → Option ℕ → Option TransferState
+    → Option Transfer
 transfer_made requester losing requested ac_date state = do
   r ← requester
   l ← losing

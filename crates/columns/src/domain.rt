@@ -178,6 +178,13 @@ fn columns_of(row: &DomainRow) -> RegistrationColumns
     }
 }
 
+/// The deletion of a row's domain, or none, if its columns read.
+pub fn deletion_of_row(row: &DomainRow) -> Option<Option<Deletion>>
+    ensures { result ≡ spec.deletion_in row.now.deleted row.now.restore_requested }
+{
+    deletion_of_columns(row.deleted, row.restore_requested)
+}
+
 /// The deletion of two columns, unless there is a restore without one.
 fn deletion_of_columns(
     deleted: Option<i64>,

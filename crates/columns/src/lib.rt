@@ -27,7 +27,7 @@ pub use code::{
     subject_column, subject_of_column,
 };
 pub use contact::{contact_of_row, contact_row, is_contact};
-pub use domain::{domain_of_row, domain_row, is_domain};
+pub use domain::{deletion_of_row, domain_of_row, domain_row, is_domain};
 pub use host::{host_of_row, host_row, is_host};
 pub use line::{line_of_row, line_row};
 pub use message::{message_of_row, message_row};

@@ -2,6 +2,7 @@
 ghost use Rattle.std.specs.Prelude.{◌≡◌, Some, IfSome};
 ghost use Rattle.accounts.specs.declared.line.Line.{Line};
 ghost use Rattle.columns.specs.Lines as spec;
+ghost use Rattle.columns.specs.Numbers as numbers;
 
 use crate::code::{kind_column, kind_of_column};
 use crate::moment::{maybe_moment_column, maybe_moment_of_column, moment_column, moment_of_column};
@@ -10,7 +11,7 @@ use crate::roid::{roid_columns, roid_of_columns};
 use accounts::{Line, LineKind};
 use calendar::Moment;
 use objects::{ObjectKind, Roid};
-use tables::LineRow;
+use tables::{GraceRow, LineRow};
 
 /// The columns for a domain's ROID, which are NULL of no domain.
 #[derive(Clone, Copy, Drop)]
@@ -19,10 +20,10 @@ pub(crate) struct DomainColumns {
     pub serial: Option<i64>,
 }
 
-/// The row of a line, under its number and its account's; none where the line is on a contact or a
-/// host, or its cents are too many.
-pub fn line_row(id: i64, account: i64, line: &Line) -> Option<LineRow>
-    ensures { result ≡ spec.line_row id account line.now }
+/// The row of a line, under its number and its account's, with the column for the end of its grace;
+/// none where the line is on a contact or a host, or its cents are too many.
+pub fn line_row(id: i64, account: i64, line: &Line, ends: Option<i64>) -> Option<LineRow>
+    ensures { result ≡ spec.line_row id account line.now ends }
 {
     let domain = domain_columns(&line.roid)?;
     let cents = exact_column(line.cents)?;
@@ -35,16 +36,19 @@ pub fn line_row(id: i64, account: i64, line: &Line) -> Option<LineRow>
         recorded: moment_column(line.recorded),
         years: years_column(line.years),
         cents,
-        started: maybe_moment_column(line.started),
         refunded: maybe_moment_column(line.refunded),
+        grace: GraceRow {
+            started: maybe_moment_column(line.started),
+            ends,
+        },
     })
 }
 
-/// The line of a row, if it's one's.
+/// The line of a row, if it's one's. The end of its grace isn't looked at.
 pub fn line_of_row(row: &LineRow) -> Option<Line>
     ensures value { result ≡ spec.line_in row.now }
-    ensures found { IfSome result (λ line. spec.line_row row.now.id row.now.account line ≡ Some row.now) }
-    ensures only { (line : Line) → spec.IsLine line → spec.line_row row.now.id row.now.account line ≡ Some row.now → result ≡ Some line }
+    ensures found { IfSome result (λ line. spec.line_row row.now.id row.now.account line row.now.grace.ends ≡ Some row.now) }
+    ensures only { (line : Line) → spec.IsLine line → spec.line_row row.now.id row.now.account line row.now.grace.ends ≡ Some row.now → result ≡ Some line }
 {
     line_made(
         kind_of_column(row.kind),
@@ -52,9 +56,16 @@ pub fn line_of_row(row: &LineRow) -> Option<Line>
         moment_of_column(row.recorded),
         years_of_column(row.years),
         exact_of_column(row.cents),
-        maybe_moment_of_column(row.started),
+        start_of(row),
         maybe_moment_of_column(row.refunded),
     )
+}
+
+/// When the grace of a row's line began, if the column reads.
+fn start_of(row: &LineRow) -> Option<Option<Moment>>
+    ensures { result ≡ numbers.maybe_moment_in row.now.grace.started }
+{
+    maybe_moment_of_column(row.grace.started)
 }
 
 /// The line of these parts, if all are there.

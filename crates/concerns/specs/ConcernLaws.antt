@@ -19,27 +19,36 @@ use Rattle.concerns.specs.Names.{named_by, named_of, no_names}
 
 -- what is concerned and due has lapsed, so nothing of it is due
 abbrev pub ConcernedSettles : Type 0
-ConcernedSettles = (p : PolicyRules) (r : Option ℕ) (g : Names) (t : ℕ) (chosen : Choice) (s : Registry) → HasConcerned p r g t chosen s
+ConcernedSettles =
+    (p : PolicyRules) (r : Option ℕ) (g : Names) (t : ℕ) (chosen : Choice) (s : Registry) → HasConcerned p r g t chosen s
     → IsSettledIn p (concerned r g (at t (lapse_some p chosen t s))) (at t (lapse_some p chosen t s))
 
 -- a registrar's command is judged by the facts that it would be judged by
 abbrev pub HasFactsOfNow : Type 0
-HasFactsOfNow = (p : PolicyRules) (r : ℕ) (c : Command) (s : Registry) → IsSettledIn p (concerned (Some r) (named_by c) s) s
+HasFactsOfNow =
+    (p : PolicyRules) (r : ℕ) (c : Command) (s : Registry)
+    → IsSettledIn p (concerned (Some r) (named_by c) s) s
     → facts p r c (now p s) ≡ facts p r c s
 
 -- it is answered so
 abbrev pub IsAnsweredAsNow : Type 0
-IsAnsweredAsNow = (p : PolicyRules) (r : ℕ) (c : Command) (s : Registry) → IsSettledIn p (concerned (Some r) (named_by c) s) s
+IsAnsweredAsNow =
+    (p : PolicyRules) (r : ℕ) (c : Command) (s : Registry)
+    → IsSettledIn p (concerned (Some r) (named_by c) s) s
     → answer p r c (now p s) ≡ answer p r c s
 
 -- and leaves what it would leave, once the rest lapses
 abbrev pub LeavesWhatItWould : Type 0
-LeavesWhatItWould = (p : PolicyRules) (r : ℕ) (c : Command) (s : Registry) → IsSettledIn p (concerned (Some r) (named_by c) s) s
+LeavesWhatItWould =
+    (p : PolicyRules) (r : ℕ) (c : Command) (s : Registry)
+    → IsSettledIn p (concerned (Some r) (named_by c) s) s
     → now p (effect p r c s) ≡ now p (effect p r c (now p s))
 
 -- what an info of an object concerns decides what stands under its name
 abbrev pub StandsAsNow : Type 0
-StandsAsNow = (p : PolicyRules) (kind : ObjectKind) (name : List ℕ) (s : Registry) → IsSettledIn p (concerned None (named_of kind name) s) s
+StandsAsNow =
+    (p : PolicyRules) (kind : ObjectKind) (name : List ℕ) (s : Registry)
+    → IsSettledIn p (concerned None (named_of kind name) s) s
     → object_at (now p s) kind name ≡ object_at s kind name
 
 -- what an order names, if its name reads
@@ -48,11 +57,14 @@ IsSettledFor p kind None s = IsSettledIn p (concerned None no_names s) s
 IsSettledFor p kind (Some name) s = IsSettledIn p (concerned None (named_of kind name) s) s
 
 abbrev pub IsOrderedAsNow : Type 0
-IsOrderedAsNow = (p : PolicyRules) (o : StatusOrder) (s : Registry) → IsSettledFor p o.kind (name_ordered p.zone o) s
+IsOrderedAsNow =
+    (p : PolicyRules) (o : StatusOrder) (s : Registry)
+    → IsSettledFor p o.kind (name_ordered p.zone o) s
     → (order_answer p (orders.Status o) (now p s) ≡ order_answer p (orders.Status o) s)
     × (now p (order_effect p (orders.Status o) s) ≡ now p (order_effect p (orders.Status o) (now p s)))
 
 -- a deposit concerns nothing
 abbrev pub DepositsAnywhere : Type 0
-DepositsAnywhere = (p : PolicyRules) (id : List ℕ) (cents : ℤ) (s : Registry)
+DepositsAnywhere =
+    (p : PolicyRules) (id : List ℕ) (cents : ℤ) (s : Registry)
     → now p (order_effect p (orders.Deposit id cents) s) ≡ now p (order_effect p (orders.Deposit id cents) (now p s))

@@ -35,12 +35,14 @@ is_about (Some r) sponsor transfer = (sponsor == r) || is_at_stake r transfer
 -- ---- what is named, and what stands there
 
 -- what is read off the objects that stand under these names
-abbrev pub read_at : {X A : Type 0} → (X → A) → FinMap (slice_cmp nat_cmp) X → List (List ℕ) → List A
+abbrev pub read_at : {X A : Type 0} → (X → A) → FinMap (slice_cmp nat_cmp) X → List (List ℕ)
+    → List A
 read_at of m names = filter_map (λ n. option_map of (get m n)) names
 
 -- The names, and those that the objects under them bear: of a registry, the same. A change puts an
 -- object under the name that it bears.
-abbrev pub meant : {X : Type 0} → (X → List ℕ) → FinMap (slice_cmp nat_cmp) X → List (List ℕ) → List (List ℕ)
+abbrev pub meant : {X : Type 0} → (X → List ℕ) → FinMap (slice_cmp nat_cmp) X → List (List ℕ)
+    → List (List ℕ)
 meant name_of m names = names ++ read_at name_of m names
 
 abbrev pub contact_name : Contact → List ℕ
@@ -85,13 +87,18 @@ concerned r g s = record {
 
 -- nothing that is chosen is due by the registry's own clock
 pub record IsSettledIn (p : PolicyRules) (chosen : Choice) (s : Registry) : Type 0 where
-  pub contacts : (name : List ℕ) (c : Contact) → get s.contacts name ≡ Some c → chosen.contacts name ≡ true → due_by s.clock c.transfer ≡ None
-  pub domains : (name : List ℕ) (d : Domain) → get s.domains name ≡ Some d → chosen.domains name ≡ true → s.clock < due_at p d
+  pub contacts : (name : List ℕ) (c : Contact) → get s.contacts name ≡ Some c
+      → chosen.contacts name ≡ true → due_by s.clock c.transfer ≡ None
+  pub domains : (name : List ℕ) (d : Domain) → get s.domains name ≡ Some d
+      → chosen.domains name ≡ true → s.clock < due_at p d
 
 -- among what is chosen is all that is due by a moment and concerned
 pub record HasConcerned (p : PolicyRules) (r : Option ℕ) (g : Names) (t : ℕ) (chosen : Choice) (s : Registry) : Type 0 where
-  pub contacts : (name : List ℕ) (x : Contact) → get s.contacts name ≡ Some x → (concerned r g s).contacts name ≡ true → chosen.contacts name ≡ false → due_by t x.transfer ≡ None
-  pub domains : (name : List ℕ) (d : Domain) → get s.domains name ≡ Some d → (concerned r g s).domains name ≡ true → chosen.domains name ≡ false → t < due_at p d
+  pub contacts : (name : List ℕ) (x : Contact) → get s.contacts name ≡ Some x
+      → (concerned r g s).contacts name ≡ true → chosen.contacts name ≡ false
+      → due_by t x.transfer ≡ None
+  pub domains : (name : List ℕ) (d : Domain) → get s.domains name ≡ Some d
+      → (concerned r g s).domains name ≡ true → chosen.domains name ≡ false → t < due_at p d
 
 -- the others
 abbrev pub without : Choice → Choice

@@ -1,4 +1,3 @@
 pub mod Items
 pub mod Lists
-pub mod Moments
 pub mod Payloads

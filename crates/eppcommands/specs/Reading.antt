@@ -68,7 +68,8 @@ status_in kind d = do
   Ok status
 
 -- each of a list
-abbrev pub all_in : {A : Type 0} → (Data → Result A FormFault) → List Data → Result (List A) FormFault
+abbrev pub all_in : {A : Type 0} → (Data → Result A FormFault) → List Data
+    → Result (List A) FormFault
 all_in read [] = Ok []
 all_in read (d ∷ ds) = do
   x ← read d
@@ -79,13 +80,15 @@ abbrev pub items_in : Data → Result (List Data) FormFault
 items_in d = ok_or (option_map items_list (as_array d)) SyntaxError
 
 -- a list that is missing is empty
-abbrev pub list_in : {A : Type 0} → (Data → Result A FormFault) → Option Data → Result (List A) FormFault
+abbrev pub list_in : {A : Type 0} → (Data → Result A FormFault) → Option Data
+    → Result (List A) FormFault
 list_in read None = Ok []
 list_in read (Some d) = do
   items ← items_in d
   all_in read items
 
-abbrev pub maybe_in : {A : Type 0} → (Data → Result A FormFault) → Option Data → Result (Option A) FormFault
+abbrev pub maybe_in : {A : Type 0} → (Data → Result A FormFault) → Option Data
+    → Result (Option A) FormFault
 maybe_in read None = Ok None
 maybe_in read (Some d) = do
   x ← read d

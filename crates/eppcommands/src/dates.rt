@@ -87,18 +87,5 @@ pub fn moment_in(value: &Value) -> Result<Moment, FormFault>
     ensures { result ≡ spec.moment_in (view value.now) }
 {
     let text = value.as_str().ok_or(FormFault::SyntaxError)?;
-    moment_named(text).ok_or(FormFault::ParameterSyntax)
-}
-
-fn moment_named(text: &str) -> Option<Moment>
-    ensures { result ≡ spec.moment_named text.now }
-{
-    match Moment::read(text) {
-        Some(moment) => {
-            // Shows the prover that it is within the range.
-            let _secs = moment.secs();
-            Some(moment)
-        }
-        None => None,
-    }
+    Moment::read(text).ok_or(FormFault::ParameterSyntax)
 }

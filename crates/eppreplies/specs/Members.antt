@@ -19,7 +19,8 @@ members_with (m ∷ ms) = with_some m.0 m.1 (members_with ms)
 -- the names stand in the order of their bytes, each once
 abbrev pub are_in_order : List (List ℕ × Option Data) → Bool
 are_in_order [] = true
-are_in_order (m ∷ ms) = list_all (λ later. is_lt (slice_cmp nat_cmp m.0 later.0)) ms && are_in_order ms
+are_in_order (m ∷ ms) =
+    list_all (λ later. is_lt (slice_cmp nat_cmp m.0 later.0)) ms && are_in_order ms
 
 abbrev pub texts_value : List (List ℕ) → Data
 texts_value texts = array (items_of (map string texts))

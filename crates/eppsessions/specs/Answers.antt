@@ -47,7 +47,8 @@ nobodys_outcome cl_trid code = replied (nobodys_text cl_trid code)
 
 -- The bytes of the reply are those in every registry that the registrar can't tell from this one.
 abbrev pub SameBytes : PolicyRules → ℕ → Command → ℕ → Reply → BookState → BookState → Type 0
-SameBytes p r c moment reply old new = new.is_clean ≡ true → (other : Registry)
+SameBytes p r c moment reply old new =
+    new.is_clean ≡ true → (other : Registry)
     → view_for p r c (lapsed p moment other) ≡ view_for p r c (lapsed p moment old.content.registry)
     → reply_text reply ≡ reply_text (answer p r c (lapsed p moment other))
 
@@ -67,7 +68,8 @@ abbrev pub GivesUp : BookState → Outcome → BookState → Type 0
 GivesUp old outcome new = (outcome ≡ failed) × IsUnchanged old new × Follows old new
 
 abbrev pub AnswersCommand : PolicyRules → ℕ → Command → ℕ → BookState → Outcome → BookState → Type 0
-AnswersCommand p r c moment old outcome new = GivesUp old outcome new ⊎ IsServed p r c moment old outcome new
+AnswersCommand p r c moment old outcome new =
+    GivesUp old outcome new ⊎ IsServed p r c moment old outcome new
 
 -- hello is answered with the registry's clock
 pub record IsGreeted (p : PolicyRules) (moment : ℕ) (old : BookState) (outcome : Outcome) (new : BookState) : Type 0 where
@@ -82,10 +84,13 @@ AnswersHello p moment old outcome new = GivesUp old outcome new ⊎ IsGreeted p 
 
 abbrev pub AnswersSaid : PolicyRules → ℕ → InSession → ℕ → BookState → Outcome → BookState → Type 0
 AnswersSaid p r within.Hello moment old outcome new = AnswersHello p moment old outcome new
-AnswersSaid p r (within.Ordinary c) moment old outcome new = AnswersCommand p r c moment old outcome new
+AnswersSaid p r (within.Ordinary c) moment old outcome new =
+    AnswersCommand p r c moment old outcome new
 
-abbrev pub AnswersRegistrar : PolicyRules → ℕ → List ℕ → ℕ → BookState → Outcome → BookState → Type 0
-AnswersRegistrar p r payload moment old outcome new = GivesUp old outcome new ⊎ AnswersSaid p r (in_session payload) moment old outcome new
+abbrev pub AnswersRegistrar : PolicyRules → ℕ → List ℕ → ℕ → BookState → Outcome → BookState
+    → Type 0
+AnswersRegistrar p r payload moment old outcome new =
+    GivesUp old outcome new ⊎ AnswersSaid p r (in_session payload) moment old outcome new
 
 -- ---- before a registrar is logged in
 
@@ -109,19 +114,27 @@ pub record AnswersLogin (p : PolicyRules) (cl_trid : Option (List ℕ)) (c : Cre
   pub logged_in : caller ≡ caller_of p c
 
 -- what comes before a login is no step of the registry, but for hello
-abbrev pub AnswersOpening : PolicyRules → BeforeLogin → ℕ → BookState → Outcome → BookState → Option ℕ → Type 0
-AnswersOpening p before.Hello moment old outcome new caller = AnswersHello p moment old outcome new × (caller ≡ None)
-AnswersOpening p (before.Login cl_trid c) moment old outcome new caller = AnswersLogin p cl_trid c outcome caller × (new ≡ old)
+abbrev pub AnswersOpening : PolicyRules → BeforeLogin → ℕ → BookState → Outcome → BookState
+    → Option ℕ → Type 0
+AnswersOpening p before.Hello moment old outcome new caller =
+    AnswersHello p moment old outcome new × (caller ≡ None)
+AnswersOpening p (before.Login cl_trid c) moment old outcome new caller =
+    AnswersLogin p cl_trid c outcome caller × (new ≡ old)
 AnswersOpening p (before.Refused cl_trid fault) moment old outcome new caller =
     Tells (nobodys_outcome cl_trid (code_of_form fault)) outcome × (new ≡ old) × (caller ≡ None)
 
-abbrev pub AnswersStranger : PolicyRules → List ℕ → ℕ → BookState → Outcome → BookState → Option ℕ → Type 0
+abbrev pub AnswersStranger : PolicyRules → List ℕ → ℕ → BookState → Outcome → BookState → Option ℕ
+    → Type 0
 AnswersStranger p payload moment old outcome new caller =
-    (GivesUp old outcome new × (caller ≡ None)) ⊎ AnswersOpening p (before_login payload) moment old outcome new caller
+    (GivesUp old outcome new × (caller ≡ None))
+    ⊎ AnswersOpening p (before_login payload) moment old outcome new caller
 
 -- ---- a connection
 
 -- who sends a payload: a registrar that is logged in, or nobody yet
-abbrev pub Answers : PolicyRules → Option ℕ → List ℕ → ℕ → BookState → Outcome → BookState → Option ℕ → Type 0
-Answers p None payload moment old outcome new caller = AnswersStranger p payload moment old outcome new caller
-Answers p (Some r) payload moment old outcome new caller = AnswersRegistrar p r payload moment old outcome new × (caller ≡ Some r)
+abbrev pub Answers : PolicyRules → Option ℕ → List ℕ → ℕ → BookState → Outcome → BookState
+    → Option ℕ → Type 0
+Answers p None payload moment old outcome new caller =
+    AnswersStranger p payload moment old outcome new caller
+Answers p (Some r) payload moment old outcome new caller =
+    AnswersRegistrar p r payload moment old outcome new × (caller ≡ Some r)

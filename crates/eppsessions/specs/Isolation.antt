@@ -35,10 +35,12 @@ view_saying p r (Ordinary c) s = view_for p r c s
 -- For each frame of a registrar that is logged in, also one that is no JSON: what is sent is what the
 -- rules answer in every registry that shows the registrar the same at that moment, or a fixed text.
 abbrev pub FramesAreIsolated : Type 0
-FramesAreIsolated = (p : PolicyRules) (r : ℕ) (payload : List ℕ) (moment : ℕ) (old new : BookState) (outcome : Outcome)
+FramesAreIsolated =
+    (p : PolicyRules) (r : ℕ) (payload : List ℕ) (moment : ℕ) (old new : BookState) (outcome : Outcome)
     → AnswersRegistrar p r payload moment old outcome new → new.is_clean ≡ true → (other : Registry)
     → view_saying p r (in_session payload) (lapsed p moment other) ≡ view_saying p r (in_session payload) (lapsed p moment old.content.registry)
-    → IsFixed (sent outcome) ⊎ (sent outcome ≡ text_told p r (in_session payload) (lapsed p moment other))
+    → IsFixed (sent outcome)
+    ⊎ (sent outcome ≡ text_told p r (in_session payload) (lapsed p moment other))
 
 -- ---- over whole runs
 
@@ -52,5 +54,6 @@ text_of (shown s) = []
 -- Two lists of calls that differ in nothing but what others than the registrar hide tell it the same texts,
 -- byte for byte, one after another.
 abbrev pub AlikeListsSendTheSame : Type 0
-AlikeListsSendTheSame = (p : PolicyRules) (r : ℕ) (pairs : List (ℕ × Pair)) (s : Registry) → AreAlike p r none pairs s s
+AlikeListsSendTheSame =
+    (p : PolicyRules) (r : ℕ) (pairs : List (ℕ × Pair)) (s : Registry) → AreAlike p r none pairs s s
     → map text_of (told p r (firsts pairs) s) ≡ map text_of (told p r (seconds pairs) s)

@@ -10,5 +10,7 @@ use Rattle.eppsessions.specs.Answers.{AnswersRegistrar}
 -- Each frame of a registrar that is logged in is sent the fixed text then, a logout and what is no
 -- command among them, and nothing is changed.
 abbrev pub LateFramesFail : Type 0
-LateFramesFail = (p : PolicyRules) (r : ℕ) (payload : List ℕ) (moment : ℕ) (old new : BookState) (outcome : Outcome)
-    → AnswersRegistrar p r payload moment old outcome new → last_call < moment → (sent outcome ≡ failed_text) × IsUnchanged old new
+LateFramesFail =
+    (p : PolicyRules) (r : ℕ) (payload : List ℕ) (moment : ℕ) (old new : BookState) (outcome : Outcome)
+    → AnswersRegistrar p r payload moment old outcome new → last_call < moment
+    → (sent outcome ≡ failed_text) × IsUnchanged old new

@@ -103,7 +103,8 @@ abbrev pub oldest_message : Message → OldestMessage
 oldest_message m = record { id = message_id m; message = m }
 
 abbrev pub queue_known : List Message → QueueFacts
-queue_known queue = record { oldest = option_map oldest_message (slice_get queue 0); waiting = length queue }
+queue_known queue =
+    record { oldest = option_map oldest_message (slice_get queue 0); waiting = length queue }
 
 abbrev pub no_queue : QueueFacts
 no_queue = record { oldest = None; waiting = 0 }
@@ -131,7 +132,8 @@ abbrev pub back_asked : Lookups → Command → Option (Seen FullDomain DomainFa
 back_asked found c seen = if asked false reads_refund c then back_for found seen else nothing
 
 -- the facts of a domain's name at which this is seen, or nothing; the hosts below it where the command has to know them
-abbrev pub domain_facts_of : Lookups → Command → List ℕ → Option (Seen FullDomain DomainFace) → DomainFacts
+abbrev pub domain_facts_of : Lookups → Command → List ℕ → Option (Seen FullDomain DomainFace)
+    → DomainFacts
 domain_facts_of found c name seen = record {
   name = name;
   seen = seen;
@@ -158,7 +160,8 @@ facts_by found c = record {
   contacts = map (contact_facts found c) (asked [] contacts_asked c);
   domains = map (λ name. domain_facts found c (name_of name)) (asked [] domains_asked c);
   hosts = map (λ name. host_facts found c (name_of name)) (asked [] hosts_asked c);
-  at_new_name = option_map (λ name. host_facts found c (name_of name)) (asked None new_host_asked c);
+  at_new_name =
+      option_map (λ name. host_facts found c (name_of name)) (asked None new_host_asked c);
   reference_missing = asked false (references_fail found.has_contact found.has_host) c;
   holding_limit_reached = asked false adds_a_held_domain c && nat_le 1_000_000 found.domains_held;
 }

@@ -1,34 +1,49 @@
 //! Phases of a deleted domain (RFC 3915, 3.1).
 ghost use Rattle.std.specs.Prelude.{◌≡◌};
 ghost use Rattle.lifecycle.specs.Phases as spec;
-ghost use Rattle.lifecycle.specs.Periods.{in_time, passed};
+ghost use Rattle.lifecycle.specs.Periods.{in_time, passed, rules_with};
 
-use crate::period::{end_of, is_within};
+use crate::period::{end_in, is_within};
 use calendar::Moment;
 use objects::{Deletion, Domain, Phase};
-use policy::{Period, Policy};
+use policy::{Period, Policy, Schedule};
+
+/// When a deleted domain is purged, by the lengths of a schedule, unless that lies past the last
+/// moment.
+fn purge_under(deletion: &Deletion, schedule: &Schedule) -> Option<Moment>
+    ensures { result ≡ in_time (spec.purge_at (rules_with schedule.now) deletion.now) }
+{
+    let _ = deletion.deleted.secs();
+    let redeemed = end_in(schedule, Period::Redemption, deletion.deleted)?;
+    let Some(requested) = deletion.restore_requested else {
+        return end_in(schedule, Period::PendingDelete, redeemed);
+    };
+    let _ = requested.secs();
+    let restored = end_in(schedule, Period::Restore, requested)?;
+    end_in(schedule, Period::PendingDelete, redeemed.max(restored))
+}
 
 /// When a deleted domain is purged, unless that lies past the last moment.
 pub(crate) fn purge_at(deletion: &Deletion, policy: &Policy) -> Option<Moment>
     ensures { result ≡ in_time (spec.purge_at policy.now deletion.now) }
 {
-    let _ = deletion.deleted.secs();
-    let redeemed = end_of(policy, Period::Redemption, deletion.deleted)?;
-    let Some(requested) = deletion.restore_requested else {
-        return end_of(policy, Period::PendingDelete, redeemed);
-    };
-    let _ = requested.secs();
-    let restored = end_of(policy, Period::Restore, requested)?;
-    end_of(policy, Period::PendingDelete, redeemed.max(restored))
+    purge_under(deletion, policy.schedule())
+}
+
+/// When a deleted domain is purged, by the lengths of a schedule, if that is by the moment.
+pub fn purged_under(deletion: &Deletion, moment: Moment, schedule: &Schedule) -> Option<Moment>
+    ensures { result ≡ passed moment (spec.purge_at (rules_with schedule.now) deletion.now) }
+{
+    let _ = (moment.secs(), deletion.deleted.secs());
+    let end = purge_under(deletion, schedule)?;
+    if moment < end { None } else { Some(end) }
 }
 
 /// When a deleted domain is purged, if that is by the moment.
 pub(crate) fn purged_by(deletion: &Deletion, moment: Moment, policy: &Policy) -> Option<Moment>
     ensures { result ≡ passed moment (spec.purge_at policy.now deletion.now) }
 {
-    let _ = (moment.secs(), deletion.deleted.secs());
-    let end = purge_at(deletion, policy)?;
-    if moment < end { None } else { Some(end) }
+    purged_under(deletion, moment, policy.schedule())
 }
 
 /// Whether the report on a requested restoration is awaited.

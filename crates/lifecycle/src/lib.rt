@@ -20,12 +20,12 @@ mod transfer;
 
 pub use change::{AccountChange, Notification, RefundUnder, RunningRefund, change_account};
 pub use contact::lapse_contact;
-pub use deletion::phase;
+pub use deletion::{phase, purged_under};
 pub use domain::lapse;
 pub use due::{contact_due_at, contact_due_by, due_at, due_by};
 pub use grace::{graces, period_of, runs, standing};
 pub use lapsed::Lapsed;
-pub use period::{end_of, is_within};
+pub use period::{end_of, end_under, is_within};
 pub use refund::{GivenBack, given_back};
 pub use restoration::years_to_outlast;
 pub use transfer::{ended, gained, hand_over, hand_over_contact, is_locked, requested};

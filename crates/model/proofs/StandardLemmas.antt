@@ -8,13 +8,13 @@ use Rattle.objects.specs.declared.transfer.Transfer.{Transfer}
 use Rattle.objects.specs.Transfers.{is_pending_state}
 use Rattle.policy.specs.Rules.{PolicyRules}
 use Rattle.model.specs.Registry.{Registry, account_of}
-use Rattle.model.specs.Standards.{IsStandardRequest, IsTransferRecord, RegistriesMeetStandards}
-use Rattle.model.specs.WellFormed.{HasLinesOn, IsAwaitedIfPending, IsDomainOf, IsLastTransfer, charges_waiting}
+use Rattle.model.specs.Standards.{IsStandardRequest, RegistriesMeetStandards}
+use Rattle.model.specs.WellFormed.{HasLinesOn, IsAwaitedIfPending, IsDomainOf, IsLastTransfer, IsTransferRecord, charges_waiting}
 use Rattle.model.proofs.LineLemmas.{itself}
 
 record-of : (p : PolicyRules) (s : Registry) (created : ℕ) (transferred : Option ℕ) (o : Option Transfer) → IsLastTransfer p s created transferred o → IfSome o (IsTransferRecord p s)
 record-of p s created transferred None k = tt
-record-of p s created transferred (Some t) k = record { requester = k.requester; losing_registrar = k.losing_registrar; requested = k.requested; acted = k.acted }
+record-of p s created transferred (Some t) k = k.recorded
 
 request-of : (s : Registry) (d : Domain) (o : Option Transfer) → IsAwaitedIfPending s d o → ((r : ℕ) → length (filter (waits d.roid) (account_of r s).lines) ≡ charges_waiting r o)
     → IfSome o (λ (t : Transfer). is_pending_state t.state ≡ true → IsStandardRequest s d t)
@@ -28,14 +28,9 @@ request-of s d (Some t) k waiting = λ pending. let w = k pending in record {
 pub registries-meet-standards : RegistriesMeetStandards
 registries-meet-standards p s is = record {
   clock = is.clock;
-  accounts = is.objects.accounts;
+  identities = is.objects.identities;
   contacts = λ name c at. let k = is.objects.contacts name c at in record {
-    named = k.named;
-    roid = k.roid;
-    sponsor = k.sponsor;
-    created = k.created;
-    transferred = k.transferred;
-    updated = k.updated;
+    stands = k.stands;
     transfer = record-of p s c.created c.transferred c.transfer k.transfer;
   };
   hosts = is.objects.hosts;
@@ -43,22 +38,11 @@ registries-meet-standards p s is = record {
       let k : IsDomainOf p s name d = is.objects.domains name d at in
       let on : HasLinesOn s d = is.lines.domains name d at in
       record {
-        named = k.named;
-        roid = k.roid;
-        sponsor = k.sponsor;
-        created = k.created;
-        transferred = k.transferred;
-        updated = k.updated;
+        stands = k.stands;
         transfer = record-of p s d.created d.transferred d.transfer k.transfer;
         awaited = request-of s d d.transfer on.awaited on.waiting;
-        deletion = k.deletion;
-        contacts = k.contacts;
-        hosts = k.hosts;
         elsewhere = on.elsewhere;
       };
-  contact_roids = is.objects.contact_roids;
-  host_roids = is.objects.host_roids;
-  domain_roids = is.objects.domain_roids;
   lines = is.lines.each;
   messages = is.messages;
 }

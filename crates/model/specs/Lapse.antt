@@ -19,20 +19,24 @@ use Rattle.model.specs.Registry.{Registry}
 -- ---- the lapse of a registry
 
 -- the contacts, each as its own lapse leaves it
-unfoldable pub contacts_at : ℕ → FinMap (slice_cmp nat_cmp) Contact → FinMap (slice_cmp nat_cmp) Contact
+unfoldable pub contacts_at : ℕ → FinMap (slice_cmp nat_cmp) Contact
+    → FinMap (slice_cmp nat_cmp) Contact
 contacts_at t contacts = kept (λ name c. (lapse_contact t c).object) contacts
 
 -- the domains, each as its own lapse leaves it, or gone
-unfoldable pub domains_at : PolicyRules → ℕ → FinMap (slice_cmp nat_cmp) Domain → FinMap (slice_cmp nat_cmp) Domain
+unfoldable pub domains_at : PolicyRules → ℕ → FinMap (slice_cmp nat_cmp) Domain
+    → FinMap (slice_cmp nat_cmp) Domain
 domains_at p t domains = kept (λ name d. (lapse_domain p t d).object) domains
 
 -- what contacts and domains post into accounts, where this becomes of each
-abbrev pub postings : (List ℕ → Contact → Lapsed Contact) → (List ℕ → Domain → Lapsed Domain) → Registry → List Posting
+abbrev pub postings : (List ℕ → Contact → Lapsed Contact) → (List ℕ → Domain → Lapsed Domain)
+    → Registry → List Posting
 postings contact domain s = given (λ name c. (contact name c).postings) s.contacts ++ given (λ name d. (domain name d).postings) s.domains
 
 -- the accounts, with all that these lapses post into them
 unfoldable pub accounts_at : PolicyRules → ℕ → Registry → FinMap nat_cmp Account
-accounts_at p t s = fold posted s.accounts (postings (λ name. lapse_contact t) (λ name. lapse_domain p t) s)
+accounts_at p t s =
+    fold posted s.accounts (postings (λ name. lapse_contact t) (λ name. lapse_domain p t) s)
 
 -- what time alone makes of a registry up to a moment; hosts have no lapse
 abbrev pub lapse : PolicyRules → ℕ → Registry → Registry
@@ -56,7 +60,8 @@ now p s = lapse p s.clock s
 
 -- each contact and each domain is replaced by what becomes of it, or is gone, and what they post is
 -- entered into the accounts
-abbrev pub swept : (List ℕ → Contact → Lapsed Contact) → (List ℕ → Domain → Lapsed Domain) → Registry → Registry
+abbrev pub swept : (List ℕ → Contact → Lapsed Contact) → (List ℕ → Domain → Lapsed Domain)
+    → Registry → Registry
 swept contact domain s = record s {
   contacts = kept (λ name c. (contact name c).object) s.contacts;
   domains = kept (λ name d. (domain name d).object) s.domains;
@@ -108,7 +113,8 @@ among [] = nothing
 among (object ∷ objects) = either (only object.0 object.1) (among objects)
 
 -- the map with what became of the value under a name
-abbrev pub put_or_drop : {X : Type 0} → FinMap (slice_cmp nat_cmp) X → List ℕ → Option X → FinMap (slice_cmp nat_cmp) X
+abbrev pub put_or_drop : {X : Type 0} → FinMap (slice_cmp nat_cmp) X → List ℕ → Option X
+    → FinMap (slice_cmp nat_cmp) X
 put_or_drop m name None = remove m name
 put_or_drop m name (Some x) = insert m name x
 

@@ -110,7 +110,8 @@ IsFree l = (is_kind l.kind kinds.Deposit ≡ true) ⊎ (l.cents ≡ 0)
 
 -- The balance isn't below zero afterwards; or it is no lower than it was found, and nothing is charged.
 abbrev pub IsCovered : List Line → List Line → List Line → Type 0
-IsCovered found after added = (pos 0 ≤ℤ balance after) ⊎ ((balance found ≤ℤ balance after) × AllByRecursion IsFree added)
+IsCovered found after added =
+    (pos 0 ≤ℤ balance after) ⊎ ((balance found ≤ℤ balance after) × AllByRecursion IsFree added)
 
 -- what a call makes of an account that it found
 pub record AccountChanges (IsLawful : ℕ → Line → Type 0) (u : ℕ) (found after : List Line) : Type 0 where
@@ -126,4 +127,5 @@ pub record AccountFollows (p : PolicyRules) (r : ℕ) (found before after : Regi
 
 -- what a call at a moment made of one registry, in every registrar's account
 abbrev pub MoneyFollows : PolicyRules → ℕ → Registry → Registry → Type 0
-MoneyFollows p moment before after = (r : ℕ) → AccountFollows p r (lapsed p moment before) before after
+MoneyFollows p moment before after =
+    (r : ℕ) → AccountFollows p r (lapsed p moment before) before after

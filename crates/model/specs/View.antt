@@ -34,7 +34,8 @@ pub record Secrets : Type 0 where
   pub domains : List ℕ → Option (List ℕ)
 
 -- the sight of a domain, by one who presents a secret
-abbrev pub domain_sight : PolicyRules → ℕ → Registry → Option (List ℕ) → Domain → Seen FullDomain DomainFace
+abbrev pub domain_sight : PolicyRules → ℕ → Registry → Option (List ℕ) → Domain
+    → Seen FullDomain DomainFace
 domain_sight p r s presented d = domain_as r presented (standing_of p s d) d
 
 -- what a registrar that presents these secrets sees

@@ -2,8 +2,10 @@
 -- every value of the maps, and what a registrar sees afterwards of each that meets the standards (`Standards`), so
 -- no promise of what a registrar may learn asks for more.
 use Rattle.std.specs.Prelude.{◌≡◌, ◌≢◌, ℕ, ◌≤◌, ◌<◌, ◌^◌, ◌==◌, nat_lt, Bool, true, false, ◌&&◌, if◌then◌else◌, List, length, Option, Some, None, IsSome, ◌↔◌}
-use Rattle.std.specs.FinMap.{get}
+use Rattle.std.specs.Cmp.Lexicographic.{slice_cmp}
+use Rattle.std.specs.FinMap.{FinMap, get}
 use Rattle.std.specs.List.{All, filter, list_any}
+use Rattle.std.specs.Ordering.{nat_cmp}
 use Rattle.accounts.specs.declared.line.Line.{Line}
 use Rattle.accounts.specs.declared.message.Message.{Message}
 use Rattle.accounts.specs.Lines.{is_on, waits}
@@ -38,14 +40,20 @@ abbrev pub IsAfter : ℕ → Option ℕ → Type 0
 IsAfter moment None = Unit {0}
 IsAfter moment (Some earlier) = earlier ≤ moment
 
--- A transfer lies between two registrars of the policy, and one that isn't pending has ended. It was
--- requested after the object's creation; one that is pending, after the last that was completed. What is due
--- is due before 2120, as expiries are.
-pub record IsTransfer (p : PolicyRules) (s : Registry) (created : ℕ) (transferred : Option ℕ) (t : Transfer) : Type 0 where
+-- The record of a transfer lies between two registrars. The transfer was asked for, and one that isn't pending has
+-- ended (RFC 5730, 2.9.3.4).
+pub record IsTransferRecord (p : PolicyRules) (s : Registry) (t : Transfer) : Type 0 where
   pub requester : IsRegistrar p t.requester
   pub losing_registrar : IsRegistrar p t.losing_registrar
   pub requested : t.requested ≤ s.clock
   pub acted : is_pending_state t.state ≡ false → t.ac_date ≤ s.clock
+
+-- A transfer was requested after the object's creation; one that is pending, after the last that was completed. What
+-- is due is due before 2120, as expiries are.
+pub record IsTransfer
+    (p : PolicyRules) (s : Registry) (created : ℕ) (transferred : Option ℕ) (t : Transfer)
+    : Type 0 where
+  pub recorded : IsTransferRecord p s t
   pub begun : created ≤ t.requested
   pub next : is_pending_state t.state ≡ true → IsAfter t.requested transferred
   pub due : t.ac_date < end_of_expiries
@@ -65,7 +73,8 @@ pub record IsDeleted (p : PolicyRules) (s : Registry) (d : Domain) (deletion : D
   pub deleted : deletion.deleted ≤ s.clock
   pub requested : HasBeen s deletion.restore_requested
   pub since : IsSince deletion.deleted deletion.restore_requested
-  pub hosts : (host : List ℕ) → IsSome (get s.hosts host) → superordinate_of p.zone host ≢ Some d.name
+  pub hosts : (host : List ℕ) → IsSome (get s.hosts host)
+      → superordinate_of p.zone host ≢ Some d.name
   pub transfer : is_pending d.transfer ≡ false
 
 abbrev pub IsDeletion : PolicyRules → Registry → Domain → Option Deletion → Type 0
@@ -77,13 +86,17 @@ abbrev pub IsFromSponsor : ℕ → Option Transfer → Type 0
 IsFromSponsor sponsor None = Unit {0}
 IsFromSponsor sponsor (Some t) = is_pending_state t.state ≡ true → t.losing_registrar ≡ sponsor
 
-pub record IsContactOf (p : PolicyRules) (s : Registry) (name : List ℕ) (c : Contact) : Type 0 where
+-- a contact has a name, a ROID, a sponsor and dates that have been (RFC 5733, 2)
+pub record IsContactAt (p : PolicyRules) (s : Registry) (name : List ℕ) (c : Contact) : Type 0 where
   pub named : c.name ≡ name
   pub roid : HasRoid p s kinds.Contact c.roid
   pub sponsor : IsRegistrar p c.sponsor
   pub created : c.created ≤ s.clock
   pub transferred : HasBeen s c.transferred
   pub updated : HasBeen s c.updated
+
+pub record IsContactOf (p : PolicyRules) (s : Registry) (name : List ℕ) (c : Contact) : Type 0 where
+  pub stands : IsContactAt p s name c
   pub transfer : IsLastTransfer p s c.created c.transferred c.transfer
   pub losing : IsFromSponsor c.sponsor c.transfer
 
@@ -100,29 +113,52 @@ pub record IsHostOf (p : PolicyRules) (s : Registry) (name : List ℕ) (h : Host
   pub created : h.created ≤ s.clock
   pub updated : HasBeen s h.updated
 
--- a domain names only contacts and hosts that are there (RFC 5731, 3.2.1)
-pub record IsDomainOf (p : PolicyRules) (s : Registry) (name : List ℕ) (d : Domain) : Type 0 where
+-- A domain has a name, a ROID, a sponsor and dates that have been (RFC 5731, 2), and names only contacts and hosts
+-- that are there (3.2.1).
+pub record IsDomainAt (p : PolicyRules) (s : Registry) (name : List ℕ) (d : Domain) : Type 0 where
   pub named : d.name ≡ name
   pub roid : HasRoid p s kinds.Domain d.roid
   pub sponsor : IsRegistrar p d.sponsor
   pub created : d.created ≤ s.clock
   pub transferred : HasBeen s d.transferred
   pub updated : HasBeen s d.updated
-  pub transfer : IsLastTransfer p s d.created d.transferred d.transfer
   pub deletion : IsDeletion p s d d.deletion
-  pub contacts : (contact : List ℕ) → names_contact contact d.links ≡ true → IsSome (get s.contacts contact)
+  pub contacts : (contact : List ℕ) → names_contact contact d.links ≡ true
+      → IsSome (get s.contacts contact)
   pub hosts : (host : List ℕ) → names_host host d.links ≡ true → IsSome (get s.hosts host)
 
--- Exactly the policy's registrars have accounts, each object stands under its name, domains name what
--- is there, and no two objects of a kind share a ROID.
-pub record HasObjects (p : PolicyRules) (s : Registry) : Type 0 where
+pub record IsDomainOf (p : PolicyRules) (s : Registry) (name : List ℕ) (d : Domain) : Type 0 where
+  pub stands : IsDomainAt p s name d
+  pub transfer : IsLastTransfer p s d.created d.transferred d.transfer
+
+-- no two objects of a kind share a ROID (RFC 5730, 2.8)
+abbrev pub AreApart : {X : Type 0} → (X → Roid) → FinMap (slice_cmp nat_cmp) X → Type 0
+AreApart {X} roid_of m =
+    (a b : List ℕ) (x y : X) → get m a ≡ Some x → get m b ≡ Some y → roid_of x ≡ roid_of y → a ≡ b
+
+abbrev pub contact_roid : Contact → Roid
+contact_roid c = c.roid
+
+abbrev pub host_roid : Host → Roid
+host_roid h = h.roid
+
+abbrev pub domain_roid : Domain → Roid
+domain_roid d = d.roid
+
+-- exactly the policy's registrars have accounts, and ROIDs tell the objects of a kind apart
+pub record HasIdentities (p : PolicyRules) (s : Registry) : Type 0 where
   pub accounts : (r : ℕ) → IsSome (get s.accounts r) ↔ IsRegistrar p r
-  pub contacts : (name : List ℕ) (c : Contact) → get s.contacts name ≡ Some c → IsContactOf p s name c
+  pub contact_roids : AreApart contact_roid s.contacts
+  pub host_roids : AreApart host_roid s.hosts
+  pub domain_roids : AreApart domain_roid s.domains
+
+-- each object stands under its name, and domains name what is there
+pub record HasObjects (p : PolicyRules) (s : Registry) : Type 0 where
+  pub identities : HasIdentities p s
+  pub contacts : (name : List ℕ) (c : Contact) → get s.contacts name ≡ Some c
+      → IsContactOf p s name c
   pub hosts : (name : List ℕ) (h : Host) → get s.hosts name ≡ Some h → IsHostOf p s name h
   pub domains : (name : List ℕ) (d : Domain) → get s.domains name ≡ Some d → IsDomainOf p s name d
-  pub contact_roids : (a b : List ℕ) (x y : Contact) → get s.contacts a ≡ Some x → get s.contacts b ≡ Some y → x.roid ≡ y.roid → a ≡ b
-  pub host_roids : (a b : List ℕ) (x y : Host) → get s.hosts a ≡ Some x → get s.hosts b ≡ Some y → x.roid ≡ y.roid → a ≡ b
-  pub domain_roids : (a b : List ℕ) (x y : Domain) → get s.domains a ≡ Some x → get s.domains b ≡ Some y → x.roid ≡ y.roid → a ≡ b
 
 -- ---- what is charged for domains
 
@@ -176,8 +212,10 @@ IsAwaitedIfPending s d (Some t) = is_pending_state t.state ≡ true → IsAwaite
 -- graces of a sponsor end with its sponsorship (RFC 3915, 3.1). One charge waits for each transfer that
 -- is pending, and none for any other.
 pub record HasLinesOn (s : Registry) (d : Domain) : Type 0 where
-  pub elsewhere : (r : ℕ) → r ≢ d.sponsor → list_any (begins_after d.roid d.transferred) (account_of r s).lines ≡ false
-  pub waiting : (r : ℕ) → length (filter (waits d.roid) (account_of r s).lines) ≡ charges_waiting r d.transfer
+  pub elsewhere : (r : ℕ) → r ≢ d.sponsor
+      → list_any (begins_after d.roid d.transferred) (account_of r s).lines ≡ false
+  pub waiting : (r : ℕ)
+      → length (filter (waits d.roid) (account_of r s).lines) ≡ charges_waiting r d.transfer
   pub awaited : IsAwaitedIfPending s d d.transfer
 
 -- the lines of all accounts

@@ -1,4 +1,6 @@
 pub mod TextLemmas
 pub mod DocumentLemmas
+pub mod DatedLemmas
+pub mod ScheduleLemmas
 pub mod TermsLemmas
 pub mod Places

@@ -1,9 +1,9 @@
 -- Reading the entries of a list one after the other.
-use Rattle.std.proofs.Common.{◌≡◌, Bool, true, false, ◌||◌, ℕ, suc, ◌+◌, ◌<◌, ◌≤◌, List, [], ◌∷◌, ◌++◌, map, length, take, drop, get_or, min, ◌-◌, Some, None, Result, Ok, Err, refl, sym, ap, subst, ◌∙◌, append_assoc, arith}
+use Rattle.std.proofs.Common.{◌≡◌, Bool, true, false, ◌||◌, ◌&&◌, ℕ, suc, ◌+◌, ◌<◌, ◌≤◌, List, [], ◌∷◌, ◌++◌, map, length, take, drop, get_or, min, ◌-◌, Some, None, Result, Ok, Err, refl, sym, ap, subst, ◌∙◌, append_assoc, arith}
 use Rattle.std.proofs.lemmas.List.{map-id, append-nil, drop_more, take_all, length-drop}
 use Rattle.std.proofs.lemmas.Slice.Zip.{length-zip}
 use Rattle.std.specs.Cmp.Lexicographic.{nat_list_eq_equiv}
-use Rattle.std.specs.List.{AllByRecursion, IsDistinct, list_any, zip}
+use Rattle.std.specs.List.{AllByRecursion, IsDistinct, list_all, list_any, zip}
 use Rattle.names.specs.Labels.{is_label}
 use Rattle.names.specs.Canonical.{reads_as_itself}
 use Rattle.std.specs.Str.{bytes_eq}
@@ -54,6 +54,10 @@ entries_left entries i x h e = ap (map view) (drop_more entries i x h) ∙ ap (�
 pub list_any_of_map : {A B : Type 0} (p : B → Bool) (f : A → B) (xs : List A) → list_any p (map f xs) ≡ list_any (λ x. p (f x)) xs
 list_any_of_map p f [] = refl
 list_any_of_map p f (x ∷ xs) = ap (λ b. p (f x) || b) (list_any_of_map p f xs)
+
+pub list_all_of_map : {A B : Type 0} (p : B → Bool) (f : A → B) (xs : List A) → list_all p (map f xs) ≡ list_all (λ x. p (f x)) xs
+list_all_of_map p f [] = refl
+list_all_of_map p f (x ∷ xs) = ap (λ b. p (f x) && b) (list_all_of_map p f xs)
 
 pub length_of_map : {A B : Type 0} (f : A → B) (xs : List A) → length (map f xs) ≡ length xs
 length_of_map f [] = refl

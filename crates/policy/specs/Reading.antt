@@ -1,5 +1,5 @@
 -- What a policy file is read as, or its first fault: the lines of each `do` stand in the order of the faults.
-use Rattle.std.specs.Prelude.{◌≡◌, ℕ, ℤ, pos, Bool, not, ◌&&◌, ◌||◌, ◌==◌, nat_le, if◌then◌else◌, List, [], ◌∷◌, map, codes, length, Option, Some, None, is_some, is_none, option_and_then, Result, Ok, Err}
+use Rattle.std.specs.Prelude.{◌≡◌, ℕ, ℤ, pos, Bool, true, false, not, ◌&&◌, ◌||◌, ◌==◌, nat_le, nat_lt, if◌then◌else◌, List, [], ◌∷◌, map, codes, length, Option, Some, None, is_some, is_none, option_and_then, unwrap_or, Result, Ok, Err, ok_or}
 use Rattle.std.specs.Char.{is_ascii_alphanumeric}
 use Rattle.std.specs.FinSet.{from_list}
 use Rattle.std.specs.Int.{is_in_range}
@@ -7,13 +7,21 @@ use Rattle.std.specs.List.{list_any, list_all, zip}
 use Rattle.std.specs.Str.{bytes_eq, is_utf8}
 use Rattle.toml.specs.Parse.{parse_document}
 use Rattle.toml.specs.Data.{Data, Members, Items, no_items, item, get_member, as_integer, as_str, as_table, as_array}
+use Rattle.calendar.specs.Named.{moment_named}
 use Rattle.names.specs.Labels.{is_name}
 use Rattle.names.specs.Canonical.{reads_as_itself}
 use Rattle.policy.specs.declared.key.Key.{Key}
-use Rattle.policy.specs.declared.key.Key.TheVariants.{Zone, Reserved, RegistrarId, RegistrarPassword, DaysAdd, DaysAutoRenew, DaysRenew, DaysTransfer, DaysRedemption, DaysRestore, DaysPendingDelete, DaysAnswer, DaysLock, PriceCreate, PriceRenew, PriceTransfer, SoaMname, SoaRname, SoaRefresh, SoaRetry, SoaExpire, SoaMinimum, SoaTtl}
+use Rattle.policy.specs.declared.key.Key.TheVariants as keys
+use Rattle.policy.specs.declared.key.Key.TheVariants.{Zone, Reserved, RegistrarId, RegistrarPassword, PriceCreate, PriceRenew, PriceTransfer, SoaMname, SoaRname, SoaRefresh, SoaRetry, SoaExpire, SoaMinimum, SoaTtl}
 use Rattle.policy.specs.declared.fault.PolicyFault.{PolicyFault}
 use Rattle.policy.specs.declared.fault.PolicyFault.TheVariants.{NotToml, Missing, Range, Twice, Memory}
 use Rattle.policy.specs.declared.days.Days.{Days}
+use Rattle.policy.specs.declared.days.LengthTable.{LengthTable}
+use Rattle.policy.specs.declared.days.LengthTable.TheVariants.{First, Dated}
+use Rattle.policy.specs.declared.days.Period.{Period}
+use Rattle.policy.specs.declared.days.Period.TheVariants.{Add, AutoRenew, Renew, Transfer, Redemption, Restore, PendingDelete, Answer, Lock}
+use Rattle.policy.specs.declared.schedule.DatedDays.{DatedDays}
+use Rattle.policy.specs.declared.schedule.Schedule.{Schedule}
 use Rattle.policy.specs.declared.prices.Prices.{Prices}
 use Rattle.policy.specs.declared.soa.Soa.{Soa}
 use Rattle.policy.specs.declared.registrar.Registrar.{Registrar}
@@ -104,9 +112,13 @@ text_at doc key = do
   value ← value_at doc key
   as_text key (as_str value)
 
+-- what a table has at a key
+abbrev pub member_of : Key → Data → Option Data
+member_of key d = option_and_then (get_member (name_of key)) (as_table d)
+
 -- what an entry of a list has at a key: the entry itself, or a member of it
 abbrev pub member_in : Key → Option (List ℕ) → Data → Option Data
-member_in key (Some table) d = option_and_then (get_member (name_of key)) (as_table d)
+member_in key (Some table) d = member_of key d
 member_in key None d = Some d
 
 abbrev pub text_in : Key → Data → Option (List ℕ)
@@ -138,23 +150,140 @@ labels_at doc key = do
   few ← at_most key 10_000 values
   texts_in key few
 
--- ---- lengths in days, and prices in cents
+-- ---- tables
 
-unfoldable pub day_count_at : Members → Key → Result ℕ PolicyFault
-day_count_at doc key = whole_at doc key 1 3650
+-- a table that lacks the key
+abbrev pub lacks : Key → Data → Bool
+lacks key d = is_some (as_table d) && is_none (member_of key d)
+
+-- ---- lengths in days
+
+abbrev pub as_count : Option ℤ → Option ℕ
+as_count (Some (pos n)) = if is_in_range 1 3650 n then Some n else None
+as_count other = None
+
+-- the number of days that a table has at a key
+abbrev pub count_of : Key → Data → Option ℕ
+count_of key d = as_count (option_and_then as_integer (member_of key d))
+
+abbrev pub has_count : Key → Data → Bool
+has_count key d = is_some (count_of key d)
+
+unfoldable pub day_count_in : Key → Data → Result ℕ PolicyFault
+day_count_in key d = if lacks key d then Err (Missing key) else ok_or (count_of key d) (Range key)
+
+-- the key of a length, in the table `days` or in those of `days_from`
+abbrev pub length_key : LengthTable → Period → Key
+length_key First period = keys.Days period
+length_key Dated period = keys.DatedDays period
+
+unfoldable pub days_in : LengthTable → Data → Result Days PolicyFault
+days_in table d = do
+  add ← day_count_in (length_key table Add) d
+  auto_renew ← day_count_in (length_key table AutoRenew) d
+  renew ← day_count_in (length_key table Renew) d
+  transfer ← day_count_in (length_key table Transfer) d
+  redemption ← day_count_in (length_key table Redemption) d
+  restore ← day_count_in (length_key table Restore) d
+  pending_delete ← day_count_in (length_key table PendingDelete) d
+  answer ← day_count_in (length_key table Answer) d
+  lock ← day_count_in (length_key table Lock) d
+  Ok (record {
+    add = add;
+    auto_renew = auto_renew;
+    renew = renew;
+    transfer = transfer;
+    redemption = redemption;
+    restore = restore;
+    pending_delete = pending_delete;
+    answer = answer;
+    lock = lock;
+  })
+
+abbrev pub days_of_table : Option Data → Result Days PolicyFault
+days_of_table (Some d) = days_in First d
+days_of_table None = Err (Missing (keys.Days Add))
 
 unfoldable pub days_at : Members → Result Days PolicyFault
-days_at doc = do
-  add ← day_count_at doc DaysAdd
-  auto_renew ← day_count_at doc DaysAutoRenew
-  renew ← day_count_at doc DaysRenew
-  transfer ← day_count_at doc DaysTransfer
-  redemption ← day_count_at doc DaysRedemption
-  restore ← day_count_at doc DaysRestore
-  pending_delete ← day_count_at doc DaysPendingDelete
-  answer ← day_count_at doc DaysAnswer
-  lock ← day_count_at doc DaysLock
-  Ok (record { add = add; auto_renew = auto_renew; renew = renew; transfer = transfer; redemption = redemption; restore = restore; pending_delete = pending_delete; answer = answer; lock = lock })
+days_at doc = days_of_table (get_member (codes "days") doc)
+
+-- ---- lengths from a moment on
+
+-- from when on a table is in force, if it says so by a moment's text
+abbrev pub from_of : Data → Option ℕ
+from_of d = option_and_then moment_named (option_and_then as_str (member_of keys.DatedFrom d))
+
+abbrev pub is_later : ℕ → Option ℕ → Bool
+is_later before None = false
+is_later before (Some from) = nat_lt before from
+
+-- each table begins after the one before it, and the first after that moment
+unfoldable pub begin_after : ℕ → List Data → Bool
+begin_after before [] = true
+begin_after before (d ∷ ds) = is_later before (from_of d) && begin_after (unwrap_or (from_of d) before) ds
+
+-- a table that lacks the key before all that is wrong with the key's values
+abbrev pub check : Key → Bool → List Data → Result (Unit {0}) PolicyFault
+check key fit tables =
+    if list_any (lacks key) tables then Err (Missing key)
+    else (if fit then Ok tt else Err (Range key))
+
+unfoldable pub check_begins : List Data → Result (Unit {0}) PolicyFault
+check_begins tables = check keys.DatedFrom (begin_after 946_684_800 tables) tables
+
+unfoldable pub check_lengths : Period → List Data → Result (Unit {0}) PolicyFault
+check_lengths period tables =
+    let key : Key = keys.DatedDays period in
+    check key (list_all (has_count key) tables) tables
+
+-- each key in turn in all tables
+unfoldable pub check_tables : List Data → Result (Unit {0}) PolicyFault
+check_tables tables = do
+  _ ← check_begins tables
+  _ ← check_lengths Add tables
+  _ ← check_lengths AutoRenew tables
+  _ ← check_lengths Renew tables
+  _ ← check_lengths Transfer tables
+  _ ← check_lengths Redemption tables
+  _ ← check_lengths Restore tables
+  _ ← check_lengths PendingDelete tables
+  _ ← check_lengths Answer tables
+  check_lengths Lock tables
+
+unfoldable pub dated_in : Data → Result DatedDays PolicyFault
+dated_in d = do
+  from ← ok_or (from_of d) (Range keys.DatedFrom)
+  days ← days_in Dated d
+  Ok (record { from = from; days = days })
+
+unfoldable pub each_dated : List Data → Result (List DatedDays) PolicyFault
+each_dated [] = Ok []
+each_dated (d ∷ ds) = do
+  table ← dated_in d
+  tables ← each_dated ds
+  Ok (table ∷ tables)
+
+abbrev pub dated_values : Option Data → Result (List Data) PolicyFault
+dated_values (Some d) = as_values keys.DatedFrom (as_array d)
+dated_values None = Ok []
+
+-- the tables of the file, or none
+abbrev pub tables_at : Members → Result (List Data) PolicyFault
+tables_at doc = dated_values (get_member (codes "days_from") doc)
+
+unfoldable pub dated_at : Members → Result (List DatedDays) PolicyFault
+dated_at doc = do
+  tables ← tables_at doc
+  _ ← check_tables tables
+  each_dated tables
+
+unfoldable pub schedule_at : Members → Result Schedule PolicyFault
+schedule_at doc = do
+  first ← days_at doc
+  later ← dated_at doc
+  Ok (record { first = first; later = later })
+
+-- ---- prices in cents
 
 unfoldable pub price_at : Members → Key → Result ℕ PolicyFault
 price_at doc key = whole_at doc key 0 1_000_000_000
@@ -183,10 +312,6 @@ soa_at doc = do
   Ok (record { mname = mname; rname = rname; refresh = refresh; retry = retry; expire = expire; minimum = minimum; ttl = ttl })
 
 -- ---- registrars
-
--- a table that lacks the key
-abbrev pub lacks : Key → Data → Bool
-lacks key d = is_some (as_table d) && is_none (option_and_then (get_member (name_of key)) (as_table d))
 
 -- the texts of one key in all entries: a table that lacks it before anything else that is wrong
 unfoldable pub column : Key → List Data → Result (List (List ℕ)) PolicyFault
@@ -229,7 +354,7 @@ unfoldable pub rules_at : Members → Result PolicyRules PolicyFault
 rules_at doc = do
   label ← text_at doc Zone
   reserved ← labels_at doc Reserved
-  days ← days_at doc
+  days ← schedule_at doc
   prices ← prices_at doc
   soa ← soa_at doc
   registrars ← registrars_at doc

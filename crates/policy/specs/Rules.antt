@@ -1,9 +1,11 @@
 -- The values of a policy, and what is asked of them.
-use Rattle.std.specs.Prelude.{ℕ, zero, suc, ◌+◌, ◌≤◌, Bool, ◌&&◌, List, length, map, position, slice_get, Option, None, option_map}
-use Rattle.std.specs.List.{IsDistinct}
+use Rattle.std.specs.Prelude.{ℕ, zero, suc, ◌+◌, ◌≤◌, ◌<◌, nat_le, Bool, ◌&&◌, if◌then◌else◌, List, [], ◌∷◌, fold, length, map, position, slice_get, Option, None, option_map}
+use Rattle.std.specs.List.{AllByRecursion, IsDistinct}
 use Rattle.std.specs.Str.{bytes_eq}
 use Rattle.names.specs.Zone.{ZoneRules}
 use Rattle.policy.specs.declared.days.Days.{Days}
+use Rattle.policy.specs.declared.schedule.DatedDays.{DatedDays}
+use Rattle.policy.specs.declared.schedule.Schedule.{Schedule}
 use Rattle.policy.specs.declared.days.Period.{Period}
 use Rattle.policy.specs.declared.days.Period.TheVariants.{Add, AutoRenew, Renew, Transfer, Redemption, Restore, PendingDelete, Answer, Lock}
 use Rattle.policy.specs.declared.prices.Prices.{Prices}
@@ -12,7 +14,7 @@ use Rattle.policy.specs.declared.registrar.Registrar.{Registrar}
 
 pub record PolicyRules : Type 0 where
   pub zone : ZoneRules
-  pub days : Days
+  pub days : Schedule
   pub prices : Prices
   pub soa : Soa
   -- in the order of the file
@@ -31,9 +33,17 @@ length_of PendingDelete days = days.pending_delete
 length_of Answer days = days.answer
 length_of Lock days = days.lock
 
--- the days of a period that begins at a moment, which are the same at every moment
+-- the lengths at a moment, by what they were before and a table that may have begun
+abbrev pub then_by : ℕ → Days → DatedDays → Days
+then_by m days table = if nat_le table.from m then table.days else days
+
+-- the lengths in force at a moment: those of the last table that begins by then, or the first ones
+abbrev pub in_force : ℕ → Schedule → Days
+in_force m schedule = fold (then_by m) schedule.first schedule.later
+
+-- the days of a period that begins at a moment: the length in force then, which it keeps
 abbrev pub days_of : Period → ℕ → PolicyRules → ℕ
-days_of period start p = length_of period p.days
+days_of period start p = length_of period (in_force start p.days)
 
 abbrev pub IsDayCount : ℕ → Type 0
 IsDayCount n = (1 ≤ n) × (n ≤ 3650)
@@ -51,6 +61,17 @@ pub record AreDays (days : Days) : Type 0 where
   pub pending_delete : IsDayCount days.pending_delete
   pub answer : IsDayCount days.answer
   pub lock : IsDayCount days.lock
+
+-- each table begins after the one before it, and the first after that moment
+abbrev pub BeginAfter : ℕ → List DatedDays → Type 0
+BeginAfter before [] = Unit {0}
+BeginAfter before (table ∷ tables) = (before < table.from) × BeginAfter table.from tables
+
+-- all lengths are within the range, and the tables begin one after another, after 2000-01-01T00:00:00Z
+pub record IsSchedule (schedule : Schedule) : Type 0 where
+  pub first : AreDays schedule.first
+  pub later : AllByRecursion (λ (table : DatedDays). AreDays table.days) schedule.later
+  pub rise : BeginAfter 946_684_800 schedule.later
 
 pub record ArePrices (prices : Prices) : Type 0 where
   pub create : IsPrice prices.create
@@ -106,8 +127,8 @@ id_at p (suc index) = option_map (λ (registrar : Registrar). registrar.id) (sli
 
 -- ---- what is true of every policy
 
-pub record AreSound (days : Days) (prices : Prices) (soa : Soa) (registrars : List Registrar) : Type 0 where
-  pub days_in_range : AreDays days
+pub record AreSound (days : Schedule) (prices : Prices) (soa : Soa) (registrars : List Registrar) : Type 0 where
+  pub days_in_range : IsSchedule days
   pub prices_in_range : ArePrices prices
   pub times_in_range : AreTimes soa
   pub count : IsRegistrarCount (length registrars)

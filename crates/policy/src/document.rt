@@ -1,5 +1,6 @@
 //! What stands at a key of the document.
 ghost use Rattle.std.specs.Prelude.{◌≡◌, ◌≤◌, IfOk, map, option_map};
+ghost use Rattle.std.specs.List.{list_any};
 ghost use Rattle.toml.specs.Data.{as_array, get_member};
 ghost use Rattle.toml.specs.View.{view, table_view};
 ghost use Rattle.policy.specs.Reading as spec;
@@ -75,4 +76,21 @@ pub(crate) fn as_values(value: &Value, key: Key) -> Result<&[Value], PolicyFault
         Some(values) => Ok(values.as_slice()),
         None => Err(PolicyFault::Range(key)),
     }
+}
+
+/// Whether an entry is a table that lacks the key.
+pub(crate) fn lacks(entry: &Value, key: Key) -> bool
+    ensures { result ≡ spec.lacks key (view entry.now) }
+{
+    match entry.as_table() {
+        Some(table) => get(table, key.name()).is_none(),
+        None => false,
+    }
+}
+
+/// Whether one of them is.
+pub(crate) fn any_lacks(entries: &[Value], key: Key) -> bool
+    ensures { result ≡ list_any (λ entry. spec.lacks key (view entry)) entries.now }
+{
+    entries.iter().any(|entry| lacks(entry, key))
 }

@@ -2,6 +2,7 @@
 ghost use Rattle.std.specs.Prelude.{◌≡◌, option_copied};
 ghost use Rattle.policy.specs.Keys as spec;
 
+use crate::Period;
 use std::fmt;
 
 /// A key of the policy file, in the order in which faults are looked for.
@@ -9,15 +10,12 @@ use std::fmt;
 pub enum Key {
     Zone,
     Reserved,
-    DaysAdd,
-    DaysAutoRenew,
-    DaysRenew,
-    DaysTransfer,
-    DaysRedemption,
-    DaysRestore,
-    DaysPendingDelete,
-    DaysAnswer,
-    DaysLock,
+    /// The length of a period, in the table `days`.
+    Days(Period),
+    /// When a table of `days_from` begins.
+    DatedFrom,
+    /// The length of a period, in the tables `days_from`.
+    DatedDays(Period),
     PriceCreate,
     PriceRenew,
     PriceTransfer,
@@ -39,15 +37,8 @@ impl Key {
     {
         match self {
             Key::Zone | Key::Reserved => None,
-            Key::DaysAdd
-            | Key::DaysAutoRenew
-            | Key::DaysRenew
-            | Key::DaysTransfer
-            | Key::DaysRedemption
-            | Key::DaysRestore
-            | Key::DaysPendingDelete
-            | Key::DaysAnswer
-            | Key::DaysLock => Some("days"),
+            Key::Days(_) => Some("days"),
+            Key::DatedFrom | Key::DatedDays(_) => Some("days_from"),
             Key::PriceCreate | Key::PriceRenew | Key::PriceTransfer => Some("prices"),
             Key::SoaMname
             | Key::SoaRname
@@ -67,16 +58,11 @@ impl Key {
         match self {
             Key::Zone => "zone",
             Key::Reserved => "reserved",
-            Key::DaysAdd => "add",
-            Key::DaysAutoRenew => "auto_renew",
-            Key::DaysRenew | Key::PriceRenew => "renew",
-            Key::DaysTransfer | Key::PriceTransfer => "transfer",
-            Key::DaysRedemption => "redemption",
-            Key::DaysRestore => "restore",
-            Key::DaysPendingDelete => "pending_delete",
-            Key::DaysAnswer => "answer",
-            Key::DaysLock => "lock",
+            Key::Days(period) | Key::DatedDays(period) => period.name(),
+            Key::DatedFrom => "from",
             Key::PriceCreate => "create",
+            Key::PriceRenew => "renew",
+            Key::PriceTransfer => "transfer",
             Key::SoaMname => "mname",
             Key::SoaRname => "rname",
             Key::SoaRefresh => "refresh",

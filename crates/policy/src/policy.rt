@@ -3,20 +3,19 @@ ghost use Rattle.std.specs.Prelude.{◌≡◌, length, option_copied, IfOk, IfSo
 ghost use Rattle.toml.specs.View.{table_view};
 ghost use Rattle.policy.specs.Reading as spec;
 ghost use Rattle.policy.specs.Reading.{Gives};
-ghost use Rattle.policy.specs.Rules.{AreTimes, IsDayCount, IsRegistrar, IsPrice, IsRegistrarCount, IsSound, days_of, id_at, place_of, place_of_login};
+ghost use Rattle.policy.specs.Rules.{AreTimes, IsRegistrar, IsPrice, IsRegistrarCount, IsSound, id_at, place_of, place_of_login};
 ghost use Rattle.policy.specs.Terms.{ids_of, terms_of};
 
-use crate::days::days_at;
+use crate::dated::schedule_at;
 use crate::document::document_of;
 use crate::prices::prices_at;
 use crate::registrar::{index_of, index_of_login, number_at, registrars_at};
 use crate::soa::soa_at;
 use crate::texts::{labels_at, text_at};
-use crate::{Days, Key, Period, PolicyFault, Prices, Registrar, Soa, Terms};
+use crate::{Key, PolicyFault, Prices, Registrar, Schedule, Soa, Terms};
 use basis::list::Seq;
 use basis::registrar::RegistrarNo;
 use basis::text::Text;
-use calendar::Moment;
 use names::Zone;
 use std::alloc::{AllocError, Global};
 use std::marker::Model;
@@ -26,7 +25,7 @@ use toml::Table;
 #[derive(Drop)]
 pub struct Policy {
     zone: Zone,
-    days: Days,
+    days: Schedule,
     prices: Prices,
     soa: Soa,
     registrars: Seq<Registrar>,
@@ -53,7 +52,7 @@ fn rules_at(alloc: Global, document: &Table) -> Result<Policy, PolicyFault>
 {
     let label = text_at(alloc, document, Key::Zone)?;
     let reserved = labels_at(alloc, document, Key::Reserved)?;
-    let days = days_at(document)?;
+    let days = schedule_at(alloc, document)?;
     let prices = prices_at(document)?;
     let soa = soa_at(alloc, document)?;
     let registrars = registrars_at(alloc, document)?;
@@ -112,13 +111,11 @@ impl Policy {
         &self.soa
     }
 
-    /// The days of a period that begins at a moment, from 1 to 3,650. They're the same at every
-    /// moment, as long as a policy says nothing of later ones.
-    pub fn days(&self, period: Period, start: Moment) -> u32
-        ensures value { result ≡ days_of period start self.now }
-        ensures range { IsDayCount result }
+    /// The lengths of periods over time.
+    pub fn schedule(&self) -> &Schedule
+        ensures { result.now ≡ self.now.days }
     {
-        self.days.length(period)
+        &self.days
     }
 
     /// The price of a year of a create in cents, from 0 to 1,000,000,000.
@@ -187,7 +184,7 @@ impl Policy {
         Ok(Terms {
             zone: self.zone.label().clone()?,
             reserved: self.zone.reserved().clone()?,
-            days: self.days,
+            days: self.days.clone()?,
             prices: self.prices,
             ids: Seq::from_vec(copied_ids(alloc, self.registrars.as_slice())?),
         })

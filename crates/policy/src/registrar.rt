@@ -7,7 +7,7 @@ ghost use Rattle.policy.specs.Reading as spec;
 ghost use Rattle.policy.specs.Reading.{Gives};
 ghost use Rattle.policy.specs.Rules.{IsRegistrarCount, has_id, has_login, ids_of};
 
-use crate::document::{as_values, get};
+use crate::document::{any_lacks, as_values, get};
 use crate::texts::texts_in;
 use crate::{Key, PolicyFault};
 use basis::list::Seq;
@@ -52,21 +52,6 @@ pub(crate) fn index_of_login(registrars: &[Registrar], id: &str, password: &str)
     registrars.iter().position(|registrar| {
         registrar.id.as_str() == id && registrar.password.as_str() == password
     })
-}
-
-fn lacks(entry: &Value, key: Key) -> bool
-    ensures { result ≡ spec.lacks key (view entry.now) }
-{
-    match entry.as_table() {
-        Some(table) => get(table, key.name()).is_none(),
-        None => false,
-    }
-}
-
-fn any_lacks(entries: &[Value], key: Key) -> bool
-    ensures { result ≡ list_any (λ entry. spec.lacks key (view entry)) entries.now }
-{
-    entries.iter().any(|entry| lacks(entry, key))
 }
 
 /// The texts of one key in all entries.

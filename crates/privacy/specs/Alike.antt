@@ -128,8 +128,10 @@ code_told (shown s) = None
 
 -- it presents no right secret of an object that is touched
 pub record PresentsNone (touched : Objects) (c : Command) (s : Registry) : Type 0 where
-  pub contacts : (name : List ℕ) (o : Contact) → get s.contacts name ≡ Some o → authorizes (presented_contact c name) o.secret ≡ true → touched o.roid ≡ false
-  pub domains : (name : List ℕ) (o : Domain) → get s.domains name ≡ Some o → authorizes (presented c name) o.secret ≡ true → touched o.roid ≡ false
+  pub contacts : (name : List ℕ) (o : Contact) → get s.contacts name ≡ Some o
+      → authorizes (presented_contact c name) o.secret ≡ true → touched o.roid ≡ false
+  pub domains : (name : List ℕ) (o : Domain) → get s.domains name ≡ Some o
+      → authorizes (presented c name) o.secret ≡ true → touched o.roid ≡ false
 
 abbrev pub PresentsNoneFor : ℕ → Objects → Question → Registry → Type 0
 PresentsNoneFor r touched (command q c) s = q ≡ r → PresentsNone touched c s
@@ -141,7 +143,8 @@ PresentsNoneFor r touched look_up s = Unit {0}
 -- neither does the registrar present a right secret of what is touched, as the registries stand then.
 pub record IsAlike (p : PolicyRules) (r : ℕ) (touched : Objects) (pair : Pair) (s t : Registry) : Type 0 where
   pub elsewhere : DiffersElsewhere p r pair
-  pub codes : is_asked_by r (first pair) ≡ false → code_told (answer_to p (first pair) s) ≡ code_told (answer_to p (second pair) t)
+  pub codes : is_asked_by r (first pair) ≡ false
+      → code_told (answer_to p (first pair) s) ≡ code_told (answer_to p (second pair) t)
   pub presents : PresentsNoneFor r touched (first pair) s
   pub presents_too : PresentsNoneFor r touched (second pair) t
 

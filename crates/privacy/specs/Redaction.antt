@@ -39,7 +39,8 @@ redacted_contact r touched c = record c {
 
 -- without its secret (RFC 5731, 2.6)
 abbrev pub redacted_domain : ℕ → Objects → Domain → Domain
-redacted_domain r touched d = record d { secret = blank_if (is_redacted r touched d.roid d.sponsor d.transfer) [] d.secret }
+redacted_domain r touched d =
+    record d { secret = blank_if (is_redacted r touched d.roid d.sponsor d.transfer) [] d.secret }
 
 abbrev pub is_charge : Line → Bool
 is_charge l = not (is_kind l.kind kinds.Deposit)

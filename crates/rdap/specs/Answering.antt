@@ -62,7 +62,9 @@ IsAnswer p faces head bytes =
 
 -- equal heads, policies and faces have equal answers: nothing else can be in one
 abbrev pub AnswersAgree : Type 0
-AnswersAgree = (p : PolicyRules) (faces : Faces) (head one other : List ℕ) → IsAnswer p faces head one → IsAnswer p faces head other → one ≡ other
+AnswersAgree =
+    (p : PolicyRules) (faces : Faces) (head one other : List ℕ)
+    → IsAnswer p faces head one → IsAnswer p faces head other → one ≡ other
 
 -- what an answer leaves of its source: nothing was looked up, or one look-up was made
 abbrev pub MayLeave : {S : Type 0} → (S → S → Type 0) → S → S → Type 0

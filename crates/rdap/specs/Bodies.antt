@@ -49,7 +49,8 @@ events created expires updated transferred =
     ++ dated (codes "transfer") transferred
 
 abbrev pub events_value : ℕ → Option ℕ → Option ℕ → Option ℕ → Data
-events_value created expires updated transferred = array (items_of (events created expires updated transferred))
+events_value created expires updated transferred =
+    array (items_of (events created expires updated transferred))
 
 -- ---- names in Unicode (RFC 9083, 3)
 

@@ -15,7 +15,8 @@ most_fields = 64
 
 -- the bytes begin with this head, which keeps the limits
 abbrev pub HasHead : List ℕ → RequestHead → Type 0
-HasHead bytes h = (rest : List ℕ) × ReadsRequest (take most_bytes bytes) h rest × (length h.fields ≤ most_fields)
+HasHead bytes h =
+    (rest : List ℕ) × ReadsRequest (take most_bytes bytes) h rest × (length h.fields ≤ most_fields)
 
 -- they begin with no head that keeps the limits, whatever follows
 abbrev pub NeverHasHead : List ℕ → Type 0
@@ -45,6 +46,9 @@ IsReading bytes Bad = NeverHasHead bytes
 
 -- the same of bytes that are within the limit, and that may go on without one
 abbrev pub IsFrontReading : List ℕ → Reading → Type 0
-IsFrontReading front (Whole asked) = (h : RequestHead) × ((rest : List ℕ) × ReadsRequest front h rest × (length h.fields ≤ most_fields)) × IsAskedBy h asked
+IsFrontReading front (Whole asked) =
+    (h : RequestHead)
+    × ((rest : List ℕ) × ReadsRequest front h rest × (length h.fields ≤ most_fields))
+    × IsAskedBy h asked
 IsFrontReading front Cut = HasNoRequest front × MayBecomeRequest front
 IsFrontReading front Bad = RequestOverflows most_fields front

@@ -37,4 +37,5 @@ grace_word states.TransferPeriod = codes "transfer period"
 
 -- the words of an object's statuses and states of grace, sorted, each once
 abbrev pub status_words : List Status → List Rgp → List (List ℕ)
-status_words shown graces = dedup bytes_eq (in_order (map status_word shown ++ map grace_word graces))
+status_words shown graces =
+    dedup bytes_eq (in_order (map status_word shown ++ map grace_word graces))

@@ -17,10 +17,11 @@ use Rattle.basis.specs.Sweeps.{change_at}
 use Rattle.basis.proofs.ChangeLaws.{change_at-commutes}
 use Rattle.lifecycle.specs.Lapse.{lapse, lapse_contact}
 use Rattle.policy.specs.declared.registrar.Registrar.{Registrar}
-use Rattle.policy.specs.Rules.{PolicyRules, IsRegistrar}
-use Rattle.policy.specs.Terms.{Continues, ids_of, terms_of}
+use Rattle.policy.specs.Rules.{PolicyRules, IsRegistrar, length_of}
+use Rattle.policy.specs.Terms.{Continues, DaysContinue, ids_of, terms_of}
+use Rattle.policy.proofs.ScheduleLemmas.{continues-itself, in-force-same}
 use Rattle.policy.proofs.TermsLemmas.{continues-Decides}
-use Rattle.registry.specs.Opening.{Opens, continues_earlier, goes_on, opened, openings}
+use Rattle.registry.specs.Opening.{KeepsLengths, Opens, OpensAsItWas, continues_earlier, goes_on, opened, openings}
 use Rattle.registry.specs.WellFormed.{HoldsRegistry, OpensWellFormed}
 use Rattle.rules.specs.declared.change.Change.{Change}
 use Rattle.rules.specs.declared.change.Change.TheVariants.{OpenAccount}
@@ -34,7 +35,7 @@ use Rattle.store.specs.Book.{BookState, Stored}
 use Rattle.names.specs.Zone.{ZoneRules}
 use Rattle.model.specs.Lapse.{accounts_at, now, postings}
 use Rattle.model.specs.Registry.{Registry, account_of, blank}
-use Rattle.model.proofs.TermsLemmas.{same-lapse}
+use Rattle.model.proofs.TermsLemmas.{AgreeUntil, same-lapse}
 use Rattle.model.specs.Shapes.{HasShapes}
 use Rattle.model.specs.WellFormed.{HasCome, HasLines, HasMessages, HasObjects, IsLineOf, IsRegistry}
 
@@ -82,7 +83,7 @@ unfolding accounts-after
 accounts-after-of zero s t same = same
 accounts-after-of (suc n) s t same = ap (λ (m : FinMap nat_cmp Account). change_at empty_account (suc n) itself m) (accounts-after-of n s t same)
 
-now-opened : (p : PolicyRules) (n : ℕ) (s : Registry) → now p (changed_all p (openings n) s) ≡ changed_all p (openings n) (now p s)
+pub now-opened : (p : PolicyRules) (n : ℕ) (s : Registry) → now p (changed_all p (openings n) s) ≡ changed_all p (openings n) (now p s)
 unfolding accounts_at
 now-opened p n s =
     let es : List Posting = postings (λ name. lapse_contact s.clock) (λ name. lapse p s.clock) s in
@@ -117,7 +118,7 @@ kept-opened p q s zone more is =
       serial = λ r. omega (arith, ap (λ (a : Account). a.serial) (same-account n r s));
     } in
     let places : (r : ℕ) → IsSome (get (accounts-after n s) r) ↔ IsRegistrar p r = λ r.
-    (λ there. ⊎_elim (λ was. grows.place r ((is.objects.accounts r).0 was)) (λ place. place) ((places-after n r s).0 there), λ place. (places-after n r s).1 (inr place)) in
+    (λ there. ⊎_elim (λ was. grows.place r ((is.objects.identities.accounts r).0 was)) (λ place. place) ((places-after n r s).0 there), λ place. (places-after n r s).1 (inr place)) in
     let t : Registry = record s { accounts = accounts-after n s } in
     let of_q : HasShapes q.zone t = record { domains = is.shapes.domains; hosts = is.shapes.hosts } in
     subst (IsRegistry p) (sym (changed-openings p n s)) (record {
@@ -141,13 +142,15 @@ nobody-there r there = let never : false ≡ true = sym (ap is_some (get-empty n
 
 no-objects : (p : PolicyRules) → HasObjects (without_registrars p) blank
 no-objects p = record {
-  accounts = λ r. (λ there. absurd (nobody-there r there), λ place. absurd (omega (arith, place.0, place.1)));
+  identities = record {
+    accounts = λ r. (λ there. absurd (nobody-there r there), λ place. absurd (omega (arith, place.0, place.1)));
+    contact_roids = λ a b x y at-a at-b same. absurd (nothing-at (slice_cmp nat_cmp) a x at-a);
+    host_roids = λ a b x y at-a at-b same. absurd (nothing-at (slice_cmp nat_cmp) a x at-a);
+    domain_roids = λ a b x y at-a at-b same. absurd (nothing-at (slice_cmp nat_cmp) a x at-a);
+  };
   contacts = λ name c at. absurd (nothing-at (slice_cmp nat_cmp) name c at);
   hosts = λ name h at. absurd (nothing-at (slice_cmp nat_cmp) name h at);
   domains = λ name d at. absurd (nothing-at (slice_cmp nat_cmp) name d at);
-  contact_roids = λ a b x y at-a at-b same. absurd (nothing-at (slice_cmp nat_cmp) a x at-a);
-  host_roids = λ a b x y at-a at-b same. absurd (nothing-at (slice_cmp nat_cmp) a x at-a);
-  domain_roids = λ a b x y at-a at-b same. absurd (nothing-at (slice_cmp nat_cmp) a x at-a);
 }
 
 -- no account, and so no line
@@ -177,22 +180,46 @@ fewer p q added ids =
     let of_q : length (ids_of q.registrars) ≡ length q.registrars = length-map q.registrars (λ (registrar : Registrar). registrar.id) in
     omega arith
 
--- a registry that is well formed now under one policy, once it is opened under another
-now-kept-opened : (p q : PolicyRules) (s : Registry) → q.zone ≡ p.zone → p.days ≡ q.days → p.prices ≡ q.prices → length q.registrars ≤ length p.registrars → IsRegistry q (now q s)
-    → IsRegistry p (now p (changed_all p (openings (length p.registrars)) s))
-now-kept-opened p q s zone days prices more is =
+-- tables that begin later than the clock change no length of a period that began by then
+agree-until : (clock : ℕ) (p q : PolicyRules) → DaysContinue clock p.days q.days → AgreeUntil clock p q
+agree-until clock p q continues period m le = ap (length_of period) (in-force-same clock m p.days q.days continues le)
+
+-- so by now the registry is what it was under the other policy, once accounts are opened
+now-same : (p q : PolicyRules) (s : Registry) → DaysContinue s.clock p.days q.days → p.prices ≡ q.prices
+    → now p (changed_all p (openings (length p.registrars)) s) ≡ changed_all p (openings (length p.registrars)) (now q s)
+now-same p q s days prices =
     let n : ℕ = length p.registrars in
-    subst (IsRegistry p) (ap (changed_all p (openings n)) (sym (same-lapse p q days prices s.clock s)) ∙ sym (now-opened p n s)) (kept-opened p q (now q s) zone more is)
+    now-opened p n s ∙ ap (changed_all p (openings n)) (same-lapse s.clock p q (agree-until s.clock p q days) prices s.clock s (omega arith))
+
+-- a registry that is well formed now under one policy, once it is opened under another
+now-kept-opened : (p q : PolicyRules) (s : Registry) → q.zone ≡ p.zone → DaysContinue s.clock p.days q.days → p.prices ≡ q.prices → length q.registrars ≤ length p.registrars → IsRegistry q (now q s)
+    → IsRegistry p (now p (changed_all p (openings (length p.registrars)) s))
+now-kept-opened p q s zone days prices more is = subst (IsRegistry p) (sym (now-same p q s days prices)) (kept-opened p q (now q s) zone more is)
+
+-- a policy under which a book goes on that was opened under another continues that one
+continued : (p q : PolicyRules) (held : Stored) → held.terms ≡ Some (terms_of q) → goes_on (terms_of p) held ≡ true
+    → Continues held.registry.clock (terms_of p) (terms_of q)
+continued p q held before fits =
+    let clock : ℕ = held.registry.clock in
+    (continues-Decides clock (terms_of p) (terms_of q)).0 (sym (ap (continues_earlier clock (terms_of p)) before) ∙ fits)
 
 held-opened : (p : PolicyRules) (held : Stored) → goes_on (terms_of p) held ≡ true → HoldsRegistry held → IsRegistry p (now p (opened p held).registry)
 held-opened p held fits (inl e) =
     subst (λ (held : Stored). IsRegistry p (now p (opened p held).registry)) (sym e)
-    (now-kept-opened p (without_registrars p) blank refl refl refl (omega arith) (registry-now (without_registrars p) blank (blank-is p)))
+    (now-kept-opened p (without_registrars p) blank refl (continues-itself blank.clock p.days) refl (omega arith) (registry-now (without_registrars p) blank (blank-is p)))
 held-opened p held fits (inr before) =
     let q : PolicyRules = before.0 in
-    let same : Continues (terms_of p) (terms_of q) = (continues-Decides (terms_of p) (terms_of q)).0 (sym (ap (continues_earlier (terms_of p)) before.1) ∙ fits) in
+    let same = continued p q held before.1 fits in
     let zone : q.zone ≡ p.zone = λ i. record { label = sym same.zone i; reserved = sym same.reserved i } in
     now-kept-opened p q held.registry zone same.days same.prices (fewer p q same.ids.0 same.ids.1) before.2
 
 pub opens-kept : (p : PolicyRules) (old new : BookState) → Opens p old new → new.is_clean ≡ true → OpensWellFormed p old.content new.content
 opens-kept p old new opens clean holds = subst (λ (held : Stored). IsRegistry p (now p held.registry)) (sym (opens.content clean)) (held-opened p old.content (opens.fits clean) holds)
+
+pub opens-same : (p : PolicyRules) (old new : BookState) → Opens p old new → new.is_clean ≡ true → OpensAsItWas p old.content new.content
+opens-same p old new opens clean q before =
+    let same = continued p q old.content before (opens.fits clean) in
+    ap (λ (held : Stored). now p held.registry) (opens.content clean) ∙ now-same p q old.content.registry same.days same.prices
+
+pub opens-lengths : (p : PolicyRules) (old new : BookState) → Opens p old new → new.is_clean ≡ true → KeepsLengths p old.content
+opens-lengths p old new opens clean q before = agree-until old.content.registry.clock p q (continued p q old.content before (opens.fits clean)).days

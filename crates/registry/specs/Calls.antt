@@ -33,7 +33,8 @@ pub record CallKeeps {A : Type 0} (p : PolicyRules) (moment : ℕ) (x : Question
   pub answered : IfOk result (λ it. IsKept p moment x (told it) old new)
 
 -- of a call that looks something up, or lets objects lapse and tells nothing but how many
-abbrev pub LooksUpKeeping : {A : Type 0} → PolicyRules → ℕ → (Stored → Stored → Type 0) → Result A Fault → PolicyRules → BookState → BookState → Type 0
+abbrev pub LooksUpKeeping : {A : Type 0} → PolicyRules → ℕ → (Stored → Stored → Type 0)
+    → Result A Fault → PolicyRules → BookState → BookState → Type 0
 LooksUpKeeping p moment makes result after old new = CallKeeps p moment look_up (λ found. shown (lapsed p moment old.content.registry)) makes result after old new
 
 -- The same of a call inside, of which what is kept follows.

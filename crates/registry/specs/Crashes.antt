@@ -12,7 +12,8 @@ use Rattle.store.specs.Book.{BookState, LeavesItself, LeavesOld, LeavesOldOrMade
 
 -- The step of its registry, whatever it answers, under the same terms.
 abbrev pub Makes : {A : Type 0} → (Registry → Registry → A → Type 0) → Stored → Stored → Type 0
-Makes {A} step before after = ((answer : A) × step before.registry after.registry answer) × (after.terms ≡ before.terms)
+Makes {A} step before after =
+    ((answer : A) × step before.registry after.registry answer) × (after.terms ≡ before.terms)
 
 -- What a crash leaves after a call that makes this of what is held and gave up: what it could leave before, or what
 -- the call makes. One that came too late was never tried.
@@ -23,7 +24,8 @@ GivesUpTo faults.Moment makes old new = LeavesOld old new
 
 -- The same of any such call: once it answered, a crash leaves what is held now, and nothing else. There is a
 -- book then, and where it gave up there is one if there was one.
-abbrev pub Outlives : {A : Type 0} → Result A Fault → (Stored → Stored → Type 0) → BookState → BookState → Type 0
+abbrev pub Outlives : {A : Type 0} → Result A Fault → (Stored → Stored → Type 0) → BookState
+    → BookState → Type 0
 Outlives (Ok it) makes old new = LeavesItself new
 Outlives (Err fault) makes old new = GivesUpTo fault makes old new × (new.readiness ≡ old.readiness)
 
@@ -41,6 +43,7 @@ RefusedTo refusals.Schema p old new = LeavesOld old new
 RefusedTo refusals.Memory p old new = LeavesOldOrMade (OpensTo p) old new
 RefusedTo refusals.Store p old new = LeavesOldOrMade (OpensTo p) old new
 
-abbrev pub OutlivesOpening : {A : Type 0} → Result A OpenFault → PolicyRules → BookState → BookState → Type 0
+abbrev pub OutlivesOpening : {A : Type 0} → Result A OpenFault → PolicyRules → BookState → BookState
+    → Type 0
 OutlivesOpening (Ok it) p old new = LeavesItself new
 OutlivesOpening (Err fault) p old new = RefusedTo fault p old new

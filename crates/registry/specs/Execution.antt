@@ -49,20 +49,26 @@ pub record IsSettlement (p : PolicyRules) (moment at_most : ℕ) (before after :
 
 -- a book's registry takes the step, if nothing wrong was taken from what keeps it
 abbrev pub Steps : PolicyRules → ℕ → Command → ℕ → Reply → BookState → BookState → Type 0
-Steps p r c moment reply old new = new.is_clean ≡ true → IsStep p r c moment old.content.registry new.content.registry reply
+Steps p r c moment reply old new =
+    new.is_clean ≡ true → IsStep p r c moment old.content.registry new.content.registry reply
 
 abbrev pub OrderSteps : PolicyRules → Order → ℕ → Code → BookState → BookState → Type 0
-OrderSteps p order moment code old new = new.is_clean ≡ true → IsOrderStep p order moment old.content.registry new.content.registry code
+OrderSteps p order moment code old new =
+    new.is_clean ≡ true → IsOrderStep p order moment old.content.registry new.content.registry code
 
 abbrev pub Greets : PolicyRules → ℕ → ℕ → BookState → BookState → Type 0
-Greets p moment date old new = new.is_clean ≡ true → IsGreetingStep p moment old.content.registry new.content.registry date
+Greets p moment date old new =
+    new.is_clean ≡ true → IsGreetingStep p moment old.content.registry new.content.registry date
 
 abbrev pub Settles : PolicyRules → ℕ → ℕ → ℕ → BookState → BookState → Type 0
-Settles p moment at_most done old new = new.is_clean ≡ true → IsSettlement p moment at_most old.content.registry new.content.registry done
+Settles p moment at_most done old new =
+    new.is_clean ≡ true
+    → IsSettlement p moment at_most old.content.registry new.content.registry done
 
 -- the step is isolated, if nothing wrong was taken from what keeps the book
 abbrev pub Isolates : PolicyRules → ℕ → Command → ℕ → Reply → BookState → BookState → Type 0
-Isolates p r c moment reply old new = new.is_clean ≡ true → IsIsolated p r c moment old.content.registry new.content.registry reply
+Isolates p r c moment reply old new =
+    new.is_clean ≡ true → IsIsolated p r c moment old.content.registry new.content.registry reply
 
 -- a reply and changes that are the rules' by the facts
 pub record IsPrepared (p : PolicyRules) (r : ℕ) (c : Command) (t : ℕ) (f : Facts) (prepared : Prepared) : Type 0 where

@@ -27,5 +27,7 @@ pub record IsLookUp {X : Type 0} (p : PolicyRules) (find : Registry → X) (mome
   pub left : now p after ≡ now p (lapsed p moment before)
 
 -- so it is in a book's registry, if nothing wrong was taken from what keeps it
-abbrev pub LooksUp : {X : Type 0} → PolicyRules → (Registry → X) → ℕ → X → BookState → BookState → Type 0
-LooksUp p find moment found old new = new.is_clean ≡ true → IsLookUp p find moment old.content.registry new.content.registry found
+abbrev pub LooksUp : {X : Type 0} → PolicyRules → (Registry → X) → ℕ → X → BookState → BookState
+    → Type 0
+LooksUp p find moment found old new =
+    new.is_clean ≡ true → IsLookUp p find moment old.content.registry new.content.registry found

@@ -9,3 +9,4 @@ pub mod WellFormed
 pub mod Money
 pub mod TwoRuns
 pub mod Calls
+pub mod Sound

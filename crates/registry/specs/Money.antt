@@ -14,11 +14,13 @@ KeepsMoney p moment before after = MoneyFollows p moment (now p before) (now p a
 
 -- so every call does, a command where the registry is well formed
 abbrev pub CallKeepsMoney : PolicyRules → ℕ → Question → Registry → Registry → Type 0
-CallKeepsMoney p moment (command r c) before after = IsRegistry p (now p before) → KeepsMoney p moment before after
+CallKeepsMoney p moment (command r c) before after =
+    IsRegistry p (now p before) → KeepsMoney p moment before after
 CallKeepsMoney p moment (order o) before after = KeepsMoney p moment before after
 CallKeepsMoney p moment date before after = KeepsMoney p moment before after
 CallKeepsMoney p moment look_up before after = KeepsMoney p moment before after
 
 -- of a book, if nothing wrong was taken from what keeps it
 abbrev pub BookKeepsMoney : PolicyRules → ℕ → Question → BookState → BookState → Type 0
-BookKeepsMoney p moment x old new = new.is_clean ≡ true → CallKeepsMoney p moment x old.content.registry new.content.registry
+BookKeepsMoney p moment x old new =
+    new.is_clean ≡ true → CallKeepsMoney p moment x old.content.registry new.content.registry

@@ -1,7 +1,9 @@
 -- How a book is opened under a policy.
-use Rattle.std.specs.Prelude.{◌≡◌, ◌≢◌, ℕ, zero, suc, Bool, true, false, List, [], ◌∷◌, ◌++◌, length, Option, Some, None}
+use Rattle.std.specs.Prelude.{◌≡◌, ◌≢◌, ◌≤◌, ℕ, zero, suc, Bool, true, false, List, [], ◌∷◌, ◌++◌, length, Option, Some, None}
+use Rattle.model.specs.Lapse.{now}
 use Rattle.policy.specs.declared.terms.Terms.{Terms}
-use Rattle.policy.specs.Rules.{PolicyRules}
+use Rattle.policy.specs.declared.days.Period.{Period}
+use Rattle.policy.specs.Rules.{PolicyRules, days_of}
 use Rattle.policy.specs.Terms.{continues, terms_of}
 use Rattle.registry.specs.declared.fault.OpenFault.{OpenFault}
 use Rattle.registry.specs.declared.fault.OpenFault.TheVariants as refusals
@@ -11,13 +13,13 @@ use Rattle.rules.specs.Changes.{changed_all}
 use Rattle.store.specs.Book.{BookState, HasRefused, IsBack, Moves, NoRefusal, Stored}
 use Rattle.transactions.specs.declared.readiness.Ready.TheVariants.{Other}
 
-abbrev pub continues_earlier : Terms → Option Terms → Bool
-continues_earlier terms None = true
-continues_earlier terms (Some earlier) = continues terms earlier
+abbrev pub continues_earlier : ℕ → Terms → Option Terms → Bool
+continues_earlier clock terms None = true
+continues_earlier clock terms (Some earlier) = continues clock terms earlier
 
--- a book that was never opened, or was opened under terms that these continue
+-- a book that was never opened, or was opened under terms that these continue, by its clock
 abbrev pub goes_on : Terms → Stored → Bool
-goes_on terms held = continues_earlier terms held.terms
+goes_on terms held = continues_earlier held.registry.clock terms held.terms
 
 -- an account for each of the first n registrars
 unfoldable pub openings : ℕ → List Change
@@ -27,6 +29,19 @@ openings (suc n) = openings n ++ OpenAccount (suc n) ∷ []
 -- what an opened book holds: the registrars have accounts, and the policy's terms are put down
 abbrev pub opened : PolicyRules → Stored → Stored
 opened p s = record { registry = changed_all p (openings (length p.registrars)) s.registry; terms = Some (terms_of p) }
+
+-- every period that began by the clock has the length that it had under the earlier policy
+abbrev pub KeepsLengths : PolicyRules → Stored → Type 0
+KeepsLengths p before =
+    (q : PolicyRules) → before.terms ≡ Some (terms_of q)
+    → (period : Period) (start : ℕ) → start ≤ before.registry.clock
+    → days_of period start p ≡ days_of period start q
+
+-- by now the registry is what it was by now under the earlier policy, once its registrars have accounts
+abbrev pub OpensAsItWas : PolicyRules → Stored → Stored → Type 0
+OpensAsItWas p before after =
+    (q : PolicyRules) → before.terms ≡ Some (terms_of q)
+    → now p after.registry ≡ changed_all p (openings (length p.registrars)) (now q before.registry)
 
 pub record Opens (p : PolicyRules) (old new : BookState) : Type 0 where
   pub counted : NoRefusal old new

@@ -39,8 +39,10 @@ names_at kind (Some name) = named_of kind name
 pub record Reaches {X : Type 0} (p : PolicyRules) (find : Registry → X) (moment : ℕ) (old new : BookState) : Type 0 where
   pub counted : NoRefusal old new
   pub opened : new.is_open ≡ true
-  pub found : new.is_clean ≡ true → find new.content.registry ≡ find (lapsed p moment old.content.registry)
-  pub future : new.is_clean ≡ true → now p new.content.registry ≡ lapsed p moment old.content.registry
+  pub found : new.is_clean ≡ true
+      → find new.content.registry ≡ find (lapsed p moment old.content.registry)
+  pub future : new.is_clean ≡ true
+      → now p new.content.registry ≡ lapsed p moment old.content.registry
   pub terms : new.is_clean ≡ true → new.content.terms ≡ old.content.terms
   pub before : new.is_clean ≡ true → new.before ≡ old.before
 

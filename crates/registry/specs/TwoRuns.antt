@@ -7,7 +7,8 @@ use Rattle.store.specs.Book.{BookState}
 
 -- a call is a step of two runs, if nothing wrong was taken from what keeps the book
 abbrev pub StepsOfTwo : PolicyRules → ℕ → Question → Answer → BookState → BookState → Type 0
-StepsOfTwo p moment x a old new = new.is_clean ≡ true → IsStepOfTwo p moment x old.content.registry new.content.registry a
+StepsOfTwo p moment x a old new =
+    new.is_clean ≡ true → IsStepOfTwo p moment x old.content.registry new.content.registry a
 
 -- from what a book holds on, alike lists tell each registrar the same
 abbrev pub BookTellsAlike : PolicyRules → BookState → Type 0

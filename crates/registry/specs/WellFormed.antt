@@ -10,7 +10,8 @@ use Rattle.store.specs.Book.{BookState, Stored, nothing}
 
 -- A registrar's call on a well formed registry leaves one, where its numbers are far from the greatest.
 abbrev pub StaysWellFormed : PolicyRules → ℕ → Registry → Registry → Type 0
-StaysWellFormed p r before after = IsRegistry p (now p before) → HasNumbersLeft r before → IsRegistry p (now p after)
+StaysWellFormed p r before after =
+    IsRegistry p (now p before) → HasNumbersLeft r before → IsRegistry p (now p after)
 
 -- an order on a well formed registry leaves one; it creates nothing
 abbrev pub KeepsWellFormed : PolicyRules → Registry → Registry → Type 0
@@ -19,7 +20,9 @@ KeepsWellFormed p before after = IsRegistry p (now p before) → IsRegistry p (n
 -- a book that was never opened, or holds a well formed registry of a policy under whose terms it
 -- was opened
 abbrev pub HoldsRegistry : Stored → Type 0
-HoldsRegistry held = (held ≡ nothing) ⊎ ((q : PolicyRules) × (held.terms ≡ Some (terms_of q)) × IsRegistry q (now q held.registry))
+HoldsRegistry held =
+    (held ≡ nothing)
+    ⊎ ((q : PolicyRules) × (held.terms ≡ Some (terms_of q)) × IsRegistry q (now q held.registry))
 
 -- such a book, once it is opened under a policy, holds a well formed registry of that policy
 abbrev pub OpensWellFormed : PolicyRules → Stored → Stored → Type 0
@@ -39,7 +42,8 @@ CallKeepsWellFormed p date before after = KeepsWellFormed p before after
 CallKeepsWellFormed p look_up before after = KeepsWellFormed p before after
 
 abbrev pub BookKeepsWellFormed : PolicyRules → Question → BookState → BookState → Type 0
-BookKeepsWellFormed p x old new = new.is_clean ≡ true → CallKeepsWellFormed p x old.content.registry new.content.registry
+BookKeepsWellFormed p x old new =
+    new.is_clean ≡ true → CallKeepsWellFormed p x old.content.registry new.content.registry
 
 abbrev pub BookOpensWellFormed : PolicyRules → BookState → BookState → Type 0
 BookOpensWellFormed p old new = new.is_clean ≡ true → OpensWellFormed p old.content new.content

@@ -9,9 +9,10 @@ ghost use Rattle.registry.specs.Opening.{IsOurs, Opens, Refuses, RefusesOurs, Ta
 ghost use Rattle.store.specs.Book.{Follows, LeavesSame, Moves};
 
 use crate::fault::{Fault, OpenFault};
-use crate::transaction::{apply, keep_terms, or_rollback, terms};
+use crate::transaction::{apply, clock, keep_terms, or_rollback, terms};
 use basis::list::Seq;
 use basis::registrar::RegistrarNo;
+use calendar::Moment;
 use policy::{Policy, Terms};
 use rules::Change;
 use std::alloc::{AllocError, Global};
@@ -77,9 +78,27 @@ fn take_up<B: Book>(book: &mut B, alloc: Global, policy: &Policy) -> Result<bool
     ensures follows { Follows (B.state book.old) (B.state book.new) }
     ensures leaves { LeavesSame (B.state book.old) (B.state book.new) }
 {
+    let clock = clock(book)?;
+    take_up_at(book, alloc, policy, clock)
+}
+
+/// The same, told its clock.
+fn take_up_at<B: Book>(
+    book: &mut B,
+    alloc: Global,
+    policy: &Policy,
+    clock: Moment,
+) -> Result<bool, Fault>
+    requires open { (B.state book.old).is_open ≡ true }
+    requires clock { (B.state book.old).is_clean ≡ true → clock ≡ (B.state book.old).content.registry.clock }
+    ensures taken { IfOk result (λ taken. TakesUp taken policy.now (B.state book.old) (B.state book.new)) }
+    ensures fault { IfErr result (λ fault. GoesBack fault (B.state book.old) (B.state book.new)) }
+    ensures follows { Follows (B.state book.old) (B.state book.new) }
+    ensures leaves { LeavesSame (B.state book.old) (B.state book.new) }
+{
     let earlier = terms(book)?;
     let own = or_rollback(book, policy.terms(alloc))?;
-    let goes_on = continues_earlier(&own, &earlier);
+    let goes_on = continues_earlier(&own, &earlier, clock);
     drop(earlier);
     if !goes_on {
         drop(own);
@@ -91,12 +110,12 @@ fn take_up<B: Book>(book: &mut B, alloc: Global, policy: &Policy) -> Result<bool
 }
 
 /// Whether a book that was used under the earlier terms, if there are any, goes on under these.
-fn continues_earlier(terms: &Terms, earlier: &Option<Terms>) -> bool
-    ensures { result ≡ spec.continues_earlier terms.now earlier.now }
+fn continues_earlier(terms: &Terms, earlier: &Option<Terms>, clock: Moment) -> bool
+    ensures { result ≡ spec.continues_earlier clock terms.now earlier.now }
 {
     match earlier {
         None => true,
-        Some(earlier) => terms.continues(earlier),
+        Some(earlier) => terms.continues(earlier, clock),
     }
 }
 

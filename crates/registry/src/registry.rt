@@ -10,6 +10,8 @@ ghost use Rattle.registry.specs.Calls.{CallKeeps, IsOpenedAs, IsRefused, LooksUp
 ghost use Rattle.registry.specs.Crashes.{Makes};
 ghost use Rattle.registry.specs.Execution.{Fails, Greets, IsGreetingStep, IsOrderStep, IsSettlement, IsStep, Isolates, OrderSteps, Settles, Steps, last_call};
 ghost use Rattle.registry.specs.Faces.{IsLookUp, LooksUp};
+ghost use Rattle.registry.specs.Opening.{KeepsLengths, OpensAsItWas};
+ghost use Rattle.registry.specs.Sound.{BeginAfter-prop};
 ghost use Rattle.store.specs.Faces.{contact_face_at, domain_face_at, domain_names, host_addresses_at, host_face_at};
 
 use crate::askable::can_be_asked;
@@ -48,19 +50,27 @@ pub struct Registry<B: Book> {
     book: B,
     policy: Policy,
     alloc: Global,
-    ghost sound: { IsSound policy } by { Prim.hlevel props },
+    ghost sound: { IsSound policy } by { Prim.hlevel (props, BeginAfter-prop) },
     ghost idle: { (B.state book).is_open ≡ false },
     ghost kept: { (B.state book).is_clean ≡ true → (B.state book).content.terms ≡ Some (terms_of policy) } by { Prim.hlevel (codes, names_code) },
 }
 
 impl<B: Book + Drop> Registry<B> {
     /// Opens a book under a policy, and the accounts of the registrars that have none yet. A book
-    /// that was used under another zone, other reserved labels, days or prices, or whose earlier
-    /// registrars aren't the first of the policy, is refused, and so is what isn't a book of this
-    /// form (`OpenFault::Schema`). What is refused is handed back as it was. A new book, or one of a well formed registry, is opened as a well formed registry.
+    /// that was used under another zone, other reserved labels, lengths of periods or prices, or whose
+    /// earlier registrars aren't the first of the policy, is refused (`OpenFault::Policy`); so is what
+    /// isn't a book of this form (`OpenFault::Schema`). Tables of lengths may have been added after the
+    /// earlier ones, each of which begins later than the book's clock. What is refused is handed back as
+    /// it was. Each period that began by the clock keeps its length, and by now the registry is what it
+    /// was under the earlier policy. A new book, or one of a well formed registry, is opened as a well
+    /// formed registry.
     pub fn open(alloc: Global, book: B, policy: Policy) -> Result<Registry<B>, (OpenFault, B)>
         requires { (B.state book).is_open ≡ false }
         ensures opened { IfOk result (λ registry. IsOpenedAs policy registry.policy (B.state book) (B.state registry.book)) }
+        ensures lengths { IfOk result (λ registry. (B.state registry.book).is_clean ≡ true
+            → KeepsLengths policy (B.state book).content) }
+        ensures same { IfOk result (λ registry. (B.state registry.book).is_clean ≡ true
+            → OpensAsItWas policy (B.state book).content (B.state registry.book).content) }
         ensures refused { IfErr result (λ refusal. IsRefused refusal.0 policy (B.state book) (B.state refusal.1)) }
     {
         let mut book = book;

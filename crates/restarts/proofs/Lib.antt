@@ -1,1 +1,2 @@
 pub mod RestartLemmas
+pub mod UnopenedLemmas

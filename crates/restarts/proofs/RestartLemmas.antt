@@ -24,7 +24,7 @@ use Rattle.sqlbook.specs.Seen.{are_all_right, meant}
 use Rattle.transactions.specs.declared.readiness.Ready.{Ready}
 use Rattle.restarts.specs.Restarts.{IsOpenedIn, NewFilesAreBooks, RestartsAreEvents, StopsAreCrashes, book_of}
 
-leaves-found : (trees : Trees) (rows : StateOf Content) (refused : ℕ) → IsAdopted trees rows → LeavesFound (book_of rows refused)
+pub leaves-found : (trees : Trees) (rows : StateOf Content) (refused : ℕ) → IsAdopted trees rows → LeavesFound (book_of rows refused)
 unfolding may_leave
 leaves-found trees rows refused adopted left may =
     let parts = and_parts rows.is_honest (are_all_right are_right rows.crash_leaves) may.0 in
@@ -59,11 +59,6 @@ new-files-are-books image rows refused taken none =
     }
 
 -- ---- what the functions give
-
--- what holds of a result holds of what is handed on of it
-pub handed_on : {A E F : Type 0} (given : Result A E) (had : Result A F) (P : A → Type 0) → IfOk given (λ it. had ≡ Ok it) → IfOk had P → IfOk given P
-handed_on {A} {E} {F} (Ok it) had P is holds = subst (λ (r : Result A F). IfOk r P) is holds
-handed_on (Err fault) had P is holds = tt
 
 pub idle_in : {A E : Type 0} (result : Result A E) (stood : A → BookState) (trees : Trees) → IfOk result (λ it. IsTakenFrom trees (stood it)) → IfOk result (λ it. (stood it).is_open ≡ false)
 idle_in (Ok it) stood trees taken = taken.idle

@@ -32,14 +32,16 @@ pub record IsOpenedIn (image : Image) (p : PolicyRules) (new : BookState) : Type
 
 -- The files of a book hold what a crash could leave of them, and a book is taken from them: a crash has happened.
 abbrev pub StopsAreCrashes : {D : Type 0} → Ghosts D → Type 0
-StopsAreCrashes {D} g = (files : Files D) (old : BookState) (image : Image) (rows : StateOf Content) (refused : ℕ)
+StopsAreCrashes {D} g =
+    (files : Files D) (old : BookState) (image : Image) (rows : StateOf Content) (refused : ℕ)
     → IsLeftIn g files old → old.is_honest ≡ true → outcomes g files.log files.db image
     → AreTakenIn image rows → rows.is_clean ≡ true
     → ∥ Happens crash old (book_of rows refused) ∥₁
 
 -- The same, and the registry in the files is opened under a policy.
 abbrev pub RestartsAreEvents : {D : Type 0} → Ghosts D → Type 0
-RestartsAreEvents {D} g = (files : Files D) (old : BookState) (image : Image) (p : PolicyRules) (new : BookState)
+RestartsAreEvents {D} g =
+    (files : Files D) (old : BookState) (image : Image) (p : PolicyRules) (new : BookState)
     → IsLeftIn g files old → old.is_honest ≡ true → outcomes g files.log files.db image
     → IsOpenedIn image p new → new.is_honest ≡ true
     → Happened (crash ∷ answered (opening p) ∷ []) old new

@@ -1,8 +1,12 @@
 //! A registry in a file, and what is found of it after the machine stopped.
 #![tactic(auto)]
 
+mod connection;
 mod files;
 mod laws;
+mod unopened;
 
-pub use files::{FileBook, book_in, connect, open_in};
+pub use connection::{NotOpened, connect, connection_in};
+pub use files::{FileBook, FileUnopened, book_in, open_in, registry_in};
 pub use laws::stops_are_crashes;
+pub use unopened::Unopened;

@@ -6,7 +6,9 @@ ghost use Rattle.std.specs.Prelude.{◌≡◌, true, false, OnOk};
 use sqlite::{Alter, Connection, Error, MemStore};
 use std::alloc::{AllocError, Global};
 use std::process::Abort;
-use tables::{AccountRow, LinkRow, MetaRow, RowStore, balance_of_bytes, bytes_of_balance, create};
+use tables::{
+    AccountRow, LinkRow, MetaRow, RowStore, Unadopted, balance_of_bytes, bytes_of_balance, create,
+};
 use transactions::{BookFault, Ready};
 
 // ---- rows
@@ -14,7 +16,7 @@ use transactions::{BookFault, Ready};
 fn meta(alloc: Global) -> Result<MetaRow, AllocError> {
     Ok(MetaRow {
         id: 1,
-        version: 1,
+        version: 2,
         clock: 0,
         zone: String::from_str(alloc, "test")?,
         reserved: String::new(alloc),
@@ -115,10 +117,13 @@ fn holds_nothing_once_its_first_transaction_is_undone(rt: HostRuntime) -> Result
 // ---- what a database is
 
 const OURS: &str =
+    "INSERT INTO meta VALUES (1, 2, 946684800, 'test', '', 1, 1, 1, 1, 1, 1, 1, 1, 1, 0, 0, 0)";
+
+const EARLIER: &str =
     "INSERT INTO meta VALUES (1, 1, 946684800, 'test', '', 1, 1, 1, 1, 1, 1, 1, 1, 1, 0, 0, 0)";
 
 const LATER: &str =
-    "INSERT INTO meta VALUES (1, 2, 946684800, 'test', '', 1, 1, 1, 1, 1, 1, 1, 1, 1, 0, 0, 0)";
+    "INSERT INTO meta VALUES (1, 3, 946684800, 'test', '', 1, 1, 1, 1, 1, 1, 1, 1, 1, 0, 0, 0)";
 
 const ANOTHER: &str = "CREATE TABLE other (id INTEGER PRIMARY KEY)";
 
@@ -126,6 +131,7 @@ const ANOTHER: &str = "CREATE TABLE other (id INTEGER PRIMARY KEY)";
 const ADOPTED: &[(bool, &[&str], Ready)] = &[
     (false, &[], Ready::Empty),
     (true, &[OURS], Ready::Used),
+    (true, &[EARLIER], Ready::Other),
     (true, &[LATER], Ready::Other),
     (false, &[ANOTHER], Ready::Other),
 ];
@@ -141,22 +147,34 @@ fn make<S: Alter>(conn: &mut Connection<S>, has_tables: bool, texts: &[&str]) ->
     conn.execute_batch("COMMIT")
 }
 
-/// What was taken up, or the fault; what it was to be taken from is let go.
-fn or_fault<T, S: Drop>(adopted: Result<T, (BookFault, S)>) -> Result<T, BookFault> {
+/// What a database is taken for; what isn't taken up is let go.
+fn ready_of<S: Alter + Drop>(
+    adopted: Result<RowStore<S>, (Unadopted, S)>,
+) -> Result<Ready, BookFault> {
     match adopted {
-        Ok(store) => Ok(store),
-        Err((fault, _)) => Err(fault),
+        Ok(store) => ready_in(store),
+        Err((cause, store)) => {
+            drop(store);
+            match cause {
+                Unadopted::Other => Ok(Ready::Other),
+                Unadopted::Memory => Err(BookFault::Memory),
+                Unadopted::Store => Err(BookFault::Store),
+            }
+        }
     }
 }
 
-fn adopted(
-    alloc: Global,
-    has_tables: bool,
-    texts: &[&str],
-) -> Result<RowStore<MemStore>, BookFault> {
+fn ready_in<S: Alter + Drop>(store: RowStore<S>) -> Result<Ready, BookFault> {
+    let mut store = store;
+    let told = store.ready();
+    drop(store);
+    told
+}
+
+fn adopted(alloc: Global, has_tables: bool, texts: &[&str]) -> Result<Ready, BookFault> {
     let mut conn = Connection::open_in_memory(alloc)?;
     match make(&mut conn, has_tables, texts) {
-        Ok(()) => or_fault(RowStore::adopt(conn, alloc)),
+        Ok(()) => ready_of(RowStore::adopt(conn, alloc)),
         Err(_) => {
             drop(conn);
             Err(BookFault::Store)
@@ -167,10 +185,8 @@ fn adopted(
 #[test]
 fn tells_what_it_adopts(rt: HostRuntime) -> Result<(), BookFault> {
     for (has_tables, texts, ready) in ADOPTED {
-        let mut store = adopted(rt.alloc(), *has_tables, texts)?;
-        let told = store.ready();
-        drop(store);
-        assert!(rt; told? == *ready);
+        let told = adopted(rt.alloc(), *has_tables, texts)?;
+        assert!(rt; told == *ready);
     }
     Ok(())
 }

@@ -141,7 +141,7 @@ module _ (p : PolicyRules) (r : ℕ) (cl_trid : Option (List ℕ)) (s : Registry
 
   undeleted-new : (name : List ℕ) → (is_some (superordinate_of p.zone name) && holds_of (λ above. above.is_deleted) (found_above (last_two_of name))) ≡ false → IsUndeleted p s name
   undeleted-new name alive n d at deleted e =
-      let last : last_two_of name ≡ Some n = last_two-superordinate p.zone name d.name e ∙ ap (λ (q : List ℕ). Some q) (is.domains n d at).named in
+      let last : last_two_of name ≡ Some n = last_two-superordinate p.zone name d.name e ∙ ap (λ (q : List ℕ). Some q) (is.domains n d at).stands.named in
       let found : found_above (last_two_of name) ≡ Some (superordinate_of_domain d) = ap found_above last ∙ ap (option_map superordinate_of_domain) at in
       let never : true ≡ false = sym deleted ∙ sym (ap₂ (λ (o : Option (List ℕ)) (x : Option Superordinate). is_some o && holds_of (λ above. above.is_deleted) x) e found) ∙ alive in
       absurd cc
@@ -183,8 +183,12 @@ module _ (p : PolicyRules) (r : ℕ) (cl_trid : Option (List ℕ)) (s : Registry
     kept-new-contact new =
         let request : Request = requests.CreateContact new in
         put-contact p numbered_too kept-numbered new.name (new_contact r s.clock (facts p r (Asked cl_trid request) s) new)
-        (record { named = refl; roid = has-given kinds.Contact request; sponsor = place; created = omega arith; transferred = tt; updated = tt; transfer = tt; losing = tt })
-        (λ n x at same. absurd (ungiven kinds.Contact request kinds.Contact x.roid (is.contacts n x at).roid same))
+        (record {
+          stands = record { named = refl; roid = has-given kinds.Contact request; sponsor = place; created = omega arith; transferred = tt; updated = tt };
+          transfer = tt;
+          losing = tt;
+        })
+        (λ n x at same. absurd (ungiven kinds.Contact request kinds.Contact x.roid (is.contacts n x at).stands.roid same))
 
     pub kept-new-domain : (new : NewDomain) → let f : Facts = facts p r (Asked cl_trid (requests.CreateDomain new)) s in f.reference_missing ≡ false
         → HasObjects p (changed_all p (PutDomain (new_domain r s.clock f new) ∷ Give r TakeSerial ∷ charge lines.Create p r s.clock (new_roid kinds.Domain r f) (requests.CreateDomain new) f ∷ []) after_count)
@@ -194,18 +198,20 @@ module _ (p : PolicyRules) (r : ℕ) (cl_trid : Option (List ℕ)) (s : Registry
         (changed_all p (PutDomain (new_domain r s.clock (facts p r (Asked cl_trid request) s) new) ∷ Give r TakeSerial ∷ []) after_count)
         (put-domain p numbered_too kept-numbered (name_of new.name) (new_domain r s.clock (facts p r (Asked cl_trid request) s) new)
         (record {
-          named = refl;
-          roid = has-given kinds.Domain request;
-          sponsor = place;
-          created = omega arith;
-          transferred = tt;
-          updated = tt;
+          stands = record {
+            named = refl;
+            roid = has-given kinds.Domain request;
+            sponsor = place;
+            created = omega arith;
+            transferred = tt;
+            updated = tt;
+            deletion = tt;
+            contacts = new-contacts (λ name. is_some (get s.contacts name)) (λ name. is_some (get s.hosts name)) new linked;
+            hosts = new-hosts (λ name. is_some (get s.contacts name)) (λ name. is_some (get s.hosts name)) new linked;
+          };
           transfer = tt;
-          deletion = tt;
-          contacts = new-contacts (λ name. is_some (get s.contacts name)) (λ name. is_some (get s.hosts name)) new linked;
-          hosts = new-hosts (λ name. is_some (get s.contacts name)) (λ name. is_some (get s.hosts name)) new linked;
         })
-        (λ n x at same. absurd (ungiven kinds.Domain request kinds.Domain x.roid (is.domains n x at).roid same)))
+        (λ n x at same. absurd (ungiven kinds.Domain request kinds.Domain x.roid (is.domains n x at).stands.roid same)))
 
     pub kept-new-host : (new : NewHost) → let f : Facts = facts p r (Asked cl_trid (requests.CreateHost new)) s in refusal_of p r s.clock (requests.CreateHost new) f ≡ None
         → HasObjects p (changed_all p (PutHost (new_host p.zone r s.clock f new) ∷ Give r TakeSerial ∷ []) after_count)
@@ -278,8 +284,8 @@ module _ (p : PolicyRules) (r : ℕ) (cl_trid : Option (List ℕ)) (s : Registry
           let k = is.domains (name_of u.name) d at in
           kept-put-domain p after_count kept-counted (name_of u.name) d new at refl
           (domain-updated p after_count (name_of u.name) d d.years (Some s.clock) new.statuses new.secret new.links (omega arith)
-          (updated-contacts (λ name. is_some (get s.contacts name)) (λ name. is_some (get s.hosts name)) u d.links linked k.contacts)
-          (updated-hosts (λ name. is_some (get s.contacts name)) (λ name. is_some (get s.hosts name)) u d.links linked k.hosts)
+          (updated-contacts (λ name. is_some (get s.contacts name)) (λ name. is_some (get s.hosts name)) u d.links linked k.stands.contacts)
+          (updated-hosts (λ name. is_some (get s.contacts name)) (λ name. is_some (get s.hosts name)) u d.links linked k.stands.hosts)
           (kept-counted.domains (name_of u.name) d at))
       by (Some (TransferParty face transfer)) e = kept-counted
       by (Some (Public face)) e = kept-counted
@@ -302,7 +308,7 @@ module _ (p : PolicyRules) (r : ℕ) (cl_trid : Option (List ℕ)) (s : Registry
           let k = kept-counted.domains (name_of name) d at in
           kept-charged (charge_line lines.Renew p s.clock d.roid (requests.RenewDomain name expires years) (facts p r (asked_renewal name expires years) s)) (changed_all p (PutDomain new ∷ []) after_count)
           (kept-put-domain p after_count kept-counted (name_of name) d new at refl
-          (domain-updated p after_count (name_of name) d new.years (Some s.clock) d.statuses d.secret d.links (omega arith) k.contacts k.hosts k))
+          (domain-updated p after_count (name_of name) d new.years (Some s.clock) d.statuses d.secret d.links (omega arith) k.stands.contacts k.stands.hosts k))
       by (Some (TransferParty face transfer)) e = kept-counted
       by (Some (Public face)) e = kept-counted
 

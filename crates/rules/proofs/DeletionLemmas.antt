@@ -85,16 +85,18 @@ module _ (p : PolicyRules) (r : ℕ) (cl_trid : Option (List ℕ)) (s : Registry
   kept-ending d at settled false =
       let k = kept.domains (name_of name) d at in
       kept-put-domain p counted kept (name_of name) d (deleted_domain s.clock known.given_back.years d) at refl (record {
-        named = k.named;
-        roid = k.roid;
-        sponsor = k.sponsor;
-        created = k.created;
-        transferred = k.transferred;
-        updated = omega arith;
+        stands = record {
+          named = k.stands.named;
+          roid = k.stands.roid;
+          sponsor = k.stands.sponsor;
+          created = k.stands.created;
+          transferred = k.stands.transferred;
+          updated = omega arith;
+          deletion = record { deleted = omega arith; requested = tt; since = tt; hosts = λ host there above. alone d at host there (above ∙ ap (λ (q : List ℕ). Some q) k.stands.named); transfer = settled };
+          contacts = k.stands.contacts;
+          hosts = k.stands.hosts;
+        };
         transfer = k.transfer;
-        deletion = record { deleted = omega arith; requested = tt; since = tt; hosts = λ host there above. alone d at host there (above ∙ ap (λ (q : List ℕ). Some q) k.named); transfer = settled };
-        contacts = k.contacts;
-        hosts = k.hosts;
       })
 
   -- what is given back leaves objects and serials

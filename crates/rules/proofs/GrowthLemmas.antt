@@ -34,23 +34,27 @@ module _ (p q : PolicyRules) (s t : Registry) (grows : Grows p q s t) where
   transfer-grown : (created : ℕ) (transferred : Option ℕ) (transfer : Option Transfer) → IsLastTransfer p s created transferred transfer → IsLastTransfer q t created transferred transfer
   transfer-grown created transferred None h = tt
   transfer-grown created transferred (Some transfer) h = record {
+    recorded = record {
+      requester = grows.place _ h.recorded.requester;
+      losing_registrar = grows.place _ h.recorded.losing_registrar;
+      requested = omega (arith, h.recorded.requested, grows.clock);
+      acted = λ ended. omega (arith, h.recorded.acted ended, grows.clock);
+    };
     begun = h.begun;
     next = h.next;
     due = h.due;
-    requester = grows.place _ h.requester;
-    losing_registrar = grows.place _ h.losing_registrar;
-    requested = omega (arith, h.requested, grows.clock);
-    acted = λ ended. omega (arith, h.acted ended, grows.clock);
   }
 
   pub contact-grown : (name : List ℕ) (c : Contact) → IsContactOf p s name c → IsContactOf q t name c
   contact-grown name c h = record {
-    named = h.named;
-    roid = roid-grown _ c.roid h.roid;
-    sponsor = grows.place _ h.sponsor;
-    created = omega (arith, h.created, grows.clock);
-    transferred = been-grown c.transferred h.transferred;
-    updated = been-grown c.updated h.updated;
+    stands = record {
+      named = h.stands.named;
+      roid = roid-grown _ c.roid h.stands.roid;
+      sponsor = grows.place _ h.stands.sponsor;
+      created = omega (arith, h.stands.created, grows.clock);
+      transferred = been-grown c.transferred h.stands.transferred;
+      updated = been-grown c.updated h.stands.updated;
+    };
     transfer = transfer-grown c.created c.transferred c.transfer h.transfer;
     losing = h.losing;
   }
@@ -94,14 +98,16 @@ module _ (p q : PolicyRules) (s t : Registry) (grows : Grows p q s t) where
       → ((host : List ℕ) → names_host host links ≡ true → IsSome (get t.hosts host))
       → IsDomainOf p s name d → IsDomainOf q t name (record d { links = links })
   domain-grown name d links free contacts hosts h = record {
-    named = h.named;
-    roid = roid-grown _ d.roid h.roid;
-    sponsor = grows.place _ h.sponsor;
-    created = omega (arith, h.created, grows.clock);
-    transferred = been-grown d.transferred h.transferred;
-    updated = been-grown d.updated h.updated;
+    stands = record {
+      named = h.stands.named;
+      roid = roid-grown _ d.roid h.stands.roid;
+      sponsor = grows.place _ h.stands.sponsor;
+      created = omega (arith, h.stands.created, grows.clock);
+      transferred = been-grown d.transferred h.stands.transferred;
+      updated = been-grown d.updated h.stands.updated;
+      deletion = deletion-grown d links free d.deletion (λ is. is) h.stands.deletion;
+      contacts = contacts;
+      hosts = hosts;
+    };
     transfer = transfer-grown d.created d.transferred d.transfer h.transfer;
-    deletion = deletion-grown d links free d.deletion (λ is. is) h.deletion;
-    contacts = contacts;
-    hosts = hosts;
   }

@@ -1,6 +1,6 @@
 -- A domain that is handed over by a pending transfer begins with the grace of the transfer alone (RFC
 -- 3915, 3.1; RFC 5730, 2.9.3.4).
-use Rattle.std.proofs.Common.{◌≡◌, ◌≢◌, ℕ, ◌≤◌, ◌<◌, ◌==◌, nat_lt, nat_le, Bool, true, false, cond, not, ◌&&◌, List, length, Option, Some, None, is_some, refl, ap, subst, ◌∙◌, arith, eqb-true}
+use Rattle.std.proofs.Common.{◌≡◌, ◌≢◌, ℕ, ◌≤◌, ◌<◌, ◌==◌, nat_lt, nat_le, Bool, true, false, cond, not, ◌&&◌, List, Option, Some, None, is_some, refl, ap, subst, ◌∙◌, arith, eqb-true}
 use Rattle.std.specs.Prelude.{IfSome}
 use Rattle.std.specs.FinMap.{get}
 use Rattle.std.specs.List.{list_any}
@@ -22,9 +22,10 @@ use Rattle.objects.specs.Transfers.{is_pending_state}
 use Rattle.policy.specs.declared.days.Period.{Period}
 use Rattle.policy.specs.declared.days.Period.TheVariants as periods
 use Rattle.policy.specs.Rules.{PolicyRules, IsSound}
+use Rattle.policy.proofs.ScheduleLemmas.{day-count}
 use Rattle.model.specs.Registry.{Registry, account_of}
-use Rattle.model.specs.Standards.{IsStandardRequest, IsTransferRecord, MeetsStandards}
-use Rattle.model.specs.WellFormed.{IsLater, begins_after, is_begun_after}
+use Rattle.model.specs.Standards.{IsStandardRequest, MeetsStandards}
+use Rattle.model.specs.WellFormed.{IsLater, IsTransferRecord, begins_after, is_begun_after}
 use Rattle.model.proofs.LineLemmas.{and-false, any-of-one, none-remade}
 
 -- ---- one line
@@ -85,7 +86,7 @@ module _ (p : PolicyRules) (t : ℕ) (roid : Roid) (last : Option ℕ) (past : I
       where
         run : runs_from p t (Some t) (Some t) (Some periods.Transfer) ≡ true
         run =
-            let least : 1 ≤ p.days.transfer = sound.days_in_range.transfer.0 in
+            let least = (day-count periods.Transfer t p.days sound.days_in_range).0 in
             let here : nat_le t t ≡ true = grind (arith, nat_tests) in
             let ahead : nat_lt t (end periods.Transfer t p) ≡ true = grind (arith, nat_tests, least) in
             λ i. here i && (here i && ahead i)

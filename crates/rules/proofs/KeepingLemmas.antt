@@ -24,7 +24,7 @@ use Rattle.rules.proofs.NameListLemmas.{has_name-filter}
 use Rattle.rules.proofs.NamedLemmas.{drop-cases, drop-keeps, drop-there, is-there, put-cases, put-is, put-keeps, put-there, remade-cases, remade-keeps, swap-names}
 use Rattle.rules.proofs.ViewLemmas.{account_of-with_account}
 use Rattle.model.specs.Registry.{Registry, account_of}
-use Rattle.model.specs.WellFormed.{IsContactOf, IsDomainOf, IsHostOf, HasObjects}
+use Rattle.model.specs.WellFormed.{AreApart, IsContactOf, IsDomainOf, IsHostOf, HasObjects, contact_roid, domain_roid, host_roid}
 
 -- ---- the clock and the accounts
 
@@ -34,13 +34,15 @@ pub kept-grown : (p q : PolicyRules) (s : Registry) (accounts : FinMap nat_cmp A
 kept-grown p q s accounts clock grows places is =
     let t : Registry = record s { accounts = accounts; clock = clock } in
     record {
-      accounts = places;
+      identities = record {
+        accounts = places;
+        contact_roids = is.identities.contact_roids;
+        host_roids = is.identities.host_roids;
+        domain_roids = is.identities.domain_roids;
+      };
       contacts = λ name c at. contact-grown p q s t grows name c (is.contacts name c at);
       hosts = λ name h at. host-grown p q s t grows (λ domain there. there) name h (is.hosts name h at);
-      domains = λ name d at. let k = is.domains name d at in domain-grown p q s t grows name d d.links (λ host there. inl there) k.contacts k.hosts k;
-      contact_roids = is.contact_roids;
-      host_roids = is.host_roids;
-      domain_roids = is.domain_roids;
+      domains = λ name d at. let k = is.domains name d at in domain-grown p q s t grows name d d.links (λ host there. inl there) k.stands.contacts k.stands.hosts k;
     }
 
 serial-risen : (f : Account → Account) → ((a : Account) → a.serial ≤ (f a).serial) → (r other : ℕ) (s : Registry) → (account_of r s).serial ≤ (account_of r (with_account other f s)).serial
@@ -63,13 +65,9 @@ pub kept-account : (p : PolicyRules) (r : ℕ) (f : Account → Account) → ((a
 kept-account p r f rises s place is =
     let accounts : FinMap nat_cmp Account = insert s.accounts r (f (account_of r s)) in
     kept-grown p p s accounts s.clock (record { zone = refl; place = λ q place. place; clock = omega arith; serial = λ q. serial-risen f rises q r s })
-    (λ q. (λ there. ⊎_elim (λ same. subst (IsRegistrar p) (sym same) place) (is.accounts q).0 ((placed s.accounts r (f (account_of r s)) q).0 there), λ of. (placed s.accounts r (f (account_of r s)) q).1 (inr ((is.accounts q).1 of)))) is
+    (λ q. (λ there. ⊎_elim (λ same. subst (IsRegistrar p) (sym same) place) (is.identities.accounts q).0 ((placed s.accounts r (f (account_of r s)) q).0 there), λ of. (placed s.accounts r (f (account_of r s)) q).1 (inr ((is.identities.accounts q).1 of)))) is
 
 -- ---- ROIDs
-
--- no two share a ROID
-abbrev pub AreApart : {X : Type 0} → (X → Roid) → FinMap (slice_cmp nat_cmp) X → Type 0
-AreApart {X} roid_of m = (a b : List ℕ) (x y : X) → get m a ≡ Some x → get m b ≡ Some y → roid_of x ≡ roid_of y → a ≡ b
 
 -- a ROID stands at no other name
 abbrev pub IsItsOwn : {X : Type 0} → (X → Roid) → FinMap (slice_cmp nat_cmp) X → List ℕ → Roid → Type 0
@@ -94,15 +92,6 @@ module _ {X : Type 0} (roid_of : X → Roid) (m : FinMap (slice_cmp nat_cmp) X) 
 -- what is so of all at their names and of what is put
 at-put : {X : Type 0} (P : List ℕ → X → Type 0) (m : FinMap (slice_cmp nat_cmp) X) (k : List ℕ) (v : X) → P k v → ((n : List ℕ) (x : X) → get m n ≡ Some x → P n x) → (n : List ℕ) (x : X) → get (insert m k v) n ≡ Some x → P n x
 at-put P m k v new old n x at = ⊎_elim (λ put. subst₂ P (sym put.0) put.1 new) (λ before. old n x before) (put-cases m k v n x at)
-
-abbrev pub contact_roid : Contact → Roid
-contact_roid c = c.roid
-
-abbrev pub host_roid : Host → Roid
-host_roid h = h.roid
-
-abbrev pub domain_roid : Domain → Roid
-domain_roid d = d.roid
 
 -- ---- objects are put and taken away
 
@@ -141,13 +130,15 @@ module _ (p : PolicyRules) (s : Registry) (is : HasObjects p s) where
       let contacts : Contacts = insert s.contacts c.name c in
       let grows : Grows p p s (changed p (PutContact c) s) = same-time p s contacts s.hosts s.domains in
       record {
-        accounts = is.accounts;
-        contacts = at-put (IsContactOf p (changed p (PutContact c) s)) s.contacts c.name c (contact-grown p p s _ grows c.name c (subst (λ (n : List ℕ). IsContactOf p s n c) (sym fits.named) fits)) (λ n x at. contact-grown p p s _ grows n x (is.contacts n x at));
+        identities = record {
+          accounts = is.identities.accounts;
+          contact_roids = apart-put contact_roid s.contacts is.identities.contact_roids c.name c (λ n x at same. own n x at same ∙ sym fits.stands.named);
+          host_roids = is.identities.host_roids;
+          domain_roids = is.identities.domain_roids;
+        };
+        contacts = at-put (IsContactOf p (changed p (PutContact c) s)) s.contacts c.name c (contact-grown p p s _ grows c.name c (subst (λ (n : List ℕ). IsContactOf p s n c) (sym fits.stands.named) fits)) (λ n x at. contact-grown p p s _ grows n x (is.contacts n x at));
         hosts = λ n h at. host-grown p p s _ grows (λ domain there. there) n h (is.hosts n h at);
-        domains = λ n d at. let k = is.domains n d at in same-domain contacts s.hosts s.domains n d k (λ host there. inl there) (λ contact named. put-keeps s.contacts c.name c contact (k.contacts contact named)) k.hosts;
-        contact_roids = apart-put contact_roid s.contacts is.contact_roids c.name c (λ n x at same. own n x at same ∙ sym fits.named);
-        host_roids = is.host_roids;
-        domain_roids = is.domain_roids;
+        domains = λ n d at. let k = is.domains n d at in same-domain contacts s.hosts s.domains n d k (λ host there. inl there) (λ contact named. put-keeps s.contacts c.name c contact (k.stands.contacts contact named)) k.stands.hosts;
       }
 
   -- a contact that no domain names
@@ -156,14 +147,16 @@ module _ (p : PolicyRules) (s : Registry) (is : HasObjects p s) where
       let contacts : Contacts = remove s.contacts name in
       let grows : Grows p p s (changed p (DropContact name) s) = same-time p s contacts s.hosts s.domains in
       record {
-        accounts = is.accounts;
+        identities = record {
+          accounts = is.identities.accounts;
+          contact_roids = apart-drop contact_roid s.contacts is.identities.contact_roids name;
+          host_roids = is.identities.host_roids;
+          domain_roids = is.identities.domain_roids;
+        };
         contacts = λ n c at. contact-grown p p s _ grows n c (is.contacts n c (drop-cases s.contacts name n c at).1);
         hosts = λ n h at. host-grown p p s _ grows (λ domain there. there) n h (is.hosts n h at);
         domains = λ n d at. let k = is.domains n d at in same-domain contacts s.hosts s.domains n d k (λ host there. inl there)
-            (λ contact named. drop-keeps s.contacts name contact (λ same. unnamed n d at (ap (λ (q : List ℕ). names_contact q d.links) (sym same) ∙ named)) (k.contacts contact named)) k.hosts;
-        contact_roids = apart-drop contact_roid s.contacts is.contact_roids name;
-        host_roids = is.host_roids;
-        domain_roids = is.domain_roids;
+            (λ contact named. drop-keeps s.contacts name contact (λ same. unnamed n d at (ap (λ (q : List ℕ). names_contact q d.links) (sym same) ∙ named)) (k.stands.contacts contact named)) k.stands.hosts;
       }
 
   pub put-host : (name : List ℕ) (h : Host) → IsHostOf p s name h → IsItsOwn host_roid s.hosts name h.roid → IsSome (get s.hosts name) ⊎ IsUndeleted p s name → HasObjects p (changed p (PutHost h) s)
@@ -171,17 +164,19 @@ module _ (p : PolicyRules) (s : Registry) (is : HasObjects p s) where
       let hosts : Hosts = insert s.hosts h.name h in
       let grows : Grows p p s (changed p (PutHost h) s) = same-time p s s.contacts hosts s.domains in
       record {
-        accounts = is.accounts;
+        identities = record {
+          accounts = is.identities.accounts;
+          contact_roids = is.identities.contact_roids;
+          host_roids = apart-put host_roid s.hosts is.identities.host_roids h.name h (λ n x at same. own n x at same ∙ sym fits.named);
+          domain_roids = is.identities.domain_roids;
+        };
         contacts = λ n c at. contact-grown p p s _ grows n c (is.contacts n c at);
         hosts = at-put (IsHostOf p (changed p (PutHost h) s)) s.hosts h.name h (host-grown p p s _ grows (λ domain there. there) h.name h (subst (λ (n : List ℕ). IsHostOf p s n h) (sym fits.named) fits)) (λ n x at. host-grown p p s _ grows (λ domain there. there) n x (is.hosts n x at));
         domains = λ n d at. let k = is.domains n d at in same-domain s.contacts hosts s.domains n d k
             (λ host there. ⊎_elim
             (λ same. ⊎_elim (λ before. inl (subst (λ (q : List ℕ). IsSome (get s.hosts q)) (sym (same ∙ fits.named)) before)) (λ other. inr (subst (λ (q : List ℕ). IsSome d.deletion → superordinate_of p.zone q ≢ Some d.name) (sym (same ∙ fits.named)) (other n d at))) free)
             (λ before. inl before) (put-there s.hosts h.name h host there))
-            k.contacts (λ host named. put-keeps s.hosts h.name h host (k.hosts host named));
-        contact_roids = is.contact_roids;
-        host_roids = apart-put host_roid s.hosts is.host_roids h.name h (λ n x at same. own n x at same ∙ sym fits.named);
-        domain_roids = is.domain_roids;
+            k.stands.contacts (λ host named. put-keeps s.hosts h.name h host (k.stands.hosts host named));
       }
 
   -- a host that no domain names
@@ -190,29 +185,33 @@ module _ (p : PolicyRules) (s : Registry) (is : HasObjects p s) where
       let hosts : Hosts = remove s.hosts name in
       let grows : Grows p p s (changed p (DropHost name) s) = same-time p s s.contacts hosts s.domains in
       record {
-        accounts = is.accounts;
+        identities = record {
+          accounts = is.identities.accounts;
+          contact_roids = is.identities.contact_roids;
+          host_roids = apart-drop host_roid s.hosts is.identities.host_roids name;
+          domain_roids = is.identities.domain_roids;
+        };
         contacts = λ n c at. contact-grown p p s _ grows n c (is.contacts n c at);
         hosts = λ n h at. host-grown p p s _ grows (λ domain there. there) n h (is.hosts n h (drop-cases s.hosts name n h at).1);
-        domains = λ n d at. let k = is.domains n d at in same-domain s.contacts hosts s.domains n d k (λ host there. inl (drop-there s.hosts name host there)) k.contacts
-            (λ host named. drop-keeps s.hosts name host (λ same. unnamed n d at (ap (λ (q : List ℕ). names_host q d.links) (sym same) ∙ named)) (k.hosts host named));
-        contact_roids = is.contact_roids;
-        host_roids = apart-drop host_roid s.hosts is.host_roids name;
-        domain_roids = is.domain_roids;
+        domains = λ n d at. let k = is.domains n d at in same-domain s.contacts hosts s.domains n d k (λ host there. inl (drop-there s.hosts name host there)) k.stands.contacts
+            (λ host named. drop-keeps s.hosts name host (λ same. unnamed n d at (ap (λ (q : List ℕ). names_host q d.links) (sym same) ∙ named)) (k.stands.hosts host named));
       }
 
   pub put-domain : (name : List ℕ) (d : Domain) → IsDomainOf p s name d → IsItsOwn domain_roid s.domains name d.roid → HasObjects p (changed p (PutDomain d) s)
   put-domain name d fits own =
       let domains : Domains = insert s.domains d.name d in
       let grows : Grows p p s (changed p (PutDomain d) s) = same-time p s s.contacts s.hosts domains in
-      let same : (n : List ℕ) (x : Domain) → IsDomainOf p s n x → IsDomainOf p (changed p (PutDomain d) s) n x = λ n x k. same-domain s.contacts s.hosts domains n x k (λ host there. inl there) k.contacts k.hosts in
+      let same : (n : List ℕ) (x : Domain) → IsDomainOf p s n x → IsDomainOf p (changed p (PutDomain d) s) n x = λ n x k. same-domain s.contacts s.hosts domains n x k (λ host there. inl there) k.stands.contacts k.stands.hosts in
       record {
-        accounts = is.accounts;
+        identities = record {
+          accounts = is.identities.accounts;
+          contact_roids = is.identities.contact_roids;
+          host_roids = is.identities.host_roids;
+          domain_roids = apart-put domain_roid s.domains is.identities.domain_roids d.name d (λ n x at same. own n x at same ∙ sym fits.stands.named);
+        };
         contacts = λ n c at. contact-grown p p s _ grows n c (is.contacts n c at);
         hosts = λ n h at. host-grown p p s _ grows (λ domain there. put-keeps s.domains d.name d domain there) n h (is.hosts n h at);
-        domains = at-put (IsDomainOf p (changed p (PutDomain d) s)) s.domains d.name d (same d.name d (subst (λ (n : List ℕ). IsDomainOf p s n d) (sym fits.named) fits)) (λ n x at. same n x (is.domains n x at));
-        contact_roids = is.contact_roids;
-        host_roids = is.host_roids;
-        domain_roids = apart-put domain_roid s.domains is.domain_roids d.name d (λ n x at same. own n x at same ∙ sym fits.named);
+        domains = at-put (IsDomainOf p (changed p (PutDomain d) s)) s.domains d.name d (same d.name d (subst (λ (n : List ℕ). IsDomainOf p s n d) (sym fits.stands.named) fits)) (λ n x at. same n x (is.domains n x at));
       }
 
   -- a domain that no host lies below
@@ -221,14 +220,16 @@ module _ (p : PolicyRules) (s : Registry) (is : HasObjects p s) where
       let domains : Domains = remove s.domains name in
       let grows : Grows p p s (changed p (DropDomain name) s) = same-time p s s.contacts s.hosts domains in
       record {
-        accounts = is.accounts;
+        identities = record {
+          accounts = is.identities.accounts;
+          contact_roids = is.identities.contact_roids;
+          host_roids = is.identities.host_roids;
+          domain_roids = apart-drop domain_roid s.domains is.identities.domain_roids name;
+        };
         contacts = λ n c at. contact-grown p p s _ grows n c (is.contacts n c at);
         hosts = λ n h at. host-grown-below p p s _ grows n h
             (λ domain above there. drop-keeps s.domains name domain (λ same. alone n (is-there (get s.hosts n) h at) (above ∙ ap (λ (q : List ℕ). Some q) same)) there) (is.hosts n h at);
-        domains = λ n d at. let k = is.domains n d (drop-cases s.domains name n d at).1 in same-domain s.contacts s.hosts domains n d k (λ host there. inl there) k.contacts k.hosts;
-        contact_roids = is.contact_roids;
-        host_roids = is.host_roids;
-        domain_roids = apart-drop domain_roid s.domains is.domain_roids name;
+        domains = λ n d at. let k = is.domains n d (drop-cases s.domains name n d at).1 in same-domain s.contacts s.hosts domains n d k (λ host there. inl there) k.stands.contacts k.stands.hosts;
       }
 
 -- ---- a host gets a new name
@@ -257,26 +258,28 @@ module _ (p : PolicyRules) (s : Registry) (is : HasObjects p s) where
       let t : Registry = with_objects s.contacts hosts domains s in
       let grows : Grows p p s t = same-time p s s.contacts hosts domains in
       let there : (n : List ℕ) → IsSome (get s.domains n) → IsSome (get domains n) = λ n. remade-keeps (with_host_renamed old h.name) s.domains n in
-      let apart : AreApart host_roid left = apart-drop host_roid s.hosts is.host_roids old in
-      let own : IsItsOwn host_roid left h.name h.roid = λ n x at alike. let before = drop-cases s.hosts old n x at in absurd (before.0 (is.host_roids n old x o before.1 at-old (alike ∙ same))) in
+      let apart : AreApart host_roid left = apart-drop host_roid s.hosts is.identities.host_roids old in
+      let own : IsItsOwn host_roid left h.name h.roid = λ n x at alike. let before = drop-cases s.hosts old n x at in absurd (before.0 (is.identities.host_roids n old x o before.1 at-old (alike ∙ same))) in
       let one : (n : List ℕ) (d : Domain) → get s.domains n ≡ Some d → IsDomainOf p t n (with_host_renamed old h.name d) = λ n d at.
       let k = is.domains n d at in
       domain-grown p p s t grows n d (links_with_host_renamed old h.name d.links)
       (λ host now. ⊎_elim (λ new. inr (subst (λ (q : List ℕ). IsSome d.deletion → superordinate_of p.zone q ≢ Some d.name) (sym new) (free n d at))) (λ before. inl (drop-there s.hosts old host before)) (put-there left h.name h host now))
-      k.contacts
+      k.stands.contacts
       (λ host named. ⊎_elim
       (λ new. subst (λ (q : List ℕ). IsSome (get hosts q)) (sym new) (is-there (get hosts h.name) h (put-is left h.name h)))
-      (λ other. put-keeps left h.name h host (drop-keeps s.hosts old host other.0 (k.hosts host other.1)))
+      (λ other. put-keeps left h.name h host (drop-keeps s.hosts old host other.0 (k.stands.hosts host other.1)))
       (renamed-listed old h.name d.links.hosts host named))
       k in
       record {
-        accounts = is.accounts;
+        identities = record {
+          accounts = is.identities.accounts;
+          contact_roids = is.identities.contact_roids;
+          host_roids = apart-put host_roid left apart h.name h own;
+          domain_roids = apart-remade domain_roid s.domains is.identities.domain_roids (with_host_renamed old h.name) (λ d. refl);
+        };
         contacts = λ n c at. contact-grown p p s t grows n c (is.contacts n c at);
         hosts = at-put (IsHostOf p t) left h.name h (host-grown p p s t grows there h.name h fits) (λ n x at. host-grown p p s t grows there n x (is.hosts n x (drop-cases s.hosts old n x at).1));
         domains = λ n d at. let before = remade-cases (with_host_renamed old h.name) s.domains n d at in subst (IsDomainOf p t n) before.2 (one n before.0 before.1);
-        contact_roids = is.contact_roids;
-        host_roids = apart-put host_roid left apart h.name h own;
-        domain_roids = apart-remade domain_roid s.domains is.domain_roids (with_host_renamed old h.name) (λ d. refl);
       }
 
   -- it stands under both names until the domains name it anew

@@ -22,11 +22,11 @@ use Rattle.objects.specs.declared.transfer.Transfer.{Transfer}
 use Rattle.policy.specs.Rules.{PolicyRules}
 use Rattle.model.specs.Lapse.{accounts_at, contacts_at, domains_at, lapse as lapse_registry, lapsed, now, postings}
 use Rattle.model.specs.Registry.{Registry, account_of}
-use Rattle.model.specs.WellFormed.{IsContactOf, IsDeletion, IsDomainOf, HasObjects, IsTransfer}
+use Rattle.model.specs.WellFormed.{AreApart, HasObjects, IsContactOf, IsDeletion, IsDomainOf, IsTransfer, contact_roid, domain_roid}
 use Rattle.model.proofs.LapseLaws.{lapses-on, left-of}
 use Rattle.model.proofs.SweepLemmas.{left}
 use Rattle.rules.proofs.GrowthLemmas.{Grows, contact-grown, domain-grown, host-grown-below}
-use Rattle.rules.proofs.KeepingLemmas.{AreApart, contact_roid, domain_roid, kept-grown}
+use Rattle.rules.proofs.KeepingLemmas.{kept-grown}
 use Rattle.rules.proofs.NamedLemmas.{is-there, there-is}
 use Rattle.rules.proofs.PostingLemmas.{due-is, due-transfer, kept-posted, postings-to, serial-posted}
 
@@ -108,10 +108,12 @@ module _ (p : PolicyRules) (t : ℕ) (s : Registry) (past : t ≤ s.clock) (is :
   -- the transfer is over
   ended : (created : ℕ) (transferred : Option ℕ) (x : Transfer) → x.ac_date ≤ t → IsTransfer p after created transferred x → IsTransfer p after created (Some x.ac_date) (approved x)
   ended created transferred x due k = record {
-    requester = k.requester;
-    losing_registrar = k.losing_registrar;
-    requested = k.requested;
-    acted = λ over. omega (arith, due, past);
+    recorded = record {
+      requester = k.recorded.requester;
+      losing_registrar = k.recorded.losing_registrar;
+      requested = k.recorded.requested;
+      acted = λ over. omega (arith, due, past);
+    };
     begun = k.begun;
     next = λ pending. absurd cc;
     due = k.due;
@@ -124,12 +126,14 @@ module _ (p : PolicyRules) (t : ℕ) (s : Registry) (past : t ≤ s.clock) (is :
       let transfer = due-transfer p after t c.created c.transferred c.transfer x due k.transfer in
       let come = (due-is t c.transfer x due).1 in
       record {
-        named = k.named;
-        roid = k.roid;
-        sponsor = transfer.requester;
-        created = k.created;
-        transferred = omega (arith, come, past);
-        updated = k.updated;
+        stands = record {
+          named = k.stands.named;
+          roid = k.stands.roid;
+          sponsor = transfer.recorded.requester;
+          created = k.stands.created;
+          transferred = omega (arith, come, past);
+          updated = k.stands.updated;
+        };
         transfer = ended c.created c.transferred x come transfer;
         losing = λ pending. absurd (let never : false ≡ true = pending in cc);
       }) e
@@ -141,35 +145,39 @@ module _ (p : PolicyRules) (t : ℕ) (s : Registry) (past : t ≤ s.clock) (is :
 
   domain-fits : (name : List ℕ) (d e : Domain) → IsDomainOf p s name d → (lapse p t d).object ≡ Some e → IsDomainOf p after name e
   domain-fits name d e of =
-      let k : IsDomainOf p after name d = domain-grown p p s after grows name d d.links (λ host there. inl there) (λ contact named. contact-there contact (of.contacts contact named)) of.hosts of in
+      let k : IsDomainOf p after name d = domain-grown p p s after grows name d d.links (λ host there. inl there) (λ contact named. contact-there contact (of.stands.contacts contact named)) of.stands.hosts of in
       let undeleted : (f : Domain) → d.deletion ≡ None → IsDeletion p after f d.deletion = λ f alive. subst (IsDeletion p after f) (sym alive) tt in
       domain-left p t d (IsDomainOf p after name) (λ x gone. k)
       (λ alive years. record {
-        named = k.named;
-        roid = k.roid;
-        sponsor = k.sponsor;
-        created = k.created;
-        transferred = k.transferred;
-        updated = k.updated;
+        stands = record {
+          named = k.stands.named;
+          roid = k.stands.roid;
+          sponsor = k.stands.sponsor;
+          created = k.stands.created;
+          transferred = k.stands.transferred;
+          updated = k.stands.updated;
+          deletion = undeleted (with_years years d) alive;
+          contacts = k.stands.contacts;
+          hosts = k.stands.hosts;
+        };
         transfer = k.transfer;
-        deletion = undeleted (with_years years d) alive;
-        contacts = k.contacts;
-        hosts = k.hosts;
       })
       (λ alive x due years.
       let transfer = due-transfer p after t d.created d.transferred d.transfer x due k.transfer in
       let come = (due-is t d.transfer x due).1 in
       record {
-        named = k.named;
-        roid = k.roid;
-        sponsor = transfer.requester;
-        created = k.created;
-        transferred = omega (arith, come, past);
-        updated = k.updated;
+        stands = record {
+          named = k.stands.named;
+          roid = k.stands.roid;
+          sponsor = transfer.recorded.requester;
+          created = k.stands.created;
+          transferred = omega (arith, come, past);
+          updated = k.stands.updated;
+          deletion = undeleted (taken_over x years d) alive;
+          contacts = k.stands.contacts;
+          hosts = k.stands.hosts;
+        };
         transfer = ended d.created d.transferred x come transfer;
-        deletion = undeleted (taken_over x years d) alive;
-        contacts = k.contacts;
-        hosts = k.hosts;
       }) e
 
   -- a domain that a host lies below isn't deleted, so it stays
@@ -177,7 +185,7 @@ module _ (p : PolicyRules) (t : ℕ) (s : Registry) (past : t ≤ s.clock) (is :
   below-stays host there name d at above None alive = lived-stays p t d (due_by t d.transfer)
   below-stays host there name d at above (Some x) gone =
       let k = is.domains name d at in
-      absurd ((subst (IsDeletion p s d) gone k.deletion).hosts host there (above ∙ ap (λ (n : List ℕ). Some n) (sym k.named)))
+      absurd ((subst (IsDeletion p s d) gone k.stands.deletion).hosts host there (above ∙ ap (λ (n : List ℕ). Some n) (sym k.stands.named)))
 
   superordinate-there : (host : List ℕ) → IsSome (get s.hosts host) → (name : List ℕ) → superordinate_of p.zone host ≡ Some name → IsSome (get s.domains name) → IsSome (get after.domains name)
   superordinate-there host there name above domain =
@@ -186,13 +194,15 @@ module _ (p : PolicyRules) (t : ℕ) (s : Registry) (past : t ≤ s.clock) (is :
 
   kept-objects : HasObjects p after
   kept-objects = record {
-    accounts = is.accounts;
+    identities = record {
+      accounts = is.identities.accounts;
+      contact_roids = left-apart (λ name. lapse_contact t) s.contacts contact_roid (λ name c e. contact-left t c (λ (x : Contact). x.roid ≡ c.roid) refl (λ x due. refl) e) is.identities.contact_roids;
+      host_roids = is.identities.host_roids;
+      domain_roids = left-apart (λ name. lapse p t) s.domains domain_roid (λ name d e. domain-left p t d (λ (x : Domain). x.roid ≡ d.roid) (λ x gone. refl) (λ alive years. refl) (λ alive x due years. refl) e) is.identities.domain_roids;
+    };
     contacts = λ name e found. let was = left-of (λ name. lapse_contact t) s.contacts name e found in contact-fits name was.0 e (is.contacts name was.0 was.1) was.2;
     hosts = λ name h found. host-grown-below p p s after grows name h (superordinate-there name (is-there (get s.hosts name) h found)) (is.hosts name h found);
     domains = λ name e found. let was = left-of (λ name. lapse p t) s.domains name e found in domain-fits name was.0 e (is.domains name was.0 was.1) was.2;
-    contact_roids = left-apart (λ name. lapse_contact t) s.contacts contact_roid (λ name c e. contact-left t c (λ (x : Contact). x.roid ≡ c.roid) refl (λ x due. refl) e) is.contact_roids;
-    host_roids = is.host_roids;
-    domain_roids = left-apart (λ name. lapse p t) s.domains domain_roid (λ name d e. domain-left p t d (λ (x : Domain). x.roid ≡ d.roid) (λ x gone. refl) (λ alive years. refl) (λ alive x due years. refl) e) is.domain_roids;
   }
 
 -- ---- a registry that lapses
@@ -203,7 +213,7 @@ kept-lapse p t s le is =
     let posted_to : Registry = record s { accounts = fold posted s.accounts (postings (λ name. lapse_contact t) (λ name. lapse p t) s) } in
     let with_postings : HasObjects p posted_to = kept-posted p (postings (λ name. lapse_contact t) (λ name. lapse p t) s) (postings-to p s t is) s is in
     let later : Registry = record posted_to { clock = t } in
-    kept-objects p t later (omega arith) (kept-grown p p posted_to posted_to.accounts t (record { zone = refl; place = λ r place. place; clock = omega (arith, le); serial = λ r. omega arith }) with_postings.accounts with_postings)
+    kept-objects p t later (omega arith) (kept-grown p p posted_to posted_to.accounts t (record { zone = refl; place = λ r place. place; clock = omega (arith, le); serial = λ r. omega arith }) with_postings.identities.accounts with_postings)
 
 -- serials are taken by commands alone
 pub serial-lapsed : (p : PolicyRules) (moment r : ℕ) (s : Registry) → (account_of r (lapsed p moment s)).serial ≡ (account_of r s).serial

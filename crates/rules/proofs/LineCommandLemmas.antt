@@ -61,7 +61,7 @@ use Rattle.model.specs.LapseLaws.{IsSettled}
 use Rattle.model.specs.Objects.{object_at, object_ordered}
 use Rattle.model.specs.Registry.{Registry, account_of}
 use Rattle.model.specs.View.{domain_sight}
-use Rattle.model.specs.WellFormed.{HasBeen, HasLines, HasLinesOn, HasRoid, IsDeletion, IsLineOf, HasObjects, WasGiven, begins_after, IsRegistry, last_clock}
+use Rattle.model.specs.WellFormed.{AreApart, HasBeen, HasLines, HasLinesOn, HasObjects, HasRoid, IsDeletion, IsLineOf, IsRegistry, WasGiven, begins_after, domain_roid, last_clock}
 use Rattle.model.proofs.LineLemmas.{and-false, count-none, none-by}
 use Rattle.rules.specs.declared.change.Change.{Change}
 use Rattle.rules.specs.declared.change.Change.TheVariants.{PutDomain, Give}
@@ -70,7 +70,7 @@ use Rattle.rules.specs.Decisions.{changes_after, changes_of, charge_line, contac
 use Rattle.rules.specs.Orders.{cents_of, deposited, deposited_to, order_changes, order_decision, order_effect, ordered}
 use Rattle.rules.specs.Steps.{effect}
 use Rattle.rules.proofs.CommandLemmas.{at-itself, domain-full, has-given, ungiven}
-use Rattle.rules.proofs.KeepingLemmas.{AreApart, IsItsOwn, domain_roid}
+use Rattle.rules.proofs.KeepingLemmas.{IsItsOwn}
 use Rattle.rules.proofs.LineEntryLemmas.{AsksFor, begins-asks, waits-asks}
 use Rattle.rules.proofs.LineKeepingLemmas.{AllFitLines, FitsLines, IsAsBefore, IsChargeIn, IsCharged, begun-by, lines-changed_all, lines-counted, lines-stay, on-as-before, on-same, rises}
 use Rattle.rules.proofs.NamedLemmas.{put-cases, put-is}
@@ -154,10 +154,10 @@ module _ (p : PolicyRules) (r : ℕ) (cl_trid : Option (List ℕ)) (s : Registry
         put-again name d new at same,
         (
           own-charge p t r new.name new line (put-is counted.domains new.name new)
-              (own-put s.domains name d new is.domain_roids at k.named called same.roid)
-              (given-there new.roid (subst (HasRoid p s kinds.Domain) (sym same.roid) k.roid))
+              (own-put s.domains name d new is.identities.domain_roids at k.stands.named called same.roid)
+              (given-there new.roid (subst (HasRoid p s kinds.Domain) (sym same.roid) k.stands.roid))
               (sponsor ∙ sym same.sponsor)
-              (λ x e pending. awaited-ahead p s d k.deletion (settled.domains name d at) x (sym same.transfer ∙ e) pending)
+              (λ x e pending. awaited-ahead p s d k.stands.deletion (settled.domains name d at) x (sym same.transfer ∙ e) pending)
               (of ∙ ap (λ (roid : Roid). Some roid) (sym same.roid)) kind recorded (been line.started started) (been line.refunded refunded),
           tt,
         ),
@@ -271,7 +271,7 @@ module _ (p : PolicyRules) (r : ℕ) (cl_trid : Option (List ℕ)) (s : Registry
             tt,
             (
               own-charge p t r made.name made (charge_line lines.Create p s.clock made.roid request f) (put-is s.domains made.name made)
-                  (λ n x there alike. ⊎_elim (λ put. put.0) (λ before. absurd (ungiven p r cl_trid s place is small kinds.Domain request kinds.Domain x.roid (is.domains n x before).roid alike)) (put-cases s.domains made.name made n x there))
+                  (λ n x there alike. ⊎_elim (λ put. put.0) (λ before. absurd (ungiven p r cl_trid s place is small kinds.Domain request kinds.Domain x.roid (is.domains n x before).stands.roid alike)) (put-cases s.domains made.name made n x there))
                   (record { kind_is = given.kind_is; creator = given.creator; serial = given.serial })
                   refl (λ x e pending. absurd cc) refl refl (omega arith) (omega arith) tt,
               tt,

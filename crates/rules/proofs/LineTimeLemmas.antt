@@ -207,7 +207,7 @@ module _ (p : PolicyRules) (t : ℕ) (s : Registry) (le : s.clock ≤ t) (object
       (keep-both P r (given (λ n c. (lapse_contact t c).postings) s.contacts) (given (λ n d. (lapse p t d).postings) s.domains)
       (keep-given P r (λ n c. (lapse_contact t c).postings) s.contacts (λ n c there. completed-of p later r P (due_by t c.transfer) c))
       (keep-given P r (λ n d. (lapse p t d).postings) s.domains (λ n d there.
-      let has = (objects.domains n d there).roid in
+      let has = (objects.domains n d there).stands.roid in
       by-of p later r d.deletion d (record { kind_is = has.kind_is; creator = has.creator; serial = has.serial })))) s
       (all-weaker (IsLineOf p s) (IsLineOf p later) (λ l k. record { roid = given-later l.roid k.roid; recorded = omega (arith, k.recorded, le); started = begun-later l.started k.started; refunded = begun-later l.refunded k.refunded }) (account_of r s).lines (recursion_from_All (IsLineOf p s) (account_of r s).lines (is.each r)))
 
@@ -216,7 +216,7 @@ module _ (p : PolicyRules) (t : ℕ) (s : Registry) (le : s.clock ≤ t) (object
   left-on name d e found become same =
       let k : HasLinesOn (record s { accounts = fold posted s.accounts (lapse p t d).postings }) e = lapsed-on p t s d (is.domains name d found) e become in
       let carry : (P : List Line → Type 0) → IsKeptOff e.roid P → (r : ℕ) → P (account_of r (record s { accounts = fold posted s.accounts (lapse p t d).postings })).lines → P (account_of r left).lines =
-      λ P kept r h. by-others p t name s d found (λ n x there alike. objects.domain_roids n name x d there found alike) P (subst (λ (roid : Roid). IsKeptOff roid P) same kept) r h in
+      λ P kept r h. by-others p t name s d found (λ n x there alike. objects.identities.domain_roids n name x d there found alike) P (subst (λ (roid : Roid). IsKeptOff roid P) same kept) r h in
       record {
         elsewhere = λ r other. carry (λ ls. list_any (begins_after e.roid e.transferred) ls ≡ false) (none-kept-off e.roid (begins_after e.roid e.transferred) (begins-asks e.roid e.transferred)) r (k.elsewhere r other);
         waiting = λ r. carry (λ ls. count (waits e.roid) ls ≡ charges_waiting r e.transfer) (count-kept-off e.roid (waits e.roid) (waits-asks e.roid) (charges_waiting r e.transfer)) r (k.waiting r);

@@ -70,7 +70,7 @@ module _ (p : PolicyRules) (r : ℕ) (cl_trid : Option (List ℕ)) (s : Registry
       by (Some (Full known)) e =
           let d : Domain = known.domain in
           let found : get s.domains (name_of u.name) ≡ Some d = domain-full p r s None (get s.domains (name_of u.name)) known (sym e) in
-          let named : d.name ≡ name_of u.name = (is.domains (name_of u.name) d found).named in
+          let named : d.name ≡ name_of u.name = (is.domains (name_of u.name) d found).stands.named in
           let there : get s.domains d.name ≡ Some d = ap (λ (name : List ℕ). get s.domains name) named ∙ found in
           (put-again p r counted d (updated_domain s.clock u d) there refl refl, tt)
       by (Some (TransferParty face transfer)) e = tt
@@ -87,7 +87,7 @@ module _ (p : PolicyRules) (r : ℕ) (cl_trid : Option (List ℕ)) (s : Registry
       by (Some (Full known)) e =
           let d : Domain = known.domain in
           let found : get s.domains (name_of name) ≡ Some d = domain-full p r s None (get s.domains (name_of name)) known (sym e) in
-          let named : d.name ≡ name_of name = (is.domains (name_of name) d found).named in
+          let named : d.name ≡ name_of name = (is.domains (name_of name) d found).stands.named in
           let there : get s.domains d.name ≡ Some d = ap (λ (n : List ℕ). get s.domains n) named ∙ found in
           (put-again p r counted d (renewed_domain s.clock years d) there refl refl, (inl refl, tt))
       by (Some (TransferParty face transfer)) e = tt
@@ -97,7 +97,7 @@ module _ (p : PolicyRules) (r : ℕ) (cl_trid : Option (List ℕ)) (s : Registry
   own-put : (name : GivenName) (d after : Domain) → get s.domains (name_of name) ≡ Some d → after.name ≡ d.name → after.sponsor ≡ d.sponsor → graces_of p counted after ≡ graces_of p counted d
       → Meets p r (PutDomain after) counted
   own-put name d after found called sponsor alike =
-      let named : after.name ≡ name_of name = called ∙ (is.domains (name_of name) d found).named in
+      let named : after.name ≡ name_of name = called ∙ (is.domains (name_of name) d found).stands.named in
       put-again p r counted d after (ap (λ (n : List ℕ). get s.domains n) named ∙ found) sponsor alike
 
   meet-restore : (name : GivenName) → AllMeet p r (restore_changes s.clock (domain_seen (facts p r (Asked cl_trid (requests.RequestRestore name)) s) (name_of name))) counted
@@ -142,7 +142,7 @@ module _ (p : PolicyRules) (r : ℕ) (cl_trid : Option (List ℕ)) (s : Registry
   meet-known name (Some (Full full)) e =
       let d : Domain = full.domain in
       let found : get s.domains (name_of name) ≡ Some d = domain-full p r s None (get s.domains (name_of name)) full e in
-      let named : d.name ≡ name_of name = (is.domains (name_of name) d found).named in
+      let named : d.name ≡ name_of name = (is.domains (name_of name) d found).stands.named in
       let there : get s.domains d.name ≡ Some d = ap (λ (n : List ℕ). get s.domains n) named ∙ found in
       (meet-ending name d there (goes_at_once (Some (Full full))), (inl refl, tt))
   meet-known name (Some (TransferParty face transfer)) e = tt

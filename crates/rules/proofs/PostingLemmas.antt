@@ -69,7 +69,7 @@ due-transfer p s t created transferred o x e is = subst (IsLastTransfer p s crea
 module _ (p : PolicyRules) (s : Registry) (t : ℕ) where
   contact-to : (c : Contact) (o : Option Transfer) → due_by t c.transfer ≡ o → IsLastTransfer p s c.created c.transferred c.transfer → AreToRegistrars p (contact_completed o c).postings
   contact-to c None e is = tt
-  contact-to c (Some x) e is = let k = due-transfer p s t c.created c.transferred c.transfer x e is in (k.losing_registrar, (k.requester, tt))
+  contact-to c (Some x) e is = let k = due-transfer p s t c.created c.transferred c.transfer x e is in (k.recorded.losing_registrar, (k.recorded.requester, tt))
 
   renewals-to : (d : Domain) (n : ℕ) → IsRegistrar p d.sponsor → AreToRegistrars p (renewals p d n)
   unfolding renewals
@@ -80,10 +80,11 @@ module _ (p : PolicyRules) (s : Registry) (t : ℕ) where
   lived-to d None e place is = renewals-to d (turns d t) place
   lived-to d (Some x) e place is =
       let k = due-transfer p s t d.created d.transferred d.transfer x e is in
+      let to : IsRegistrar p x.requester = k.recorded.requester in
       let before : Domain = raised (turns d x.ac_date) d in
       let after : Domain = moved x before in
       to-both p (renewals p d (turns d x.ac_date)) (completion x (gained before x.ac_date) before ++ renewals p after (turns after t)) (renewals-to d (turns d x.ac_date) place)
-      (k.requester, (k.losing_registrar, (k.requester, renewals-to after (turns after t) k.requester)))
+      (to, (k.recorded.losing_registrar, (to, renewals-to after (turns after t) to)))
 
   purged-to : (d : Domain) (x : Deletion) (b : Bool) → IsRegistrar p d.sponsor → AreToRegistrars p (cond b (leaves d []) (purged p x d)).postings
   purged-to d x true place = tt
@@ -96,7 +97,7 @@ module _ (p : PolicyRules) (s : Registry) (t : ℕ) where
   pub postings-to : HasObjects p s → AreToRegistrars p (postings (λ name. lapse_contact t) (λ name. lapse p t) s)
   postings-to is = to-both p (given (λ name c. (lapse_contact t c).postings) s.contacts) (given (λ name d. (lapse p t d).postings) s.domains)
       (to-given p (λ name c. (lapse_contact t c).postings) s.contacts (λ name c at. contact-to c (due_by t c.transfer) refl (is.contacts name c at).transfer))
-      (to-given p (λ name d. (lapse p t d).postings) s.domains (λ name d at. let k = is.domains name d at in domain-to d d.deletion k.sponsor k.transfer))
+      (to-given p (λ name d. (lapse p t d).postings) s.domains (λ name d at. let k = is.domains name d at in domain-to d d.deletion k.stands.sponsor k.transfer))
 
 -- ---- the accounts that they leave
 

@@ -52,16 +52,18 @@ module _ (p : PolicyRules) (r : ℕ) (cl_trid : Option (List ℕ)) (s : Registry
           let at : get s.domains (name_of name) ≡ Some d = domain-full p r s None (get s.domains (name_of name)) known (sym e) in
           let k = kept.domains (name_of name) d at in
           kept-put-domain p counted kept (name_of name) d (restoring_domain s.clock d) at refl (record {
-            named = k.named;
-            roid = k.roid;
-            sponsor = k.sponsor;
-            created = k.created;
-            transferred = k.transferred;
-            updated = omega arith;
+            stands = record {
+              named = k.stands.named;
+              roid = k.stands.roid;
+              sponsor = k.stands.sponsor;
+              created = k.stands.created;
+              transferred = k.stands.transferred;
+              updated = omega arith;
+              deletion = requested-now d d.deletion k.stands.deletion;
+              contacts = k.stands.contacts;
+              hosts = k.stands.hosts;
+            };
             transfer = k.transfer;
-            deletion = requested-now d d.deletion k.deletion;
-            contacts = k.contacts;
-            hosts = k.hosts;
           })
       by (Some (TransferParty face transfer)) e = kept
       by (Some (Public face)) e = kept
@@ -86,16 +88,18 @@ module _ (p : PolicyRules) (r : ℕ) (cl_trid : Option (List ℕ)) (s : Registry
           let k = kept.domains (name_of name) d at in
           kept-charged p r cl_trid s place is (charge_line lines.Restore p s.clock d.roid q f) (changed_all p (PutDomain new ∷ []) counted)
           (kept-put-domain p counted kept (name_of name) d new at refl (record {
-            named = k.named;
-            roid = k.roid;
-            sponsor = k.sponsor;
-            created = k.created;
-            transferred = k.transferred;
-            updated = omega arith;
+            stands = record {
+              named = k.stands.named;
+              roid = k.stands.roid;
+              sponsor = k.stands.sponsor;
+              created = k.stands.created;
+              transferred = k.stands.transferred;
+              updated = omega arith;
+              deletion = tt;
+              contacts = k.stands.contacts;
+              hosts = k.stands.hosts;
+            };
             transfer = k.transfer;
-            deletion = tt;
-            contacts = k.contacts;
-            hosts = k.hosts;
           }))
       by q f (Some (TransferParty face transfer)) e = kept
       by q f (Some (Public face)) e = kept

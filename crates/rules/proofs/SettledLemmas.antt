@@ -6,7 +6,8 @@ use Rattle.std.specs.FinMap.{get}
 use Rattle.calendar.specs.Moment.{plus_years}
 use Rattle.calendar.proofs.YearLaws.{plus_years-lt, plus_years-zero}
 use Rattle.lifecycle.specs.Lapse.{completes_at, due_at, due_by, due_of, earlier, gained, handed_over}
-use Rattle.lifecycle.specs.Phases.{purge_at}
+use Rattle.lifecycle.specs.Periods.{end}
+use Rattle.lifecycle.specs.Phases.{later, purge_at, redemption_end}
 use Rattle.lifecycle.specs.Turns.{turns}
 use Rattle.lifecycle.proofs.TurnLaws.{turns-are}
 use Rattle.names.specs.GivenName.{GivenName, name_of}
@@ -25,7 +26,9 @@ use Rattle.objects.specs.declared.transfer.Transfer.{Transfer}
 use Rattle.objects.specs.Domains.{expiry}
 use Rattle.objects.specs.Sight.{contact_as}
 use Rattle.objects.specs.Transfers.{is_pending}
+use Rattle.policy.specs.declared.days.Period.TheVariants as periods
 use Rattle.policy.specs.Rules.{PolicyRules, IsSound, place_of}
+use Rattle.policy.proofs.ScheduleLemmas.{day-count}
 use Rattle.protocol.specs.declared.command.Command.{Command}
 use Rattle.protocol.specs.declared.command.Command.TheVariants.{Asked, Bad}
 use Rattle.protocol.specs.declared.command.ContactUpdate.{ContactUpdate}
@@ -90,11 +93,14 @@ due-no-earlier p t d e deletion transfer created years lt = subst (λ (o : Optio
 
 -- a domain that is deleted is purged later
 due-after-deletion : (p : PolicyRules) → IsSound p → (t : ℕ) → t < purge_at p (record { deleted = t; restore_requested = None })
-due-after-deletion p sound t = omega (arith, sound.days_in_range.redemption.0, sound.days_in_range.pending_delete.0)
+due-after-deletion p sound t =
+    let x : Deletion = record { deleted = t; restore_requested = None } in
+    omega (arith, (day-count periods.Redemption t p.days sound.days_in_range).0, (day-count periods.PendingDelete (redemption_end p x) p.days sound.days_in_range).0)
 
 -- one whose restoration is asked for is purged later
 due-after-request : (p : PolicyRules) → IsSound p → (t : ℕ) (x : Deletion) → t < purge_at p (record x { restore_requested = Some t })
-due-after-request p sound t x = omega (arith, sound.days_in_range.restore.0, sound.days_in_range.pending_delete.0)
+due-after-request p sound t x =
+    omega (arith, (day-count periods.Restore t p.days sound.days_in_range).0, (day-count periods.PendingDelete (later (redemption_end p x) (Some (end periods.Restore t p))) p.days sound.days_in_range).0)
 
 restoring-ahead : (p : PolicyRules) → IsSound p → (t : ℕ) (d : Domain) → t < due_at p d → t < due_at p (restoring_domain t d)
 restoring-ahead p sound t d lt = by d.deletion lt
@@ -270,7 +276,7 @@ module _ (p : PolicyRules) (sound : IsSound p) (r : ℕ) (cl_trid : Option (List
 
   -- one that is asked for is due once the time to answer is over
   asked-ahead : (sponsor : ℕ) → t < (requested p r sponsor t).ac_date
-  asked-ahead sponsor = omega (arith, early, sound.days_in_range.answer.0)
+  asked-ahead sponsor = omega (arith, early, (day-count periods.Answer t p.days sound.days_in_range).0)
 
   asked-not-due : (sponsor : ℕ) → due_by t (Some (requested p r sponsor t)) ≡ None
   asked-not-due sponsor =

@@ -209,7 +209,7 @@ module _ (p : PolicyRules) (r : ℕ) (cl_trid : Option (List ℕ)) (s : Registry
       by : (b : Bool) → has_name d.links.hosts name ≡ b → b ≡ false
       by false e = refl
       by true e =
-          let there : IsSome (get s.hosts name) = (is.domains n d at).hosts name e in
+          let there : IsSome (get s.hosts name) = (is.domains n d at).stands.hosts name e in
           absurd (let never : true ≡ false = sym there ∙ free in cc)
 
   renamed : (u : HostUpdate) (old : List ℕ) (h : Host) (given : Option GivenName) → is_some (at_new u given) ≡ false → IsShapedHost p.zone h → AllFitShapes p (renaming old h given) counted

@@ -20,25 +20,27 @@ use Rattle.model.specs.WellFormed.{HasBeen, IsContactOf, IsDeletion, IsDomainOf,
 
 module _ (p : PolicyRules) (s : Registry) (is : HasObjects p s) (name : List ℕ) where
   pub kept-put-contact : (c other : Contact) → get s.contacts name ≡ Some c → other.roid ≡ c.roid → IsContactOf p s name other → HasObjects p (changed p (PutContact other) s)
-  kept-put-contact c other at same fits = put-contact p s is name other fits (λ n x at-n alike. is.contact_roids n name x c at-n at (alike ∙ same))
+  kept-put-contact c other at same fits = put-contact p s is name other fits (λ n x at-n alike. is.identities.contact_roids n name x c at-n at (alike ∙ same))
 
   pub kept-put-domain : (d other : Domain) → get s.domains name ≡ Some d → other.roid ≡ d.roid → IsDomainOf p s name other → HasObjects p (changed p (PutDomain other) s)
-  kept-put-domain d other at same fits = put-domain p s is name other fits (λ n x at-n alike. is.domain_roids n name x d at-n at (alike ∙ same))
+  kept-put-domain d other at same fits = put-domain p s is name other fits (λ n x at-n alike. is.identities.domain_roids n name x d at-n at (alike ∙ same))
 
   pub kept-put-host : (h other : Host) → get s.hosts name ≡ Some h → other.roid ≡ h.roid → IsHostOf p s name other → HasObjects p (changed p (PutHost other) s)
-  kept-put-host h other at same fits = put-host p s is name other fits (λ n x at-n alike. is.host_roids n name x h at-n at (alike ∙ same)) (inl (is-there (get s.hosts name) h at))
+  kept-put-host h other at same fits = put-host p s is name other fits (λ n x at-n alike. is.identities.host_roids n name x h at-n at (alike ∙ same)) (inl (is-there (get s.hosts name) h at))
 
 module _ (p : PolicyRules) (s : Registry) (name : List ℕ) where
   -- a contact with other content, last updated at another moment
   pub contact-updated : (c : Contact) (updated : Option ℕ) (statuses : List Status) (secret : List ℕ) (postal : Postal) (voice : Option (List ℕ)) (mail : List ℕ) → HasBeen s updated
       → IsContactOf p s name c → IsContactOf p s name (record c { updated = updated; statuses = statuses; secret = secret; postal = postal; voice = voice; mail = mail })
   contact-updated c updated statuses secret postal voice mail been k = record {
-    named = k.named;
-    roid = k.roid;
-    sponsor = k.sponsor;
-    created = k.created;
-    transferred = k.transferred;
-    updated = been;
+    stands = record {
+      named = k.stands.named;
+      roid = k.stands.roid;
+      sponsor = k.stands.sponsor;
+      created = k.stands.created;
+      transferred = k.stands.transferred;
+      updated = been;
+    };
     transfer = k.transfer;
     losing = k.losing;
   }
@@ -54,16 +56,18 @@ module _ (p : PolicyRules) (s : Registry) (name : List ℕ) where
       → ((host : List ℕ) → names_host host links ≡ true → IsSome (get s.hosts host))
       → IsDomainOf p s name d → IsDomainOf p s name (record d { years = years; updated = updated; statuses = statuses; secret = secret; links = links })
   domain-updated d years updated statuses secret links been contacts hosts k = record {
-    named = k.named;
-    roid = k.roid;
-    sponsor = k.sponsor;
-    created = k.created;
-    transferred = k.transferred;
-    updated = been;
+    stands = record {
+      named = k.stands.named;
+      roid = k.stands.roid;
+      sponsor = k.stands.sponsor;
+      created = k.stands.created;
+      transferred = k.stands.transferred;
+      updated = been;
+      deletion = deletion-same d years updated statuses secret links d.deletion k.stands.deletion;
+      contacts = contacts;
+      hosts = hosts;
+    };
     transfer = k.transfer;
-    deletion = deletion-same d years updated statuses secret links d.deletion k.deletion;
-    contacts = contacts;
-    hosts = hosts;
   }
 
   -- a host with other content, of the same name
@@ -77,12 +81,12 @@ module _ (p : PolicyRules) (s : Registry) (is : HasObjects p s) (name : List ℕ
   pub kept-contact-statuses : (c : Contact) → get s.contacts name ≡ Some c → HasObjects p (changed p (PutContact (record c { statuses = statuses })) s)
   kept-contact-statuses c at =
       let k = is.contacts name c at in
-      kept-put-contact p s is name c (record c { statuses = statuses }) at refl (contact-updated p s name c c.updated statuses c.secret c.postal c.voice c.mail k.updated k)
+      kept-put-contact p s is name c (record c { statuses = statuses }) at refl (contact-updated p s name c c.updated statuses c.secret c.postal c.voice c.mail k.stands.updated k)
 
   pub kept-domain-statuses : (d : Domain) → get s.domains name ≡ Some d → HasObjects p (changed p (PutDomain (record d { statuses = statuses })) s)
   kept-domain-statuses d at =
       let k = is.domains name d at in
-      kept-put-domain p s is name d (record d { statuses = statuses }) at refl (domain-updated p s name d d.years d.updated statuses d.secret d.links k.updated k.contacts k.hosts k)
+      kept-put-domain p s is name d (record d { statuses = statuses }) at refl (domain-updated p s name d d.years d.updated statuses d.secret d.links k.stands.updated k.stands.contacts k.stands.hosts k)
 
   pub kept-host-statuses : (h : Host) → get s.hosts name ≡ Some h → HasObjects p (changed p (PutHost (record h { statuses = statuses })) s)
   kept-host-statuses h at =

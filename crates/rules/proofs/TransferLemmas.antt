@@ -153,7 +153,7 @@ module _ (p : PolicyRules) (sound : IsSound p) (r : ℕ) (s : Registry) (is : Me
       by : (b : Bool) → is_same_roid d.roid e.roid ≡ b
           → graces p s.clock e.roid e.transferred (remade in_order (transfer_started start) (account_of y.requester counted).lines) ≡ graces p s.clock e.roid e.transferred (account_of y.requester counted).lines
       by true same =
-          let one : n ≡ name = is.domain_roids n name e d found at (sym (same-roids d.roid e.roid same)) in
+          let one : n ≡ name = is.identities.domain_roids n name e d found at (sym (same-roids d.roid e.roid same)) in
           let alike : Some e ≡ Some d = sym found ∙ ap (get s.domains) one ∙ at in
           let it : e ≡ d = cc in
           absurd (other (sym own ∙ ap (λ (z : Domain). z.sponsor) it))
@@ -189,7 +189,7 @@ module _ (p : PolicyRules) (sound : IsSound p) (r : ℕ) (s : Registry) (is : Me
       ∙ ap (λ (b : Bool). cond b (graces_of p begun d) transfer_alone) (not-same d.sponsor y.requester (λ same. other-sponsor apart (sym same)))))
     where
       there : get s.domains d.name ≡ Some d
-      there = ap (get s.domains) (is.domains name d at).named ∙ at
+      there = ap (get s.domains) (is.domains name d at).stands.named ∙ at
 
 -- ---- each operation
 
@@ -211,7 +211,7 @@ module _ (p : PolicyRules) (sound : IsSound p) (r : ℕ) (cl_trid : Option (List
   after_count = with_account r with_command s
 
   there-still : (name : List ℕ) (d : Domain) → get s.domains name ≡ Some d → get s.domains d.name ≡ Some d
-  there-still name d at = ap (get s.domains) (is.domains name d at).named ∙ at
+  there-still name d at = ap (get s.domains) (is.domains name d at).stands.named ∙ at
 
   again : (name : List ℕ) (d : Domain) → get s.domains name ≡ Some d → (x : Transfer) → Meets p r (PutDomain (domain_with_transfer x d)) after_count
   again name d at x = put-again p r after_count d (domain_with_transfer x d) (there-still name d at) refl refl

@@ -19,6 +19,7 @@ use Rattle.objects.specs.declared.domain.Domain.{Domain}
 use Rattle.objects.specs.declared.transfer.TransferState.TheVariants.{ClientApproved, ClientRejected, ClientCancelled}
 use Rattle.policy.specs.declared.days.Period.TheVariants as periods
 use Rattle.policy.specs.Rules.{PolicyRules, IsRegistrar, IsSound}
+use Rattle.policy.proofs.ScheduleLemmas.{day-count}
 use Rattle.protocol.specs.declared.command.Command.TheVariants.{Asked}
 use Rattle.protocol.specs.declared.command.Request.{Request}
 use Rattle.protocol.specs.declared.command.Request.TheVariants.{TransferContact, TransferDomain}
@@ -68,10 +69,11 @@ module _ (p : PolicyRules) (sound : IsSound p) (r : ℕ) (cl_trid : Option (List
 
   -- a lock of at least a day is over
   unlocked : (created : ℕ) (o : Option ℕ) → nat_lt s.clock (end periods.Lock (locked_since o created) p) ≡ false → (created < s.clock) × IsLater s.clock o
-  unlocked created None e = let over : end periods.Lock created p ≤ s.clock = grind (arith, nat_tests, e) in (omega (arith, over, sound.days_in_range.lock.0), tt)
+  unlocked created None e = let over : end periods.Lock created p ≤ s.clock = grind (arith, nat_tests, e) in (omega (arith, over, (day-count periods.Lock created p.days sound.days_in_range).0), tt)
   unlocked created (Some transferred) e =
       let over : end periods.Lock (max created transferred) p ≤ s.clock = grind (arith, nat_tests, e) in
-      (omega (arith, over, sound.days_in_range.lock.0), omega (arith, over, sound.days_in_range.lock.0))
+      let least = day-count periods.Lock (max created transferred) p.days sound.days_in_range in
+      (omega (arith, over, least.0), omega (arith, over, least.0))
 
   line-waits : (q : Request) (f : Facts) (d : Domain) → waits d.roid (transfer_line p s.clock d.roid q f) ≡ true
   line-waits q f d = ap (λ (b : Bool). (b && true) && true) (itself-roid d.roid)

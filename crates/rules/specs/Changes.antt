@@ -45,7 +45,8 @@ changed p (PutDomain d) s = record s { domains = insert s.domains d.name d }
 changed p (DropDomain name) s = record s { domains = remove s.domains name }
 changed p (PutHost h) s = record s { hosts = insert s.hosts h.name h }
 changed p (DropHost name) s = record s { hosts = remove s.hosts name }
-changed p (RenameHost old new) s = record s { domains = map_values (λ name. with_host_renamed old new) s.domains }
+changed p (RenameHost old new) s =
+    record s { domains = map_values (λ name. with_host_renamed old new) s.domains }
 changed p (LapseContact name left) s = record s { contacts = put_or_drop s.contacts name left }
 changed p (LapseDomain name left) s = record s { domains = put_or_drop s.domains name left }
 changed p (Give r what) s = with_account r (account_changed p what) s

@@ -216,7 +216,8 @@ domain_changes t u (Some (Full known)) = PutDomain (updated_domain t u known.dom
 domain_changes t u (Some (TransferParty face transfer)) = []
 domain_changes t u (Some (Public face)) = []
 
-abbrev pub renewal_changes : PolicyRules → ℕ → ℕ → Request → Facts → Option (Seen FullDomain DomainFace) → List Change
+abbrev pub renewal_changes : PolicyRules → ℕ → ℕ → Request → Facts
+    → Option (Seen FullDomain DomainFace) → List Change
 renewal_changes p r t q f None = []
 renewal_changes p r t q f (Some (Full known)) = PutDomain (renewed_domain t (asks_of q).years known.domain) ∷ charge lines.Renew p r t known.domain.roid q f ∷ []
 renewal_changes p r t q f (Some (TransferParty face transfer)) = []
@@ -229,7 +230,8 @@ restore_changes t (Some (TransferParty face transfer)) = []
 restore_changes t (Some (Public face)) = []
 
 -- the years that the domain needs are charged for
-abbrev pub report_changes : PolicyRules → ℕ → ℕ → Request → Facts → Option (Seen FullDomain DomainFace) → List Change
+abbrev pub report_changes : PolicyRules → ℕ → ℕ → Request → Facts
+    → Option (Seen FullDomain DomainFace) → List Change
 report_changes p r t q f None = []
 report_changes p r t q f (Some (Full known)) = PutDomain (restored_domain t known.domain) ∷ charge lines.Restore p r t known.domain.roid q f ∷ []
 report_changes p r t q f (Some (TransferParty face transfer)) = []
@@ -240,7 +242,8 @@ abbrev pub ending : Bool → ℕ → DomainFacts → Domain → Change
 ending at_once t known d = if at_once then DropDomain known.name else PutDomain (deleted_domain t known.given_back.years d)
 
 -- its sponsor gets back what it was charged in a grace that runs
-abbrev pub deletion_changes : ℕ → ℕ → DomainFacts → Option (Seen FullDomain DomainFace) → List Change
+abbrev pub deletion_changes : ℕ → ℕ → DomainFacts → Option (Seen FullDomain DomainFace)
+    → List Change
 deletion_changes r t known None = []
 deletion_changes r t known (Some (Full full)) = ending (goes_at_once (Some (Full full))) t known full.domain ∷ Give r (RefundRunning (refund_at t full.domain)) ∷ []
 deletion_changes r t known (Some (TransferParty face transfer)) = []
@@ -263,20 +266,25 @@ host_changes zone r t u (Some h) = renaming (name_of u.name) (updated_host zone 
 unfoldable pub changes_of : PolicyRules → ℕ → ℕ → Request → Facts → List Change
 changes_of p r t requests.Logout f = []
 changes_of p r t requests.Balance f = []
-changes_of p r t (requests.CreateContact new) f = PutContact (new_contact r t f new) ∷ Give r TakeSerial ∷ []
+changes_of p r t (requests.CreateContact new) f =
+    PutContact (new_contact r t f new) ∷ Give r TakeSerial ∷ []
 changes_of p r t (requests.CreateDomain new) f =
     PutDomain (new_domain r t f new) ∷ Give r TakeSerial ∷ charge lines.Create p r t (new_roid kinds.Domain r f) (requests.CreateDomain new) f ∷ []
-changes_of p r t (requests.CreateHost new) f = PutHost (new_host p.zone r t f new) ∷ Give r TakeSerial ∷ []
+changes_of p r t (requests.CreateHost new) f =
+    PutHost (new_host p.zone r t f new) ∷ Give r TakeSerial ∷ []
 changes_of p r t (requests.DeleteContact name) f = DropContact name ∷ []
 changes_of p r t (requests.DeleteDomain name) f = deletion_at r t (domain_at f (name_of name))
 changes_of p r t (requests.DeleteHost name) f = DropHost (name_of name) ∷ []
 changes_of p r t (requests.UpdateContact u) f = contact_changes t u (contact_seen f u.name)
 changes_of p r t (requests.UpdateDomain u) f = domain_changes t u (domain_seen f (name_of u.name))
-changes_of p r t (requests.UpdateHost u) f = host_changes p.zone r t u (host_seen f (name_of u.name))
-changes_of p r t (requests.RenewDomain name expires years) f = renewal_changes p r t (requests.RenewDomain name expires years) f (domain_seen f (name_of name))
+changes_of p r t (requests.UpdateHost u) f =
+    host_changes p.zone r t u (host_seen f (name_of u.name))
+changes_of p r t (requests.RenewDomain name expires years) f =
+    renewal_changes p r t (requests.RenewDomain name expires years) f (domain_seen f (name_of name))
 changes_of p r t (requests.RequestRestore name) f = restore_changes t (domain_seen f (name_of name))
 changes_of p r t (requests.ReportRestore name del_time res_time) f = report_changes p r t (requests.ReportRestore name del_time res_time) f (domain_seen f (name_of name))
-changes_of p r t (requests.TransferContact name op secret) f = contact_transfer_changes p r t op (contact_seen f name)
+changes_of p r t (requests.TransferContact name op secret) f =
+    contact_transfer_changes p r t op (contact_seen f name)
 changes_of p r t (requests.TransferDomain name op secret) f = domain_transfer_changes p r t op (requests.TransferDomain name op secret) f (domain_seen f (name_of name))
 changes_of p r t requests.PollRequest f = []
 changes_of p r t (requests.PollAck id) f = Give r (Ack id) ∷ []
@@ -293,7 +301,8 @@ changes_after p r t (Bad cl_trid code) f answered = []
 changes_after p r t (Asked cl_trid request) f answered = if is_accepted answered then changes_of p r t request f else []
 
 abbrev pub decided_with : PolicyRules → ℕ → ℕ → Command → Facts → Verdict → Decision
-decided_with p r t c f v = record { verdict = v; changes = Give r CountCommand ∷ changes_after p r t c f v.code }
+decided_with p r t c f v =
+    record { verdict = v; changes = Give r CountCommand ∷ changes_after p r t c f v.code }
 
 abbrev pub decided : PolicyRules → ℕ → ℕ → Command → Facts → Decision
 decided p r t c f = decided_with p r t c f (judged p r t c f)

@@ -20,9 +20,11 @@ use Rattle.model.specs.WellFormed.{IsRegistry}
 -- domain whose grace began after the request, alfa's next face of it shows that grace; in another value, which
 -- showed alfa the same before, beta has no such line. No registry has one. Every well formed registry is found so.
 pub record IsIsolated (p : PolicyRules) (r : ℕ) (c : Command) (moment : ℕ) (before after : Registry) (reply : Reply) : Type 0 where
-  pub same_reply : (other : Registry) → view_for p r c (lapsed p moment other) ≡ view_for p r c (lapsed p moment before)
+  pub same_reply : (other : Registry)
+      → view_for p r c (lapsed p moment other) ≡ view_for p r c (lapsed p moment before)
       → reply ≡ answer p r c (lapsed p moment other)
-  pub same_view : MeetsStandards p (lapsed p moment before) → (other : Registry) → MeetsStandards p (lapsed p moment other)
+  pub same_view : MeetsStandards p (lapsed p moment before) → (other : Registry)
+      → MeetsStandards p (lapsed p moment other)
       → view_for p r c (lapsed p moment other) ≡ view_for p r c (lapsed p moment before)
       → view p r (now p after) ≡ view p r (now p (effect p r c (lapsed p moment other)))
   pub found : (s : Registry) → IsRegistry p (now p s) → MeetsStandards p (lapsed p moment s)

@@ -47,7 +47,8 @@ abbrev pub decided_order : StatusOrder → Option Object → Code → OrderDecis
 decided_order o object code = record { code = code; changes = if is_accepted code then order_changes o object else [] }
 
 abbrev pub status_decision : ZoneRules → StatusOrder → Registry → OrderDecision
-status_decision zone o s = decided_order o (object_ordered zone o s) (order_code o (object_ordered zone o s))
+status_decision zone o s =
+    decided_order o (object_ordered zone o s) (order_code o (object_ordered zone o s))
 
 -- ---- deposits
 
@@ -62,7 +63,8 @@ deposit_line t cents = record { kind = lines.Deposit; roid = None; recorded = t;
 -- to a registrar, if there is such a one
 abbrev pub deposited_to : ℕ → ℕ → Option ℕ → OrderDecision
 deposited_to t cents None = record { code = ObjectMissing; changes = [] }
-deposited_to t cents (Some r) = record { code = Completed; changes = Give r (Charge (deposit_line t cents)) ∷ [] }
+deposited_to t cents (Some r) =
+    record { code = Completed; changes = Give r (Charge (deposit_line t cents)) ∷ [] }
 
 abbrev pub deposited : PolicyRules → ℕ → List ℕ → Option ℕ → OrderDecision
 deposited p t registrar None = record { code = ParameterRange; changes = [] }

@@ -34,7 +34,8 @@ use Rattle.verdict.specs.Transfers.{transfer_after}
 -- a message to the other side: to the losing sponsor of what the requester does, and to the requester
 -- of what the sponsor does
 abbrev pub tell : ℕ → ℕ → CommandNotice → List ℕ → Subject → Change
-tell registrar t notice name subject = Give registrar (Tell (record { moment = t; notice = notice; name = name; subject = subject }))
+tell registrar t notice name subject =
+    Give registrar (Tell (record { moment = t; notice = notice; name = name; subject = subject }))
 
 -- the charge of a transfer, whose grace begins with its completion alone (RFC 3915, 3.1)
 abbrev pub transfer_line : PolicyRules → ℕ → Roid → Request → Facts → Line
@@ -79,9 +80,11 @@ abbrev pub contact_transferred_if : ℕ → TransferOp → Option Transfer → C
 contact_transferred_if t op None c = []
 contact_transferred_if t op (Some x) c = contact_transferred t op x c
 
-abbrev pub contact_transfer_changes : PolicyRules → ℕ → ℕ → TransferOp → Option (Seen Contact ContactFace) → List Change
+abbrev pub contact_transfer_changes : PolicyRules → ℕ → ℕ → TransferOp
+    → Option (Seen Contact ContactFace) → List Change
 contact_transfer_changes p r t op None = []
-contact_transfer_changes p r t op (Some (Full c)) = contact_transferred_if t op (transfer_after p r t op c.sponsor c.transfer) c
+contact_transfer_changes p r t op (Some (Full c)) =
+    contact_transferred_if t op (transfer_after p r t op c.sponsor c.transfer) c
 contact_transfer_changes p r t op (Some (TransferParty face transfer)) = []
 contact_transfer_changes p r t op (Some (Public face)) = []
 
@@ -91,7 +94,8 @@ abbrev pub domain_with_transfer : Transfer → Domain → Domain
 domain_with_transfer x d = record d { transfer = Some x }
 
 -- its transfer stands so after the operation; its subordinate hosts have its sponsor (RFC 5732, 1.1)
-abbrev pub domain_transferred : PolicyRules → ℕ → ℕ → TransferOp → Request → Facts → Transfer → Domain → List Change
+abbrev pub domain_transferred : PolicyRules → ℕ → ℕ → TransferOp → Request → Facts → Transfer
+    → Domain → List Change
 domain_transferred p r t ops.Request q f x d =
     PutDomain (domain_with_transfer x d)
     ∷ Give r (Charge (transfer_line p t d.roid q f))
@@ -114,11 +118,13 @@ domain_transferred p r t ops.Cancel q f x d =
     ∷ tell x.losing_registrar t notices.TransferCancelled d.name subjects.Domain
     ∷ []
 
-abbrev pub domain_transferred_if : PolicyRules → ℕ → ℕ → TransferOp → Request → Facts → Option Transfer → Domain → List Change
+abbrev pub domain_transferred_if : PolicyRules → ℕ → ℕ → TransferOp → Request → Facts
+    → Option Transfer → Domain → List Change
 domain_transferred_if p r t op q f None d = []
 domain_transferred_if p r t op q f (Some x) d = domain_transferred p r t op q f x d
 
-abbrev pub domain_transfer_changes : PolicyRules → ℕ → ℕ → TransferOp → Request → Facts → Option (Seen FullDomain DomainFace) → List Change
+abbrev pub domain_transfer_changes : PolicyRules → ℕ → ℕ → TransferOp → Request → Facts
+    → Option (Seen FullDomain DomainFace) → List Change
 domain_transfer_changes p r t op q f None = []
 domain_transfer_changes p r t op q f (Some (Full known)) = domain_transferred_if p r t op q f (transfer_after p r t op known.domain.sponsor known.domain.transfer) known.domain
 domain_transfer_changes p r t op q f (Some (TransferParty face transfer)) = []

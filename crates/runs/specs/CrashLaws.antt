@@ -24,17 +24,21 @@ use Rattle.transactions.specs.States.{Remains}
 -- Whatever happens to a book that was taken up: what it holds is what calls made of what it held at first, all that
 -- answered, in their order, and of the others some that a crash showed; and so is what a crash leaves of it then.
 abbrev pub CrashesLeaveRuns : Type 0
-CrashesLeaveRuns = (events : List Event) (old new : BookState) → IsTakenUp old → Happen events old new
+CrashesLeaveRuns =
+    (events : List Event) (old new : BookState) → IsTakenUp old → Happen events old new
     → ((left : Remains Stored) → may_leave new left → ComeTo (events ++ crash ∷ []) old.content left.content) × (new.is_clean ≡ true → ComeTo events old.content new.content)
 
 -- The same, where it isn't told which of what might be left was found.
 abbrev pub CrashesLeftRuns : Type 0
-CrashesLeftRuns = (events : List Event) (old new : BookState) → IsTakenUp old → Happened events old new
+CrashesLeftRuns =
+    (events : List Event) (old new : BookState) → IsTakenUp old → Happened events old new
     → ((left : Remains Stored) → may_leave new left → ∥ ComeTo (events ++ crash ∷ []) old.content left.content ∥₁) × (new.is_clean ≡ true → ∥ ComeTo events old.content new.content ∥₁)
 
 -- Events after events are events.
 abbrev pub EventsGoOn : Type 0
-EventsGoOn = (first later : List Event) (old mid new : BookState) → Happened first old mid → Happened later mid new → Happened (first ++ later) old new
+EventsGoOn =
+    (first later : List Event) (old mid new : BookState) → Happened first old mid
+    → Happened later mid new → Happened (first ++ later) old new
 
 -- ---- the calls of a registry are such events, by their contracts
 
@@ -60,42 +64,55 @@ pub record IsCarriedOut {A : Type 0} (p : PolicyRules) (result : Result A Fault)
   pub follows : Follows old new
 
 abbrev pub CommandsAreEvents : Type 0
-CommandsAreEvents = (p : PolicyRules) (r : ℕ) (c : Command) (moment : ℕ) (result : Result Reply Fault) (old new : BookState)
-    → IfOk result (λ reply. Steps p r c moment reply old new) → IsCarriedOut p result (Makes (IsStep p r c moment)) old new
+CommandsAreEvents =
+    (p : PolicyRules) (r : ℕ) (c : Command) (moment : ℕ) (result : Result Reply Fault) (old new : BookState)
+    → IfOk result (λ reply. Steps p r c moment reply old new)
+    → IsCarriedOut p result (Makes (IsStep p r c moment)) old new
     → Happens (event_of result (asking p moment (command r c))) old new
 
 abbrev pub OrdersAreEvents : Type 0
-OrdersAreEvents = (p : PolicyRules) (o : Order) (moment : ℕ) (result : Result Code Fault) (old new : BookState)
-    → IfOk result (λ code. OrderSteps p o moment code old new) → IsCarriedOut p result (Makes (IsOrderStep p o moment)) old new
+OrdersAreEvents =
+    (p : PolicyRules) (o : Order) (moment : ℕ) (result : Result Code Fault) (old new : BookState)
+    → IfOk result (λ code. OrderSteps p o moment code old new)
+    → IsCarriedOut p result (Makes (IsOrderStep p o moment)) old new
     → Happens (event_of result (asking p moment (order o))) old new
 
 abbrev pub GreetingsAreEvents : Type 0
-GreetingsAreEvents = (p : PolicyRules) (moment : ℕ) (result : Result ℕ Fault) (old new : BookState)
-    → IfOk result (λ it. Greets p moment it old new) → IsCarriedOut p result (Makes (IsGreetingStep p moment)) old new
+GreetingsAreEvents =
+    (p : PolicyRules) (moment : ℕ) (result : Result ℕ Fault) (old new : BookState)
+    → IfOk result (λ it. Greets p moment it old new)
+    → IsCarriedOut p result (Makes (IsGreetingStep p moment)) old new
     → Happens (event_of result (asking p moment date)) old new
 
 abbrev pub LookUpsAreEvents : Type 0 → Type 0
-LookUpsAreEvents X = (p : PolicyRules) (find : Registry → X) (moment : ℕ) (result : Result X Fault) (old new : BookState)
-    → IfOk result (λ found. LooksUp p find moment found old new) → IsCarriedOut p result (Makes (IsLookUp p find moment)) old new
+LookUpsAreEvents X =
+    (p : PolicyRules) (find : Registry → X) (moment : ℕ) (result : Result X Fault) (old new : BookState)
+    → IfOk result (λ found. LooksUp p find moment found old new)
+    → IsCarriedOut p result (Makes (IsLookUp p find moment)) old new
     → Happens (event_of result (asking p moment look_up)) old new
 
 abbrev pub SettlementsAreEvents : Type 0
-SettlementsAreEvents = (p : PolicyRules) (moment at_most : ℕ) (result : Result ℕ Fault) (old new : BookState)
-    → IfOk result (λ done. Settles p moment at_most done old new) → IsCarriedOut p result (Makes (IsSettlement p moment at_most)) old new
+SettlementsAreEvents =
+    (p : PolicyRules) (moment at_most : ℕ) (result : Result ℕ Fault) (old new : BookState)
+    → IfOk result (λ done. Settles p moment at_most done old new)
+    → IsCarriedOut p result (Makes (IsSettlement p moment at_most)) old new
     → Happens (event_of result (settling p moment at_most)) old new
 
 -- a book that is opened
 abbrev pub OpeningsAreEvents : Type 0
-OpeningsAreEvents = (p : PolicyRules) (old new : BookState) → Opens p old new → LeavesItself new → Follows old new
+OpeningsAreEvents =
+    (p : PolicyRules) (old new : BookState) → Opens p old new → LeavesItself new → Follows old new
     → Happens (answered (opening p)) old new
 
 -- one that isn't
 abbrev pub RefusalsAreEvents : Type 0
-RefusalsAreEvents = (p : PolicyRules) (fault : OpenFault) (old new : BookState) → old.is_open ≡ false
+RefusalsAreEvents =
+    (p : PolicyRules) (fault : OpenFault) (old new : BookState) → old.is_open ≡ false
     → Refuses fault p old new → RefusedTo fault p old new → Follows old new
     → Happens (refusal_of fault (opening p)) old new
 
 -- a book that is taken up, by what taking it up promises
 abbrev pub TakenLeaveFound : Type 0
-TakenLeaveFound = (s : BookState) → (s.is_honest ≡ true → s.is_clean ≡ true) → (s.is_clean ≡ true → s.crash_leaves ≡ record { readiness = s.readiness; content = s.content } ∷ [])
+TakenLeaveFound =
+    (s : BookState) → (s.is_honest ≡ true → s.is_clean ≡ true) → (s.is_clean ≡ true → s.crash_leaves ≡ record { readiness = s.readiness; content = s.content } ∷ [])
     → LeavesFound s

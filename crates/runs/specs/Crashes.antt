@@ -20,13 +20,16 @@ pub data Call : Type 0 where
 -- what a call makes of what is held, under the policy whose terms were put down when it was opened
 abbrev pub Leads : Call → Stored → Stored → Type 0
 Leads (opening p) before after = OpensTo p before after
-Leads (asking p moment q) before after = (before.terms ≡ Some (terms_of p)) × Makes (IsCall p moment q) before after
-Leads (settling p moment at_most) before after = (before.terms ≡ Some (terms_of p)) × Makes (IsSettlement p moment at_most) before after
+Leads (asking p moment q) before after =
+    (before.terms ≡ Some (terms_of p)) × Makes (IsCall p moment q) before after
+Leads (settling p moment at_most) before after =
+    (before.terms ≡ Some (terms_of p)) × Makes (IsSettlement p moment at_most) before after
 
 -- calls one after another
 abbrev pub AreMade : List Call → Stored → Stored → Type 0
 AreMade [] before after = after ≡ before
-AreMade (call ∷ calls) before after = (between : Stored) × Leads call before between × AreMade calls between after
+AreMade (call ∷ calls) before after =
+    (between : Stored) × Leads call before between × AreMade calls between after
 
 -- ---- what happens
 
@@ -42,32 +45,41 @@ pub data Event : Type 0 where
 -- the last that answered, one or none. `shows` tells that one of these was, which the crash has to show.
 abbrev pub WereMade : Bool → List Event → List Call → Type 0
 WereMade shows [] calls = (shows ≡ false) × (calls ≡ [])
-WereMade shows (answered call ∷ events) calls = (shows ≡ false) × (rest : List Call) × (calls ≡ call ∷ rest) × WereMade false events rest
+WereMade shows (answered call ∷ events) calls =
+    (shows ≡ false) × (rest : List Call) × (calls ≡ call ∷ rest) × WereMade false events rest
 WereMade shows (refused call ∷ events) calls = WereMade shows events calls
 WereMade shows (gave_up call ∷ events) calls =
-    WereMade shows events calls ⊎ ((shows ≡ false) × (rest : List Call) × (calls ≡ call ∷ rest) × WereMade true events rest)
+    WereMade shows events calls
+    ⊎ ((shows ≡ false) × (rest : List Call) × (calls ≡ call ∷ rest) × WereMade true events rest)
 WereMade shows (crash ∷ events) calls = WereMade false events calls
 
 -- what these events come to, where that was held at first
 abbrev pub ComeTo : List Event → Stored → Stored → Type 0
-ComeTo events first found = (calls : List Call) × WereMade false events calls × AreMade calls first found
+ComeTo events first found =
+    (calls : List Call) × WereMade false events calls × AreMade calls first found
 
 -- ---- the books to which it happens
 
 -- What is held afterwards, if nothing wrong was taken from what keeps it, and what a crash leaves of it. After
 -- a crash a book is taken up that holds what the crash left.
 abbrev pub Happens : Event → BookState → BookState → Type 0
-Happens (answered call) old new = Follows old new × (new.is_clean ≡ true → Leads call old.content new.content) × LeavesItself new
-Happens (refused call) old new = Follows old new × (new.is_clean ≡ true → new.content ≡ old.content) × LeavesOld old new
-Happens (gave_up call) old new = Follows old new × (new.is_clean ≡ true → new.content ≡ old.content) × LeavesOldOrMade (Leads call) old new
+Happens (answered call) old new =
+    Follows old new × (new.is_clean ≡ true → Leads call old.content new.content) × LeavesItself new
+Happens (refused call) old new =
+    Follows old new × (new.is_clean ≡ true → new.content ≡ old.content) × LeavesOld old new
+Happens (gave_up call) old new =
+    Follows old new × (new.is_clean ≡ true → new.content ≡ old.content)
+    × LeavesOldOrMade (Leads call) old new
 Happens crash old new = (old.is_honest ≡ true) × IsReopened old new × LeavesFound new
 
 -- one event after another
 abbrev pub Happen : List Event → BookState → BookState → Type 0
 Happen [] old new = new ≡ old
-Happen (event ∷ events) old new = (between : BookState) × Happens event old between × Happen events between new
+Happen (event ∷ events) old new =
+    (between : BookState) × Happens event old between × Happen events between new
 
 -- the same, where of what was found after a crash it is known only that it was left
 abbrev pub Happened : List Event → BookState → BookState → Type 0
 Happened [] old new = new ≡ old
-Happened (event ∷ events) old new = (between : BookState) × ∥ Happens event old between ∥₁ × Happened events between new
+Happened (event ∷ events) old new =
+    (between : BookState) × ∥ Happens event old between ∥₁ × Happened events between new

@@ -18,41 +18,52 @@ use Rattle.runs.specs.Runs.{Taken, Turn, AreTurns, IsLater, IsRun, IsSettledRun,
 -- ---- the steps of the registry's calls are calls of a run
 
 abbrev pub CommandsAreCalls : Type 0
-CommandsAreCalls = (p : PolicyRules) (r : ℕ) (c : Command) (moment : ℕ) (before after : Registry) (a : Reply)
+CommandsAreCalls =
+    (p : PolicyRules) (r : ℕ) (c : Command) (moment : ℕ) (before after : Registry) (a : Reply)
     → IsStep p r c moment before after a → IsCall p moment (command r c) before after (reply a)
 
 abbrev pub OrdersAreCalls : Type 0
-OrdersAreCalls = (p : PolicyRules) (o : Order) (moment : ℕ) (before after : Registry) (a : Code)
+OrdersAreCalls =
+    (p : PolicyRules) (o : Order) (moment : ℕ) (before after : Registry) (a : Code)
     → IsOrderStep p o moment before after a → IsCall p moment (order o) before after (code a)
 
 abbrev pub GreetingsAreCalls : Type 0
-GreetingsAreCalls = (p : PolicyRules) (moment : ℕ) (before after : Registry) (a : ℕ)
+GreetingsAreCalls =
+    (p : PolicyRules) (moment : ℕ) (before after : Registry) (a : ℕ)
     → IsGreetingStep p moment before after a → IsCall p moment date before after (dated a)
 
 -- A look-up finds what it looks for in the registry at its moment, and leaves that one.
 abbrev pub LookUpsAreCalls : Type 0
-LookUpsAreCalls = (p : PolicyRules) (moment : ℕ) (before after : Registry)
-    → now p after ≡ now p (lapsed p moment before) → IsCall p moment look_up before after (shown (lapsed p moment before))
+LookUpsAreCalls =
+    (p : PolicyRules) (moment : ℕ) (before after : Registry)
+    → now p after ≡ now p (lapsed p moment before)
+    → IsCall p moment look_up before after (shown (lapsed p moment before))
 
 -- ---- settlements
 
 -- Without its settlements a run has the same answers. After a call it left the very same registry, and
 -- after a settlement one that is later.
 abbrev pub SettlementsMayBeLeftOut : Type 0
-SettlementsMayBeLeftOut = (p : PolicyRules) (turns : List Turn) (before after : Registry) → IsSettledRun p turns before after
+SettlementsMayBeLeftOut =
+    (p : PolicyRules) (turns : List Turn) (before after : Registry)
+    → IsSettledRun p turns before after
     → (left : Registry) × IsRun p (questions_of turns) (answers_of turns) before left
     × IsLater p left after × (settles_last false turns ≡ false → left ≡ after)
 
 -- the same questions in registries that are the same now have the same answers, and leave such
 abbrev pub AnswersAreDetermined : Type 0
-AnswersAreDetermined = (p : PolicyRules) (questions : List (ℕ × Question)) (xs ys : List Answer) (s t x y : Registry)
-    → now p s ≡ now p t → IsRun p questions xs s x → IsRun p questions ys t y → (xs ≡ ys) × (now p x ≡ now p y)
+AnswersAreDetermined =
+    (p : PolicyRules) (questions : List (ℕ × Question)) (xs ys : List Answer) (s t x y : Registry)
+    → now p s ≡ now p t → IsRun p questions xs s x → IsRun p questions ys t y
+    → (xs ≡ ys) × (now p x ≡ now p y)
 
 -- So whatever settlements there are in two runs with the same questions, the answers are the same, and
 -- so are both registries from the later of their clocks on, or now, where a call was last in both.
 abbrev pub SettlementsGoUnnoticed : Type 0
-SettlementsGoUnnoticed = (p : PolicyRules) (xs ys : List Turn) (s t x y : Registry)
-    → now p s ≡ now p t → IsSettledRun p xs s x → IsSettledRun p ys t y → questions_of xs ≡ questions_of ys
+SettlementsGoUnnoticed =
+    (p : PolicyRules) (xs ys : List Turn) (s t x y : Registry)
+    → now p s ≡ now p t → IsSettledRun p xs s x → IsSettledRun p ys t y
+    → questions_of xs ≡ questions_of ys
     → (answers_of xs ≡ answers_of ys)
     × ((u : ℕ) → x.clock ≤ u → y.clock ≤ u → lapse p u x ≡ lapse p u y)
     × (settles_last false xs ≡ false → settles_last false ys ≡ false → now p x ≡ now p y)
@@ -61,7 +72,9 @@ SettlementsGoUnnoticed = (p : PolicyRules) (xs ys : List Turn) (s t x y : Regist
 
 -- a run on a well formed registry leaves one
 abbrev pub RunsKeepRegistries : Type 0
-RunsKeepRegistries = (p : PolicyRules) → IsSound p → (turns : List Taken) (before after : Registry) → AreTurns p turns before after
+RunsKeepRegistries =
+    (p : PolicyRules) → IsSound p → (turns : List Taken) (before after : Registry)
+    → AreTurns p turns before after
     → IsRegistry p (now p before) → IsRegistry p (now p after)
 
 -- What becomes of money in a run, in the registries that its own turns found and left. In each turn the money of
@@ -72,12 +85,16 @@ pub record MoneyFollowsTurns (p : PolicyRules) (turns : List Taken) (before afte
   pub together : (r : ℕ) → LinesFollowOver (IsRefundableIn p r (calls_of p turns) before) last_clock (account_of r before).lines (account_of r after).lines
 
 abbrev pub RunsKeepMoney : Type 0
-RunsKeepMoney = (p : PolicyRules) → IsSound p → (turns : List Taken) (before after : Registry) → AreTurns p turns before after
+RunsKeepMoney =
+    (p : PolicyRules) → IsSound p → (turns : List Taken) (before after : Registry)
+    → AreTurns p turns before after
     → IsRegistry p (now p before) → MoneyFollowsTurns p turns (now p before) (now p after)
 
 -- ---- what a registrar is told
 
 -- Two runs from one registry on, of alike lists, tell the registrar the same.
 abbrev pub AlikeRunsTellTheSame : Type 0
-AlikeRunsTellTheSame = (p : PolicyRules) (r : ℕ) (pairs : List (ℕ × Pair)) (xs ys : List Answer) (s x y : Registry) → AreAlike p r none pairs s s
-    → IsRun p (firsts pairs) xs s x → IsRun p (seconds pairs) ys s y → told_of r (firsts pairs) xs ≡ told_of r (seconds pairs) ys
+AlikeRunsTellTheSame =
+    (p : PolicyRules) (r : ℕ) (pairs : List (ℕ × Pair)) (xs ys : List Answer) (s x y : Registry) → AreAlike p r none pairs s s
+    → IsRun p (firsts pairs) xs s x → IsRun p (seconds pairs) ys s y
+    → told_of r (firsts pairs) xs ≡ told_of r (seconds pairs) ys

@@ -15,7 +15,8 @@ abbrev pub IsRun : PolicyRules → List (ℕ × Question) → List Answer → Re
 IsRun p [] answers before after = (answers ≡ []) × (after ≡ before)
 IsRun p (asked ∷ others) answers before after =
     (first : Answer) × (rest : List Answer) × (between : Registry)
-    × (answers ≡ first ∷ rest) × IsCall p asked.0 asked.1 before between first × IsRun p others rest between after
+    × (answers ≡ first ∷ rest) × IsCall p asked.0 asked.1 before between first
+    × IsRun p others rest between after
 
 -- of the answers, those to what a registrar may have asked
 abbrev pub told_of : ℕ → List (ℕ × Question) → List Answer → List Answer
@@ -47,9 +48,11 @@ answers_of (settlement moment at_most done ∷ turns) = answers_of turns
 abbrev pub Follow : PolicyRules → Registry → ℕ → List Turn → Registry → Registry → Type 0
 Follow p left latest [] before after = after ≡ before
 Follow p left latest (call moment q a ∷ turns) before after =
-    (latest ≤ max moment left.clock) × (between : Registry) × IsCall p moment q before between a × Follow p between 0 turns between after
+    (latest ≤ max moment left.clock) × (between : Registry) × IsCall p moment q before between a
+    × Follow p between 0 turns between after
 Follow p left latest (settlement moment at_most done ∷ turns) before after =
-    (between : Registry) × IsSettlement p moment at_most before between done × Follow p left (max moment latest) turns between after
+    (between : Registry) × IsSettlement p moment at_most before between done
+    × Follow p left (max moment latest) turns between after
 
 abbrev pub IsSettledRun : PolicyRules → List Turn → Registry → Registry → Type 0
 IsSettledRun p turns before after = Follow p before 0 turns before after
@@ -76,8 +79,10 @@ IsAskedIn p look_up before = Unit {0}
 
 -- no call is later than the last moment
 abbrev pub IsTurn : PolicyRules → Turn → Registry → Registry → Type 0
-IsTurn p (call moment q a) before after = (moment ≤ last_clock) × IsAskedIn p q before × IsCall p moment q before after a
-IsTurn p (settlement moment at_most done) before after = (moment ≤ last_clock) × IsSettlement p moment at_most before after done
+IsTurn p (call moment q a) before after =
+    (moment ≤ last_clock) × IsAskedIn p q before × IsCall p moment q before after a
+IsTurn p (settlement moment at_most done) before after =
+    (moment ≤ last_clock) × IsSettlement p moment at_most before after done
 
 -- a turn, and the registry that it left
 pub record Taken : Type 0 where
@@ -87,7 +92,8 @@ pub record Taken : Type 0 where
 -- turns one after another, with settlements at any moments, each in the registry that the one before it left
 abbrev pub AreTurns : PolicyRules → List Taken → Registry → Registry → Type 0
 AreTurns p [] before after = after ≡ before
-AreTurns p (taken ∷ others) before after = IsTurn p taken.turn before taken.left × AreTurns p others taken.left after
+AreTurns p (taken ∷ others) before after =
+    IsTurn p taken.turn before taken.left × AreTurns p others taken.left after
 
 abbrev pub moment_of : Turn → ℕ
 moment_of (call moment q a) = moment

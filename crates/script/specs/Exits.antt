@@ -25,7 +25,7 @@ has_line _ = true
 abbrev pub text_of : Exit → Option (List ℕ)
 text_of Done = Some (codes "")
 text_of Refused = Some (codes "")
-text_of Usage = Some (codes "usage: tldreg run|serve|zone|deposit POLICY ...")
+text_of Usage = Some (codes "usage: tldreg run|serve|zone|deposit|migrate POLICY ...")
 text_of (Policy faults.Memory) = Some (codes "out of memory")
 text_of (Policy fault) = Some (codes "policy: " ++ fault_text fault)
 text_of (Open fault) = None

@@ -74,8 +74,10 @@ pub record IsSettledStep (p : PolicyRules) (at_most moment : ℕ) (before after 
 
 -- what the operator sends takes one registry to another
 abbrev pub OperatorSteps : PolicyRules → OperatorRequest → ℕ → Registry → Registry → List ℕ → Type 0
-OperatorSteps p (requests.Order order) moment before after text = IsOrderedStep p order moment before after text
-OperatorSteps p (requests.Settle at_most) moment before after text = IsSettledStep p at_most moment before after text
+OperatorSteps p (requests.Order order) moment before after text =
+    IsOrderedStep p order moment before after text
+OperatorSteps p (requests.Settle at_most) moment before after text =
+    IsSettledStep p at_most moment before after text
 
 -- what a registrar says takes one registry to another; it is taken as logged in
 abbrev pub SaidSteps : PolicyRules → ℕ → InSession → ℕ → Registry → Registry → List ℕ → Type 0
@@ -84,9 +86,11 @@ SaidSteps p r (Ordinary c) moment before after text = IsCommandStep p r c moment
 
 -- what somebody sends at a moment takes one registry to another, and is answered by a text
 abbrev pub Steps : PolicyRules → Sender → List ℕ → ℕ → Registry → Registry → List ℕ → Type 0
-Steps p (Registrar r) payload moment before after text = SaidSteps p r (in_session payload) moment before after text
+Steps p (Registrar r) payload moment before after text =
+    SaidSteps p r (in_session payload) moment before after text
 Steps p Operator payload moment before after text =
-    (request : OperatorRequest) × (order_in payload ≡ Some request) × OperatorSteps p request moment before after text
+    (request : OperatorRequest) × (order_in payload ≡ Some request)
+    × OperatorSteps p request moment before after text
 
 abbrev pub IsAnswered : PolicyRules → Sender → List ℕ → ℕ → Registry → Registry → List ℕ → Type 0
 IsAnswered p sender payload moment before after text =
@@ -99,7 +103,8 @@ IsAnsweredCommand p r c moment before after text =
 
 -- of hello
 abbrev pub IsAnsweredHello : PolicyRules → ℕ → Registry → Registry → List ℕ → Type 0
-IsAnsweredHello p moment before after text = GivesUp before after text ⊎ IsHelloStep p moment before after text
+IsAnsweredHello p moment before after text =
+    GivesUp before after text ⊎ IsHelloStep p moment before after text
 
 -- of an order
 abbrev pub IsAnsweredOrder : PolicyRules → Order → ℕ → Registry → Registry → List ℕ → Type 0
@@ -112,7 +117,8 @@ IsAnsweredSettlement p at_most moment before after text =
     GivesUp before after text ⊎ IsSettledStep p at_most moment before after text
 
 -- of what the operator sends
-abbrev pub IsAnsweredOperator : PolicyRules → OperatorRequest → ℕ → Registry → Registry → List ℕ → Type 0
+abbrev pub IsAnsweredOperator : PolicyRules → OperatorRequest → ℕ → Registry → Registry → List ℕ
+    → Type 0
 IsAnsweredOperator p request moment before after text =
     GivesUp before after text ⊎ OperatorSteps p request moment before after text
 
@@ -170,7 +176,8 @@ Prints p [] before after replies = (after ≡ before) × (replies ≡ [])
 Prints p ([] ∷ lines) before after replies = Prints p lines before after replies
 Prints p ((byte ∷ bytes) ∷ lines) before after replies =
     (reply : List ℕ) × (others : List (List ℕ)) × (between : Registry)
-    × (replies ≡ reply ∷ others) × Answers p (byte ∷ bytes) before between reply × Prints p lines between after others
+    × (replies ≡ reply ∷ others) × Answers p (byte ∷ bytes) before between reply
+    × Prints p lines between after others
 
 -- replies as they are printed, each ended by a line feed
 abbrev pub printed : List (List ℕ) → List ℕ
@@ -179,9 +186,11 @@ printed replies = flat_map (λ reply. reply ++ codes "\n") replies
 -- ---- a run
 
 -- one line and what it adds to the known bytes: its reply, or nothing where it is empty
-abbrev pub TellsLine : PolicyRules → List ℕ → Registry → Registry → Option (List ℕ) → Option (List ℕ) → Type 0
+abbrev pub TellsLine : PolicyRules → List ℕ → Registry → Registry → Option (List ℕ)
+    → Option (List ℕ) → Type 0
 TellsLine p line before after old new =
-    (replies : List (List ℕ)) × Prints p (line ∷ []) before after replies × Appends old new (printed replies)
+    (replies : List (List ℕ)) × Prints p (line ∷ []) before after replies
+    × Appends old new (printed replies)
 
 -- the known bytes grew by the front of a text
 abbrev pub AppendsFront : Option (List ℕ) → Option (List ℕ) → List ℕ → Type 0
@@ -189,16 +198,20 @@ AppendsFront old new text = (front rest : List ℕ) × Appends old new front × 
 
 -- the line is answered so, or it isn't answered
 abbrev pub MayPrint : PolicyRules → List ℕ → Registry → List (List ℕ) → Type 0
-MayPrint p line before replies = (replies ≡ []) ⊎ ((after : Registry) × Prints p (line ∷ []) before after replies)
+MayPrint p line before replies =
+    (replies ≡ []) ⊎ ((after : Registry) × Prints p (line ∷ []) before after replies)
 
 -- what a line leaves that breaks a run: the front of what was pending and of its reply, if it has one
-abbrev pub BreaksAt : PolicyRules → List ℕ → Registry → Option (List ℕ) → List ℕ → Option (List ℕ) → Type 0
+abbrev pub BreaksAt : PolicyRules → List ℕ → Registry → Option (List ℕ) → List ℕ → Option (List ℕ)
+    → Type 0
 BreaksAt p line before old pending new =
-    (replies : List (List ℕ)) × MayPrint p line before replies × AppendsFront old new (pending ++ printed replies)
+    (replies : List (List ℕ)) × MayPrint p line before replies
+    × AppendsFront old new (pending ++ printed replies)
 
 -- how a line ends a run: it isn't of the form, and nothing is added; or by a fault of the output or of memory
 abbrev pub HaltsAt : PolicyRules → List ℕ → ℕ → Option (List ℕ) → Option (List ℕ) → Exit → Type 0
-HaltsAt p line number old new (exits.Script n) = (n ≡ number) × (line ≢ []) × AsksNothing p line × Keeps old new
+HaltsAt p line number old new (exits.Script n) =
+    (n ≡ number) × (line ≢ []) × AsksNothing p line × Keeps old new
 HaltsAt p line number old new exits.File = Unit {0}
 HaltsAt p line number old new exits.Memory = Unit {0}
 HaltsAt p line number old new _ = ⊥
@@ -249,25 +262,33 @@ Writes old new P = (bytes : List ℕ) × Appends old new bytes × P bytes
 
 -- How a run ends that answers an input in a registry. A fault of the input, of the output or of memory leaves
 -- the front of the replies to some first lines: nothing is written twice, and nothing left out.
-abbrev pub Ends : PolicyRules → Registry → List ℕ → Option (List ℕ) → Option (List ℕ) → Exit → Type 0
-Ends p before input old new exits.Done = (after : Registry) × Writes old new (Finishes p before after input)
-Ends p before input old new (exits.Script n) = Writes old new (λ written. Stops p before input written n)
+abbrev pub Ends : PolicyRules → Registry → List ℕ → Option (List ℕ) → Option (List ℕ) → Exit
+    → Type 0
+Ends p before input old new exits.Done =
+    (after : Registry) × Writes old new (Finishes p before after input)
+Ends p before input old new (exits.Script n) =
+    Writes old new (λ written. Stops p before input written n)
 Ends p before input old new exits.File = Writes old new (Begins p before input)
 Ends p before input old new exits.Memory = Writes old new (Begins p before input)
 Ends p before input old new _ = ⊥
 
 -- the same, and what a run leaves is what the lines leave that are answered
-abbrev pub EndsIn : PolicyRules → (before after : Registry) → List ℕ → Option (List ℕ) → Option (List ℕ) → Exit → Type 0
+abbrev pub EndsIn : PolicyRules → (before after : Registry) → List ℕ → Option (List ℕ)
+    → Option (List ℕ) → Exit → Type 0
 EndsIn p before after input old new exits.Done = Writes old new (Finishes p before after input)
 EndsIn p before after input old new (exits.Script n) =
     Writes old new (λ written. (stops : Stops p before input written n) × (after ≡ stops.after))
 EndsIn p before after input old new exit = Ends p before input old new exit
 
 -- the same behind bytes that were pending
-abbrev pub EndsBehind : PolicyRules → (before after : Registry) → List ℕ → Option (List ℕ) → List ℕ → Option (List ℕ) → Exit → Type 0
-EndsBehind p before after input old pending new exits.File = Writes old new (BeginsBehind pending p before input)
-EndsBehind p before after input old pending new exits.Memory = Writes old new (BeginsBehind pending p before input)
-EndsBehind p before after input old pending new exit = EndsIn p before after input (append_known old pending) new exit
+abbrev pub EndsBehind : PolicyRules → (before after : Registry) → List ℕ → Option (List ℕ) → List ℕ
+    → Option (List ℕ) → Exit → Type 0
+EndsBehind p before after input old pending new exits.File =
+    Writes old new (BeginsBehind pending p before input)
+EndsBehind p before after input old pending new exits.Memory =
+    Writes old new (BeginsBehind pending p before input)
+EndsBehind p before after input old pending new exit =
+    EndsIn p before after input (append_known old pending) new exit
 
 -- a run that answers all its lines is done
 abbrev pub end_of : Result ⊤ Exit → Exit
@@ -282,5 +303,7 @@ EndsUnder p input old new exit = Ends p (start p) input old new exit
 -- how a run under a policy file ends; the file's first fault ends it with nothing printed
 abbrev pub EndsByFile : List ℕ → List ℕ → Option (List ℕ) → Option (List ℕ) → Exit → Type 0
 EndsByFile policy input old new (exits.Policy faults.Memory) = Keeps old new
-EndsByFile policy input old new (exits.Policy fault) = (policy_of policy ≡ Err fault) × Keeps old new
-EndsByFile policy input old new exit = (p : PolicyRules) × (policy_of policy ≡ Ok p) × EndsUnder p input old new exit
+EndsByFile policy input old new (exits.Policy fault) =
+    (policy_of policy ≡ Err fault) × Keeps old new
+EndsByFile policy input old new exit =
+    (p : PolicyRules) × (policy_of policy ≡ Ok p) × EndsUnder p input old new exit

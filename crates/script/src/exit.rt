@@ -69,7 +69,7 @@ impl fmt::Display for Exit {
     fn fmt<W: fmt::Write>(&self, f: &mut fmt::Formatter<W>) -> fmt::Result {
         match self {
             Exit::Done | Exit::Refused => Ok(()),
-            Exit::Usage => f.write_str("usage: tldreg run|serve|zone|deposit POLICY ..."),
+            Exit::Usage => f.write_str("usage: tldreg run|serve|zone|deposit|migrate POLICY ..."),
             Exit::Policy(PolicyFault::Memory) => f.write_str("out of memory"),
             Exit::Policy(fault) => write!(f, "policy: {fault}"),
             Exit::Open(fault) => write!(f, "{fault}"),

@@ -1,4 +1,4 @@
-//! The book in memory that a script runs over: the ten tables of a database.
+//! The book in memory that a script runs over: the tables of a database.
 ghost use Rattle.std.specs.Prelude.{◌≡◌, true, IfOk};
 ghost use Rattle.policy.specs.Rules.{IsRegistrar};
 ghost use Rattle.rules.specs.Isolation.{IsIsolated};

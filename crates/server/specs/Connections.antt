@@ -20,7 +20,8 @@ begins_frame (first ∷ rest) = nat_eq first 0
 
 -- A frame begins a connection of EPP, whatever comes after it.
 abbrev pub FramesBeginConnections : Type 0
-FramesBeginConnections = (payload rest : List ℕ) → IsPayload payload → begins_frame (frame payload ++ rest) ≡ true
+FramesBeginConnections =
+    (payload rest : List ℕ) → IsPayload payload → begins_frame (frame payload ++ rest) ≡ true
 
 -- the other side of a session: who is logged in, and what the book holds
 pub record Desk : Type 0 where
@@ -29,7 +30,8 @@ pub record Desk : Type 0 where
 
 -- what is made of a payload under a policy
 abbrev pub AnswersAt : PolicyRules → Desk → ℕ → List ℕ → Outcome → Desk → Type 0
-AnswersAt p old moment payload outcome new = Answers p old.caller payload moment old.book outcome new.book new.caller
+AnswersAt p old moment payload outcome new =
+    Answers p old.caller payload moment old.book outcome new.book new.caller
 
 -- A session of EPP with a registry, from when nobody is logged in: what it writes, what the book and
 -- the clock are then, and how it ends. What is taken wrongly in it isn't forgotten, so that behind a book
@@ -50,11 +52,15 @@ abbrev pub IsLeft : (before after clock later : Option (List ℕ)) → BookState
 IsLeft before after clock later old new = Appends before after [] × (later ≡ clock) × (new ≡ old)
 
 -- A connection: a session of EPP where its input begins as a frame does, and else a request of HTTP.
-abbrev pub Serves : PolicyRules → (input clock : Option (List ℕ)) → BookState → (before after later : Option (List ℕ)) → BookState → ConnectionEnd → Type 0
+abbrev pub Serves : PolicyRules → (input clock : Option (List ℕ)) → BookState
+    → (before after later : Option (List ℕ)) → BookState → ConnectionEnd → Type 0
 Serves p input clock old before after later new (ends.Session end) =
     IfSome input (λ bytes. begins_frame bytes ≡ true)
-    × (taken : Option (List ℕ)) × Agrees input taken × Writes before after (λ written. IsServed p taken clock old written later new end)
+    × (taken : Option (List ℕ)) × Agrees input taken
+    × Writes before after (λ written. IsServed p taken clock old written later new end)
 Serves p input clock old before after later new (ends.Http end) =
     IfSome input (λ bytes. begins_frame bytes ≡ false)
-    × (taken : Option (List ℕ)) × Agrees input taken × AnswersHttp p taken clock old before after later new end
-Serves p input clock old before after later new ends.Unread = IsLeft before after clock later old new
+    × (taken : Option (List ℕ)) × Agrees input taken
+    × AnswersHttp p taken clock old before after later new end
+Serves p input clock old before after later new ends.Unread =
+    IsLeft before after clock later old new

@@ -31,13 +31,15 @@ abbrev pub zone_faces_at : PolicyRules → ℕ → Registry → Faces
 zone_faces_at p moment s = zone_faces p (lapsed p moment s)
 
 abbrev pub zone_with : PolicyRules → ℕ → ℕ → Registry → List ℕ
-zone_with p moment serial s = zone_text p serial (zone_faces_at p moment s).hosts (zone_faces_at p moment s).domains
+zone_with p moment serial s =
+    zone_text p serial (zone_faces_at p moment s).hosts (zone_faces_at p moment s).domains
 
 -- ---- a registry that is lent with a moment
 
 -- it shows the faces of the moment, if nothing wrong was taken from what keeps it
 abbrev pub Shows : PolicyRules → ℕ → BookState → Faces → Type 0
-Shows p moment state faces = (state.is_clean ≡ true) × (faces ≡ zone_faces_at p moment state.content.registry)
+Shows p moment state faces =
+    (state.is_clean ≡ true) × (faces ≡ zone_faces_at p moment state.content.registry)
 
 -- What look-ups leave: nothing was changed since whenever, but that time passed up to the moment, if
 -- that held before; and what is shown then was shown before.
@@ -47,10 +49,13 @@ pub record LeavesLent (p q : PolicyRules) (moment later : ℕ) (old new : BookSt
   pub same_policy : q ≡ p
   pub same_moment : later ≡ moment
 
-pub lent_stays : (p : PolicyRules) (moment : ℕ) (state : BookState) → LeavesLent p p moment moment state state
+pub lent_stays : (p : PolicyRules) (moment : ℕ) (state : BookState)
+    → LeavesLent p p moment moment state state
 lent_stays p moment state = record { passes = λ before passed. passed; keeps = λ faces shown. shown; same_policy = refl; same_moment = refl }
 
-pub lent_on : (p q r : PolicyRules) (first second third : ℕ) (old between new : BookState) → LeavesLent p q first second old between → LeavesLent q r second third between new → LeavesLent p r first third old new
+pub lent_on : (p q r : PolicyRules) (first second third : ℕ) (old between new : BookState)
+    → LeavesLent p q first second old between → LeavesLent q r second third between new
+    → LeavesLent p r first third old new
 lent_on p q r first second third old between new left more = record {
   passes = λ before passed. more.passes before (left.passes before passed);
   keeps = λ faces shown. left.keeps faces (more.keeps faces shown);

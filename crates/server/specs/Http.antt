@@ -17,7 +17,8 @@ use Rattle.store.specs.Faces.{contact_face_at, domain_face_at, host_face_at}
 
 -- the faces of a registry, as RDAP asks for them
 abbrev pub faces_of : PolicyRules → Registry → Faces
-faces_of p s = record { domain = domain_face_at p s; host = host_face_at p s; contact = contact_face_at s }
+faces_of p s =
+    record { domain = domain_face_at p s; host = host_face_at p s; contact = contact_face_at s }
 
 -- those of a moment: all that is due by then has lapsed
 abbrev pub faces_at : PolicyRules → ℕ → Registry → Faces
@@ -30,13 +31,15 @@ MayShow p moment state faces = moment ≤ last_call → faces ≡ faces_at p mom
 
 -- Nothing is changed, but that time may have passed up to the moment.
 pub record Passes (p : PolicyRules) (moment : ℕ) (old new : BookState) : Type 0 where
-  pub registry : new.is_clean ≡ true → (new.content.registry ≡ old.content.registry) ⊎ (now p new.content.registry ≡ now p (lapsed p moment old.content.registry))
+  pub registry : new.is_clean ≡ true → (new.content.registry ≡ old.content.registry)
+      ⊎ (now p new.content.registry ≡ now p (lapsed p moment old.content.registry))
   pub terms : new.is_clean ≡ true → new.content.terms ≡ old.content.terms
   pub follows : Follows old new
 
 -- Nothing more is read of an input than decides: what was read before the last piece held no whole head.
 abbrev pub IsNeeded : List ℕ → Type 0
-IsNeeded read = (read ≡ []) ⊎ ((front : List ℕ) × (last : List ℕ) × (read ≡ front ++ last) × IsCut front)
+IsNeeded read =
+    (read ≡ []) ⊎ ((front : List ℕ) × (last : List ℕ) × (read ≡ front ++ last) × IsCut front)
 
 -- What was read of an input: so much that it is decided which head it begins with, or all of it; and no
 -- more, since a client that waits for its answer sends nothing more.
@@ -53,23 +56,31 @@ pub record IsAnswered (p : PolicyRules) (input clock : Option (List ℕ)) (old :
   pub passes : Passes p moment old new
   pub head : List ℕ
   pub agrees : IfSome input (λ bytes. head ≡ bytes)
-  pub answer : new.is_clean ≡ true → (faces : Faces) → MayShow p moment old faces → IsAnswer p faces head written
+  pub answer : new.is_clean ≡ true → (faces : Faces) → MayShow p moment old faces
+      → IsAnswer p faces head written
 
 -- What goes out of an answer: the whole, or a beginning where a write fails; where there is none,
 -- nothing.
-abbrev pub IsWritten : {V E : Type 0} → (V → List ℕ) → Result V E → (before after : Option (List ℕ)) → HttpEnd → Type 0
+abbrev pub IsWritten : {V E : Type 0} → (V → List ℕ) → Result V E → (before after : Option (List ℕ))
+    → HttpEnd → Type 0
 IsWritten items (Ok answer) before after end =
     ((end ≡ ends.Answered) × Appends before after (items answer))
     ⊎ ((end ≡ ends.WriteFault) × (n : ℕ) × Appends before after (take n (items answer)))
 IsWritten items (Err fault) before after end = (end ≡ ends.Unanswered) × Appends before after []
 
 -- neither the clock nor the registry was asked, or the registry gave nothing at a moment
-abbrev pub MayAsk : PolicyRules → (clock : Option (List ℕ)) → BookState → (later : Option (List ℕ)) → BookState → Type 0
-MayAsk p clock old later new = ((later ≡ clock) × (new ≡ old)) ⊎ ((moment : ℕ) × Tells clock later moment × Passes p moment old new)
+abbrev pub MayAsk : PolicyRules → (clock : Option (List ℕ)) → BookState → (later : Option (List ℕ))
+    → BookState → Type 0
+MayAsk p clock old later new =
+    ((later ≡ clock) × (new ≡ old))
+    ⊎ ((moment : ℕ) × Tells clock later moment × Passes p moment old new)
 
 -- what is written to a connection of HTTP, by how it ends
-abbrev pub AnswersHttp : PolicyRules → (input clock : Option (List ℕ)) → BookState → (before after later : Option (List ℕ)) → BookState → HttpEnd → Type 0
-AnswersHttp p input clock old before after later new ends.Answered = Writes before after (λ written. IsAnswered p input clock old written later new)
-AnswersHttp p input clock old before after later new ends.Unanswered = Appends before after [] × MayAsk p clock old later new
+abbrev pub AnswersHttp : PolicyRules → (input clock : Option (List ℕ)) → BookState
+    → (before after later : Option (List ℕ)) → BookState → HttpEnd → Type 0
+AnswersHttp p input clock old before after later new ends.Answered =
+    Writes before after (λ written. IsAnswered p input clock old written later new)
+AnswersHttp p input clock old before after later new ends.Unanswered =
+    Appends before after [] × MayAsk p clock old later new
 AnswersHttp p input clock old before after later new ends.WriteFault =
     Writes before after (λ written. (answer : List ℕ) × IsAnswered p input clock old answer later new × (n : ℕ) × (written ≡ take n answer))

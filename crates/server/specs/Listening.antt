@@ -13,7 +13,9 @@ ServesUnknown p old new = (end : ConnectionEnd) × Serves p None None old None N
 -- connections that ended so, the last one first: each begins with what the one before it left
 abbrev pub Serve : PolicyRules → List ConnectionEnd → BookState → BookState → Type 0
 Serve p [] old new = new ≡ old
-Serve p (end ∷ earlier) old new = (between : BookState) × Serve p earlier old between × Serves p None None between None None None new end
+Serve p (end ∷ earlier) old new =
+    (between : BookState) × Serve p earlier old between
+    × Serves p None None between None None None new end
 
 abbrev pub ServesInTurn : PolicyRules → BookState → BookState → Type 0
 ServesInTurn p old new = (ends : List ConnectionEnd) × Serve p ends old new

@@ -15,6 +15,7 @@ pub record LooksSame (p : PolicyRules) (moment : ℕ) (one other : Registry) : T
 
 -- They give equal answers to one head, and one zone.
 abbrev pub PublicTextsAgree : Type 0
-PublicTextsAgree = (p : PolicyRules) (moment : ℕ) (one other : Registry) → LooksSame p moment one other
+PublicTextsAgree =
+    (p : PolicyRules) (moment : ℕ) (one other : Registry) → LooksSame p moment one other
     → ((head answer second : List ℕ) → IsAnswer p (faces_at p moment one) head answer → IsAnswer p (faces_at p moment other) head second → answer ≡ second)
     × (zone_at p moment one ≡ zone_at p moment other)

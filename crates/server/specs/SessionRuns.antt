@@ -73,7 +73,8 @@ first_told (a ∷ answers) = outcome_told a
 abbrev pub outcome_before : PolicyRules → BeforeLogin → List Answer → Outcome
 outcome_before p before.Hello answers = first_told answers
 outcome_before p (before.Login cl_trid c) answers = nobodys_outcome cl_trid (login_code p c)
-outcome_before p (before.Refused cl_trid fault) answers = nobodys_outcome cl_trid (code_of_form fault)
+outcome_before p (before.Refused cl_trid fault) answers =
+    nobodys_outcome cl_trid (code_of_form fault)
 
 -- of a frame, by the answers to what it asks
 abbrev pub outcome_by : PolicyRules → Option ℕ → List ℕ → List Answer → Outcome
@@ -94,7 +95,8 @@ AreAnswered p caller (turn ∷ turns) old new =
 -- all that they ask
 abbrev pub asked_over : PolicyRules → Option ℕ → List Turn → List (ℕ × Question)
 asked_over p caller [] = []
-asked_over p caller (turn ∷ turns) = asked_by caller turn ++ asked_over p (caller_after p caller turn) turns
+asked_over p caller (turn ∷ turns) =
+    asked_by caller turn ++ asked_over p (caller_after p caller turn) turns
 
 -- The frames of a session, the last among them: they are answered one after another, and what was written is what is
 -- sent for them, or a beginning of it; the closing text may come last.
@@ -108,13 +110,17 @@ pub record IsAnsweredAll (p : PolicyRules) (old : Desk) (written : List ℕ) (ne
 
 -- A session with the book of a registry, from which nothing wrong was taken by its end, is its frames answered.
 abbrev pub SessionsAreAnswered : Type 0
-SessionsAreAnswered = (p : PolicyRules) (old new : Standing Desk) (written : List ℕ) (end : SessionEnd)
-    → Session (AnswersAt p) old written new end → new.peer.book.is_clean ≡ true → IsAnsweredAll p old.peer written new.peer
+SessionsAreAnswered =
+    (p : PolicyRules) (old new : Standing Desk) (written : List ℕ) (end : SessionEnd)
+    → Session (AnswersAt p) old written new end → new.peer.book.is_clean ≡ true
+    → IsAnsweredAll p old.peer written new.peer
 
 -- Frames that are answered one after another are a run, so that the laws of runs say of sessions what they say.
 abbrev pub SessionsAreRuns : Type 0
-SessionsAreRuns = (p : PolicyRules) (caller : Option ℕ) (turns : List Turn) (old new : Registry)
-    → AreAnswered p caller turns old new → (answers : List Answer) × IsRun p (asked_over p caller turns) answers old new
+SessionsAreRuns =
+    (p : PolicyRules) (caller : Option ℕ) (turns : List Turn) (old new : Registry)
+    → AreAnswered p caller turns old new
+    → (answers : List Answer) × IsRun p (asked_over p caller turns) answers old new
 
 -- it was carried out, and its text found memory
 abbrev pub has_text : Outcome → Bool
@@ -133,6 +139,7 @@ said turns = map (λ turn. (turn.moment, turn.payload)) turns
 -- The same frames at the same moments, in registries that are the same now, whatever was settled before: where each is
 -- sent a text, each is sent the same bytes, and what is left is the same now.
 abbrev pub SessionsAreSentTheSame : Type 0
-SessionsAreSentTheSame = (p : PolicyRules) (caller : Option ℕ) (xs ys : List Turn) (s t x y : Registry)
+SessionsAreSentTheSame =
+    (p : PolicyRules) (caller : Option ℕ) (xs ys : List Turn) (s t x y : Registry)
     → now p s ≡ now p t → AreAnswered p caller xs s x → AreAnswered p caller ys t y
     → said xs ≡ said ys → are_sent xs ≡ true → are_sent ys ≡ true → (xs ≡ ys) × (now p x ≡ now p y)

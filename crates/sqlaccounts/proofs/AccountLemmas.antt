@@ -248,7 +248,7 @@ counted xs r x row new place found it =
     changed xs ys r (with_counters x) row new place (sym found) refl id (ap standing it.rest) (λ id e. refl) (λ id e. refl)
     (λ i. record { lines = lines_of xs (id i); queue = queue_of xs (id i); commands = (it.back i).commands; messages = (it.back i).messages; serial = (it.back i).serial })
     (λ i. int_eq (balance_in (cents i)) (balance (lines_of xs (id i))) && int_eq (waiting i) (pos (length (queue_of xs (id i)))))
-    (record { metas = refl; contacts = refl; domains = refl; hosts = refl; addresses = refl; links = refl; transfers = refl })
+    (record { metas = refl; days = refl; contacts = refl; domains = refl; hosts = refl; addresses = refl; links = refl; transfers = refl })
 
 -- ---- nothing changed
 
@@ -275,5 +275,5 @@ module _ (xs : Content) (r : ℕ) (f : Account → Account) (row : table.Account
     accounts = kept_accounts;
     sums = refl;
     standings = λ id. refl;
-    others = record { metas = refl; contacts = refl; domains = refl; hosts = refl; addresses = refl; links = refl; transfers = refl };
+    others = record { metas = refl; days = refl; contacts = refl; domains = refl; hosts = refl; addresses = refl; links = refl; transfers = refl };
   }

@@ -75,7 +75,7 @@ domain_read row line e =
     let recorded = step (moment_in row.recorded) _ line roid.rest in
     let years = step (years_in row.years) _ line recorded.rest in
     let cents = step (exact_in row.cents) _ line years.rest in
-    let started = step (maybe_moment_in row.started) _ line cents.rest in
+    let started = step (maybe_moment_in row.grace.started) _ line cents.rest in
     let refunded = step (maybe_moment_in row.refunded) _ line started.rest in
     let same : ◌≡◌ {A = Line} (record { kind = kind.given; roid = roid.given; recorded = recorded.given; years = years.given; cents = cents.given; started = started.given; refunded = refunded.given }) line = same_some _ _ refunded.rest in
     roid.is ∙ λ i. Some ((same i).roid)

@@ -35,8 +35,8 @@ account-made account row None cents make own e = cc
 account-made account row (Some d) None make own e = cc
 account-made account row (Some d) (Some c) make own e = sym (ap (λ (r : table.Line). r.account) (same_some (make d c) row e)) ∙ own d c
 
-pub account_written : (id account : ℤ) (line : Line) (row : table.Line) → line_row id account line ≡ Some row → row.account ≡ account
-account_written id account line row e = account-made account row (domain_columns line.roid) (exact_column line.cents) (λ d c. row_with id account line d c) (λ d c. refl) e
+pub account_written : (id account : ℤ) (line : Line) (ends : Option ℤ) (row : table.Line) → line_row id account line ends ≡ Some row → row.account ≡ account
+account_written id account line ends row e = account-made account row (domain_columns line.roid) (exact_column line.cents) (λ d c. row_with id account line ends d c) (λ d c. refl) e
 
 -- ---- one row among others
 
@@ -110,4 +110,4 @@ added xs r line row new it place found paid written =
     (filter-without (line_with_account k) xs.lines [] x (ap (λ a. int_eq a k) written.account ∙ e) ∙ ap (filter (line_with_account k)) (append-nil xs.lines)))
     lines
     (ap (int_eq (balance_in row.balance +ℤ amount line)) (ap balance lines ∙ balance-add line (lines_of xs (pos r))) ∙ both-added (balance_in row.balance) (balance (lines_of xs (pos r))) (amount line))
-    (record { metas = refl; contacts = refl; domains = refl; hosts = refl; addresses = refl; links = refl; transfers = refl })
+    (record { metas = refl; days = refl; contacts = refl; domains = refl; hosts = refl; addresses = refl; links = refl; transfers = refl })

@@ -47,7 +47,7 @@ module _ (xs : Content) (r : ℕ) (whole : IsWhole xs) (place : is_place r ≡ t
     sums = sums-put xs ys r (λ a. a) new place refl refl (λ id e. refl) (λ id e. refl) here right;
     own = row_here xs ys r new refl refl (pos r) (equal (pos r) (pos r) refl) ∙ sym (ap (λ o. Some (unwrap_or o new)) none);
     rows = λ id e. row_there xs ys r new refl refl id e;
-    others = record { metas = refl; contacts = refl; domains = refl; hosts = refl; addresses = refl; links = refl; transfers = refl };
+    others = record { metas = refl; days = refl; contacts = refl; domains = refl; hosts = refl; addresses = refl; links = refl; transfers = refl };
     lines = refl;
     messages = refl;
   }
@@ -59,7 +59,7 @@ still xs r row place there = record {
   sums = refl;
   own = there ∙ sym (ap (λ o. Some (unwrap_or o (opened_row r))) there);
   rows = λ id e. refl;
-  others = record { metas = refl; contacts = refl; domains = refl; hosts = refl; addresses = refl; links = refl; transfers = refl };
+  others = record { metas = refl; days = refl; contacts = refl; domains = refl; hosts = refl; addresses = refl; links = refl; transfers = refl };
   lines = refl;
   messages = refl;
 }

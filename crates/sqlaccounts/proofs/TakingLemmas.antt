@@ -53,7 +53,7 @@ removed xs r line row new it up place there paid finds =
     (ap (filter (line_with_account k)) ps.without ∙ sym (filter-without (line_with_account k) ps.front ps.rest it (ap (λ a. int_eq a k) owner ∙ e)) ∙ ap (filter (line_with_account k)) (sym ps.whole)))
     (sym (ap (taken in_order line) before ∙ taken-add in_order lines_in_order line (lines_of ys (pos r))))
     (both-less (balance_in row.balance) (balance (lines_of ys (pos r))) (amount line) ∙ ap (int_eq (balance_in row.balance)) (sym (ap balance before ∙ balance-add line (lines_of ys (pos r)))))
-    (record { metas = refl; contacts = refl; domains = refl; hosts = refl; addresses = refl; links = refl; transfers = refl })
+    (record { metas = refl; days = refl; contacts = refl; domains = refl; hosts = refl; addresses = refl; links = refl; transfers = refl })
 
 -- by its number
 pub taken-out : (xs : Content) (r : ℕ) (line : Line) (row new : account_table.Account) (rows : List table.Line) (id : ℤ) → IsWhole xs → is_place r ≡ true → Some row ≡ row_of xs (pos r)

@@ -67,7 +67,9 @@ balance_in bytes = cast_signed w128 (from_be_bytes w128 bytes)
 
 -- the columns are what the lines add up to, and how many messages wait
 abbrev pub is_right : Content → account_table.Account → Bool
-is_right xs row = int_eq (balance_in row.balance) (balance (lines_of xs row.id)) && int_eq row.waiting (pos (length (queue_of xs row.id)))
+is_right xs row =
+    int_eq (balance_in row.balance) (balance (lines_of xs row.id))
+    && int_eq row.waiting (pos (length (queue_of xs row.id)))
 
 -- those of the row with a number, if there is one
 abbrev pub has_right_sums : Content → ℤ → Bool

@@ -30,6 +30,7 @@ counters_of a = record { commands = a.commands; messages = a.messages; serial = 
 -- no row of another table, but of lines and messages, is touched
 pub record AreOthersKept (old new : Content) : Type 0 where
   pub metas : new.metas ≡ old.metas
+  pub days : new.days ≡ old.days
   pub contacts : new.contacts ≡ old.contacts
   pub domains : new.domains ≡ old.domains
   pub hosts : new.hosts ≡ old.hosts

@@ -17,6 +17,8 @@ use crate::paying::{paid, paid_back};
 use crate::writing::written;
 use accounts::Line;
 use basis::registrar::RegistrarNo;
+use calendar::Moment;
+use columns::maybe_moment_column;
 use rows::Number;
 use sqlite::Alter;
 use tables::{AccountRow, RowStore};
@@ -41,18 +43,19 @@ fn cents_of(row: Option<AccountRow>) -> i128
 
 /// Adds a line to a registrar's account, and what it is worth to the balance. Refused are an account
 /// that was never opened, and a line that no row can have: on another object than a domain, or of
-/// 2 ^ 63 cents or more.
+/// 2 ^ 63 cents or more. When the line's grace ends is written beside it.
 pub fn add_line<S: Alter>(
     store: &mut RowStore<S>,
     registrar: RegistrarNo,
     line: Line,
+    ends: Option<Moment>,
 ) -> Result<(), BookFault>
     requires { store.old.is_open ≡ true }
     ensures { Turns result (IsChange registrar (with_lines (add in_order line))) store.old store.new }
 {
     let row = found_row(store, registrar)?;
     let row = paid(row, line.amount())?;
-    let line = written(registrar, &line)?;
+    let line = written(registrar, &line, maybe_moment_column(ends))?;
     store.put_account(&row)?;
     store.append_line(&line)?;
     Ok(())

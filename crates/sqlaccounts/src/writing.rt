@@ -13,14 +13,19 @@ use objects::Roid;
 use tables::LineRow;
 use transactions::BookFault;
 
-/// The row of a line, which reads as that line. It has no number of its own yet.
-pub(crate) fn written(registrar: RegistrarNo, line: &Line) -> Result<LineRow, BookFault>
+/// The row of a line, which reads as that line, with the column for the end of its grace. It has no
+/// number of its own yet.
+pub(crate) fn written(
+    registrar: RegistrarNo,
+    line: &Line,
+    ends: Option<i64>,
+) -> Result<LineRow, BookFault>
     ensures { IfOk result (IsWritten registrar line.now) }
 {
     if !is_line(line) {
         return Err(BookFault::Store);
     }
-    match line_row(0, registrar_column(registrar), line) {
+    match line_row(0, registrar_column(registrar), line, ends) {
         Some(row) => Ok(row),
         None => Err(BookFault::Store),
     }

@@ -24,7 +24,7 @@ use Rattle.sqldomains.specs.Domains.{domains_of}
 use Rattle.sqldomains.proofs.SponsorLemmas.{sponsors-kept}
 use Rattle.sqlterms.specs.Clock.{clock_of}
 use Rattle.sqlterms.specs.Meta.{meta_of}
-use Rattle.sqlterms.specs.Terms.{days_in, ids_behind, ids_in, is_unnamed, prices_in, reserved_in, terms_in, terms_made, terms_of}
+use Rattle.sqlterms.specs.Terms.{ids_behind, ids_in, is_unnamed, prices_in, reserved_in, schedule_in, terms_in, terms_made, terms_of}
 use Rattle.sqldue.specs.Dues.{dues_are_right}
 use Rattle.sqlbook.specs.Meaning.{are_right, stored_of}
 
@@ -102,7 +102,7 @@ same-ids (a ∷ xs) (b ∷ bs) ua ub same ids =
 module _ (r : ℕ) (f : Account → Account) (old new : Content) (whole : IsWhole old) (after : IsWhole new) (it : IsChange r f old new) where
   terms-kept : terms_of new ≡ terms_of old
   terms-kept =
-      ap (λ metas. terms_of (record new { metas = metas })) it.others.metas
+      (λ i. terms_of (record new { metas = it.others.metas i; days = it.others.days i }))
       ∙ go (meta_of old)
     where
       named-so : (n o : Option table.Account) → option_map standing n ≡ option_map standing o → ident_in n ≡ ident_in o
@@ -114,12 +114,12 @@ module _ (r : ℕ) (f : Account → Account) (old new : Content) (whole : IsWhol
       ids : ids_in new.accounts ≡ ids_in old.accounts
       ids = same-ids new.accounts old.accounts after.keyed.accounts whole.keyed.accounts (λ id. named-so (row_of new id) (row_of old id) (it.standings id)) []
 
-      go : (m : Option Meta) → terms_in m new.accounts ≡ terms_in m old.accounts
+      go : (m : Option Meta) → terms_in m old.days new.accounts ≡ terms_in m old.days old.accounts
       go None = refl
-      go (Some row) = λ i. cond (length row.zone == 0) None (terms_made row.zone (reserved_in row.reserved) (days_in row) (prices_in row) (ids i))
+      go (Some row) = λ i. cond (length row.zone == 0) None (terms_made row.zone (reserved_in row.reserved) (schedule_in row old.days) (prices_in row) (ids i))
 
   dues-kept : dues_are_right new ≡ dues_are_right old
-  dues-kept = λ i. dues_are_right (record new { metas = it.others.metas i; contacts = it.others.contacts i; domains = it.others.domains i; hosts = it.others.hosts i; links = it.others.links i; transfers = it.others.transfers i })
+  dues-kept = λ i. dues_are_right (record new { metas = it.others.metas i; days = it.others.days i; contacts = it.others.contacts i; domains = it.others.domains i; hosts = it.others.hosts i; links = it.others.links i; transfers = it.others.transfers i })
 
   pub right-kept : are_right new ≡ are_right old
   right-kept = λ i. may_be_numbered (it.others.metas i) && (it.sums i && (change-kept r f old new it i && (dues-kept i && sponsors-kept old new it.others.hosts it.others.domains i)))

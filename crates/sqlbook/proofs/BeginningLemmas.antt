@@ -1,5 +1,5 @@
 -- What a book is over rows that were adopted.
-use Rattle.std.proofs.Common.{◌≡◌, ◌&&◌, ℕ, Bool, true, false, List, [], ◌∷◌, map, refl, sym, ap, subst, ◌∙◌}
+use Rattle.std.proofs.Common.{◌≡◌, ◌≢◌, ◌&&◌, ℕ, Bool, true, false, List, [], map, refl, sym, ap, subst, ◌∙◌}
 use Rattle.std.proofs.lemmas.Bool.{and_parts}
 use Rattle.sqlite.proofs.ListingLemmas.{empty_is_sound}
 use Rattle.sqlite_trees.specs.Objects.{catalog_tree}
@@ -16,7 +16,7 @@ use Rattle.tables.proofs.AdoptedLemmas.{schema_once, some-tables}
 use Rattle.transactions.specs.declared.readiness.Ready.{Ready}
 use Rattle.transactions.specs.declared.readiness.Ready.TheVariants.{Empty, Used, Other}
 use Rattle.transactions.specs.States.{Remains, StateOf}
-use Rattle.sqlbook.specs.Beginning.{IsFoundNew, IsTaken, IsTakenFrom}
+use Rattle.sqlbook.specs.Beginning.{IsAdoptedBook, IsFoundNew, IsTaken, IsTakenFrom}
 use Rattle.sqlbook.specs.Meaning.{are_right, stored_of}
 use Rattle.sqlbook.specs.Seen.{are_all_right, meant, seen}
 use Rattle.sqlbook.specs.Steady.{IsSteady}
@@ -82,3 +82,20 @@ rows_new trees rows adopted clean none = rows-known rows.readiness trees rows.co
 
 pub found_new : (trees : Trees) (s : BookState) → IsTakenFrom trees s → IsFoundNew trees s
 found_new trees s taken none clean = nothing-known s.readiness trees s.content none (taken.known clean) (taken.content clean)
+
+-- ---- a book over them
+
+pub adopted_book : (trees : Trees) (rows store : StateOf Content) (refused : ℕ) → rows ≡ store → refused ≡ 0 → IsAdopted trees store → store.readiness ≢ Other → IsAdoptedBook trees rows refused
+adopted_book trees rows store refused same none adopted ours =
+    let it = subst (IsAdopted trees) (sym same) adopted in
+    let taken = taken_from trees rows it refused none in
+    record {
+      book = taken;
+      adopted = it;
+      ours = λ other. ours (ap (λ (s : StateOf Content). s.readiness) (sym same) ∙ other);
+      answers = clean_if_right trees rows it;
+      fresh = found_new trees _ taken;
+    }
+
+pub honest_rows : (rows store : StateOf Content) → rows ≡ store → (store.is_clean ≡ true → store.is_honest ≡ true) → rows.is_clean ≡ true → store.is_honest ≡ true
+honest_rows rows store same honest clean = honest (ap (λ (s : StateOf Content). s.is_clean) (sym same) ∙ clean)

@@ -7,8 +7,9 @@ use Rattle.std.specs.Prelude.{int_le, pos}
 use Rattle.sqlite_rules.specs.Lists.{Has}
 use Rattle.sqlite_typed.specs.Tests.{bytes_eq}
 use Rattle.lifecycle.specs.Lapse.{due_at}
+use Rattle.lifecycle.specs.Periods.{rules_with}
 use Rattle.objects.specs.declared.domain.Domain.{Domain}
-use Rattle.policy.specs.declared.days.Days.{Days}
+use Rattle.policy.specs.declared.schedule.Schedule.{Schedule}
 use Rattle.store.specs.Ledgers as store
 use Rattle.store.specs.Tables.{domain_put}
 use Rattle.tables.specs.Account as account_table
@@ -26,8 +27,8 @@ use Rattle.sqlheld.proofs.KeptLemmas.{held-kept}
 use Rattle.sqlobjects.specs.Objects.{contacts_of, hosts_of}
 use Rattle.sqlterms.specs.Clock.{clock_of}
 use Rattle.sqlterms.specs.Meta.{meta_of}
-use Rattle.sqlterms.specs.Terms.{days_in, days_of, ids_in, prices_in, reserved_in, terms_in, terms_made, terms_of}
-use Rattle.sqldue.specs.Dues.{dues_are_right, is_due_right, rules_with}
+use Rattle.sqlterms.specs.Terms.{days_of, ids_in, prices_in, reserved_in, schedule_in, terms_in, terms_made, terms_of}
+use Rattle.sqldue.specs.Dues.{dues_are_right, is_due_right}
 use Rattle.sqlbook.specs.Meaning.{stored_of}
 use Rattle.sqlbook.proofs.AccountLemmas.{ident_in, same-ids}
 use Rattle.sqlbook.proofs.ObjectLemmas.{same-put}
@@ -37,8 +38,8 @@ use Rattle.sqlbook.proofs.ObjectLemmas.{same-put}
 -- What was there under the name had a right column, if it was there, and so has what is there now.
 module _ (name : List ℕ) (before after : Option Domain) (due : Option ℕ) (old mid new : Content) (whole : IsWhole old) (counted : IsRecounted before after old mid) (there : get (domains_of old) name ≡ before)
     (it : IsDomainPut name after due mid new)
-    (was : (days : Days) → days_of old ≡ Some days → (row : table.Domain) → Has old.domains row → row.name ≡ name → is_due_right days old row ≡ true)
-    (is : (days : Days) → days_of old ≡ Some days → (row : table.Domain) → Has new.domains row → row.name ≡ name → is_due_right days new row ≡ true) where
+    (was : (days : Schedule) → days_of old ≡ Some days → (row : table.Domain) → Has old.domains row → row.name ≡ name → is_due_right days old row ≡ true)
+    (is : (days : Schedule) → days_of old ≡ Some days → (row : table.Domain) → Has new.domains row → row.name ≡ name → is_due_right days new row ≡ true) where
   reads-mid : (row : table.Domain) → domain_of mid row ≡ domain_of old row
   reads-mid row = ap (λ (xs : Content). domain_of xs row) counted.rest
 
@@ -48,19 +49,22 @@ module _ (name : List ℕ) (before after : Option Domain) (due : Option ℕ) (ol
   metas-now : new.metas ≡ old.metas
   metas-now = it.metas ∙ ap (λ (xs : Content). xs.metas) counted.rest
 
+  days-now : new.days ≡ old.days
+  days-now = it.days ∙ ap (λ (xs : Content). xs.days) counted.rest
+
   dues-put : dues_are_right new ≡ dues_are_right old
   dues-put =
-      ap (λ m. option_map_or (λ days. list_all (is_due_right days new) new.domains) (days_of (record new { metas = m })) true) metas-now
+      (λ i. option_map_or (λ days. list_all (is_due_right days new) new.domains) (days_of (record new { metas = metas-now i; days = days-now i })) true)
       ∙ go (days_of old) refl
     where
-      one : (days : Days) → days_of old ≡ Some days → list_all (is_due_right days new) new.domains ≡ list_all (is_due_right days old) old.domains
+      one : (days : Schedule) → days_of old ≡ Some days → list_all (is_due_right days new) new.domains ≡ list_all (is_due_right days old) old.domains
       one days here =
           same-verdict (λ (r : table.Domain). r.name) name old.domains new.domains (is_due_right days old) (is_due_right days new)
           (λ q e. it.others q e ∙ ap (filter (λ (r : table.Domain). bytes_eq r.name q)) domains-mid)
           (λ row there now other. ap (λ d. option_map_or (λ x. int_le row.due (pos (due_at (rules_with days) x))) d true) (it.readings row (subst (λ l. Has l row) (sym domains-mid) there) now other ∙ reads-mid row))
           (was days here) (is days here)
 
-      go : (days : Option Days) → days_of old ≡ days → option_map_or (λ d. list_all (is_due_right d new) new.domains) days true ≡ option_map_or (λ d. list_all (is_due_right d old) old.domains) days true
+      go : (days : Option Schedule) → days_of old ≡ days → option_map_or (λ d. list_all (is_due_right d new) new.domains) days true ≡ option_map_or (λ d. list_all (is_due_right d old) old.domains) days true
       go None e = refl
       go (Some days) e = one days e
 
@@ -85,13 +89,13 @@ module _ (name : List ℕ) (before after : Option Domain) (due : Option ℕ) (ol
 
   terms-mid : terms_of new ≡ terms_of old
   terms-mid =
-      ap (λ metas. terms_of (record new { metas = metas })) metas-now
-      ∙ ap (λ rows. terms_in (meta_of old) rows) it.accounts
+      (λ i. terms_of (record new { metas = metas-now i; days = days-now i }))
+      ∙ ap (λ rows. terms_in (meta_of old) old.days rows) it.accounts
       ∙ go (meta_of old)
     where
-      go : (m : Option Meta) → terms_in m mid.accounts ≡ terms_in m old.accounts
+      go : (m : Option Meta) → terms_in m old.days mid.accounts ≡ terms_in m old.days old.accounts
       go None = refl
-      go (Some row) = λ i. cond (length row.zone == 0) None (terms_made row.zone (reserved_in row.reserved) (days_in row) (prices_in row) (ids-mid i))
+      go (Some row) = λ i. cond (length row.zone == 0) None (terms_made row.zone (reserved_in row.reserved) (schedule_in row old.days) (prices_in row) (ids-mid i))
 
   pub domain-changed : stored_of new ≡ domain_put name after (stored_of old)
   domain-changed = λ i. record {

@@ -5,6 +5,8 @@ pub mod DomainLemmas
 pub mod AlteringLemmas
 pub mod TermLemmas
 pub mod ReplacingLemmas
+pub mod RedatingLemmas
+pub mod MigratingLemmas
 pub mod SteadyLemmas
 pub mod ReopeningLemmas
 pub mod BeginningLemmas

@@ -8,9 +8,10 @@ use Rattle.std.specs.Ordering.{nat_cmp}
 use Rattle.std.specs.Prelude.{int_le, pos}
 use Rattle.sqlite_rules.specs.Lists.{Has}
 use Rattle.lifecycle.specs.Lapse.{due_at}
+use Rattle.lifecycle.specs.Periods.{rules_with}
 use Rattle.objects.specs.declared.contact.Contact.{Contact}
 use Rattle.objects.specs.declared.host.Host.{Host}
-use Rattle.policy.specs.declared.days.Days.{Days}
+use Rattle.policy.specs.declared.schedule.Schedule.{Schedule}
 use Rattle.store.specs.Ledgers as store
 use Rattle.store.specs.Tables.{contact_put, host_put}
 use Rattle.tables.specs.Content.{Content}
@@ -24,7 +25,7 @@ use Rattle.sqlheld.proofs.KeptLemmas.{accounts-kept}
 use Rattle.sqlobjects.specs.Changes.{IsContactPut, IsHostPut, put}
 use Rattle.sqlterms.specs.Clock.{clock_of}
 use Rattle.sqlterms.specs.Terms.{days_of, terms_of}
-use Rattle.sqldue.specs.Dues.{dues_are_right, is_due_right, rules_with}
+use Rattle.sqldue.specs.Dues.{dues_are_right, is_due_right}
 use Rattle.sqlbook.specs.Meaning.{are_right, stored_of}
 
 -- a put over rows is a put of a map by name
@@ -37,12 +38,12 @@ all-where p q [] same = refl
 all-where p q (row ∷ rows) same = λ i. same row (inl refl) i && all-where p q rows (λ r h. same r (inr h)) i
 
 -- the columns of domains are as right as they were where the rows are the same and read as before
-pub dues-where : (old new : Content) → new.metas ≡ old.metas → new.domains ≡ old.domains → ((row : table.Domain) → Has old.domains row → domain_of new row ≡ domain_of old row) → dues_are_right new ≡ dues_are_right old
-dues-where old new metas domains reads =
-    ap (λ m. option_map_or (λ days. list_all (is_due_right days new) new.domains) (days_of (record new { metas = m })) true) metas
+pub dues-where : (old new : Content) → new.metas ≡ old.metas → new.days ≡ old.days → new.domains ≡ old.domains → ((row : table.Domain) → Has old.domains row → domain_of new row ≡ domain_of old row) → dues_are_right new ≡ dues_are_right old
+dues-where old new metas tables domains reads =
+    (λ i. option_map_or (λ days. list_all (is_due_right days new) new.domains) (days_of (record new { metas = metas i; days = tables i })) true)
     ∙ go (days_of old)
   where
-    go : (days : Option Days) → option_map_or (λ d. list_all (is_due_right d new) new.domains) days true ≡ option_map_or (λ d. list_all (is_due_right d old) old.domains) days true
+    go : (days : Option Schedule) → option_map_or (λ d. list_all (is_due_right d new) new.domains) days true ≡ option_map_or (λ d. list_all (is_due_right d old) old.domains) days true
     go None = refl
     go (Some days) =
         ap (list_all (is_due_right days new)) domains
@@ -53,7 +54,7 @@ module _ (name : List ℕ) (value : Option Contact) (old new : Content) (it : Is
   contact-right = λ i.
       may_be_numbered (it.metas i)
       && (sums_are_right (record new { accounts = it.accounts i; lines = it.lines i; messages = it.messages i })
-      && (accounts-kept old new (contact-leaves-domains name value old new it) it.accounts i && (dues-where old new it.metas it.domains (contact-leaves-reading name value old new it) i && contact-sponsors name value old new it i)))
+      && (accounts-kept old new (contact-leaves-domains name value old new it) it.accounts i && (dues-where old new it.metas it.days it.domains (contact-leaves-reading name value old new it) i && contact-sponsors name value old new it i)))
 
   pub contact-changed : stored_of new ≡ contact_put name value (stored_of old)
   contact-changed = λ i. record {
@@ -64,7 +65,7 @@ module _ (name : List ℕ) (value : Option Contact) (old new : Content) (it : Is
       accounts = accounts_of (record new { accounts = it.accounts i; lines = it.lines i; messages = it.messages i });
       clock = clock_of (record new { metas = it.metas i });
     };
-    terms = terms_of (record new { metas = it.metas i; accounts = it.accounts i });
+    terms = terms_of (record new { metas = it.metas i; days = it.days i; accounts = it.accounts i });
   }
 
 module _ (name : List ℕ) (value : Option Host) (old new : Content) (it : IsHostPut name value old new) where
@@ -72,7 +73,7 @@ module _ (name : List ℕ) (value : Option Host) (old new : Content) (it : IsHos
   host-right = λ i.
       may_be_numbered (it.metas i)
       && (sums_are_right (record new { accounts = it.accounts i; lines = it.lines i; messages = it.messages i })
-      && (accounts-kept old new (host-leaves-domains name value old new it) it.accounts i && (dues-where old new it.metas it.domains (host-leaves-reading name value old new it) i && host-sponsors name value old new it i)))
+      && (accounts-kept old new (host-leaves-domains name value old new it) it.accounts i && (dues-where old new it.metas it.days it.domains (host-leaves-reading name value old new it) i && host-sponsors name value old new it i)))
 
   pub host-changed : stored_of new ≡ host_put name value (stored_of old)
   host-changed = λ i. record {
@@ -83,5 +84,5 @@ module _ (name : List ℕ) (value : Option Host) (old new : Content) (it : IsHos
       accounts = accounts_of (record new { accounts = it.accounts i; lines = it.lines i; messages = it.messages i });
       clock = clock_of (record new { metas = it.metas i });
     };
-    terms = terms_of (record new { metas = it.metas i; accounts = it.accounts i });
+    terms = terms_of (record new { metas = it.metas i; days = it.days i; accounts = it.accounts i });
   }

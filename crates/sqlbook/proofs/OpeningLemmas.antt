@@ -18,7 +18,7 @@ use Rattle.sqlheld.proofs.KeptLemmas.{opening-kept}
 use Rattle.sqlobjects.specs.Objects.{contacts_of, hosts_of}
 use Rattle.sqlterms.specs.Clock.{clock_of}
 use Rattle.sqlterms.specs.Meta.{meta_of}
-use Rattle.sqlterms.specs.Terms.{days_in, ids_behind, ids_in, is_unnamed, prices_in, reserved_in, terms_in, terms_made, terms_of}
+use Rattle.sqlterms.specs.Terms.{ids_behind, ids_in, is_unnamed, prices_in, reserved_in, schedule_in, terms_in, terms_made, terms_of}
 use Rattle.sqldue.specs.Dues.{dues_are_right}
 use Rattle.sqlbook.specs.Meaning.{are_right, stored_of}
 use Rattle.sqlbook.proofs.AccountLemmas.{ident_in, key, not-there, same-ids}
@@ -97,14 +97,14 @@ module _ (r : ℕ) (old new : Content) (whole : IsWhole old) (after : IsWhole ne
       ∙ ids-named old.accounts []
 
   terms-opened : terms_of new ≡ terms_of old
-  terms-opened = ap (λ metas. terms_of (record new { metas = metas })) it.others.metas ∙ go (meta_of old)
+  terms-opened = (λ i. terms_of (record new { metas = it.others.metas i; days = it.others.days i })) ∙ go (meta_of old)
     where
-      go : (m : Option Meta) → terms_in m new.accounts ≡ terms_in m old.accounts
+      go : (m : Option Meta) → terms_in m old.days new.accounts ≡ terms_in m old.days old.accounts
       go None = refl
-      go (Some row) = λ i. cond (length row.zone == 0) None (terms_made row.zone (reserved_in row.reserved) (days_in row) (prices_in row) (ids-opened i))
+      go (Some row) = λ i. cond (length row.zone == 0) None (terms_made row.zone (reserved_in row.reserved) (schedule_in row old.days) (prices_in row) (ids-opened i))
 
   dues-opened : dues_are_right new ≡ dues_are_right old
-  dues-opened = λ i. dues_are_right (record new { metas = it.others.metas i; contacts = it.others.contacts i; domains = it.others.domains i; hosts = it.others.hosts i; links = it.others.links i; transfers = it.others.transfers i })
+  dues-opened = λ i. dues_are_right (record new { metas = it.others.metas i; days = it.others.days i; contacts = it.others.contacts i; domains = it.others.domains i; hosts = it.others.hosts i; links = it.others.links i; transfers = it.others.transfers i })
 
   pub opening-right : are_right new ≡ are_right old
   opening-right = λ i. may_be_numbered (it.others.metas i) && (it.sums i && (opening-kept old new r whole it i && (dues-opened i && sponsors-kept old new it.others.hosts it.others.domains i)))

@@ -10,8 +10,9 @@ use Rattle.sqlite_rules.specs.Lists.{Has}
 use Rattle.columns.specs.Numbers.{moment_column}
 use Rattle.columns.proofs.ReadLemmas.{same_some}
 use Rattle.lifecycle.specs.Lapse.{due_at}
+use Rattle.lifecycle.specs.Periods.{rules_with}
 use Rattle.objects.specs.declared.domain.Domain.{Domain}
-use Rattle.policy.specs.declared.days.Days.{Days}
+use Rattle.policy.specs.declared.schedule.Schedule.{Schedule}
 use Rattle.store.specs.Tables.{domain_put}
 use Rattle.tables.specs.Content.{Content}
 use Rattle.tables.specs.Readiness.{may_be_numbered}
@@ -32,7 +33,7 @@ use Rattle.sqlobjects.specs.Changes.{put}
 use Rattle.sqlobjects.specs.Objects.{contacts_of}
 use Rattle.sqlobjects.specs.Sponsors.{sponsors_are_right}
 use Rattle.sqlterms.specs.Clock.{clock_of}
-use Rattle.sqldue.specs.Dues.{dues_are_right, is_due_right, rules_with}
+use Rattle.sqldue.specs.Dues.{dues_are_right, is_due_right}
 use Rattle.sqlterms.specs.Terms.{days_of, terms_of}
 use Rattle.sqlbook.specs.Meaning.{are_right, stored_of}
 use Rattle.sqlbook.specs.Replacing.{IsExchangedThere, IsReplaced, due_with}
@@ -40,7 +41,7 @@ use Rattle.sqlbook.proofs.DomainLemmas.{domain-changed, domain-right}
 use Rattle.sqlbook.proofs.ObjectLemmas.{dues-where}
 
 -- where days are there they are these
-days-are : (o : Option Days) (days these : Days) → IfSome o (λ d. d ≡ these) → o ≡ Some days → days ≡ these
+days-are : (o : Option Schedule) (days these : Schedule) → IfSome o (λ d. d ≡ these) → o ≡ Some days → days ≡ these
 days-are None days these is e = cc
 days-are (Some d) days these is e = sym (same_some d days e) ∙ is
 
@@ -64,18 +65,18 @@ get-put m name (Some d) = get-insert nat_list_cmp_total m name d name ∙ ap (λ
 
 -- ---- moments that aren't later than a domain is due
 
-abbrev pub IsEarly : Days → ℕ → Option Domain → Type 0
+abbrev pub IsEarly : Schedule → ℕ → Option Domain → Type 0
 IsEarly days due after = (d : Domain) → after ≡ Some d → int_le (moment_column due) (pos (due_at (rules_with days) d)) ≡ true
 
-pub early-of : (days : Days) (due : ℕ) (domain : Domain) → int_le (moment_column due) (pos (due_at (rules_with days) domain)) ≡ true → IsEarly days due (Some domain)
+pub early-of : (days : Schedule) (due : ℕ) (domain : Domain) → int_le (moment_column due) (pos (due_at (rules_with days) domain)) ≡ true → IsEarly days due (Some domain)
 early-of days due domain is d e = ap (λ x. int_le (moment_column due) (pos (due_at (rules_with days) x))) (sym (same_some domain d e)) ∙ is
 
-pub none-early : (days : Days) (due : ℕ) → IsEarly days due None
+pub none-early : (days : Schedule) (due : ℕ) → IsEarly days due None
 none-early days due d e = cc
 
 -- ---- one in the place of another
 
-module _ (name : List ℕ) (days : Days) (after : Option Domain) (due : ℕ) (old new : Content) (it : IsReplaced name days after due old new)
+module _ (name : List ℕ) (days : Schedule) (after : Option Domain) (due : ℕ) (old new : Content) (it : IsReplaced name days after due old new)
     (early : IsEarly days due after) where
   abbrev moved : Content
   moved = it.moved
@@ -86,7 +87,7 @@ module _ (name : List ℕ) (days : Days) (after : Option Domain) (due : ℕ) (ol
   put-it : IsDomainPut name after (due_with after due) there.exchanged.mid new
   put-it = there.exchanged.put
 
-  was : (these : Days) → days_of moved ≡ Some these → (row : table.Domain) → Has moved.domains row → row.name ≡ name → is_due_right these moved row ≡ true
+  was : (these : Schedule) → days_of moved ≡ Some these → (row : table.Domain) → Has moved.domains row → row.name ≡ name → is_due_right these moved row ≡ true
   was these e row here named = ap (λ ds. is_due_right ds moved row) (days-are (days_of moved) these days there.standing.days_are e) ∙ there.standing.due row here named
 
   reads-after : (row : table.Domain) → Has new.domains row → row.name ≡ name → domain_of new row ≡ after
@@ -98,7 +99,7 @@ module _ (name : List ℕ) (days : Days) (after : Option Domain) (due : ℕ) (ol
       let column : Some row.due ≡ Some (moment_column due) = put-it.due_is row here named ∙ ap (λ o. option_map moment_column (due_with o due)) e in
       ap (λ z. int_le z (pos (due_at (rules_with days) d))) (same_some row.due (moment_column due) column) ∙ early d e
 
-  is : (these : Days) → days_of moved ≡ Some these → (row : table.Domain) → Has new.domains row → row.name ≡ name → is_due_right these new row ≡ true
+  is : (these : Schedule) → days_of moved ≡ Some these → (row : table.Domain) → Has new.domains row → row.name ≡ name → is_due_right these new row ≡ true
   is these e row here named =
       ap (λ ds. is_due_right ds new row) (days-are (days_of moved) these days there.standing.days_are e)
       ∙ ap (λ o. option_map_or (λ d. int_le row.due (pos (due_at (rules_with days) d))) o true) (reads-after row here named)
@@ -116,7 +117,7 @@ module _ (name : List ℕ) (days : Days) (after : Option Domain) (due : ℕ) (ol
 
   dues-moved : dues_are_right moved ≡ dues_are_right old
   dues-moved =
-      dues-where old moved (ap (λ (xs : Content). xs.metas) it.followed.rest) (ap (λ (xs : Content). xs.domains) it.followed.rest)
+      dues-where old moved (ap (λ (xs : Content). xs.metas) it.followed.rest) (ap (λ (xs : Content). xs.days) it.followed.rest) (ap (λ (xs : Content). xs.domains) it.followed.rest)
       (follow-leaves-reading name (sponsor_in after) old moved it.followed)
 
   sums-moved : (sums_are_right moved && (helds_are_right moved && dues_are_right moved)) ≡ (sums_are_right old && (helds_are_right old && dues_are_right old))
@@ -156,3 +157,12 @@ module _ (name : List ℕ) (days : Days) (after : Option Domain) (due : ℕ) (ol
 
   pub replaced : stored_of new ≡ domain_put name after (stored_of old)
   replaced = domain-changed name there.before after (due_with after due) moved there.exchanged.mid new there.whole there.exchanged.counted there.standing.domain_is put-it was is ∙ ap (domain_put name after) stored-moved
+
+  pub replaced-days : days_of new ≡ days_of old
+  replaced-days = λ i. days_of (record new {
+    metas = (put-it.metas ∙ ap (λ (xs : Content). xs.metas) there.exchanged.counted.rest ∙ ap (λ (xs : Content). xs.metas) it.followed.rest) i;
+    days = (put-it.days ∙ ap (λ (xs : Content). xs.days) there.exchanged.counted.rest ∙ ap (λ (xs : Content). xs.days) it.followed.rest) i;
+  })
+
+  pub replaced-lines : new.lines ≡ old.lines
+  replaced-lines = put-it.lines ∙ ap (λ (xs : Content). xs.lines) there.exchanged.counted.rest ∙ ap (λ (xs : Content). xs.lines) it.followed.rest

@@ -1,13 +1,18 @@
 -- How a book over rows stands at the beginning.
-use Rattle.std.specs.Prelude.{◌≡◌, true, false, [], ◌∷◌}
+use Rattle.std.specs.Prelude.{◌≡◌, ◌≢◌, ℕ, true, false, [], ◌∷◌}
 use Rattle.sqlite_trees.specs.Objects.{catalog_tree}
 use Rattle.sqlite_trees.specs.Tree.{Trees}
 use Rattle.store.specs.Book.{BookState, Stored, nothing}
+use Rattle.store.specs.Kept.{stands}
+use Rattle.tables.specs.Adoption.{IsAdopted}
+use Rattle.tables.specs.Content.{Content}
 use Rattle.tables.specs.Decoding.{contents}
 use Rattle.tables.specs.Readiness.{IsKnownAs}
 use Rattle.transactions.specs.declared.readiness.Ready.{Ready}
 use Rattle.transactions.specs.declared.readiness.Ready.TheVariants.{Empty, Used, Other}
-use Rattle.sqlbook.specs.Meaning.{stored_of}
+use Rattle.transactions.specs.States.{StateOf}
+use Rattle.sqlbook.specs.Meaning.{are_right, stored_of}
+use Rattle.sqlbook.specs.Seen.{seen}
 
 -- nothing is in it, it was never opened, and nothing wrong was taken
 pub record IsUnused (s : BookState) : Type 0 where
@@ -34,8 +39,20 @@ pub record IsTakenFrom (trees : Trees) (s : BookState) : Type 0 where
   pub known : s.is_clean ≡ true → IsKnownAs s.readiness trees
   pub content : s.is_clean ≡ true → IsTaken s.readiness trees s.content
   pub answers : s.is_honest ≡ true → s.is_clean ≡ true
-  pub leaves : s.is_clean ≡ true → s.crash_leaves ≡ record { readiness = s.readiness; content = s.content } ∷ []
+  pub leaves : s.is_clean ≡ true
+      → s.crash_leaves ≡ record { readiness = s.readiness; content = s.content } ∷ []
 
 -- where no table was ever made, nothing is found
 abbrev pub IsFoundNew : Trees → BookState → Type 0
-IsFoundNew trees s = trees catalog_tree ≡ [] → s.is_clean ≡ true → (s.readiness ≡ Empty) × (s.content ≡ nothing)
+IsFoundNew trees s =
+    trees catalog_tree ≡ [] → s.is_clean ≡ true → (s.readiness ≡ Empty) × (s.content ≡ nothing)
+
+-- A book over rows that were taken up of these trees, which are a registry's of this program or nothing's yet: what
+-- the book is and what the rows are; and it answers where its disk told the truth and the stored sums are right.
+pub record IsAdoptedBook (trees : Trees) (rows : StateOf Content) (refused : ℕ) : Type 0 where
+  pub book : IsTakenFrom trees (stands (seen stored_of are_right rows) refused)
+  pub adopted : IsAdopted trees rows
+  pub ours : rows.readiness ≢ Other
+  pub answers : rows.is_honest ≡ true → are_right rows.content ≡ true
+      → (stands (seen stored_of are_right rows) refused).is_clean ≡ true
+  pub fresh : IsFoundNew trees (stands (seen stored_of are_right rows) refused)

@@ -26,7 +26,8 @@ IsFoundIn image trees = (db : Trees) → HoldsDatabase image db → trees ≡ db
 abbrev pub IsLeftIn : {D : Type 0} → Ghosts D → Files D → BookState → Type 0
 IsLeftIn g files old =
     (image : Image) → outcomes g files.log files.db image → (trees : Trees) → IsFoundIn image trees
-    → (new : StateOf Content) (again : ℕ) → IsAdopted trees new → new.is_clean ≡ true → ∥ IsReopened old (stands (seen stored_of are_right new) again) ∥₁
+    → (new : StateOf Content) (again : ℕ) → IsAdopted trees new → new.is_clean ≡ true
+    → ∥ IsReopened old (stands (seen stored_of are_right new) again) ∥₁
 
 -- Rows that were adopted from files which hold this: a database that was found, or nothing, of which nothing is seen.
 pub record AreTakenIn (image : Image) (s : StateOf Content) : Type 0 where

@@ -2,6 +2,8 @@ pub mod Beginning
 pub mod Counting
 pub mod Seen
 pub mod Meaning
+pub mod Graces
+pub mod Migrating
 pub mod Replacing
 pub mod Steady
 pub mod Suiting

@@ -22,4 +22,6 @@ stored_of xs = record { registry = registry_of xs; terms = terms_of xs }
 -- ---- all sums, and the number of the schema
 
 abbrev pub are_right : Content → Bool
-are_right xs = may_be_numbered xs.metas && (sums_are_right xs && (helds_are_right xs && (dues_are_right xs && sponsors_are_right xs)))
+are_right xs =
+    may_be_numbered xs.metas
+    && (sums_are_right xs && (helds_are_right xs && (dues_are_right xs && sponsors_are_right xs)))

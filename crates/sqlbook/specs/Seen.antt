@@ -38,6 +38,7 @@ pub record Turns {C X : Type 0} (means : C → X) (right : C → Bool) (held : X
   pub leaves : LeavesSame old new
 
 -- a change of rows
-abbrev pub Alters : {A C X : Type 0} → Result A BookFault → (C → X) → (C → Bool) → X → StateOf C → StateOf C → Type 0
+abbrev pub Alters : {A C X : Type 0} → Result A BookFault → (C → X) → (C → Bool) → X → StateOf C
+    → StateOf C → Type 0
 Alters (Ok done) means right held old new = Turns means right held old new
 Alters (Err fault) means right held old new = Stays old new

@@ -3,10 +3,12 @@ ghost use Rattle.std.specs.Prelude.{◌≡◌, true, IfErr, IfOk};
 ghost use Rattle.sqlite.specs.Held.{state};
 ghost use Rattle.store.specs.Kept.{stands};
 ghost use Rattle.sqlite.specs.State.{HasCleanDisk};
+ghost use Rattle.sqlite_trees.specs.Tree.{Trees};
 ghost use Rattle.sqlite_trees.specs.View.{IsClean};
-ghost use Rattle.tables.specs.Adoption.{IsAdopted, LeavesAsItWas};
+ghost use Rattle.tables.specs.Adoption.{IsAdopted, IsFound, LeavesAsFound, LeavesAsItWas};
+ghost use Rattle.tables.specs.Readiness.{IsKnownAs};
 ghost use Rattle.tables.specs.Stored.{Covers};
-ghost use Rattle.sqlbook.specs.Beginning.{IsFoundNew, IsTakenFrom, IsUnused};
+ghost use Rattle.sqlbook.specs.Beginning.{IsAdoptedBook, IsUnused};
 ghost use Rattle.sqlbook.specs.Meaning.{are_right, stored_of};
 ghost use Rattle.sqlbook.specs.Seen.{seen};
 
@@ -15,10 +17,10 @@ use crate::records::SqlRecords;
 use sqlite::{Alter, Connection, MemStore};
 use std::alloc::Global;
 use store::{Book, Kept};
-use tables::RowStore;
-use transactions::BookFault;
+use tables::{RowStore, Unadopted};
+use transactions::{BookFault, Ready};
 
-/// A book in the ten tables of a database.
+/// A book in the tables of a database.
 pub type SqlBook<S, O> = Kept<SqlRecords<S, O>>;
 
 /// A book in memory.
@@ -42,27 +44,64 @@ pub fn stays_clean(book: &MemoryBook)
     ensures { (⟦<MemoryBook as Book>⟧.state book.now).is_clean ≡ true }
 {}
 
-/// The book of a database that was used before, or may have been. It is read and checked anew, whole. After
-/// a fault what the connection was over comes back, with what was committed as it was.
-pub fn adopt<S: Alter + Drop>(
-    conn: Connection<S>,
-    alloc: Global,
-) -> Result<SqlBook<S, Found>, (BookFault, S)>
-    ensures book { IfOk result (λ book. IsTakenFrom (state S.Store conn).committed.trees (stands (seen stored_of are_right book.records.store) book.refused)) }
-    ensures rows { IfOk result (λ book. IsAdopted (state S.Store conn).committed.trees book.records.store) }
-    ensures clean { IfOk result (λ book. book.records.store.is_clean ≡ true → HasCleanDisk (state S.Store conn)) }
-    ensures answers { IfOk result (λ book. book.records.store.is_honest ≡ true → are_right book.records.store.content ≡ true → (stands (seen stored_of are_right book.records.store) book.refused).is_clean ≡ true) }
-    ensures fresh { IfOk result (λ book. IsFoundNew (state S.Store conn).committed.trees (stands (seen stored_of are_right book.records.store) book.refused)) }
-    ensures refused { IfErr result (λ e. IsClean (S.Store.view e.1) → LeavesAsItWas (state S.Store conn) (S.Store.recovers e.1)) }
+/// The book of rows that were taken up.
+fn over_rows<S: Alter>(store: RowStore<S>, alloc: Global) -> SqlBook<S, Found>
+    requires { (trees : Trees) × IsAdopted trees store }
+    ensures rows { result.records.store ≡ store }
+    ensures refused { result.refused ≡ 0 }
+    ensures honest { store.is_clean ≡ true → store.is_honest ≡ true }
 {
-    let store = RowStore::adopt(conn, alloc)?;
     store.rests();
     store.told_truth();
-    Ok(Kept::over(SqlRecords {
+    Kept::over(SqlRecords {
         store,
         alloc,
         origin: Found,
-    }))
+    })
+}
+
+/// The book of a database that was just opened over files: of that the proof knows that its rows lie in the
+/// order of their numbers. What isn't taken up is given back as it was found.
+#[tactic(auto, using(crate::proofs::BeginningLemmas::adopted_book, crate::proofs::BeginningLemmas::honest_rows))]
+pub fn taken<S: Alter + Drop>(
+    conn: Connection<S>,
+    alloc: Global,
+) -> Result<SqlBook<S, Found>, (Unadopted, S)>
+    requires { IsFound (state S.Store conn) }
+    ensures book { IfOk result (λ book.
+        IsAdoptedBook (state S.Store conn).committed.trees book.records.store book.refused) }
+    ensures clean { IfOk result (λ book.
+        book.records.store.is_clean ≡ true → HasCleanDisk (state S.Store conn)) }
+    ensures was_clean { IfErr result (λ e.
+        IsClean (S.Store.view e.1) → HasCleanDisk (state S.Store conn)) }
+    ensures refused { IfErr result (λ e. IsClean (S.Store.view e.1)
+        → LeavesAsFound (state S.Store conn).committed.trees (S.Store.recovers e.1)) }
+    ensures others { IfErr result (λ e. e.0 ≡ Unadopted.Other → IsClean (S.Store.view e.1)
+        → IsKnownAs Ready.Other (state S.Store conn).committed.trees) }
+{
+    let store = RowStore::taken(conn, alloc)?;
+    Ok(over_rows(store, alloc))
+}
+
+/// The book of a database that was used before, or may have been. It is read and checked anew, whole. What
+/// isn't taken up is given back, with what was committed as it was: after a fault, and where it is something
+/// else's.
+#[tactic(auto, using(crate::proofs::BeginningLemmas::adopted_book, crate::proofs::BeginningLemmas::honest_rows))]
+pub fn adopt<S: Alter + Drop>(
+    conn: Connection<S>,
+    alloc: Global,
+) -> Result<SqlBook<S, Found>, (Unadopted, S)>
+    ensures book { IfOk result (λ book.
+        IsAdoptedBook (state S.Store conn).committed.trees book.records.store book.refused) }
+    ensures clean { IfOk result (λ book.
+        book.records.store.is_clean ≡ true → HasCleanDisk (state S.Store conn)) }
+    ensures refused { IfErr result (λ e. IsClean (S.Store.view e.1)
+        → LeavesAsItWas (state S.Store conn) (S.Store.recovers e.1)) }
+    ensures others { IfErr result (λ e. e.0 ≡ Unadopted.Other → IsClean (S.Store.view e.1)
+        → IsKnownAs Ready.Other (state S.Store conn).committed.trees) }
+{
+    let store = RowStore::adopt(conn, alloc)?;
+    Ok(over_rows(store, alloc))
 }
 
 /// Gives the connection under a book back, as it is. Whatever a crash may leave of its database is one of

@@ -5,6 +5,7 @@ ghost use Rattle.sqlbook.specs.Counting.{counts_of};
 ghost use Rattle.sqlbook.specs.Meaning.{are_right, stored_of};
 ghost use Rattle.sqlbook.specs.Seen.{Alters};
 
+use crate::graces::maybe_grace_end;
 use accounts::{Line, Message};
 use basis::registrar::RegistrarNo;
 use sqlaccounts::Counters as Counts;
@@ -54,9 +55,10 @@ fn counts_of(counters: Counters) -> Counts
     }
 }
 
-/// Adds a line to a registrar's account.
+/// Adds a line to a registrar's account, and beside it when its grace ends by the days of the book.
 pub fn add_line<S: Alter>(
     store: &mut RowStore<S>,
+    alloc: Global,
     registrar: RegistrarNo,
     line: Line,
 ) -> Result<(), BookFault>
@@ -64,7 +66,9 @@ pub fn add_line<S: Alter>(
     ensures { Alters result stored_of are_right (tables.line_added registrar line (stored_of store.old.content)) store.old store.new }
 {
     store.whole();
-    sqlaccounts::add_line(store, registrar, line)?;
+    let days = sqlterms::days(store, alloc)?;
+    let ends = maybe_grace_end(&line, &days);
+    sqlaccounts::add_line(store, registrar, line, ends)?;
     store.whole();
     Ok(())
 }

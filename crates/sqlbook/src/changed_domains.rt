@@ -99,7 +99,7 @@ fn found<S: Alter>(
 ) -> Result<Option<Domain>, BookFault>
     ensures { Meets result (IsStanding name.now policy.now.days store.old.content) store.old store.new }
 {
-    same_days(store, policy)?;
+    same_days(store, alloc, policy.schedule())?;
     standing(store, alloc, name, policy)
 }
 
@@ -120,7 +120,7 @@ fn replace<S: Alter>(
     Ok(())
 }
 
-fn sponsor_of(domain: &Option<Domain>) -> Option<RegistrarNo>
+pub(crate) fn sponsor_of(domain: &Option<Domain>) -> Option<RegistrarNo>
     ensures { result ≡ sponsor_in domain.now }
 {
     match domain {
@@ -150,7 +150,7 @@ fn exchange_there<S: Alter>(
 }
 
 /// One domain, or none, stands in the place of another, or of none.
-fn exchange<S: Alter>(
+pub(crate) fn exchange<S: Alter>(
     store: &mut RowStore<S>,
     alloc: Global,
     name: &Text,

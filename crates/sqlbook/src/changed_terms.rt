@@ -1,14 +1,18 @@
 //! The clock and the terms, set in a book over rows.
-ghost use Rattle.std.specs.Prelude.{◌≡◌, true, Some};
+ghost use Rattle.std.specs.Prelude.{◌≡◌, true, [], IfOk, Some};
 ghost use Rattle.store.specs.Book.{with_terms};
 ghost use Rattle.store.specs.Tables as tables;
+ghost use Rattle.meanings.specs.Calls.{Turns};
 ghost use Rattle.transactions.specs.States.{Meets};
 ghost use Rattle.sqlbook.specs.Meaning.{are_right, stored_of};
 ghost use Rattle.sqlbook.specs.Seen.{Alters};
-ghost use Rattle.sqlbook.specs.Suiting.{SuitDomains};
+ghost use Rattle.sqlbook.specs.Suiting.{AreRedated, IsSetDown, IsSetOver};
+ghost use Rattle.sqlterms.specs.Terms.{days_of};
 
+use crate::redating::redate;
 use calendar::Moment;
-use policy::{Days, Terms};
+use policy::{Schedule, Terms};
+use sqldue::{ends_are, ends_come};
 use sqlite::Alter;
 use std::alloc::Global;
 use tables::RowStore;
@@ -25,29 +29,57 @@ pub fn set_clock<S: Alter>(
     sqlterms::set_clock(store, alloc, moment)
 }
 
-/// Puts terms down. Other days than those that were put down before are refused where a domain is
-/// there, since each domain's row says when it is due.
+/// Puts terms down. Under other days than those that were put down before, it is computed anew when the
+/// deleted domains are due. Domains without days are refused.
 pub fn set_terms<S: Alter>(
     store: &mut RowStore<S>,
     alloc: Global,
     terms: Terms,
 ) -> Result<(), BookFault>
     requires { store.old.is_open ≡ true }
-    ensures { Alters result stored_of are_right (with_terms terms (stored_of store.old.content)) store.old store.new }
+    ensures held { Alters result stored_of are_right (with_terms terms (stored_of store.old.content)) store.old store.new }
+    ensures lines { IfOk result (λ done. store.new.is_clean ≡ true → store.new.content.lines ≡ store.old.content.lines) }
+    ensures ends { IfOk result (λ done. store.new.is_clean ≡ true → AreRedated (days_of store.old.content) terms.days store.new.content) }
 {
-    days_suit(store, &terms.days)?;
-    sqlterms::set_terms(store, alloc, &terms)?;
+    let before = sqlterms::days(store, alloc)?;
+    let set = set_over(store, alloc, &before, &terms);
+    drop(before);
+    set
+}
+
+/// The same, told which days were put down before.
+fn set_over<S: Alter>(
+    store: &mut RowStore<S>,
+    alloc: Global,
+    before: &Option<Schedule>,
+    terms: &Terms,
+) -> Result<(), BookFault>
+    requires { store.old.is_open ≡ true }
+    ensures { Turns result (λ old new. days_of old ≡ before.now → IsSetOver before.now terms.now old new) store.old store.new }
+{
+    match before {
+        None => set_first(store, alloc, terms),
+        Some(before) => set_again(store, alloc, before, terms),
+    }
+}
+
+/// Puts terms down where no days are and no domains.
+fn set_first<S: Alter>(
+    store: &mut RowStore<S>,
+    alloc: Global,
+    terms: &Terms,
+) -> Result<(), BookFault>
+    requires { store.old.is_open ≡ true }
+    ensures { Turns result (IsSetDown terms.now) store.old store.new }
+{
+    no_domains(store)?;
+    sqlterms::set_terms(store, alloc, terms)?;
     Ok(())
 }
 
-/// Refuses days that may not be put down.
-fn days_suit<S: Alter>(store: &mut RowStore<S>, days: &Days) -> Result<(), BookFault>
-    ensures { Meets result (λ done. SuitDomains days.now store.old.content) store.old store.new }
+fn no_domains<S: Alter>(store: &mut RowStore<S>) -> Result<(), BookFault>
+    ensures { Meets result (λ done. store.old.content.domains ≡ []) store.old store.new }
 {
-    let there = sqlterms::days(store)?;
-    if are_same(&there, days) {
-        return Ok(());
-    }
     let domains = store.all_domains()?;
     if domains.as_slice().is_empty() {
         Ok(())
@@ -56,11 +88,66 @@ fn days_suit<S: Alter>(store: &mut RowStore<S>, days: &Days) -> Result<(), BookF
     }
 }
 
-fn are_same(there: &Option<Days>, days: &Days) -> bool
-    ensures { result ≡ true → there.now ≡ Some days.now }
+/// Puts terms down where there are days.
+fn set_again<S: Alter>(
+    store: &mut RowStore<S>,
+    alloc: Global,
+    before: &Schedule,
+    terms: &Terms,
+) -> Result<(), BookFault>
+    requires { store.old.is_open ≡ true }
+    ensures { Turns result (λ old new. days_of old ≡ Some before.now → IsSetOver (Some before.now) terms.now old new) store.old store.new }
 {
-    match there {
-        None => false,
-        Some(there) => there == days,
+    if before.is_same(&terms.days) {
+        set_same(store, alloc, terms)
+    } else {
+        set_others(store, alloc, before, terms)
     }
+}
+
+/// Puts terms down under the same days.
+fn set_same<S: Alter>(
+    store: &mut RowStore<S>,
+    alloc: Global,
+    terms: &Terms,
+) -> Result<(), BookFault>
+    requires { store.old.is_open ≡ true }
+    ensures { Turns result (λ old new. days_of old ≡ Some terms.now.days → IsSetDown terms.now old new) store.old store.new }
+{
+    sqlterms::set_terms(store, alloc, terms)?;
+    Ok(())
+}
+
+/// Puts terms down under other days. Before, no column of a deleted domain may be later than its end by
+/// either days; afterwards each is its end by the new ones.
+fn set_others<S: Alter>(
+    store: &mut RowStore<S>,
+    alloc: Global,
+    before: &Schedule,
+    terms: &Terms,
+) -> Result<(), BookFault>
+    requires { store.old.is_open ≡ true }
+    ensures { Turns result (λ old new. days_of old ≡ Some before.now → IsSetOver (Some before.now) terms.now old new) store.old store.new }
+{
+    redate(store, alloc, before, &terms.days)?;
+    set_suited(store, alloc, before, terms)?;
+    redate(store, alloc, &terms.days, &terms.days)?;
+    ends_are(store, &terms.days)?;
+    Ok(())
+}
+
+/// Puts terms down under other days, where the columns of deleted domains suit both.
+fn set_suited<S: Alter>(
+    store: &mut RowStore<S>,
+    alloc: Global,
+    before: &Schedule,
+    terms: &Terms,
+) -> Result<(), BookFault>
+    requires { store.old.is_open ≡ true }
+    ensures { Turns result (λ old new. days_of old ≡ Some before.now → IsSetDown terms.now old new) store.old store.new }
+{
+    ends_come(store, before)?;
+    ends_come(store, &terms.days)?;
+    sqlterms::set_terms(store, alloc, terms)?;
+    Ok(())
 }

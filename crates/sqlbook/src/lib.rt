@@ -9,10 +9,15 @@ mod changed_domains;
 mod changed_objects;
 mod changed_terms;
 mod files;
+mod graces;
+mod migrating;
 mod origin;
 mod records;
+mod redating;
 
-pub use book::{MemoryBook, SqlBook, adopt, in_memory, into_connection, stays_clean};
+pub use book::{MemoryBook, SqlBook, adopt, in_memory, into_connection, stays_clean, taken};
 pub use files::into_files;
+pub use migrating::{MigrateFault, migrate};
 pub use origin::{Found, Made, Origin};
 pub use records::SqlRecords;
+pub use tables::Unadopted;

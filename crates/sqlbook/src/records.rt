@@ -21,7 +21,7 @@ use store::{Counters, Due, Records};
 use tables::RowStore;
 use transactions::{BookFault, Ready};
 
-/// The records of a registry in the ten tables of a database. After a fault no transaction is open:
+/// The records of a registry in the tables of a database. After a fault no transaction is open:
 /// what was begun is undone at once.
 #[derive(Drop)]
 pub struct SqlRecords<S: Alter, O: Origin<S>> {
@@ -248,7 +248,7 @@ impl<S: Alter, O: Origin<S>> Records for SqlRecords<S, O> {
     }
 
     fn add_line(&mut self, registrar: RegistrarNo, line: Line) -> Result<(), BookFault> {
-        let said = changed_accounts::add_line(&mut self.store, registrar, line);
+        let said = changed_accounts::add_line(&mut self.store, self.alloc, registrar, line);
         or_back::<S, O, _>(&mut self.store, said)
     }
 

@@ -71,6 +71,7 @@ module _ (xs ys : Content) (id : ℤ) (kept : AreOtherPartsKept id xs ys) where
     contacts = contacts-same;
     hosts = ap hosts_of kept.rest;
     metas = ap (λ (x : Content). x.metas) kept.rest;
+    days = ap (λ (x : Content). x.days) kept.rest;
     accounts = ap (λ (x : Content). x.accounts) kept.rest;
     contact_rows = ap (λ (x : Content). x.contacts) kept.rest;
     host_rows = ap (λ (x : Content). x.hosts) kept.rest;
@@ -121,6 +122,7 @@ module _ (xs ys : Content) (name : List ℕ) (whole : IsWhole xs) (after : IsWho
         contacts = refl;
         hosts = refl;
         metas = refl;
+        days = refl;
         accounts = refl;
         contact_rows = refl;
         host_rows = refl;

@@ -24,6 +24,7 @@ pub record IsDomainPut (name : List ℕ) (value : Option Domain) (due : Option �
   pub contacts : contacts_of new ≡ contacts_of old
   pub hosts : hosts_of new ≡ hosts_of old
   pub metas : new.metas ≡ old.metas
+  pub days : new.days ≡ old.days
   pub accounts : new.accounts ≡ old.accounts
   pub contact_rows : new.contacts ≡ old.contacts
   pub host_rows : new.hosts ≡ old.hosts
@@ -31,7 +32,10 @@ pub record IsDomainPut (name : List ℕ) (value : Option Domain) (due : Option �
   pub lines : new.lines ≡ old.lines
   pub messages : new.messages ≡ old.messages
   pub others : AreOthersKept (λ (r : table.Domain). r.name) name old.domains new.domains
-  pub readings : (row : table.Domain) → Has old.domains row → Has new.domains row → bytes_eq row.name name ≡ false → domain_of new row ≡ domain_of old row
-  pub due_is : (row : table.Domain) → Has new.domains row → row.name ≡ name → Some row.due ≡ option_map moment_column due
-  pub sponsor_is : (row : table.Domain) → Has new.domains row → row.name ≡ name → Some row.sponsor ≡ maybe_registrar_column (sponsor_in value)
+  pub readings : (row : table.Domain) → Has old.domains row → Has new.domains row
+      → bytes_eq row.name name ≡ false → domain_of new row ≡ domain_of old row
+  pub due_is : (row : table.Domain) → Has new.domains row → row.name ≡ name
+      → Some row.due ≡ option_map moment_column due
+  pub sponsor_is : (row : table.Domain) → Has new.domains row → row.name ≡ name
+      → Some row.sponsor ≡ maybe_registrar_column (sponsor_in value)
   pub whole : IsWhole old × IsWhole new

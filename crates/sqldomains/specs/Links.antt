@@ -25,11 +25,13 @@ is_linked_host xs name = list_any (λ d. names_host name d.links) (values (domai
 -- the number of a contact of this name, if there is one
 abbrev pub IsNumberOfContact : Content → List ℕ → Option ℤ → Type 0
 IsNumberOfContact xs name None = filter (contact_with_name name) xs.contacts ≡ []
-IsNumberOfContact xs name (Some id) = (row : contact_table.Contact) × Has xs.contacts row × (row.name ≡ name) × (row.id ≡ id)
+IsNumberOfContact xs name (Some id) =
+    (row : contact_table.Contact) × Has xs.contacts row × (row.name ≡ name) × (row.id ≡ id)
 
 abbrev pub IsNumberOfHost : Content → List ℕ → Option ℤ → Type 0
 IsNumberOfHost xs name None = filter (host_with_name name) xs.hosts ≡ []
-IsNumberOfHost xs name (Some id) = (row : host_table.Host) × Has xs.hosts row × (row.name ≡ name) × (row.id ≡ id)
+IsNumberOfHost xs name (Some id) =
+    (row : host_table.Host) × Has xs.hosts row × (row.name ≡ name) × (row.id ≡ id)
 
 -- no row refers to the contact with this number
 pub record IsNoContact (xs : Content) (id : ℤ) : Type 0 where

@@ -21,7 +21,8 @@ domain_names xs = keys (domains_of xs)
 
 -- the domains that name a host
 abbrev pub domains_naming : List ℕ → Content → List (List ℕ)
-domains_naming host xs = map (λ e. e.0) (filter (λ e. names_host host e.1.links) (entries (domains_of xs)))
+domains_naming host xs =
+    map (λ e. e.0) (filter (λ e. names_host host e.1.links) (entries (domains_of xs)))
 
 -- ---- read row by row
 

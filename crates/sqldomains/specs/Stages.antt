@@ -38,7 +38,8 @@ pub record IsTransferCleared (id : ℤ) (old new : Content) : Type 0 where
 
 -- the row of a domain's transfer, if there is one, but for its number
 abbrev pub transfer_row_of : ℤ → Option Transfer → Option transfer_table.Transfer
-transfer_row_of id transfer = option_map (λ (t : Transfer). transfer_row (pos 0) None (Some id) t) transfer
+transfer_row_of id transfer =
+    option_map (λ (t : Transfer). transfer_row (pos 0) None (Some id) t) transfer
 
 -- the domain with this number has this as its last transfer
 pub record IsTransferPut (id : ℤ) (transfer : Option Transfer) (old new : Content) : Type 0 where
@@ -49,7 +50,8 @@ pub record IsTransferPut (id : ℤ) (transfer : Option Transfer) (old new : Cont
 
 -- no domain but the one with this number names other things than before
 pub record AreOtherLinksKept (id : ℤ) (old new : Content) : Type 0 where
-  pub domains : (other : ℤ) → int_eq id other ≡ false → filter (link_with_domain other) new.links ≡ filter (link_with_domain other) old.links
+  pub domains : (other : ℤ) → int_eq id other ≡ false
+      → filter (link_with_domain other) new.links ≡ filter (link_with_domain other) old.links
   pub rest : new ≡ record old { links = new.links }
 
 -- the rows of the domain with this number lead to this, and say that it is due then
@@ -95,7 +97,8 @@ pub record IsHostLinkTo (xs : Content) (id due : ℤ) (name : List ℕ) (row : L
 
 -- the domain with this number names these besides
 pub record AreNamesAdded (id due : ℤ) (role : Role) (names : List (List ℕ)) (old new : Content) : Type 0 where
-  pub here : (links : Links) → Names id due links old → Names id due (with_names role links names) new
+  pub here : (links : Links) → Names id due links old
+      → Names id due (with_names role links names) new
   pub others : AreOtherLinksKept id old new
 
 -- the domain with this number names this
@@ -108,7 +111,8 @@ pub record AreLinksPut (id due : ℤ) (links : Links) (old new : Content) : Type
 -- no domain but the one with this number has other rows of links and transfers, and no contact another
 -- transfer; but for those and for domains each table is as it was
 pub record AreOtherPartsKept (id : ℤ) (old new : Content) : Type 0 where
-  pub links : (other : ℤ) → int_eq id other ≡ false → filter (link_with_domain other) new.links ≡ filter (link_with_domain other) old.links
+  pub links : (other : ℤ) → int_eq id other ≡ false
+      → filter (link_with_domain other) new.links ≡ filter (link_with_domain other) old.links
   pub transfers : (other : ℤ) → int_eq id other ≡ false → filter (transfer_with_domain other) new.transfers ≡ filter (transfer_with_domain other) old.transfers
   pub contacts : (contact : ℤ) → filter (transfer_with_contact contact) new.transfers ≡ filter (transfer_with_contact contact) old.transfers
   pub rest : record new { domains = old.domains; links = old.links; transfers = old.transfers } ≡ old
@@ -130,9 +134,11 @@ pub record IsDomainPlaced (d : Domain) (beside : Beside) (row : table.Domain) (o
   pub rest : new ≡ record old { domains = new.domains }
 
 -- the same where it was this row, or none, that had its name
-abbrev pub IsDomainPlacedAt : Option table.Domain → Domain → Beside → table.Domain → Content → Content → Type 0
+abbrev pub IsDomainPlacedAt : Option table.Domain → Domain → Beside → table.Domain → Content
+    → Content → Type 0
 IsDomainPlacedAt found d beside row old new =
-    IsWhole old → filter (table.domain_with_name d.name) old.domains ≡ rows_of found → IsDomainPlaced d beside row old new
+    IsWhole old → filter (table.domain_with_name d.name) old.domains ≡ rows_of found
+    → IsDomainPlaced d beside row old new
 
 -- the domain with this number, its links and its transfer aren't there any more
 pub record IsDomainRemoved (id : ℤ) (old new : Content) : Type 0 where

@@ -9,7 +9,7 @@ use Rattle.std.specs.declared.cmp.Ordering.{Ordering}
 use Rattle.sqlite_keyed.specs.Lists.{insert_sorted, sort_by}
 use Rattle.sqlite_rules.specs.Lists.{Has}
 use Rattle.lifecycle.specs.Lapse.{completes_at, due_at, due_of}
-use Rattle.lifecycle.specs.Periods.{passed}
+use Rattle.lifecycle.specs.Periods.{passed, rules_with}
 use Rattle.objects.specs.Transfers.{is_pending_state}
 use Rattle.objects.specs.declared.contact.Contact.{Contact}
 use Rattle.objects.specs.declared.domain.Domain.{Domain}
@@ -40,7 +40,7 @@ use Rattle.sqldomains.specs.Domains.{domain_of, domains_of}
 use Rattle.sqldomains.proofs.LinkedLemmas.{first-has}
 use Rattle.sqldomains.proofs.NameOrderLemmas.{name-read, row-under, stands-there}
 use Rattle.sqlterms.specs.Terms.{days_of}
-use Rattle.sqldue.specs.Dues.{dues_are_right, is_due_right, rules_with}
+use Rattle.sqldue.specs.Dues.{dues_are_right, is_due_right}
 use Rattle.sqldue.specs.Finding as spec
 use Rattle.sqldue.proofs.FoundLemmas.{InOrder, found-of_rows, found-rises}
 

@@ -4,3 +4,4 @@ pub mod FoundLemmas
 pub mod DueLemmas
 pub mod AnswerLemmas
 pub mod NearLemmas
+pub mod RedateLemmas

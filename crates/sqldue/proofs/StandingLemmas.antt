@@ -3,7 +3,7 @@ use Rattle.std.proofs.Common.{◌≡◌, ℕ, true, List, Option, Result, Ok, Er
 use Rattle.std.specs.Prelude.{filter}
 use Rattle.std.specs.FinMap.{get}
 use Rattle.objects.specs.declared.domain.Domain.{Domain}
-use Rattle.policy.specs.declared.days.Days.{Days}
+use Rattle.policy.specs.declared.schedule.Schedule.{Schedule}
 use Rattle.sqlite_rules.specs.Lists.{Has}
 use Rattle.tables.specs.Content.{Content}
 use Rattle.tables.specs.Domain as table
@@ -17,7 +17,7 @@ use Rattle.sqldomains.specs.Domains.{domain_of, domains_of}
 use Rattle.sqldomains.proofs.FoundLemmas.{domain-named}
 use Rattle.sqldue.specs.Dues.{is_due_right}
 
-pub standing-found : (s m t : StateOf Content) (given name : List ℕ) (same : given ≡ name) (days : Days) (r : Result (Option Domain) BookFault) (rows : List table.Domain)
+pub standing-found : (s m t : StateOf Content) (given name : List ℕ) (same : given ≡ name) (days : Schedule) (r : Result (Option Domain) BookFault) (rows : List table.Domain)
     → Finds {A = List table.Domain} (Ok rows) (filter (table.domain_with_name given) s.content.domains) s m
     → Meets r (λ d. (first_read (domain_of m.content) rows ≡ d) × ((row : table.Domain) → Has rows row → is_due_right days m.content row ≡ true)) m t
     → Meets r (λ d. (get (domains_of s.content) name ≡ d) × ((row : table.Domain) → Has s.content.domains row → row.name ≡ name → is_due_right days s.content row ≡ true)) s t

@@ -18,7 +18,8 @@ abbrev pub with_row : List Due → Option (Option Due) → Option (List Due)
 with_row found read = option_map (λ due. with_due due found) read
 
 -- with what is due of these rows, if each reads
-abbrev pub with_rows : {R : Type 0} → (R → Option (Option Due)) → List Due → List R → Option (List Due)
+abbrev pub with_rows : {R : Type 0} → (R → Option (Option Due)) → List Due → List R
+    → Option (List Due)
 with_rows read found [] = Some found
 with_rows read found (row ∷ rows) = do
   found ← with_row found (read row)

@@ -1,3 +1,4 @@
 pub mod Dues
 pub mod Finding
 pub mod Near
+pub mod Redates

@@ -37,7 +37,8 @@ concerned_in r g xs = concerned r g (objects_in xs)
 
 -- of this the same is concerned as of all that is due by a moment
 abbrev pub HasAllNear : PolicyRules → Option ℕ → Names → ℕ → Content → List Due → Type 0
-HasAllNear p r g t xs due = filter (is_picked (concerned_in r g xs)) due ≡ due_for p r g t (objects_in xs)
+HasAllNear p r g t xs due =
+    filter (is_picked (concerned_in r g xs)) due ≡ due_for p r g t (objects_in xs)
 
 -- ---- rows found one after another
 
@@ -54,7 +55,8 @@ contacts_sponsored (Some r) t xs = filter (contact_table.contact_of_sponsor_with
 
 abbrev pub domains_sponsored : Option ℕ → ℕ → Content → List domain_table.Domain
 domains_sponsored None t xs = []
-domains_sponsored (Some r) t xs = filter (domain_table.domain_of_sponsor_within (registrar_column r) (moment_column t)) xs.domains
+domains_sponsored (Some r) t xs =
+    filter (domain_table.domain_of_sponsor_within (registrar_column r) (moment_column t)) xs.domains
 
 -- the transfers that are pending, which it asked for or which take something away from it
 abbrev pub pending_of : Option ℕ → Content → List transfer_table.Transfer
@@ -112,7 +114,8 @@ domains_to_hosts t xs name = each_of (domains_to_host t xs) (hosts_named xs name
 -- ---- all of them
 
 -- where these transfers are pending
-abbrev pub contacts_found : Option ℕ → List transfer_table.Transfer → Names → ℕ → Content → List contact_table.Contact
+abbrev pub contacts_found : Option ℕ → List transfer_table.Transfer → Names → ℕ → Content
+    → List contact_table.Contact
 contacts_found r pending g t xs =
     contacts_sponsored r t xs
     ++ (each_of (contact_of_transfer xs) pending
@@ -127,7 +130,8 @@ domains_by_names g t xs =
     ++ (each_of (domains_to_contacts t xs) g.contacts
     ++ each_of (domains_to_hosts t xs) g.hosts)
 
-abbrev pub domains_found : Option ℕ → List transfer_table.Transfer → Names → ℕ → Content → List domain_table.Domain
+abbrev pub domains_found : Option ℕ → List transfer_table.Transfer → Names → ℕ → Content
+    → List domain_table.Domain
 domains_found r pending g t xs =
     domains_sponsored r t xs
     ++ (each_of (domain_of_transfer xs) pending
@@ -138,10 +142,12 @@ domains_near r g t xs = domains_found r (pending_of r xs) g t xs
 
 -- of these, those that may be due: no other is read
 abbrev pub contacts_asked : Option ℕ → Names → ℕ → Content → List contact_table.Contact
-contacts_asked r g t xs = filter (contact_table.contact_within_due (moment_column t)) (contacts_near r g t xs)
+contacts_asked r g t xs =
+    filter (contact_table.contact_within_due (moment_column t)) (contacts_near r g t xs)
 
 abbrev pub domains_asked : Option ℕ → Names → ℕ → Content → List domain_table.Domain
-domains_asked r g t xs = filter (domain_table.domain_within_due (moment_column t)) (domains_near r g t xs)
+domains_asked r g t xs =
+    filter (domain_table.domain_within_due (moment_column t)) (domains_near r g t xs)
 
 -- this is what is due of the rows that are found
 pub record IsFoundNear (p : PolicyRules) (r : Option ℕ) (g : Names) (t : ℕ) (xs : Content) (due : List Due) : Type 0 where

@@ -3,9 +3,10 @@ ghost use Rattle.std.specs.Prelude.{◌≡◌, true, int_le, pos, IfOk, Some};
 ghost use Rattle.std.specs.FinMap.{get};
 ghost use Rattle.columns.specs.Numbers as numbers;
 ghost use Rattle.lifecycle.specs.Lapse as lapse;
+ghost use Rattle.lifecycle.specs.Periods.{rules_with};
 ghost use Rattle.meanings.specs.Read.{first_read};
 ghost use Rattle.sqldomains.specs.Domains as domains;
-ghost use Rattle.sqldue.specs.Dues.{is_due_right, rules_with};
+ghost use Rattle.sqldue.specs.Dues.{is_due_right};
 ghost use Rattle.sqlite_rules.specs.Lists.{Has};
 ghost use Rattle.tables.specs.Domain as table;
 ghost use Rattle.transactions.specs.States.{Meets};
@@ -85,7 +86,7 @@ fn right_domain<S: Alter>(
 }
 
 /// The moment in a row's column. One that is none is refused.
-fn due_in(row: &DomainRow) -> Result<Moment, BookFault>
+pub(crate) fn due_in(row: &DomainRow) -> Result<Moment, BookFault>
     ensures { IfOk result (λ due. row.now.due ≡ numbers.moment_column due) }
 {
     or_fault(moment_of_column(row.due))

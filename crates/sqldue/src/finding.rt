@@ -38,7 +38,7 @@ pub fn due<S: Alter>(
 ) -> Result<Seq<Due>, BookFault>
     ensures { Tells result (dues_are_right store.old.content) (dues.found_due (dues.domain_due policy.now moment) (dues.found_due (dues.contact_due moment) [] (entries (contacts_of store.old.content))) (entries (domains_of store.old.content))) store.old store.new }
 {
-    have_days(store, policy)?;
+    have_days(store, alloc, policy)?;
     store.whole();
     let contacts = contacts_due(store, alloc, moment)?;
     let found = with_domains_due(store, alloc, moment, policy, contacts)?;

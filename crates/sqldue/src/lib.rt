@@ -13,8 +13,10 @@ mod finding;
 mod joining;
 mod length;
 mod near;
+mod redating;
 
 pub use checking::{due_of_domain, standing};
 pub use finding::due;
 pub use length::same_days;
 pub use near::due_near;
+pub use redating::{deleted, deleted_names, end_of_deletion, ends_are, ends_come};

@@ -40,7 +40,7 @@ pub fn due_near<S: Alter>(
 ) -> Result<Seq<Due>, BookFault>
     ensures { Meets result (λ due. dues_are_right store.old.content ≡ true → spec.HasAllNear policy.now caller names.now moment store.old.content due) store.old store.new }
 {
-    have_days(store, policy)?;
+    have_days(store, alloc, policy)?;
     store.whole();
     let behind = is_behind(store, moment)?;
     if !behind {

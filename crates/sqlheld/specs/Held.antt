@@ -18,7 +18,8 @@ held_of xs r = length (filter (λ d. is_party r d.sponsor d.transfer) (values (d
 
 -- the column says how many; a row whose number is no registrar's place has nothing to say
 abbrev pub is_held_right : Content → account_table.Account → Bool
-is_held_right xs row = option_map_or (λ place. int_eq row.held (pos (held_of xs place))) (registrar_in row.id) true
+is_held_right xs row =
+    option_map_or (λ place. int_eq row.held (pos (held_of xs place))) (registrar_in row.id) true
 
 -- that of the row with a number, if there is one
 abbrev pub has_right_held : Content → ℤ → Bool
@@ -26,7 +27,8 @@ has_right_held xs id = option_map_or (is_held_right xs) (row_of xs id) true
 
 -- all accounts' columns say it
 abbrev pub helds_are_right : Content → Bool
-helds_are_right xs = list_all (λ (row : account_table.Account). has_right_held xs row.id) xs.accounts
+helds_are_right xs =
+    list_all (λ (row : account_table.Account). has_right_held xs row.id) xs.accounts
 
 -- ---- one domain more, or less
 

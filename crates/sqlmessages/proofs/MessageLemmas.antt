@@ -143,7 +143,7 @@ unchanged xs r f row place found same =
       accounts = same_map nat_cmp_total nat_cmp-IsAntisymmetric _ _ (λ q. go there q (eq_by_cmp nat_cmp q r) refl ∙ sym (get-insert nat_cmp_total (accounts_of xs) r (f (unwrap_or (get (accounts_of xs) r) empty_account)) q));
       sums = refl;
       standings = λ id. refl;
-      others = record { metas = refl; contacts = refl; domains = refl; hosts = refl; addresses = refl; links = refl; transfers = refl };
+      others = record { metas = refl; days = refl; contacts = refl; domains = refl; hosts = refl; addresses = refl; links = refl; transfers = refl };
     }
   where
     go : get (accounts_of xs) r ≡ Some (account_in xs row) → (q : ℕ) (b : Bool) → eq_by_cmp nat_cmp q r ≡ b
@@ -186,7 +186,7 @@ requeued xs ms r f row new step place found more elsewhere here count =
     changed xs ys r (with_queue f) row new place (sym found) refl same (ap standing more.rest) (λ id e. refl) elsewhere
     (λ i. record { lines = lines_of xs (same i); queue = queue i; commands = (account_in xs (more.rest i)).commands; messages = (account_in xs (more.rest i)).messages; serial = (account_in xs (more.rest i)).serial })
     (λ i. int_eq (balance_in (cents i)) (balance (lines_of xs (same i))) && counted i)
-    (record { metas = refl; contacts = refl; domains = refl; hosts = refl; addresses = refl; links = refl; transfers = refl })
+    (record { metas = refl; days = refl; contacts = refl; domains = refl; hosts = refl; addresses = refl; links = refl; transfers = refl })
 
 -- ---- whether a message waits
 

@@ -38,6 +38,7 @@ assembled xs ys name value id stands others kept whole after = record {
   contacts = stands;
   hosts = ap hosts_of kept.rest;
   metas = ap (λ (x : Content). x.metas) kept.rest;
+  days = ap (λ (x : Content). x.days) kept.rest;
   accounts = ap (λ (x : Content). x.accounts) kept.rest;
   domains = ap (λ (x : Content). x.domains) kept.rest;
   host_rows = ap (λ (x : Content). x.hosts) kept.rest;

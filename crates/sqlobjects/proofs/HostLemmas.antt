@@ -40,6 +40,7 @@ assembled xs ys name value id stands others kept was is whole after = record {
   hosts = stands;
   contacts = ap contacts_of kept.rest;
   metas = ap (λ (x : Content). x.metas) kept.rest;
+  days = ap (λ (x : Content). x.days) kept.rest;
   accounts = ap (λ (x : Content). x.accounts) kept.rest;
   contact_rows = ap (λ (x : Content). x.contacts) kept.rest;
   domains = ap (λ (x : Content). x.domains) kept.rest;

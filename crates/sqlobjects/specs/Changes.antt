@@ -17,7 +17,8 @@ use Rattle.sqlobjects.specs.Sponsors.{is_sponsor_right}
 use Rattle.sqlobjects.specs.Stages.{AreOthersKept}
 
 -- under a name stands this, or nothing
-abbrev pub put : {X : Type 0} → FinMap (slice_cmp nat_cmp) X → List ℕ → Option X → FinMap (slice_cmp nat_cmp) X
+abbrev pub put : {X : Type 0} → FinMap (slice_cmp nat_cmp) X → List ℕ → Option X
+    → FinMap (slice_cmp nat_cmp) X
 put m k None = remove m k
 put m k (Some x) = insert m k x
 
@@ -26,7 +27,8 @@ abbrev pub contact_name : Content → ℤ → Option (List ℕ)
 contact_name xs id = option_map (λ (row : contact_table.Contact). row.name) (get_by contact_table.contacts.key xs.contacts id)
 
 abbrev pub host_name : Content → ℤ → Option (List ℕ)
-host_name xs id = option_map (λ (row : host_table.Host). row.name) (get_by host_table.hosts.key xs.hosts id)
+host_name xs id =
+    option_map (λ (row : host_table.Host). row.name) (get_by host_table.hosts.key xs.hosts id)
 
 -- Under a name stands this contact, or none. No other contact is changed, no host, no domain's
 -- transfer and no row of another table, and a number leads to no other name than before.
@@ -34,6 +36,7 @@ pub record IsContactPut (name : List ℕ) (value : Option Contact) (old new : Co
   pub contacts : contacts_of new ≡ put (contacts_of old) name value
   pub hosts : hosts_of new ≡ hosts_of old
   pub metas : new.metas ≡ old.metas
+  pub days : new.days ≡ old.days
   pub accounts : new.accounts ≡ old.accounts
   pub domains : new.domains ≡ old.domains
   pub host_rows : new.hosts ≡ old.hosts
@@ -42,7 +45,8 @@ pub record IsContactPut (name : List ℕ) (value : Option Contact) (old new : Co
   pub lines : new.lines ≡ old.lines
   pub messages : new.messages ≡ old.messages
   pub transfers : (id : ℤ) → filter (transfer_with_domain id) new.transfers ≡ filter (transfer_with_domain id) old.transfers
-  pub names : (id : ℤ) (n m : List ℕ) → contact_name old id ≡ Some n → contact_name new id ≡ Some m → n ≡ m
+  pub names : (id : ℤ) (n m : List ℕ) → contact_name old id ≡ Some n → contact_name new id ≡ Some m
+      → n ≡ m
   pub whole : IsWhole old × IsWhole new
 
 -- The same of a host. No contact is changed, no other host's row, and no row of another table but those
@@ -52,6 +56,7 @@ pub record IsHostPut (name : List ℕ) (value : Option Host) (old new : Content)
   pub hosts : hosts_of new ≡ put (hosts_of old) name value
   pub contacts : contacts_of new ≡ contacts_of old
   pub metas : new.metas ≡ old.metas
+  pub days : new.days ≡ old.days
   pub accounts : new.accounts ≡ old.accounts
   pub contact_rows : new.contacts ≡ old.contacts
   pub domains : new.domains ≡ old.domains
@@ -60,7 +65,10 @@ pub record IsHostPut (name : List ℕ) (value : Option Host) (old new : Content)
   pub messages : new.messages ≡ old.messages
   pub transfers : new.transfers ≡ old.transfers
   pub others : AreOthersKept (λ (r : host_table.Host). r.name) name old.hosts new.hosts
-  pub sponsor_was : (row : host_table.Host) → Has old.hosts row → row.name ≡ name → is_sponsor_right old row ≡ true
-  pub sponsor_is : (row : host_table.Host) → Has new.hosts row → row.name ≡ name → is_sponsor_right new row ≡ true
-  pub names : (id : ℤ) (n m : List ℕ) → host_name old id ≡ Some n → host_name new id ≡ Some m → n ≡ m
+  pub sponsor_was : (row : host_table.Host) → Has old.hosts row → row.name ≡ name
+      → is_sponsor_right old row ≡ true
+  pub sponsor_is : (row : host_table.Host) → Has new.hosts row → row.name ≡ name
+      → is_sponsor_right new row ≡ true
+  pub names : (id : ℤ) (n m : List ℕ) → host_name old id ≡ Some n → host_name new id ≡ Some m
+      → n ≡ m
   pub whole : IsWhole old × IsWhole new

@@ -43,14 +43,17 @@ with_sponsor above sponsor row = if follows above row then record row { sponsor 
 -- each host that follows the domain had one sponsor, and has the other; no other column and no other
 -- row is changed
 pub record AreMoved (above : List ℕ) (before after : Option ℤ) (old new : List Host) : Type 0 where
-  pub had : (row : Host) → Has old row → follows above row ≡ true → is_same row.sponsor before ≡ true
+  pub had : (row : Host) → Has old row → follows above row ≡ true
+      → is_same row.sponsor before ≡ true
   pub has : new ≡ map (with_sponsor above after) old
 
 -- The hosts that follow the domain of this name have this registrar as their sponsor, or none, in place of
 -- the domain's. Where the two are the same no row is changed, whatever it has.
 pub record IsFollowed (above : List ℕ) (after : Option ℕ) (old new : Content) : Type 0 where
-  pub stays : is_same (domain_sponsor old above) (maybe_registrar_column after) ≡ true → new.hosts ≡ old.hosts
-  pub moves : is_same (domain_sponsor old above) (maybe_registrar_column after) ≡ false → AreMoved above (domain_sponsor old above) (maybe_registrar_column after) old.hosts new.hosts
+  pub stays : is_same (domain_sponsor old above) (maybe_registrar_column after) ≡ true
+      → new.hosts ≡ old.hosts
+  pub moves : is_same (domain_sponsor old above) (maybe_registrar_column after) ≡ false
+      → AreMoved above (domain_sponsor old above) (maybe_registrar_column after) old.hosts new.hosts
   pub hosts : hosts_of new ≡ hosts_of old
   pub rest : new ≡ record old { hosts = new.hosts }
   pub whole : IsWhole old × IsWhole new

@@ -28,13 +28,16 @@ use Rattle.sqlobjects.specs.Objects.{addresses_of, last_transfer}
 use Rattle.sqlobjects.specs.Sponsors.{AreMoved, sponsor_of}
 
 -- a change in a way that hangs on what is answered
-abbrev pub Brings : {A C : Type 0} → Result A BookFault → (A → C → C → Type 0) → StateOf C → StateOf C → Type 0
+abbrev pub Brings : {A C : Type 0} → Result A BookFault → (A → C → C → Type 0) → StateOf C
+    → StateOf C → Type 0
 Brings (Ok it) way old new = Became (way it) old new
 Brings (Err fault) way old new = Stays old new
 
 -- rows of other names than this are as they were
 abbrev pub AreOthersKept : {P : Type 0} → (P → List ℕ) → List ℕ → List P → List P → Type 0
-AreOthersKept name n old new = (q : List ℕ) → bytes_eq q n ≡ false → filter (λ r. bytes_eq (name r) q) new ≡ filter (λ r. bytes_eq (name r) q) old
+AreOthersKept name n old new =
+    (q : List ℕ) → bytes_eq q n ≡ false
+    → filter (λ r. bytes_eq (name r) q) new ≡ filter (λ r. bytes_eq (name r) q) old
 
 -- this row is there under a name, and rows of other names are as they were
 pub record IsPlaced {P : Type 0} (name : P → List ℕ) (n : List ℕ) (row : P) (old new : List P) : Type 0 where
@@ -57,10 +60,12 @@ pub record IsTransferCleared (id : ℤ) (old new : Content) : Type 0 where
 
 -- the row of a contact's transfer, if there is one, but for its number
 abbrev pub transfer_row_of : ℤ → Option Transfer → Option transfer_table.Transfer
-transfer_row_of id transfer = option_map (λ (t : Transfer). transfer_row (pos 0) (Some id) None t) transfer
+transfer_row_of id transfer =
+    option_map (λ (t : Transfer). transfer_row (pos 0) (Some id) None t) transfer
 
 -- the rows, and after them this one, if there is one, under a number of its own
-abbrev pub with_added : Option transfer_table.Transfer → List transfer_table.Transfer → List transfer_table.Transfer
+abbrev pub with_added : Option transfer_table.Transfer → List transfer_table.Transfer
+    → List transfer_table.Transfer
 with_added None rows = rows
 with_added (Some row) rows = appended transfer_table.transfers (λ id. record row { id = id }) rows
 
@@ -82,9 +87,11 @@ pub record IsContactPlaced (c : Contact) (row : contact_table.Contact) (old new 
   pub rest : new ≡ record old { contacts = new.contacts }
 
 -- the same where it was this row, or none, that had its name
-abbrev pub IsContactPlacedAt : Option contact_table.Contact → Contact → contact_table.Contact → Content → Content → Type 0
+abbrev pub IsContactPlacedAt : Option contact_table.Contact → Contact → contact_table.Contact
+    → Content → Content → Type 0
 IsContactPlacedAt found c row old new =
-    IsWhole old → filter (contact_table.contact_with_name c.name) old.contacts ≡ rows_of found → IsContactPlaced c row old new
+    IsWhole old → filter (contact_table.contact_with_name c.name) old.contacts ≡ rows_of found
+    → IsContactPlaced c row old new
 
 -- the contact with this number, and its transfer, aren't there any more
 pub record IsContactRemoved (id : ℤ) (old new : Content) : Type 0 where
@@ -100,7 +107,8 @@ IsContactDropped (Some row) old new = IsContactRemoved row.id old new
 
 -- no host but the one with this number has other addresses than before
 pub record AreOtherAddressesKept (id : ℤ) (old new : Content) : Type 0 where
-  pub hosts : (other : ℤ) → int_eq id other ≡ false → addresses_of new other ≡ addresses_of old other
+  pub hosts : (other : ℤ) → int_eq id other ≡ false
+      → addresses_of new other ≡ addresses_of old other
   pub rest : new ≡ record old { addresses = new.addresses }
 
 -- the host with this number has these addresses
@@ -140,9 +148,11 @@ pub record IsHostPlaced (h : Host) (row : host_table.Host) (old new : Content) :
   pub rest : new ≡ record old { hosts = new.hosts }
 
 -- the same where it was this row, or none, that had its name
-abbrev pub IsHostPlacedAt : Option host_table.Host → Host → host_table.Host → Content → Content → Type 0
+abbrev pub IsHostPlacedAt : Option host_table.Host → Host → host_table.Host → Content → Content
+    → Type 0
 IsHostPlacedAt found h row old new =
-    IsWhole old → filter (host_table.host_with_name h.name) old.hosts ≡ rows_of found → IsHostPlaced h row old new
+    IsWhole old → filter (host_table.host_with_name h.name) old.hosts ≡ rows_of found
+    → IsHostPlaced h row old new
 
 -- and each row that had its name had the right sponsor
 pub record IsHostPlacedRight (h : Host) (row : host_table.Host) (old new : Content) : Type 0 where
@@ -169,13 +179,15 @@ pub record IsMoved (s : Sponsors) (row after : host_table.Host) : Type 0 where
 
 -- the rows, with this one written with its new sponsor, unless its host is sponsored outside the zone; none
 -- where it had another sponsor than the one before
-abbrev pub with_moved : Sponsors → List host_table.Host → host_table.Host → Option (List host_table.Host)
+abbrev pub with_moved : Sponsors → List host_table.Host → host_table.Host
+    → Option (List host_table.Host)
 with_moved s xs row =
     if is_some row.external_sponsor then Some xs
     else (if is_same row.sponsor s.before then Some (insert_by host_table.hosts.key xs (record row { sponsor = s.after })) else None)
 
 -- the same with each of these rows, one after another
-abbrev pub with_all_moved : Sponsors → List host_table.Host → List host_table.Host → Option (List host_table.Host)
+abbrev pub with_all_moved : Sponsors → List host_table.Host → List host_table.Host
+    → Option (List host_table.Host)
 with_all_moved s xs [] = Some xs
 with_all_moved s xs (row ∷ rows) = with_moved s xs row >>= (λ ys. with_all_moved s ys rows)
 

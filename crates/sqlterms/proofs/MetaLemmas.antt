@@ -15,6 +15,7 @@ use Rattle.model.specs.Registry.{blank}
 use Rattle.policy.specs.declared.terms.Terms.{Terms}
 use Rattle.tables.specs.Account.{Account}
 use Rattle.tables.specs.Content.{Content, metas_to}
+use Rattle.tables.specs.Day.{Day}
 use Rattle.tables.specs.Meta.{Meta, metas}
 use Rattle.tables.specs.Readiness.{may_be_numbered}
 use Rattle.tables.specs.Tables.{schema_number}
@@ -47,13 +48,13 @@ module _ (xs : Content) (o : Option Meta) (is : xs.metas ≡ rows_of o) where
   same_clock None first = ap (λ c. unwrap_or c blank.clock) (moment_back blank.clock first)
   same_clock (Some row) first = refl
 
-  no_terms : (o : Option Meta) (accounts : List Account) → terms_at (meta_or_new o) accounts ≡ terms_in o accounts
-  no_terms None accounts = refl
-  no_terms (Some row) accounts = refl
+  no_terms : (o : Option Meta) (tables : List Day) (accounts : List Account) → terms_at (meta_or_new o) tables accounts ≡ terms_in o tables accounts
+  no_terms None tables accounts = refl
+  no_terms (Some row) tables accounts = refl
 
-  no_days : (o : Option Meta) → days_at (meta_or_new o) ≡ option_and_then days_at o
-  no_days None = refl
-  no_days (Some row) = refl
+  no_days : (o : Option Meta) (tables : List Day) → days_at tables (meta_or_new o) ≡ option_and_then (days_at tables) o
+  no_days None tables = refl
+  no_days (Some row) tables = refl
 
   numbered-so : (o : Option Meta) → int_eq (meta_or_new o).version schema_number ≡ may_be_numbered (rows_of o)
   numbered-so None = refl
@@ -72,11 +73,11 @@ module _ (xs : Content) (o : Option Meta) (is : xs.metas ≡ rows_of o) where
             ap (λ rows. clock_in (slice_get rows 0)) rows ∙ ap (λ (r : Meta). unwrap_or (moment_in r.clock) blank.clock) e
             ∙ ap (λ c. unwrap_or c blank.clock) (moment_back m range);
         terms =
-            ap (λ rows. terms_in (slice_get rows 0) xs.accounts) rows ∙ ap (λ (r : Meta). terms_at r xs.accounts) e
-            ∙ no_terms o xs.accounts ∙ ap (λ o. terms_in o xs.accounts) (sym meta_was);
+            ap (λ rows. terms_in (slice_get rows 0) xs.days xs.accounts) rows ∙ ap (λ (r : Meta). terms_at r xs.days xs.accounts) e
+            ∙ no_terms o xs.days xs.accounts ∙ ap (λ o. terms_in o xs.days xs.accounts) (sym meta_was);
         days =
-            ap (λ rows. option_and_then days_at (slice_get rows 0)) rows ∙ ap days_at e
-            ∙ no_days o ∙ ap (option_and_then days_at) (sym meta_was);
+            ap (λ rows. option_and_then (days_at xs.days) (slice_get rows 0)) rows ∙ ap (days_at xs.days) e
+            ∙ no_days o xs.days ∙ ap (option_and_then (days_at xs.days)) (sym meta_was);
         numbered = same_number new (ap (λ (r : Meta). r.id) (sym e)) (ap (λ (r : Meta). r.version) e);
         others = refl;
       }

@@ -25,7 +25,16 @@ pub record IsRenaming (old new : Content) : Type 0 where
   pub rows : map nameless new.accounts ≡ map nameless old.accounts
   pub others : record new { accounts = old.accounts } ≡ old
 
--- The terms are these. But for the row of meta and the accounts' idents all is as it was.
+-- tables of lengths were put down, and nothing else is another
+abbrev pub AreDated : Content → Content → Type 0
+AreDated old new = record new { days = old.days } ≡ old
+
+-- tables of lengths were put down, accounts have other idents, and nothing else is another
+pub record ArePutBeside (old new : Content) : Type 0 where
+  pub rows : map nameless new.accounts ≡ map nameless old.accounts
+  pub others : record new { accounts = old.accounts; days = old.days } ≡ old
+
+-- The terms are these. But for the row of meta, the rows of days and the accounts' idents all is as it was.
 pub record IsTermsSet (value : Terms) (old new : Content) : Type 0 where
   pub terms : terms_of new ≡ Some value
   pub days : days_of new ≡ Some value.days
@@ -34,4 +43,4 @@ pub record IsTermsSet (value : Terms) (old new : Content) : Type 0 where
   pub sums : sums_are_right new ≡ sums_are_right old
   pub rows : map nameless new.accounts ≡ map nameless old.accounts
   pub numbered : may_be_numbered new.metas ≡ may_be_numbered old.metas
-  pub others : record new { metas = old.metas; accounts = old.accounts } ≡ old
+  pub others : record new { metas = old.metas; accounts = old.accounts; days = old.days } ≡ old

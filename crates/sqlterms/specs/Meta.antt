@@ -15,7 +15,7 @@ meta_of xs = slice_get xs.metas 0
 abbrev pub new_meta : Meta
 new_meta = record {
   id = pos 1;
-  version = pos 1;
+  version = pos 2;
   clock = moment_column blank.clock;
   zone = [];
   reserved = [];
@@ -40,20 +40,21 @@ meta_or_new (Some row) = row
 abbrev pub with_clock : ℕ → Meta → Meta
 with_clock m row = record row { clock = moment_column m }
 
--- the terms but for the registrars' ids, with the reserved labels as one text
+-- the terms but for the registrars' ids and for the tables of later lengths, with the reserved labels as
+-- one text
 abbrev pub with_terms : Terms → List ℕ → Meta → Meta
 with_terms terms labels row = record row {
   zone = terms.zone;
   reserved = labels;
-  days_add = pos terms.days.add;
-  days_auto_renew = pos terms.days.auto_renew;
-  days_renew = pos terms.days.renew;
-  days_transfer = pos terms.days.transfer;
-  days_redemption = pos terms.days.redemption;
-  days_restore = pos terms.days.restore;
-  days_pending_delete = pos terms.days.pending_delete;
-  days_answer = pos terms.days.answer;
-  days_lock = pos terms.days.lock;
+  days_add = pos terms.days.first.add;
+  days_auto_renew = pos terms.days.first.auto_renew;
+  days_renew = pos terms.days.first.renew;
+  days_transfer = pos terms.days.first.transfer;
+  days_redemption = pos terms.days.first.redemption;
+  days_restore = pos terms.days.first.restore;
+  days_pending_delete = pos terms.days.first.pending_delete;
+  days_answer = pos terms.days.first.answer;
+  days_lock = pos terms.days.first.lock;
   price_create = pos terms.prices.create;
   price_renew = pos terms.prices.renew;
   price_transfer = pos terms.prices.transfer;

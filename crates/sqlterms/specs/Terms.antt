@@ -1,17 +1,20 @@
--- The terms of a registry: in the row of meta, and in the idents of accounts.
+-- The terms of a registry: in the row of meta, in the rows of days, and in the idents of accounts.
 use Rattle.std.specs.Prelude.{ℕ, ◌+◌, ◌==◌, ℤ, pos, Bool, false, not, nat_lt, List, [], ◌∷◌, ◌++◌, length, Option, Some, None, if◌then◌else◌, option_and_then}
 use Rattle.std.specs.FinSet.{from_list}
 use Rattle.std.specs.Option.{option_map_or}
 use Rattle.std.specs.Ordering.{int_eq}
 use Rattle.basis.specs.Sets.{Names}
-use Rattle.columns.specs.Numbers.{natural_in}
+use Rattle.columns.specs.Numbers.{moment_in, natural_in}
 use Rattle.columns.specs.Steps.{◌>>=◌}
 use Rattle.columns.specs.Texts.{street_column, street_in}
 use Rattle.policy.specs.declared.days.Days.{Days}
 use Rattle.policy.specs.declared.prices.Prices.{Prices}
+use Rattle.policy.specs.declared.schedule.DatedDays.{DatedDays}
+use Rattle.policy.specs.declared.schedule.Schedule.{Schedule}
 use Rattle.policy.specs.declared.terms.Terms.{Terms}
 use Rattle.tables.specs.Account.{Account}
 use Rattle.tables.specs.Content.{Content}
+use Rattle.tables.specs.Day.{Day}
 use Rattle.tables.specs.Meta.{Meta}
 use Rattle.sqlterms.specs.Meta.{meta_of}
 
@@ -25,7 +28,8 @@ abbrev pub count_in : ℤ → Option ℕ
 count_in column = natural_in is_count column
 
 -- the days of these counts, if all are there
-abbrev pub days_made : Option ℕ → Option ℕ → Option ℕ → Option ℕ → Option ℕ → Option ℕ → Option ℕ → Option ℕ → Option ℕ → Option Days
+abbrev pub days_made : Option ℕ → Option ℕ → Option ℕ → Option ℕ → Option ℕ → Option ℕ → Option ℕ
+    → Option ℕ → Option ℕ → Option Days
 days_made add auto_renew renew transfer redemption restore pending_delete answer lock = do
   a ← add
   b ← auto_renew
@@ -51,7 +55,8 @@ prices_made create renew transfer = do
   Some (record { create = c; renew = r; transfer = t })
 
 abbrev pub prices_in : Meta → Option Prices
-prices_in row = prices_made (count_in row.price_create) (count_in row.price_renew) (count_in row.price_transfer)
+prices_in row =
+    prices_made (count_in row.price_create) (count_in row.price_renew) (count_in row.price_transfer)
 
 -- labels without a line feed, one in each line
 abbrev pub labels_column : List (List ℕ) → Option (List ℕ)
@@ -65,6 +70,43 @@ labels_in (b ∷ bs) = street_in (b ∷ bs)
 
 abbrev pub reserved_in : List ℕ → Names
 reserved_in text = from_list (labels_in text)
+
+-- ---- the rows of days
+
+-- a table of these parts, if both are there
+abbrev pub dated_made : Option ℕ → Option Days → Option DatedDays
+dated_made from days = do
+  m ← from
+  d ← days
+  Some (record { from = m; days = d })
+
+abbrev pub dated_days_in : Day → Option Days
+dated_days_in row =
+    days_made (count_in row.days_add) (count_in row.days_auto_renew) (count_in row.days_renew) (count_in row.days_transfer) (count_in row.days_redemption)
+    (count_in row.days_restore) (count_in row.days_pending_delete) (count_in row.days_answer) (count_in row.days_lock)
+
+abbrev pub dated_in : Day → Option DatedDays
+dated_in row = dated_made (moment_in row.starts) (dated_days_in row)
+
+-- these tables, and those of the rows behind them, if each reads
+abbrev pub dated_behind : List DatedDays → List Day → Option (List DatedDays)
+dated_behind tables [] = Some tables
+dated_behind tables (row ∷ rows) =
+    dated_in row >>= (λ table. dated_behind (tables ++ table ∷ []) rows)
+
+abbrev pub all_dated : List Day → Option (List DatedDays)
+all_dated rows = dated_behind [] rows
+
+-- the lengths of periods over time, of these parts, if both are there
+abbrev pub schedule_made : Option Days → Option (List DatedDays) → Option Schedule
+schedule_made first later = do
+  f ← first
+  l ← later
+  Some (record { first = f; later = l })
+
+-- the days of the row of meta are the first, and those of the rows of days are the later ones
+abbrev pub schedule_in : Meta → List Day → Option Schedule
+schedule_in row tables = schedule_made (days_in row) (all_dated tables)
 
 -- ---- the idents of accounts
 
@@ -87,7 +129,8 @@ ids_in rows = ids_behind [] rows
 -- ---- the terms
 
 -- the terms of these parts, if all are there
-abbrev pub terms_made : List ℕ → Names → Option Days → Option Prices → Option (List (List ℕ)) → Option Terms
+abbrev pub terms_made : List ℕ → Names → Option Schedule → Option Prices → Option (List (List ℕ))
+    → Option Terms
 terms_made zone reserved days prices ids = do
   d ← days
   p ← prices
@@ -102,22 +145,22 @@ has_zone row = not (length row.zone == 0)
 abbrev pub has_terms : Content → Bool
 has_terms xs = option_map_or has_zone (meta_of xs) false
 
-abbrev pub terms_at : Meta → List Account → Option Terms
-terms_at row accounts =
+abbrev pub terms_at : Meta → List Day → List Account → Option Terms
+terms_at row tables accounts =
     if length row.zone == 0 then None
-    else terms_made row.zone (reserved_in row.reserved) (days_in row) (prices_in row) (ids_in accounts)
+    else terms_made row.zone (reserved_in row.reserved) (schedule_in row tables) (prices_in row) (ids_in accounts)
 
 -- none where there is no row, or it has no zone
-abbrev pub terms_in : Option Meta → List Account → Option Terms
-terms_in None accounts = None
-terms_in (Some row) accounts = terms_at row accounts
+abbrev pub terms_in : Option Meta → List Day → List Account → Option Terms
+terms_in None tables accounts = None
+terms_in (Some row) tables accounts = terms_at row tables accounts
 
 abbrev pub terms_of : Content → Option Terms
-terms_of xs = terms_in (meta_of xs) xs.accounts
+terms_of xs = terms_in (meta_of xs) xs.days xs.accounts
 
--- the days of the periods, where terms were put down
-abbrev pub days_at : Meta → Option Days
-days_at row = if length row.zone == 0 then None else days_in row
+-- the lengths of periods, where terms were put down
+abbrev pub days_at : List Day → Meta → Option Schedule
+days_at tables row = if length row.zone == 0 then None else schedule_in row tables
 
-abbrev pub days_of : Content → Option Days
-days_of xs = option_and_then days_at (meta_of xs)
+abbrev pub days_of : Content → Option Schedule
+days_of xs = option_and_then (days_at xs.days) (meta_of xs)

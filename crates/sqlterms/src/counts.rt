@@ -7,14 +7,14 @@ use policy::{Days, Prices};
 use tables::MetaRow;
 
 /// The number of a column, if it's one below 2^32.
-fn count_of_column(column: i64) -> Option<u32>
+pub(crate) fn count_of_column(column: i64) -> Option<u32>
     ensures { result ≡ spec.count_in column }
 {
     years_of_column(column)
 }
 
 /// The days of these counts, if all are there.
-fn days_made(
+pub(crate) fn days_made(
     add: Option<u32>,
     auto_renew: Option<u32>,
     renew: Option<u32>,

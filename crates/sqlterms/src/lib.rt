@@ -1,8 +1,9 @@
 //! The clock and the terms of a registry over the rows of a database: what the one row of `meta` says,
-//! and the registrars' ids, which are in the rows of their accounts.
+//! the tables of lengths of periods, and the registrars' ids, which are in the rows of their accounts.
 #![tactic(auto)]
 
 mod counts;
+mod dated;
 mod ids;
 mod labels;
 mod meta;

@@ -27,7 +27,7 @@ fn new_meta(alloc: Global) -> MetaRow
 {
     MetaRow {
         id: 1,
-        version: 1,
+        version: 2,
         clock: 946_684_800,
         zone: String::new(alloc),
         reserved: String::new(alloc),
@@ -74,7 +74,7 @@ pub(crate) fn with_terms(
 ) -> Result<MetaRow, AllocError>
     ensures { IfOk result (λ changed. changed ≡ spec.with_terms terms.now (string_bytes labels) row) }
 {
-    let days = &terms.days;
+    let days = &terms.days.first;
     let prices = &terms.prices;
     let zone = String::from_str(alloc, terms.zone.as_str())?;
     Ok(MetaRow {

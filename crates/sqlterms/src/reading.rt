@@ -2,9 +2,10 @@
 ghost use Rattle.std.specs.Prelude.{◌≡◌, true, is_some, Some, IfOk};
 ghost use Rattle.sqlterms.specs.Clock.{clock_of};
 ghost use Rattle.sqlterms.specs.Terms as spec;
-ghost use Rattle.transactions.specs.States.{Finds};
+ghost use Rattle.transactions.specs.States.{Finds, Meets};
 
 use crate::counts::{days_of, prices_of};
+use crate::dated::all_dated;
 use crate::ids::ids_of;
 use crate::labels::reserved_of_column;
 use crate::meta::maybe_meta;
@@ -14,10 +15,10 @@ use basis::text::Text;
 use calendar::Moment;
 use columns::moment_of_column;
 use meanings::or_fault;
-use policy::{Days, Prices, Terms};
+use policy::{DatedDays, Days, Prices, Schedule, Terms};
 use sqlite::Alter;
-use std::alloc::Global;
-use tables::{MetaRow, RowStore};
+use std::alloc::{AllocError, Global};
+use tables::{DayRow, MetaRow, RowStore};
 use transactions::BookFault;
 
 /// The latest moment that was seen; the first moment in a registry that was never opened.
@@ -30,26 +31,52 @@ pub fn clock<S: Alter>(store: &mut RowStore<S>) -> Result<Moment, BookFault>
     }
 }
 
-/// The days of the periods, if the registry was opened. Columns that are none are refused.
-pub fn days<S: Alter>(store: &mut RowStore<S>) -> Result<Option<Days>, BookFault>
+/// The lengths of periods over time, if the registry was opened. Columns that are none are refused.
+pub fn days<S: Alter>(store: &mut RowStore<S>, alloc: Global) -> Result<Option<Schedule>, BookFault>
     ensures found { Finds result (spec.days_of store.old.content) store.old store.new }
     ensures all { IfOk result (λ days. store.new.is_clean ≡ true → is_some days ≡ spec.has_terms store.old.content) }
 {
     let Some(row) = maybe_meta(store)? else {
         return Ok(None);
     };
-    days_at(&row)
-}
-
-fn days_at(row: &MetaRow) -> Result<Option<Days>, BookFault>
-    ensures found { IfOk result (λ days. days ≡ spec.days_at row.now) }
-    ensures all { IfOk result (λ days. is_some days ≡ spec.has_zone row.now) }
-{
     if row.zone.is_empty() {
         return Ok(None);
     }
-    let days = or_fault(days_of(row))?;
+    let days = or_fault(schedule_at(store, alloc, &row)?)?;
     Ok(Some(days))
+}
+
+/// The lengths of periods over time of a row and the rows of `days`, if each reads.
+fn schedule_at<S: Alter>(
+    store: &mut RowStore<S>,
+    alloc: Global,
+    row: &MetaRow,
+) -> Result<Option<Schedule>, BookFault>
+    ensures { Finds result (spec.schedule_in row.now store.old.content.days) store.old store.new }
+{
+    let tables = store.all_days()?;
+    Ok(schedule_of(alloc, row, tables.as_slice())?)
+}
+
+/// The lengths of periods over time of these rows, if each reads.
+fn schedule_of(
+    alloc: Global,
+    row: &MetaRow,
+    tables: &[DayRow],
+) -> Result<Option<Schedule>, AllocError>
+    ensures { IfOk result (λ schedule. schedule ≡ spec.schedule_in row.now tables.now) }
+{
+    let later = all_dated(alloc, tables)?;
+    Ok(schedule_made(days_of(row), later))
+}
+
+/// The lengths of periods over time, of these parts, if both are there.
+fn schedule_made(first: Option<Days>, later: Option<Seq<DatedDays>>) -> Option<Schedule>
+    ensures { result ≡ spec.schedule_made first later }
+{
+    let first = first?;
+    let later = later?;
+    Some(Schedule { first, later })
 }
 
 /// The terms that the registry is used under, if it was opened. What doesn't read as terms is refused.
@@ -63,26 +90,51 @@ pub fn terms<S: Alter>(store: &mut RowStore<S>, alloc: Global) -> Result<Option<
     if row.zone.is_empty() {
         return Ok(None);
     }
-    let accounts = store.all_accounts()?;
-    let ids = ids_of(alloc, accounts.as_slice())?;
-    let terms = terms_of_row(alloc, &row, ids)?;
+    let terms = terms_at(store, alloc, &row)?;
     Ok(Some(terms))
 }
 
-/// The terms of a row, with these ids; a row that doesn't read is refused.
-fn terms_of_row(alloc: Global, row: &MetaRow, ids: Seq<Text>) -> Result<Terms, BookFault>
-    ensures { IfOk result (λ terms. spec.terms_made row.now.zone (spec.reserved_in row.now.reserved) (spec.days_in row.now) (spec.prices_in row.now) (Some ids) ≡ Some terms) }
+/// The terms of a row with a zone, and of the rows of `days` and of accounts. What doesn't read as terms is
+/// refused.
+fn terms_at<S: Alter>(
+    store: &mut RowStore<S>,
+    alloc: Global,
+    row: &MetaRow,
+) -> Result<Terms, BookFault>
+    ensures { Meets result (λ terms. spec.terms_made row.now.zone (spec.reserved_in row.now.reserved) (spec.schedule_in row.now store.old.content.days) (spec.prices_in row.now) (spec.ids_in store.old.content.accounts) ≡ Some terms) store.old store.new }
+{
+    let days = schedule_at(store, alloc, row)?;
+    let ids = ids_at(store, alloc)?;
+    terms_of_row(alloc, row, days, ids)
+}
+
+/// The ids of all accounts.
+fn ids_at<S: Alter>(store: &mut RowStore<S>, alloc: Global) -> Result<Seq<Text>, BookFault>
+    ensures { Meets result (λ ids. spec.ids_in store.old.content.accounts ≡ Some ids) store.old store.new }
+{
+    let accounts = store.all_accounts()?;
+    ids_of(alloc, accounts.as_slice())
+}
+
+/// The terms of a row, with these days and ids; a row that doesn't read is refused.
+fn terms_of_row(
+    alloc: Global,
+    row: &MetaRow,
+    days: Option<Schedule>,
+    ids: Seq<Text>,
+) -> Result<Terms, BookFault>
+    ensures { IfOk result (λ terms. spec.terms_made row.now.zone (spec.reserved_in row.now.reserved) days (spec.prices_in row.now) (Some ids) ≡ Some terms) }
 {
     let zone = Text::from_str(alloc, row.zone.as_str())?;
     let reserved = reserved_of_column(alloc, row.reserved.as_str())?;
-    or_fault(terms_made(zone, reserved, days_of(row), prices_of(row), Some(ids)))
+    or_fault(terms_made(zone, reserved, days, prices_of(row), Some(ids)))
 }
 
 /// The terms of these parts, if all are there.
 fn terms_made(
     zone: Text,
     reserved: NameSet,
-    days: Option<Days>,
+    days: Option<Schedule>,
     prices: Option<Prices>,
     ids: Option<Seq<Text>>,
 ) -> Option<Terms>

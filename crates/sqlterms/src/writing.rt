@@ -1,8 +1,9 @@
 //! Another clock, and other terms.
 ghost use Rattle.std.specs.Prelude.{◌≡◌, ◌↔◌, true, IsTrue, Some};
 ghost use Rattle.meanings.specs.Calls.{Turns};
-ghost use Rattle.sqlterms.specs.Changes.{IsClockSet, IsTermsSet};
+ghost use Rattle.sqlterms.specs.Changes.{ArePutBeside, IsClockSet, IsTermsSet};
 
+use crate::dated::put_tables;
 use crate::labels::labels_column;
 use crate::meta::{maybe_meta, meta_or_new, with_clock, with_terms};
 use crate::naming::name_accounts;
@@ -30,9 +31,10 @@ pub fn set_clock<S: Alter>(
     Ok(())
 }
 
-/// Puts terms down: the row of `meta`, and the ident of each account whose registrar has a place among
-/// the ids. Refused are terms that don't read back as they are, such as those with a label that has a
-/// line feed, or with an id of a registrar without an account.
+/// Puts terms down: the row of `meta`, the tables of lengths that aren't there yet, and the ident of each
+/// account whose registrar has a place among the ids. Refused are terms that don't read back as they
+/// are, such as those with a label that has a line feed, with an id of a registrar without an account,
+/// or with other tables than those that are there.
 pub fn set_terms<S: Alter>(
     store: &mut RowStore<S>,
     alloc: Global,
@@ -46,7 +48,7 @@ pub fn set_terms<S: Alter>(
     let row = with_terms(alloc, meta_or_new(alloc, meta), value, labels)?;
     store.put_meta(&row)?;
     drop(row);
-    name_accounts(store, alloc, value.ids.as_slice())?;
+    put_beside(store, alloc, value)?;
     let read = terms(store, alloc)?;
     let same = are(&read, value);
     drop(read);
@@ -56,14 +58,38 @@ pub fn set_terms<S: Alter>(
     Ok(())
 }
 
+/// Puts down what of terms isn't in the row of `meta`.
+fn put_beside<S: Alter>(
+    store: &mut RowStore<S>,
+    alloc: Global,
+    value: &Terms,
+) -> Result<(), BookFault>
+    requires { store.old.is_open ≡ true }
+    ensures { Turns result ArePutBeside store.old store.new }
+{
+    put_tables(store, value.days.later.as_slice())?;
+    name_accounts(store, alloc, value.ids.as_slice())?;
+    Ok(())
+}
+
 /// Whether what was read are these terms.
 fn are(read: &Option<Terms>, value: &Terms) -> bool
     ensures { IsTrue result ↔ (read.now ≡ Some value.now) }
 {
     match read {
         None => false,
-        Some(read) => {
-            read.continues(value) && read.ids.as_slice().len() == value.ids.as_slice().len()
-        }
+        Some(read) => are_same(read, value),
     }
+}
+
+fn are_same(read: &Terms, value: &Terms) -> bool
+    ensures { IsTrue result ↔ (read.now ≡ value.now) }
+{
+    if !read.days.is_same(&value.days) {
+        return false;
+    }
+    if read.ids.as_slice().len() != value.ids.as_slice().len() {
+        return false;
+    }
+    read.continues(value, Moment::first())
 }

@@ -12,15 +12,24 @@ use Rattle.store.specs.Ledgers.{counters_of, lacks, put, with_counted, with_line
 
 abbrev pub edited : Edit → Stored → Stored
 edited (edit.Clock t) s = record s { registry = record s.registry { clock = t } }
-edited (edit.Account r value) s = record s { registry = record s.registry { accounts = put s.registry.accounts r value } }
-edited (edit.Counters r x) s = record s { registry = record s.registry { accounts = with_counted s.registry.accounts r x } }
-edited (edit.Line r line) s = record s { registry = record s.registry { accounts = with_line s.registry.accounts r line } }
-edited (edit.Unline r line) s = record s { registry = record s.registry { accounts = without_line s.registry.accounts r line } }
-edited (edit.Notice r m) s = record s { registry = record s.registry { accounts = with_notice s.registry.accounts r m } }
-edited (edit.Unnotice r m) s = record s { registry = record s.registry { accounts = without_notice s.registry.accounts r m } }
-edited (edit.Contact name value) s = record s { registry = record s.registry { contacts = put s.registry.contacts name value } }
-edited (edit.Domain name value) s = record s { registry = record s.registry { domains = put s.registry.domains name value } }
-edited (edit.Host name value) s = record s { registry = record s.registry { hosts = put s.registry.hosts name value } }
+edited (edit.Account r value) s =
+    record s { registry = record s.registry { accounts = put s.registry.accounts r value } }
+edited (edit.Counters r x) s =
+    record s { registry = record s.registry { accounts = with_counted s.registry.accounts r x } }
+edited (edit.Line r line) s =
+    record s { registry = record s.registry { accounts = with_line s.registry.accounts r line } }
+edited (edit.Unline r line) s =
+    record s { registry = record s.registry { accounts = without_line s.registry.accounts r line } }
+edited (edit.Notice r m) s =
+    record s { registry = record s.registry { accounts = with_notice s.registry.accounts r m } }
+edited (edit.Unnotice r m) s =
+    record s { registry = record s.registry { accounts = without_notice s.registry.accounts r m } }
+edited (edit.Contact name value) s =
+    record s { registry = record s.registry { contacts = put s.registry.contacts name value } }
+edited (edit.Domain name value) s =
+    record s { registry = record s.registry { domains = put s.registry.domains name value } }
+edited (edit.Host name value) s =
+    record s { registry = record s.registry { hosts = put s.registry.hosts name value } }
 edited (edit.Terms value) s = record s { terms = value }
 
 -- what gives an account its counters back, or takes away one that wasn't there

@@ -27,7 +27,8 @@ abbrev pub state_of : RecordsState → Bool → ℕ → BookState
 state_of s refuses refused = stands s (refusals_of refuses refused)
 
 -- what can't refuse never did
-pub none_refused : (refuses : Bool) (refused : ℕ) → refuses ≡ false → refusals_of refuses refused ≡ 0
+pub none_refused : (refuses : Bool) (refused : ℕ) → refuses ≡ false
+    → refusals_of refuses refused ≡ 0
 none_refused refuses refused e = ap (λ (b : Bool). refusals_of b refused) e
 
 -- it went back, whatever was done in the transaction

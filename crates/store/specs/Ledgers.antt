@@ -52,14 +52,16 @@ next_serial x = record x { serial = saturating_next x.serial }
 
 -- the accounts, where a registrar's has these counters
 abbrev pub with_counted : FinMap nat_cmp Account → ℕ → Counters → FinMap nat_cmp Account
-with_counted accounts r x = insert accounts r (with_counters x (unwrap_or (get accounts r) empty_account))
+with_counted accounts r x =
+    insert accounts r (with_counters x (unwrap_or (get accounts r) empty_account))
 
 -- the accounts, where a registrar's is changed; what was never opened is opened
 abbrev pub with_changed : (Account → Account) → FinMap nat_cmp Account → ℕ → FinMap nat_cmp Account
 with_changed f accounts r = insert accounts r (f (unwrap_or (get accounts r) empty_account))
 
 -- the accounts, where a registrar's is changed if it is there
-abbrev pub changed_if_there : (Account → Account) → FinMap nat_cmp Account → ℕ → FinMap nat_cmp Account
+abbrev pub changed_if_there : (Account → Account) → FinMap nat_cmp Account → ℕ
+    → FinMap nat_cmp Account
 changed_if_there f accounts r = put accounts r (option_map f (get accounts r))
 
 -- with a line more, and with that line taken back from an account that is there

@@ -19,7 +19,9 @@ IsFoundAgain Other left s = ⊤
 
 -- what is found is one of what a crash might have left of the other
 abbrev pub IsReopened : BookState → BookState → Type 0
-IsReopened old new = (left : Remains Stored) × Has old.crash_leaves left × IsFoundAgain left.readiness left.content new
+IsReopened old new =
+    (left : Remains Stored) × Has old.crash_leaves left
+    × IsFoundAgain left.readiness left.content new
 
 -- nothing, or a registry that was opened
 abbrev pub IsBook : Ready → Stored → Type 0
@@ -29,7 +31,9 @@ IsBook Other held = ⊥
 
 -- a crash leaves what was found, and nothing else
 abbrev pub LeavesFound : BookState → Type 0
-LeavesFound s = (left : Remains Stored) → may_leave s left → (s.is_clean ≡ true) × (left ≡ record { readiness = s.readiness; content = s.content })
+LeavesFound s =
+    (left : Remains Stored) → may_leave s left
+    → (s.is_clean ≡ true) × (left ≡ record { readiness = s.readiness; content = s.content })
 
 -- a book that was taken up from what kept it
 pub record IsTakenUp (s : BookState) : Type 0 where

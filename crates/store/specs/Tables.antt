@@ -63,10 +63,12 @@ message_acked r id (Some oldest) s = if bytes_eq (message_id oldest) id then mes
 -- ---- objects: the name has this one, or none
 
 abbrev pub contact_put : List ℕ → Option Contact → Stored → Stored
-contact_put name value s = record s { registry = record s.registry { contacts = put s.registry.contacts name value } }
+contact_put name value s =
+    record s { registry = record s.registry { contacts = put s.registry.contacts name value } }
 
 abbrev pub host_put : List ℕ → Option Host → Stored → Stored
-host_put name value s = record s { registry = record s.registry { hosts = put s.registry.hosts name value } }
+host_put name value s =
+    record s { registry = record s.registry { hosts = put s.registry.hosts name value } }
 
 abbrev pub with_domains : FinMap (slice_cmp nat_cmp) Domain → Stored → Stored
 with_domains domains s = record s { registry = record s.registry { domains = domains } }
@@ -88,7 +90,8 @@ abbrev pub domains_naming : List ℕ → Registry → List (List ℕ)
 domains_naming host s = map (λ e. e.0) (filter (λ e. names_host host e.1.links) (entries s.domains))
 
 -- a value, where there is one, is another
-abbrev pub amended : {X : Type 0} → (X → X) → FinMap (slice_cmp nat_cmp) X → List ℕ → Option X → FinMap (slice_cmp nat_cmp) X
+abbrev pub amended : {X : Type 0} → (X → X) → FinMap (slice_cmp nat_cmp) X → List ℕ → Option X
+    → FinMap (slice_cmp nat_cmp) X
 amended f m name None = m
 amended f m name (Some x) = insert m name (f x)
 

@@ -2,13 +2,13 @@
 ghost use Rattle.std.specs.Prelude.{◌≡◌, Some, option_map, IfOk, OnOk};
 ghost use Rattle.std.specs.FinMap.{entries};
 ghost use Rattle.store.specs.Due as spec;
-ghost use Rattle.store.specs.Quiet.{IsQuiet, quiet_after, quiet_with_contact, until_contacts, until_domains};
+ghost use Rattle.store.specs.Quiet.{NoneBefore, quiet_after, sooner_with, until_contacts, until_domains};
 ghost use Rattle.store.specs.Plain.{registry_in};
 
 use crate::content::Content;
 use crate::due::Due;
 use crate::edit::Edit;
-use crate::quiet::Quiet;
+use crate::quiet::sooner;
 use basis::list::Seq;
 use basis::text::Text;
 use calendar::Moment;
@@ -31,11 +31,10 @@ impl Content {
     }
 
     /// Until when nothing is due. Each contact and each domain is looked at.
-    pub fn quiet_from(&self, policy: &Policy) -> Quiet
-        ensures { IsQuiet (Some result) (registry_in self.now) }
+    pub fn quiet_from(&self, policy: &Policy) -> Moment
+        ensures { NoneBefore policy.now result (registry_in self.now) }
     {
-        let until = self.domains_from(self.contacts_from(last_moment()), policy);
-        Quiet::new(policy, until)
+        self.domains_from(self.contacts_from(last_moment()), policy)
     }
 
     fn contacts_from(&self, until: Moment) -> Moment
@@ -88,24 +87,24 @@ fn last_moment() -> Moment {
 }
 
 /// Until when nothing is due after an edit, where that is known. When a domain is due hangs on the
-/// policy, so one that is put makes it unknown.
-pub(crate) fn quiet_after(quiet: Option<Quiet>, edit: &Edit) -> Option<Quiet>
+/// policy, so one that is put makes it unknown, and so do other terms.
+pub(crate) fn quiet_after(quiet: Option<Moment>, edit: &Edit) -> Option<Moment>
     ensures { result ≡ quiet_after quiet edit.now }
 {
     match edit {
         Edit::Contact(_, Some(contact)) => quiet_with(quiet, contact),
-        Edit::Domain(_, Some(_)) => None,
+        Edit::Domain(_, Some(_)) | Edit::Terms(_) => None,
         _ => quiet,
     }
 }
 
 /// The same where a contact is put.
-fn quiet_with(quiet: Option<Quiet>, contact: &Contact) -> Option<Quiet>
-    ensures { result ≡ option_map (quiet_with_contact contact.now) quiet }
+fn quiet_with(quiet: Option<Moment>, contact: &Contact) -> Option<Moment>
+    ensures { result ≡ option_map (sooner_with contact.now) quiet }
 {
     match quiet {
         None => None,
-        Some(quiet) => Some(quiet.with(contact_due_by(contact, quiet.until))),
+        Some(until) => Some(sooner(until, contact_due_by(contact, until))),
     }
 }
 

@@ -167,7 +167,7 @@ impl Records for Plain {
         if self.is_quiet(moment, policy) {
             return Ok(Seq::new(self.content.alloc));
         }
-        self.quiet = Some(self.content.quiet_from(policy));
+        self.learn_quiet(policy);
         Ok(self.content.due_by(moment, policy)?)
     }
 
@@ -183,7 +183,7 @@ impl Records for Plain {
         if self.is_quiet(moment, policy) {
             return Ok(Seq::new(self.content.alloc));
         }
-        self.quiet = Some(self.content.quiet_from(policy));
+        self.learn_quiet(policy);
         Ok(self.content.due_by(moment, policy)?)
     }
 

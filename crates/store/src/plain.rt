@@ -1,14 +1,14 @@
 //! A book in memory.
 ghost use Rattle.std.specs.Prelude.{◌≡◌};
-ghost use Rattle.store.specs.Contents.{registry_in};
+ghost use Rattle.store.specs.Contents.{content_of};
 ghost use Rattle.store.specs.Quiet.{IsQuiet};
 
 use crate::book::Book;
 use crate::content::Content;
 use crate::edit::Edit;
 use crate::kept::Kept;
-use crate::quiet::Quiet;
 use basis::list::Seq;
+use calendar::Moment;
 
 /// A book in memory.
 pub type PlainBook = Kept<Plain>;
@@ -30,7 +30,8 @@ pub struct Plain {
     pub(crate) is_open: bool,
     /// Whether a transaction was ever kept: there is a book from then on.
     pub(crate) is_used: bool,
-    /// Until when nothing is due, where that is known.
-    pub(crate) quiet: Option<Quiet>,
-    ghost quiet_is: { IsQuiet quiet (registry_in content) },
+    /// Until when nothing is due under the lengths of periods that the book was opened under, where
+    /// that is known.
+    pub(crate) quiet: Option<Moment>,
+    ghost quiet_is: { IsQuiet quiet (content_of content) },
 }

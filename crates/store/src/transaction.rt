@@ -15,7 +15,7 @@ use crate::kept::Kept;
 use crate::lapsing::quiet_after;
 use crate::ledgers::Ledgers;
 use crate::plain::Plain;
-use crate::quiet::Quiet;
+use crate::quiet::{covers, has_days_of, sooner};
 use basis::list::Seq;
 use basis::maps::NameMap;
 use basis::text::Text;
@@ -146,9 +146,9 @@ impl Plain {
     }
 
     /// Makes an edit in the open transaction, after which it is known until when nothing is due.
-    fn set_until(&mut self, edit: Edit, quiet: Option<Quiet>) -> Result<(), BookFault>
+    fn set_until(&mut self, edit: Edit, quiet: Option<Moment>) -> Result<(), BookFault>
         requires open { self.old.is_open ≡ true }
-        requires quiet { IsQuiet quiet (edited edit (content_of self.old.content)).registry }
+        requires quiet { IsQuiet quiet (edited edit (content_of self.old.content)) }
         ensures { Makes result (edited edit (plain_records self.old).content) (plain_records self.old) (plain_records self.new) }
     {
         self.make(edit)?;
@@ -180,23 +180,35 @@ impl Plain {
     }
 
     /// Until when nothing is due once a domain is put, where that is known.
-    fn quiet_put(&self, domain: &Domain, policy: &Policy) -> Option<Quiet>
-        ensures { (name : List ℕ) → IsQuiet result (domain_put name (Some domain.now) (content_of self.now.content)).registry }
+    fn quiet_put(&self, domain: &Domain, policy: &Policy) -> Option<Moment>
+        ensures { (name : List ℕ) → IsQuiet result (domain_put name (Some domain.now) (content_of self.now.content)) }
     {
-        let quiet = self.quiet?;
-        if !quiet.fits(policy) {
+        let until = self.quiet?;
+        if !has_days_of(&self.content.terms, policy) {
             return None;
         }
-        Some(quiet.with(due_by(domain, quiet.until, policy)))
+        Some(sooner(until, due_by(domain, until, policy)))
+    }
+
+    /// Learns until when nothing is due under a policy, where that is one that the book was opened under.
+    pub(crate) fn learn_quiet(&mut self, policy: &Policy)
+        ensures same { plain_records self.new ≡ plain_records self.old }
+        ensures content { content_of self.new.content ≡ content_of self.old.content }
+    {
+        if !has_days_of(&self.content.terms, policy) {
+            return;
+        }
+        let until = self.content.quiet_from(policy);
+        self.quiet = Some(until);
     }
 
     /// Whether nothing is known to be due by a moment.
     pub(crate) fn is_quiet(&self, moment: Moment, policy: &Policy) -> bool
         ensures { result ≡ true → due_by policy.now moment (registry_in self.now.content) ≡ [] }
     {
-        match &self.quiet {
+        match self.quiet {
             None => false,
-            Some(quiet) => quiet.covers(moment, policy),
+            Some(until) => covers(until, &self.content.terms, moment, policy),
         }
     }
 }

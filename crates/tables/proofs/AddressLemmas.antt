@@ -7,16 +7,18 @@ use Rattle.sqlite_sql.specs.declared.ops.BinaryOp.TheVariants.{Compare}
 use Rattle.sqlite_sql.specs.Term.{Term, lit, col, op2}
 use Rattle.sqlite_schema.specs.declared.schema.Table.{Table}
 use Rattle.sqlite_typed.proofs.TestLemmas.{at_ints, last_term}
+use Rattle.sqlite_keyed.specs.Keyed.{insert_by}
 use Rattle.sqlite_keyed.specs.Lists.{delete_where}
 use Rattle.sqlite.specs.Listing.{understood}
 use Rattle.sqlite_tied.specs.Compute.{everything}
-use Rattle.rows.specs.Layouts.{writes_tables, Listed, Numbers, IsSelect, IsAppend, IsDelete, select_query, appended}
+use Rattle.rows.specs.Layouts.{writes_tables, Listed, Gives, Numbers, IsSelect, IsPut, IsAppend, IsDelete, select_query, appended}
+use Rattle.rows.proofs.PutLemmas.{puts}
 use Rattle.rows.proofs.SelectLemmas.{selects}
 use Rattle.rows.proofs.WriteLemmas.{deletes}
 use Rattle.rows.proofs.AppendLemmas.{appends}
 use Rattle.rows.proofs.CastLemmas.{cast_int, cast_null, cast_text, cast_maybe_int, cast_maybe_text}
 use Rattle.rows.proofs.QuietLemmas.{quiet_if_idle}
-use Rattle.tables.specs.Tables.{address, registry, address_by_host, address_append, address_remove_host}
+use Rattle.tables.specs.Tables.{address, registry, address_by_host, address_put, address_append, address_remove_host}
 use Rattle.tables.specs.Address.{Address, address_shown, addresses, address_with_host}
 use Rattle.tables.specs.Content.{addresses_to}
 use Rattle.tables.specs.Statements.{Alters, Asks}
@@ -38,6 +40,22 @@ by_host_asks v = asks_addresses address_shown address_by_host (Int v ∷ []) _ (
 
 listed : Listed addresses registry 5 table
 listed = record { is = refl; tree = refl; quiet = quiet_if_idle registry refl; uncounted = refl; unstamped = refl; casts = λ x. simp (cast_int, cast_null, cast_text, cast_maybe_int, cast_maybe_text) }
+
+abbrev values : List Term
+values = col 0 0 ∷ lit Null ∷ col 0 1 ∷ col 0 2 ∷ []
+
+abbrev sets : List Term
+sets = col 1 0 ∷ lit Null ∷ col 0 6 ∷ col 0 7 ∷ []
+
+pub put_is : IsPut registry address_put 5 9 3 values sets
+unfolding understood everything
+put_is = record { command = refl; plain = (refl, refl) }
+
+gives : Gives addresses registry table 3 values sets address_shown
+gives = record { values = λ x. refl; place = λ x v. refl; updates = λ x v r. refl; unshared = λ new r. refl; headed = λ x. refl }
+
+pub put_alters : (x : Address) → Alters address_put (address_shown x) (addresses_to (λ xs. insert_by addresses.key xs x))
+put_alters x = alters_addresses address_put (address_shown x) (λ xs. insert_by addresses.key xs x) put_is.plain (ap writes_tables put_is.command) (puts addresses registry 5 table listed 3 values sets address_shown gives address_put x put_is)
 
 abbrev unnumbered : List Term
 unnumbered = lit Null ∷ lit Null ∷ col 0 0 ∷ col 0 1 ∷ []

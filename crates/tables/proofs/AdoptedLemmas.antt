@@ -15,7 +15,7 @@ use Rattle.tables.specs.declared.form.Form.TheVariants.{Unused, Making, Made, Ot
 use Rattle.transactions.specs.declared.readiness.Ready.{Ready}
 use Rattle.transactions.specs.declared.readiness.Ready.TheVariants.{Used}
 use Rattle.transactions.specs.declared.readiness.Ready.TheVariants as readiness
-use Rattle.tables.specs.Adoption.{IsAdopted, IsFound, IsSameRegistry, IsSeenBy, IsShapedAs, IsShown, LeavesSameRegistry}
+use Rattle.tables.specs.Adoption.{IsFound, IsSeenBy, IsShapedAs, IsShown, LeavesSameRegistry}
 use Rattle.tables.specs.Decoding.{contents}
 use Rattle.tables.specs.Readiness.{IsFormOf, IsKnownAs, is_numbered}
 use Rattle.transactions.specs.States.{Has, LeavesSame, Remains, StateOf}
@@ -96,28 +96,17 @@ shown s form trees found is same = record {
   leaves = λ e. refl;
 }
 
--- a database with the tables of a registry whose number is another
+-- what has other tables is something else's
+pub found-other : (s : State) (form : Form) → IsFound s → IsFormOf s.now.schema form → form ≡ Other → HasCleanDisk s → IsKnownAs readiness.Other s.now.trees
+found-other s form found is other clean = (left_as Other s.now (subst (IsFormOf s.now.schema) other is) (found clean).1).0
+
+-- a database with the tables of a registry
 module _ (trees : Trees) (was : StateOf Content) (shown-as : IsShown trees was) (used : was.readiness ≡ Used) where
   sound-tables : was.is_clean ≡ true → IsSound registry trees
   sound-tables clean = subst (λ (r : Ready). IsShapedAs r trees) used (shown-as.known clean)
 
   rows-seen : was.is_clean ≡ true → was.content ≡ contents trees
   rows-seen clean = subst (λ (r : Ready). IsSeenBy r trees was.content) used (shown-as.content clean)
-
-  pub adopted-other : (s : State) (begun : Bool) (leaves : List (Remains Content)) → begun ≡ false → ((s.is_clean && s.is_open) ≡ true → (was.is_clean ≡ true) × (is_numbered was.content.metas ≡ false))
-      → (s.is_clean ≡ true → (s.is_clean && s.is_open) ≡ true) → leaves ≡ left_in Other s ∷ [] → IsAdopted trees (stands Other begun s leaves)
-  adopted-other s begun leaves idle was-clean answers alone = record {
-    idle = idle;
-    before = ap (λ (b : Bool). (stands Other b s leaves).before) idle;
-    content = λ e. refl;
-    known = λ e.
-        let it = was-clean e in (
-          (λ other. some-tables (schema_once trees registry no_schema (sound-tables it.0) other)),
-          λ same. ap (λ (xs : Content). is_numbered xs.metas) (sym (rows-seen it.0)) ∙ it.1,
-        );
-    answers = answers;
-    leaves = λ e. alone;
-  }
 
   -- after a fault that registry may be left, and nothing else
   pub left_registry : (now : StateOf Content) → LeavesSame was now → now.is_honest ≡ true → (may_leave : Trees → Type 0) → Covers now.crash_leaves may_leave → LeavesSameRegistry trees may_leave
@@ -131,9 +120,9 @@ module _ (trees : Trees) (was : StateOf Content) (shown-as : IsShown trees was) 
       let registered : IsLeftAs Used db was.content = subst (λ (r : Ready). IsLeftAs r db was.content) used left in
       record { had = sound-tables clean; has = registered.0; rows = sym registered.1 ∙ rows-seen clean }
 
-  -- where the number is another, so is whatever may be left of it
-  pub left_other : was.is_clean ≡ true → is_numbered was.content.metas ≡ false → (db : Trees) → IsSameRegistry trees db → IsKnownAs readiness.Other db
-  left_other clean numbered db same = (
-    (λ none. some-tables (schema_once db registry no_schema same.has none)),
-    λ ours. ap (λ (xs : Content). is_numbered xs.metas) (same.rows ∙ sym (rows-seen clean)) ∙ numbered,
+  -- where the number is another, it is no registry of this program
+  pub known-other : was.is_clean ≡ true → is_numbered was.content.metas ≡ false → IsKnownAs readiness.Other trees
+  known-other clean numbered = (
+    (λ none. some-tables (schema_once trees registry no_schema (sound-tables clean) none)),
+    λ ours. ap (λ (xs : Content). is_numbered xs.metas) (sym (rows-seen clean)) ∙ numbered,
   )

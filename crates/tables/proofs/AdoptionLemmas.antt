@@ -1,5 +1,5 @@
 -- A database that is read anew lies in order.
-use Rattle.std.proofs.Common.{◌≡◌, ◌⊎◌, Bool, true, false, List, [], ◌∷◌, IsTrue, inl, inr, refl, sym, ap, subst, ◌∙◌, true≢false}
+use Rattle.std.proofs.Common.{◌≡◌, ◌⊎◌, ℕ, Bool, true, false, List, [], ◌∷◌, IsTrue, inl, inr, refl, sym, ap, subst, ◌∙◌, true≢false}
 use Rattle.std.specs.List.{AllByRecursion}
 use Rattle.sqlite_rules.specs.Lists.{Has}
 use Rattle.sqlite_trees.specs.declared.store.Shape.{Shape}
@@ -10,7 +10,7 @@ use Rattle.sqlite_trees.specs.View.{View, Commits, IsClean, IsOrdered, IsRolledB
 use Rattle.sqlite_schema.specs.declared.schema.Schema.{Schema}
 use Rattle.sqlite_schema.specs.declared.schema.Table.{Table}
 use Rattle.sqlite_catalog.specs.Listing.{IsSound}
-use Rattle.sqlite_catalog.proofs.LayoutLemmas.{objects_rise, table_shape}
+use Rattle.sqlite_catalog.proofs.LayoutLemmas.{table_shape}
 use Rattle.sqlite.specs.Steps.{IsFresh}
 
 -- what is true of each that is there is true of all
@@ -18,12 +18,13 @@ each_there : {X : Type 0} (P : X → Type 0) (xs : List X) → ((x : X) → Has 
 each_there P [] f = tt
 each_there P (x ∷ xs) f = (f x (inl refl), each_there P xs (λ y h. f y (inr h)))
 
--- each table of a sound schema lies in order in a store that is whole
-pub lies_in_order : (v : View) (schema : Schema) → IsListed (v.trees catalog_tree) v.shape v.reals → IsOrdered v.shape v.trees → IsSound schema v.trees
-    → AllByRecursion (λ (t : Table). IsShaped shape.Table (v.trees t.tree)) schema.tables
-lies_in_order v schema listed ordered sound =
-    each_there (λ (t : Table). IsShaped shape.Table (v.trees t.tree)) schema.tables
-    (λ t h. subst (λ (s : Shape). IsShaped s (v.trees t.tree)) (table_shape listed (objects_rise v listed ordered).0 sound.lists.listed t h).0 (ordered t.tree))
+-- each table of a sound schema lies in order where each tree lies as its row of sqlite_schema says
+pub lies_in_order : (trees : Trees) (shapes : ℕ → Shape) (reals : ℕ → ℕ) (schema : Schema) → IsListed (trees catalog_tree) shapes reals → IsOrdered shapes trees → IsSound schema trees
+    → AllByRecursion (λ (t : Table). IsShaped shape.Table (trees t.tree)) schema.tables
+lies_in_order trees shapes reals schema listed ordered sound =
+    let objects : IsShaped shape.Table (trees catalog_tree) = subst (λ (s : Shape). IsShaped s (trees catalog_tree)) listed.itself.0 (ordered catalog_tree) in
+    each_there (λ (t : Table). IsShaped shape.Table (trees t.tree)) schema.tables
+    (λ t h. subst (λ (s : Shape). IsShaped s (trees t.tree)) (table_shape listed objects.0 sound.lists.listed t h).0 (ordered t.tree))
 
 -- a store whose commit passed is fresh
 pub fresh_if_committed : (old new : View) → (IsClean old → IsTrue old.is_numbered) → Commits old new → IsClean new → IsFresh new

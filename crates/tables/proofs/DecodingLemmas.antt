@@ -17,7 +17,8 @@ use Rattle.tables.specs.Link.{Link, link_row, links}
 use Rattle.tables.specs.Line.{Line, line_row, lines}
 use Rattle.tables.specs.Message.{Message, message_row, messages}
 use Rattle.tables.specs.Transfer.{Transfer, transfer_row, transfers}
-use Rattle.tables.specs.Decoding.{contents, meta_in, account_in, contact_in, domain_in, host_in, address_in, link_in, line_in, message_in, transfer_in}
+use Rattle.tables.specs.Day.{Day, day_row, days}
+use Rattle.tables.specs.Decoding.{contents, meta_in, account_in, contact_in, domain_in, host_in, address_in, link_in, line_in, message_in, transfer_in, day_in}
 
 back-number : (o : Option ℤ) → unless_null int_of (or_null Int o) ≡ o
 back-number None = refl
@@ -49,13 +50,16 @@ link-back : (x : Link) → link_in (link_row x) ≡ x
 link-back x = rw (back-number x.contact, back-number x.host)
 
 line-back : (x : Line) → line_in (line_row x) ≡ x
-line-back x = rw (back-number x.creator, back-number x.serial, back-number x.started, back-number x.refunded)
+line-back x = rw (back-number x.creator, back-number x.serial, back-number x.grace.started, back-number x.grace.ends, back-number x.refunded)
 
 message-back : (x : Message) → message_in (message_row x) ≡ x
 message-back x = refl
 
 transfer-back : (x : Transfer) → transfer_in (transfer_row x) ≡ x
 transfer-back x = rw (back-number x.contact, back-number x.domain, back-number x.due)
+
+day-back : (x : Day) → day_in (day_row x) ≡ x
+day-back x = refl
 
 read-back : {X : Type 0} (L : Layout X) (read : Row → X) → ((x : X) → read (L.to_row x) ≡ x) → (xs : List X) → map read (map L.to_row xs) ≡ xs
 read-back L read back [] = refl
@@ -78,4 +82,5 @@ decoded xs db h =
     let e7 = table-back lines line_in line-back d xs.lines h.lines in
     let e8 = table-back messages message_in message-back d xs.messages h.messages in
     let e9 = table-back transfers transfer_in transfer-back d xs.transfers h.transfers in
-    rw (e0, e1, e2, e3, e4, e5, e6, e7, e8, e9)
+    let e10 = table-back days day_in day-back d xs.days h.days in
+    rw (e0, e1, e2, e3, e4, e5, e6, e7, e8, e9, e10)

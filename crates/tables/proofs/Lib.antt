@@ -16,12 +16,15 @@ pub mod LinkLemmas
 pub mod LineLemmas
 pub mod MessageLemmas
 pub mod TransferLemmas
+pub mod DayLemmas
 pub mod SchemaLemmas
+pub mod FirstSchemaLemmas
 pub mod BalanceLemmas
 pub mod RowLemmas
 pub mod WholeLemmas
 pub mod AdoptionLemmas
 pub mod SoundLemmas
 pub mod AdoptedLemmas
+pub mod FoundLemmas
 pub mod FollowingLemmas
 pub mod ReopeningLemmas

@@ -8,16 +8,18 @@ use Rattle.sqlite_sql.specs.declared.ops.BinaryOp.TheVariants.{Compare}
 use Rattle.sqlite_sql.specs.Term.{Term, lit, col, op2}
 use Rattle.sqlite_schema.specs.declared.schema.Table.{Table}
 use Rattle.sqlite_typed.proofs.TestLemmas.{at_ints, at_points_to, then_term, last_term}
+use Rattle.sqlite_keyed.specs.Keyed.{insert_by}
 use Rattle.sqlite_keyed.specs.Lists.{delete_where}
 use Rattle.sqlite.specs.Listing.{understood}
 use Rattle.sqlite_tied.specs.Compute.{everything}
-use Rattle.rows.specs.Layouts.{writes_tables, Listed, Numbers, IsSelect, IsAppend, IsDelete, select_query, limited_query, appended}
+use Rattle.rows.specs.Layouts.{writes_tables, Listed, Gives, Numbers, IsSelect, IsPut, IsAppend, IsDelete, select_query, limited_query, appended}
+use Rattle.rows.proofs.PutLemmas.{puts}
 use Rattle.rows.proofs.SelectLemmas.{selects, limits}
 use Rattle.rows.proofs.WriteLemmas.{deletes}
 use Rattle.rows.proofs.AppendLemmas.{appends}
 use Rattle.rows.proofs.CastLemmas.{cast_int, cast_null, cast_text, cast_maybe_int, cast_maybe_text}
 use Rattle.rows.proofs.QuietLemmas.{quiet_if_idle}
-use Rattle.tables.specs.Tables.{link, registry, link_by_domain, link_by_host, link_first_by_contact, link_first_by_host, link_by_contact_until_due, link_by_host_until_due, link_append, link_remove_domain}
+use Rattle.tables.specs.Tables.{link, registry, link_by_domain, link_by_host, link_first_by_contact, link_first_by_host, link_by_contact_until_due, link_by_host_until_due, link_put, link_append, link_remove_domain}
 use Rattle.tables.specs.Link.{Link, link_shown, links, link_with_domain, link_with_contact, link_with_host, link_of_contact_within, link_of_host_within}
 use Rattle.tables.specs.Content.{links_to}
 use Rattle.tables.specs.Statements.{Alters, Asks}
@@ -85,6 +87,22 @@ by_host_until_due_asks host due = asks_links link_shown link_by_host_until_due (
 
 listed : Listed links registry 6 table
 listed = record { is = refl; tree = refl; quiet = quiet_if_idle registry refl; uncounted = refl; unstamped = refl; casts = λ x. simp (cast_int, cast_null, cast_text, cast_maybe_int, cast_maybe_text) }
+
+abbrev values : List Term
+values = col 0 0 ∷ lit Null ∷ col 0 1 ∷ col 0 2 ∷ col 0 3 ∷ col 0 4 ∷ col 0 5 ∷ []
+
+abbrev sets : List Term
+sets = col 1 0 ∷ lit Null ∷ col 0 9 ∷ col 0 10 ∷ col 0 11 ∷ col 0 12 ∷ col 0 13 ∷ []
+
+pub put_is : IsPut registry link_put 6 10 6 values sets
+unfolding understood everything
+put_is = record { command = refl; plain = (refl, refl) }
+
+gives : Gives links registry table 6 values sets link_shown
+gives = record { values = λ x. refl; place = λ x v. refl; updates = λ x v r. refl; unshared = λ new r. refl; headed = λ x. refl }
+
+pub put_alters : (x : Link) → Alters link_put (link_shown x) (links_to (λ xs. insert_by links.key xs x))
+put_alters x = alters_links link_put (link_shown x) (λ xs. insert_by links.key xs x) put_is.plain (ap writes_tables put_is.command) (puts links registry 6 table listed 6 values sets link_shown gives link_put x put_is)
 
 abbrev unnumbered : List Term
 unnumbered = lit Null ∷ lit Null ∷ col 0 0 ∷ col 0 1 ∷ col 0 2 ∷ col 0 3 ∷ col 0 4 ∷ []

@@ -11,16 +11,18 @@ use Rattle.sqlite_sql.specs.declared.ops.BinaryOp.TheVariants.{Compare}
 use Rattle.sqlite_sql.specs.Term.{Term, lit, col, op2}
 use Rattle.sqlite_schema.specs.declared.schema.Table.{Table}
 use Rattle.sqlite_typed.proofs.TestLemmas.{at_ints, at_texts, then_term, last_term, then_key, last_key}
+use Rattle.sqlite_keyed.specs.Keyed.{insert_by}
 use Rattle.sqlite_keyed.specs.Lists.{delete_where}
 use Rattle.sqlite.specs.Listing.{understood}
 use Rattle.sqlite_tied.specs.Compute.{everything}
-use Rattle.rows.specs.Layouts.{writes_tables, Listed, Numbers, IsSelect, IsAppend, IsDelete, select_query, sorted_query, by_then_key, appended}
+use Rattle.rows.specs.Layouts.{writes_tables, Listed, Gives, Numbers, IsSelect, IsPut, IsAppend, IsDelete, select_query, sorted_query, by_then_key, appended}
+use Rattle.rows.proofs.PutLemmas.{puts}
 use Rattle.rows.proofs.SelectLemmas.{selects, sorts}
 use Rattle.rows.proofs.WriteLemmas.{deletes}
 use Rattle.rows.proofs.AppendLemmas.{appends}
 use Rattle.rows.proofs.CastLemmas.{cast_int, cast_null, cast_text, cast_maybe_int, cast_maybe_text}
 use Rattle.rows.proofs.QuietLemmas.{quiet_if_idle}
-use Rattle.tables.specs.Tables.{message, registry, message_first_by_account, message_same, message_append, message_remove_id}
+use Rattle.tables.specs.Tables.{message, registry, message_first_by_account, message_same, message_put, message_append, message_remove_id}
 use Rattle.tables.specs.Message.{Message, message_shown, messages, message_with_account, message_with_id, is_same_message, message_order, queue_of}
 use Rattle.tables.specs.Content.{messages_to}
 use Rattle.tables.specs.Statements.{Alters, Asks}
@@ -64,6 +66,22 @@ same_asks m = asks_messages message_shown message_same (drop 1 (message_shown m)
 
 listed : Listed messages registry 8 table
 listed = record { is = refl; tree = refl; quiet = quiet_if_idle registry refl; uncounted = refl; unstamped = refl; casts = λ x. simp (cast_int, cast_null, cast_text, cast_maybe_int, cast_maybe_text) }
+
+abbrev values : List Term
+values = col 0 0 ∷ lit Null ∷ col 0 1 ∷ col 0 2 ∷ col 0 3 ∷ col 0 4 ∷ col 0 5 ∷ col 0 6 ∷ col 0 7 ∷ []
+
+abbrev sets : List Term
+sets = col 1 0 ∷ lit Null ∷ col 0 11 ∷ col 0 12 ∷ col 0 13 ∷ col 0 14 ∷ col 0 15 ∷ col 0 16 ∷ col 0 17 ∷ []
+
+pub put_is : IsPut registry message_put 8 12 8 values sets
+unfolding understood everything
+put_is = record { command = refl; plain = (refl, refl) }
+
+gives : Gives messages registry table 8 values sets message_shown
+gives = record { values = λ x. refl; place = λ x v. refl; updates = λ x v r. refl; unshared = λ new r. refl; headed = λ x. refl }
+
+pub put_alters : (x : Message) → Alters message_put (message_shown x) (messages_to (λ xs. insert_by messages.key xs x))
+put_alters x = alters_messages message_put (message_shown x) (λ xs. insert_by messages.key xs x) put_is.plain (ap writes_tables put_is.command) (puts messages registry 8 table listed 8 values sets message_shown gives message_put x put_is)
 
 abbrev unnumbered : List Term
 unnumbered = lit Null ∷ lit Null ∷ col 0 0 ∷ col 0 1 ∷ col 0 2 ∷ col 0 3 ∷ col 0 4 ∷ col 0 5 ∷ col 0 6 ∷ []

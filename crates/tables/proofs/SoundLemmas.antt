@@ -27,7 +27,7 @@ use Rattle.sqlite_typed.specs.Columns.{bytes_of, int_of, or_null, unless_null}
 use Rattle.sqlite.specs.Effect.{Database, IsDatabase}
 use Rattle.rows.specs.Columns.{id_column}
 use Rattle.rows.specs.Layouts.{Layout, Holds}
-use Rattle.tables.specs.Tables.{registry, meta, account, contact, domain, host, address, link, line, message, transfer}
+use Rattle.tables.specs.Tables.{registry, meta, account, contact, domain, host, address, link, line, message, transfer, days}
 use Rattle.tables.specs.Meta.{metas}
 use Rattle.tables.specs.Account.{accounts}
 use Rattle.tables.specs.Contact.{contacts}
@@ -38,8 +38,9 @@ use Rattle.tables.specs.Link.{links}
 use Rattle.tables.specs.Line.{lines}
 use Rattle.tables.specs.Message.{messages}
 use Rattle.tables.specs.Transfer.{transfers}
+use Rattle.tables.specs.Day as day_table
 use Rattle.tables.specs.Content.{IsContent}
-use Rattle.tables.specs.Decoding.{contents, meta_in, account_in, contact_in, domain_in, host_in, address_in, link_in, line_in, message_in, transfer_in}
+use Rattle.tables.specs.Decoding.{contents, meta_in, account_in, contact_in, domain_in, host_in, address_in, link_in, line_in, message_in, transfer_in, day_in}
 use Rattle.tables.specs.Adoption.{IsInOrder}
 
 -- ---- a value
@@ -218,16 +219,16 @@ module _ {X : Type 0} (L : Layout X) (read : Row → X) where
   )
 
   -- the rows of a sound table whose last column is NOT NULL
-  holds : (cs : List Column) (db : Trees) → ((r : Row) → L.to_row (read r) ≡ (Int (int_of (column r 0)) ∷ Null ∷ restored_all cs 1 r)) → list_all (λ (c : Column). c.is_strict) cs ≡ true → ends_filled false cs ≡ true
+  pub holds : (cs : List Column) (db : Trees) → ((r : Row) → L.to_row (read r) ≡ (Int (int_of (column r 0)) ∷ Null ∷ restored_all cs 1 r)) → list_all (λ (c : Column). c.is_strict) cs ≡ true → ends_filled false cs ≡ true
       → AllByRecursion (IsTyped cs) (db L.tree) → AllByRecursion (IsPresent cs) (db L.tree) → IsShaped shape.Table (db L.tree) → Holds L db (map read (db L.tree))
   holds cs db restores strict ends typed present shaped =
       let both = all_both (IsTyped cs) (IsPresent cs) (λ r. IsTyped cs r × IsPresent cs r) (λ r t p. (t, p)) (db L.tree) typed present in
       let each = all_both (λ r. IsTrue (is_int (rowid r))) (λ r. IsTyped cs r × IsPresent cs r) IsBack (λ r key it. restores r ∙ same_row cs r strict ends key it.0 it.1) (db L.tree) shaped.1 both in
       record { rows = all_back (db L.tree) each; keyed = keys_rise (db L.tree) shaped.0 each }
 
--- ---- the ten tables
+-- ---- the eleven tables
 
-abbrev after_key : Table → List Column
+abbrev pub after_key : Table → List Column
 after_key table = drop 1 table.columns
 
 pub content_of_sound : (db : Database) → IsDatabase db → db.schema ≡ registry → IsInOrder db → IsContent (contents db.trees) db
@@ -249,4 +250,5 @@ content_of_sound db sound is in_order =
       lines = holds lines line_in (after_key line) d (λ r. refl) refl refl t.1.1.1.1.1.1.1.0 p.1.1.1.1.1.1.1.0 o.1.1.1.1.1.1.1.0;
       messages = holds messages message_in (after_key message) d (λ r. refl) refl refl t.1.1.1.1.1.1.1.1.0 p.1.1.1.1.1.1.1.1.0 o.1.1.1.1.1.1.1.1.0;
       transfers = holds transfers transfer_in (after_key transfer) d (λ r. refl) refl refl t.1.1.1.1.1.1.1.1.1.0 p.1.1.1.1.1.1.1.1.1.0 o.1.1.1.1.1.1.1.1.1.0;
+      days = holds day_table.days day_in (after_key days) d (λ r. refl) refl refl t.1.1.1.1.1.1.1.1.1.1.0 p.1.1.1.1.1.1.1.1.1.1.0 o.1.1.1.1.1.1.1.1.1.1.0;
     }

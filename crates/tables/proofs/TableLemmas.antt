@@ -1,4 +1,4 @@
--- Statements on one of the ten tables, as statements on all of them.
+-- Statements on one of the eleven tables, as statements on all of them.
 use Rattle.std.proofs.Common.{◌≡◌, ◌≢◌, true, ℕ, List, [], ◌∷◌, map, Option, ◌∙◌, ap, ap₂, subst, sym}
 use Rattle.std.specs.List.{AllByRecursion}
 use Rattle.sqlite_value.specs.declared.value.Value.{Value}
@@ -12,7 +12,7 @@ use Rattle.sqlite.specs.Effect.{Database}
 use Rattle.sqlite.specs.Given.{IsPlain}
 use Rattle.sqlite.specs.Listing.{understood}
 use Rattle.rows.specs.Layouts.{command_of, writes_tables, Layout, Holds, IsSelect, Leads, Sets}
-use Rattle.tables.specs.Content.{Content, metas_to, accounts_to, contacts_to, domains_to, hosts_to, addresses_to, links_to, lines_to, messages_to, transfers_to}
+use Rattle.tables.specs.Content.{Content, metas_to, accounts_to, contacts_to, domains_to, hosts_to, addresses_to, links_to, lines_to, messages_to, transfers_to, days_to}
 use Rattle.tables.specs.Statements.{Alters, Asks}
 use Rattle.tables.specs.Tables.{registry}
 use Rattle.tables.specs.Meta.{Meta, metas}
@@ -25,6 +25,7 @@ use Rattle.tables.specs.Link.{Link, links}
 use Rattle.tables.specs.Line.{Line, lines}
 use Rattle.tables.specs.Message.{Message, messages}
 use Rattle.tables.specs.Transfer.{Transfer, transfers}
+use Rattle.tables.specs.Day.{Day, days}
 
 kept : {X : Type 0} (L : Layout X) (db next : Trees) (xs : List X) → next L.tree ≡ db L.tree → Holds L db xs → Holds L next xs
 kept L db next xs same h = record { rows = same ∙ h.rows; keyed = h.keyed }
@@ -44,6 +45,7 @@ record Untouched (tree : ℕ) (old new : Trees) : Type 0 where
   pub lines : lines.tree ≢ tree → new lines.tree ≡ old lines.tree
   pub messages : messages.tree ≢ tree → new messages.tree ≡ old messages.tree
   pub transfers : transfers.tree ≢ tree → new transfers.tree ≡ old transfers.tree
+  pub days : days.tree ≢ tree → new days.tree ≡ old days.tree
 
 untouched_of : (tree : ℕ) (old new : Trees) → AllByRecursion (λ t. t.tree ≢ tree → new t.tree ≡ old t.tree) registry.tables → Untouched tree old new
 untouched_of tree old new all = record {
@@ -57,6 +59,7 @@ untouched_of tree old new all = record {
   lines = all.1.1.1.1.1.1.1.0;
   messages = all.1.1.1.1.1.1.1.1.0;
   transfers = all.1.1.1.1.1.1.1.1.1.0;
+  days = all.1.1.1.1.1.1.1.1.1.1.0;
 }
 
 -- a query of one table
@@ -89,6 +92,7 @@ alters_metas sql params f plain writes changes = record {
         lines = kept lines db after.trees xs.lines (untouched.lines (λ same. cc)) h.lines;
         messages = kept messages db after.trees xs.messages (untouched.messages (λ same. cc)) h.messages;
         transfers = kept transfers db after.trees xs.transfers (untouched.transfers (λ same. cc)) h.transfers;
+        days = kept days db after.trees xs.days (untouched.days (λ same. cc)) h.days;
       };
 }
 
@@ -114,6 +118,7 @@ alters_accounts sql params f plain writes changes = record {
         lines = kept lines db after.trees xs.lines (untouched.lines (λ same. cc)) h.lines;
         messages = kept messages db after.trees xs.messages (untouched.messages (λ same. cc)) h.messages;
         transfers = kept transfers db after.trees xs.transfers (untouched.transfers (λ same. cc)) h.transfers;
+        days = kept days db after.trees xs.days (untouched.days (λ same. cc)) h.days;
       };
 }
 
@@ -139,6 +144,7 @@ alters_contacts sql params f plain writes changes = record {
         lines = kept lines db after.trees xs.lines (untouched.lines (λ same. cc)) h.lines;
         messages = kept messages db after.trees xs.messages (untouched.messages (λ same. cc)) h.messages;
         transfers = kept transfers db after.trees xs.transfers (untouched.transfers (λ same. cc)) h.transfers;
+        days = kept days db after.trees xs.days (untouched.days (λ same. cc)) h.days;
       };
 }
 
@@ -164,6 +170,7 @@ alters_domains sql params f plain writes changes = record {
         lines = kept lines db after.trees xs.lines (untouched.lines (λ same. cc)) h.lines;
         messages = kept messages db after.trees xs.messages (untouched.messages (λ same. cc)) h.messages;
         transfers = kept transfers db after.trees xs.transfers (untouched.transfers (λ same. cc)) h.transfers;
+        days = kept days db after.trees xs.days (untouched.days (λ same. cc)) h.days;
       };
 }
 
@@ -189,6 +196,7 @@ alters_hosts sql params f plain writes changes = record {
         lines = kept lines db after.trees xs.lines (untouched.lines (λ same. cc)) h.lines;
         messages = kept messages db after.trees xs.messages (untouched.messages (λ same. cc)) h.messages;
         transfers = kept transfers db after.trees xs.transfers (untouched.transfers (λ same. cc)) h.transfers;
+        days = kept days db after.trees xs.days (untouched.days (λ same. cc)) h.days;
       };
 }
 
@@ -214,6 +222,7 @@ alters_addresses sql params f plain writes changes = record {
         lines = kept lines db after.trees xs.lines (untouched.lines (λ same. cc)) h.lines;
         messages = kept messages db after.trees xs.messages (untouched.messages (λ same. cc)) h.messages;
         transfers = kept transfers db after.trees xs.transfers (untouched.transfers (λ same. cc)) h.transfers;
+        days = kept days db after.trees xs.days (untouched.days (λ same. cc)) h.days;
       };
 }
 
@@ -239,6 +248,7 @@ alters_links sql params f plain writes changes = record {
         lines = kept lines db after.trees xs.lines (untouched.lines (λ same. cc)) h.lines;
         messages = kept messages db after.trees xs.messages (untouched.messages (λ same. cc)) h.messages;
         transfers = kept transfers db after.trees xs.transfers (untouched.transfers (λ same. cc)) h.transfers;
+        days = kept days db after.trees xs.days (untouched.days (λ same. cc)) h.days;
       };
 }
 
@@ -264,6 +274,7 @@ alters_lines sql params f plain writes changes = record {
         lines = it.holds;
         messages = kept messages db after.trees xs.messages (untouched.messages (λ same. cc)) h.messages;
         transfers = kept transfers db after.trees xs.transfers (untouched.transfers (λ same. cc)) h.transfers;
+        days = kept days db after.trees xs.days (untouched.days (λ same. cc)) h.days;
       };
 }
 
@@ -289,6 +300,7 @@ alters_messages sql params f plain writes changes = record {
         lines = kept lines db after.trees xs.lines (untouched.lines (λ same. cc)) h.lines;
         messages = it.holds;
         transfers = kept transfers db after.trees xs.transfers (untouched.transfers (λ same. cc)) h.transfers;
+        days = kept days db after.trees xs.days (untouched.days (λ same. cc)) h.days;
       };
 }
 
@@ -314,6 +326,33 @@ alters_transfers sql params f plain writes changes = record {
         lines = kept lines db after.trees xs.lines (untouched.lines (λ same. cc)) h.lines;
         messages = kept messages db after.trees xs.messages (untouched.messages (λ same. cc)) h.messages;
         transfers = it.holds;
+        days = kept days db after.trees xs.days (untouched.days (λ same. cc)) h.days;
+      };
+}
+
+pub asks_days : (shown : Day → Row) (sql : List ℕ) (params : Row) (q : Query) (f : List Day → List Day) → IsSelect registry sql q → Answers days shown q params f → Asks shown sql params (λ c. f c.days)
+asks_days shown sql params q f is answers = record { query = q; is = is; means = λ db xs rows h answer. answers db xs.days rows h.days answer }
+
+pub alters_days : (sql : List ℕ) (params : Row) (f : List Day → List Day) → IsPlain (understood registry sql) → writes_tables (command_of (understood registry sql)) ≡ true → Changes days sql params f → Alters sql params (days_to f)
+alters_days sql params f plain writes changes = record {
+  plain = plain;
+  writes = writes;
+  means = λ limit text db tally after xs h ran.
+      let it = changes limit text db tally after xs.days h.days ran in
+      let untouched = untouched_of days.tree db after.trees it.others in
+      record {
+        schema = it.same;
+        metas = kept metas db after.trees xs.metas (untouched.metas (λ same. cc)) h.metas;
+        accounts = kept accounts db after.trees xs.accounts (untouched.accounts (λ same. cc)) h.accounts;
+        contacts = kept contacts db after.trees xs.contacts (untouched.contacts (λ same. cc)) h.contacts;
+        domains = kept domains db after.trees xs.domains (untouched.domains (λ same. cc)) h.domains;
+        hosts = kept hosts db after.trees xs.hosts (untouched.hosts (λ same. cc)) h.hosts;
+        addresses = kept addresses db after.trees xs.addresses (untouched.addresses (λ same. cc)) h.addresses;
+        links = kept links db after.trees xs.links (untouched.links (λ same. cc)) h.links;
+        lines = kept lines db after.trees xs.lines (untouched.lines (λ same. cc)) h.lines;
+        messages = kept messages db after.trees xs.messages (untouched.messages (λ same. cc)) h.messages;
+        transfers = kept transfers db after.trees xs.transfers (untouched.transfers (λ same. cc)) h.transfers;
+        days = it.holds;
       };
 }
 

@@ -7,17 +7,19 @@ use Rattle.sqlite_sql.specs.declared.ops.BinaryOp.TheVariants.{Compare}
 use Rattle.sqlite_sql.specs.Term.{Term, lit, col, op2}
 use Rattle.sqlite_schema.specs.declared.schema.Table.{Table}
 use Rattle.sqlite_typed.proofs.TestLemmas.{at_ints, at_points_to, then_term, last_term}
+use Rattle.sqlite_keyed.specs.Keyed.{insert_by}
 use Rattle.sqlite_keyed.specs.Lists.{delete_where}
 use Rattle.sqlite.specs.Listing.{understood}
 use Rattle.sqlite_tied.specs.Compute.{everything}
-use Rattle.rows.specs.Layouts.{writes_tables, Listed, Numbers, IsSelect, IsAppend, IsDelete, select_query, appended}
+use Rattle.rows.specs.Layouts.{writes_tables, Listed, Gives, Numbers, IsSelect, IsPut, IsAppend, IsDelete, select_query, appended}
+use Rattle.rows.proofs.PutLemmas.{puts}
 use Rattle.rows.proofs.SelectLemmas.{selects}
 use Rattle.rows.proofs.WriteLemmas.{deletes}
 use Rattle.rows.proofs.AppendLemmas.{appends}
 use Rattle.rows.proofs.CastLemmas.{cast_int, cast_null, cast_text, cast_maybe_int, cast_maybe_text}
 use Rattle.rows.proofs.QuietLemmas.{quiet_if_idle}
 use Rattle.tables.proofs.DueLemmas.{at_ever}
-use Rattle.tables.specs.Tables.{transfer, registry, transfer_by_contact, transfer_by_domain, transfer_pending_by_requester, transfer_pending_by_losing, transfer_append, transfer_remove_contact, transfer_remove_domain}
+use Rattle.tables.specs.Tables.{transfer, registry, transfer_by_contact, transfer_by_domain, transfer_pending_by_requester, transfer_pending_by_losing, transfer_put, transfer_append, transfer_remove_contact, transfer_remove_domain}
 use Rattle.tables.specs.Transfer.{Transfer, transfer_shown, transfers, transfer_with_contact, transfer_with_domain, transfer_pending_by, transfer_pending_from}
 use Rattle.tables.specs.Content.{transfers_to}
 use Rattle.tables.specs.Statements.{Alters, Asks}
@@ -67,6 +69,22 @@ pending_by_losing_asks losing = asks_transfers transfer_shown transfer_pending_b
 
 listed : Listed transfers registry 9 table
 listed = record { is = refl; tree = refl; quiet = quiet_if_idle registry refl; uncounted = refl; unstamped = refl; casts = λ x. simp (cast_int, cast_null, cast_text, cast_maybe_int, cast_maybe_text) }
+
+abbrev values : List Term
+values = col 0 0 ∷ lit Null ∷ col 0 1 ∷ col 0 2 ∷ col 0 3 ∷ col 0 4 ∷ col 0 5 ∷ col 0 6 ∷ col 0 7 ∷ col 0 8 ∷ []
+
+abbrev sets : List Term
+sets = col 1 0 ∷ lit Null ∷ col 0 12 ∷ col 0 13 ∷ col 0 14 ∷ col 0 15 ∷ col 0 16 ∷ col 0 17 ∷ col 0 18 ∷ col 0 19 ∷ []
+
+pub put_is : IsPut registry transfer_put 9 13 9 values sets
+unfolding understood everything
+put_is = record { command = refl; plain = (refl, refl) }
+
+gives : Gives transfers registry table 9 values sets transfer_shown
+gives = record { values = λ x. refl; place = λ x v. refl; updates = λ x v r. refl; unshared = λ new r. refl; headed = λ x. refl }
+
+pub put_alters : (x : Transfer) → Alters transfer_put (transfer_shown x) (transfers_to (λ xs. insert_by transfers.key xs x))
+put_alters x = alters_transfers transfer_put (transfer_shown x) (λ xs. insert_by transfers.key xs x) put_is.plain (ap writes_tables put_is.command) (puts transfers registry 9 table listed 9 values sets transfer_shown gives transfer_put x put_is)
 
 abbrev unnumbered : List Term
 unnumbered = lit Null ∷ lit Null ∷ col 0 0 ∷ col 0 1 ∷ col 0 2 ∷ col 0 3 ∷ col 0 4 ∷ col 0 5 ∷ col 0 6 ∷ col 0 7 ∷ []

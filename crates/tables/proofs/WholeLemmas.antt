@@ -53,6 +53,7 @@ keyed xs db h = record {
   lines = h.lines.keyed;
   messages = h.messages.keyed;
   transfers = h.transfers.keyed;
+  days = h.days.keyed;
 }
 
 -- ---- what is true of each stored row, as of each row of the type
@@ -198,7 +199,7 @@ whole_of xs db h sound =
 -- of no row all of it is true
 none_whole : IsWhole no_content
 none_whole = record {
-  keyed = record { metas = tt; accounts = tt; contacts = tt; domains = tt; hosts = tt; addresses = tt; links = tt; lines = tt; messages = tt; transfers = tt };
+  keyed = record { metas = tt; accounts = tt; contacts = tt; domains = tt; hosts = tt; addresses = tt; links = tt; lines = tt; messages = tt; transfers = tt; days = tt };
   named = record { accounts = λ a b h. absurd h; contacts = λ a b h. absurd h; domains = λ a b h. absurd h; hosts = λ a b h. absurd h };
   linked = record {
     contact_sponsor = λ x h. absurd h;

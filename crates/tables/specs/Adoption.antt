@@ -89,3 +89,7 @@ LeavesSameRegistry was may_leave = (db : Trees) → may_leave db → IsSameRegis
 -- What may be left is what might have been left before, or the registry that was committed.
 abbrev pub LeavesAsItWas : State → (Trees → Type 0) → Type 0
 LeavesAsItWas was may_leave = (db : Trees) → may_leave db → was.may_leave db ⊎ IsSameRegistry was.committed.trees db
+
+-- Of a database that was found, what may be left is that database, or the registry in it.
+abbrev pub LeavesAsFound : Trees → (Trees → Type 0) → Type 0
+LeavesAsFound found may_leave = (db : Trees) → may_leave db → (db ≡ found) ⊎ IsSameRegistry found db

@@ -1,4 +1,4 @@
--- What the ten tables hold.
+-- What the eleven tables hold.
 use Rattle.std.specs.Prelude.{◌≡◌, List, []}
 use Rattle.sqlite.specs.Effect.{Database}
 use Rattle.rows.specs.Layouts.{Holds}
@@ -23,6 +23,8 @@ use Rattle.tables.specs.Message.{Message}
 use Rattle.tables.specs.Message as message_table
 use Rattle.tables.specs.Transfer.{Transfer}
 use Rattle.tables.specs.Transfer as transfer_table
+use Rattle.tables.specs.Day.{Day}
+use Rattle.tables.specs.Day as day_table
 
 pub record Content : Type 0 where
   pub metas : List Meta
@@ -35,9 +37,10 @@ pub record Content : Type 0 where
   pub lines : List Line
   pub messages : List Message
   pub transfers : List Transfer
+  pub days : List Day
 
 abbrev pub no_content : Content
-no_content = record { metas = []; accounts = []; contacts = []; domains = []; hosts = []; addresses = []; links = []; lines = []; messages = []; transfers = [] }
+no_content = record { metas = []; accounts = []; contacts = []; domains = []; hosts = []; addresses = []; links = []; lines = []; messages = []; transfers = []; days = [] }
 
 -- the tables are those of the registry, and hold these rows
 pub record IsContent (content : Content) (db : Database) : Type 0 where
@@ -52,6 +55,7 @@ pub record IsContent (content : Content) (db : Database) : Type 0 where
   pub lines : Holds line_table.lines db.trees content.lines
   pub messages : Holds message_table.messages db.trees content.messages
   pub transfers : Holds transfer_table.transfers db.trees content.transfers
+  pub days : Holds day_table.days db.trees content.days
 
 abbrev pub metas_to : (List Meta → List Meta) → Content → Content
 metas_to change xs = record xs { metas = change xs.metas }
@@ -82,3 +86,6 @@ messages_to change xs = record xs { messages = change xs.messages }
 
 abbrev pub transfers_to : (List Transfer → List Transfer) → Content → Content
 transfers_to change xs = record xs { transfers = change xs.transfers }
+
+abbrev pub days_to : (List Day → List Day) → Content → Content
+days_to change xs = record xs { days = change xs.days }

@@ -14,6 +14,7 @@ use Rattle.tables.specs.Link.{Link}
 use Rattle.tables.specs.Line.{Line}
 use Rattle.tables.specs.Message.{Message}
 use Rattle.tables.specs.Transfer.{Transfer}
+use Rattle.tables.specs.Day.{Day}
 
 -- ---- a row as its record
 
@@ -39,13 +40,16 @@ abbrev pub link_in : Row → Link
 link_in r = record { id = int_of (column r 0); domain = int_of (column r 2); contact = unless_null int_of (column r 3); host = unless_null int_of (column r 4); role = int_of (column r 5); due = int_of (column r 6) }
 
 abbrev pub line_in : Row → Line
-line_in r = record { id = int_of (column r 0); account = int_of (column r 2); kind = int_of (column r 3); creator = unless_null int_of (column r 4); serial = unless_null int_of (column r 5); years = int_of (column r 6); cents = int_of (column r 7); started = unless_null int_of (column r 8); refunded = unless_null int_of (column r 9); recorded = int_of (column r 10) }
+line_in r = record { id = int_of (column r 0); account = int_of (column r 2); kind = int_of (column r 3); creator = unless_null int_of (column r 4); serial = unless_null int_of (column r 5); years = int_of (column r 6); cents = int_of (column r 7); refunded = unless_null int_of (column r 10); recorded = int_of (column r 11); grace = record { started = unless_null int_of (column r 8); ends = unless_null int_of (column r 9) } }
 
 abbrev pub message_in : Row → Message
 message_in r = record { id = int_of (column r 0); account = int_of (column r 2); moment = int_of (column r 3); class = int_of (column r 4); number = int_of (column r 5); name = bytes_of (column r 6); subject = int_of (column r 7); notice = int_of (column r 8) }
 
 abbrev pub transfer_in : Row → Transfer
 transfer_in r = record { id = int_of (column r 0); contact = unless_null int_of (column r 2); domain = unless_null int_of (column r 3); requester = int_of (column r 4); losing = int_of (column r 5); requested = int_of (column r 6); ac_date = int_of (column r 7); due = unless_null int_of (column r 8); state = int_of (column r 9) }
+
+abbrev pub day_in : Row → Day
+day_in r = record { id = int_of (column r 0); starts = int_of (column r 2); days_add = int_of (column r 3); days_auto_renew = int_of (column r 4); days_renew = int_of (column r 5); days_transfer = int_of (column r 6); days_redemption = int_of (column r 7); days_restore = int_of (column r 8); days_pending_delete = int_of (column r 9); days_answer = int_of (column r 10); days_lock = int_of (column r 11) }
 
 -- ---- all rows
 
@@ -61,4 +65,5 @@ contents db = record {
   lines = map line_in (db 11);
   messages = map message_in (db 12);
   transfers = map transfer_in (db 13);
+  days = map day_in (db 34);
 }

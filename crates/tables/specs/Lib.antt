@@ -1,4 +1,5 @@
 pub mod Tables
+pub mod FirstTables
 pub mod Due
 pub mod Meta
 pub mod Account
@@ -10,6 +11,7 @@ pub mod Link
 pub mod Line
 pub mod Message
 pub mod Transfer
+pub mod Day
 pub mod Content
 pub mod Balance
 pub mod Decoding

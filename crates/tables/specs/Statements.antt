@@ -1,4 +1,4 @@
--- What the texts of statements mean for the ten tables.
+-- What the texts of statements mean for the eleven tables.
 use Rattle.std.specs.Prelude.{◌≡◌, ℕ, List, [], map, true, Option}
 use Rattle.sqlite_value.specs.Order.{Row}
 use Rattle.sqlite_trees.specs.Tree.{Trees}

@@ -69,7 +69,7 @@ stands form begun s leaves = record {
   crash_leaves = leaves;
 }
 
--- each row of the ten tables is a record's
+-- each row of the eleven tables is a record's
 abbrev pub HoldsRows : Database → Type 0
 HoldsRows db = IsContent (contents db.trees) db
 

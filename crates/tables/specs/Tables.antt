@@ -154,6 +154,9 @@ address_create = codes "CREATE TABLE address (id INTEGER PRIMARY KEY, host INTEG
 abbrev pub address_by_host : List ℕ
 address_by_host = codes "SELECT id, host, address FROM address WHERE host = ?1 ORDER BY id"
 
+abbrev pub address_put : List ℕ
+address_put = codes "INSERT INTO address (id, host, address) VALUES (?1, ?2, ?3) ON CONFLICT (id) DO UPDATE SET host = excluded.host, address = excluded.address"
+
 abbrev pub address_append : List ℕ
 address_append = codes "INSERT INTO address (host, address) VALUES (?1, ?2)"
 
@@ -186,6 +189,9 @@ link_by_contact_until_due = codes "SELECT id, domain, contact, host, role, due F
 abbrev pub link_by_host_until_due : List ℕ
 link_by_host_until_due = codes "SELECT id, domain, contact, host, role, due FROM link WHERE host = ?1 AND due <= ?2 ORDER BY id"
 
+abbrev pub link_put : List ℕ
+link_put = codes "INSERT INTO link (id, domain, contact, host, role, due) VALUES (?1, ?2, ?3, ?4, ?5, ?6) ON CONFLICT (id) DO UPDATE SET domain = excluded.domain, contact = excluded.contact, host = excluded.host, role = excluded.role, due = excluded.due"
+
 abbrev pub link_append : List ℕ
 link_append = codes "INSERT INTO link (domain, contact, host, role, due) VALUES (?1, ?2, ?3, ?4, ?5)"
 
@@ -195,19 +201,22 @@ link_remove_domain = codes "DELETE FROM link WHERE domain = ?1"
 -- ---- line
 
 abbrev pub line : Table
-line = keyed_table (codes "line") (filled (codes "account") Integer ∷ filled (codes "kind") Integer ∷ nullable (codes "creator") Integer ∷ nullable (codes "serial") Integer ∷ filled (codes "years") Integer ∷ filled (codes "cents") Integer ∷ nullable (codes "started") Integer ∷ nullable (codes "refunded") Integer ∷ filled (codes "recorded") Integer ∷ []) ([]) (reference_to (codes "account") 2 ∷ [])
+line = keyed_table (codes "line") (filled (codes "account") Integer ∷ filled (codes "kind") Integer ∷ nullable (codes "creator") Integer ∷ nullable (codes "serial") Integer ∷ filled (codes "years") Integer ∷ filled (codes "cents") Integer ∷ nullable (codes "started") Integer ∷ nullable (codes "ends") Integer ∷ nullable (codes "refunded") Integer ∷ filled (codes "recorded") Integer ∷ []) ([]) (reference_to (codes "account") 2 ∷ [])
 
 abbrev pub line_create : List ℕ
-line_create = codes "CREATE TABLE line (id INTEGER PRIMARY KEY, account INTEGER NOT NULL REFERENCES account (id), kind INTEGER NOT NULL, creator INTEGER, serial INTEGER, years INTEGER NOT NULL, cents INTEGER NOT NULL, started INTEGER, refunded INTEGER, recorded INTEGER NOT NULL) STRICT"
+line_create = codes "CREATE TABLE line (id INTEGER PRIMARY KEY, account INTEGER NOT NULL REFERENCES account (id), kind INTEGER NOT NULL, creator INTEGER, serial INTEGER, years INTEGER NOT NULL, cents INTEGER NOT NULL, started INTEGER, ends INTEGER, refunded INTEGER, recorded INTEGER NOT NULL) STRICT"
 
 abbrev pub line_by_account : List ℕ
-line_by_account = codes "SELECT id, account, kind, creator, serial, years, cents, started, refunded, recorded FROM line WHERE account = ?1 ORDER BY id"
+line_by_account = codes "SELECT id, account, kind, creator, serial, years, cents, started, ends, refunded, recorded FROM line WHERE account = ?1 ORDER BY id"
 
 abbrev pub line_by_object : List ℕ
-line_by_object = codes "SELECT id, account, kind, creator, serial, years, cents, started, refunded, recorded FROM line WHERE account = ?1 AND creator = ?2 AND serial = ?3 ORDER BY id"
+line_by_object = codes "SELECT id, account, kind, creator, serial, years, cents, started, ends, refunded, recorded FROM line WHERE account = ?1 AND creator = ?2 AND serial = ?3 ORDER BY id"
+
+abbrev pub line_put : List ℕ
+line_put = codes "INSERT INTO line (id, account, kind, creator, serial, years, cents, started, ends, refunded, recorded) VALUES (?1, ?2, ?3, ?4, ?5, ?6, ?7, ?8, ?9, ?10, ?11) ON CONFLICT (id) DO UPDATE SET account = excluded.account, kind = excluded.kind, creator = excluded.creator, serial = excluded.serial, years = excluded.years, cents = excluded.cents, started = excluded.started, ends = excluded.ends, refunded = excluded.refunded, recorded = excluded.recorded"
 
 abbrev pub line_append : List ℕ
-line_append = codes "INSERT INTO line (account, kind, creator, serial, years, cents, started, refunded, recorded) VALUES (?1, ?2, ?3, ?4, ?5, ?6, ?7, ?8, ?9)"
+line_append = codes "INSERT INTO line (account, kind, creator, serial, years, cents, started, ends, refunded, recorded) VALUES (?1, ?2, ?3, ?4, ?5, ?6, ?7, ?8, ?9, ?10)"
 
 abbrev pub line_remove_id : List ℕ
 line_remove_id = codes "DELETE FROM line WHERE id = ?1"
@@ -225,6 +234,9 @@ message_first_by_account = codes "SELECT id, account, moment, class, number, nam
 
 abbrev pub message_same : List ℕ
 message_same = codes "SELECT id, account, moment, class, number, name, subject, notice FROM message WHERE account = ?1 AND moment = ?2 AND class = ?3 AND number = ?4 AND name = ?5 AND subject = ?6 AND notice = ?7 ORDER BY id"
+
+abbrev pub message_put : List ℕ
+message_put = codes "INSERT INTO message (id, account, moment, class, number, name, subject, notice) VALUES (?1, ?2, ?3, ?4, ?5, ?6, ?7, ?8) ON CONFLICT (id) DO UPDATE SET account = excluded.account, moment = excluded.moment, class = excluded.class, number = excluded.number, name = excluded.name, subject = excluded.subject, notice = excluded.notice"
 
 abbrev pub message_append : List ℕ
 message_append = codes "INSERT INTO message (account, moment, class, number, name, subject, notice) VALUES (?1, ?2, ?3, ?4, ?5, ?6, ?7)"
@@ -252,6 +264,9 @@ transfer_pending_by_requester = codes "SELECT id, contact, domain, requester, lo
 abbrev pub transfer_pending_by_losing : List ℕ
 transfer_pending_by_losing = codes "SELECT id, contact, domain, requester, losing, requested, ac_date, due, state FROM transfer WHERE losing = ?1 AND due >= 0 ORDER BY id"
 
+abbrev pub transfer_put : List ℕ
+transfer_put = codes "INSERT INTO transfer (id, contact, domain, requester, losing, requested, ac_date, due, state) VALUES (?1, ?2, ?3, ?4, ?5, ?6, ?7, ?8, ?9) ON CONFLICT (id) DO UPDATE SET contact = excluded.contact, domain = excluded.domain, requester = excluded.requester, losing = excluded.losing, requested = excluded.requested, ac_date = excluded.ac_date, due = excluded.due, state = excluded.state"
+
 abbrev pub transfer_append : List ℕ
 transfer_append = codes "INSERT INTO transfer (contact, domain, requester, losing, requested, ac_date, due, state) VALUES (?1, ?2, ?3, ?4, ?5, ?6, ?7, ?8)"
 
@@ -260,6 +275,20 @@ transfer_remove_contact = codes "DELETE FROM transfer WHERE contact = ?1"
 
 abbrev pub transfer_remove_domain : List ℕ
 transfer_remove_domain = codes "DELETE FROM transfer WHERE domain = ?1"
+
+-- ---- days
+
+abbrev pub days : Table
+days = keyed_table (codes "days") (filled (codes "starts") Integer ∷ filled (codes "days_add") Integer ∷ filled (codes "days_auto_renew") Integer ∷ filled (codes "days_renew") Integer ∷ filled (codes "days_transfer") Integer ∷ filled (codes "days_redemption") Integer ∷ filled (codes "days_restore") Integer ∷ filled (codes "days_pending_delete") Integer ∷ filled (codes "days_answer") Integer ∷ filled (codes "days_lock") Integer ∷ []) ([]) ([])
+
+abbrev pub days_create : List ℕ
+days_create = codes "CREATE TABLE days (id INTEGER PRIMARY KEY, starts INTEGER NOT NULL, days_add INTEGER NOT NULL, days_auto_renew INTEGER NOT NULL, days_renew INTEGER NOT NULL, days_transfer INTEGER NOT NULL, days_redemption INTEGER NOT NULL, days_restore INTEGER NOT NULL, days_pending_delete INTEGER NOT NULL, days_answer INTEGER NOT NULL, days_lock INTEGER NOT NULL) STRICT"
+
+abbrev pub days_all : List ℕ
+days_all = codes "SELECT id, starts, days_add, days_auto_renew, days_renew, days_transfer, days_redemption, days_restore, days_pending_delete, days_answer, days_lock FROM days ORDER BY id"
+
+abbrev pub days_append : List ℕ
+days_append = codes "INSERT INTO days (starts, days_add, days_auto_renew, days_renew, days_transfer, days_redemption, days_restore, days_pending_delete, days_answer, days_lock) VALUES (?1, ?2, ?3, ?4, ?5, ?6, ?7, ?8, ?9, ?10)"
 
 -- ---- the schema
 
@@ -478,12 +507,12 @@ abbrev pub with_transfer_losing : Schema
 with_transfer_losing = indexed with_link_host_due (record transfer { tree = 13 }) transfer_losing
 
 abbrev pub registry : Schema
-registry = with_transfer_losing
+registry = created with_transfer_losing days
 
 -- the texts that make it, in their order
 abbrev pub creation : List (List ℕ)
-creation = meta_create ∷ account_create ∷ contact_create ∷ domain_create ∷ host_create ∷ address_create ∷ link_create ∷ line_create ∷ message_create ∷ transfer_create ∷ contact_due_create ∷ domain_registrant_create ∷ domain_due_create ∷ domain_sponsor_create ∷ host_above_create ∷ address_host_create ∷ link_domain_create ∷ link_contact_create ∷ link_host_create ∷ line_object_create ∷ message_queue_create ∷ transfer_contact_create ∷ transfer_domain_create ∷ transfer_requester_create ∷ contact_sponsor_create ∷ domain_roid_create ∷ domain_registrant_due_create ∷ link_contact_due_create ∷ link_host_due_create ∷ transfer_losing_create ∷ []
+creation = meta_create ∷ account_create ∷ contact_create ∷ domain_create ∷ host_create ∷ address_create ∷ link_create ∷ line_create ∷ message_create ∷ transfer_create ∷ contact_due_create ∷ domain_registrant_create ∷ domain_due_create ∷ domain_sponsor_create ∷ host_above_create ∷ address_host_create ∷ link_domain_create ∷ link_contact_create ∷ link_host_create ∷ line_object_create ∷ message_queue_create ∷ transfer_contact_create ∷ transfer_domain_create ∷ transfer_requester_create ∷ contact_sponsor_create ∷ domain_roid_create ∷ domain_registrant_due_create ∷ link_contact_due_create ∷ link_host_due_create ∷ transfer_losing_create ∷ days_create ∷ []
 
 -- the number of this schema, which the table `meta` keeps
 abbrev pub schema_number : ℤ
-schema_number = pos 1
+schema_number = pos 2

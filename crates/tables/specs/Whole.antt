@@ -13,6 +13,7 @@ use Rattle.tables.specs.Link.{Link}
 use Rattle.tables.specs.Line.{Line}
 use Rattle.tables.specs.Message.{Message}
 use Rattle.tables.specs.Transfer.{Transfer}
+use Rattle.tables.specs.Day.{Day}
 
 -- rows with the same name are the same row
 abbrev pub IsNamedBy : {X : Type 0} → (X → List ℕ) → List X → Type 0
@@ -34,6 +35,7 @@ pub record AreKeyed (content : Content) : Type 0 where
   pub lines : IsKeyedBy (λ (x : Line). x.id) content.lines
   pub messages : IsKeyedBy (λ (x : Message). x.id) content.messages
   pub transfers : IsKeyedBy (λ (x : Transfer). x.id) content.transfers
+  pub days : IsKeyedBy (λ (x : Day). x.id) content.days
 
 -- no name comes twice
 pub record AreNamed (content : Content) : Type 0 where

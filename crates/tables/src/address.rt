@@ -1,6 +1,7 @@
 //! Addresses of hosts.
 ghost use Rattle.std.specs.Prelude.{◌≡◌, true, filter};
 ghost use Rattle.sqlite_keyed.specs.Lists.{delete_where};
+ghost use Rattle.sqlite_keyed.specs.Keyed.{insert_by};
 ghost use Rattle.tables.specs.Content.{addresses_to};
 ghost use Rattle.transactions.specs.States.{Finds, Makes};
 ghost use Rattle.rows.specs.Layouts.{appended};
@@ -15,6 +16,9 @@ use std::marker::Model;
 use transactions::BookFault;
 
 const BY_HOST: &str = "SELECT id, host, address FROM address WHERE host = ?1 ORDER BY id";
+
+const PUT: &str =
+    "INSERT INTO address (id, host, address) VALUES (?1, ?2, ?3) ON CONFLICT (id) DO UPDATE SET host = excluded.host, address = excluded.address";
 
 const APPEND: &str = "INSERT INTO address (host, address) VALUES (?1, ?2)";
 
@@ -77,6 +81,14 @@ impl<S: Alter> RowStore<S> {
         ensures { Finds result (filter (address_with_host host) self.old.content.addresses) self.old self.new }
     {
         self.select(BY_HOST, params![host])
+    }
+
+    /// Puts a row in the place of the one with its number, or beside all others.
+    pub fn put_address(&mut self, address: &AddressRow) -> Result<(), BookFault>
+        requires { self.old.is_open ≡ true }
+        ensures { Makes result (addresses_to (λ xs. insert_by addresses.key xs address.now) self.old.content) self.old self.new }
+    {
+        self.write(PUT, &address.params())
     }
 
     /// Adds a row at the end, with the number after the last one. The given row's number isn't looked at.

@@ -1,5 +1,5 @@
 //! A database that was used before, taken anew.
-ghost use Rattle.std.specs.Prelude.{IfErr, IfOk};
+ghost use Rattle.std.specs.Prelude.{◌≢◌, IfErr, IfOk};
 ghost use Rattle.sqlite.specs.Held.{state};
 ghost use Rattle.sqlite.specs.State.{HasCleanDisk};
 ghost use Rattle.tables.specs.Adoption.{IsReread, LeavesNoMore};
@@ -8,6 +8,27 @@ use crate::store::fault_of;
 use sqlite::{Alter, Connection};
 use std::alloc::Global;
 use transactions::BookFault;
+
+/// Why a database isn't taken up.
+#[derive(Clone, Copy, Debug, PartialEq, Eq, Drop)]
+pub enum Unadopted {
+    /// It is something else's, or a registry's of another schema.
+    Other,
+    /// Memory ran out.
+    Memory,
+    /// The database refused.
+    Store,
+}
+
+/// The same of a fault.
+pub(crate) fn by_fault(fault: BookFault) -> Unadopted
+    ensures { result ≢ Unadopted.Other }
+{
+    match fault {
+        BookFault::Memory => Unadopted::Memory,
+        BookFault::Store => Unadopted::Store,
+    }
+}
 
 /// The database of a connection as its last commit left it. It is read and checked anew, whole: of that
 /// the proof knows that the rows of each table lie in the order of their numbers. After a fault the store

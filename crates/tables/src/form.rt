@@ -7,9 +7,9 @@ use transactions::Ready;
 pub enum Form {
     /// Nothing was made in it yet.
     Unused,
-    /// The open transaction made the ten tables.
+    /// The open transaction made the eleven tables.
     Making,
-    /// It has the ten tables.
+    /// It has the eleven tables.
     Made,
     /// It is something else's.
     Other,
@@ -30,7 +30,7 @@ impl Form {
         }
     }
 
-    /// Whether the ten tables are there.
+    /// Whether the eleven tables are there.
     pub fn has_rows(self) -> bool
         ensures { result ≡ has_rows self }
     {

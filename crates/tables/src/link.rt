@@ -1,6 +1,7 @@
 //! What domains name: contacts in a role, and hosts.
 ghost use Rattle.std.specs.Prelude.{◌≡◌, true, filter, take};
 ghost use Rattle.sqlite_keyed.specs.Lists.{delete_where};
+ghost use Rattle.sqlite_keyed.specs.Keyed.{insert_by};
 ghost use Rattle.tables.specs.Content.{links_to};
 ghost use Rattle.transactions.specs.States.{Finds, Makes};
 ghost use Rattle.rows.specs.Layouts.{appended};
@@ -31,6 +32,9 @@ const BY_CONTACT_UNTIL_DUE: &str =
 
 const BY_HOST_UNTIL_DUE: &str =
     "SELECT id, domain, contact, host, role, due FROM link WHERE host = ?1 AND due <= ?2 ORDER BY id";
+
+const PUT: &str =
+    "INSERT INTO link (id, domain, contact, host, role, due) VALUES (?1, ?2, ?3, ?4, ?5, ?6) ON CONFLICT (id) DO UPDATE SET domain = excluded.domain, contact = excluded.contact, host = excluded.host, role = excluded.role, due = excluded.due";
 
 const APPEND: &str =
     "INSERT INTO link (domain, contact, host, role, due) VALUES (?1, ?2, ?3, ?4, ?5)";
@@ -149,6 +153,14 @@ impl<S: Alter> RowStore<S> {
         ensures { Finds result (filter (link_of_host_within host due) self.old.content.links) self.old self.new }
     {
         self.select(BY_HOST_UNTIL_DUE, params![host, due])
+    }
+
+    /// Puts a row in the place of the one with its number, or beside all others.
+    pub fn put_link(&mut self, link: &LinkRow) -> Result<(), BookFault>
+        requires { self.old.is_open ≡ true }
+        ensures { Makes result (links_to (λ xs. insert_by links.key xs link.now) self.old.content) self.old self.new }
+    {
+        self.write(PUT, &link.params())
     }
 
     /// Adds a row at the end, with the number after the last one. The given row's number isn't looked at.

@@ -1,6 +1,7 @@
 //! Messages that wait.
 ghost use Rattle.std.specs.Prelude.{◌≡◌, true, filter, take};
 ghost use Rattle.sqlite_keyed.specs.Lists.{delete_where};
+ghost use Rattle.sqlite_keyed.specs.Keyed.{insert_by};
 ghost use Rattle.tables.specs.Content.{messages_to};
 ghost use Rattle.transactions.specs.States.{Finds, Makes};
 ghost use Rattle.rows.specs.Layouts.{appended};
@@ -19,6 +20,9 @@ const FIRST_BY_ACCOUNT: &str =
 
 const SAME: &str =
     "SELECT id, account, moment, class, number, name, subject, notice FROM message WHERE account = ?1 AND moment = ?2 AND class = ?3 AND number = ?4 AND name = ?5 AND subject = ?6 AND notice = ?7 ORDER BY id";
+
+const PUT: &str =
+    "INSERT INTO message (id, account, moment, class, number, name, subject, notice) VALUES (?1, ?2, ?3, ?4, ?5, ?6, ?7, ?8) ON CONFLICT (id) DO UPDATE SET account = excluded.account, moment = excluded.moment, class = excluded.class, number = excluded.number, name = excluded.name, subject = excluded.subject, notice = excluded.notice";
 
 const APPEND: &str =
     "INSERT INTO message (account, moment, class, number, name, subject, notice) VALUES (?1, ?2, ?3, ?4, ?5, ?6, ?7)";
@@ -115,6 +119,14 @@ impl<S: Alter> RowStore<S> {
         ensures { Finds result (filter (is_same_message message.now) self.old.content.messages) self.old self.new }
     {
         self.select(SAME, &message.params()[1..])
+    }
+
+    /// Puts a row in the place of the one with its number, or beside all others.
+    pub fn put_message(&mut self, message: &MessageRow) -> Result<(), BookFault>
+        requires { self.old.is_open ≡ true }
+        ensures { Makes result (messages_to (λ xs. insert_by messages.key xs message.now) self.old.content) self.old self.new }
+    {
+        self.write(PUT, &message.params())
     }
 
     /// Adds a row at the end, with the number after the last one. The given row's number isn't looked at.

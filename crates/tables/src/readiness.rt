@@ -13,7 +13,7 @@ use sqlite_schema::schema::Schema;
 use std::alloc::Global;
 
 /// The number of this schema, which the row of `meta` keeps.
-pub const SCHEMA_NUMBER: i64 = 1;
+pub const SCHEMA_NUMBER: i64 = 2;
 
 /// Whether the rows of `meta` are one, with the number of this schema.
 pub(crate) fn is_numbered(metas: &[MetaRow]) -> bool

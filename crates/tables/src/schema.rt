@@ -1,4 +1,4 @@
-//! The schema: ten tables with their indexes, made in a database that was never used, and its number.
+//! The schema: eleven tables with their indexes, made in a database that was never used; and the one before it.
 ghost use Rattle.std.specs.Prelude.{◌≡◌, true, OnOk, IsTrue};
 ghost use Rattle.rows.specs.Calls.{IsSteady};
 ghost use Rattle.rows.specs.Columns.{no_schema};
@@ -6,6 +6,7 @@ ghost use Rattle.rows.specs.Definitions.{Makes};
 ghost use Rattle.sqlite.specs.Held.{state};
 ghost use Rattle.sqlite.specs.State.{HasCleanDisk};
 ghost use Rattle.tables.specs.Content.{IsContent, no_content};
+ghost use Rattle.tables.specs.FirstTables.{first_registry};
 ghost use Rattle.tables.specs.Tables.{registry};
 
 use rows::define;
@@ -33,6 +34,9 @@ const LINK: &str =
     "CREATE TABLE link (id INTEGER PRIMARY KEY, domain INTEGER NOT NULL REFERENCES domain (id), contact INTEGER REFERENCES contact (id), host INTEGER REFERENCES host (id), role INTEGER NOT NULL, due INTEGER NOT NULL) STRICT";
 
 const LINE: &str =
+    "CREATE TABLE line (id INTEGER PRIMARY KEY, account INTEGER NOT NULL REFERENCES account (id), kind INTEGER NOT NULL, creator INTEGER, serial INTEGER, years INTEGER NOT NULL, cents INTEGER NOT NULL, started INTEGER, ends INTEGER, refunded INTEGER, recorded INTEGER NOT NULL) STRICT";
+
+const FIRST_LINE: &str =
     "CREATE TABLE line (id INTEGER PRIMARY KEY, account INTEGER NOT NULL REFERENCES account (id), kind INTEGER NOT NULL, creator INTEGER, serial INTEGER, years INTEGER NOT NULL, cents INTEGER NOT NULL, started INTEGER, refunded INTEGER, recorded INTEGER NOT NULL) STRICT";
 
 const MESSAGE: &str =
@@ -40,6 +44,9 @@ const MESSAGE: &str =
 
 const TRANSFER: &str =
     "CREATE TABLE transfer (id INTEGER PRIMARY KEY, contact INTEGER REFERENCES contact (id), domain INTEGER REFERENCES domain (id), requester INTEGER NOT NULL REFERENCES account (id), losing INTEGER NOT NULL REFERENCES account (id), requested INTEGER NOT NULL, ac_date INTEGER NOT NULL, due INTEGER, state INTEGER NOT NULL) STRICT";
+
+const DAYS: &str =
+    "CREATE TABLE days (id INTEGER PRIMARY KEY, starts INTEGER NOT NULL, days_add INTEGER NOT NULL, days_auto_renew INTEGER NOT NULL, days_renew INTEGER NOT NULL, days_transfer INTEGER NOT NULL, days_redemption INTEGER NOT NULL, days_restore INTEGER NOT NULL, days_pending_delete INTEGER NOT NULL, days_answer INTEGER NOT NULL, days_lock INTEGER NOT NULL) STRICT";
 
 const CONTACT_DUE: &str = "CREATE INDEX contact_due ON contact (due)";
 
@@ -101,6 +108,48 @@ pub fn create<S: Alter>(conn: &mut Connection<S>) -> Result<(), Error>
             ADDRESS,
             LINK,
             LINE,
+            MESSAGE,
+            TRANSFER,
+            CONTACT_DUE,
+            DOMAIN_REGISTRANT,
+            DOMAIN_DUE,
+            DOMAIN_SPONSOR,
+            HOST_ABOVE,
+            ADDRESS_HOST,
+            LINK_DOMAIN,
+            LINK_CONTACT,
+            LINK_HOST,
+            LINE_OBJECT,
+            MESSAGE_QUEUE,
+            TRANSFER_CONTACT,
+            TRANSFER_DOMAIN,
+            TRANSFER_REQUESTER,
+            CONTACT_SPONSOR,
+            DOMAIN_ROID,
+            DOMAIN_REGISTRANT_DUE,
+            LINK_CONTACT_DUE,
+            LINK_HOST_DUE,
+            TRANSFER_LOSING,
+            DAYS,
+        ],
+    )
+}
+
+/// Makes the tables of the schema before this one, in a transaction on a database that was never used.
+pub fn create_first<S: Alter>(conn: &mut Connection<S>) -> Result<(), Error>
+    ensures { conn.old.schema ≡ no_schema → IsTrue (state S.Store conn.old).is_open → conn.old.in_transaction ≡ true → HasCleanDisk (state S.Store conn.new) → Makes first_registry (state S.Store conn.old) (state S.Store conn.new) result }
+{
+    define(
+        conn,
+        &[
+            META,
+            ACCOUNT,
+            CONTACT,
+            DOMAIN,
+            HOST,
+            ADDRESS,
+            LINK,
+            FIRST_LINE,
             MESSAGE,
             TRANSFER,
             CONTACT_DUE,

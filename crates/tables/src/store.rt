@@ -1,8 +1,8 @@
-//! The ten tables in a database as rows, with transactions.
-ghost use Rattle.std.specs.Prelude.{◌≡◌, false, true, ⊤, List, map, IfErr, IfOk, OnOk};
+//! The eleven tables in a database as rows, with transactions.
+ghost use Rattle.std.specs.Prelude.{◌≡◌, ◌≢◌, false, true, ⊤, List, map, IfErr, IfOk, OnOk};
 ghost use Rattle.tables.specs.Faults as faults;
 
-use crate::adoption::reread;
+use crate::adoption::{Unadopted, by_fault, reread};
 use crate::form::Form;
 use crate::readiness::{form_of, is_numbered};
 use crate::schema::create;
@@ -15,7 +15,7 @@ use std::alloc::Global;
 use std::marker::Model;
 use transactions::{BookFault, Ready};
 
-/// The ten tables in a database, as rows.
+/// The eleven tables in a database, as rows.
 #[derive(Drop)]
 pub struct RowStore<S: Alter> {
     conn: Connection<S>,
@@ -41,7 +41,7 @@ impl<S: Alter> Model for RowStore<S> {
 }
 
 /// What an error of the database is to a book.
-pub(crate) fn fault_of(error: &Error) -> BookFault
+pub fn fault_of(error: &Error) -> BookFault
     ensures { result ≡ faults.fault_of error.now }
 {
     match error {
@@ -50,7 +50,8 @@ pub(crate) fn fault_of(error: &Error) -> BookFault
     }
 }
 
-fn read_all<R: Record>(alloc: Global, rows: &[Row]) -> Result<Seq<R>, BookFault>
+/// The records that rows show.
+pub fn read_all<R: Record>(alloc: Global, rows: &[Row]) -> Result<Seq<R>, BookFault>
     ensures { (xs : List R) → rows.now ≡ map R.shown xs → IfOk result (λ out. out ≡ xs) }
 {
     let mut records = Seq::new(alloc);
@@ -72,7 +73,7 @@ impl<S: Alter> RowStore<S> {
     ghost use Rattle.tables.specs.Content.{Content};
     ghost use Rattle.transactions.specs.States.{Begins, Closes, Ends, Finds, IsIdle, Makes, Meets, Notes};
     ghost use Rattle.tables.specs.Statements.{Alters, Asks};
-    ghost use Rattle.tables.specs.Stored.{Covers};
+    ghost use Rattle.tables.specs.Stored.{Covers, fresh};
     ghost use Rattle.tables.specs.Tables.{registry};
     ghost use Rattle.tables.specs.Whole.{IsWhole};
 
@@ -237,6 +238,13 @@ impl<S: Alter> RowStore<S> {
         Ok(self.form.readiness())
     }
 
+    /// Whether nothing was ever made in it.
+    pub fn is_unused(&self) -> bool
+        ensures { result ≡ true → self.now.content ≡ fresh }
+    {
+        matches!(self.form, Form::Unused)
+    }
+
     /// Does nothing. It tells a proof what always holds of the rows.
     pub fn whole(&self)
         ensures { self.now.is_clean ≡ true → IsWhole self.now.content }
@@ -282,7 +290,8 @@ impl<S: Alter + Drop> RowStore<S> {
     ghost use Rattle.sqlite.specs.State.{HasCleanDisk};
     ghost use Rattle.sqlite_trees.specs.Tree.{Trees};
     ghost use Rattle.sqlite_trees.specs.View.{IsClean};
-    ghost use Rattle.tables.specs.Adoption.{IsAdopted, IsFound, IsShown, LeavesAsItWas, LeavesNoMore, LeavesSameRegistry};
+    ghost use Rattle.tables.specs.Adoption.{IsAdopted, IsFound, IsShown, LeavesAsFound, LeavesAsItWas, LeavesNoMore, LeavesSameRegistry};
+    ghost use Rattle.tables.specs.Readiness.{IsKnownAs};
     ghost use Rattle.tables.specs.Stored.{Covers};
 
     /// Gives back what the connection is over. A transaction that is open is undone.
@@ -293,17 +302,22 @@ impl<S: Alter + Drop> RowStore<S> {
     }
 
     /// A store of the rows of a database that was read anew, by its tables alone.
-    fn over(conn: Connection<S>, alloc: Global) -> Result<RowStore<S>, (BookFault, S)>
+    fn over(conn: Connection<S>, alloc: Global) -> Result<RowStore<S>, (Unadopted, S)>
         requires { IsFound (state S.Store conn) }
         ensures shown { (trees : Trees) → (HasCleanDisk (state S.Store conn) → (state S.Store conn).now.trees ≡ trees) → IfOk result (IsShown trees) }
+        ensures ours { IfOk result (λ store. store.readiness ≢ Ready.Other) }
         ensures honest { IfOk result (λ store. store.is_honest ≡ (state S.Store conn).is_clean) }
         ensures clean { IfErr result (λ e. IsClean (S.Store.view e.1) → HasCleanDisk (state S.Store conn)) }
         ensures refused { IfErr result (λ e. LeavesNoMore (state S.Store conn) (S.Store.recovers e.1)) }
+        ensures others { IfErr result (λ e. e.0 ≡ Unadopted.Other → HasCleanDisk (state S.Store conn) → IsKnownAs Ready.Other (state S.Store conn).now.trees) }
     {
         let form = match form_of(&conn, alloc) {
             Ok(form) => form,
-            Err(error) => return Err((fault_of(&error), conn.into_store())),
+            Err(error) => return Err((by_fault(fault_of(&error)), conn.into_store())),
         };
+        if let Form::Other = form {
+            return Err((Unadopted::Other, conn.into_store()));
+        }
         let left = Log::new().and(&conn, &form);
         Ok(RowStore {
             conn,
@@ -314,12 +328,16 @@ impl<S: Alter + Drop> RowStore<S> {
         })
     }
 
-    /// The same store. One whose row of `meta` has another number than this schema's shows no row.
-    fn numbered(store: RowStore<S>) -> Result<RowStore<S>, (BookFault, S)>
-        requires { (trees : Trees) × IsShown trees store }
+    /// The same store, unless its row of `meta` has another number than this schema's.
+    fn numbered(store: RowStore<S>) -> Result<RowStore<S>, (Unadopted, S)>
+        requires shown { (trees : Trees) × IsShown trees store }
+        requires ours { store.readiness ≢ Ready.Other }
         ensures adopted { (trees : Trees) → IsShown trees store → IfOk result (IsAdopted trees) }
+        ensures ours { IfOk result (λ it. it.readiness ≢ Ready.Other) }
         ensures honest { IfOk result (λ it. it.is_honest ≡ true → store.is_honest ≡ true) }
+        ensures clean { IfErr result (λ e. IsClean (S.Store.view e.1) → store.is_honest ≡ true) }
         ensures refused { (trees : Trees) → IsShown trees store → IfErr result (λ e. IsClean (S.Store.view e.1) → LeavesSameRegistry trees (S.Store.recovers e.1)) }
+        ensures others { (trees : Trees) → IsShown trees store → IfErr result (λ e. e.0 ≡ Unadopted.Other → IsClean (S.Store.view e.1) → IsKnownAs Ready.Other trees) }
     {
         let Form::Made = store.form else {
             return Ok(store);
@@ -327,29 +345,46 @@ impl<S: Alter + Drop> RowStore<S> {
         let mut store = store;
         let metas = match store.all_metas() {
             Ok(metas) => metas,
-            Err(fault) => return Err((fault, store.into_store())),
+            Err(fault) => return Err((by_fault(fault), store.into_store())),
         };
         if !is_numbered(metas.as_slice()) {
-            store.form = Form::Other;
-            store.left = Log::new().and(&store.conn, &Form::Other);
-            return Ok(store);
+            return Err((Unadopted::Other, store.into_store()));
         }
         let Form::Made = store.form else {
-            return Err((BookFault::Store, store.into_store()));
+            return Err((Unadopted::Store, store.into_store()));
         };
         Ok(store)
     }
 
-    /// A store of the rows of a database that was used before. It is read and checked anew, whole. After a
-    /// fault what the connection was over comes back, with what was committed as it was.
-    pub fn adopt(conn: Connection<S>, alloc: Global) -> Result<RowStore<S>, (BookFault, S)>
+    /// A store of the rows of a database that was just opened, of which the proof knows that its rows lie
+    /// in the order of their numbers. What isn't taken up is given back as it was found.
+    pub fn taken(conn: Connection<S>, alloc: Global) -> Result<RowStore<S>, (Unadopted, S)>
+        requires { IsFound (state S.Store conn) }
         ensures adopted { IfOk result (IsAdopted (state S.Store conn).committed.trees) }
+        ensures ours { IfOk result (λ store. store.readiness ≢ Ready.Other) }
         ensures honest { IfOk result (λ store. store.is_honest ≡ true → HasCleanDisk (state S.Store conn)) }
-        ensures refused { IfErr result (λ e. IsClean (S.Store.view e.1) → LeavesAsItWas (state S.Store conn) (S.Store.recovers e.1)) }
+        ensures clean { IfErr result (λ e. IsClean (S.Store.view e.1) → HasCleanDisk (state S.Store conn)) }
+        ensures refused { IfErr result (λ e. IsClean (S.Store.view e.1) → LeavesAsFound (state S.Store conn).committed.trees (S.Store.recovers e.1)) }
+        ensures others { IfErr result (λ e. e.0 ≡ Unadopted.Other → IsClean (S.Store.view e.1) → IsKnownAs Ready.Other (state S.Store conn).committed.trees) }
     {
-        let conn = reread(conn, alloc)?;
         let store = RowStore::over(conn, alloc)?;
         RowStore::numbered(store)
+    }
+
+    /// A store of the rows of a database that was used before. It is read and checked anew, whole. What
+    /// isn't taken up is given back, with what was committed as it was: after a fault, and where it is
+    /// something else's.
+    pub fn adopt(conn: Connection<S>, alloc: Global) -> Result<RowStore<S>, (Unadopted, S)>
+        ensures adopted { IfOk result (IsAdopted (state S.Store conn).committed.trees) }
+        ensures ours { IfOk result (λ store. store.readiness ≢ Ready.Other) }
+        ensures honest { IfOk result (λ store. store.is_honest ≡ true → HasCleanDisk (state S.Store conn)) }
+        ensures refused { IfErr result (λ e. IsClean (S.Store.view e.1) → LeavesAsItWas (state S.Store conn) (S.Store.recovers e.1)) }
+        ensures others { IfErr result (λ e. e.0 ≡ Unadopted.Other → IsClean (S.Store.view e.1) → IsKnownAs Ready.Other (state S.Store conn).committed.trees) }
+    {
+        match reread(conn, alloc) {
+            Ok(conn) => RowStore::taken(conn, alloc),
+            Err((fault, store)) => Err((by_fault(fault), store)),
+        }
     }
 }
 

@@ -1,6 +1,7 @@
 //! The last transfer of each object that had one.
 ghost use Rattle.std.specs.Prelude.{◌≡◌, true, filter};
 ghost use Rattle.sqlite_keyed.specs.Lists.{delete_where};
+ghost use Rattle.sqlite_keyed.specs.Keyed.{insert_by};
 ghost use Rattle.tables.specs.Content.{transfers_to};
 ghost use Rattle.transactions.specs.States.{Finds, Makes};
 ghost use Rattle.rows.specs.Layouts.{appended};
@@ -25,6 +26,9 @@ const PENDING_BY_REQUESTER: &str =
 
 const PENDING_BY_LOSING: &str =
     "SELECT id, contact, domain, requester, losing, requested, ac_date, due, state FROM transfer WHERE losing = ?1 AND due >= 0 ORDER BY id";
+
+const PUT: &str =
+    "INSERT INTO transfer (id, contact, domain, requester, losing, requested, ac_date, due, state) VALUES (?1, ?2, ?3, ?4, ?5, ?6, ?7, ?8, ?9) ON CONFLICT (id) DO UPDATE SET contact = excluded.contact, domain = excluded.domain, requester = excluded.requester, losing = excluded.losing, requested = excluded.requested, ac_date = excluded.ac_date, due = excluded.due, state = excluded.state";
 
 const APPEND: &str =
     "INSERT INTO transfer (contact, domain, requester, losing, requested, ac_date, due, state) VALUES (?1, ?2, ?3, ?4, ?5, ?6, ?7, ?8)";
@@ -140,6 +144,14 @@ impl<S: Alter> RowStore<S> {
         ensures { Finds result (filter (transfer_pending_from losing) self.old.content.transfers) self.old self.new }
     {
         self.select(PENDING_BY_LOSING, params![losing])
+    }
+
+    /// Puts a row in the place of the one with its number, or beside all others.
+    pub fn put_transfer(&mut self, transfer: &TransferRow) -> Result<(), BookFault>
+        requires { self.old.is_open ≡ true }
+        ensures { Makes result (transfers_to (λ xs. insert_by transfers.key xs transfer.now) self.old.content) self.old self.new }
+    {
+        self.write(PUT, &transfer.params())
     }
 
     /// Adds a row at the end, with the number after the last one. The given row's number isn't looked at.

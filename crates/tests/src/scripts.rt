@@ -221,7 +221,7 @@ fn statuses(rt: HostRuntime) -> Result<(), Fail> {
         (
             Exit::Usage,
             2,
-            "usage: tldreg run|serve|zone|deposit POLICY ...",
+            "usage: tldreg run|serve|zone|deposit|migrate POLICY ...",
         ),
         (Exit::Refused, 1, ""),
         (Exit::Script(18), 1, "script: line 18"),

@@ -1,7 +1,6 @@
 //! The command line.
-ghost use Rattle.std.specs.Prelude.{◌≡◌, IfErr};
-ghost use Rattle.std.specs.Str.Parse.{ParsesSigned};
-ghost use Rattle.std.specs.Int.{w64};
+ghost use Rattle.std.specs.Prelude.{◌≡◌, ◌⊎◌, ◌∷◌, IfErr, codes, drop};
+ghost use Rattle.script.specs.declared.exit.Exit.TheVariants as exits;
 ghost use Rattle.tldreg.specs.Words as spec;
 
 use calendar::Moment;
@@ -15,6 +14,12 @@ pub enum Task {
     /// `run POLICY`
     Run {
         policy: String,
+    },
+    /// `migrate POLICY OLD NEW`
+    Migrate {
+        policy: String,
+        from: String,
+        to: String,
     },
     /// `serve`, `zone`, `deposit` or `order` with `POLICY DB`, and what the job has besides
     OnDatabase {
@@ -48,48 +53,18 @@ pub enum Job {
     },
 }
 
-/// The task of the words behind the program's name.
-pub fn read_task(rt: &(impl Env + AllocGlobal)) -> Result<Task, Exit> {
-    let mut words = words_of(rt)?.skip(1);
-    let word = given(words.next())?;
-    let policy = given(words.next())?;
-    let task = if word.as_str() == "run" {
-        Task::Run { policy }
-    } else {
-        let database = given(words.next())?;
-        let first = given(words.next())?;
-        let job = match word.as_str() {
-            "serve" => Job::Serve {
-                port: port_of(first.as_str())?,
-            },
-            "zone" => Job::Zone {
-                moment: moment_of(first.as_str())?,
-            },
-            "deposit" => Job::Deposit {
-                moment: moment_of(first.as_str())?,
-                registrar: given(words.next())?,
-                cents: cents_of(given(words.next())?.as_str())?,
-            },
-            "order" => Job::Order {
-                moment: moment_of(first.as_str())?,
-                json: given(words.next())?,
-            },
-            _ => return Err(Exit::Usage),
-        };
-        Task::OnDatabase {
-            policy,
-            database,
-            job,
-        }
-    };
-    match words.next() {
-        None => Ok(task),
-        Some(_) => Err(Exit::Usage),
-    }
+/// The task of the words that the program was started with. No clause can say what words the machine gives:
+/// `task_of` says what is made of any.
+pub fn read_task(rt: &(impl Env + AllocGlobal)) -> Result<Task, Exit>
+    ensures { IfErr result (λ exit. (exit ≡ exits.Usage) ⊎ (exit ≡ exits.Memory)) }
+{
+    task_of(words_of(rt)?)
 }
 
 /// All words. One that isn't UTF-8 makes a wrong command line.
-fn words_of(rt: &(impl Env + AllocGlobal)) -> Result<Args, Exit> {
+fn words_of(rt: &(impl Env + AllocGlobal)) -> Result<Args, Exit>
+    ensures { IfErr result (λ exit. (exit ≡ exits.Usage) ⊎ (exit ≡ exits.Memory)) }
+{
     match env::args(rt) {
         Ok(words) => Ok(words),
         Err(error) => match Exit::from(error) {
@@ -99,19 +74,156 @@ fn words_of(rt: &(impl Env + AllocGlobal)) -> Result<Args, Exit> {
     }
 }
 
-/// A word, where there is one.
-fn given(word: Option<String>) -> Result<String, Exit>
-    ensures { result ≡ spec.given word }
+// ---- tasks
+
+/// The task of the words, of which the first is the program's name.
+fn task_of(words: Args) -> Result<Task, Exit>
+    ensures { spec.Reads (spec.Asks (drop 1 (spec.texts words))) result }
 {
-    match word {
+    let mut words = words;
+    let _program = words.next();
+    let word = next_word(&mut words)?;
+    match word.as_str() {
+        "run" => run_of(words),
+        "migrate" => migrate_of(words),
+        "serve" => serve_of(words),
+        "zone" => zone_of(words),
+        "deposit" => deposit_of(words),
+        "order" => order_of(words),
+        _ => Err(Exit::Usage),
+    }
+}
+
+/// `run POLICY`, of the words behind the first.
+fn run_of(words: Args) -> Result<Task, Exit>
+    ensures { spec.Reads (spec.Asks (codes "run" ∷ spec.texts words)) result }
+{
+    let mut words = words;
+    let policy = next_word(&mut words)?;
+    end_of_words(words)?;
+    Ok(Task::Run { policy })
+}
+
+/// `migrate POLICY OLD NEW`
+fn migrate_of(words: Args) -> Result<Task, Exit>
+    ensures { spec.Reads (spec.Asks (codes "migrate" ∷ spec.texts words)) result }
+{
+    let mut words = words;
+    let policy = next_word(&mut words)?;
+    let from = next_word(&mut words)?;
+    let to = next_word(&mut words)?;
+    end_of_words(words)?;
+    Ok(Task::Migrate { policy, from, to })
+}
+
+/// `serve POLICY DB PORT`
+fn serve_of(words: Args) -> Result<Task, Exit>
+    ensures { spec.Reads (spec.Asks (codes "serve" ∷ spec.texts words)) result }
+{
+    let mut words = words;
+    let policy = next_word(&mut words)?;
+    let database = next_word(&mut words)?;
+    let port = next_word(&mut words)?;
+    end_of_words(words)?;
+    let job = Job::Serve {
+        port: port_of(port.as_str())?,
+    };
+    Ok(Task::OnDatabase {
+        policy,
+        database,
+        job,
+    })
+}
+
+/// `zone POLICY DB MOMENT`
+fn zone_of(words: Args) -> Result<Task, Exit>
+    ensures { spec.Reads (spec.Asks (codes "zone" ∷ spec.texts words)) result }
+{
+    let mut words = words;
+    let policy = next_word(&mut words)?;
+    let database = next_word(&mut words)?;
+    let moment = next_word(&mut words)?;
+    end_of_words(words)?;
+    let job = Job::Zone {
+        moment: moment_of(moment.as_str())?,
+    };
+    Ok(Task::OnDatabase {
+        policy,
+        database,
+        job,
+    })
+}
+
+/// `deposit POLICY DB MOMENT REGISTRAR CENTS`
+fn deposit_of(words: Args) -> Result<Task, Exit>
+    ensures { spec.Reads (spec.Asks (codes "deposit" ∷ spec.texts words)) result }
+{
+    let mut words = words;
+    let policy = next_word(&mut words)?;
+    let database = next_word(&mut words)?;
+    let moment = next_word(&mut words)?;
+    let registrar = next_word(&mut words)?;
+    let cents = next_word(&mut words)?;
+    end_of_words(words)?;
+    let job = Job::Deposit {
+        moment: moment_of(moment.as_str())?,
+        registrar,
+        cents: cents_of(cents.as_str())?,
+    };
+    Ok(Task::OnDatabase {
+        policy,
+        database,
+        job,
+    })
+}
+
+/// `order POLICY DB MOMENT JSON`
+fn order_of(words: Args) -> Result<Task, Exit>
+    ensures { spec.Reads (spec.Asks (codes "order" ∷ spec.texts words)) result }
+{
+    let mut words = words;
+    let policy = next_word(&mut words)?;
+    let database = next_word(&mut words)?;
+    let moment = next_word(&mut words)?;
+    let json = next_word(&mut words)?;
+    end_of_words(words)?;
+    let job = Job::Order {
+        moment: moment_of(moment.as_str())?,
+        json,
+    };
+    Ok(Task::OnDatabase {
+        policy,
+        database,
+        job,
+    })
+}
+
+// ---- words
+
+/// The next word, where there is one.
+fn next_word(words: &mut Args) -> Result<String, Exit>
+    ensures { spec.IsNext (spec.texts words.old) result (spec.texts words.new) }
+{
+    match words.next() {
         Some(word) => Ok(word),
         None => Err(Exit::Usage),
     }
 }
 
+/// The end, where no word is left.
+fn end_of_words(words: Args) -> Result<(), Exit>
+    ensures { spec.IsEnd (spec.texts words) result }
+{
+    let mut words = words;
+    match words.next() {
+        None => Ok(()),
+        Some(_) => Err(Exit::Usage),
+    }
+}
+
 /// A port, from 1 to 65535.
 fn port_of(word: &str) -> Result<u16, Exit>
-    ensures { spec.ReadsPort word.now result }
+    ensures { spec.Reads (spec.IsPort word.now) result }
 {
     match word.parse() {
         Ok(0) | Err(_) => Err(Exit::Usage),
@@ -121,18 +233,21 @@ fn port_of(word: &str) -> Result<u16, Exit>
 
 /// A moment's text.
 fn moment_of(word: &str) -> Result<Moment, Exit>
-    ensures { spec.ReadsMoment word.now result }
+    ensures { spec.Reads (spec.IsMomentText word.now) result }
 {
     match Moment::read(word) {
-        Some(moment) => Ok(moment),
+        Some(moment) => {
+            // Shows the prover that it is within the range.
+            let _secs = moment.secs();
+            Ok(moment)
+        }
         None => Err(Exit::Usage),
     }
 }
 
 /// A number of cents, whether so many can be deposited or not.
 fn cents_of(word: &str) -> Result<i64, Exit>
-    ensures number { ParsesSigned w64 10 word.now result }
-    ensures usage { IfErr result (λ exit. exit ≡ Exit.Usage) }
+    ensures { spec.Reads (spec.IsCents word.now) result }
 {
     match word.parse() {
         Ok(cents) => Ok(cents),

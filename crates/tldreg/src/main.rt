@@ -13,9 +13,9 @@ use database::{is_in_memory, open, policy_in};
 use policy::Policy;
 use protocol::Code;
 use registry::{OpenFault, Registry};
-use script::{Exit, deposit_on, order_on, run_script};
+use script::{Exit, deposit_on, migrate_on, order_on, run_script};
 use server::{HandOverFault, MachineClock, serve_each, zone_on};
-use sqlite::Unknown;
+use sqlite::{Alter, Connection, Unknown};
 use std::net::{Ipv4Addr, TcpListener};
 use std::process::ExitCode;
 use std::rt::Files;
@@ -42,7 +42,7 @@ fn work_on(rt: &HostRuntime, policy: &str, database: &str, job: &Job) -> Result<
 /// The same over a file. It hands on what opening gave: a call with a book of a known kind costs the prover
 /// much.
 fn work_in_file(rt: &HostRuntime, path: &str, policy: Policy, job: &Job) -> Result<(), Exit> {
-    work_with(rt, restarts::open_in(rt, path, Unknown, policy), job)
+    work_with(rt, restarts::registry_in(rt, path, Unknown, policy), job)
 }
 
 /// The same over a book, if it was made, in which no transaction is open.
@@ -149,9 +149,46 @@ fn end_of(code: Code) -> Result<(), Exit>
     }
 }
 
+/// Takes the registry of one database file over into another. Where there is no file of the first name, none
+/// is made.
+fn migrate(rt: &HostRuntime, policy: &str, from: &str, to: &str) -> Result<(), Exit> {
+    let policy = policy_in(rt, policy)?;
+    drop(fs::open(rt, from)?);
+    migrate_from(rt, &policy, restarts::connection_in(rt, from, Unknown), to)
+}
+
+/// The same from a connection, if it was opened.
+fn migrate_from<S: Alter + Drop>(
+    rt: &HostRuntime,
+    policy: &Policy,
+    from: Result<Connection<S>, OpenFault>,
+    to: &str,
+) -> Result<(), Exit> {
+    match from {
+        Ok(from) => migrate_to(rt, policy, from, restarts::connection_in(rt, to, Unknown)),
+        Err(fault) => Err(Exit::Open(fault)),
+    }
+}
+
+/// The same into a connection, if it was opened.
+fn migrate_to<S: Alter + Drop, T: Alter + Drop>(
+    rt: &HostRuntime,
+    policy: &Policy,
+    from: Connection<S>,
+    to: Result<Connection<T>, OpenFault>,
+) -> Result<(), Exit> {
+    match to {
+        Ok(to) => migrate_on(rt.alloc(), policy, from, to).result(),
+        Err(fault) => Err(Exit::Open(fault)),
+    }
+}
+
 fn perform(rt: &HostRuntime) -> Result<(), Exit> {
     match read_task(rt)? {
         Task::Run { policy } => run(rt, policy.as_str()),
+        Task::Migrate { policy, from, to } => {
+            migrate(rt, policy.as_str(), from.as_str(), to.as_str())
+        }
         Task::OnDatabase {
             policy,
             database,

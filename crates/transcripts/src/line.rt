@@ -14,6 +14,8 @@ pub enum Mark<'a> {
     Begin(&'a [u8]),
     /// The file with the policy.
     Policy(&'a [u8]),
+    /// The file with the policy under which the book is opened again.
+    Reopen(&'a [u8]),
     /// What stands in the policy, and what takes its place.
     Change(&'a [u8]),
     /// The file whose lines are sent before.
@@ -41,6 +43,9 @@ impl<'a> Mark<'a> {
         }
         if let Some(file) = behind(b"policy: ", text) {
             return Some(Mark::Policy(file));
+        }
+        if let Some(file) = behind(b"reopen: ", text) {
+            return Some(Mark::Reopen(file));
         }
         if let Some(change) = behind(b"change: ", text) {
             return Some(Mark::Change(change));
@@ -76,6 +81,11 @@ impl Line<'_> {
     /// Whether a transcript begins here.
     pub fn begins(&self) -> bool {
         matches!(self.mark, Mark::Begin(_))
+    }
+
+    /// Whether the book is opened again here.
+    pub fn reopens(&self) -> bool {
+        matches!(self.mark, Mark::Reopen(_))
     }
 
     /// Whether a reply must follow here.

@@ -3,6 +3,7 @@
 //! - `transcript: NAME`: a transcript begins, over an empty registry,
 //! - `policy: FILE`: the policy that it runs under,
 //! - `change: OLD => NEW`: a text of that policy, and what takes its place,
+//! - `reopen: FILE`: the book is opened again, under the policy of that file,
 //! - `prelude: FILE`: the transcripts whose lines are sent first,
 //! - `C: LINE`: a line of the script, and below it
 //! - `S: LINE`: its reply,
@@ -13,16 +14,17 @@
 //! replies were as written, below what wasn't. The status is 1 where anything differs.
 #![tactic(auto)]
 
+mod chapter;
 mod line;
 mod transcript;
 
-use anyhow::{Context, Result, bail};
+use anyhow::{Context, Result};
 use line::{Line, Mark, lines_of};
 use std::io::Write;
 use std::process::ExitCode;
 use std::rt::{Env, Files};
 use std::{env, fs, io, str};
-use transcript::{Outcome, Transcript, run_transcript};
+use transcript::{Outcome, Prepared, Transcript, run_transcript};
 
 /// The bytes of a file that a transcript names.
 fn read_named(rt: &(impl Files + AllocGlobal), name: &[u8]) -> Result<Vec<u8>> {
@@ -42,19 +44,20 @@ fn run_one(
     Ok(outcome.differences.is_empty())
 }
 
-/// What running it gives, under its policy and behind its prelude.
+/// What running it gives, under its policies and behind its prelude.
 fn outcome_of(rt: &(impl Files + AllocGlobal), transcript: Transcript<'_>) -> Result<Outcome> {
     let alloc = rt.alloc();
-    let Some(policy) = transcript.policy() else {
-        bail!("a transcript without a policy");
-    };
-    let policy = transcript.changed(alloc, read_named(rt, policy)?)?;
+    let mut parts = Vec::new(alloc);
+    for part in transcript.parts(alloc)? {
+        let policy = part.changed(alloc, read_named(rt, part.file)?)?;
+        parts.push(Prepared { policy, part })?;
+    }
     let before = match transcript.prelude() {
         Some(prelude) => read_named(rt, prelude)?,
         None => Vec::new(alloc),
     };
     let prelude = lines_of(alloc, &before)?;
-    run_transcript(alloc, &policy, &prelude, transcript)
+    run_transcript(alloc, &parts, &prelude, transcript)
 }
 
 /// Prints what differed, and how many replies were as written.

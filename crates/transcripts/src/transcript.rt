@@ -3,14 +3,15 @@ ghost use Rattle.std.specs.Prelude.{◌≡◌, ◌==◌};
 ghost use Rattle.std.specs.List.{before_first, after_first, position};
 ghost use Rattle.transcripts.specs.declared.transcript.TheConstants.{LINE_FEED};
 
+use crate::chapter::{Chapter, run_chapters};
 use crate::line::{Line, Mark};
 use anyhow::{Context, Result, bail};
-use policy::Policy;
-use registry::Registry;
-use script::{Exit, run_on, run_script};
+use registry::OpenFault;
+use script::{Exit, run_script};
+use sqlbook::in_memory;
 use std::alloc::Global;
 use std::str;
-use store::PlainBook;
+use store::{BookFault, PlainBook};
 
 const LINE_FEED: u8 = b'\n';
 
@@ -31,25 +32,20 @@ impl<'a> Transcript<'a> {
         }
     }
 
-    /// The file with the policy.
-    pub fn policy(self) -> Option<&'a [u8]> {
-        for line in self.lines {
-            if let Mark::Policy(file) = line.mark {
-                return Some(file);
+    /// Its parts: the first runs under the policy that it names, each other one under that with which the
+    /// book is opened again.
+    pub fn parts(self, alloc: Global) -> Result<Vec<Part<'a>>> {
+        let mut parts = Vec::new(alloc);
+        let Some(file) = policy_of(self.lines) else {
+            bail!("a transcript without a policy");
+        };
+        parts.push(Part::new(file, self.lines))?;
+        for (index, line) in self.lines.iter().enumerate() {
+            if let Mark::Reopen(file) = line.mark {
+                parts.push(Part::new(file, &self.lines[index + 1..]))?;
             }
         }
-        None
-    }
-
-    /// The policy with its changes, one after the other.
-    pub fn changed(self, alloc: Global, policy: Vec<u8>) -> Result<Vec<u8>> {
-        let mut policy = policy;
-        for line in self.lines {
-            if let Mark::Change(change) = line.mark {
-                policy = changed(alloc, &policy, change)?;
-            }
-        }
-        Ok(policy)
+        Ok(parts)
     }
 
     /// The file whose lines are sent before.
@@ -71,6 +67,55 @@ impl<'a> Transcript<'a> {
         }
         b""
     }
+}
+
+/// The file with the policy that a transcript begins under.
+fn policy_of<'a>(lines: &[Line<'a>]) -> Option<&'a [u8]> {
+    for line in lines {
+        if let Mark::Policy(file) = line.mark {
+            return Some(file);
+        }
+    }
+    None
+}
+
+/// The lines of a transcript that run under one policy.
+#[derive(Clone, Copy)]
+pub struct Part<'a> {
+    /// The file with the policy.
+    pub file: &'a [u8],
+    lines: &'a [Line<'a>],
+}
+
+impl<'a> Part<'a> {
+    /// Those of these lines up to where the book is opened again.
+    fn new(file: &'a [u8], lines: &'a [Line<'a>]) -> Part<'a> {
+        match lines.iter().position(|line| line.reopens()) {
+            Some(end) => Part {
+                file,
+                lines: &lines[..end],
+            },
+            None => Part { file, lines },
+        }
+    }
+
+    /// The policy with its changes, one after the other.
+    pub fn changed(self, alloc: Global, policy: Vec<u8>) -> Result<Vec<u8>> {
+        let mut policy = policy;
+        for line in self.lines {
+            if let Mark::Change(change) = line.mark {
+                policy = changed(alloc, &policy, change)?;
+            }
+        }
+        Ok(policy)
+    }
+}
+
+/// A part with its policy.
+#[derive(Drop)]
+pub struct Prepared<'a> {
+    pub policy: Vec<u8>,
+    pub part: Part<'a>,
 }
 
 /// A text in which `NEW` of `OLD => NEW` takes the place of `OLD`, which stands there. Where `NEW` has
@@ -126,12 +171,12 @@ impl Settled {
     }
 }
 
-/// Runs a transcript under a policy, behind the lines of its prelude. Where its script is to end well, it is run
+/// Runs a transcript, part by part, behind the lines of its prelude. Where its script is to end well, it is run
 /// with settlements before each of its lines, too: no reply hangs on them but those that tell how much a settlement
 /// did.
 pub fn run_transcript(
     alloc: Global,
-    policy: &[u8],
+    parts: &[Prepared<'_>],
     prelude: &[Line<'_>],
     transcript: Transcript<'_>,
 ) -> Result<Outcome> {
@@ -140,7 +185,7 @@ pub fn run_transcript(
     for settled in [Settled::Nothing, Settled::OneObject, Settled::All] {
         if settled.order().is_none() || transcript.end().is_empty() {
             let run = Run {
-                policy,
+                parts,
                 prelude,
                 transcript,
                 settled,
@@ -158,31 +203,41 @@ pub fn run_transcript(
 /// A run of a transcript.
 #[derive(Clone, Copy)]
 struct Run<'a> {
-    policy: &'a [u8],
+    parts: &'a [Prepared<'a>],
     prelude: &'a [Line<'a>],
     transcript: Transcript<'a>,
     settled: Settled,
 }
 
-impl Run<'_> {
+impl<'a> Run<'a> {
     /// How many replies are as written over both books, that in the rows of a database and that in ordered maps;
     /// what differs is added.
     fn compared(self, alloc: Global, differences: &mut Vec<u8>) -> Result<usize> {
-        let script = self.script(alloc)?;
+        let chapters = self.chapters(alloc)?;
         let mut printed = Vec::new(alloc);
-        let exit = run_script(alloc, self.policy, script.as_slice(), &mut printed);
+        let exit = run_over_rows(alloc, &chapters, &mut printed);
         let over_rows = self.judge(alloc, &printed, exit, differences)?;
         let mut printed = Vec::new(alloc);
-        let exit = run_over_maps(alloc, self.policy, script.as_slice(), &mut printed);
+        let exit = run_chapters(alloc, PlainBook::new(alloc), &chapters, &mut printed);
         let over_maps = self.judge(alloc, &printed, exit, differences)?;
         Ok(over_rows.min(over_maps))
     }
 
-    fn script(self, alloc: Global) -> Result<Vec<u8>> {
-        let mut script = Vec::new(alloc);
-        add_script(&mut script, self.prelude, Settled::Nothing)?;
-        add_script(&mut script, self.transcript.lines, self.settled)?;
-        Ok(script)
+    /// What is sent: the lines of the prelude, and those of the parts.
+    fn chapters(self, alloc: Global) -> Result<Vec<Chapter<'a>>> {
+        let mut chapters = Vec::new(alloc);
+        for (index, prepared) in self.parts.iter().enumerate() {
+            let mut script = Vec::new(alloc);
+            if index == 0 {
+                add_script(&mut script, self.prelude, Settled::Nothing)?;
+            }
+            add_script(&mut script, prepared.part.lines, self.settled)?;
+            chapters.push(Chapter {
+                policy: &prepared.policy,
+                script,
+            })?;
+        }
+        Ok(chapters)
     }
 
     /// How many replies of what was printed, behind those of the prelude, are as written; what differs is added.
@@ -206,22 +261,15 @@ impl Run<'_> {
     }
 }
 
-/// Answers a script over a registry in ordered maps, which starts empty.
-fn run_over_maps(alloc: Global, policy: &[u8], script: &[u8], printed: &mut Vec<u8>) -> Exit {
-    let policy = match Policy::read(alloc, policy) {
-        Ok(policy) => policy,
-        Err(fault) => return Exit::Policy(fault),
-    };
-    match Registry::open(alloc, PlainBook::new(alloc), policy) {
-        Ok(mut registry) => {
-            let exit = run_on(alloc, &mut registry, script, printed);
-            drop(registry);
-            exit
-        }
-        Err((fault, book)) => {
-            drop(book);
-            Exit::Open(fault)
-        }
+/// Answers the scripts over the rows of a database in memory, which starts empty; one alone as the program does.
+fn run_over_rows(alloc: Global, chapters: &[Chapter<'_>], printed: &mut Vec<u8>) -> Exit {
+    if let [chapter] = chapters {
+        return run_script(alloc, chapter.policy, chapter.script.as_slice(), printed);
+    }
+    match in_memory(alloc) {
+        Ok(book) => run_chapters(alloc, book, chapters, printed),
+        Err(BookFault::Memory) => Exit::Open(OpenFault::Memory),
+        Err(BookFault::Store) => Exit::Open(OpenFault::Store),
     }
 }
 

@@ -49,7 +49,8 @@ abbrev pub the_contact : Request → Facts → Option (Seen Contact ContactFace)
 the_contact q f = option_and_then (contact_seen f) (slice_get (contacts_asked q) 0)
 
 abbrev pub the_domain : Request → Facts → Option (Seen FullDomain DomainFace)
-the_domain q f = option_and_then (λ name. domain_seen f (name_of name)) (slice_get (domains_asked q) 0)
+the_domain q f =
+    option_and_then (λ name. domain_seen f (name_of name)) (slice_get (domains_asked q) 0)
 
 abbrev pub host_known : Request → Facts → Option HostFacts
 host_known q f = option_and_then (λ name. host_at f (name_of name)) (slice_get (hosts_asked q) 0)
@@ -129,7 +130,8 @@ is_registrar r sponsor = holds_of (λ it. it == r) sponsor
 
 -- another sponsors the host
 abbrev pub host_is_anothers : ZoneRules → ℕ → Option HostFacts → Bool
-host_is_anothers zone r known = holds_of (λ it. holds_of (λ h. not (is_registrar r (host_sponsor zone it h))) it.host) known
+host_is_anothers zone r known =
+    holds_of (λ it. holds_of (λ h. not (is_registrar r (host_sponsor zone it h))) it.host) known
 
 -- what is seen opens with the secret: who presents the right one sees all
 abbrev pub is_authorized : {O F : Type 0} → (O → List ℕ) → Option (List ℕ) → Seen O F → Bool
@@ -138,10 +140,12 @@ is_authorized secret_of secret (TransferParty face t) = false
 is_authorized secret_of secret (Public face) = false
 
 -- a secret is presented by another than the sponsor, and isn't right
-abbrev pub presents_wrong : {O F : Type 0} → (O → ℕ) → (O → List ℕ) → ℕ → Option (List ℕ) → Option (Seen O F) → Bool
+abbrev pub presents_wrong : {O F : Type 0} → (O → ℕ) → (O → List ℕ) → ℕ → Option (List ℕ)
+    → Option (Seen O F) → Bool
 presents_wrong sponsor secret_of r None seen = false
 presents_wrong sponsor secret_of r (Some secret) None = false
-presents_wrong sponsor secret_of r (Some secret) (Some seen) = not (is_own sponsor r seen) && not (is_authorized secret_of (Some secret) seen)
+presents_wrong sponsor secret_of r (Some secret) (Some seen) =
+    not (is_own sponsor r seen) && not (is_authorized secret_of (Some secret) seen)
 
 abbrev pub is_of_another : ZoneRules → ℕ → Request → Facts → Bool
 is_of_another zone r q f =
@@ -182,10 +186,12 @@ abbrev pub has_no_superordinate : ZoneRules → HostFacts → Bool
 has_no_superordinate zone known = is_inside zone known.name && is_none known.superordinate
 
 abbrev pub superordinate_is_anothers : ZoneRules → ℕ → HostFacts → Bool
-superordinate_is_anothers zone r known = is_inside zone known.name && holds_of (λ above. not (above.sponsor == r)) known.superordinate
+superordinate_is_anothers zone r known =
+    is_inside zone known.name && holds_of (λ above. not (above.sponsor == r)) known.superordinate
 
 abbrev pub superordinate_is_deleted : ZoneRules → HostFacts → Bool
-superordinate_is_deleted zone known = is_inside zone known.name && holds_of (λ above. above.is_deleted) known.superordinate
+superordinate_is_deleted zone known =
+    is_inside zone known.name && holds_of (λ above. above.is_deleted) known.superordinate
 
 -- ---- statuses that are shown
 
@@ -213,7 +219,8 @@ shows_status status q f =
 
 -- the object shows the status, and the request doesn't take it away
 abbrev pub still_shows : Status → Request → Facts → Bool
-still_shows status q f = shows_status status q f && not (has_status (asks_of q).removes.statuses status)
+still_shows status q f =
+    shows_status status q f && not (has_status (asks_of q).removes.statuses status)
 
 -- ---- links
 
@@ -230,7 +237,8 @@ is_linked q f = contact_is_linked q f || host_is_linked q f
 -- ---- the hosts below a domain (RFC 5731, 3.2.2)
 
 abbrev pub domain_known : Request → Facts → Option DomainFacts
-domain_known q f = option_and_then (λ name. domain_at f (name_of name)) (slice_get (domains_asked q) 0)
+domain_known q f =
+    option_and_then (λ name. domain_at f (name_of name)) (slice_get (domains_asked q) 0)
 
 abbrev pub has_subordinates : Request → Facts → Bool
 has_subordinates q f = holds_of (λ known. not (is_empty known.subordinate)) (domain_known q f)
@@ -253,7 +261,8 @@ domain_has lists d =
     || (adds_what_is_there itself d.links.tech lists.tech || any_set d.statuses lists.statuses))
 
 abbrev pub host_has : GivenLists → Host → Bool
-host_has lists h = adds_what_is_there itself h.addresses lists.addresses || any_set h.statuses lists.statuses
+host_has lists h =
+    adds_what_is_there itself h.addresses lists.addresses || any_set h.statuses lists.statuses
 
 -- something is added that is there
 abbrev pub adds_known : Request → Facts → Bool
@@ -270,7 +279,8 @@ domain_lacks lists d =
     || (removes_what_is_not itself d.links.tech lists.tech || any_unset d.statuses lists.statuses))
 
 abbrev pub host_lacks : GivenLists → Host → Bool
-host_lacks lists h = removes_what_is_not itself h.addresses lists.addresses || any_unset h.statuses lists.statuses
+host_lacks lists h =
+    removes_what_is_not itself h.addresses lists.addresses || any_unset h.statuses lists.statuses
 
 -- something is removed that isn't there
 abbrev pub removes_unknown : Request → Facts → Bool
@@ -285,7 +295,8 @@ domain_is_over removed added d =
     || is_over itself MOST_CONTACTS d.links.tech removed.tech added.tech)
 
 abbrev pub host_is_over : GivenLists → GivenLists → Host → Bool
-host_is_over removed added h = is_over itself MOST_ADDRESSES h.addresses removed.addresses added.addresses
+host_is_over removed added h =
+    is_over itself MOST_ADDRESSES h.addresses removed.addresses added.addresses
 
 -- one of the lists alone is longer than an object's may be
 abbrev pub are_too_long : GivenLists → Bool
@@ -328,7 +339,8 @@ renewed_expiry years d = plus_years d.created (d.years + years)
 
 -- the domain would be registered for more than ten years from the moment on
 abbrev pub passes_ten_years : ℕ → Request → Facts → Bool
-passes_ten_years t q f = holds_of (λ d. nat_lt (plus_years t 10) (renewed_expiry (asks_of q).years d)) (full_domain q f)
+passes_ten_years t q f =
+    holds_of (λ d. nat_lt (plus_years t 10) (renewed_expiry (asks_of q).years d)) (full_domain q f)
 
 -- the date isn't that on which the domain is shown to expire
 abbrev pub is_another_date : Domain → List ℕ → Bool
@@ -336,7 +348,8 @@ is_another_date d date = not (bytes_eq date (date_text (date_of (shown_expiry d 
 
 -- so that a renewal that is sent twice doesn't renew twice
 abbrev pub expires_otherwise : Request → Facts → Bool
-expires_otherwise q f = holds_of (λ d. holds_of (is_another_date d) (asks_of q).expires) (full_domain q f)
+expires_otherwise q f =
+    holds_of (λ d. holds_of (is_another_date d) (asks_of q).expires) (full_domain q f)
 
 -- ---- restoration (RFC 3915, 3.1 and 4.2.5)
 
@@ -365,7 +378,8 @@ is_another_report del_time res_time d =
 
 -- the report isn't on this deletion, or not on the last request to restore from it
 abbrev pub report_differs : Request → Facts → Bool
-report_differs q f = holds_of (is_another_report (asks_of q).del_time (asks_of q).res_time) (full_domain q f)
+report_differs q f =
+    holds_of (is_another_report (asks_of q).del_time (asks_of q).res_time) (full_domain q f)
 
 -- ---- transfers (RFC 5730, 2.9.3.4)
 
@@ -403,7 +417,8 @@ abbrev pub is_stranger : ℕ → Request → Facts → Bool
 is_stranger r q f = not (is_involved r q f) && is_none (asks_of q).secret
 
 abbrev pub strangers_secret_is_wrong : ℕ → Request → Facts → Bool
-strangers_secret_is_wrong r q f = not (is_involved r q f) && (is_some (asks_of q).secret && not (presents_secret q f))
+strangers_secret_is_wrong r q f =
+    not (is_involved r q f) && (is_some (asks_of q).secret && not (presents_secret q f))
 
 -- the registrar asked for the last transfer
 abbrev pub is_requester : ℕ → Request → Facts → Bool
@@ -420,13 +435,15 @@ domain_is_locked p t q f = holds_of (is_locked p t) (full_domain q f)
 
 -- the oldest message has the identifier that is acknowledged, if one is
 abbrev pub is_oldest : Request → Facts → Bool
-is_oldest q f = holds_of (λ id. holds_of (λ oldest. bytes_eq oldest.id id) f.queue.oldest) (asks_of q).message
+is_oldest q f =
+    holds_of (λ id. holds_of (λ oldest. bytes_eq oldest.id id) f.queue.oldest) (asks_of q).message
 
 -- ---- money (RFC 5730, 3, code 2104)
 
 -- the account has less than what is charged; who is charged nothing may be in debt
 abbrev pub lacks_money : PolicyRules → ℕ → Request → Facts → Bool
-lacks_money p t q f = nat_lt 0 (charge_of p t q f) && int_lt f.account.balance (pos (charge_of p t q f))
+lacks_money p t q f =
+    nat_lt 0 (charge_of p t q f) && int_lt f.account.balance (pos (charge_of p t q f))
 
 -- ---- each condition
 
@@ -440,7 +457,8 @@ holds p r t q f ReferenceIsMissing = f.reference_missing
 holds p r t q f NewNameIsTaken = is_some (new_name_seen f)
 holds p r t q f SuperordinateIsMissing = holds_of (has_no_superordinate p.zone) (host_to_be q f)
 holds p r t q f IsAnothers = is_of_another p.zone r q f
-holds p r t q f SuperordinateIsAnothers = holds_of (superordinate_is_anothers p.zone r) (host_to_be q f)
+holds p r t q f SuperordinateIsAnothers =
+    holds_of (superordinate_is_anothers p.zone r) (host_to_be q f)
 holds p r t q f SecretIsWrong = secret_is_wrong r q f
 holds p r t q f (Shows status) = shows_status status q f
 holds p r t q f (StillShows status) = still_shows status q f

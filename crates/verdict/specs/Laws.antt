@@ -95,12 +95,16 @@ EndsTransfer PollAck = ⊥
 pub record IsLawfulTransfer (p : PolicyRules) (r t : ℕ) (q : Request) (f : Facts) : Type 0 where
   pub authorized : (asks_of q).action ≡ RequestTransfer → presents_secret q f ≡ true
   pub not_twice : (asks_of q).action ≡ RequestTransfer → shows_status PendingTransfer q f ≡ false
-  pub not_deleted : (name : GivenName) (secret : Option (List ℕ)) → q ≡ TransferDomain name ops.Request secret → shows_status PendingDelete q f ≡ false
-  pub client : (asks_of q).action ≡ RequestTransfer → shows_status ClientTransferProhibited q f ≡ false
-  pub server : (asks_of q).action ≡ RequestTransfer → shows_status ServerTransferProhibited q f ≡ false
+  pub not_deleted : (name : GivenName) (secret : Option (List ℕ))
+      → q ≡ TransferDomain name ops.Request secret → shows_status PendingDelete q f ≡ false
+  pub client : (asks_of q).action ≡ RequestTransfer
+      → shows_status ClientTransferProhibited q f ≡ false
+  pub server : (asks_of q).action ≡ RequestTransfer
+      → shows_status ServerTransferProhibited q f ≡ false
   pub not_own : (asks_of q).action ≡ RequestTransfer → sponsors r q f ≡ false
   pub unlocked : (asks_of q).action ≡ RequestTransfer → domain_is_locked p t q f ≡ false
-  pub entitled : (asks_of q).action ≡ QueryTransfer → (is_involved r q f || presents_secret q f) ≡ true
+  pub entitled : (asks_of q).action ≡ QueryTransfer
+      → (is_involved r q f || presents_secret q f) ≡ true
   pub known : (asks_of q).action ≡ QueryTransfer → is_some (the_transfer q f) ≡ true
   pub requester : (asks_of q).action ≡ CancelTransfer → is_requester r q f ≡ true
   pub pending : EndsTransfer (asks_of q).action → transfer_is_pending q f ≡ true
@@ -144,7 +148,8 @@ pub record PutsLawfully (p : PolicyRules) (r t : ℕ) (q : Request) (f : Facts) 
   pub ten_years : (asks_of q).action ≡ Renew → passes_ten_years t q f ≡ false
   pub expires : (asks_of q).action ≡ Renew → expires_otherwise q f ≡ false
   pub holds_more : (new : NewDomain) → q ≡ CreateDomain new → f.holding_limit_reached ≡ false
-  pub takes_more : (name : GivenName) (secret : Option (List ℕ)) → q ≡ TransferDomain name ops.Request secret → f.holding_limit_reached ≡ false
+  pub takes_more : (name : GivenName) (secret : Option (List ℕ))
+      → q ≡ TransferDomain name ops.Request secret → f.holding_limit_reached ≡ false
 
 -- What a request that is carried out can't have met: an object of another's that it changes, renews,
 -- deletes, restores or lets go (RFC 5731 to 5733, 3.2), no object at all, an object of the name that it
@@ -159,7 +164,8 @@ pub record IsLawful (p : PolicyRules) (r t : ℕ) (q : Request) (f : Facts) : Ty
   pub new : (asks_of q).action ≡ Create → is_there q f ≡ false
   pub linked : (asks_of q).action ≡ Delete → is_linked q f ≡ false
   pub subordinates : (asks_of q).action ≡ Delete → has_subordinates q f ≡ false
-  pub deletes_once : (name : GivenName) → q ≡ DeleteDomain name → shows_status PendingDelete q f ≡ false
+  pub deletes_once : (name : GivenName) → q ≡ DeleteDomain name
+      → shows_status PendingDelete q f ≡ false
   pub client_delete : (asks_of q).action ≡ Delete → shows_status ClientDeleteProhibited q f ≡ false
   pub server_delete : (asks_of q).action ≡ Delete → shows_status ServerDeleteProhibited q f ≡ false
   pub transfer : (asks_of q).action ≡ Delete → shows_status PendingTransfer q f ≡ false
@@ -170,8 +176,10 @@ pub record IsLawful (p : PolicyRules) (r t : ℕ) (q : Request) (f : Facts) : Ty
   pub redeemable : (asks_of q).action ≡ RequestRestore → is_in Redemption q f ≡ true
   pub restoring : (asks_of q).action ≡ ReportRestore → is_in Restoring q f ≡ true
   pub reported : (asks_of q).action ≡ ReportRestore → report_differs q f ≡ false
-  pub outlasts : (asks_of q).action ≡ ReportRestore → (d : Domain) → full_domain q f ≡ Some d → t < renewed_expiry (years_charged t q f) d
-  pub no_more : (asks_of q).action ≡ ReportRestore → (d : Domain) → full_domain q f ≡ Some d → (years : ℕ) → years < years_charged t q f → renewed_expiry years d ≤ t
+  pub outlasts : (asks_of q).action ≡ ReportRestore → (d : Domain) → full_domain q f ≡ Some d
+      → t < renewed_expiry (years_charged t q f) d
+  pub no_more : (asks_of q).action ≡ ReportRestore → (d : Domain) → full_domain q f ≡ Some d
+      → (years : ℕ) → years < years_charged t q f → renewed_expiry years d ≤ t
   pub transfers : IsLawfulTransfer p r t q f
   pub puts : PutsLawfully p r t q f
   pub oldest : (asks_of q).action ≡ PollAck → is_oldest q f ≡ true
@@ -183,8 +191,10 @@ pub record IsLawful (p : PolicyRules) (r t : ℕ) (q : Request) (f : Facts) : Ty
 pub record KeepsLaws (p : PolicyRules) (r t : ℕ) (q : Request) (f : Facts) (v : Verdict) : Type 0 where
   pub carried_out : is_accepted v.code ≡ true → IsLawful p r t q f
   pub secret : (asks_of q).action ≡ Info → secret_is_wrong r q f ≡ true → v.content ≡ None
-  pub requesters_secret : (asks_of q).action ≡ RequestTransfer → presents_secret q f ≡ false → v.content ≡ None
-  pub strangers_secret : (asks_of q).action ≡ QueryTransfer → strangers_secret_is_wrong r q f ≡ true → v.content ≡ None
+  pub requesters_secret : (asks_of q).action ≡ RequestTransfer → presents_secret q f ≡ false
+      → v.content ≡ None
+  pub strangers_secret : (asks_of q).action ≡ QueryTransfer → strangers_secret_is_wrong r q f ≡ true
+      → v.content ≡ None
 
 unfoldable pub AnswersLawfully : PolicyRules → ℕ → ℕ → Command → Facts → Verdict → Type 0
 AnswersLawfully p r t (Bad cl_trid code) f v = v.content ≡ None

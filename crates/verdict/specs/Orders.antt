@@ -24,14 +24,16 @@ use Rattle.verdict.specs.Refusals.{first_refusal}
 
 -- it is too late to prohibit that a deleted domain is deleted, or that what pends is transferred
 abbrev pub contradicts_pending_state : List Status → Object → Bool
-contradicts_pending_state added (objects.Contact c) = has_status added ServerTransferProhibited && is_pending c.transfer
+contradicts_pending_state added (objects.Contact c) =
+    has_status added ServerTransferProhibited && is_pending c.transfer
 contradicts_pending_state added (objects.Domain d) = (has_status added ServerDeleteProhibited && is_some d.deletion) || (has_status added ServerTransferProhibited && is_pending d.transfer)
 contradicts_pending_state added (objects.Host h) = false
 
 -- A status isn't one that the operator sets on this kind of object (RFC 5731, 2.3; RFC 5732, 2.3;
 -- RFC 5733, 2.2).
 abbrev pub any_foreign : ObjectKind → List Status → Bool
-any_foreign kind statuses = list_any (λ status. not (has_status (server_statuses kind) status)) statuses
+any_foreign kind statuses =
+    list_any (λ status. not (has_status (server_statuses kind) status)) statuses
 
 abbrev pub order_holds : StatusOrder → Option Object → OrderCondition → Bool
 order_holds o object IsMissing = is_none object
@@ -44,4 +46,5 @@ order_holds o object RemovesWhatIsUnset = holds_of (λ it. any_unset (statuses_o
 
 -- what an order is answered, by the object that it names
 unfoldable pub order_code : StatusOrder → Option Object → Code
-order_code o object = unwrap_or (first_refusal cause_of_order (order_holds o object) STATUS_ORDER.now) codes.Completed
+order_code o object =
+    unwrap_or (first_refusal cause_of_order (order_holds o object) STATUS_ORDER.now) codes.Completed

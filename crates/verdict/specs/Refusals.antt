@@ -42,11 +42,14 @@ place_of NoMoney = 16
 -- the conditions of a table stand in the order of their causes, from one place on
 abbrev pub in_order_from : {C : Type 0} → (C → Cause) → ℕ → List C → Bool
 in_order_from cause place [] = true
-in_order_from cause place (condition ∷ rest) = nat_le place (place_of (cause condition)) && in_order_from cause (place_of (cause condition)) rest
+in_order_from cause place (condition ∷ rest) =
+    nat_le place (place_of (cause condition))
+    && in_order_from cause (place_of (cause condition)) rest
 
 abbrev pub in_order : {C : Type 0} → (C → Cause) → List C → Bool
 in_order cause conditions = in_order_from cause 0 conditions
 
 -- the first condition that holds answers, by its cause
 unfoldable pub first_refusal : {C : Type 0} → (C → Cause) → (C → Bool) → List C → Option Code
-first_refusal cause holds conditions = option_map (λ condition. code_of (cause condition)) (find holds conditions)
+first_refusal cause holds conditions =
+    option_map (λ condition. code_of (cause condition)) (find holds conditions)

@@ -91,7 +91,8 @@ created_domain charge t new = record {
 -- ---- renew, and the report on a restoration
 
 abbrev pub renewed : ℕ → GivenName → ℕ → Domain → Renewed
-renewed charge name years d = record { name = name_of name; expires = capped (renewed_expiry years d); charge = charge }
+renewed charge name years d =
+    record { name = name_of name; expires = capped (renewed_expiry years d); charge = charge }
 
 -- of a domain that is seen in full
 abbrev pub renewed_at : ℕ → GivenName → ℕ → Facts → Option Renewed
@@ -121,7 +122,8 @@ contact_full_info p linked secret c = record (contact_face_info p linked (contac
   hidden = Some (contact_hidden p secret c);
 }
 
-abbrev pub contact_info : PolicyRules → ℕ → Option (List ℕ) → Bool → Seen Contact ContactFace → ContactInfo
+abbrev pub contact_info : PolicyRules → ℕ → Option (List ℕ) → Bool → Seen Contact ContactFace
+    → ContactInfo
 contact_info p r secret linked (Full c) =
     if c.sponsor == r then contact_full_info p linked (Some c.secret) c
     else if authorizes secret c.secret then contact_full_info p linked None c
@@ -133,17 +135,21 @@ abbrev pub contact_info_at : PolicyRules → ℕ → Option (List ℕ) → Conta
 contact_info_at p r secret known = option_map (contact_info p r secret known.linked) known.seen
 
 abbrev pub domain_face_info : PolicyRules → List (List ℕ) → DomainFace → DomainInfo
-domain_face_info p subordinate face = record { face = face; sponsor = id_of p face.sponsor; subordinate = subordinate; hidden = None }
+domain_face_info p subordinate face =
+    record { face = face; sponsor = id_of p face.sponsor; subordinate = subordinate; hidden = None }
 
 abbrev pub domain_hidden : PolicyRules → Option (List ℕ) → Domain → DomainHidden
 domain_hidden p secret d = record { secret = secret; transfer = option_map (transfer_info p) d.transfer; deletion = d.deletion }
 
-abbrev pub domain_full_info : PolicyRules → List (List ℕ) → Option (List ℕ) → FullDomain → DomainInfo
-domain_full_info p subordinate secret known = record (domain_face_info p subordinate (face_of known.standing known.domain)) {
+abbrev pub domain_full_info : PolicyRules → List (List ℕ) → Option (List ℕ) → FullDomain
+    → DomainInfo
+domain_full_info p subordinate secret known =
+    record (domain_face_info p subordinate (face_of known.standing known.domain)) {
   hidden = Some (domain_hidden p secret known.domain);
 }
 
-abbrev pub domain_info : PolicyRules → ℕ → Option (List ℕ) → List (List ℕ) → Seen FullDomain DomainFace → DomainInfo
+abbrev pub domain_info : PolicyRules → ℕ → Option (List ℕ) → List (List ℕ)
+    → Seen FullDomain DomainFace → DomainInfo
 domain_info p r secret subordinate (Full known) =
     if known.domain.sponsor == r then domain_full_info p subordinate (Some known.domain.secret) known
     else if authorizes secret known.domain.secret then domain_full_info p subordinate None known
@@ -160,7 +166,8 @@ abbrev pub transferred : PolicyRules → List ℕ → Option ℕ → Transfer �
 transferred p name charge x = record { name = name; transfer = transfer_info p x; charge = charge }
 
 abbrev pub transferred_data : PolicyRules → List ℕ → Option ℕ → Option Transfer → Option Data
-transferred_data p name charge after = option_map told.Transferred (option_map (transferred p name charge) after)
+transferred_data p name charge after =
+    option_map told.Transferred (option_map (transferred p name charge) after)
 
 -- ---- info of hosts: all are told all
 
@@ -175,17 +182,25 @@ host_info_at p known = option_map (host_info p known) known.host
 abbrev pub response_data : PolicyRules → ℕ → ℕ → Request → Facts → Option Data
 response_data p r t requests.Logout f = None
 response_data p r t requests.Balance f = Some (told.Balance f.account.balance)
-response_data p r t (requests.CheckContact names) f = Some (told.Checked (map (contact_result f) names))
-response_data p r t (requests.CheckDomain names) f = Some (told.Checked (map (domain_result p.zone f) names))
-response_data p r t (requests.CheckHost names) f = Some (told.Checked (map (host_result p.zone f) names))
-response_data p r t (requests.InfoContact name secret) f = option_map told.Contact (option_and_then (contact_info_at p r secret) (contact_at f name))
+response_data p r t (requests.CheckContact names) f =
+    Some (told.Checked (map (contact_result f) names))
+response_data p r t (requests.CheckDomain names) f =
+    Some (told.Checked (map (domain_result p.zone f) names))
+response_data p r t (requests.CheckHost names) f =
+    Some (told.Checked (map (host_result p.zone f) names))
+response_data p r t (requests.InfoContact name secret) f =
+    option_map told.Contact (option_and_then (contact_info_at p r secret) (contact_at f name))
 response_data p r t (requests.InfoDomain name secret) f = option_map told.Domain (option_and_then (domain_info_at p r secret) (domain_at f (name_of name)))
-response_data p r t (requests.InfoHost name) f = option_map told.Host (option_and_then (host_info_at p) (host_at f (name_of name)))
+response_data p r t (requests.InfoHost name) f =
+    option_map told.Host (option_and_then (host_info_at p) (host_at f (name_of name)))
 response_data p r t (requests.CreateContact new) f = Some (told.Created (created_plain t new.name))
-response_data p r t (requests.CreateDomain new) f = Some (told.Created (created_domain (charge_of p t (requests.CreateDomain new) f) t new))
-response_data p r t (requests.CreateHost new) f = Some (told.Created (created_plain t (name_of new.name)))
+response_data p r t (requests.CreateDomain new) f =
+    Some (told.Created (created_domain (charge_of p t (requests.CreateDomain new) f) t new))
+response_data p r t (requests.CreateHost new) f =
+    Some (told.Created (created_plain t (name_of new.name)))
 response_data p r t (requests.DeleteContact name) f = None
-response_data p r t (requests.DeleteDomain name) f = option_map told.Deleted (option_map deleted (domain_at f (name_of name)))
+response_data p r t (requests.DeleteDomain name) f =
+    option_map told.Deleted (option_map deleted (domain_at f (name_of name)))
 response_data p r t (requests.DeleteHost name) f = None
 response_data p r t (requests.UpdateContact update) f = None
 response_data p r t (requests.UpdateDomain update) f = None
@@ -195,9 +210,11 @@ response_data p r t (requests.RequestRestore name) f = None
 response_data p r t (requests.ReportRestore name del_time res_time) f =
     let report : Request = requests.ReportRestore name del_time res_time in
     option_map told.Renewed (renewed_at (charge_of p t report f) name (years_charged t report f) f)
-response_data p r t (requests.TransferContact name op secret) f = transferred_data p name None (option_and_then (contact_after p r t op) (contact_seen f name))
+response_data p r t (requests.TransferContact name op secret) f =
+    transferred_data p name None (option_and_then (contact_after p r t op) (contact_seen f name))
 response_data p r t (requests.TransferDomain name op secret) f =
     let asked : Request = requests.TransferDomain name op secret in
     transferred_data p (name_of name) (charge_told op (charge_of p t asked f)) (option_and_then (domain_after p r t op) (domain_seen f (name_of name)))
-response_data p r t requests.PollRequest f = option_map told.Polled (option_map (polled f.queue.waiting) f.queue.oldest)
+response_data p r t requests.PollRequest f =
+    option_map told.Polled (option_map (polled f.queue.waiting) f.queue.oldest)
 response_data p r t (requests.PollAck id) f = Some (told.Acked (left f.queue))

@@ -39,14 +39,20 @@ sponsor_seen sponsor of_face (Full o) = sponsor o
 sponsor_seen sponsor of_face (TransferParty face transfer) = of_face face
 sponsor_seen sponsor of_face (Public face) = of_face face
 
-abbrev pub seen_after : {O F : Type 0} → (O → ℕ) → (F → ℕ) → (O → Option Transfer) → PolicyRules → ℕ → ℕ → TransferOp → Seen O F → Option Transfer
-seen_after sponsor of_face transfer_of p r t op seen = transfer_after p r t op (sponsor_seen sponsor of_face seen) (last_seen transfer_of seen)
+abbrev pub seen_after : {O F : Type 0} → (O → ℕ) → (F → ℕ) → (O → Option Transfer) → PolicyRules → ℕ
+    → ℕ → TransferOp → Seen O F → Option Transfer
+seen_after sponsor of_face transfer_of p r t op seen =
+    transfer_after p r t op (sponsor_seen sponsor of_face seen) (last_seen transfer_of seen)
 
-abbrev pub contact_after : PolicyRules → ℕ → ℕ → TransferOp → Seen Contact ContactFace → Option Transfer
-contact_after p r t op seen = seen_after contact_sponsor contact_face_sponsor contact_transfer p r t op seen
+abbrev pub contact_after : PolicyRules → ℕ → ℕ → TransferOp → Seen Contact ContactFace
+    → Option Transfer
+contact_after p r t op seen =
+    seen_after contact_sponsor contact_face_sponsor contact_transfer p r t op seen
 
-abbrev pub domain_after : PolicyRules → ℕ → ℕ → TransferOp → Seen FullDomain DomainFace → Option Transfer
-domain_after p r t op seen = seen_after domain_sponsor domain_face_sponsor domain_transfer p r t op seen
+abbrev pub domain_after : PolicyRules → ℕ → ℕ → TransferOp → Seen FullDomain DomainFace
+    → Option Transfer
+domain_after p r t op seen =
+    seen_after domain_sponsor domain_face_sponsor domain_transfer p r t op seen
 
 -- ---- what is answered
 

@@ -51,7 +51,8 @@ code_granted (requests.PollAck id) f = Completed
 
 -- what a request is answered that isn't refused
 abbrev pub granted : PolicyRules → ℕ → ℕ → Request → Facts → Verdict
-granted p r t request f = record { code = code_granted request f; content = response_data p r t request f }
+granted p r t request f =
+    record { code = code_granted request f; content = response_data p r t request f }
 
 -- the code of the first refusal, or what is granted
 abbrev pub unless_refused : Option Code → Verdict → Verdict
@@ -61,4 +62,5 @@ unless_refused None verdict = verdict
 -- what a registrar's command at a moment is answered
 unfoldable pub judged : PolicyRules → ℕ → ℕ → Command → Facts → Verdict
 judged p r t (Bad cl_trid fault) f = refused (code_of_form fault)
-judged p r t (Asked cl_trid request) f = unless_refused (refusal_of p r t request f) (granted p r t request f)
+judged p r t (Asked cl_trid request) f =
+    unless_refused (refusal_of p r t request f) (granted p r t request f)

@@ -2,7 +2,7 @@ use Rattle.std.proofs.Common.{rules, ◌≡◌, Some, FitsSigned, w64, to_z-of_z
 use Rattle.tables.specs.Line as table
 use Rattle.columns.specs.Codes.{kind_in}
 use Rattle.columns.specs.Lines.{line_in, line_made, line_row}
-use Rattle.columns.specs.Numbers.{exact_in, moment_in, years_in}
+use Rattle.columns.specs.Numbers.{exact_in, maybe_moment_in, moment_in, years_in}
 use Rattle.columns.proofs.LineLemmas.{line_back, line_written}
 use Rattle.columns.proofs.ReadLemmas.{all_read}
 use Rattle.columns.proofs.line.line_of_row.Goals as goal
@@ -14,6 +14,7 @@ returns-clause-value c =
     let recorded : FitsSigned w64 r.recorded = search rules in
     let years : FitsSigned w64 r.years = search rules in
     let cents : FitsSigned w64 r.cents = search rules in
+    let start = c.start_of.ensures ∙ ap (λ (x : table.Line). maybe_moment_in x.grace.started) (sym c.row.view_is) in
     c.line_made.ensures
     ∙ (λ i. line_made
     ((c.kind_of_column.ensures.value ∙ ap kind_in (to_z-of_z kind)) i)
@@ -21,12 +22,12 @@ returns-clause-value c =
     ((c.moment_of_column.ensures.value ∙ ap moment_in (to_z-of_z recorded)) i)
     ((c.years_of_column.ensures.value ∙ ap years_in (to_z-of_z years)) i)
     ((c.exact_of_column.ensures.value ∙ ap exact_in (to_z-of_z cents)) i)
-    (c.maybe_moment_of_column.ensures.value i)
-    (c.maybe_moment_of_column-2.ensures.value i))
+    (start i)
+    (c.maybe_moment_of_column.ensures.value i))
     ∙ ap line_in c.row.view_is
 
 pub returns-clause-found : goal.returns-clause-found
-returns-clause-found c = all_read (λ line. line_row c.args.row.now.id c.args.row.now.account line ≡ Some c.args.row.now) c.line_made.result (λ line is. line_written c.args.row.now line (sym (returns-clause-value c) ∙ is))
+returns-clause-found c = all_read (λ line. line_row c.args.row.now.id c.args.row.now.account line c.args.row.now.grace.ends ≡ Some c.args.row.now) c.line_made.result (λ line is. line_written c.args.row.now line (sym (returns-clause-value c) ∙ is))
 
 pub returns-clause-only : goal.returns-clause-only
-returns-clause-only c = λ line is e. returns-clause-value c ∙ line_back c.args.row.now.id c.args.row.now.account line c.args.row.now is e
+returns-clause-only c = λ line is e. returns-clause-value c ∙ line_back c.args.row.now.id c.args.row.now.account line c.args.row.now.grace.ends c.args.row.now is e

@@ -8,6 +8,6 @@ returns-in-Some c =
     let is = sym (c.in-Some.ensures {u = tt}) in
     let fits : FitsSigned w64 c.registrar_column.result = search rules in
     record {
-      account = account_written _ _ c.args.line.now c.in-Some.row is ∙ to_z-of_z fits ∙ c.registrar_column.ensures;
-      reads = line_back _ _ c.args.line.now c.in-Some.row ((c.if-not-is_line.ensures {u = tt}).0 refl) is;
+      account = account_written _ _ c.args.line.now _ c.in-Some.row is ∙ to_z-of_z fits ∙ c.registrar_column.ensures;
+      reads = line_back _ _ c.args.line.now _ c.in-Some.row ((c.if-not-is_line.ensures {u = tt}).0 refl) is;
     }

@@ -1,17 +1,18 @@
-use Rattle.std.proofs.Common.{Ok}
-use Rattle.sqlobjects.proofs.StepLemmas.{asked-then}
-use Rattle.sqlterms.specs.Changes.{IsTermsSet}
+use Rattle.sqlbook.specs.Suiting.{IsSetOver}
 use Rattle.sqlbook.proofs.AlteringLemmas.{alters}
-use Rattle.sqlbook.proofs.TermLemmas.{terms-changed, terms-right}
+use Rattle.sqlbook.proofs.TermLemmas.{over-ends, over-lines, set-over}
 use Rattle.sqlbook.proofs.changed_terms.set_terms.Goals as goal
 
-pub returns : goal.returns
-returns g c =
+pub returns-clause-held : goal.returns-clause-held
+returns-clause-held g c =
     let old = c.args.store.now in
-    let new = c.set_terms.new.store in
-    let suits = c.in_ok-days_suit.ensures {u = tt} in
-    let made = c.in_ok-set_terms.ensures {u = tt} in
-    let terms = c.args.terms in
-    let whole = asked-then (IsTermsSet terms) (IsTermsSet terms) old c.days_suit.new.store new suits.0 made (λ e it. it) in
-    alters {A = Unit {0}} (Ok tt) (IsTermsSet terms) _ old new whole (λ clean it.
-    (terms-changed terms old.content new.content it (suits.1 (made.clean clean)), terms-right terms old.content new.content it (suits.1 (made.clean clean))))
+    let new = c.set_over-set.new.store in
+    let before = c.in_ok-before.before in
+    let r = c.set_over-set.result in
+    alters r (IsSetOver before c.args.terms) _ old new (set-over c.args.terms before old c.days.new.store new c.in_ok-before.ensures.found r c.set_over-set.ensures) (λ clean it. (it.set.stored, it.set.sums))
+
+pub returns-clause-lines : goal.returns-clause-lines
+returns-clause-lines g c = over-lines c.args.terms c.in_ok-before.before c.args.store.now c.days.new.store c.set_over-set.new.store c.in_ok-before.ensures.found c.set_over-set.result c.set_over-set.ensures
+
+pub returns-clause-ends : goal.returns-clause-ends
+returns-clause-ends g c = over-ends c.args.terms c.in_ok-before.before c.args.store.now c.days.new.store c.set_over-set.new.store c.in_ok-before.ensures.found c.set_over-set.result c.set_over-set.ensures

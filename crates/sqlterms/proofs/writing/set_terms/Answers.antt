@@ -2,7 +2,7 @@ use Rattle.std.proofs.Common.{string_bytes, sym, ap, ◌∙◌}
 use Rattle.sqlite_keyed.specs.Keyed.{insert_by}
 use Rattle.tables.specs.Content.{Content, metas_to}
 use Rattle.tables.specs.Meta.{metas}
-use Rattle.sqlterms.specs.Changes.{IsRenaming}
+use Rattle.sqlterms.specs.Changes.{ArePutBeside}
 use Rattle.sqlterms.specs.Meta.{with_terms}
 use Rattle.sqlterms.proofs.CallLemmas.{became-through}
 use Rattle.sqlterms.proofs.MetaLemmas.{first_moment}
@@ -15,12 +15,12 @@ returns g c =
     let read = c.in_ok-read.ensures.found in
     let row = c.in_ok-row.row in
     let written = c.in_ok-put_meta.ensures {u = tt} in
-    let named = c.in_ok-name_accounts.ensures {u = tt} in
+    let beside = c.in_ok-put_beside.ensures {u = tt} in
     let xs : Content = c.args.store.now.content in
-    became-through IsRenaming _ (λ xs. metas_to (λ rows. insert_by metas.key rows row) xs) c.args.store.now c.maybe_meta.new.store c.put_meta.new.self c.name_accounts.new.store c.terms.new.store
-    e.0 written named read.0
-    (λ clean renaming. terms_are_set xs c.name_accounts.new.store.content c.in_ok-meta.meta c.args.value.now (string_bytes c.in_ok-labels.labels) row first_moment
-    (e.1 (written.clean (named.clean (read.0.clean clean))))
+    became-through ArePutBeside _ (λ xs. metas_to (λ rows. insert_by metas.key rows row) xs) c.args.store.now c.maybe_meta.new.store c.put_meta.new.self c.put_beside.new.store c.terms.new.store
+    e.0 written beside read.0
+    (λ clean put. terms_are_set xs c.put_beside.new.store.content c.in_ok-meta.meta c.args.value.now (string_bytes c.in_ok-labels.labels) row first_moment
+    (e.1 (written.clean (beside.clean (read.0.clean clean))))
     (c.in_ok-row.ensures {u = tt} ∙ ap (with_terms c.args.value.now (string_bytes c.in_ok-labels.labels)) c.meta_or_new.ensures)
-    renaming
+    put
     (sym (read.1 clean) ∙ c.are-same.ensures.0 c.if-not-same.false))

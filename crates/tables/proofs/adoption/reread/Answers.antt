@@ -30,7 +30,7 @@ returns-in-Ok-over-clause-reread g c clean =
       sound = sound;
       trees = trees ∙ ap (λ (v : View). v.trees) done.is ∙ (c.into_store-store.ensures.undone.undone opened).0;
       in_order = subst (λ (db : Trees). AllByRecursion (λ (t : Table). IsShaped shape.Table (db t.tree)) schema.tables) (sym trees)
-          (lies_in_order kept schema (g.met.S.Alter.listed c.commit.new.self fresh.sound) (g.met.S.Store.ordered c.commit.new.self fresh.sound) (subst (λ (db : Trees). IsSound schema db) trees sound));
+          (lies_in_order kept.trees kept.shape kept.reals schema (g.met.S.Alter.listed c.commit.new.self fresh.sound) (g.met.S.Store.ordered c.commit.new.self fresh.sound) (subst (λ (db : Trees). IsSound schema db) trees sound));
     }
 
 pub returns-in-Ok-over-clause-leaves : goal.returns-in-Ok-over-clause-leaves

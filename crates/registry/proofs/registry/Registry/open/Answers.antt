@@ -1,7 +1,7 @@
 use Rattle.std.proofs.Common.{ap, refl}
 use Rattle.store.specs.Book.{Stored}
 use Rattle.registry.proofs.CallsKept.{reopened}
-use Rattle.registry.proofs.OpenedLemmas.{opens-kept}
+use Rattle.registry.proofs.OpenedLemmas.{opens-kept, opens-lengths, opens-same}
 use Rattle.privacy.proofs.RunLemmas.{alike-lists-tell-the-same}
 use Rattle.registry.proofs.registry.Registry.open.Goals as goal
 
@@ -19,6 +19,12 @@ returns-in-Ok-clause-opened g c =
       crash = c.in-Ok.ensures.crash;
       follows = c.open_in.ensures.follows;
     }
+
+pub returns-in-Ok-clause-lengths : goal.returns-in-Ok-clause-lengths
+returns-in-Ok-clause-lengths g c = opens-lengths c.args.policy (g.B.Book.state c.args.book) (g.B.Book.state c.open_in.new.book) c.in-Ok.ensures.opened
+
+pub returns-in-Ok-clause-same : goal.returns-in-Ok-clause-same
+returns-in-Ok-clause-same g c = opens-same c.args.policy (g.B.Book.state c.args.book) (g.B.Book.state c.open_in.new.book) c.in-Ok.ensures.opened
 
 pub returns-in-Err-clause-refused : goal.returns-in-Err-clause-refused
 returns-in-Err-clause-refused g c =

@@ -7,5 +7,5 @@ use Rattle.store.proofs.content.Content.quiet_from.Goals as goal
 
 pub returns : goal.returns
 returns c =
-    quiet-from c.args.policy.now c.new.result (registry_in c.args.self.now) c.last_moment.result c.new.ensures.ends
-    (c.new.ensures.until ∙ c.domains_from-until.ensures ∙ ap (λ m. until_domains c.args.policy.now m (entries c.args.self.now.domains)) c.contacts_from.ensures)
+    quiet-from c.args.policy.now c.domains_from.result (registry_in c.args.self.now) c.last_moment.result
+    (c.domains_from.ensures ∙ ap (λ m. until_domains c.args.policy.now m (entries c.args.self.now.domains)) c.contacts_from.ensures)

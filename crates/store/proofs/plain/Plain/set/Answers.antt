@@ -1,5 +1,4 @@
-use Rattle.std.proofs.Common.{sym, subst, Option}
-use Rattle.store.specs.declared.quiet.Quiet.{Quiet}
+use Rattle.std.proofs.Common.{ℕ, sym, subst, Option}
 use Rattle.store.specs.Edits.{edited}
 use Rattle.store.specs.Plain.{content_of}
 use Rattle.store.specs.Quiet.{IsQuiet}
@@ -9,4 +8,4 @@ use Rattle.store.proofs.plain.Plain.set.Goals as goal
 pub set_until-requires-clause-quiet : goal.set_until-requires-clause-quiet
 set_until-requires-clause-quiet c =
     let held = content_of c.args.self.now.content in
-    subst (λ (q : Option Quiet). IsQuiet q (edited c.args.edit held).registry) (sym c.quiet_after-quiet.ensures) (quiet-edited c.args.self.now.quiet c.args.edit held c.args.self.now.quiet_is)
+    subst (λ (q : Option ℕ). IsQuiet q (edited c.args.edit held)) (sym c.quiet_after-quiet.ensures) (quiet-edited c.args.self.now.quiet c.args.edit held c.args.self.now.quiet_is)

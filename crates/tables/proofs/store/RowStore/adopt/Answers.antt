@@ -1,22 +1,30 @@
-use Rattle.std.proofs.Common.{inr, sym, ◌∙◌}
-use Rattle.std.proofs.lemmas.Result.{IfErr-weaker, IfOk-weaker}
+use Rattle.std.proofs.Common.{◌≡◌, inl, inr, Result, Ok, Err, IfErr, sym, ap, subst, ◌∙◌}
+use Rattle.std.proofs.lemmas.Result.{IfErr-weaker}
+use Rattle.sqlite_trees.specs.Tree.{Trees}
+use Rattle.sqlite.specs.Effect.{Database}
 use Rattle.sqlite.specs.Held.{state}
-use Rattle.tables.proofs.StandingLemmas.{honest}
+use Rattle.sqlite.specs.State.{State}
+use Rattle.tables.specs.Adoption.{IsReread, IsSameRegistry}
 use Rattle.tables.proofs.store.RowStore.adopt.Goals as goal
 
-pub returns-clause-honest : goal.returns-clause-honest
-returns-clause-honest g c =
-    let conn = state g.S.Store c.in_ok-conn.conn in
-    IfOk-weaker c.numbered.result _ _ (λ store kept e. c.in_ok-conn.ensures.clean (honest conn (sym c.in_ok-store.ensures.honest ∙ kept e))) c.numbered.ensures.honest
+both : {A E : Type 0} (result : Result A E) (P Q : E → Type 0) → IfErr result P → IfErr result Q → IfErr result (λ e. P e × Q e)
+both (Ok it) P Q first second = tt
+both (Err e) P Q first second = (first, second)
 
-pub returns-clause-refused : goal.returns-clause-refused
-returns-clause-refused g c =
-    let was = state g.S.Store c.args.conn in
-    let now = state g.S.Store c.in_ok-conn.conn in
-    IfErr-weaker c.numbered.result _ _ (λ e left clean db may. inr (left clean db may))
-    (c.numbered.ensures.refused was.committed.trees (c.in_ok-store.ensures.shown was.committed.trees (λ clean. (c.in_ok-conn.ensures.reread clean).trees)))
+-- what was read anew is what was committed
+same-trees : (old new : State) → IsReread old new → new.committed.trees ≡ old.committed.trees
+same-trees old new it = ap (λ (db : Database). db.trees) (sym it.opens.clean) ∙ it.trees
 
-pub numbered-requires : goal.numbered-requires
-numbered-requires g c =
-    let was = state g.S.Store c.args.conn in
-    (was.committed.trees, c.in_ok-store.ensures.shown was.committed.trees (λ clean. (c.in_ok-conn.ensures.reread clean).trees))
+pub returns-in-Ok-clause-refused : goal.returns-in-Ok-clause-refused
+returns-in-Ok-clause-refused g c =
+    let old = state g.S.Store c.args.conn in
+    let new = state g.S.Store c.in-Ok.conn in
+    IfErr-weaker c.taken.result _ _
+    (λ e left clean db may.
+    let sure = left.0 clean in
+    let it = c.in-Ok.ensures.reread sure in
+    elim (left.1 clean db may) [
+      | inl found ↦ inl (c.in-Ok.ensures.leaves sure db (subst new.may_leave (sym found) (g.met.S.Store.stays c.in-Ok.conn.store it.opens.is_open)))
+      | inr same ↦ inr (subst (λ (was : Trees). IsSameRegistry was db) (same-trees old new it) same)
+    ])
+    (both c.taken.result _ _ c.taken.ensures.clean c.taken.ensures.refused)

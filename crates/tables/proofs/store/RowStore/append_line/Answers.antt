@@ -4,7 +4,7 @@ use Rattle.tables.proofs.TableLemmas.{alters-by}
 use Rattle.tables.proofs.store.RowStore.append_line.Goals as goal
 
 pub write-requires-clause-means : goal.write-requires-clause-means
-write-requires-clause-means g c = (_, alters-by (past_first c.params.result _ c.params.ensures 9) (append_alters c.args.line.now))
+write-requires-clause-means g c = (_, alters-by (past_first c.params.result _ c.params.ensures 10) (append_alters c.args.line.now))
 
 pub returns : goal.returns
-returns g c = c.write.ensures _ (alters-by (past_first c.params.result _ c.params.ensures 9) (append_alters c.args.line.now))
+returns g c = c.write.ensures _ (alters-by (past_first c.params.result _ c.params.ensures 10) (append_alters c.args.line.now))

@@ -4,7 +4,7 @@ use Rattle.transactions.specs.States.{Remains}
 use Rattle.tables.specs.Adoption.{IsShown}
 use Rattle.tables.specs.Content.{Content}
 use Rattle.tables.specs.Stored.{Guards, stands}
-use Rattle.tables.proofs.AdoptedLemmas.{fits_found, guards_found, shown}
+use Rattle.tables.proofs.AdoptedLemmas.{fits_found, found-other, guards_found, shown}
 use Rattle.tables.proofs.TurningLemmas.{noted-alone}
 use Rattle.tables.proofs.store.RowStore.over.Goals as goal
 
@@ -26,3 +26,6 @@ returns-clause-shown g c trees same =
 
 pub returns-in-Err-clause-clean : goal.returns-in-Err-clause-clean
 returns-in-Err-clause-clean g c clean = omega (arith, c.into_store.ensures.quiet.clean, clean)
+
+pub returns-in-Other-clause-others : goal.returns-in-Other-clause-others
+returns-in-Other-clause-others g c other clean = found-other (state g.S.Store c.args.conn) c.in-Ok.form c.requires c.in-Ok.ensures c.in-Other.is clean

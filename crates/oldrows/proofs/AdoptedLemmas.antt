@@ -1,0 +1,92 @@
+-- What the rows are over a database that was read anew.
+use Rattle.std.proofs.Common.{◌≡◌, ◌≢◌, ◌&&◌, Bool, true, false, List, [], ◌∷◌, map, refl, ap, subst}
+use Rattle.std.proofs.lemmas.Bool.{and_parts}
+use Rattle.std.specs.List.{AllByRecursion}
+use Rattle.sqlite_trees.specs.declared.store.Shape.TheVariants as shape
+use Rattle.sqlite_value.specs.Order.{Row}
+use Rattle.sqlite_trees.specs.Tree.{Trees}
+use Rattle.sqlite_trees.specs.View.{IsShaped}
+use Rattle.sqlite_schema.specs.declared.schema.Constraint.TheVariants.{Datatype, NotNull}
+use Rattle.sqlite_schema.specs.declared.schema.Schema.{Schema}
+use Rattle.sqlite_schema.specs.declared.schema.Table.{Table}
+use Rattle.sqlite_catalog.specs.Listing.{IsSound}
+use Rattle.sqlite.specs.Effect.{Database, IsDatabase}
+use Rattle.sqlite.specs.State.{State, HasCleanDisk}
+use Rattle.tables.specs.Tables.{meta, account, contact, domain, host, address, link, message, transfer}
+use Rattle.tables.specs.FirstTables.{first_line, first_registry}
+use Rattle.tables.specs.Meta.{metas}
+use Rattle.tables.specs.Account.{accounts}
+use Rattle.tables.specs.Contact.{contacts}
+use Rattle.tables.specs.Domain.{domains}
+use Rattle.tables.specs.Host.{hosts}
+use Rattle.tables.specs.Address.{addresses}
+use Rattle.tables.specs.Link.{links}
+use Rattle.tables.specs.Line.{Line}
+use Rattle.tables.specs.Message.{messages}
+use Rattle.tables.specs.Transfer.{transfers}
+use Rattle.tables.specs.Decoding.{meta_in, account_in, contact_in, domain_in, host_in, address_in, link_in, message_in, transfer_in}
+use Rattle.tables.specs.Adoption.{IsFound, IsInOrder}
+use Rattle.tables.proofs.AdoptedLemmas.{schema_once}
+use Rattle.tables.proofs.SoundLemmas.{after_key, holds}
+use Rattle.tables.proofs.StandingLemmas.{honest}
+use Rattle.oldrows.specs.Adoption.{IsSeen, IsSeenAs, IsShapedAs}
+use Rattle.oldrows.specs.Lines.{first_line_in, first_lines, without_end}
+use Rattle.oldrows.specs.Stored.{Fits, IsOld, IsOldContent, old_contents, readiness_of, rows_in, stands}
+
+endless-read : (rows : List Row) → map without_end (map first_line_in rows) ≡ map first_line_in rows
+endless-read [] = refl
+endless-read (r ∷ rows) = ap (λ (xs : List Line). first_line_in r ∷ xs) (endless-read rows)
+
+-- a sound database that lies in order holds the rows that it decodes to
+old_of_sound : (db : Database) → IsDatabase db → db.schema ≡ first_registry → IsInOrder db → IsOld (old_contents db.trees) db
+old_of_sound db sound is in_order =
+    let d = db.trees in
+    let obeys = (subst (λ (s : Schema). IsSound s d) is sound).obeys in
+    let t = obeys.rules Datatype in
+    let p = obeys.rules NotNull in
+    let o = subst (λ (s : Schema). AllByRecursion (λ (t : Table). IsShaped shape.Table (d t.tree)) s.tables) is in_order in
+    record {
+      schema = is;
+      metas = holds metas meta_in (after_key meta) d (λ r. refl) refl refl t.0 p.0 o.0;
+      accounts = holds accounts account_in (after_key account) d (λ r. refl) refl refl t.1.0 p.1.0 o.1.0;
+      contacts = holds contacts contact_in (after_key contact) d (λ r. refl) refl refl t.1.1.0 p.1.1.0 o.1.1.0;
+      domains = holds domains domain_in (after_key domain) d (λ r. refl) refl refl t.1.1.1.0 p.1.1.1.0 o.1.1.1.0;
+      hosts = holds hosts host_in (after_key host) d (λ r. refl) refl refl t.1.1.1.1.0 p.1.1.1.1.0 o.1.1.1.1.0;
+      addresses = holds addresses address_in (after_key address) d (λ r. refl) refl refl t.1.1.1.1.1.0 p.1.1.1.1.1.0 o.1.1.1.1.1.0;
+      links = holds links link_in (after_key link) d (λ r. refl) refl refl t.1.1.1.1.1.1.0 p.1.1.1.1.1.1.0 o.1.1.1.1.1.1.0;
+      lines = holds first_lines first_line_in (after_key first_line) d (λ r. refl) refl refl t.1.1.1.1.1.1.1.0 p.1.1.1.1.1.1.1.0 o.1.1.1.1.1.1.1.0;
+      messages = holds messages message_in (after_key message) d (λ r. refl) refl refl t.1.1.1.1.1.1.1.1.0 p.1.1.1.1.1.1.1.1.0 o.1.1.1.1.1.1.1.1.0;
+      transfers = holds transfers transfer_in (after_key transfer) d (λ r. refl) refl refl t.1.1.1.1.1.1.1.1.1.0 p.1.1.1.1.1.1.1.1.1.0 o.1.1.1.1.1.1.1.1.1.0;
+      endless = endless-read (d 11);
+      days = refl;
+    }
+
+pub fits_found : (s : State) → IsFound s → (is_there : Bool) → (is_there ≡ true → s.now.schema ≡ first_registry) → Fits is_there s
+fits_found s found is_there is clean opened there =
+    let it = found clean in
+    record { mode = it.0.autocommit; holds = old_of_sound s.now it.1 (is there) it.2; settled = it.0.clean }
+
+seen : (is_there : Bool) (db trees : Trees) → db ≡ trees → IsSeenAs (readiness_of is_there) trees (rows_in is_there db)
+seen true db trees e = ap old_contents e
+seen false db trees e = refl
+
+shaped : (is_there : Bool) (db : Database) (trees : Trees) → db.trees ≡ trees → IsSound db.schema db.trees → (is_there ≡ true → db.schema ≡ first_registry) → (is_there ≡ false → db.schema ≢ first_registry) → IsShapedAs (readiness_of is_there) trees
+shaped true db trees e sound is not = subst (IsSound first_registry) e (subst (λ (s : Schema). IsSound s db.trees) (is refl) sound)
+shaped false db trees e sound is not = λ ours. not refl (schema_once trees db.schema first_registry (subst (IsSound db.schema) e sound) ours)
+
+pub shown : (s : State) → IsFound s → (is_there : Bool) → (is_there ≡ true → s.now.schema ≡ first_registry) → (is_there ≡ false → s.now.schema ≢ first_registry)
+    → (trees : Trees) → (HasCleanDisk s → s.now.trees ≡ trees) → IsSeen trees (stands is_there s)
+shown s found is_there is not trees same = record {
+  content = λ e. seen is_there s.now.trees trees (same (honest s (and_parts s.is_clean s.is_open e).0));
+  shaped = λ e.
+      let clean = honest s (and_parts s.is_clean s.is_open e).0 in
+      shaped is_there s.now trees (same clean) (found clean).1 is not;
+}
+
+-- what always holds of the rows
+pub whole_of : (s : State) (is_there : Bool) → Fits is_there s → (s.is_clean && s.is_open) ≡ true → IsOldContent (rows_in is_there s.now.trees)
+whole_of s true fits e =
+    let p = and_parts s.is_clean s.is_open e in
+    let it = fits (honest s p.0) p.1 refl in
+    record { keyed = record { metas = it.holds.metas.keyed; accounts = it.holds.accounts.keyed; contacts = it.holds.contacts.keyed; domains = it.holds.domains.keyed; hosts = it.holds.hosts.keyed; addresses = it.holds.addresses.keyed; links = it.holds.links.keyed; lines = it.holds.lines.keyed; messages = it.holds.messages.keyed; transfers = it.holds.transfers.keyed; days = tt }; days = refl }
+whole_of s false fits e = record { keyed = record { metas = tt; accounts = tt; contacts = tt; domains = tt; hosts = tt; addresses = tt; links = tt; lines = tt; messages = tt; transfers = tt; days = tt }; days = refl }

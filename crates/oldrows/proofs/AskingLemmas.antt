@@ -1,0 +1,114 @@
+-- What a query finds, and what it leaves.
+use Rattle.std.proofs.Common.{◌≡◌, ◌&&◌, inl, inr, ℕ, Bool, true, false, List, [], map, IfOk, Result, Ok, Err, IsTrue, refl, sym, ap, subst, ◌∙◌}
+use Rattle.std.proofs.lemmas.Bool.{and_parts}
+use Rattle.sqlite_value.specs.declared.value.Value.TheVariants.{Null}
+use Rattle.sqlite_value.specs.Order.{Row}
+use Rattle.sqlite_trees.specs.Tree.{Trees}
+use Rattle.sqlite_schema.specs.declared.schema.Schema.{Schema}
+use Rattle.sqlite_schema.specs.declared.command.Command.TheVariants.{Select}
+use Rattle.sqlite.specs.declared.error.Error.{Error}
+use Rattle.sqlite.specs.Effect.{Database}
+use Rattle.sqlite.specs.Given.{IsPlain}
+use Rattle.sqlite.specs.Listing.{understood}
+use Rattle.sqlite.specs.State.{State, FailsToQuery, HasCleanDisk, IsUnchanged, Shown, Survives}
+use Rattle.sqlite.proofs.Callers.{reads_as}
+use Rattle.rows.specs.Calls.{Stands}
+use Rattle.rows.proofs.SelectLemmas.{same_command}
+use Rattle.rows.proofs.SoundLemmas.{not_queried_open, queried_open, was_open}
+use Rattle.rows.proofs.StandLemmas.{same_if_shown, stands_if_not_shown}
+use Rattle.tables.specs.Content.{Content}
+use Rattle.tables.specs.FirstTables.{first_registry}
+use Rattle.tables.proofs.StandingLemmas.{clean-of, honest, was-honest}
+use Rattle.transactions.specs.declared.fault.BookFault.{BookFault}
+use Rattle.oldrows.specs.Stored.{Agrees, Asks, Finds, Fits, IsOld, IsRead, OldState, old_contents, rows_in, stands}
+
+-- the database is the same one, and nothing is open
+record IsSame (old new : State) : Type 0 where
+  pub db : new.now ≡ old.now
+  pub mode : new.in_transaction ≡ false
+  pub settled : new.now ≡ new.committed
+
+same-after : (old new : State) → Agrees old → IsTrue new.is_open → Stands old new → IsSame old new
+same-after old new it opened (inl same) = record {
+  db = same.0.now_is;
+  mode = same.0.mode ∙ it.mode;
+  settled = same.0.now_is ∙ it.settled ∙ sym same.0.committed_is;
+}
+same-after old new it opened (inr back) = let gone = back.undone opened in record {
+  db = gone.0 ∙ sym it.settled;
+  mode = back.autocommit;
+  settled = gone.0 ∙ sym gone.1;
+}
+
+agrees-same : (old new : State) → Agrees old → IsSame old new → Agrees new
+agrees-same old new it same = record {
+  mode = same.mode;
+  holds = subst (λ (db : Database). IsOld (old_contents db.trees) db) (sym same.db) it.holds;
+  settled = same.settled;
+}
+
+module _ (sql : List ℕ) (params : Row) (is_there : Bool) (old new : State) (P : Trees → Type 0) (survives : Survives old new P) (fits : Fits is_there old) (there : is_there ≡ true) (plain : IsPlain (understood first_registry sql)) where
+  plain-in : Agrees old → IsPlain (understood old.now.schema sql)
+  plain-in h = subst (λ (s : Schema). IsPlain (understood s sql)) (sym h.holds.schema) plain
+
+  agreed : (found : List Row) → HasCleanDisk new → Shown sql params old new found → Agrees old
+  agreed found clean seen = fits (was-honest old new P survives clean) (queried_open sql params old new found seen) there
+
+  same-if : (found : List Row) → HasCleanDisk new → Shown sql params old new found → IsUnchanged old new
+  same-if found clean seen = same_if_shown sql params old new found (plain-in (agreed found clean seen)) seen
+
+  -- after an answer
+  pub fits-shown : (found : List Row) → (HasCleanDisk new → Shown sql params old new found) → Fits is_there new
+  fits-shown found seen clean opened _ =
+      let it = agreed found clean (seen clean) in
+      agrees-same old new it (same-after old new it opened (inl (same-if found clean (seen clean))))
+
+  pub reads-shown : (found : List Row) → (HasCleanDisk new → Shown sql params old new found) → IsRead (stands is_there old) (stands is_there new)
+  reads-shown found seen = record {
+    clean = λ e. let clean = honest new (and_parts new.is_clean new.is_open e).0 in
+        ap (λ (b : Bool). b && old.is_open) (clean-of old (was-honest old new P survives clean)) ∙ (same-if found clean (seen clean)).0.was_open;
+    content = λ e. ap (λ (db : Database). rows_in is_there db.trees) (same-if found (honest new (and_parts new.is_clean new.is_open e).0) (seen (honest new (and_parts new.is_clean new.is_open e).0))).0.now_is;
+    ready = refl;
+  }
+
+  -- after an error
+  left-by : (e : Error) → (HasCleanDisk new → FailsToQuery sql params old new e) → HasCleanDisk new → IsTrue new.is_open → Agrees old × IsSame old new × IsTrue old.is_open
+  left-by e fails clean opened =
+      let it = fits (was-honest old new P survives clean) (not_queried_open sql params old new e (fails clean) opened) there in
+      let left = stands_if_not_shown sql params old new e (plain-in it) (fails clean) in
+      (it, same-after old new it opened left, was_open old new left opened)
+
+  pub fits-left : (e : Error) → (HasCleanDisk new → FailsToQuery sql params old new e) → Fits is_there new
+  fits-left e fails clean opened _ = let it = left-by e fails clean opened in agrees-same old new it.0 it.1
+
+  pub reads-left : (e : Error) → (HasCleanDisk new → FailsToQuery sql params old new e) → IsRead (stands is_there old) (stands is_there new)
+  reads-left e fails = record {
+    clean = λ c. let parts = and_parts new.is_clean new.is_open c in let clean = honest new parts.0 in
+        ap (λ (b : Bool). b && old.is_open) (clean-of old (was-honest old new P survives clean)) ∙ (left-by e fails clean parts.1).2;
+    content = λ c. let parts = and_parts new.is_clean new.is_open c in
+        ap (λ (db : Database). rows_in is_there db.trees) (left-by e fails (honest new parts.0) parts.1).1.db;
+    ready = refl;
+  }
+
+-- the records that an answer shows
+answered : {R : Type 0} (shown : R → Row) (sql : List ℕ) (f : Content → List R) → Asks shown sql f → (old new : State) → IsOld (old_contents old.now.trees) old.now → (found : List Row) → Shown sql [] old new found
+    → found ≡ map shown (f (old_contents old.now.trees))
+answered shown sql f a old new h found seen =
+    let read = reads_as sql [] old new first_registry h.schema (Select (record { lets = []; body = a.query }) a.is.names) (same_command (understood first_registry sql) ∙ a.is.command) a.is.plain a.is.unlisted found seen in
+    a.means old.now.trees (old_contents old.now.trees) found (subst (λ (s : Schema). IsOld (old_contents old.now.trees) (record { schema = s; trees = old.now.trees })) h.schema h) (read.answer Null)
+
+finds-by : {A : Type 0} (result : Result A BookFault) (v : A) (old new : OldState) → IsRead old new → (new.is_clean ≡ true → IfOk result (λ it. it ≡ v)) → Finds result v old new
+finds-by (Ok it) v old new reads same = (reads, same)
+finds-by (Err fault) v old new reads same = reads
+
+pub asked : {R : Type 0} (shown : R → Row) (sql : List ℕ) (is_there : Bool) (old new : State) (P : Trees → Type 0) → Survives old new P → Fits is_there old → is_there ≡ true
+    → (f : Content → List R) → Asks shown sql f → (found : List Row) → (HasCleanDisk new → Shown sql [] old new found) → (result : Result (List R) BookFault)
+    → ((xs : List R) → found ≡ map shown xs → IfOk result (λ out. out ≡ xs)) → Finds result (f (rows_in is_there old.now.trees)) (stands is_there old) (stands is_there new)
+asked shown sql is_there old new P survives fits there f asks found seen result read =
+    let plain = asks.is.plain in
+    finds-by result (f (rows_in is_there old.now.trees)) (stands is_there old) (stands is_there new)
+    (reads-shown sql [] is_there old new P survives fits there plain found seen)
+    (λ e. let clean = honest new (and_parts new.is_clean new.is_open e).0 in
+    read (f (rows_in is_there old.now.trees))
+    (answered shown sql f asks old new (agreed sql [] is_there old new P survives fits there plain found clean (seen clean)).holds found (seen clean)
+    ∙ ap (λ (b : Bool). map shown (f (rows_in b old.now.trees))) (sym there)))

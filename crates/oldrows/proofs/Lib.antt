@@ -1,0 +1,4 @@
+pub mod AskingLemmas
+pub mod TextLemmas
+pub mod AdoptedLemmas
+pub mod CopyLemmas

@@ -1,0 +1,171 @@
+//! A database with the tables of the schema before this one.
+ghost use Rattle.std.specs.Prelude.{◌≡◌, ◌≢◌, true, false, List, map, IfOk};
+ghost use Rattle.oldrows.specs.Adoption.{is_first};
+ghost use Rattle.tables.specs.FirstTables.{first_registry};
+
+use basis::list::Seq;
+use rows::{Record, begin, is_schema};
+use sqlite::{Alter, Connection, Error};
+use sqlite_schema::schema::Schema;
+use std::alloc::Global;
+use std::marker::Model;
+use tables::{MetaRow, create_first, fault_of, read_all, reread};
+use transactions::{BookFault, Ready};
+
+/// The number of the schema before this one, which the row of `meta` keeps.
+const NUMBER: i64 = 1;
+
+const METAS: &str =
+    "SELECT id, version, clock, zone, reserved, days_add, days_auto_renew, days_renew, days_transfer, days_redemption, days_restore, days_pending_delete, days_answer, days_lock, price_create, price_renew, price_transfer FROM meta ORDER BY id";
+
+/// The rows of a database of the schema before this one. Nothing is written to it.
+#[derive(Drop)]
+pub struct OldRows<S: Alter> {
+    conn: Connection<S>,
+    alloc: Global,
+    /// Whether its tables are those.
+    is_there: bool,
+}
+
+impl<S: Alter> Model for OldRows<S> {
+    ghost use Rattle.sqlite.specs.Held.{state};
+    ghost use Rattle.oldrows.specs.Stored.{Fits, OldState, stands};
+
+    ghost Value = { OldState };
+
+    ghost view = { λ r. stands r.is_there (state S.Store r.conn) };
+
+    ghost invariant = { λ r. Fits r.is_there (state S.Store r.conn) };
+}
+
+/// The schema that the texts make, read off a database in memory.
+fn first_schema(alloc: Global) -> Result<Schema, Error>
+    ensures { IfOk result (λ schema. schema ≡ first_registry) }
+{
+    let mut conn = Connection::open_in_memory(alloc)?;
+    begin(&mut conn)?;
+    create_first(&mut conn)?;
+    Ok(conn.schema().copy(alloc)?)
+}
+
+/// Whether a schema is that.
+fn has_first_tables(schema: &Schema, alloc: Global) -> Result<bool, Error>
+    ensures same { IfOk result (λ said. said ≡ true → schema.now ≡ first_registry) }
+    ensures other { IfOk result (λ said. said ≡ false → schema.now ≢ first_registry) }
+{
+    let first = first_schema(alloc)?;
+    Ok(is_schema(schema, &first))
+}
+
+/// Whether the rows of `meta` are one, with the number of the schema.
+fn is_first(metas: &[MetaRow]) -> bool
+    ensures { result ≡ is_first metas.now }
+{
+    match metas {
+        [meta] => meta.version == NUMBER,
+        _ => false,
+    }
+}
+
+impl<S: Alter> OldRows<S> {
+    ghost use Rattle.sqlite.specs.Given.{IsPlain};
+    ghost use Rattle.sqlite.specs.Listing.{understood};
+    ghost use Rattle.tables.specs.Content.{Content};
+    ghost use Rattle.oldrows.specs.Stored.{Asks, Finds, IsOldContent};
+
+    /// The records that the rows of a query show.
+    pub(crate) fn select<R: Record>(&mut self, sql: &str) -> Result<Seq<R>, BookFault>
+        requires { IsPlain (understood first_registry sql.now) }
+        ensures { (f : Content → List R) → Asks R.shown sql.now f → Finds result (f self.old.content) self.old self.new }
+    {
+        if !self.is_there {
+            return Err(BookFault::Store);
+        }
+        let rows = match self.conn.query_all(sql, &[]) {
+            Ok(rows) => rows,
+            Err(error) => return Err(fault_of(&error)),
+        };
+        read_all(self.alloc, &rows)
+    }
+
+    /// The rows of `meta`.
+    pub fn metas(&mut self) -> Result<Seq<MetaRow>, BookFault>
+        ensures { Finds result self.old.content.metas self.old self.new }
+    {
+        self.select(METAS)
+    }
+
+    /// Where memory is taken from.
+    pub fn alloc(&self) -> Global {
+        self.alloc
+    }
+
+    /// Does nothing. It tells a proof what always holds of the rows.
+    pub fn whole(&self)
+        ensures { self.now.is_clean ≡ true → IsOldContent self.now.content }
+    {
+        let _alloc = self.alloc;
+    }
+
+    /// Whether the tables are there.
+    pub fn ready(&mut self) -> Result<Ready, BookFault>
+        ensures { Finds result self.old.readiness self.old self.new }
+    {
+        if self.is_there {
+            Ok(Ready::Used)
+        } else {
+            Ok(Ready::Other)
+        }
+    }
+}
+
+impl<S: Alter + Drop> OldRows<S> {
+    ghost use Rattle.sqlite.specs.Held.{state};
+    ghost use Rattle.sqlite.specs.State.{HasCleanDisk};
+    ghost use Rattle.sqlite_trees.specs.Tree.{Trees};
+    ghost use Rattle.tables.specs.Adoption.{IsFound};
+    ghost use Rattle.oldrows.specs.Adoption.{IsAdopted, IsSeen};
+
+    /// The rows of a database that was read anew, by its tables alone.
+    fn over(conn: Connection<S>, alloc: Global) -> Result<OldRows<S>, BookFault>
+        requires { IsFound (state S.Store conn) }
+        ensures { (trees : Trees) → (HasCleanDisk (state S.Store conn) → (state S.Store conn).now.trees ≡ trees) → IfOk result (IsSeen trees) }
+    {
+        let is_there = match has_first_tables(conn.schema(), alloc) {
+            Ok(said) => said,
+            Err(error) => return Err(fault_of(&error)),
+        };
+        Ok(OldRows {
+            conn,
+            alloc,
+            is_there,
+        })
+    }
+
+    /// The same rows, if their row of `meta` has the number.
+    fn numbered(old: OldRows<S>) -> Result<OldRows<S>, BookFault>
+        ensures { (trees : Trees) → IsSeen trees old → IfOk result (IsAdopted trees) }
+    {
+        if !old.is_there {
+            return Ok(old);
+        }
+        let mut old = old;
+        let metas = old.metas()?;
+        if !is_first(metas.as_slice()) {
+            old.is_there = false;
+        }
+        Ok(old)
+    }
+
+    /// The rows of a database of the schema before this one. It is read and checked anew, whole.
+    pub fn adopt(conn: Connection<S>, alloc: Global) -> Result<OldRows<S>, BookFault>
+        ensures { IfOk result (IsAdopted (state S.Store conn).committed.trees) }
+    {
+        let conn = match reread(conn, alloc) {
+            Ok(conn) => conn,
+            Err((fault, _)) => return Err(fault),
+        };
+        let old = OldRows::over(conn, alloc)?;
+        OldRows::numbered(old)
+    }
+}

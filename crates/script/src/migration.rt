@@ -1,0 +1,56 @@
+//! A registry of the schema before this one, taken over.
+use crate::exit::Exit;
+use oldrows::OldRows;
+use policy::Policy;
+use registry::OpenFault;
+use sqlbook::{MigrateFault, migrate};
+use sqlite::{Alter, Connection};
+use std::alloc::Global;
+use store::BookFault;
+use tables::{RowStore, Unadopted};
+
+/// Takes the registry of a database of the schema before this one over into another database, which is
+/// empty, under a policy that continues the one it was used under.
+pub fn migrate_on<S: Alter + Drop, T: Alter + Drop>(
+    alloc: Global,
+    policy: &Policy,
+    from: Connection<S>,
+    to: Connection<T>,
+) -> Exit {
+    let mut from = match OldRows::adopt(from, alloc) {
+        Ok(from) => from,
+        Err(fault) => return exit_of_book(fault),
+    };
+    let mut to = match RowStore::adopt(to, alloc) {
+        Ok(to) => to,
+        Err((cause, _)) => return exit_of_unadopted(cause),
+    };
+    match migrate(alloc, &mut from, &mut to, policy) {
+        Ok(()) => Exit::Done,
+        Err(fault) => exit_of(fault),
+    }
+}
+
+fn exit_of(fault: MigrateFault) -> Exit {
+    match fault {
+        MigrateFault::Policy => Exit::Open(OpenFault::Policy),
+        MigrateFault::Schema => Exit::Open(OpenFault::Schema),
+        MigrateFault::Memory => Exit::Memory,
+        MigrateFault::Store => Exit::Open(OpenFault::Store),
+    }
+}
+
+fn exit_of_book(fault: BookFault) -> Exit {
+    match fault {
+        BookFault::Memory => Exit::Memory,
+        BookFault::Store => Exit::Open(OpenFault::Store),
+    }
+}
+
+fn exit_of_unadopted(cause: Unadopted) -> Exit {
+    match cause {
+        Unadopted::Other => Exit::Open(OpenFault::Schema),
+        Unadopted::Memory => Exit::Memory,
+        Unadopted::Store => Exit::Open(OpenFault::Store),
+    }
+}

@@ -1,0 +1,327 @@
+-- What it is to take a registry of the schema before this one over.
+use Rattle.std.proofs.Common.{◌≡◌, ◌&&◌, inl, inr, ℤ, pos, Bool, true, false, cond, List, [], ◌∷◌, length, map, filter, Option, Some, None, Result, Ok, Err, refl, sym, ap, subst, ◌∙◌, int_eq}
+use Rattle.std.specs.FinMap.{from_entries}
+use Rattle.std.specs.List.{cons_option, filter_map, list_all}
+use Rattle.std.specs.Option.{option_map_or}
+use Rattle.std.specs.Prelude.{slice_get}
+use Rattle.sqlite_keyed.specs.Keyed.{IsKeyedBy}
+use Rattle.sqlite_keyed.proofs.ListLemmas.{ascending-map}
+use Rattle.accounts.specs.Lines.{balance, in_order}
+use Rattle.basis.specs.Bag.{bag_of}
+use Rattle.columns.specs.Lines.{line_in}
+use Rattle.columns.specs.Numbers.{registrar_in}
+use Rattle.policy.specs.Rules.{PolicyRules}
+use Rattle.policy.specs.declared.schedule.Schedule.{Schedule}
+use Rattle.tables.specs.Account.{Account, accounts}
+use Rattle.tables.specs.Address.{addresses}
+use Rattle.tables.specs.Contact.{contacts}
+use Rattle.tables.specs.Content.{Content, no_content}
+use Rattle.tables.specs.Day.{Day}
+use Rattle.tables.specs.Domain.{domains}
+use Rattle.tables.specs.Host.{hosts}
+use Rattle.tables.specs.Line.{line_with_account, lines}
+use Rattle.tables.specs.Line as table
+use Rattle.tables.specs.Link.{links}
+use Rattle.tables.specs.Message.{messages}
+use Rattle.tables.specs.Meta.{Meta, metas}
+use Rattle.tables.specs.Readiness.{may_be_numbered}
+use Rattle.tables.specs.Transfer.{transfers}
+use Rattle.transactions.specs.declared.fault.BookFault.{BookFault}
+use Rattle.transactions.specs.declared.fault.BookFault.TheVariants as faults
+use Rattle.transactions.specs.States.{Closes, Fails, Has, Keeps, LeavesSame, Reads, Remains, Starts, StateOf, Stays}
+use Rattle.transactions.proofs.LeavingLemmas.{leaves-on}
+use Rattle.oldrows.specs.Copies.{Copies, IsCopied, IsLeft, put_of_all, renumbered}
+use Rattle.oldrows.specs.Stored.{IsOldContent, IsRead, OldState}
+use Rattle.oldrows.proofs.CopyLemmas.{put-keyed, read-on}
+use Rattle.sqlaccounts.specs.Accounts.{account_in, accounts_of, balance_in, entries_of, has_right_sums, is_right, lines_of, queue_of, row_of, sums_are_right}
+use Rattle.sqldomains.specs.Domains.{domains_of}
+use Rattle.sqldue.specs.Dues.{dues_are_right}
+use Rattle.sqlheld.specs.Held.{helds_are_right}
+use Rattle.sqlobjects.specs.Objects.{contacts_of, hosts_of}
+use Rattle.sqlobjects.specs.Sponsors.{sponsors_are_right}
+use Rattle.sqlterms.specs.Clock.{clock_in}
+use Rattle.sqlterms.specs.Terms.{terms_in}
+use Rattle.sqlbook.specs.declared.migrating.MigrateFault.{MigrateFault}
+use Rattle.sqlbook.specs.declared.migrating.MigrateFault.TheVariants.{Policy, Schema, Memory, Store}
+use Rattle.sqlbook.specs.Graces.{with_grace_end}
+use Rattle.sqlbook.specs.Meaning.{are_right, stored_of}
+use Rattle.sqlbook.specs.Migrating.{AreAsked, EndsAs, IsMigrated, IsRefused, IsTakenOver, IsTried, IsUnsuited, Migrates, TakesOver, ended, fault_of, heads, numbered_anew, others, put_lines, redated, suits, suits_in, taken}
+use Rattle.sqlbook.specs.Seen.{Turns}
+
+-- ---- the number of the schema says nothing of the registry
+
+clock-taken : (rows : List Meta) → clock_in (slice_get (map renumbered rows) 0) ≡ clock_in (slice_get rows 0)
+clock-taken [] = refl
+clock-taken (row ∷ rows) = refl
+
+terms-taken : (rows : List Meta) (tables : List Day) (holders : List Account) → terms_in (slice_get (map renumbered rows) 0) tables holders ≡ terms_in (slice_get rows 0) tables holders
+terms-taken [] tables holders = refl
+terms-taken (row ∷ rows) tables holders = refl
+
+-- ---- the ends of graces say nothing of the lines
+
+module _ (days : Schedule) (xs : Content) where
+  abbrev ys : Content
+  ys = record xs { lines = ended days xs.lines }
+
+  read-same : (id : ℤ) (rows : List table.Line) → filter_map line_in (filter (line_with_account id) (ended days rows)) ≡ filter_map line_in (filter (line_with_account id) rows)
+  read-same id [] = refl
+  read-same id (row ∷ rows) = go (line_with_account id row) (read-same id rows)
+    where
+      go : (b : Bool) → filter_map line_in (filter (line_with_account id) (ended days rows)) ≡ filter_map line_in (filter (line_with_account id) rows)
+          → filter_map line_in (cond b (with_grace_end days row ∷ filter (line_with_account id) (ended days rows)) (filter (line_with_account id) (ended days rows)))
+          ≡ filter_map line_in (cond b (row ∷ filter (line_with_account id) rows) (filter (line_with_account id) rows))
+      go true rest = ap (cons_option (line_in row)) rest
+      go false rest = rest
+
+  lines-same : (id : ℤ) → lines_of ys id ≡ lines_of xs id
+  lines-same id = ap (bag_of in_order) (read-same id xs.lines)
+
+  account-same : (row : Account) → account_in ys row ≡ account_in xs row
+  account-same row = ap (λ l. record (account_in xs row) { lines = l }) (lines-same row.id)
+
+  entries-same : (rows : List Account) → entries_of ys rows ≡ entries_of xs rows
+  entries-same [] = refl
+  entries-same (row ∷ rows) =
+      (λ i. option_map_or (λ place. (place, account-same row i) ∷ entries-same rows i) (registrar_in row.id) (entries-same rows i))
+
+  pub accounts-same : accounts_of ys ≡ accounts_of xs
+  accounts-same = ap from_entries (entries-same xs.accounts)
+
+  right-same : (row : Account) → is_right ys row ≡ is_right xs row
+  right-same row = ap (λ l. int_eq (balance_in row.balance) (balance l) && int_eq row.waiting (pos (length (queue_of xs row.id)))) (lines-same row.id)
+
+  right-if-there : (o : Option Account) → option_map_or (is_right ys) o true ≡ option_map_or (is_right xs) o true
+  right-if-there None = refl
+  right-if-there (Some row) = right-same row
+
+  all-same : (rows : List Account) → list_all (λ (row : Account). has_right_sums ys row.id) rows ≡ list_all (λ (row : Account). has_right_sums xs row.id) rows
+  all-same [] = refl
+  all-same (row ∷ rows) = λ i. right-if-there (row_of xs row.id) i && all-same rows i
+
+  pub sums-same : sums_are_right ys ≡ sums_are_right xs
+  sums-same = all-same xs.accounts
+
+pub stored-taken : (days : Schedule) (xs : Content) → stored_of (taken days xs) ≡ stored_of xs
+stored-taken days xs = λ i. record {
+  registry = record { contacts = contacts_of xs; hosts = hosts_of xs; domains = domains_of xs; accounts = accounts-same days xs i; clock = clock-taken xs.metas i };
+  terms = terms-taken xs.metas xs.days xs.accounts i;
+}
+
+pub right-taken : (days : Schedule) (xs : Content) → are_right (taken days xs) ≡ are_right (numbered_anew xs)
+right-taken days xs = ap (λ sums. may_be_numbered (map renumbered xs.metas) && (sums && (helds_are_right xs && (dues_are_right (numbered_anew xs) && sponsors_are_right xs)))) (sums-same days xs)
+
+-- ---- what is put is what was there
+
+renumbered-keyed : (rows : List Meta) → IsKeyedBy metas.key rows → IsKeyedBy metas.key (map renumbered rows)
+renumbered-keyed rows up = ascending-map _ renumbered rows up
+
+module _ (xs : Content) (is : IsOldContent xs) where
+  put-heads : put_of_all heads xs no_content ≡ record no_content { metas = map renumbered xs.metas; accounts = xs.accounts }
+  put-heads = λ i. record no_content {
+    metas = put-keyed metas.key (map renumbered xs.metas) (renumbered-keyed xs.metas is.keyed.metas) i;
+    accounts = put-keyed accounts.key xs.accounts is.keyed.accounts i;
+  }
+
+  ended-keyed : (days : Schedule) → IsKeyedBy lines.key (ended days xs.lines)
+  ended-keyed days = ascending-map _ (with_grace_end days) xs.lines is.keyed.lines
+
+  put-rest : (days : Schedule) → put_lines days xs (put_of_all others xs (record no_content { metas = map renumbered xs.metas; accounts = xs.accounts })) ≡ taken days xs
+  put-rest days = λ i. record {
+    metas = map renumbered xs.metas;
+    accounts = xs.accounts;
+    contacts = put-keyed contacts.key xs.contacts is.keyed.contacts i;
+    domains = put-keyed domains.key xs.domains is.keyed.domains i;
+    hosts = put-keyed hosts.key xs.hosts is.keyed.hosts i;
+    addresses = put-keyed addresses.key xs.addresses is.keyed.addresses i;
+    links = put-keyed links.key xs.links is.keyed.links i;
+    lines = put-keyed lines.key (ended days xs.lines) (ended-keyed days) i;
+    messages = put-keyed messages.key xs.messages is.keyed.messages i;
+    transfers = put-keyed transfers.key xs.transfers is.keyed.transfers i;
+    days = sym is.days i;
+  }
+
+  pub suits-heads : (p : PolicyRules) → suits p (stored_of (put_of_all heads xs no_content)) ≡ suits p (stored_of xs)
+  suits-heads p =
+      ap (λ (c : Content). suits p (stored_of c)) put-heads
+      ∙ (λ i. suits_in p (clock-taken xs.metas i) ((terms-taken xs.metas [] xs.accounts ∙ ap (λ (tables : List Day). terms_in (slice_get xs.metas 0) tables xs.accounts) (sym is.days)) i))
+
+  pub put-all : (days : Schedule) → put_lines days xs (put_of_all others xs (put_of_all heads xs no_content)) ≡ taken days xs
+  put-all days = ap (λ (c : Content). put_lines days xs (put_of_all others xs c)) put-heads ∙ put-rest days
+
+-- ---- one call after another
+
+copied-then : (one two : Content → Content → Content) (from read more : OldState) (to mid wrote : StateOf Content)
+    → IsCopied one from read to mid → IsCopied two read more mid wrote → IsCopied (λ c d. two c (one c d)) from more to wrote
+copied-then one two from read more to mid wrote a b = record {
+  reads = read-on from read more a.reads b.reads;
+  clean = λ e. a.clean (b.clean e);
+  before = λ e. b.before e ∙ a.before (b.clean e);
+  opened = b.opened;
+  leaves = leaves-on to mid wrote a.leaves b.leaves;
+  content = λ c e.
+      let r = b.reads.clean c in
+      b.content c e ∙ (λ i. two (a.reads.content r i) (a.content r (b.clean e) i));
+}
+
+-- after a copy that failed behind one that didn't
+left-then : (one : Content → Content → Content) (from read more : OldState) (to mid wrote : StateOf Content)
+    → IsCopied one from read to mid → IsLeft read more mid wrote → IsLeft from more to wrote
+left-then one from read more to mid wrote a b = record {
+  source = read-on from read more a.reads b.source;
+  target = record { clean = λ e. a.clean (b.target.clean e); before = λ e. b.target.before e ∙ a.before (b.target.clean e); leaves = leaves-on to mid wrote a.leaves b.target.leaves };
+}
+
+pub copied-after : {A : Type 0} (r : Result A BookFault) (one two : Content → Content → Content) (from read more : OldState) (to mid wrote : StateOf Content)
+    → IsCopied one from read to mid → Copies r two read more mid wrote → Copies r (λ c d. two c (one c d)) from more to wrote
+copied-after (Ok done) one two from read more to mid wrote a b = copied-then one two from read more to mid wrote a b
+copied-after (Err fault) one two from read more to mid wrote a b = left-then one from read more to mid wrote a b
+
+-- a call on the new rows that failed behind a copy
+pub left-looked : (put : Content → Content → Content) (from read : OldState) (to written looked : StateOf Content) → IsCopied put from read to written → Stays written looked → IsLeft from read to looked
+left-looked put from read to written looked copied stays = record {
+  source = copied.reads;
+  target = record { clean = λ e. copied.clean (stays.clean e); before = λ e. stays.before e ∙ copied.before (stays.clean e); leaves = leaves-on to written looked copied.leaves stays.leaves };
+}
+
+-- a copy that failed behind a copy and a question
+pub left-rest : (put : Content → Content → Content) (from read more : OldState) (to written looked wrote : StateOf Content) → IsCopied put from read to written → Reads written looked → IsLeft read more looked wrote → IsLeft from more to wrote
+left-rest put from read more to written looked wrote copied looks left = record {
+  source = read-on from read more copied.reads left.source;
+  target = record {
+    clean = λ e. copied.clean (looks.clean (left.target.clean e));
+    before = λ e. let w = left.target.clean e in left.target.before e ∙ looks.before w ∙ copied.before (looks.clean w);
+    leaves = leaves-on to looked wrote (leaves-on to written looked copied.leaves looks.leaves) left.target.leaves;
+  };
+}
+
+module _ (p : PolicyRules) (from read : OldState) (to written looked : StateOf Content) (old : from.is_clean ≡ true → IsOldContent from.content) (blank : to.is_clean ≡ true → to.content ≡ no_content)
+    (copied : IsCopied (put_of_all heads) from read to written) (said : Bool) (found : Reads written looked × (looked.is_clean ≡ true → said ≡ suits p (stored_of written.content))) where
+  suits-there : read.is_clean ≡ true → looked.is_clean ≡ true → said ≡ suits p (stored_of from.content)
+  suits-there c e =
+      let w = found.0.clean e in
+      found.1 e
+      ∙ ap (λ (c : Content). suits p (stored_of c)) (copied.content c w ∙ ap (put_of_all heads from.content) (blank (copied.clean w)))
+      ∙ suits-heads from.content (old (copied.reads.clean c)) p
+
+  pub refused : said ≡ false → IsRefused p from read to looked
+  refused unsaid = record {
+    reads = copied.reads;
+    clean = λ e. copied.clean (found.0.clean e);
+    before = λ e. found.0.before e ∙ copied.before (found.0.clean e);
+    leaves = leaves-on to written looked copied.leaves found.0.leaves;
+    differs = λ c e. sym (suits-there c e) ∙ unsaid;
+  }
+
+  pub taken-over : (more : OldState) (wrote dated : StateOf Content) → said ≡ true → IsCopied (λ c d. put_lines p.days c (put_of_all others c d)) read more looked wrote
+      → Turns stored_of are_right (redated p (stored_of wrote.content)) wrote dated → (dated.is_clean ≡ true → dated.content.lines ≡ wrote.content.lines) → IsTakenOver p from more to dated
+  taken-over more wrote dated so rest days kept = record {
+    reads = read-on from read more copied.reads rest.reads;
+    clean = λ e. copied.clean (found.0.clean (rest.clean (days.clean e)));
+    before = λ e. let w = rest.clean (days.clean e) in days.before e ∙ rest.before (days.clean e) ∙ found.0.before w ∙ copied.before (found.0.clean w);
+    opened = days.opened;
+    leaves = leaves-on to wrote dated (leaves-on to looked wrote (leaves-on to written looked copied.leaves found.0.leaves) rest.leaves) days.leaves;
+    fits = λ c e. sym (suits-there (rest.reads.clean c) (rest.clean (days.clean e))) ∙ so;
+    stored = λ c e. days.content e ∙ ap (λ (xs : Content). redated p (stored_of xs)) (whole c (days.clean e)) ∙ ap (redated p) (stored-taken p.days from.content);
+    sums = λ c e. days.sums e ∙ ap are_right (whole c (days.clean e)) ∙ right-taken p.days from.content;
+    lines_are = λ c e. kept e ∙ ap (λ (xs : Content). xs.lines) (whole c (days.clean e));
+  }
+    where
+      whole : more.is_clean ≡ true → wrote.is_clean ≡ true → wrote.content ≡ taken p.days from.content
+      whole c e =
+          let l = rest.clean e in
+          let w = found.0.clean l in
+          let r = rest.reads.clean c in
+          let is = old (copied.reads.clean r) in
+          rest.content c e
+          ∙ (λ i. put_lines p.days (copied.reads.content r i) (put_of_all others (copied.reads.content r i) ((found.0.content l ∙ copied.content r w ∙ ap (put_of_all heads from.content) (blank (copied.clean w))) i)))
+          ∙ put-all from.content is p.days
+
+-- ---- the whole
+
+-- nothing was begun, or all was undone
+pub tried-nothing : (p : PolicyRules) (from read : OldState) (to written : StateOf Content) → IsRead from read → (written.is_clean ≡ true → to.is_clean ≡ true) → LeavesSame to written → IsTried p from read to written
+tried-nothing p from read to written reads clean leaves = record {
+  reads = reads;
+  clean = clean;
+  leaves = λ c e left h. inl (subst (λ (l : List (Remains Content)). Has l left) leaves.same h);
+}
+
+-- a fault of what keeps one of them
+pub refused-by : (p : PolicyRules) (why : BookFault) (fault : MigrateFault) → fault ≡ fault_of why → (from read : OldState) (to written : StateOf Content) → IsRead from read → (written.is_clean ≡ true → to.is_clean ≡ true) → LeavesSame to written
+    → Migrates {A = Unit {0}} (Err fault) p from read to written
+refused-by p faults.Memory fault is from read to written reads clean leaves = subst (λ (f : MigrateFault). Migrates {A = Unit {0}} (Err f) p from read to written) (sym is) (tried-nothing p from read to written reads clean leaves)
+refused-by p faults.Store fault is from read to written reads clean leaves = subst (λ (f : MigrateFault). Migrates {A = Unit {0}} (Err f) p from read to written) (sym is) (tried-nothing p from read to written reads clean leaves)
+
+module _ (p : PolicyRules) (from read more : OldState) (a b c d e : StateOf Content) (asked : AreAsked true from read a b) (begun : Starts b c) where
+  before-all : b.is_clean ≡ true → c.is_clean ≡ true → c.before ≡ a.content
+  before-all w t = begun.before t ∙ asked.back.content w
+
+  leaves-begun : LeavesSame a c
+  leaves-begun = leaves-on a b c asked.back.leaves begun.leaves
+
+  clean-begun : c.is_clean ≡ true → a.is_clean ≡ true
+  clean-begun t = asked.back.clean (begun.clean t)
+
+  abbrev reads-then : IsRead read more → IsRead from more
+  reads-then reads = read-on from read more asked.reads reads
+
+  closed-back : (d.is_clean ≡ true → c.is_clean ≡ true) → (d.is_clean ≡ true → d.before ≡ c.before) → LeavesSame c d → Closes d.before d e → Closes a.content a e
+  closed-back clean before leaves back = record {
+    clean = λ t. clean-begun (clean (back.clean t));
+    closed = back.closed;
+    content = λ t. let w = back.clean t in back.content t ∙ before w ∙ before-all (begun.clean (clean w)) (clean w);
+    leaves = leaves-on a d e (leaves-on a c d leaves-begun leaves) back.leaves;
+  }
+
+  all-of : (took : IsTakenOver p read more c d) → more.is_clean ≡ true → d.is_clean ≡ true → stored_of d.content ≡ redated p (stored_of from.content)
+  all-of took m t = took.stored m t ∙ ap (λ (xs : Content). redated p (stored_of xs)) (asked.reads.content (took.reads.clean m))
+
+  kept-all : IsTakenOver p read more c d → Keeps d e → IsMigrated p from more a e
+  kept-all took kept = record {
+    reads = reads-then took.reads;
+    clean = λ t. clean-begun (took.clean (kept.clean t));
+    closed = kept.closed;
+    fits = λ m t. ap (λ (xs : Content). suits p (stored_of xs)) (sym (asked.reads.content (took.reads.clean m))) ∙ took.fits m (kept.clean t);
+    stored = λ m t. ap stored_of (kept.content t) ∙ all-of took m (kept.clean t);
+    sums = λ m t. ap are_right (kept.content t) ∙ took.sums m (kept.clean t) ∙ ap (λ (xs : Content). are_right (numbered_anew xs)) (asked.reads.content (took.reads.clean m));
+    lines_are = λ m t. ap (λ (xs : Content). xs.lines) (kept.content t) ∙ took.lines_are m (kept.clean t) ∙ ap (λ (xs : Content). ended p.days xs.lines) (asked.reads.content (took.reads.clean m));
+    leaves = λ m honest left h.
+        let is = kept.leaves left h in
+        (ap (λ (l : Remains Content). l.readiness) is, ap (λ (l : Remains Content). stored_of l.content) is ∙ all-of took m (kept.answered honest));
+  }
+
+  failed-all : IsTakenOver p read more c d → Fails d e → IsTried p from more a e
+  failed-all took failed = record {
+    reads = reads-then took.reads;
+    clean = λ t. clean-begun (took.clean (failed.clean t));
+    leaves = λ m honest left h. elim (failed.leaves left h) [
+      | inl was ↦ inl (subst (λ (l : List (Remains Content)). Has l left) (leaves-on a c d leaves-begun took.leaves).same was)
+      | inr is ↦ inr (ap (λ (l : Remains Content). l.readiness) is, ap (λ (l : Remains Content). stored_of l.content) is ∙ all-of took m (failed.answered honest))
+    ];
+  }
+
+  undone-all : IsLeft read more c d → Closes d.before d e → IsTried p from more a e
+  undone-all left back = tried-nothing p from more a e (reads-then left.source) (λ t. clean-begun (left.target.clean (back.clean t))) (leaves-on a d e (leaves-on a c d leaves-begun left.target.leaves) back.leaves)
+
+  unsuited : IsRefused p read more c d → Closes d.before d e → IsUnsuited p from more a e
+  unsuited refused back = record {
+    reads = reads-then refused.reads;
+    back = closed-back refused.clean refused.before refused.leaves back;
+    differs = λ m t. ap (λ (xs : Content). suits p (stored_of xs)) (sym (asked.reads.content (refused.reads.clean m))) ∙ refused.differs m (back.clean t);
+  }
+
+  by-fault : (why : BookFault) (fault : MigrateFault) → fault ≡ fault_of why → IsTried p from more a e → Migrates {A = Unit {0}} (Err fault) p from more a e
+  by-fault faults.Memory fault is tried = subst (λ (f : MigrateFault). Migrates {A = Unit {0}} (Err f) p from more a e) (sym is) tried
+  by-fault faults.Store fault is tried = subst (λ (f : MigrateFault). Migrates {A = Unit {0}} (Err f) p from more a e) (sym is) tried
+
+  pub migrated : (result : Result (Unit {0}) MigrateFault) (took : Result Bool BookFault) → TakesOver took p read more c d → EndsAs result took d e → Migrates result p from more a e
+  migrated (Ok done) (Ok true) over ends = kept-all over ends
+  migrated (Ok done) (Ok false) over ends = absurd ends
+  migrated (Ok done) (Err why) over ends = absurd ends
+  migrated (Err Memory) (Ok true) over ends = failed-all over ends
+  migrated (Err Store) (Ok true) over ends = failed-all over ends
+  migrated (Err Policy) (Ok true) over ends = absurd ends
+  migrated (Err Schema) (Ok true) over ends = absurd ends
+  migrated (Err fault) (Ok false) over ends = subst (λ (f : MigrateFault). Migrates {A = Unit {0}} (Err f) p from more a e) (sym ends.0) (unsuited over ends.1)
+  migrated (Err fault) (Err why) over ends = by-fault why fault ends.0 (undone-all over ends.1)

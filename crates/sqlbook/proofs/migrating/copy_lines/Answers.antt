@@ -1,0 +1,14 @@
+use Rattle.std.proofs.Common.{ap, ◌∙◌}
+use Rattle.oldrows.proofs.CopyLemmas.{copied-so}
+use Rattle.oldrows.specs.Copies.{put_all}
+use Rattle.tables.specs.Content.{Content, lines_to}
+use Rattle.tables.specs.Line.{lines}
+use Rattle.sqlbook.specs.Migrating.{ended}
+use Rattle.sqlbook.proofs.migrating.copy_lines.Goals as goal
+
+pub returns : goal.returns
+returns g c =
+    let days = c.args.days.now in
+    let asked = c.in_ok-rows.ensures {u = tt} in
+    copied-so c.put_all.result (λ rows. lines_to (put_all lines.key rows)) c.as_slice.result.now (λ (xs : Content). ended days xs.lines) c.args.from.now c.all.new.from c.args.to.now c.put_all.new.to
+    asked.0 (λ e. c.as_slice.ensures ∙ c.in_ok-ended.ensures {u = tt} ∙ ap (ended days) (asked.1 e)) c.put_all.ensures

@@ -1,0 +1,11 @@
+use Rattle.sqlobjects.proofs.StepLemmas.{asked-then}
+use Rattle.sqlbook.specs.Replacing.{IsExchanged, IsExchangedThere}
+use Rattle.sqlbook.proofs.redating.exchange_there.Goals as goal
+
+pub returns : goal.returns
+returns g c =
+    let asked = c.in_ok-before.ensures {u = tt} in
+    let made = c.in_ok-exchanged.ensures {u = tt} in
+    asked-then (IsExchanged c.args.name.now c.in_ok-before.before c.args.after.now c.args.due) (IsExchangedThere c.args.name.now c.args.days.now c.args.after.now c.args.due)
+    c.args.store.now c.found.new.store c.exchange-exchanged.new.store asked.0 made
+    (λ e it. record { before = c.in_ok-before.before; whole = c.whole.ensures (asked.0.clean (made.clean e)); standing = asked.1 (made.clean e); exchanged = it })

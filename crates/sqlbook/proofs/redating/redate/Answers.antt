@@ -1,0 +1,8 @@
+use Rattle.sqlobjects.proofs.StepLemmas.{asked-then}
+use Rattle.sqlbook.specs.Suiting.{MeansSame}
+use Rattle.sqlbook.proofs.redating.redate.Goals as goal
+
+pub returns : goal.returns
+returns g c =
+    let asked = c.in_ok-names.ensures {u = tt} in
+    asked-then MeansSame MeansSame c.args.store.now c.deleted_names.new.store c.redate_all-redated.new.store asked.0 (c.in_ok-redated.ensures {u = tt}) (λ e it. it)

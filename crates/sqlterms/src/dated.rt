@@ -1,0 +1,110 @@
+//! Tables of lengths of periods as rows.
+ghost use Rattle.std.specs.Prelude.{◌≡◌, true, IfOk};
+ghost use Rattle.meanings.specs.Calls.{Turns};
+ghost use Rattle.sqlterms.specs.Changes.{AreDated};
+ghost use Rattle.sqlterms.specs.Terms as spec;
+
+use crate::counts::{count_of_column, days_made};
+use basis::list::Seq;
+use calendar::Moment;
+use columns::{moment_column, moment_of_column};
+use policy::{DatedDays, Days};
+use sqlite::Alter;
+use std::alloc::{AllocError, Global};
+use tables::{DayRow, RowStore};
+use transactions::BookFault;
+
+/// The days of a row, if each column is a count.
+fn dated_days_of(row: &DayRow) -> Option<Days>
+    ensures { result ≡ spec.dated_days_in row.now }
+{
+    days_made(
+        count_of_column(row.days_add),
+        count_of_column(row.days_auto_renew),
+        count_of_column(row.days_renew),
+        count_of_column(row.days_transfer),
+        count_of_column(row.days_redemption),
+        count_of_column(row.days_restore),
+        count_of_column(row.days_pending_delete),
+        count_of_column(row.days_answer),
+        count_of_column(row.days_lock),
+    )
+}
+
+fn dated_made(from: Option<Moment>, days: Option<Days>) -> Option<DatedDays>
+    ensures { result ≡ spec.dated_made from days }
+{
+    Some(DatedDays {
+        from: from?,
+        days: days?,
+    })
+}
+
+/// The table of a row, if each column reads.
+fn dated_of(row: &DayRow) -> Option<DatedDays>
+    ensures { result ≡ spec.dated_in row.now }
+{
+    dated_made(moment_of_column(row.starts), dated_days_of(row))
+}
+
+/// The tables of these rows; one that doesn't read makes them none.
+pub(crate) fn all_dated(
+    alloc: Global,
+    rows: &[DayRow],
+) -> Result<Option<Seq<DatedDays>>, AllocError>
+    ensures { IfOk result (λ tables. tables ≡ spec.all_dated rows.now) }
+{
+    let mut tables = Seq::new(alloc);
+    for row in rows {
+        let Some(table) = dated_of(row) else {
+            return Ok(None);
+        };
+        tables.push(table)?;
+    }
+    Ok(Some(tables))
+}
+
+/// The row of a table. It has no number of its own yet.
+fn row_of(table: &DatedDays) -> DayRow {
+    let days = &table.days;
+    DayRow {
+        id: 0,
+        starts: moment_column(table.from),
+        days_add: i64::from(days.add),
+        days_auto_renew: i64::from(days.auto_renew),
+        days_renew: i64::from(days.renew),
+        days_transfer: i64::from(days.transfer),
+        days_redemption: i64::from(days.redemption),
+        days_restore: i64::from(days.restore),
+        days_pending_delete: i64::from(days.pending_delete),
+        days_answer: i64::from(days.answer),
+        days_lock: i64::from(days.lock),
+    }
+}
+
+/// Puts down the tables that come after those that are there. Fewer than there are, are refused.
+pub(crate) fn put_tables<S: Alter>(
+    store: &mut RowStore<S>,
+    tables: &[DatedDays],
+) -> Result<(), BookFault>
+    requires { store.old.is_open ≡ true }
+    ensures { Turns result AreDated store.old store.new }
+{
+    let there = store.all_days()?;
+    let known = there.as_slice().len();
+    drop(there);
+    let Some(added) = tables.get(known..) else {
+        return Err(BookFault::Store);
+    };
+    append_tables(store, added)
+}
+
+fn append_tables<S: Alter>(store: &mut RowStore<S>, tables: &[DatedDays]) -> Result<(), BookFault>
+    requires { store.old.is_open ≡ true }
+    ensures { Turns result AreDated store.old store.new }
+{
+    for table in tables {
+        store.append_day(&row_of(table))?;
+    }
+    Ok(())
+}
