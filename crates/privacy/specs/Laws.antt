@@ -23,7 +23,7 @@ pub record IsStepOfTwo (p : PolicyRules) (moment : ℕ) (x : Question) (before a
   pub alike : (r : ℕ) (touched : Objects) (pair : Pair) (other : Registry) → first pair ≡ x
       → AreOne r touched (now p before) (now p other)
       → IsAlike p r touched pair (lapsed p moment before) (lapsed p moment other)
-          → GoOnAlike p r touched moment pair before after a other
+      → GoOnAlike p r touched moment pair before after a other
 
 -- ---- whole runs
 

@@ -145,8 +145,8 @@ abbrev pub domain_full_info : PolicyRules → List (List ℕ) → Option (List �
     → DomainInfo
 domain_full_info p subordinate secret known =
     record (domain_face_info p subordinate (face_of known.standing known.domain)) {
-  hidden = Some (domain_hidden p secret known.domain);
-}
+      hidden = Some (domain_hidden p secret known.domain);
+    }
 
 abbrev pub domain_info : PolicyRules → ℕ → Option (List ℕ) → List (List ℕ)
     → Seen FullDomain DomainFace → DomainInfo
