@@ -48,7 +48,8 @@ Defines from text to =
 -- what texts make of it, one after another
 abbrev pub DefinesAll : Schema → List (List ℕ) → Schema → Type 0
 DefinesAll from [] to = from ≡ to
-DefinesAll from (text ∷ texts) to = (next : Schema) × Defines from text next × DefinesAll next texts to
+DefinesAll from (text ∷ texts) to =
+    (next : Schema) × Defines from text next × DefinesAll next texts to
 
 -- the tables of the schema, with no row
 pub record IsBlank (schema : Schema) (db : Database) : Type 0 where

@@ -66,7 +66,8 @@ select_query tree filter project = record {
 
 -- the same, and no more than the limit, if that isn't below 0
 abbrev pub limited_query : ℕ → List Term → List Term → ℤ → Query
-limited_query tree filter project limit = record (select_query tree filter project) { limit = lit (Int limit) }
+limited_query tree filter project limit =
+    record (select_query tree filter project) { limit = lit (Int limit) }
 
 -- the rows that pass, in the order of some columns and then by key, and no more than the limit, if that isn't below 0
 abbrev pub sorted_query : ℕ → List Term → List Term → List Term → ℤ → Query
@@ -126,7 +127,8 @@ pub record Gives {X : Type 0} (L : Layout X) (schema : Schema) (table : Table) (
   pub values : (x : X) → value_rows (stamped table (params x)) (length terms) (length terms / length terms) terms ≡ L.to_row x ∷ []
   pub place : (x : X) (v : Value) → column (params x ++ v ∷ shown table (L.to_row x)) given ≡ v
   pub updates : (x : X) (v : Value) (r : Row) → eval_all sets ((params x ++ v ∷ shown table (L.to_row x)) ∷ r ∷ []) ≡ rowid r ∷ drop 1 (L.to_row x)
-  pub unshared : (new r : Row) → list_any (shares (Some (0 ∷ [])) table new r) schema.indexes ≡ false
+  pub unshared : (new r : Row)
+      → list_any (shares (Some (0 ∷ [])) table new r) schema.indexes ≡ false
   pub headed : (x : X) → rowid (L.to_row x) ∷ drop 1 (L.to_row x) ≡ L.to_row x
 
 -- the rows, and after them one that is made for the next key: one above the last, and 1 in an empty table

@@ -11,7 +11,8 @@ IsPlainColumn column = column.default ≡ Null
 
 -- no CHECK, and no default that reads the time
 abbrev pub ComputesNothing : Table → Type 0
-ComputesNothing table = (table.checks ≡ []) × (table.stamps ≡ record { places = []; terms = []; formats = [] })
+ComputesNothing table =
+    (table.checks ≡ []) × (table.stamps ≡ record { places = []; terms = []; formats = [] })
 
 abbrev pub IsPlainTable : Table → Type 0
 IsPlainTable table = ComputesNothing table × AllByRecursion IsPlainColumn table.columns

@@ -14,8 +14,10 @@ back_text = codes "ROLLBACK"
 
 -- a transaction is open, and nothing is written yet; after an error none is open
 abbrev pub Begins : State → State → Result (Unit {0}) Error → Type 0
-Begins old new result = MatchResult result (λ _. Shows old new old.now old.committed true) (λ _. IsRolledBack old new)
+Begins old new result =
+    MatchResult result (λ _. Shows old new old.now old.committed true) (λ _. IsRolledBack old new)
 
 -- what was written is what is committed; after an error all is as it was when the transaction began
 abbrev pub Commits : State → State → Result (Unit {0}) Error → Type 0
-Commits old new result = MatchResult result (λ _. Shows old new old.now old.now false) (λ _. IsRolledBack old new)
+Commits old new result =
+    MatchResult result (λ _. Shows old new old.now old.now false) (λ _. IsRolledBack old new)

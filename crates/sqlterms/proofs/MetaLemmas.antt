@@ -21,7 +21,7 @@ use Rattle.tables.specs.Readiness.{may_be_numbered}
 use Rattle.tables.specs.Tables.{schema_number}
 use Rattle.sqlterms.specs.Changes.{IsClockSet}
 use Rattle.sqlterms.specs.Clock.{clock_in, clock_of}
-use Rattle.sqlterms.specs.Meta.{meta_or_new, with_clock, with_terms}
+use Rattle.sqlterms.specs.Meta.{IsAt, meta_or_new, with_clock, with_terms}
 use Rattle.sqlterms.specs.Terms.{days_at, terms_at, terms_in}
 
 -- the first moment is one
@@ -63,6 +63,14 @@ module _ (xs : Content) (o : Option Meta) (is : xs.metas ≡ rows_of o) where
   -- the number in the row stays, and a new row has it
   pub same_number : (new : Meta) → (meta_or_new o).id ≡ new.id → new.version ≡ (meta_or_new o).version → may_be_numbered (insert_by metas.key xs.metas new) ≡ may_be_numbered xs.metas
   same_number new e version = ap may_be_numbered (one_meta new e) ∙ ap (λ (v : ℤ). int_eq v schema_number) version ∙ numbered-so o ∙ ap may_be_numbered (sym is)
+
+  clock_at : (m : ℕ) (o : Option Meta) → IsAt m o → clock_in o ≡ m
+  clock_at m None at = absurd at
+  clock_at m (Some row) at = ap (λ c. unwrap_or (moment_in c) blank.clock) at.1 ∙ ap (λ c. unwrap_or c blank.clock) (moment_back m at.0)
+
+  -- the clock stands there already
+  pub clock_is_there : (m : ℕ) → IsAt m o → IsClockSet m xs xs
+  clock_is_there m at = record { clock = ap clock_in meta_was ∙ clock_at m o at; terms = refl; days = refl; numbered = refl; others = refl }
 
   -- the clock is another, and the terms aren't
   pub clock_is_set : (m : ℕ) (new : Meta) → IsMoment m → new ≡ with_clock m (meta_or_new o) → IsClockSet m xs (metas_to (λ rows. insert_by metas.key rows new) xs)

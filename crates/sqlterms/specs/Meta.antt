@@ -1,5 +1,6 @@
 -- The one row of meta.
-use Rattle.std.specs.Prelude.{ℕ, pos, List, [], Option, Some, None, slice_get}
+use Rattle.calendar.specs.Moment.{IsMoment}
+use Rattle.std.specs.Prelude.{◌≡◌, ℕ, pos, List, [], Option, Some, None, slice_get}
 use Rattle.columns.specs.Numbers.{moment_column}
 use Rattle.model.specs.Registry.{blank}
 use Rattle.policy.specs.declared.terms.Terms.{Terms}
@@ -36,6 +37,11 @@ new_meta = record {
 abbrev pub meta_or_new : Option Meta → Meta
 meta_or_new None = new_meta
 meta_or_new (Some row) = row
+
+-- the row says that it is this moment
+abbrev pub IsAt : ℕ → Option Meta → Type 0
+IsAt m None = ⊥
+IsAt m (Some row) = IsMoment m × (row.clock ≡ moment_column m)
 
 abbrev pub with_clock : ℕ → Meta → Meta
 with_clock m row = record row { clock = moment_column m }

@@ -1,5 +1,5 @@
 //! The one row of `meta`.
-ghost use Rattle.std.specs.Prelude.{◌≡◌, IfOk, string_bytes};
+ghost use Rattle.std.specs.Prelude.{◌≡◌, true, IfOk, string_bytes};
 ghost use Rattle.calendar.specs.Moment.{IsMoment};
 ghost use Rattle.meanings.specs.Read.{rows_of};
 ghost use Rattle.sqlterms.specs.Meta as spec;
@@ -52,6 +52,17 @@ pub(crate) fn meta_or_new(alloc: Global, meta: Option<MetaRow>) -> MetaRow
     match meta {
         None => new_meta(alloc),
         Some(row) => row,
+    }
+}
+
+/// Whether the row says that it is this moment.
+pub(crate) fn is_at(meta: &Option<MetaRow>, moment: Moment) -> bool
+    ensures { result ≡ true → spec.IsAt moment meta.now }
+{
+    let secs = moment.secs();
+    match meta {
+        None => false,
+        Some(row) => row.clock == secs,
     }
 }
 

@@ -5,7 +5,7 @@ ghost use Rattle.sqlterms.specs.Changes.{ArePutBeside, IsClockSet, IsTermsSet};
 
 use crate::dated::put_tables;
 use crate::labels::labels_column;
-use crate::meta::{maybe_meta, meta_or_new, with_clock, with_terms};
+use crate::meta::{is_at, maybe_meta, meta_or_new, with_clock, with_terms};
 use crate::naming::name_accounts;
 use crate::reading::terms;
 use calendar::Moment;
@@ -16,7 +16,7 @@ use std::alloc::Global;
 use tables::RowStore;
 use transactions::BookFault;
 
-/// Sets the clock.
+/// Sets the clock. Nothing is written where it stands there already.
 pub fn set_clock<S: Alter>(
     store: &mut RowStore<S>,
     alloc: Global,
@@ -26,6 +26,10 @@ pub fn set_clock<S: Alter>(
     ensures { Turns result (IsClockSet moment) store.old store.new }
 {
     let meta = maybe_meta(store)?;
+    if is_at(&meta, moment) {
+        drop(meta);
+        return Ok(());
+    }
     let row = with_clock(meta_or_new(alloc, meta), moment);
     store.put_meta(&row)?;
     Ok(())

@@ -22,6 +22,9 @@ pub mod FirstSchemaLemmas
 pub mod BalanceLemmas
 pub mod RowLemmas
 pub mod WholeLemmas
+pub mod HandLemmas
+pub mod SeenLemmas
+pub mod NotedLemmas
 pub mod AdoptionLemmas
 pub mod SoundLemmas
 pub mod AdoptedLemmas

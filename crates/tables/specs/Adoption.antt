@@ -76,7 +76,7 @@ pub record IsAdopted (trees : Trees) (s : StateOf Content) : Type 0 where
 abbrev pub LeavesNoMore : State → (Trees → Type 0) → Type 0
 LeavesNoMore was may_leave = (db : Trees) → may_leave db → was.may_leave db
 
--- the ten tables, with the same rows
+-- the tables of a registry, with the same rows
 pub record IsSameRegistry (was db : Trees) : Type 0 where
   pub had : IsSound registry was
   pub has : IsSound registry db
@@ -88,7 +88,8 @@ LeavesSameRegistry was may_leave = (db : Trees) → may_leave db → IsSameRegis
 
 -- What may be left is what might have been left before, or the registry that was committed.
 abbrev pub LeavesAsItWas : State → (Trees → Type 0) → Type 0
-LeavesAsItWas was may_leave = (db : Trees) → may_leave db → was.may_leave db ⊎ IsSameRegistry was.committed.trees db
+LeavesAsItWas was may_leave =
+    (db : Trees) → may_leave db → was.may_leave db ⊎ IsSameRegistry was.committed.trees db
 
 -- Of a database that was found, what may be left is that database, or the registry in it.
 abbrev pub LeavesAsFound : Trees → (Trees → Type 0) → Type 0

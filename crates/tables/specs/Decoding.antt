@@ -34,7 +34,8 @@ abbrev pub host_in : Row → Host
 host_in r = record { id = int_of (column r 0); name = bytes_of (column r 2); creator = int_of (column r 3); serial = int_of (column r 4); above = bytes_of (column r 5); external_sponsor = unless_null int_of (column r 6); sponsor = unless_null int_of (column r 7); created = int_of (column r 8); updated = unless_null int_of (column r 9); statuses = bytes_of (column r 10) }
 
 abbrev pub address_in : Row → Address
-address_in r = record { id = int_of (column r 0); host = int_of (column r 2); address = bytes_of (column r 3) }
+address_in r =
+    record { id = int_of (column r 0); host = int_of (column r 2); address = bytes_of (column r 3) }
 
 abbrev pub link_in : Row → Link
 link_in r = record { id = int_of (column r 0); domain = int_of (column r 2); contact = unless_null int_of (column r 3); host = unless_null int_of (column r 4); role = int_of (column r 5); due = int_of (column r 6) }

@@ -28,13 +28,15 @@ abbrev pub first_with_contact_due : Schema
 first_with_contact_due = indexed first_with_transfer (record contact { tree = 3 }) contact_due
 
 abbrev pub first_with_domain_registrant : Schema
-first_with_domain_registrant = indexed first_with_contact_due (record domain { tree = 5 }) domain_registrant
+first_with_domain_registrant =
+    indexed first_with_contact_due (record domain { tree = 5 }) domain_registrant
 
 abbrev pub first_with_domain_due : Schema
 first_with_domain_due = indexed first_with_domain_registrant (record domain { tree = 5 }) domain_due
 
 abbrev pub first_with_domain_sponsor : Schema
-first_with_domain_sponsor = indexed first_with_domain_due (record domain { tree = 5 }) domain_sponsor
+first_with_domain_sponsor =
+    indexed first_with_domain_due (record domain { tree = 5 }) domain_sponsor
 
 abbrev pub first_with_host_above : Schema
 first_with_host_above = indexed first_with_domain_sponsor (record host { tree = 7 }) host_above
@@ -55,34 +57,43 @@ abbrev pub first_with_line_object : Schema
 first_with_line_object = indexed first_with_link_host (record first_line { tree = 11 }) line_object
 
 abbrev pub first_with_message_queue : Schema
-first_with_message_queue = indexed first_with_line_object (record message { tree = 12 }) message_queue
+first_with_message_queue =
+    indexed first_with_line_object (record message { tree = 12 }) message_queue
 
 abbrev pub first_with_transfer_contact : Schema
-first_with_transfer_contact = indexed first_with_message_queue (record transfer { tree = 13 }) transfer_contact
+first_with_transfer_contact =
+    indexed first_with_message_queue (record transfer { tree = 13 }) transfer_contact
 
 abbrev pub first_with_transfer_domain : Schema
-first_with_transfer_domain = indexed first_with_transfer_contact (record transfer { tree = 13 }) transfer_domain
+first_with_transfer_domain =
+    indexed first_with_transfer_contact (record transfer { tree = 13 }) transfer_domain
 
 abbrev pub first_with_transfer_requester : Schema
-first_with_transfer_requester = indexed first_with_transfer_domain (record transfer { tree = 13 }) transfer_requester
+first_with_transfer_requester =
+    indexed first_with_transfer_domain (record transfer { tree = 13 }) transfer_requester
 
 abbrev pub first_with_contact_sponsor : Schema
-first_with_contact_sponsor = indexed first_with_transfer_requester (record contact { tree = 3 }) contact_sponsor
+first_with_contact_sponsor =
+    indexed first_with_transfer_requester (record contact { tree = 3 }) contact_sponsor
 
 abbrev pub first_with_domain_roid : Schema
 first_with_domain_roid = indexed first_with_contact_sponsor (record domain { tree = 5 }) domain_roid
 
 abbrev pub first_with_domain_registrant_due : Schema
-first_with_domain_registrant_due = indexed first_with_domain_roid (record domain { tree = 5 }) domain_registrant_due
+first_with_domain_registrant_due =
+    indexed first_with_domain_roid (record domain { tree = 5 }) domain_registrant_due
 
 abbrev pub first_with_link_contact_due : Schema
-first_with_link_contact_due = indexed first_with_domain_registrant_due (record link { tree = 10 }) link_contact_due
+first_with_link_contact_due =
+    indexed first_with_domain_registrant_due (record link { tree = 10 }) link_contact_due
 
 abbrev pub first_with_link_host_due : Schema
-first_with_link_host_due = indexed first_with_link_contact_due (record link { tree = 10 }) link_host_due
+first_with_link_host_due =
+    indexed first_with_link_contact_due (record link { tree = 10 }) link_host_due
 
 abbrev pub first_with_transfer_losing : Schema
-first_with_transfer_losing = indexed first_with_link_host_due (record transfer { tree = 13 }) transfer_losing
+first_with_transfer_losing =
+    indexed first_with_link_host_due (record transfer { tree = 13 }) transfer_losing
 
 abbrev pub first_registry : Schema
 first_registry = first_with_transfer_losing

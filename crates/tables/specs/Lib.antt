@@ -22,3 +22,4 @@ pub mod Whole
 pub mod Adoption
 pub mod Reopening
 pub mod Faults
+pub mod Hand

@@ -42,4 +42,5 @@ abbrev pub line_with_id : ℤ → Line → Bool
 line_with_id v x = int_eq x.id v
 
 abbrev pub line_of_object : ℤ → ℤ → ℤ → Line → Bool
-line_of_object account creator serial x = int_eq x.account account && (points_to x.creator creator && points_to x.serial serial)
+line_of_object account creator serial x =
+    int_eq x.account account && (points_to x.creator creator && points_to x.serial serial)

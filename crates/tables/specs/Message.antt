@@ -57,4 +57,5 @@ message_order =
 
 -- an account's messages in their order
 abbrev pub queue_of : ℤ → List Message → List Message
-queue_of account xs = sort_by (by_then_key messages message_order) (filter (message_with_account account) xs)
+queue_of account xs =
+    sort_by (by_then_key messages message_order) (filter (message_with_account account) xs)

@@ -31,9 +31,12 @@ IsFormOf schema Making = ⊥
 IsFormOf schema Made = schema ≡ registry
 IsFormOf schema Other = (schema ≢ no_schema) × (schema ≢ registry)
 
--- What a database is, exactly: a registry of this program, which has the ten tables, no other, and the number of
+-- What a database is, exactly: a registry of this program, which has its eleven tables, no other, and the number of
 -- this schema; or one in which no table was ever made; or, of all others, something else's.
 abbrev pub IsKnownAs : Ready → Trees → Type 0
-IsKnownAs readiness.Used trees = IsSound registry trees × (is_numbered (contents trees).metas ≡ true)
+IsKnownAs readiness.Used trees =
+    IsSound registry trees × (is_numbered (contents trees).metas ≡ true)
 IsKnownAs readiness.Empty trees = IsSound no_schema trees
-IsKnownAs readiness.Other trees = (IsSound no_schema trees → ⊥) × (IsSound registry trees → is_numbered (contents trees).metas ≡ false)
+IsKnownAs readiness.Other trees =
+    (IsSound no_schema trees → ⊥)
+    × (IsSound registry trees → is_numbered (contents trees).metas ≡ false)

@@ -14,4 +14,6 @@ IsFoundAgain Other left now content = ⊤
 
 -- one of these is found
 abbrev pub IsReopened : List (Remains Content) → StateOf Content → Type 0
-IsReopened leaves s = (left : Remains Content) × Has leaves left × IsFoundAgain left.readiness left.content s.readiness s.content
+IsReopened leaves s =
+    (left : Remains Content) × Has leaves left
+    × IsFoundAgain left.readiness left.content s.readiness s.content

@@ -16,7 +16,9 @@ use Rattle.tables.specs.Tables.{registry}
 pub record Asks {R : Type 0} (shown : R → Row) (sql : List ℕ) (params : Row) (f : Content → List R) : Type 0 where
   pub query : Query
   pub is : IsSelect registry sql query
-  pub means : (db : Trees) (xs : Content) (rows : List Row) → IsContent xs (record { schema = registry; trees = db }) → IsAnswer query (overlay db []) params rows → rows ≡ map shown (f xs)
+  pub means : (db : Trees) (xs : Content) (rows : List Row)
+      → IsContent xs (record { schema = registry; trees = db })
+      → IsAnswer query (overlay db []) params rows → rows ≡ map shown (f xs)
 
 -- the text makes this of whatever the tables hold
 pub record Alters (sql : List ℕ) (params : Row) (f : Content → Content) : Type 0 where

@@ -99,7 +99,9 @@ IsLeftAs readiness.Other db x = IsKnownAs readiness.Other db × (x ≡ fresh)
 
 -- whatever a crash may leave is one of these
 abbrev pub Covers : List (Remains Content) → (Trees → Type 0) → Type 0
-Covers leaves may_leave = (db : Trees) → may_leave db → (left : Remains Content) × Has leaves left × IsLeftAs left.readiness db left.content
+Covers leaves may_leave =
+    (db : Trees) → may_leave db
+    → (left : Remains Content) × Has leaves left × IsLeftAs left.readiness db left.content
 
 -- While the disk is clean, the connection is open as long as a transaction is, and nothing but these may be left.
 pub record Guards (begun : Bool) (s : State) (leaves : List (Remains Content)) : Type 0 where

@@ -486,7 +486,8 @@ abbrev pub with_transfer_domain : Schema
 with_transfer_domain = indexed with_transfer_contact (record transfer { tree = 13 }) transfer_domain
 
 abbrev pub with_transfer_requester : Schema
-with_transfer_requester = indexed with_transfer_domain (record transfer { tree = 13 }) transfer_requester
+with_transfer_requester =
+    indexed with_transfer_domain (record transfer { tree = 13 }) transfer_requester
 
 abbrev pub with_contact_sponsor : Schema
 with_contact_sponsor = indexed with_transfer_requester (record contact { tree = 3 }) contact_sponsor
@@ -495,10 +496,12 @@ abbrev pub with_domain_roid : Schema
 with_domain_roid = indexed with_contact_sponsor (record domain { tree = 5 }) domain_roid
 
 abbrev pub with_domain_registrant_due : Schema
-with_domain_registrant_due = indexed with_domain_roid (record domain { tree = 5 }) domain_registrant_due
+with_domain_registrant_due =
+    indexed with_domain_roid (record domain { tree = 5 }) domain_registrant_due
 
 abbrev pub with_link_contact_due : Schema
-with_link_contact_due = indexed with_domain_registrant_due (record link { tree = 10 }) link_contact_due
+with_link_contact_due =
+    indexed with_domain_registrant_due (record link { tree = 10 }) link_contact_due
 
 abbrev pub with_link_host_due : Schema
 with_link_host_due = indexed with_link_contact_due (record link { tree = 10 }) link_host_due

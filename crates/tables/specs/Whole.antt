@@ -21,7 +21,8 @@ IsNamedBy {X} name xs = (a b : X) → Has xs a → Has xs b → name a ≡ name 
 
 -- a number in the column, if there is one, is that of a row of the other table
 abbrev pub LeadsTo : {X Y : Type 0} → List X → (X → Option ℤ) → List Y → (Y → ℤ) → Type 0
-LeadsTo {X} {Y} xs column ys key = (x : X) → Has xs x → (id : ℤ) → column x ≡ Some id → (y : Y) × Has ys y × (key y ≡ id)
+LeadsTo {X} {Y} xs column ys key =
+    (x : X) → Has xs x → (id : ℤ) → column x ≡ Some id → (y : Y) × Has ys y × (key y ≡ id)
 
 -- the rows of each table are in the order of their numbers, of which none comes twice
 pub record AreKeyed (content : Content) : Type 0 where

@@ -4,7 +4,7 @@ ghost use Rattle.sqlite.specs.Held.{state};
 ghost use Rattle.sqlite.specs.State.{HasCleanDisk};
 ghost use Rattle.tables.specs.Adoption.{IsReread, LeavesNoMore};
 
-use crate::store::fault_of;
+use crate::base::fault_of;
 use sqlite::{Alter, Connection};
 use std::alloc::Global;
 use transactions::BookFault;

@@ -1,15 +1,19 @@
 //! What holds of the whole registry, in one row.
-ghost use Rattle.std.specs.Prelude.{◌≡◌, true};
+ghost use Rattle.std.specs.Prelude.{◌≡◌, true, IfOk};
 ghost use Rattle.sqlite_keyed.specs.Keyed.{insert_by};
 ghost use Rattle.tables.specs.Content.{metas_to};
 ghost use Rattle.transactions.specs.States.{Finds, Makes};
+ghost use Rattle.tables.specs.Hand.{IsAtHand, seen_with};
 ghost use Rattle.tables.specs.Meta.{Meta, metas};
 
+use crate::base::Base;
+use crate::hand::Hand;
 use crate::store::RowStore;
 use basis::list::Seq;
 use rows::Record;
 use sqlite::types::{ToSql, ValueRef};
 use sqlite::{Alter, Error, Row};
+use std::alloc::{AllocError, Global};
 use std::marker::Model;
 use transactions::BookFault;
 
@@ -72,6 +76,31 @@ impl MetaRow {
     ghost use Rattle.sqlite.specs.Values.{bound};
     ghost use Rattle.tables.specs.Meta.{meta_shown};
 
+    /// Another copy.
+    pub(crate) fn copied(&self, alloc: Global) -> Result<MetaRow, AllocError>
+        ensures { IfOk result (λ row. row ≡ self.now) }
+    {
+        Ok(MetaRow {
+            id: self.id,
+            version: self.version,
+            clock: self.clock,
+            zone: String::from_str(alloc, self.zone.as_str())?,
+            reserved: String::from_str(alloc, self.reserved.as_str())?,
+            days_add: self.days_add,
+            days_auto_renew: self.days_auto_renew,
+            days_renew: self.days_renew,
+            days_transfer: self.days_transfer,
+            days_redemption: self.days_redemption,
+            days_restore: self.days_restore,
+            days_pending_delete: self.days_pending_delete,
+            days_answer: self.days_answer,
+            days_lock: self.days_lock,
+            price_create: self.price_create,
+            price_renew: self.price_renew,
+            price_transfer: self.price_transfer,
+        })
+    }
+
     /// The parameters of the statement that puts it.
     fn params(&self) -> [ValueRef<'_>; 17]
         ensures { bound result ≡ meta_shown self.now }
@@ -126,12 +155,29 @@ impl Record for MetaRow {
     }
 }
 
+impl<S: Alter> Base<S> {
+    /// All of them, by their numbers.
+    pub(crate) fn all_metas(&mut self) -> Result<Seq<MetaRow>, BookFault>
+        ensures { Finds result self.old.content.metas self.old self.new }
+    {
+        self.select(ALL, &[])
+    }
+
+    /// Puts a row in the place of the one with its number, or beside all others.
+    pub(crate) fn put_meta(&mut self, meta: &MetaRow) -> Result<(), BookFault>
+        requires { self.old.is_open ≡ true }
+        ensures { Makes result (metas_to (λ xs. insert_by metas.key xs meta.now) self.old.content) self.old self.new }
+    {
+        self.write(PUT, &meta.params())
+    }
+}
+
 impl<S: Alter> RowStore<S> {
     /// All of them, by their numbers.
     pub fn all_metas(&mut self) -> Result<Seq<MetaRow>, BookFault>
         ensures { Finds result self.old.content.metas self.old self.new }
     {
-        self.select(ALL, &[])
+        look_up(&mut self.base, &mut self.hand)
     }
 
     /// Puts a row in the place of the one with its number, or beside all others.
@@ -139,6 +185,35 @@ impl<S: Alter> RowStore<S> {
         requires { self.old.is_open ≡ true }
         ensures { Makes result (metas_to (λ xs. insert_by metas.key xs meta.now) self.old.content) self.old self.new }
     {
-        self.write(PUT, &meta.params())
+        put(&mut self.base, &mut self.hand, meta)
     }
+}
+
+/// The rows of `meta`.
+fn look_up<S: Alter>(base: &mut Base<S>, hand: &mut Hand) -> Result<Seq<MetaRow>, BookFault>
+    requires { IsAtHand hand.old base.old }
+    ensures kept { IsAtHand hand.new base.new }
+    ensures found { Finds result (seen_with hand.old base.old).content.metas (seen_with hand.old base.old) (seen_with hand.new base.new) }
+{
+    if hand.meta.is_some() {
+        return Ok(hand.metas(base.alloc())?);
+    }
+    let rows = base.all_metas();
+    let rows = hand.or_forget(rows)?;
+    hand.keep_meta(rows.as_slice(), base.alloc());
+    Ok(rows)
+}
+
+/// Puts a row of `meta`, which is kept at hand where the only one was.
+fn put<S: Alter>(base: &mut Base<S>, hand: &mut Hand, meta: &MetaRow) -> Result<(), BookFault>
+    requires kept { IsAtHand hand.old base.old }
+    requires open { base.old.is_open ≡ true }
+    ensures kept { IsAtHand hand.new base.new }
+    ensures made { Makes result (metas_to (λ xs. insert_by metas.key xs meta.now) (seen_with hand.old base.old).content) (seen_with hand.old base.old) (seen_with hand.new base.new) }
+{
+    let is_only = hand.has_meta(meta);
+    let made = base.put_meta(meta);
+    hand.or_forget(made)?;
+    hand.renew_meta(is_only, meta, base.alloc());
+    Ok(())
 }

@@ -1,184 +1,107 @@
-//! The eleven tables in a database as rows, with transactions.
-ghost use Rattle.std.specs.Prelude.{◌≡◌, ◌≢◌, false, true, ⊤, List, map, IfErr, IfOk, OnOk};
-ghost use Rattle.tables.specs.Faults as faults;
+//! The eleven tables in a database as rows, with transactions, where some rows are kept at hand.
+ghost use Rattle.std.specs.Prelude.{◌≡◌, ◌≢◌, true, false, IfErr, IfOk, OnOk};
+ghost use Rattle.tables.specs.Hand.{IsAtHand, Leaves, seen_with};
 
-use crate::adoption::{Unadopted, by_fault, reread};
-use crate::form::Form;
-use crate::readiness::{form_of, is_numbered};
-use crate::schema::create;
+use crate::adoption::Unadopted;
+use crate::base::Base;
+use crate::hand::Hand;
 use basis::list::Seq;
 use http_server::Log;
-use rows::{Record, go_back};
+use rows::Record;
 use sqlite::types::ValueRef;
-use sqlite::{Alter, Connection, Error, ErrorCode, MemStore, Row};
+use sqlite::{Alter, Connection, MemStore};
 use std::alloc::Global;
 use std::marker::Model;
 use transactions::{BookFault, Ready};
 
-/// The eleven tables in a database, as rows.
+/// The eleven tables in a database, as rows. The row of the account that was read or put last, and that of
+/// `meta`, are kept at hand within a transaction: they are read again without a statement, and an account's
+/// row that is put again and again is written once, before another account's comes to hand or the transaction
+/// is kept.
 #[derive(Drop)]
 pub struct RowStore<S: Alter> {
-    conn: Connection<S>,
-    alloc: Global,
-    form: Form,
-    /// Whether a transaction is open. After going back was itself refused the connection may think otherwise.
-    begun: bool,
-    /// The databases that a crash may leave, as what they were when they were seen. Only proofs read it.
-    left: Log<Connection<S>, Form>,
+    pub(crate) base: Base<S>,
+    pub(crate) hand: Hand,
+    /// What a crash may leave, as what stood and was at hand when it was seen. Only proofs read it.
+    left: Log<Base<S>, Hand>,
 }
 
 impl<S: Alter> Model for RowStore<S> {
-    ghost use Rattle.sqlite.specs.Held.{state};
     ghost use Rattle.tables.specs.Content.{Content};
+    ghost use Rattle.tables.specs.Hand.{AreNoted, IsAtHand, noted_of, noting, seen_with};
     ghost use Rattle.transactions.specs.States.{StateOf};
-    ghost use Rattle.tables.specs.Stored.{Fits, Guards, leaves_of, stands};
 
     ghost Value = { StateOf Content };
 
-    ghost view = { λ r. stands r.form r.begun (state S.Store r.conn) (leaves_of (state S.Store) r.left.items) };
+    ghost view = { λ r. noting (noted_of r.left.items) (seen_with r.hand r.base) };
 
-    ghost invariant = { λ r. Fits r.form r.begun (state S.Store r.conn) × Guards r.begun (state S.Store r.conn) (leaves_of (state S.Store) r.left.items) };
+    ghost invariant = { λ r. IsAtHand r.hand r.base × AreNoted (noted_of r.left.items) r.base };
 }
 
-/// What an error of the database is to a book.
-pub fn fault_of(error: &Error) -> BookFault
-    ensures { result ≡ faults.fault_of error.now }
+/// Writes the account's row that is at hand, where the database has it in an older form.
+pub(crate) fn settle<S: Alter>(base: &mut Base<S>, hand: &mut Hand) -> Result<(), BookFault>
+    requires { IsAtHand hand.old base.old }
+    ensures kept { IsAtHand hand.new base.new }
+    ensures nothing { OnOk result (hand.new.owed ≡ false) }
+    ensures seen { Leaves result (seen_with hand.old base.old) (seen_with hand.new base.new) }
 {
-    match error {
-        Error::SqliteFailure(ErrorCode::OutOfMemory) => BookFault::Memory,
-        _ => BookFault::Store,
+    if !hand.owed {
+        return Ok(());
     }
-}
-
-/// The records that rows show.
-pub fn read_all<R: Record>(alloc: Global, rows: &[Row]) -> Result<Seq<R>, BookFault>
-    ensures { (xs : List R) → rows.now ≡ map R.shown xs → IfOk result (λ out. out ≡ xs) }
-{
-    let mut records = Seq::new(alloc);
-    'rows: for row in rows {
-        match R::from_row(row) {
-            Ok(record) => records.push(record)?,
-            Err(error) => return Err(fault_of(&error)),
-        }
-    }
-    Ok(records)
+    let Some(row) = &hand.account else {
+        hand.owed = false;
+        return Ok(());
+    };
+    let made = base.put_account(row);
+    hand.owed = false;
+    hand.or_forget(made)
 }
 
 impl<S: Alter> RowStore<S> {
-    ghost use Rattle.sqlite.specs.Given.{IsPlain};
+    ghost use Rattle.std.specs.Prelude.{List, [], ◌∷◌};
     ghost use Rattle.sqlite.specs.Held.{state};
-    ghost use Rattle.sqlite.specs.Listing.{understood};
     ghost use Rattle.sqlite.specs.State.{HasCleanDisk};
     ghost use Rattle.sqlite.specs.Values.{bound};
     ghost use Rattle.tables.specs.Content.{Content};
-    ghost use Rattle.transactions.specs.States.{Begins, Closes, Ends, Finds, IsIdle, Makes, Meets, Notes};
+    ghost use Rattle.transactions.specs.States.{Begins, Closes, Ends, Finds, IsIdle, Makes, Notes};
+    ghost use Rattle.tables.specs.Adoption.{LeavesIt};
+    ghost use Rattle.tables.specs.Hand.{IsApart, IsBlind, left_by, no_row, noting};
     ghost use Rattle.tables.specs.Statements.{Alters, Asks};
     ghost use Rattle.tables.specs.Stored.{Covers, fresh};
-    ghost use Rattle.tables.specs.Tables.{registry};
     ghost use Rattle.tables.specs.Whole.{IsWhole};
 
-    /// The records that the rows of a query show.
+    /// A store over what stands where no transaction is open, with no row at hand.
+    fn over(base: Base<S>) -> RowStore<S>
+        requires idle { base.is_open ≡ false }
+        requires leaves { base.is_honest ≡ true → LeavesIt base }
+        ensures { result ≡ noting (left_by no_row base ∷ []) base }
+    {
+        let hand = Hand::empty();
+        let left = Log::new().and(&base, &hand);
+        RowStore { base, hand, left }
+    }
+
+    /// The records that the rows of a query show, which looks at no account.
     pub(crate) fn select<R: Record>(
         &mut self,
         sql: &str,
         params: &[ValueRef<'_>],
     ) -> Result<Seq<R>, BookFault>
-        requires { IsPlain (understood registry sql.now) }
-        ensures { (f : Content → List R) → Asks R.shown sql.now (bound params.now) f → Finds result (f self.old.content) self.old self.new }
+        requires { (f : Content → List R) × Asks R.shown sql.now (bound params.now) f }
+        ensures { (f : Content → List R) → Asks R.shown sql.now (bound params.now) f → IsBlind f → Finds result (f self.old.content) self.old self.new }
     {
-        self.look(sql)?;
-        self.ask(sql, params)
+        let found = self.base.select(sql, params);
+        self.hand.or_forget(found)
     }
 
-    /// Does nothing but learn whether the database still answers, where no transaction tells it.
-    fn look(&mut self, sql: &str) -> Result<(), BookFault>
-        ensures same { Meets result (λ done. ⊤) self.old self.new }
-        ensures answers { self.new.is_honest ≡ true → OnOk result (self.new.is_clean ≡ true) }
-    {
-        if self.begun {
-            return Ok(());
-        }
-        match self.conn.prepare(sql) {
-            Ok(_) => Ok(()),
-            Err(error) => Err(fault_of(&error)),
-        }
-    }
-
-    /// The records that the rows of a query show, where the database still answers.
-    fn ask<R: Record>(&mut self, sql: &str, params: &[ValueRef<'_>]) -> Result<Seq<R>, BookFault>
-        requires plain { IsPlain (understood registry sql.now) }
-        requires answers { self.old.is_honest ≡ true → self.old.is_clean ≡ true }
-        ensures { (f : Content → List R) → Asks R.shown sql.now (bound params.now) f → Finds result (f self.old.content) self.old self.new }
-    {
-        if !self.form.has_rows() {
-            return Err(BookFault::Store);
-        }
-        match self.conn.query_all(sql, params) {
-            Ok(rows) => read_all(self.alloc, &rows),
-            Err(error) => {
-                if self.conn.is_autocommit() {
-                    self.form = self.form.undone();
-                    self.begun = false;
-                }
-                Err(fault_of(&error))
-            }
-        }
-    }
-
-    /// Runs a statement that writes rows, in the open transaction.
+    /// Runs a statement that writes rows, of neither `account` nor `meta`, in the open transaction.
     pub(crate) fn write(&mut self, sql: &str, params: &[ValueRef<'_>]) -> Result<(), BookFault>
-        requires means { (f : Content → Content) × Alters sql.now (bound params.now) f }
+        requires means { (f : Content → Content) × Alters sql.now (bound params.now) f × IsApart f }
         requires begun { self.old.is_open ≡ true }
-        ensures { (f : Content → Content) → Alters sql.now (bound params.now) f → Makes result (f self.old.content) self.old self.new }
+        ensures { (f : Content → Content) → Alters sql.now (bound params.now) f → IsApart f → Makes result (f self.old.content) self.old self.new }
     {
-        if !self.form.has_rows() {
-            return Err(BookFault::Store);
-        }
-        match self.conn.execute(sql, params) {
-            Ok(_) => Ok(()),
-            Err(error) => {
-                if self.conn.is_autocommit() {
-                    self.form = self.form.undone();
-                    self.begun = false;
-                }
-                Err(fault_of(&error))
-            }
-        }
-    }
-
-    /// Opens a transaction over what is there.
-    fn begin_as_is(&mut self) -> Result<(), BookFault>
-        requires { self.old.is_open ≡ false }
-        ensures { Begins result self.old self.new }
-    {
-        match self.conn.execute("BEGIN", &[]) {
-            Ok(_) => {
-                self.begun = true;
-                Ok(())
-            }
-            Err(error) => Err(fault_of(&error)),
-        }
-    }
-
-    /// Makes the tables in the open transaction, where nothing was made before.
-    fn make(&mut self) -> Result<(), BookFault>
-        requires { self.old.is_open ≡ true }
-        ensures { Makes result self.old.content self.old self.new }
-    {
-        let Form::Unused = self.form else {
-            return Ok(());
-        };
-        match create(&mut self.conn) {
-            Ok(()) => {
-                self.form = Form::Making;
-                Ok(())
-            }
-            Err(error) => {
-                let _ = go_back(&mut self.conn);
-                self.begun = false;
-                Err(fault_of(&error))
-            }
-        }
+        let made = self.base.write(sql, params);
+        self.hand.or_forget(made)
     }
 
     /// Opens a transaction. Where nothing was made before, the tables are made in it.
@@ -186,40 +109,30 @@ impl<S: Alter> RowStore<S> {
         requires { self.old.is_open ≡ false }
         ensures { Begins result self.old self.new }
     {
-        if let Form::Other = self.form {
-            return Err(BookFault::Store);
-        }
-        match self.begin_as_is() {
-            Ok(()) => self.make(),
-            Err(fault) => Err(fault),
-        }
+        let begun = self.base.begin();
+        self.hand.or_forget(begun)
     }
 
-    /// Keeps what the transaction did.
+    /// Keeps what the transaction did. No row is at hand afterwards.
     pub fn commit(&mut self) -> Result<(), BookFault>
         requires { self.old.is_open ≡ true }
         ensures ends { Ends result self.old self.new }
         ensures noted { Notes result self.old self.new }
     {
-        if !self.form.has_rows() {
-            return Err(BookFault::Store);
-        }
-        let made = self.form.committed();
-        let kept = Log::new().and(&self.conn, &made);
-        let tried = self.left.and(&self.conn, &made);
-        let _schema = self.conn.schema();
-        match self.conn.execute("COMMIT", &[]) {
-            Ok(_) => {
-                self.form = made;
-                self.begun = false;
+        let kept = Log::new().and(&self.base, &self.hand);
+        let tried = self.left.and(&self.base, &self.hand);
+        self.base.answers();
+        settle(&mut self.base, &mut self.hand)?;
+        let ended = self.base.commit();
+        self.hand = Hand::empty();
+        match ended {
+            Ok(()) => {
                 self.left = kept;
                 Ok(())
             }
-            Err(error) => {
-                self.form = self.form.undone();
-                self.begun = false;
+            Err(fault) => {
                 self.left = tried;
-                Err(fault_of(&error))
+                Err(fault)
             }
         }
     }
@@ -228,133 +141,69 @@ impl<S: Alter> RowStore<S> {
     pub fn is_open(&self) -> bool
         ensures { result ≡ self.now.is_open }
     {
-        self.begun
+        self.base.is_open()
     }
 
     /// Whether a book is in it.
     pub fn ready(&mut self) -> Result<Ready, BookFault>
         ensures { Finds result self.old.readiness self.old self.new }
     {
-        Ok(self.form.readiness())
+        let found = self.base.ready();
+        self.hand.or_forget(found)
     }
 
     /// Whether nothing was ever made in it.
     pub fn is_unused(&self) -> bool
         ensures { result ≡ true → self.now.content ≡ fresh }
     {
-        matches!(self.form, Form::Unused)
+        !self.hand.owed && self.base.is_unused()
     }
 
     /// Does nothing. It tells a proof what always holds of the rows.
     pub fn whole(&self)
         ensures { self.now.is_clean ≡ true → IsWhole self.now.content }
     {
-        let _schema = self.conn.schema();
+        self.base.whole();
     }
 
     /// Does nothing. It tells a proof that where no transaction is open going back leads nowhere else.
     pub fn rests(&self)
         ensures { IsIdle self.now }
     {
-        let _begun = self.begun;
+        self.base.rests();
     }
 
     /// Does nothing. It tells a proof that what answers told nothing wrong.
     pub fn told_truth(&self)
         ensures { self.now.is_clean ≡ true → self.now.is_honest ≡ true }
     {
-        let _begun = self.begun;
+        self.base.told_truth();
     }
 
     /// Gives the connection back, as it is. Whatever a crash may leave of its database is one of what was
-    /// told.
+    /// told. An account's row that is owed isn't written: it is a part of a transaction that isn't kept.
     pub fn into_connection(self) -> Connection<S>
         ensures honest { (state S.Store result).is_clean ≡ self.is_honest }
         ensures covers { HasCleanDisk (state S.Store result) → Covers self.crash_leaves (state S.Store result).may_leave }
     {
-        self.conn
+        self.base.into_connection()
     }
 
-    /// Goes back to where the transaction began, if one is open.
+    /// Goes back to where the transaction began, if one is open. No row is at hand afterwards.
     pub fn back(&mut self)
         ensures { Closes self.old.before self.old self.new }
     {
-        let _ = go_back(&mut self.conn);
-        self.form = self.form.undone();
-        self.begun = false;
+        self.base.back();
+        self.hand = Hand::empty();
     }
 }
 
 impl<S: Alter + Drop> RowStore<S> {
     ghost use Rattle.sqlite.specs.Held.{state};
     ghost use Rattle.sqlite.specs.State.{HasCleanDisk};
-    ghost use Rattle.sqlite_trees.specs.Tree.{Trees};
     ghost use Rattle.sqlite_trees.specs.View.{IsClean};
-    ghost use Rattle.tables.specs.Adoption.{IsAdopted, IsFound, IsShown, LeavesAsFound, LeavesAsItWas, LeavesNoMore, LeavesSameRegistry};
+    ghost use Rattle.tables.specs.Adoption.{IsAdopted, IsFound, LeavesAsFound, LeavesAsItWas};
     ghost use Rattle.tables.specs.Readiness.{IsKnownAs};
-    ghost use Rattle.tables.specs.Stored.{Covers};
-
-    /// Gives back what the connection is over. A transaction that is open is undone.
-    fn into_store(self) -> S
-        ensures { IsClean (S.Store.view result) → (self.is_honest ≡ true) × Covers self.crash_leaves (S.Store.recovers result) }
-    {
-        self.into_connection().into_store()
-    }
-
-    /// A store of the rows of a database that was read anew, by its tables alone.
-    fn over(conn: Connection<S>, alloc: Global) -> Result<RowStore<S>, (Unadopted, S)>
-        requires { IsFound (state S.Store conn) }
-        ensures shown { (trees : Trees) → (HasCleanDisk (state S.Store conn) → (state S.Store conn).now.trees ≡ trees) → IfOk result (IsShown trees) }
-        ensures ours { IfOk result (λ store. store.readiness ≢ Ready.Other) }
-        ensures honest { IfOk result (λ store. store.is_honest ≡ (state S.Store conn).is_clean) }
-        ensures clean { IfErr result (λ e. IsClean (S.Store.view e.1) → HasCleanDisk (state S.Store conn)) }
-        ensures refused { IfErr result (λ e. LeavesNoMore (state S.Store conn) (S.Store.recovers e.1)) }
-        ensures others { IfErr result (λ e. e.0 ≡ Unadopted.Other → HasCleanDisk (state S.Store conn) → IsKnownAs Ready.Other (state S.Store conn).now.trees) }
-    {
-        let form = match form_of(&conn, alloc) {
-            Ok(form) => form,
-            Err(error) => return Err((by_fault(fault_of(&error)), conn.into_store())),
-        };
-        if let Form::Other = form {
-            return Err((Unadopted::Other, conn.into_store()));
-        }
-        let left = Log::new().and(&conn, &form);
-        Ok(RowStore {
-            conn,
-            alloc,
-            form,
-            begun: false,
-            left,
-        })
-    }
-
-    /// The same store, unless its row of `meta` has another number than this schema's.
-    fn numbered(store: RowStore<S>) -> Result<RowStore<S>, (Unadopted, S)>
-        requires shown { (trees : Trees) × IsShown trees store }
-        requires ours { store.readiness ≢ Ready.Other }
-        ensures adopted { (trees : Trees) → IsShown trees store → IfOk result (IsAdopted trees) }
-        ensures ours { IfOk result (λ it. it.readiness ≢ Ready.Other) }
-        ensures honest { IfOk result (λ it. it.is_honest ≡ true → store.is_honest ≡ true) }
-        ensures clean { IfErr result (λ e. IsClean (S.Store.view e.1) → store.is_honest ≡ true) }
-        ensures refused { (trees : Trees) → IsShown trees store → IfErr result (λ e. IsClean (S.Store.view e.1) → LeavesSameRegistry trees (S.Store.recovers e.1)) }
-        ensures others { (trees : Trees) → IsShown trees store → IfErr result (λ e. e.0 ≡ Unadopted.Other → IsClean (S.Store.view e.1) → IsKnownAs Ready.Other trees) }
-    {
-        let Form::Made = store.form else {
-            return Ok(store);
-        };
-        let mut store = store;
-        let metas = match store.all_metas() {
-            Ok(metas) => metas,
-            Err(fault) => return Err((by_fault(fault), store.into_store())),
-        };
-        if !is_numbered(metas.as_slice()) {
-            return Err((Unadopted::Other, store.into_store()));
-        }
-        let Form::Made = store.form else {
-            return Err((Unadopted::Store, store.into_store()));
-        };
-        Ok(store)
-    }
 
     /// A store of the rows of a database that was just opened, of which the proof knows that its rows lie
     /// in the order of their numbers. What isn't taken up is given back as it was found.
@@ -367,8 +216,8 @@ impl<S: Alter + Drop> RowStore<S> {
         ensures refused { IfErr result (λ e. IsClean (S.Store.view e.1) → LeavesAsFound (state S.Store conn).committed.trees (S.Store.recovers e.1)) }
         ensures others { IfErr result (λ e. e.0 ≡ Unadopted.Other → IsClean (S.Store.view e.1) → IsKnownAs Ready.Other (state S.Store conn).committed.trees) }
     {
-        let store = RowStore::over(conn, alloc)?;
-        RowStore::numbered(store)
+        let base = Base::taken(conn, alloc)?;
+        Ok(RowStore::over(base))
     }
 
     /// A store of the rows of a database that was used before. It is read and checked anew, whole. What
@@ -381,10 +230,8 @@ impl<S: Alter + Drop> RowStore<S> {
         ensures refused { IfErr result (λ e. IsClean (S.Store.view e.1) → LeavesAsItWas (state S.Store conn) (S.Store.recovers e.1)) }
         ensures others { IfErr result (λ e. e.0 ≡ Unadopted.Other → IsClean (S.Store.view e.1) → IsKnownAs Ready.Other (state S.Store conn).committed.trees) }
     {
-        match reread(conn, alloc) {
-            Ok(conn) => RowStore::taken(conn, alloc),
-            Err((fault, store)) => Err((by_fault(fault), store)),
-        }
+        let base = Base::adopt(conn, alloc)?;
+        Ok(RowStore::over(base))
     }
 }
 
@@ -395,21 +242,14 @@ impl RowStore<MemStore> {
     pub fn in_memory(alloc: Global) -> Result<RowStore<MemStore>, BookFault>
         ensures { IfOk result IsNew }
     {
-        let conn = Connection::open_in_memory(alloc)?;
-        let left = Log::new().and(&conn, &Form::Unused);
-        Ok(RowStore {
-            conn,
-            alloc,
-            form: Form::Unused,
-            begun: false,
-            left,
-        })
+        let base = Base::in_memory(alloc)?;
+        Ok(RowStore::over(base))
     }
 
     /// Does nothing. It tells a proof that nothing wrong is ever taken from memory.
     pub fn stays_clean(&self)
         ensures { self.now.is_clean ≡ true }
     {
-        let _begun = self.begun;
+        self.base.stays_clean();
     }
 }

@@ -1,10 +1,11 @@
-use Rattle.std.proofs.Common.{◌∙◌, ap}
+use Rattle.std.proofs.Common.{◌∙◌, ap, subst, sym}
 use Rattle.sqlite_keyed.specs.Keyed.{insert_by}
 use Rattle.meanings.proofs.StateLemmas.{then-made}
 use Rattle.tables.specs.Content.{metas_to}
 use Rattle.tables.specs.Meta.{metas}
+use Rattle.sqlterms.specs.Changes.{IsClockSet}
 use Rattle.sqlterms.specs.Meta.{with_clock}
-use Rattle.sqlterms.proofs.MetaLemmas.{clock_is_set}
+use Rattle.sqlterms.proofs.MetaLemmas.{clock_is_set, clock_is_there}
 use Rattle.sqlterms.proofs.writing.set_clock.Goals as goal
 
 pub returns : goal.returns
@@ -14,3 +15,16 @@ returns g c =
     then-made (λ xs. metas_to (λ rows. insert_by metas.key rows row) xs) _ c.args.store.now c.maybe_meta.new.store c.put_meta.new.self e.0 (c.in_ok-put_meta.ensures {u = tt})
     (λ clean. clock_is_set c.args.store.now.content c.in_ok-meta.meta (e.1 clean) c.args.moment row c.with_clock-row.ensures.range
     (c.with_clock-row.ensures.value ∙ ap (with_clock c.args.moment) c.meta_or_new.ensures))
+
+pub returns-then-is_at : goal.returns-then-is_at
+returns-then-is_at g c =
+    let e = c.in_ok-meta.ensures {u = tt} in
+    let xs = c.args.store.now.content in
+    record {
+      clean = e.0.clean;
+      before = e.0.before;
+      opened = e.0.opened ∙ c.requires;
+      content = λ clean. subst (IsClockSet c.args.moment xs) (sym (e.0.content clean)) (clock_is_there xs c.in_ok-meta.meta (e.1 clean) c.args.moment (c.is_at.ensures c.if-is_at.true));
+      answers = e.0.answers;
+      leaves = e.0.leaves;
+    }

@@ -1,8 +1,9 @@
-use Rattle.tables.proofs.DayLemmas.{all_asks, all_is}
+use Rattle.std.proofs.Common.{refl}
+use Rattle.tables.proofs.DayLemmas.{all_asks}
 use Rattle.tables.proofs.store.RowStore.all_days.Goals as goal
 
 pub select-requires : goal.select-requires
-select-requires g c = all_is.plain
+select-requires g c = (_, all_asks)
 
 pub returns : goal.returns
-returns g c = c.select.ensures _ all_asks
+returns g c = c.select.ensures _ all_asks (λ change xs. refl)

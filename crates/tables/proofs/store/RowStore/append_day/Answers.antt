@@ -1,10 +1,11 @@
 use Rattle.rows.proofs.ParameterLemmas.{past_first}
 use Rattle.tables.proofs.DayLemmas.{append_alters}
 use Rattle.tables.proofs.TableLemmas.{alters-by}
+use Rattle.tables.proofs.HandLemmas.{apart-days}
 use Rattle.tables.proofs.store.RowStore.append_day.Goals as goal
 
 pub write-requires-clause-means : goal.write-requires-clause-means
-write-requires-clause-means g c = (_, alters-by (past_first c.params.result _ c.params.ensures 10) (append_alters c.args.day.now))
+write-requires-clause-means g c = (_, alters-by (past_first c.params.result _ c.params.ensures 10) (append_alters c.args.day.now), apart-days _)
 
 pub returns : goal.returns
-returns g c = c.write.ensures _ (alters-by (past_first c.params.result _ c.params.ensures 10) (append_alters c.args.day.now))
+returns g c = c.write.ensures _ (alters-by (past_first c.params.result _ c.params.ensures 10) (append_alters c.args.day.now)) (apart-days _)

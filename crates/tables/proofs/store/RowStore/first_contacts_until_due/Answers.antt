@@ -1,9 +1,10 @@
-use Rattle.tables.proofs.ContactLemmas.{first_until_due_asks, first_until_due_is}
+use Rattle.std.proofs.Common.{refl}
+use Rattle.tables.proofs.ContactLemmas.{first_until_due_asks}
 use Rattle.tables.proofs.TableLemmas.{asks-by, bound-last}
 use Rattle.tables.proofs.store.RowStore.first_contacts_until_due.Goals as goal
 
 pub select-requires : goal.select-requires
-select-requires g c = first_until_due_is.plain
+select-requires g c = (_, asks-by (bound-last c.params-to_sql.ensures) (first_until_due_asks c.args.due))
 
 pub returns : goal.returns
-returns g c = c.select.ensures _ (asks-by (bound-last c.params-to_sql.ensures) (first_until_due_asks c.args.due))
+returns g c = c.select.ensures _ (asks-by (bound-last c.params-to_sql.ensures) (first_until_due_asks c.args.due)) (λ change xs. refl)

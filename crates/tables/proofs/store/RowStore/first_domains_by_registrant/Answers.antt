@@ -1,9 +1,10 @@
-use Rattle.tables.proofs.DomainLemmas.{first_by_registrant_asks, first_by_registrant_is}
+use Rattle.std.proofs.Common.{refl}
+use Rattle.tables.proofs.DomainLemmas.{first_by_registrant_asks}
 use Rattle.tables.proofs.TableLemmas.{asks-by, bound-last}
 use Rattle.tables.proofs.store.RowStore.first_domains_by_registrant.Goals as goal
 
 pub select-requires : goal.select-requires
-select-requires g c = first_by_registrant_is.plain
+select-requires g c = (_, asks-by (bound-last c.params-to_sql.ensures) (first_by_registrant_asks c.args.registrant))
 
 pub returns : goal.returns
-returns g c = c.select.ensures _ (asks-by (bound-last c.params-to_sql.ensures) (first_by_registrant_asks c.args.registrant))
+returns g c = c.select.ensures _ (asks-by (bound-last c.params-to_sql.ensures) (first_by_registrant_asks c.args.registrant)) (λ change xs. refl)

@@ -1,9 +1,10 @@
-use Rattle.tables.proofs.LinkLemmas.{first_by_host_asks, first_by_host_is}
+use Rattle.std.proofs.Common.{refl}
+use Rattle.tables.proofs.LinkLemmas.{first_by_host_asks}
 use Rattle.tables.proofs.TableLemmas.{asks-by, bound-last}
 use Rattle.tables.proofs.store.RowStore.first_links_by_host.Goals as goal
 
 pub select-requires : goal.select-requires
-select-requires g c = first_by_host_is.plain
+select-requires g c = (_, asks-by (bound-last c.params-to_sql.ensures) (first_by_host_asks c.args.host))
 
 pub returns : goal.returns
-returns g c = c.select.ensures _ (asks-by (bound-last c.params-to_sql.ensures) (first_by_host_asks c.args.host))
+returns g c = c.select.ensures _ (asks-by (bound-last c.params-to_sql.ensures) (first_by_host_asks c.args.host)) (λ change xs. refl)

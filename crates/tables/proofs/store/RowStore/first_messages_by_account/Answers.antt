@@ -1,9 +1,10 @@
-use Rattle.tables.proofs.MessageLemmas.{first_by_account_asks, first_by_account_is}
+use Rattle.std.proofs.Common.{refl}
+use Rattle.tables.proofs.MessageLemmas.{first_by_account_asks}
 use Rattle.tables.proofs.TableLemmas.{asks-by, bound-last}
 use Rattle.tables.proofs.store.RowStore.first_messages_by_account.Goals as goal
 
 pub select-requires : goal.select-requires
-select-requires g c = first_by_account_is.plain
+select-requires g c = (_, asks-by (bound-last c.params-to_sql.ensures) (first_by_account_asks c.args.account))
 
 pub returns : goal.returns
-returns g c = c.select.ensures _ (asks-by (bound-last c.params-to_sql.ensures) (first_by_account_asks c.args.account))
+returns g c = c.select.ensures _ (asks-by (bound-last c.params-to_sql.ensures) (first_by_account_asks c.args.account)) (λ change xs. refl)

@@ -1,9 +1,10 @@
-use Rattle.tables.proofs.HostLemmas.{by_id_asks, by_id_is}
+use Rattle.std.proofs.Common.{refl}
+use Rattle.tables.proofs.HostLemmas.{by_id_asks}
 use Rattle.tables.proofs.TableLemmas.{asks-by, bound-last}
 use Rattle.tables.proofs.store.RowStore.hosts_by_id.Goals as goal
 
 pub select-requires : goal.select-requires
-select-requires g c = by_id_is.plain
+select-requires g c = (_, asks-by (bound-last c.params-to_sql.ensures) (by_id_asks c.args.id))
 
 pub returns : goal.returns
-returns g c = c.select.ensures _ (asks-by (bound-last c.params-to_sql.ensures) (by_id_asks c.args.id))
+returns g c = c.select.ensures _ (asks-by (bound-last c.params-to_sql.ensures) (by_id_asks c.args.id)) (λ change xs. refl)

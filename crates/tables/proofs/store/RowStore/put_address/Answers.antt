@@ -1,9 +1,10 @@
 use Rattle.tables.proofs.AddressLemmas.{put_alters}
 use Rattle.tables.proofs.TableLemmas.{alters-by}
+use Rattle.tables.proofs.HandLemmas.{apart-addresses}
 use Rattle.tables.proofs.store.RowStore.put_address.Goals as goal
 
 pub write-requires-clause-means : goal.write-requires-clause-means
-write-requires-clause-means g c = (_, alters-by c.params.ensures (put_alters c.args.address.now))
+write-requires-clause-means g c = (_, alters-by c.params.ensures (put_alters c.args.address.now), apart-addresses _)
 
 pub returns : goal.returns
-returns g c = c.write.ensures _ (alters-by c.params.ensures (put_alters c.args.address.now))
+returns g c = c.write.ensures _ (alters-by c.params.ensures (put_alters c.args.address.now)) (apart-addresses _)

@@ -1,9 +1,10 @@
 use Rattle.tables.proofs.HostLemmas.{put_alters}
 use Rattle.tables.proofs.TableLemmas.{alters-by}
+use Rattle.tables.proofs.HandLemmas.{apart-hosts}
 use Rattle.tables.proofs.store.RowStore.put_host.Goals as goal
 
 pub write-requires-clause-means : goal.write-requires-clause-means
-write-requires-clause-means g c = (_, alters-by c.params.ensures (put_alters c.args.host.now))
+write-requires-clause-means g c = (_, alters-by c.params.ensures (put_alters c.args.host.now), apart-hosts _)
 
 pub returns : goal.returns
-returns g c = c.write.ensures _ (alters-by c.params.ensures (put_alters c.args.host.now))
+returns g c = c.write.ensures _ (alters-by c.params.ensures (put_alters c.args.host.now)) (apart-hosts _)

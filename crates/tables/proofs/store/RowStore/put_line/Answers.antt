@@ -1,9 +1,10 @@
 use Rattle.tables.proofs.LineLemmas.{put_alters}
 use Rattle.tables.proofs.TableLemmas.{alters-by}
+use Rattle.tables.proofs.HandLemmas.{apart-lines}
 use Rattle.tables.proofs.store.RowStore.put_line.Goals as goal
 
 pub write-requires-clause-means : goal.write-requires-clause-means
-write-requires-clause-means g c = (_, alters-by c.params.ensures (put_alters c.args.line.now))
+write-requires-clause-means g c = (_, alters-by c.params.ensures (put_alters c.args.line.now), apart-lines _)
 
 pub returns : goal.returns
-returns g c = c.write.ensures _ (alters-by c.params.ensures (put_alters c.args.line.now))
+returns g c = c.write.ensures _ (alters-by c.params.ensures (put_alters c.args.line.now)) (apart-lines _)

@@ -1,9 +1,10 @@
 use Rattle.tables.proofs.LinkLemmas.{put_alters}
 use Rattle.tables.proofs.TableLemmas.{alters-by}
+use Rattle.tables.proofs.HandLemmas.{apart-links}
 use Rattle.tables.proofs.store.RowStore.put_link.Goals as goal
 
 pub write-requires-clause-means : goal.write-requires-clause-means
-write-requires-clause-means g c = (_, alters-by c.params.ensures (put_alters c.args.link.now))
+write-requires-clause-means g c = (_, alters-by c.params.ensures (put_alters c.args.link.now), apart-links _)
 
 pub returns : goal.returns
-returns g c = c.write.ensures _ (alters-by c.params.ensures (put_alters c.args.link.now))
+returns g c = c.write.ensures _ (alters-by c.params.ensures (put_alters c.args.link.now)) (apart-links _)

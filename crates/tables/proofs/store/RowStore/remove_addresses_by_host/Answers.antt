@@ -1,9 +1,10 @@
 use Rattle.tables.proofs.AddressLemmas.{remove_host_alters}
 use Rattle.tables.proofs.TableLemmas.{alters-by, bound-last}
+use Rattle.tables.proofs.HandLemmas.{apart-addresses}
 use Rattle.tables.proofs.store.RowStore.remove_addresses_by_host.Goals as goal
 
 pub write-requires-clause-means : goal.write-requires-clause-means
-write-requires-clause-means g c = (_, alters-by (bound-last c.params-to_sql.ensures) (remove_host_alters c.args.host))
+write-requires-clause-means g c = (_, alters-by (bound-last c.params-to_sql.ensures) (remove_host_alters c.args.host), apart-addresses _)
 
 pub returns : goal.returns
-returns g c = c.write.ensures _ (alters-by (bound-last c.params-to_sql.ensures) (remove_host_alters c.args.host))
+returns g c = c.write.ensures _ (alters-by (bound-last c.params-to_sql.ensures) (remove_host_alters c.args.host)) (apart-addresses _)

@@ -1,9 +1,10 @@
 use Rattle.tables.proofs.TransferLemmas.{remove_contact_alters}
 use Rattle.tables.proofs.TableLemmas.{alters-by, bound-last}
+use Rattle.tables.proofs.HandLemmas.{apart-transfers}
 use Rattle.tables.proofs.store.RowStore.remove_transfers_by_contact.Goals as goal
 
 pub write-requires-clause-means : goal.write-requires-clause-means
-write-requires-clause-means g c = (_, alters-by (bound-last c.params-to_sql.ensures) (remove_contact_alters c.args.contact))
+write-requires-clause-means g c = (_, alters-by (bound-last c.params-to_sql.ensures) (remove_contact_alters c.args.contact), apart-transfers _)
 
 pub returns : goal.returns
-returns g c = c.write.ensures _ (alters-by (bound-last c.params-to_sql.ensures) (remove_contact_alters c.args.contact))
+returns g c = c.write.ensures _ (alters-by (bound-last c.params-to_sql.ensures) (remove_contact_alters c.args.contact)) (apart-transfers _)

@@ -1,10 +1,11 @@
+use Rattle.std.proofs.Common.{refl}
 use Rattle.rows.proofs.ParameterLemmas.{past_first}
-use Rattle.tables.proofs.MessageLemmas.{same_asks, same_is}
+use Rattle.tables.proofs.MessageLemmas.{same_asks}
 use Rattle.tables.proofs.TableLemmas.{asks-by}
 use Rattle.tables.proofs.store.RowStore.same_messages.Goals as goal
 
 pub select-requires : goal.select-requires
-select-requires g c = same_is.plain
+select-requires g c = (_, asks-by (past_first c.params.result _ c.params.ensures 7) (same_asks c.args.message.now))
 
 pub returns : goal.returns
-returns g c = c.select.ensures _ (asks-by (past_first c.params.result _ c.params.ensures 7) (same_asks c.args.message.now))
+returns g c = c.select.ensures _ (asks-by (past_first c.params.result _ c.params.ensures 7) (same_asks c.args.message.now)) (λ change xs. refl)

@@ -1,9 +1,10 @@
-use Rattle.tables.proofs.TransferLemmas.{by_domain_asks, by_domain_is}
+use Rattle.std.proofs.Common.{refl}
+use Rattle.tables.proofs.TransferLemmas.{by_domain_asks}
 use Rattle.tables.proofs.TableLemmas.{asks-by, bound-last}
 use Rattle.tables.proofs.store.RowStore.transfers_by_domain.Goals as goal
 
 pub select-requires : goal.select-requires
-select-requires g c = by_domain_is.plain
+select-requires g c = (_, asks-by (bound-last c.params-to_sql.ensures) (by_domain_asks c.args.domain))
 
 pub returns : goal.returns
-returns g c = c.select.ensures _ (asks-by (bound-last c.params-to_sql.ensures) (by_domain_asks c.args.domain))
+returns g c = c.select.ensures _ (asks-by (bound-last c.params-to_sql.ensures) (by_domain_asks c.args.domain)) (λ change xs. refl)
