@@ -84,7 +84,8 @@ impl Group {
     fn remake<C: LineChange>(&mut self, change: &C) -> i128
         ensures value { self.new ≡ map (C.changed change.now) self.old }
         ensures small { All IsSmall self.new }
-        ensures gain { length self.old < 4_611_686_018_427_387_904 → result ≡ spec.balance self.new -ℤ spec.balance self.old }
+        ensures gain { length self.old < 4_611_686_018_427_387_904
+            → result ≡ spec.balance self.new -ℤ spec.balance self.old }
     {
         let before = sum(&self.lines);
         remake_each(&mut self.lines, change);
@@ -207,7 +208,8 @@ impl Groups {
     /// Whether a line is there, so that it can be taken out and put back.
     pub(crate) fn has(&self, line: &Line) -> bool
         ensures there { result ≡ list_any (same in_order line.now) self.now }
-        ensures back { result ≡ true → add in_order line.now (taken in_order line.now self.now) ≡ self.now }
+        ensures back { result ≡ true
+            → add in_order line.now (taken in_order line.now self.now) ≡ self.now }
     {
         match self.groups.get(&key_of(&line.roid)) {
             None => false,
@@ -218,7 +220,8 @@ impl Groups {
     /// One line for another, as often as the change makes another of one. It looks at the lines of the
     /// change's domain alone.
     pub(crate) fn swaps<C: LineChange>(&self, change: &C) -> Result<Vec<LineSwap>, AllocError>
-        ensures { IfOk result (λ swaps. spec.swapped_all swaps.items self.now ≡ remade in_order (C.changed change.now) self.now) }
+        ensures { IfOk result (λ swaps. spec.swapped_all swaps.items self.now
+            ≡ remade in_order (C.changed change.now) self.now) }
     {
         match self.groups.get(&key_of(&Some(change.domain()))) {
             None => Ok(Vec::new(self.alloc)),
@@ -259,7 +262,8 @@ impl Groups {
     pub(crate) fn remake<C: LineChange>(&mut self, change: &C) -> i128
         ensures value { self.new ≡ remade in_order (C.changed change.now) self.old }
         ensures bounded { IsBounded self.new }
-        ensures gain { length self.old < 4_611_686_018_427_387_904 → result ≡ spec.balance self.new -ℤ spec.balance self.old }
+        ensures gain { length self.old < 4_611_686_018_427_387_904
+            → result ≡ spec.balance self.new -ℤ spec.balance self.old }
     {
         let Some(group) = self.groups.get_mut(&key_of(&Some(change.domain()))) else {
             return 0;

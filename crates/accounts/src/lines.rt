@@ -56,7 +56,8 @@ impl Lines {
     /// Whether a line is there, so that it can be taken out and put back.
     pub fn has(&self, line: &Line) -> bool
         ensures there { result ≡ list_any (same in_order line.now) self.now }
-        ensures back { result ≡ true → add in_order line.now (taken in_order line.now self.now) ≡ self.now }
+        ensures back { result ≡ true
+            → add in_order line.now (taken in_order line.now self.now) ≡ self.now }
     {
         self.groups.has(line)
     }
@@ -64,7 +65,8 @@ impl Lines {
     /// What makes of the lines what the change makes of them, one line for another. It looks at those of
     /// the change's domain alone.
     pub fn swaps<C: LineChange>(&self, change: &C) -> Result<Vec<LineSwap>, AllocError>
-        ensures { IfOk result (λ swaps. spec.swapped_all swaps.items self.now ≡ remade in_order (C.changed change.now) self.now) }
+        ensures { IfOk result (λ swaps. spec.swapped_all swaps.items self.now
+            ≡ remade in_order (C.changed change.now) self.now) }
     {
         self.groups.swaps(change)
     }

@@ -60,7 +60,8 @@ impl Queue {
     /// Whether a message is there, so that it can be taken out and put back.
     pub fn has(&self, message: &Message) -> bool
         ensures there { result ≡ spec.has message.now self.now }
-        ensures back { result ≡ true → spec.put message.now (spec.dropped message.now self.now) ≡ self.now }
+        ensures back { result ≡ true
+            → spec.put message.now (spec.dropped message.now self.now) ≡ self.now }
     {
         self.messages.len() > 0 && self.messages.contains(message)
     }

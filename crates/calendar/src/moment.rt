@@ -159,7 +159,8 @@ impl Moment {
     /// Where the moment so many years later stands in the order of time.
     #[tactic(auto, unfolding(crate::specs::Ranks::rank))]
     fn rank_after(&self, years: u64) -> u128
-        ensures { result ≡ rank (years_later (date_of (self.now / 86_400)) years) (self.now % 86_400) }
+        ensures { result ≡ rank (years_later (date_of (self.now / 86_400)) years)
+            (self.now % 86_400) }
     {
         let year = u128::from(self.year()) + u128::from(years);
         let month = self.month();
@@ -218,7 +219,8 @@ impl Moment {
 
     /// The date alone, `YYYY-MM-DD`.
     pub fn date_text(&self, alloc: Global) -> Result<String, AllocError>
-        ensures { IfOk result (λ text. string_bytes text ≡ date_text (date_of (self.now / 86_400))) }
+        ensures { IfOk result (λ text. string_bytes text
+            ≡ date_text (date_of (self.now / 86_400))) }
     {
         let shown = self.civil();
         let (year, month, day) = (shown.year(), shown.month(), shown.day());

@@ -27,7 +27,8 @@ fn last_two<'a, 'b>(labels: &'b [&'a str]) -> &'b [&'a str]
 }
 
 fn joined(alloc: Global, labels: &[&str]) -> Result<String, AllocError>
-    ensures { IfOk result (λ text. string_bytes text ≡ join_with_byte 46 (map (λ l. l.now) labels.now)) }
+    ensures { IfOk result (λ text. string_bytes text
+        ≡ join_with_byte 46 (map (λ l. l.now) labels.now)) }
 {
     labels.join(alloc, ".")
 }

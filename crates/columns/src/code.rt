@@ -86,7 +86,8 @@ pub fn subject_column(subject: Subject) -> i64
 pub fn subject_of_column(column: i64) -> Option<Subject>
     ensures value { result ≡ spec.subject_in column }
     ensures found { IfSome result (λ subject. column ≡ spec.subject_column subject) }
-    ensures only { (subject : Subject) → column ≡ spec.subject_column subject → result ≡ Some subject }
+    ensures only { (subject : Subject) → column ≡ spec.subject_column subject
+        → result ≡ Some subject }
 {
     subject_with(column)
 }
@@ -118,7 +119,8 @@ pub fn state_column(state: TransferState) -> i64
 pub fn state_of_column(column: i64) -> Option<TransferState>
     ensures value { result ≡ spec.state_in column }
     ensures found { IfSome result (λ state. column ≡ spec.state_column state) }
-    ensures only { (state : TransferState) → column ≡ spec.state_column state → result ≡ Some state }
+    ensures only { (state : TransferState) → column ≡ spec.state_column state
+        → result ≡ Some state }
 {
     state_with(column)
 }

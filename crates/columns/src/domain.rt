@@ -101,7 +101,8 @@ fn row_with(
     columns: RegistrationColumns,
     deletion: DeletionColumns,
 ) -> Result<DomainRow, AllocError>
-    ensures { IfOk result (λ row. row ≡ spec.row_with id registrant due domain.now columns deletion) }
+    ensures { IfOk result (λ row. row ≡ spec.row_with id registrant due domain.now columns
+        deletion) }
 {
     Ok(DomainRow {
         id,

@@ -47,8 +47,11 @@ pub fn line_row(id: i64, account: i64, line: &Line, ends: Option<i64>) -> Option
 /// The line of a row, if it's one's. The end of its grace isn't looked at.
 pub fn line_of_row(row: &LineRow) -> Option<Line>
     ensures value { result ≡ spec.line_in row.now }
-    ensures found { IfSome result (λ line. spec.line_row row.now.id row.now.account line row.now.grace.ends ≡ Some row.now) }
-    ensures only { (line : Line) → spec.IsLine line → spec.line_row row.now.id row.now.account line row.now.grace.ends ≡ Some row.now → result ≡ Some line }
+    ensures found { IfSome result (λ line. spec.line_row row.now.id row.now.account line
+        row.now.grace.ends ≡ Some row.now) }
+    ensures only { (line : Line) → spec.IsLine line
+        → spec.line_row row.now.id row.now.account line row.now.grace.ends ≡ Some row.now
+        → result ≡ Some line }
 {
     line_made(
         kind_of_column(row.kind),

@@ -43,7 +43,8 @@ pub fn message_row(
 pub fn message_of_row(row: MessageRow) -> Option<Message>
     ensures value { result ≡ spec.message_in row }
     ensures found { IfSome result (λ m. spec.message_row row.id row.account m ≡ Some row) }
-    ensures only { (m : Message) → IsMoment m.moment → spec.message_row row.id row.account m ≡ Some row → result ≡ Some m }
+    ensures only { (m : Message) → IsMoment m.moment
+        → spec.message_row row.id row.account m ≡ Some row → result ≡ Some m }
 {
     let columns = OriginColumns {
         class: row.class,

@@ -51,7 +51,8 @@ pub fn maybe_moment_column(moment: Option<Moment>) -> Option<i64>
 pub fn maybe_moment_of_column(column: Option<i64>) -> Option<Option<Moment>>
     ensures value { result ≡ spec.maybe_moment_in column }
     ensures found { IfSome result (λ m. column ≡ spec.maybe_moment_column m) }
-    ensures only { (m : Option ℕ) → IfSome m IsMoment → column ≡ spec.maybe_moment_column m → result ≡ Some m }
+    ensures only { (m : Option ℕ) → IfSome m IsMoment → column ≡ spec.maybe_moment_column m
+        → result ≡ Some m }
 {
     match column {
         None => Some(None),

@@ -32,7 +32,8 @@ pub fn registrar_column(registrar: RegistrarNo) -> i64
 pub fn registrar_of_column(column: i64) -> Option<RegistrarNo>
     ensures value { result ≡ spec.registrar_in column }
     ensures found { IfSome result (λ place. column ≡ spec.registrar_column place) }
-    ensures only { (place : ℕ) → spec.IsPlace place → column ≡ spec.registrar_column place → result ≡ Some place }
+    ensures only { (place : ℕ) → spec.IsPlace place → column ≡ spec.registrar_column place
+        → result ≡ Some place }
 {
     if column < 1 || column > 4_294_967_295 {
         return None;
@@ -54,7 +55,8 @@ pub fn maybe_registrar_column(registrar: Option<RegistrarNo>) -> Option<i64>
 pub fn maybe_registrar_of_column(column: Option<i64>) -> Option<Option<RegistrarNo>>
     ensures value { result ≡ spec.maybe_registrar_in column }
     ensures found { IfSome result (λ place. column ≡ spec.maybe_registrar_column place) }
-    ensures only { (place : Option ℕ) → IfSome place spec.IsPlace → column ≡ spec.maybe_registrar_column place → result ≡ Some place }
+    ensures only { (place : Option ℕ) → IfSome place spec.IsPlace
+        → column ≡ spec.maybe_registrar_column place → result ≡ Some place }
 {
     match column {
         None => Some(None),
@@ -96,7 +98,8 @@ pub fn years_column(years: u32) -> i64
 pub fn years_of_column(column: i64) -> Option<u32>
     ensures value { result ≡ spec.years_in column }
     ensures found { IfSome result (λ years. column ≡ spec.years_column years) }
-    ensures only { (years : ℕ) → years < 2 ^ 32 → column ≡ spec.years_column years → result ≡ Some years }
+    ensures only { (years : ℕ) → years < 2 ^ 32 → column ≡ spec.years_column years
+        → result ≡ Some years }
 {
     if column < 0 || column > 4_294_967_295 {
         return None;

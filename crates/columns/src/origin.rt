@@ -46,7 +46,8 @@ pub fn lapse_notice_column(notice: LapseNotice) -> i64
 pub fn lapse_notice_of_column(column: i64) -> Option<LapseNotice>
     ensures value { result ≡ spec.lapse_notice_in column }
     ensures found { IfSome result (λ notice. column ≡ spec.lapse_notice_column notice) }
-    ensures only { (notice : LapseNotice) → column ≡ spec.lapse_notice_column notice → result ≡ Some notice }
+    ensures only { (notice : LapseNotice) → column ≡ spec.lapse_notice_column notice
+        → result ≡ Some notice }
 {
     lapse_notice_with(column)
 }
@@ -77,7 +78,8 @@ pub fn command_notice_column(notice: CommandNotice) -> i64
 pub fn command_notice_of_column(column: i64) -> Option<CommandNotice>
     ensures value { result ≡ spec.command_notice_in column }
     ensures found { IfSome result (λ notice. column ≡ spec.command_notice_column notice) }
-    ensures only { (notice : CommandNotice) → column ≡ spec.command_notice_column notice → result ≡ Some notice }
+    ensures only { (notice : CommandNotice) → column ≡ spec.command_notice_column notice
+        → result ≡ Some notice }
 {
     command_notice_with(column)
 }
@@ -120,7 +122,8 @@ fn command_columns(number: u64, notice: CommandNotice) -> Option<OriginColumns>
 pub(crate) fn origin_of_columns(columns: OriginColumns) -> Option<Origin>
     ensures value { result ≡ spec.origin_in columns }
     ensures found { IfSome result (λ origin. spec.origin_columns origin ≡ Some columns) }
-    ensures only { (origin : Origin) → spec.origin_columns origin ≡ Some columns → result ≡ Some origin }
+    ensures only { (origin : Origin) → spec.origin_columns origin ≡ Some columns
+        → result ≡ Some origin }
 {
     origin_made(
         columns,

@@ -24,7 +24,8 @@ pub fn statuses_column(alloc: Global, statuses: &[Status]) -> Result<String, All
 
 /// Puts each behind a blank.
 fn push_statuses(text: &mut String, statuses: &[Status]) -> Result<(), AllocError>
-    ensures { OnOk result (string_bytes text.new ≡ spec.after_each status_text 32 (string_bytes text.old) statuses.now) }
+    ensures { OnOk result (string_bytes text.new ≡ spec.after_each status_text 32
+        (string_bytes text.old) statuses.now) }
 {
     for status in statuses {
         text.push(' ')?;
@@ -37,7 +38,8 @@ fn push_statuses(text: &mut String, statuses: &[Status]) -> Result<(), AllocErro
 pub fn statuses_of_column(alloc: Global, text: &str) -> Result<Option<Seq<Status>>, AllocError>
     ensures value { IfOk result (λ read. read ≡ spec.statuses_in text.now) }
     ensures found { IfOk result (λ read. IfSome read (λ xs. text.now ≡ spec.statuses_column xs)) }
-    ensures only { IfOk result (λ read. (xs : List Status) → text.now ≡ spec.statuses_column xs → read ≡ Some xs) }
+    ensures only { IfOk result (λ read. (xs : List Status) → text.now ≡ spec.statuses_column xs
+        → read ≡ Some xs) }
 {
     if text.is_empty() {
         return Ok(Some(Seq::new(alloc)));
@@ -47,7 +49,8 @@ pub fn statuses_of_column(alloc: Global, text: &str) -> Result<Option<Seq<Status
 
 /// The statuses that the words between blanks name, if each names one.
 fn named(alloc: Global, text: &str) -> Result<Option<Seq<Status>>, AllocError>
-    ensures { IfOk result (λ read. read ≡ spec.statuses_named (slice_split (λ b. b == 32) text.now)) }
+    ensures { IfOk result (λ read. read
+        ≡ spec.statuses_named (slice_split (λ b. b == 32) text.now)) }
 {
     let mut statuses = Vec::new(alloc);
     for word in text.split(' ') {

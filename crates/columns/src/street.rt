@@ -37,7 +37,8 @@ fn has_feed(line: &Text) -> bool
 
 /// Puts each behind a line feed.
 fn push_lines(text: &mut String, lines: &[Text]) -> Result<(), AllocError>
-    ensures { OnOk result (string_bytes text.new ≡ spec.after_each (λ line. line) 10 (string_bytes text.old) lines.now) }
+    ensures { OnOk result (string_bytes text.new ≡ spec.after_each (λ line. line) 10
+        (string_bytes text.old) lines.now) }
 {
     for line in lines {
         text.push('\n')?;
@@ -50,7 +51,8 @@ fn push_lines(text: &mut String, lines: &[Text]) -> Result<(), AllocError>
 pub fn street_of_column(alloc: Global, text: &str) -> Result<Seq<Text>, AllocError>
     ensures value { IfOk result (λ lines. lines ≡ spec.street_in text.now) }
     ensures found { IfOk result (λ lines. spec.street_column lines ≡ Some text.now) }
-    ensures only { IfOk result (λ lines. (xs : List (List ℕ)) → spec.street_column xs ≡ Some text.now → lines ≡ xs) }
+    ensures only { IfOk result (λ lines. (xs : List (List ℕ))
+        → spec.street_column xs ≡ Some text.now → lines ≡ xs) }
 {
     cut(alloc, text)
 }
@@ -64,7 +66,8 @@ fn cut(alloc: Global, text: &str) -> Result<Seq<Text>, AllocError>
 }
 
 fn pieces_of(alloc: Global, text: &str) -> Result<Vec<&str>, AllocError>
-    ensures { IfOk result (λ pieces. map (λ p. p.now) pieces.items ≡ slice_split (λ b. b == 10) text.now) }
+    ensures { IfOk result (λ pieces. map (λ p. p.now) pieces.items
+        ≡ slice_split (λ b. b == 10) text.now) }
 {
     text.split('\n').collect(alloc)
 }

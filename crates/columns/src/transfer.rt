@@ -66,8 +66,11 @@ pub(crate) fn maybe_due_column(transfer: &Option<Transfer>) -> Option<i64>
 /// The transfer of a row, if it's one's.
 pub fn transfer_of_row(row: &TransferRow) -> Option<Transfer>
     ensures value { result ≡ spec.transfer_in row.now }
-    ensures found { IfSome result (λ t. spec.transfer_row row.now.id row.now.contact row.now.domain t ≡ row.now) }
-    ensures only { (t : Transfer) → spec.IsTransfer t → spec.transfer_row row.now.id row.now.contact row.now.domain t ≡ row.now → result ≡ Some t }
+    ensures found { IfSome result (λ t. spec.transfer_row row.now.id row.now.contact row.now.domain
+        t ≡ row.now) }
+    ensures only { (t : Transfer) → spec.IsTransfer t
+        → spec.transfer_row row.now.id row.now.contact row.now.domain t ≡ row.now
+        → result ≡ Some t }
 {
     let transfer = transfer_made(
         registrar_of_column(row.requester),

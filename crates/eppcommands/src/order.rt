@@ -132,7 +132,8 @@ fn has_form(form: &[Field], value: &Value) -> bool
 }
 
 fn number_at(at: Member, value: &Value) -> Result<&Number, FormFault>
-    ensures { result_map_both (λ number. number_view number.now) (λ code. code) result ≡ spec.number_at at (view value.now) }
+    ensures { result_map_both (λ number. number_view number.now) (λ code. code) result
+        ≡ spec.number_at at (view value.now) }
 {
     member_of(value, at)
         .and_then(Value::as_number)
@@ -140,7 +141,8 @@ fn number_at(at: Member, value: &Value) -> Result<&Number, FormFault>
 }
 
 fn list_at(at: Member, value: &Value) -> Result<&Vec<Value>, FormFault>
-    ensures { result_map_both (λ items. map view items.now.items) (λ code. code) result ≡ spec.list_at at (view value.now) }
+    ensures { result_map_both (λ items. map view items.now.items) (λ code. code) result
+        ≡ spec.list_at at (view value.now) }
 {
     let found = member_of(value, at).ok_or(FormFault::ParameterMissing)?;
     items_in(found)

@@ -90,7 +90,8 @@ pub fn maybe_name_at(
 
 /// The items of a list.
 pub fn items_in(value: &Value) -> Result<&Vec<Value>, FormFault>
-    ensures { result_map_both (λ items. map view items.now.items) (λ code. code) result ≡ spec.items_in (view value.now) }
+    ensures { result_map_both (λ items. map view items.now.items) (λ code. code) result
+        ≡ spec.items_in (view value.now) }
 {
     value.as_array().ok_or(FormFault::SyntaxError)
 }

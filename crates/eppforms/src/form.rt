@@ -35,7 +35,8 @@ pub fn checked_by(forms: &[CommandForm], value: &Value) -> Result<CommandKind, F
 
 /// The form that `cmd`, `obj` and `op` choose.
 fn form_in(forms: &[CommandForm], value: &Value) -> Result<CommandForm, FormFault>
-    ensures { result_map_both plain (λ code. code) result ≡ spec.form_in (map plain forms.now) (view value.now) }
+    ensures { result_map_both plain (λ code. code) result ≡ spec.form_in (map plain forms.now)
+        (view value.now) }
 {
     form_found(forms, value)
 }
@@ -76,7 +77,8 @@ fn chosen(
     obj: Option<&str>,
     op: Option<&str>,
 ) -> Option<CommandForm>
-    ensures { result ≡ spec.chosen forms.now cmd.now (option_map (λ s. s.now) obj.entry) (option_map (λ s. s.now) op.entry) }
+    ensures { result ≡ spec.chosen forms.now cmd.now (option_map (λ s. s.now) obj.entry)
+        (option_map (λ s. s.now) op.entry) }
 {
     forms
         .iter()
@@ -86,7 +88,8 @@ fn chosen(
 
 /// Whether `cmd`, `obj` and `op` say the form.
 fn is_chosen(choice: Choice, cmd: &str, obj: Option<&str>, op: Option<&str>) -> bool
-    ensures { result ≡ spec.is_chosen choice cmd.now (option_map (λ s. s.now) obj.entry) (option_map (λ s. s.now) op.entry) }
+    ensures { result ≡ spec.is_chosen choice cmd.now (option_map (λ s. s.now) obj.entry)
+        (option_map (λ s. s.now) op.entry) }
 {
     choice.cmd.text() == cmd && is_on(choice.object, obj) && is_for(choice.op, op)
 }
@@ -155,7 +158,8 @@ fn knows(fields: &[Field], section: Section, part: &Value) -> bool
 }
 
 fn are_fields(fields: &[Field], section: Section, members: &Map<String, Value>) -> bool
-    ensures { result ≡ list_all (λ m. spec.is_field fields.now section (string_bytes m.0) (view m.1)) members.now.entries }
+    ensures { result ≡ list_all (λ m. spec.is_field fields.now section (string_bytes m.0)
+        (view m.1)) members.now.entries }
 {
     members.iter().all(|(name, value)| is_field(fields, section, name.as_str(), value))
 }

@@ -44,7 +44,8 @@ pub fn frame_buffer(alloc: Global) -> Result<Vec<u8>, AllocError>
 /// Reads the next frame into the buffer.
 pub fn read_frame<R: Read>(reader: &mut R, buffer: &mut [u8]) -> Received
     requires { length buffer.old ≡ ROOM }
-    ensures received { Receives result buffer.new (R.remaining reader.old) (R.remaining reader.new) }
+    ensures received { Receives result buffer.new (R.remaining reader.old)
+        (R.remaining reader.new) }
     ensures room { (n : ℕ) → result ≡ Received.Frame n → n ≤ ROOM }
 {
     let mut header = [0u8; HEADER];
@@ -69,8 +70,10 @@ pub fn read_frame<R: Read>(reader: &mut R, buffer: &mut [u8]) -> Received
 /// Writes the frame of a payload. A fault leaves a beginning of the frame.
 pub fn write_frame<W: Write>(writer: &mut W, payload: &[u8]) -> Result<(), WriteFault>
     requires { length payload.now + 4 < 2 ^ 32 }
-    ensures ok { OnOk result (Appends (W.contents writer.old) (W.contents writer.new) (frame payload.now)) }
-    ensures err { OnErr result ((n : ℕ) × Appends (W.contents writer.old) (W.contents writer.new) (take n (frame payload.now))) }
+    ensures ok { OnOk result (Appends (W.contents writer.old) (W.contents writer.new)
+        (frame payload.now)) }
+    ensures err { OnErr result ((n : ℕ)
+        × Appends (W.contents writer.old) (W.contents writer.new) (take n (frame payload.now))) }
 {
     let total = (payload.len() + HEADER) as u32;
     write_whole(writer, &total.to_be_bytes())?;

@@ -17,16 +17,20 @@ pub const CLOSING: &[u8] =
 
 /// Writes the frame of [`FAILED`]. A fault leaves a beginning of it.
 pub fn write_failed<W: Write>(writer: &mut W) -> Result<(), WriteFault>
-    ensures ok { OnOk result (Appends (W.contents writer.old) (W.contents writer.new) (frame failed_text)) }
-    ensures err { OnErr result ((n : ℕ) × Appends (W.contents writer.old) (W.contents writer.new) (take n (frame failed_text))) }
+    ensures ok { OnOk result (Appends (W.contents writer.old) (W.contents writer.new)
+        (frame failed_text)) }
+    ensures err { OnErr result ((n : ℕ)
+        × Appends (W.contents writer.old) (W.contents writer.new) (take n (frame failed_text))) }
 {
     write_frame(writer, FAILED)
 }
 
 /// Writes the frame of [`CLOSING`]. A fault leaves a beginning of it.
 pub fn write_closing<W: Write>(writer: &mut W) -> Result<(), WriteFault>
-    ensures ok { OnOk result (Appends (W.contents writer.old) (W.contents writer.new) (frame closing_text)) }
-    ensures err { OnErr result ((n : ℕ) × Appends (W.contents writer.old) (W.contents writer.new) (take n (frame closing_text))) }
+    ensures ok { OnOk result (Appends (W.contents writer.old) (W.contents writer.new)
+        (frame closing_text)) }
+    ensures err { OnErr result ((n : ℕ)
+        × Appends (W.contents writer.old) (W.contents writer.new) (take n (frame closing_text))) }
 {
     write_frame(writer, CLOSING)
 }

@@ -39,7 +39,8 @@ pub fn object(
     mut members: Vec<(&'static str, Item<'_>)>,
 ) -> Result<Value, AllocError>
     requires { IsTrue (are_in_order (map (λ m. (m.0.now, item_value m.1)) members.items)) }
-    ensures { IfOk result (λ v. view v ≡ object (members_with (map (λ m. (m.0.now, item_value m.1)) members.entry.items))) }
+    ensures { IfOk result (λ v. view v
+        ≡ object (members_with (map (λ m. (m.0.now, item_value m.1)) members.entry.items))) }
 {
     let mut built = Map::new(alloc);
     'members: while let Some((name, item)) = members.pop() {

@@ -151,7 +151,8 @@ fn deleted_value(alloc: Global, deleted: &Deleted) -> Result<Value, AllocError>
 
 /// What was charged, where something was.
 fn charge_item(alloc: Global, charge: Option<u64>) -> Result<Item<'static>, AllocError>
-    ensures { IfOk result (λ item. item_value item ≡ option_map (λ cents. string (decimal cents)) charge) }
+    ensures { IfOk result (λ item. item_value item ≡ option_map (λ cents. string (decimal cents))
+        charge) }
 {
     Ok(match charge {
         Some(cents) => Item::Given(cents_value(alloc, u128::from(cents))?),
@@ -231,7 +232,8 @@ fn mail_of(info: &ContactInfo) -> Item<'_>
 }
 
 fn contact_secret_of(info: &ContactInfo) -> Item<'_>
-    ensures { item_value result ≡ option_map string (option_and_then (λ h. h.secret) info.now.hidden) }
+    ensures { item_value result
+        ≡ option_map string (option_and_then (λ h. h.secret) info.now.hidden) }
 {
     match &info.hidden {
         Some(hidden) => Item::MaybeText(&hidden.secret),
@@ -240,7 +242,8 @@ fn contact_secret_of(info: &ContactInfo) -> Item<'_>
 }
 
 fn voice_of(info: &ContactInfo) -> Item<'_>
-    ensures { item_value result ≡ option_map string (option_and_then (λ h. h.voice) info.now.hidden) }
+    ensures { item_value result
+        ≡ option_map string (option_and_then (λ h. h.voice) info.now.hidden) }
 {
     match &info.hidden {
         Some(hidden) => Item::MaybeText(&hidden.voice),
@@ -348,7 +351,8 @@ fn transfer_item(
     alloc: Global,
     transfer: Option<&TransferInfo>,
 ) -> Result<Item<'static>, AllocError>
-    ensures { IfOk result (λ item. item_value item ≡ option_map spec.transfer_value (option_copied transfer.entry)) }
+    ensures { IfOk result (λ item. item_value item ≡ option_map spec.transfer_value
+        (option_copied transfer.entry)) }
 {
     Ok(match transfer {
         Some(transfer) => Item::Given(transfer_value(alloc, transfer)?),

@@ -29,7 +29,8 @@ pub(crate) fn answer_registrar<B: Book + Drop>(
     moment: Moment,
 ) -> Answer
     requires { IsRegistrar registry.old.policy caller }
-    ensures answered { AnswersRegistrar registry.old.policy caller payload.now moment (B.state registry.old.book) (outcome_of result) (B.state registry.new.book) }
+    ensures answered { AnswersRegistrar registry.old.policy caller payload.now moment
+        (B.state registry.old.book) (outcome_of result) (B.state registry.new.book) }
     ensures policy { registry.new.policy ≡ registry.old.policy }
 {
     match in_session(alloc, payload) {
@@ -52,7 +53,8 @@ fn answer_command<B: Book + Drop>(
     moment: Moment,
 ) -> Answer
     requires { IsRegistrar registry.old.policy caller }
-    ensures answered { AnswersCommand registry.old.policy caller command.now moment (B.state registry.old.book) (outcome_of result) (B.state registry.new.book) }
+    ensures answered { AnswersCommand registry.old.policy caller command.now moment
+        (B.state registry.old.book) (outcome_of result) (B.state registry.new.book) }
     ensures policy { registry.new.policy ≡ registry.old.policy }
 {
     match registry.execute(caller, command, moment) {
@@ -85,7 +87,8 @@ fn is_last(code: Code) -> bool
 
 /// What hello is answered.
 fn answer_hello<B: Book + Drop>(alloc: Global, registry: &mut Registry<B>, moment: Moment) -> Answer
-    ensures answered { AnswersHello registry.old.policy moment (B.state registry.old.book) (outcome_of result) (B.state registry.new.book) }
+    ensures answered { AnswersHello registry.old.policy moment (B.state registry.old.book)
+        (outcome_of result) (B.state registry.new.book) }
     ensures policy { registry.new.policy ≡ registry.old.policy }
 {
     match registry.greet(moment) {
@@ -110,7 +113,8 @@ pub(crate) fn answer_stranger<B: Book + Drop>(
     payload: &[u8],
     moment: Moment,
 ) -> (Answer, Option<RegistrarNo>)
-    ensures answered { AnswersStranger registry.old.policy payload.now moment (B.state registry.old.book) (outcome_of result.0) (B.state registry.new.book) result.1 }
+    ensures answered { AnswersStranger registry.old.policy payload.now moment
+        (B.state registry.old.book) (outcome_of result.0) (B.state registry.new.book) result.1 }
     ensures caller { IfSome result.1 (IsRegistrar registry.old.policy) }
     ensures policy { registry.new.policy ≡ registry.old.policy }
 {
@@ -136,7 +140,8 @@ fn answer_login(
     cl_trid: &Option<Text>,
     credentials: &Credentials,
 ) -> (Answer, Option<RegistrarNo>)
-    ensures answered { spec.AnswersLogin policy.now cl_trid.now credentials.now (outcome_of result.0) result.1 }
+    ensures answered { spec.AnswersLogin policy.now cl_trid.now credentials.now
+        (outcome_of result.0) result.1 }
     ensures caller { IfSome result.1 (IsRegistrar policy.now) }
 {
     if !is_our_version(&credentials.version) {

@@ -18,7 +18,8 @@ fn post_completion(
     contact: &Contact,
     postings: &mut Seq<Posting>,
 ) -> Result<(), AllocError>
-    ensures { OnOk result (postings.new ≡ postings.old ++ spec.contact_completion transfer.now contact.now) }
+    ensures { OnOk result (postings.new ≡ postings.old ++ spec.contact_completion transfer.now
+        contact.now) }
 {
     let (moment, notice) = (transfer.ac_date, LapseNotice::TransferApproved);
     let (loser, gainer) = (transfer.losing_registrar, transfer.requester);

@@ -34,7 +34,8 @@ fn post_completion(
     domain: &Domain,
     postings: &mut Seq<Posting>,
 ) -> Result<(), AllocError>
-    ensures { OnOk result (postings.new ≡ postings.old ++ spec.completion transfer.now years domain.now) }
+    ensures { OnOk result (postings.new ≡ postings.old ++ spec.completion transfer.now years
+        domain.now) }
 {
     let (moment, notice) = (transfer.ac_date, LapseNotice::TransferApproved);
     let (loser, gainer) = (transfer.losing_registrar, transfer.requester);
@@ -51,7 +52,8 @@ fn complete(
     postings: &mut Seq<Posting>,
 ) -> Result<(), AllocError>
     ensures domain { OnOk result (domain.new ≡ spec.moved transfer domain.old) }
-    ensures postings { OnOk result (postings.new ≡ postings.old ++ (spec.completed transfer domain.old).postings) }
+    ensures postings { OnOk result (postings.new ≡ postings.old
+        ++ (spec.completed transfer domain.old).postings) }
 {
     let moment = transfer.ac_date;
     let years = gained(domain, moment);
@@ -79,8 +81,10 @@ fn advance(
     moment: Moment,
     postings: &mut Seq<Posting>,
 ) -> Result<(), AllocError>
-    ensures domain { OnOk result (Some domain.new ≡ (spec.living policy.now moment domain.old).object) }
-    ensures postings { OnOk result (postings.new ≡ postings.old ++ (spec.living policy.now moment domain.old).postings) }
+    ensures domain { OnOk result (Some domain.new
+        ≡ (spec.living policy.now moment domain.old).object) }
+    ensures postings { OnOk result (postings.new ≡ postings.old
+        ++ (spec.living policy.now moment domain.old).postings) }
 {
     let Some(transfer) = due_by(moment, domain.transfer) else {
         return renew(policy, domain, moment, postings);
@@ -132,7 +136,8 @@ fn lapse_deleted(
     moment: Moment,
     policy: &Policy,
 ) -> Result<Lapsed<Domain>, AllocError>
-    ensures { IfOk result (λ lapsed. lapsed ≡ spec.lapse_by policy.now moment (Some deletion) domain.now) }
+    ensures { IfOk result (λ lapsed. lapsed ≡ spec.lapse_by policy.now moment (Some deletion)
+        domain.now) }
 {
     let mut postings = Seq::new(alloc);
     let Some(end) = purged_by(&deletion, moment, policy) else {

@@ -64,7 +64,8 @@ pub fn due_by(domain: &Domain, moment: Moment, policy: &Policy) -> Option<Moment
 
 /// The same for a domain that isn't deleted.
 fn earliest_by(domain: &Domain, moment: Moment) -> Option<Moment>
-    ensures { result ≡ passed moment (earlier (expiry domain.now) (spec.completes_at domain.now.transfer)) }
+    ensures { result
+        ≡ passed moment (earlier (expiry domain.now) (spec.completes_at domain.now.transfer)) }
 {
     let end = expired_by(domain, moment);
     let Some(other) = completes_at(&domain.transfer) else {

@@ -71,7 +71,8 @@ fn has_grace(
     moment: Moment,
     policy: &Policy,
 ) -> bool
-    ensures { result ≡ list_any (λ (line : Line). spec.gives kind policy.now moment domain.now.roid domain.now.transferred line) lines.now }
+    ensures { result ≡ list_any (λ (line : Line). spec.gives kind policy.now moment domain.now.roid
+        domain.now.transferred line) lines.now }
 {
     lines.iter().any(|line| {
         line.kind.is(kind) && runs(line, &domain.roid, domain.transferred, moment, policy)
@@ -81,7 +82,8 @@ fn has_grace(
 /// The graces that these lines give a domain.
 #[tactic(auto, unfolding(crate::specs::Graces::graces))]
 pub fn graces(domain: &Domain, lines: &[Line], moment: Moment, policy: &Policy) -> Graces
-    ensures { result ≡ spec.graces policy.now moment domain.now.roid domain.now.transferred lines.now }
+    ensures { result ≡ spec.graces policy.now moment domain.now.roid domain.now.transferred
+        lines.now }
 {
     Graces {
         add: has_grace(LineKind::Create, lines, domain, moment, policy),
@@ -93,7 +95,8 @@ pub fn graces(domain: &Domain, lines: &[Line], moment: Moment, policy: &Policy) 
 
 /// The graces that its sponsor's lines give a domain. It goes over those of the domain alone.
 fn graces_by(domain: &Domain, lines: &Lines, moment: Moment, policy: &Policy) -> Graces
-    ensures { result ≡ spec.graces policy.now moment domain.now.roid domain.now.transferred lines.now }
+    ensures { result ≡ spec.graces policy.now moment domain.now.roid domain.now.transferred
+        lines.now }
 {
     graces(domain, lines.on(&domain.roid), moment, policy)
 }
@@ -105,7 +108,8 @@ pub fn standing(
     moment: Moment,
     policy: &Policy,
 ) -> Standing
-    ensures { result ≡ spec.standing policy.now moment (unwrap_or (option_copied sponsor.entry) empty_account).lines domain.now }
+    ensures { result ≡ spec.standing policy.now moment (unwrap_or (option_copied sponsor.entry)
+        empty_account).lines domain.now }
 {
     let graces = match sponsor {
         None => graces(domain, &[], moment, policy),

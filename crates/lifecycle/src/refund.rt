@@ -111,7 +111,8 @@ fn all_back_by(lines: &Lines, refund: &RunningRefund, policy: &Policy) -> GivenB
 
 /// The same of an account, if there is one.
 fn back_of(sponsor: Option<&Account>, refund: &RunningRefund, policy: &Policy) -> GivenBack
-    ensures { result ≡ spec.given_back policy.now refund.now (unwrap_or (option_copied sponsor.entry) empty_account).lines }
+    ensures { result ≡ spec.given_back policy.now refund.now
+        (unwrap_or (option_copied sponsor.entry) empty_account).lines }
 {
     match sponsor {
         None => GivenBack::nothing(),
@@ -122,7 +123,8 @@ fn back_of(sponsor: Option<&Account>, refund: &RunningRefund, policy: &Policy) -
 /// What a refund gives back of the lines of a domain's sponsor, which has this account or none. It
 /// goes over those of the domain alone.
 pub fn given_back(sponsor: Option<&Account>, refund: &RunningRefund, policy: &Policy) -> GivenBack
-    ensures { spec.IsGivenBack policy.now refund.now (unwrap_or (option_copied sponsor.entry) empty_account).lines result }
+    ensures { spec.IsGivenBack policy.now refund.now (unwrap_or (option_copied sponsor.entry)
+        empty_account).lines result }
 {
     back_of(sponsor, refund, policy)
 }

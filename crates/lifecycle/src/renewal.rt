@@ -23,7 +23,8 @@ pub(crate) fn told(
     name: &Text,
     subject: Subject,
 ) -> Result<Posting, AllocError>
-    ensures { IfOk result (λ posting. posting ≡ spec.told registrar moment notice name.now subject) }
+    ensures { IfOk result (λ posting. posting ≡ spec.told registrar moment notice name.now
+        subject) }
 {
     Ok(Posting {
         registrar,
@@ -80,7 +81,8 @@ fn turn(
     requires expiry { moment ≡ expiry domain.old }
     requires small { domain.old.years < 1_000_000 }
     ensures domain { OnOk result (domain.new ≡ spec.raised 1 domain.old) }
-    ensures postings { OnOk result (postings.new ≡ postings.old ++ spec.turn policy.now domain.old 0) }
+    ensures postings { OnOk result (postings.new ≡ postings.old ++ spec.turn policy.now domain.old
+        0) }
 {
     let _ = moment.secs();
     let (sponsor, notice) = (domain.sponsor, LapseNotice::RenewedAutomatically);
@@ -98,7 +100,8 @@ pub(crate) fn renew(
     postings: &mut Seq<Posting>,
 ) -> Result<(), AllocError>
     ensures domain { OnOk result (domain.new ≡ spec.raised (turns domain.old moment) domain.old) }
-    ensures postings { OnOk result (postings.new ≡ postings.old ++ spec.renewals policy.now domain.old (turns domain.old moment)) }
+    ensures postings { OnOk result (postings.new ≡ postings.old
+        ++ spec.renewals policy.now domain.old (turns domain.old moment)) }
 {
     while let Some(expiry) = expired(domain, moment) {
         turn(policy, domain, expiry, postings)?;

@@ -9,7 +9,8 @@ use objects::Domain;
 
 /// Whether the domain expires by the moment, with so many years more.
 fn expires_by(domain: &Domain, more: u32, moment: Moment) -> bool
-    ensures value { result ≡ not (nat_lt moment (plus_years domain.now.created (domain.now.years + more))) }
+    ensures value { result
+        ≡ not (nat_lt moment (plus_years domain.now.created (domain.now.years + more))) }
     ensures small { result ≡ true → domain.now.years + more < 1_000_000 }
 {
     let _ = moment.secs();

@@ -88,7 +88,8 @@ pub fn gained(domain: &Domain, moment: Moment) -> u32
 
 /// Makes the requester of an approved transfer the sponsor.
 pub(crate) fn take_over(domain: &mut Domain, transfer: Transfer)
-    ensures { domain.new ≡ handed_over transfer (lapses.gained domain.old transfer.ac_date) domain.old }
+    ensures { domain.new ≡ handed_over transfer (lapses.gained domain.old transfer.ac_date)
+        domain.old }
 {
     let years = gained(domain, transfer.ac_date);
     domain.years += years;

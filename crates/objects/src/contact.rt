@@ -135,7 +135,8 @@ impl Contact {
     }
 
     fn is_seen_in_full(&self, registrar: RegistrarNo, presented: Option<&Text>) -> bool
-        ensures { result ≡ (is_party registrar self.now.sponsor self.now.transfer || authorizes (option_copied presented.entry) self.now.secret) }
+        ensures { result ≡ (is_party registrar self.now.sponsor self.now.transfer
+            || authorizes (option_copied presented.entry) self.now.secret) }
     {
         sight::is_seen_in_full(
             registrar,
@@ -175,7 +176,8 @@ impl Contact {
         registrar: RegistrarNo,
         presented: Option<&Text>,
     ) -> Result<Seen<Contact, ContactFace>, AllocError>
-        ensures { IfOk result (λ seen. seen ≡ contact_as registrar (option_copied presented.entry) self.now) }
+        ensures { IfOk result (λ seen. seen ≡ contact_as registrar (option_copied presented.entry)
+            self.now) }
     {
         if self.is_seen_in_full(registrar, presented) {
             return Ok(Seen::Full(self.copy()?));
@@ -206,7 +208,8 @@ fn shown_among(
     linked: bool,
     statuses: &[Status],
 ) -> Result<Vec<Status>, AllocError>
-    ensures { IfOk result (λ found. found.items ≡ filter (spec.contact_shows linked contact.now) statuses.now) }
+    ensures { IfOk result (λ found. found.items ≡ filter (spec.contact_shows linked contact.now)
+        statuses.now) }
 {
     statuses
         .iter()

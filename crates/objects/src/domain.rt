@@ -207,7 +207,8 @@ impl Domain {
     }
 
     fn is_seen_in_full(&self, registrar: RegistrarNo, presented: Option<&Text>) -> bool
-        ensures { result ≡ (is_party registrar self.now.sponsor self.now.transfer || authorizes (option_copied presented.entry) self.now.secret) }
+        ensures { result ≡ (is_party registrar self.now.sponsor self.now.transfer
+            || authorizes (option_copied presented.entry) self.now.secret) }
     {
         sight::is_seen_in_full(
             registrar,
@@ -226,7 +227,8 @@ impl Domain {
         presented: Option<&Text>,
         standing: Standing,
     ) -> Result<Seen<FullDomain, DomainFace>, AllocError>
-        ensures { IfOk result (λ seen. seen ≡ domain_as registrar (option_copied presented.entry) standing self.now) }
+        ensures { IfOk result (λ seen. seen ≡ domain_as registrar (option_copied presented.entry)
+            standing self.now) }
     {
         if self.is_seen_in_full(registrar, presented) {
             return Ok(Seen::Full(self.in_full(standing)?));

@@ -88,7 +88,8 @@ fn shown_among(
     linked: bool,
     statuses: &[Status],
 ) -> Result<Vec<Status>, AllocError>
-    ensures { IfOk result (λ found. found.items ≡ filter (spec.host_shows linked host.now) statuses.now) }
+    ensures { IfOk result (λ found. found.items ≡ filter (spec.host_shows linked host.now)
+        statuses.now) }
 {
     statuses
         .iter()

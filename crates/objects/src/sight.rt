@@ -51,7 +51,8 @@ pub(crate) fn is_seen_in_full(
     presented: Option<&Text>,
     secret: &Text,
 ) -> bool
-    ensures { result ≡ (spec.is_party registrar sponsor transfer.now || spec.authorizes (option_copied presented.entry) secret.now) }
+    ensures { result ≡ (spec.is_party registrar sponsor transfer.now
+        || spec.authorizes (option_copied presented.entry) secret.now) }
 {
     is_party(registrar, sponsor, transfer) || authorizes(presented, secret)
 }

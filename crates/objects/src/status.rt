@@ -198,7 +198,8 @@ fn among_linked(
     shown: &[Status],
     statuses: &[Status],
 ) -> Result<Vec<Status>, AllocError>
-    ensures { IfOk result (λ found. found.items ≡ filter (λ status. (linked && is_status status Status.Linked) || has_status shown.now status) statuses.now) }
+    ensures { IfOk result (λ found. found.items ≡ filter (λ status. (linked
+        && is_status status Status.Linked) || has_status shown.now status) statuses.now) }
 {
     statuses
         .iter()
@@ -215,7 +216,8 @@ pub fn amended_statuses(
     removed: &[Status],
     added: &[Status],
 ) -> Result<Seq<Status>, AllocError>
-    ensures { IfOk result (λ statuses. statuses ≡ spec.amended_statuses old.now removed.now added.now) }
+    ensures { IfOk result (λ statuses. statuses ≡ spec.amended_statuses old.now removed.now
+        added.now) }
 {
     Ok(Seq::from_vec(among_amended(alloc, old, removed, added, &ALL)?))
 }
@@ -227,7 +229,8 @@ fn among_amended(
     added: &[Status],
     statuses: &[Status],
 ) -> Result<Vec<Status>, AllocError>
-    ensures { IfOk result (λ found. found.items ≡ filter (λ status. has_status added.now status || (has_status old.now status && not (has_status removed.now status))) statuses.now) }
+    ensures { IfOk result (λ found. found.items ≡ filter (λ status. has_status added.now status
+        || (has_status old.now status && not (has_status removed.now status))) statuses.now) }
 {
     statuses
         .iter()

@@ -33,7 +33,8 @@ fn copy<R: Copied, S: Alter, T: Alter>(
     to: &mut RowStore<T>,
 ) -> Result<(), BookFault>
     requires { to.old.is_open ≡ true }
-    ensures { Copies result (λ c. R.rows_to (put_all R.key (R.rows_of c))) from.old from.new to.old to.new }
+    ensures { Copies result (λ c. R.rows_to (put_all R.key (R.rows_of c))) from.old from.new to.old
+        to.new }
 {
     let rows = R::all(from)?;
     put_all(to, rows.as_slice())

@@ -76,7 +76,8 @@ impl<S: Alter> OldRows<S> {
     /// The records that the rows of a query show.
     pub(crate) fn select<R: Record>(&mut self, sql: &str) -> Result<Seq<R>, BookFault>
         requires { IsPlain (understood first_registry sql.now) }
-        ensures { (f : Content → List R) → Asks R.shown sql.now f → Finds result (f self.old.content) self.old self.new }
+        ensures { (f : Content → List R) → Asks R.shown sql.now f
+            → Finds result (f self.old.content) self.old self.new }
     {
         if !self.is_there {
             return Err(BookFault::Store);
@@ -129,7 +130,8 @@ impl<S: Alter + Drop> OldRows<S> {
     /// The rows of a database that was read anew, by its tables alone.
     fn over(conn: Connection<S>, alloc: Global) -> Result<OldRows<S>, BookFault>
         requires { IsFound (state S.Store conn) }
-        ensures { (trees : Trees) → (HasCleanDisk (state S.Store conn) → (state S.Store conn).now.trees ≡ trees) → IfOk result (IsSeen trees) }
+        ensures { (trees : Trees) → (HasCleanDisk (state S.Store conn)
+            → (state S.Store conn).now.trees ≡ trees) → IfOk result (IsSeen trees) }
     {
         let is_there = match has_first_tables(conn.schema(), alloc) {
             Ok(said) => said,

@@ -104,7 +104,8 @@ fn dated_in(table: &Value) -> Result<DatedDays, PolicyFault>
 /// The tables one by one.
 fn each_dated(alloc: Global, tables: &[Value]) -> Result<Vec<DatedDays>, PolicyFault>
     ensures read { Gives (λ dated. dated.items) result (spec.each_dated (map view tables.now)) }
-    ensures range { IfOk result (λ dated. AllByRecursion (λ (table : DatedDays). AreDays table.days) dated.items) }
+    ensures range { IfOk result (λ dated. AllByRecursion (λ (table : DatedDays). AreDays table.days)
+        dated.items) }
 {
     let mut dated = Vec::new(alloc);
     for table in tables {
@@ -115,7 +116,8 @@ fn each_dated(alloc: Global, tables: &[Value]) -> Result<Vec<DatedDays>, PolicyF
 
 /// The array `days_from`.
 fn tables_at(document: &Table) -> Result<&[Value], PolicyFault>
-    ensures { Gives (λ tables. map view tables.now) result (spec.tables_at (table_view document.now)) }
+    ensures { Gives (λ tables. map view tables.now) result
+        (spec.tables_at (table_view document.now)) }
 {
     match get(document, "days_from") {
         Some(value) => as_values(value, Key::DatedFrom),
@@ -127,7 +129,8 @@ fn tables_at(document: &Table) -> Result<&[Value], PolicyFault>
 #[tactic(auto, unfolding(crate::specs::Reading::dated_at))]
 fn dated_at(alloc: Global, document: &Table) -> Result<Vec<DatedDays>, PolicyFault>
     ensures read { Gives (λ dated. dated.items) result (spec.dated_at (table_view document.now)) }
-    ensures range { IfOk result (λ dated. AllByRecursion (λ (table : DatedDays). AreDays table.days) dated.items) }
+    ensures range { IfOk result (λ dated. AllByRecursion (λ (table : DatedDays). AreDays table.days)
+        dated.items) }
     ensures rise { IfOk result (λ dated. BeginAfter 946_684_800 dated.items) }
 {
     let tables = tables_at(document)?;
@@ -138,7 +141,8 @@ fn dated_at(alloc: Global, document: &Table) -> Result<Vec<DatedDays>, PolicyFau
 /// The table `days`, and the tables of `days_from`.
 #[tactic(auto, unfolding(crate::specs::Reading::schedule_at))]
 pub(crate) fn schedule_at(alloc: Global, document: &Table) -> Result<Schedule, PolicyFault>
-    ensures read { Gives (λ schedule. schedule) result (spec.schedule_at (table_view document.now)) }
+    ensures read { Gives (λ schedule. schedule) result
+        (spec.schedule_at (table_view document.now)) }
     ensures range { IfOk result IsSchedule }
 {
     let first = days_at(document)?;

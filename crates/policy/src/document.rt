@@ -24,13 +24,15 @@ pub(crate) fn document_of(alloc: Global, bytes: &[u8]) -> Result<Table, PolicyFa
 
 /// What a table has at a name.
 pub(crate) fn get<'a>(table: &'a Table, name: &str) -> Option<&'a Value>
-    ensures { option_map (λ value. view value.now) result ≡ get_member name.now (table_view table.now) }
+    ensures { option_map (λ value. view value.now) result
+        ≡ get_member name.now (table_view table.now) }
 {
     table.get(name)
 }
 
 fn or_missing(value: Option<&Value>, key: Key) -> Result<&Value, PolicyFault>
-    ensures { Gives (λ value. view value.now) result (spec.or_missing key (option_map (λ value. view value.now) value.entry)) }
+    ensures { Gives (λ value. view value.now) result
+        (spec.or_missing key (option_map (λ value. view value.now) value.entry)) }
 {
     match value {
         Some(value) => Ok(value),
@@ -70,7 +72,8 @@ pub(crate) fn whole_at(document: &Table, key: Key, low: u32, high: u32) -> Resul
 
 /// The values of the array that a value is.
 pub(crate) fn as_values(value: &Value, key: Key) -> Result<&[Value], PolicyFault>
-    ensures { Gives (λ values. map view values.now) result (spec.as_values key (as_array (view value.now))) }
+    ensures { Gives (λ values. map view values.now) result
+        (spec.as_values key (as_array (view value.now))) }
 {
     match value.as_array() {
         Some(values) => Ok(values.as_slice()),

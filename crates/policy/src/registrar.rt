@@ -73,7 +73,8 @@ fn column(alloc: Global, entries: &[Value], key: Key) -> Result<Vec<Text>, Polic
 /// The entries of the registrars.
 #[tactic(auto, unfolding(crate::specs::Reading::entries_at))]
 fn entries_at(document: &Table) -> Result<&[Value], PolicyFault>
-    ensures read { Gives (λ entries. map view entries.now) result (spec.entries_at (table_view document.now)) }
+    ensures read { Gives (λ entries. map view entries.now) result
+        (spec.entries_at (table_view document.now)) }
     ensures some { IfOk result (λ entries. 0 < length entries.now) }
 {
     let Some(value) = get(document, "registrar") else {
@@ -106,7 +107,8 @@ fn first_twice(ids: &[Text]) -> Option<&Text>
 
 /// Each id with the password at the same place.
 fn paired(alloc: Global, ids: Vec<Text>, passwords: Vec<Text>) -> Result<Vec<Registrar>, AllocError>
-    ensures { IfOk result (λ registrars. registrars.items ≡ map spec.registrar_of (zip ids.items passwords.items)) }
+    ensures { IfOk result (λ registrars. registrars.items
+        ≡ map spec.registrar_of (zip ids.items passwords.items)) }
 {
     let mut registrars = Vec::new(alloc);
     for (id, password) in ids.into_iter().zip(passwords) {
@@ -118,7 +120,8 @@ fn paired(alloc: Global, ids: Vec<Text>, passwords: Vec<Text>) -> Result<Vec<Reg
 /// The array `registrar`.
 #[tactic(auto, unfolding(crate::specs::Reading::registrars_at))]
 pub(crate) fn registrars_at(alloc: Global, document: &Table) -> Result<Seq<Registrar>, PolicyFault>
-    ensures read { Gives (λ registrars. registrars) result (spec.registrars_at (table_view document.now)) }
+    ensures read { Gives (λ registrars. registrars) result
+        (spec.registrars_at (table_view document.now)) }
     ensures count { IfOk result (λ registrars. IsRegistrarCount (length registrars)) }
     ensures distinct { IfOk result (λ registrars. IsDistinct bytes_eq (ids_of registrars)) }
 {

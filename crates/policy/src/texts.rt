@@ -62,7 +62,8 @@ fn fits(alloc: Global, key: Key, text: &str) -> Result<bool, AllocError>
 
 /// The text, if it may stand at the key.
 fn as_text(alloc: Global, text: Option<&str>, key: Key) -> Result<Text, PolicyFault>
-    ensures read { Gives (λ text. text) result (spec.as_text key (option_map (λ text. text.now) text.entry)) }
+    ensures read { Gives (λ text. text) result
+        (spec.as_text key (option_map (λ text. text.now) text.entry)) }
     ensures fits { IfOk result (λ text. spec.fits key text ≡ true) }
 {
     let Some(text) = text else {

@@ -25,7 +25,8 @@ pub fn answer<F: FaceSource>(
     head: &[u8],
     source: &mut F,
 ) -> Result<Vec<u8>, F::Fault>
-    ensures answer { IfOk result (λ bytes. (faces : Faces) → F.shows source.new faces → IsAnswer (F.rules source.old) faces head.now bytes.items) }
+    ensures answer { IfOk result (λ bytes. (faces : Faces) → F.shows source.new faces
+        → IsAnswer (F.rules source.old) faces head.now bytes.items) }
     ensures left { MayLeave F.leaves source.old source.new }
 {
     match read_head(head) {
@@ -43,7 +44,8 @@ fn answer_request<F: FaceSource>(
     request: Request,
     source: &mut F,
 ) -> Result<Vec<u8>, F::Fault>
-    ensures answer { IfOk result (λ bytes. (faces : Faces) → F.shows source.new faces → bytes.items ≡ answer_text (F.rules source.old) faces request) }
+    ensures answer { IfOk result (λ bytes. (faces : Faces) → F.shows source.new faces
+        → bytes.items ≡ answer_text (F.rules source.old) faces request) }
     ensures left { MayLeave F.leaves source.old source.new }
 {
     match request {
@@ -60,7 +62,9 @@ fn answer_domain<F: FaceSource>(
     name: &Text,
     source: &mut F,
 ) -> Result<Vec<u8>, F::Fault>
-    ensures answer { IfOk result (λ bytes. (faces : Faces) → F.shows source.new faces → bytes.items ≡ domain_answer (F.rules source.old) faces (domain_of (F.rules source.old).zone name.now)) }
+    ensures answer { IfOk result (λ bytes. (faces : Faces) → F.shows source.new faces
+        → bytes.items ≡ domain_answer (F.rules source.old) faces
+        (domain_of (F.rules source.old).zone name.now)) }
     ensures left { MayLeave F.leaves source.old source.new }
 {
     match DomainName::read(alloc, name.as_str(), source.policy().zone()) {
@@ -76,7 +80,10 @@ fn answer_domain<F: FaceSource>(
 
 /// The answer about a name that isn't one of the zone's.
 fn answer_fault(alloc: Global, fault: NameFault) -> Result<Vec<u8>, AllocError>
-    ensures { IfOk result (λ bytes. (fault ≡ NameFault.Syntax → bytes.items ≡ without_object Outcome.BadRequest) × (fault ≡ NameFault.Policy → bytes.items ≡ without_object Outcome.NotFound) × (¬ (fault ≡ NameFault.Memory))) }
+    ensures { IfOk result (λ bytes. (fault ≡ NameFault.Syntax
+        → bytes.items ≡ without_object Outcome.BadRequest)
+        × (fault ≡ NameFault.Policy → bytes.items ≡ without_object Outcome.NotFound)
+        × (¬ (fault ≡ NameFault.Memory))) }
 {
     match fault {
         NameFault::Syntax => answer_without_object(alloc, Outcome::BadRequest),
@@ -91,7 +98,8 @@ fn domain_told<F: FaceSource>(
     name: &DomainName,
     face: &Option<DomainFace>,
 ) -> Result<Vec<u8>, F::Fault>
-    ensures { IfOk result (λ bytes. bytes.items ≡ told (option_map (domain_text (F.rules source.now) name.now) face.now)) }
+    ensures { IfOk result (λ bytes. bytes.items
+        ≡ told (option_map (domain_text (F.rules source.now) name.now) face.now)) }
 {
     let Some(face) = face else {
         return Ok(answer_without_object(alloc, Outcome::NotFound)?);
@@ -105,7 +113,8 @@ fn answer_nameserver<F: FaceSource>(
     name: &Text,
     source: &mut F,
 ) -> Result<Vec<u8>, F::Fault>
-    ensures answer { IfOk result (λ bytes. (faces : Faces) → F.shows source.new faces → bytes.items ≡ nameserver_answer faces (host_of (F.rules source.old).zone name.now)) }
+    ensures answer { IfOk result (λ bytes. (faces : Faces) → F.shows source.new faces
+        → bytes.items ≡ nameserver_answer faces (host_of (F.rules source.old).zone name.now)) }
     ensures left { MayLeave F.leaves source.old source.new }
 {
     match HostName::read(alloc, name.as_str(), source.policy().zone()) {
@@ -124,7 +133,8 @@ fn nameserver_told(
     name: &HostName,
     face: &Option<HostFace>,
 ) -> Result<Vec<u8>, AllocError>
-    ensures { IfOk result (λ bytes. bytes.items ≡ told (option_map (nameserver_text name.now) face.now)) }
+    ensures { IfOk result (λ bytes. bytes.items
+        ≡ told (option_map (nameserver_text name.now) face.now)) }
 {
     let Some(face) = face else {
         return answer_without_object(alloc, Outcome::NotFound);
@@ -138,7 +148,8 @@ fn answer_contact<F: FaceSource>(
     name: &Text,
     source: &mut F,
 ) -> Result<Vec<u8>, F::Fault>
-    ensures answer { IfOk result (λ bytes. (faces : Faces) → F.shows source.new faces → bytes.items ≡ told (option_map contact_text (faces.contact name.now))) }
+    ensures answer { IfOk result (λ bytes. (faces : Faces) → F.shows source.new faces
+        → bytes.items ≡ told (option_map contact_text (faces.contact name.now))) }
     ensures left { MayLeave F.leaves source.old source.new }
 {
     let face = source.contact(name)?;

@@ -52,7 +52,8 @@ pub(crate) fn roid_value(alloc: Global, roid: Roid) -> Result<Value, AllocError>
 
 /// The events of an object (RFC 9083, 4.5), where they have a date.
 pub(crate) fn events_value(alloc: Global, dates: &Dates) -> Result<Value, AllocError>
-    ensures { IfOk result (λ v. view v ≡ spec.events_value dates.now.created dates.now.expires dates.now.updated dates.now.transferred) }
+    ensures { IfOk result (λ v. view v ≡ spec.events_value dates.now.created dates.now.expires
+        dates.now.updated dates.now.transferred) }
 {
     let mut events = Vec::new(alloc);
     add_event(alloc, "registration", Some(dates.created), &mut events)?;
@@ -68,7 +69,8 @@ fn add_event(
     date: Option<Moment>,
     events: &mut Vec<Value>,
 ) -> Result<(), AllocError>
-    ensures { OnOk result (map view events.new.items ≡ map view events.old.items ++ spec.dated action.now date) }
+    ensures { OnOk result (map view events.new.items ≡ map view events.old.items
+        ++ spec.dated action.now date) }
 {
     let Some(date) = date else {
         return Ok(());

@@ -115,7 +115,8 @@ fn entities_value(
     sponsor: RegistrarNo,
     links: &Links,
 ) -> Result<Value, AllocError>
-    ensures { IfOk result (λ v. view v ≡ array (items_of (spec.entities (id_at policy.now sponsor) links.now))) }
+    ensures { IfOk result (λ v. view v
+        ≡ array (items_of (spec.entities (id_at policy.now sponsor) links.now))) }
 {
     let contacts = contacts_of(alloc, links)?;
     let mut entities = contact_entities(alloc, links, contacts.as_slice())?;
@@ -130,7 +131,8 @@ fn contact_entities(
     links: &Links,
     contacts: &[Text],
 ) -> Result<Vec<Value>, AllocError>
-    ensures { IfOk result (λ list. map view list.items ≡ map (spec.contact_entity links.now) contacts.now) }
+    ensures { IfOk result (λ list. map view list.items ≡ map (spec.contact_entity links.now)
+        contacts.now) }
 {
     let mut list = Vec::new(alloc);
     for contact in contacts {
@@ -150,7 +152,8 @@ fn contacts_of(alloc: Global, links: &Links) -> Result<Seq<Text>, AllocError>
 }
 
 fn named_contacts(alloc: Global, links: &Links) -> Result<Vec<Text>, AllocError>
-    ensures { IfOk result (λ names. names.items ≡ (links.now.registrant ∷ links.now.admin) ++ links.now.tech) }
+    ensures { IfOk result (λ names. names.items ≡ (links.now.registrant ∷ links.now.admin)
+        ++ links.now.tech) }
 {
     let mut names = Vec::new(alloc);
     names.push(links.registrant.clone()?)?;

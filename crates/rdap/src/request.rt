@@ -82,7 +82,8 @@ fn is_plain(path: &[u8]) -> bool
 
 /// The path as a text, if no byte of it is an escape or past ASCII.
 fn plain_path(path: &[u8]) -> Option<&str>
-    ensures { MatchOption result (spec.is_plain path.now ≡ false) (λ text. (spec.is_plain path.now ≡ true) × (text.now ≡ path.now)) }
+    ensures { MatchOption result (spec.is_plain path.now ≡ false) (λ text. (spec.is_plain path.now
+        ≡ true) × (text.now ≡ path.now)) }
 {
     if !is_plain(path) {
         return None;

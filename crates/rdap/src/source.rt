@@ -28,18 +28,21 @@ pub trait FaceSource {
         ensures { result.now ≡ rules self.now };
 
     fn domain(&mut self, name: &DomainName) -> Result<Option<DomainFace>, Self::Fault>
-        ensures found { IfOk result (λ face. (faces : Faces) → shows self.new faces → face ≡ faces.domain name.now) }
+        ensures found { IfOk result (λ face. (faces : Faces) → shows self.new faces
+            → face ≡ faces.domain name.now) }
         ensures policy { rules self.new ≡ rules self.old }
         ensures left { leaves self.old self.new };
 
     fn host(&mut self, name: &HostName) -> Result<Option<HostFace>, Self::Fault>
-        ensures found { IfOk result (λ face. (faces : Faces) → shows self.new faces → face ≡ faces.host name.now) }
+        ensures found { IfOk result (λ face. (faces : Faces) → shows self.new faces
+            → face ≡ faces.host name.now) }
         ensures policy { rules self.new ≡ rules self.old }
         ensures left { leaves self.old self.new };
 
     /// The statuses are those that are shown, `linked` among them.
     fn contact(&mut self, name: &Text) -> Result<Option<ContactFace>, Self::Fault>
-        ensures found { IfOk result (λ face. (faces : Faces) → shows self.new faces → face ≡ faces.contact name.now) }
+        ensures found { IfOk result (λ face. (faces : Faces) → shows self.new faces
+            → face ≡ faces.contact name.now) }
         ensures policy { rules self.new ≡ rules self.old }
         ensures left { leaves self.old self.new };
 }

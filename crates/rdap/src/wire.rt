@@ -75,7 +75,8 @@ fn head(alloc: Global, outcome: Outcome, length: usize) -> Result<String, AllocE
 
 /// The answer to a request that finds no object.
 pub fn answer_without_object(alloc: Global, outcome: Outcome) -> Result<Vec<u8>, AllocError>
-    ensures { IfOk result (λ text. text.items ≡ spec.response outcome (spec.fixed_body_of outcome)) }
+    ensures { IfOk result (λ text. text.items
+        ≡ spec.response outcome (spec.fixed_body_of outcome)) }
 {
     response(alloc, outcome, outcome.fixed_body())
 }

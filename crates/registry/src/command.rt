@@ -52,7 +52,8 @@ fn execute_in<B: Book>(
     policy: &Policy,
 ) -> Result<Reply, Fault>
     requires { (B.state book.old).is_open ≡ true }
-    ensures step { IfOk result (λ reply. Steps policy.now caller command.now moment reply (B.state book.old) (B.state book.new)) }
+    ensures step { IfOk result (λ reply. Steps policy.now caller command.now moment reply
+        (B.state book.old) (B.state book.new)) }
     ensures terms { OnOk result (SameTerms (B.state book.old) (B.state book.new)) }
     ensures within { OnOk result (IsWithin (B.state book.old) (B.state book.new)) }
     ensures fault { IfErr result (λ fault. GoesBack fault (B.state book.old) (B.state book.new)) }
@@ -81,7 +82,9 @@ fn prepare<B: Book>(
     policy: &Policy,
 ) -> Result<Prepared, Fault>
     requires { (B.state book.old).is_open ≡ true }
-    ensures prepared { IfOk result (λ prepared. (B.state book.new).is_clean ≡ true → IsPrepared policy.now caller command.now now (facts policy.now caller command.now (B.state book.old).content.registry) prepared) }
+    ensures prepared { IfOk result (λ prepared. (B.state book.new).is_clean ≡ true
+        → IsPrepared policy.now caller command.now now (facts policy.now caller command.now
+        (B.state book.old).content.registry) prepared) }
     ensures same { OnOk result (IsSame (B.state book.old) (B.state book.new)) }
     ensures fault { IfErr result (λ fault. GoesBack fault (B.state book.old) (B.state book.new)) }
     ensures follows { Follows (B.state book.old) (B.state book.new) }
@@ -102,7 +105,8 @@ fn prepared_by(
     now: Moment,
     policy: &Policy,
 ) -> Result<Prepared, AllocError>
-    ensures { IfOk result (λ prepared. IsPrepared policy.now caller command.now now facts.now prepared) }
+    ensures { IfOk result (λ prepared. IsPrepared policy.now caller command.now now facts.now
+        prepared) }
 {
     let decision = decide(alloc, facts, caller, command, now, policy)?;
     Ok(Prepared {
@@ -115,7 +119,8 @@ fn prepared_by(
 fn make_prepared<B: Book>(book: &mut B, prepared: Prepared, policy: &Policy) -> Result<Reply, Fault>
     requires { (B.state book.old).is_open ≡ true }
     ensures reply { IfOk result (λ reply. reply ≡ prepared.reply) }
-    ensures made { OnOk result (Moves (B.state book.old) (B.state book.new) (with_changes policy.now prepared.changes (B.state book.old).content)) }
+    ensures made { OnOk result (Moves (B.state book.old) (B.state book.new)
+        (with_changes policy.now prepared.changes (B.state book.old).content)) }
     ensures fault { IfErr result (λ fault. GoesBack fault (B.state book.old) (B.state book.new)) }
     ensures follows { Follows (B.state book.old) (B.state book.new) }
     ensures leaves { LeavesSame (B.state book.old) (B.state book.new) }
@@ -139,7 +144,8 @@ fn reply_to(
     verdict: Verdict,
     facts: &Facts,
 ) -> Result<Reply, AllocError>
-    ensures { IfOk result (λ reply. reply ≡ reply_of policy.now caller command.now verdict facts.now.account.commands) }
+    ensures { IfOk result (λ reply. reply ≡ reply_of policy.now caller command.now verdict
+        facts.now.account.commands) }
 {
     let (cl_trid, sv_trid) = match identifiers(alloc, policy, caller, command, facts) {
         Ok(identifiers) => identifiers,
@@ -165,7 +171,11 @@ fn identifiers(
     facts: &Facts,
 ) -> Result<(Option<Text>, SvTrid), AllocError>
     ensures cl_trid { IfOk result (λ it. it.0 ≡ cl_trid_of command.now) }
-    ensures sv_trid { IfOk result (λ it. it.1 ≡ record { id = id_of policy.now caller; number = saturating_next facts.now.account.commands }) }
+    ensures sv_trid { IfOk result (λ it. it.1
+        ≡ record {
+          id = id_of policy.now caller;
+          number = saturating_next facts.now.account.commands;
+        }) }
 {
     let cl_trid = copied(command.cl_trid())?;
     let sv_trid = SvTrid {

@@ -41,17 +41,21 @@ pub(crate) trait LookUp {
         policy: &Policy,
     ) -> Result<(), Fault>
         requires { (B.state book.old).is_open ≡ true }
-        ensures reached { OnOk result (Reaches policy.now (finds self.now policy.now) moment (B.state book.old) (B.state book.new)) }
-        ensures fault { IfErr result (λ fault. GoesBack fault (B.state book.old) (B.state book.new)) }
+        ensures reached { OnOk result (Reaches policy.now (finds self.now policy.now) moment
+            (B.state book.old) (B.state book.new)) }
+        ensures fault { IfErr result (λ fault. GoesBack fault (B.state book.old)
+            (B.state book.new)) }
         ensures follows { Follows (B.state book.old) (B.state book.new) }
         ensures leaves { LeavesSame (B.state book.old) (B.state book.new) };
 
     /// Looks it up in an open transaction.
     fn look<B: Book>(&self, book: &mut B, policy: &Policy) -> Result<Self::Found, Fault>
         requires { (B.state book.old).is_open ≡ true }
-        ensures found { IfOk result (λ found. (B.state book.new).is_clean ≡ true → found ≡ finds self.now policy.now (B.state book.old).content.registry) }
+        ensures found { IfOk result (λ found. (B.state book.new).is_clean ≡ true
+            → found ≡ finds self.now policy.now (B.state book.old).content.registry) }
         ensures same { OnOk result (IsSame (B.state book.old) (B.state book.new)) }
-        ensures fault { IfErr result (λ fault. GoesBack fault (B.state book.old) (B.state book.new)) }
+        ensures fault { IfErr result (λ fault. GoesBack fault (B.state book.old)
+            (B.state book.new)) }
         ensures follows { Follows (B.state book.old) (B.state book.new) }
         ensures leaves { LeavesSame (B.state book.old) (B.state book.new) };
 }

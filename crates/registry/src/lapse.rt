@@ -24,7 +24,8 @@ use store::{Book, Due};
 /// What is due by a moment, in an open transaction.
 pub(crate) fn due<B: Book>(book: &mut B, moment: Moment, policy: &Policy) -> Result<Seq<Due>, Fault>
     requires { (B.state book.old).is_open ≡ true }
-    ensures found { IfOk result (λ due. (B.state book.new).is_clean ≡ true → due ≡ due_by policy.now moment (B.state book.old).content.registry) }
+    ensures found { IfOk result (λ due. (B.state book.new).is_clean ≡ true
+        → due ≡ due_by policy.now moment (B.state book.old).content.registry) }
     ensures same { OnOk result (IsSame (B.state book.old) (B.state book.new)) }
     ensures fault { IfErr result (λ fault. GoesBack fault (B.state book.old) (B.state book.new)) }
     ensures follows { Follows (B.state book.old) (B.state book.new) }
@@ -42,7 +43,9 @@ pub(crate) fn due_for<B: Book>(
     policy: &Policy,
 ) -> Result<Seq<Due>, Fault>
     requires { (B.state book.old).is_open ≡ true }
-    ensures found { IfOk result (λ due. (B.state book.new).is_clean ≡ true → due ≡ due_for policy.now (Some caller) (named_by command.now) moment (B.state book.old).content.registry) }
+    ensures found { IfOk result (λ due. (B.state book.new).is_clean ≡ true
+        → due ≡ due_for policy.now (Some caller) (named_by command.now) moment
+        (B.state book.old).content.registry) }
     ensures same { OnOk result (IsSame (B.state book.old) (B.state book.new)) }
     ensures fault { IfErr result (λ fault. GoesBack fault (B.state book.old) (B.state book.new)) }
     ensures follows { Follows (B.state book.old) (B.state book.new) }
@@ -60,7 +63,9 @@ pub(crate) fn due_at<B: Book>(
     policy: &Policy,
 ) -> Result<Seq<Due>, Fault>
     requires { (B.state book.old).is_open ≡ true }
-    ensures found { IfOk result (λ due. (B.state book.new).is_clean ≡ true → due ≡ due_for policy.now None (named_of kind name.now) moment (B.state book.old).content.registry) }
+    ensures found { IfOk result (λ due. (B.state book.new).is_clean ≡ true
+        → due ≡ due_for policy.now None (named_of kind name.now) moment
+        (B.state book.old).content.registry) }
     ensures same { OnOk result (IsSame (B.state book.old) (B.state book.new)) }
     ensures fault { IfErr result (λ fault. GoesBack fault (B.state book.old) (B.state book.new)) }
     ensures follows { Follows (B.state book.old) (B.state book.new) }
@@ -77,7 +82,8 @@ pub(crate) fn lapse_all<B: Book>(
     policy: &Policy,
 ) -> Result<(), Fault>
     requires { (B.state book.old).is_open ≡ true }
-    ensures ok { OnOk result (Moves (B.state book.old) (B.state book.new) (spec.with_lapsed policy.now moment (B.state book.old).content)) }
+    ensures ok { OnOk result (Moves (B.state book.old) (B.state book.new)
+        (spec.with_lapsed policy.now moment (B.state book.old).content)) }
     ensures fault { IfErr result (λ fault. GoesBack fault (B.state book.old) (B.state book.new)) }
     ensures follows { Follows (B.state book.old) (B.state book.new) }
     ensures leaves { LeavesSame (B.state book.old) (B.state book.new) }
@@ -95,7 +101,8 @@ pub(crate) fn lapse_each<B: Book>(
     policy: &Policy,
 ) -> Result<(), Fault>
     requires { (B.state book.old).is_open ≡ true }
-    ensures ok { OnOk result (Moves (B.state book.old) (B.state book.new) (spec.with_dues_lapsed policy.now moment due (B.state book.old).content)) }
+    ensures ok { OnOk result (Moves (B.state book.old) (B.state book.new)
+        (spec.with_dues_lapsed policy.now moment due (B.state book.old).content)) }
     ensures fault { IfErr result (λ fault. GoesBack fault (B.state book.old) (B.state book.new)) }
     ensures follows { Follows (B.state book.old) (B.state book.new) }
     ensures leaves { LeavesSame (B.state book.old) (B.state book.new) }
@@ -115,7 +122,10 @@ fn lapse_one<B: Book>(
     policy: &Policy,
 ) -> Result<(), Fault>
     requires { (B.state book.old).is_open ≡ true }
-    ensures ok { OnOk result (Moves (B.state book.old) (B.state book.new) (with_changes policy.now (lapse_changes policy.now moment due.now.name (object_at (B.state book.old).content.registry due.now.kind due.now.name)) (B.state book.old).content)) }
+    ensures ok { OnOk result (Moves (B.state book.old) (B.state book.new)
+        (with_changes policy.now (lapse_changes policy.now moment due.now.name
+        (object_at (B.state book.old).content.registry due.now.kind due.now.name))
+        (B.state book.old).content)) }
     ensures fault { IfErr result (λ fault. GoesBack fault (B.state book.old) (B.state book.new)) }
     ensures follows { Follows (B.state book.old) (B.state book.new) }
     ensures leaves { LeavesSame (B.state book.old) (B.state book.new) }
@@ -133,7 +143,9 @@ fn changes_of<B: Book>(
     policy: &Policy,
 ) -> Result<Seq<Change>, Fault>
     requires { (B.state book.old).is_open ≡ true }
-    ensures found { IfOk result (λ changes. (B.state book.new).is_clean ≡ true → changes ≡ lapse_changes policy.now moment due.now.name (object_at (B.state book.old).content.registry due.now.kind due.now.name)) }
+    ensures found { IfOk result (λ changes. (B.state book.new).is_clean ≡ true
+        → changes ≡ lapse_changes policy.now moment due.now.name
+        (object_at (B.state book.old).content.registry due.now.kind due.now.name)) }
     ensures same { OnOk result (IsSame (B.state book.old) (B.state book.new)) }
     ensures fault { IfErr result (λ fault. GoesBack fault (B.state book.old) (B.state book.new)) }
     ensures follows { Follows (B.state book.old) (B.state book.new) }

@@ -28,8 +28,10 @@ pub(crate) fn open_in<B: Book>(
     requires { (B.state book.old).is_open ≡ false }
     ensures opened { OnOk result (Opens policy.now (B.state book.old) (B.state book.new)) }
     ensures ours { OnOk result (IsOurs (B.state book.old) (B.state book.new)) }
-    ensures refused { IfErr result (λ fault. Refuses fault policy.now (B.state book.old) (B.state book.new)) }
-    ensures refused_ours { IfErr result (λ fault. RefusesOurs fault (B.state book.old) (B.state book.new)) }
+    ensures refused { IfErr result (λ fault. Refuses fault policy.now (B.state book.old)
+        (B.state book.new)) }
+    ensures refused_ours { IfErr result (λ fault. RefusesOurs fault (B.state book.old)
+        (B.state book.new)) }
     ensures crash { OutlivesOpening result policy.now (B.state book.old) (B.state book.new) }
     ensures follows { Follows (B.state book.old) (B.state book.new) }
 {
@@ -46,7 +48,8 @@ pub(crate) fn open_in<B: Book>(
 fn open_ours<B: Book>(book: &mut B, alloc: Global, policy: &Policy) -> Result<(), OpenFault>
     requires { (B.state book.old).is_open ≡ false }
     ensures opened { OnOk result (Opens policy.now (B.state book.old) (B.state book.new)) }
-    ensures refused { IfErr result (λ fault. Refuses fault policy.now (B.state book.old) (B.state book.new)) }
+    ensures refused { IfErr result (λ fault. Refuses fault policy.now (B.state book.old)
+        (B.state book.new)) }
     ensures known { IfErr result (λ fault. fault ≢ refusals.Schema) }
     ensures crash { OutlivesOpening result policy.now (B.state book.old) (B.state book.new) }
     ensures follows { Follows (B.state book.old) (B.state book.new) }
@@ -73,7 +76,8 @@ fn open_ours<B: Book>(book: &mut B, alloc: Global, policy: &Policy) -> Result<()
 /// was used under.
 fn take_up<B: Book>(book: &mut B, alloc: Global, policy: &Policy) -> Result<bool, Fault>
     requires { (B.state book.old).is_open ≡ true }
-    ensures taken { IfOk result (λ taken. TakesUp taken policy.now (B.state book.old) (B.state book.new)) }
+    ensures taken { IfOk result (λ taken. TakesUp taken policy.now (B.state book.old)
+        (B.state book.new)) }
     ensures fault { IfErr result (λ fault. GoesBack fault (B.state book.old) (B.state book.new)) }
     ensures follows { Follows (B.state book.old) (B.state book.new) }
     ensures leaves { LeavesSame (B.state book.old) (B.state book.new) }
@@ -90,8 +94,10 @@ fn take_up_at<B: Book>(
     clock: Moment,
 ) -> Result<bool, Fault>
     requires open { (B.state book.old).is_open ≡ true }
-    requires clock { (B.state book.old).is_clean ≡ true → clock ≡ (B.state book.old).content.registry.clock }
-    ensures taken { IfOk result (λ taken. TakesUp taken policy.now (B.state book.old) (B.state book.new)) }
+    requires clock { (B.state book.old).is_clean ≡ true
+        → clock ≡ (B.state book.old).content.registry.clock }
+    ensures taken { IfOk result (λ taken. TakesUp taken policy.now (B.state book.old)
+        (B.state book.new)) }
     ensures fault { IfErr result (λ fault. GoesBack fault (B.state book.old) (B.state book.new)) }
     ensures follows { Follows (B.state book.old) (B.state book.new) }
     ensures leaves { LeavesSame (B.state book.old) (B.state book.new) }
@@ -123,7 +129,8 @@ fn continues_earlier(terms: &Terms, earlier: &Option<Terms>, clock: Moment) -> b
 fn install<B: Book>(book: &mut B, alloc: Global, policy: &Policy, own: Terms) -> Result<(), Fault>
     requires open { (B.state book.old).is_open ≡ true }
     requires own { own ≡ terms_of policy.now }
-    ensures opened { OnOk result (Moves (B.state book.old) (B.state book.new) (spec.opened policy.now (B.state book.old).content)) }
+    ensures opened { OnOk result (Moves (B.state book.old) (B.state book.new)
+        (spec.opened policy.now (B.state book.old).content)) }
     ensures fault { IfErr result (λ fault. GoesBack fault (B.state book.old) (B.state book.new)) }
     ensures follows { Follows (B.state book.old) (B.state book.new) }
     ensures leaves { LeavesSame (B.state book.old) (B.state book.new) }

@@ -47,7 +47,8 @@ fn execute_order_in<B: Book>(
     policy: &Policy,
 ) -> Result<Code, Fault>
     requires { (B.state book.old).is_open ≡ true }
-    ensures step { IfOk result (λ code. OrderSteps policy.now order.now moment code (B.state book.old) (B.state book.new)) }
+    ensures step { IfOk result (λ code. OrderSteps policy.now order.now moment code
+        (B.state book.old) (B.state book.new)) }
     ensures terms { OnOk result (SameTerms (B.state book.old) (B.state book.new)) }
     ensures within { OnOk result (IsWithin (B.state book.old) (B.state book.new)) }
     ensures fault { IfErr result (λ fault. GoesBack fault (B.state book.old) (B.state book.new)) }
@@ -71,7 +72,8 @@ fn set_statuses_at<B: Book>(
     policy: &Policy,
 ) -> Result<Code, Fault>
     requires { (B.state book.old).is_open ≡ true }
-    ensures step { IfOk result (λ code. OrderSteps policy.now (orders.Status order.now) moment code (B.state book.old) (B.state book.new)) }
+    ensures step { IfOk result (λ code. OrderSteps policy.now (orders.Status order.now) moment code
+        (B.state book.old) (B.state book.new)) }
     ensures terms { OnOk result (SameTerms (B.state book.old) (B.state book.new)) }
     ensures within { OnOk result (IsWithin (B.state book.old) (B.state book.new)) }
     ensures fault { IfErr result (λ fault. GoesBack fault (B.state book.old) (B.state book.new)) }
@@ -93,7 +95,8 @@ fn deposit_at<B: Book>(
     policy: &Policy,
 ) -> Result<Code, Fault>
     requires { (B.state book.old).is_open ≡ true }
-    ensures step { IfOk result (λ code. OrderSteps policy.now (orders.Deposit registrar.now cents) moment code (B.state book.old) (B.state book.new)) }
+    ensures step { IfOk result (λ code. OrderSteps policy.now (orders.Deposit registrar.now cents)
+        moment code (B.state book.old) (B.state book.new)) }
     ensures terms { OnOk result (SameTerms (B.state book.old) (B.state book.new)) }
     ensures within { OnOk result (IsWithin (B.state book.old) (B.state book.new)) }
     ensures fault { IfErr result (λ fault. GoesBack fault (B.state book.old) (B.state book.new)) }
@@ -113,8 +116,12 @@ fn set_statuses<B: Book>(
     policy: &Policy,
 ) -> Result<Code, Fault>
     requires { (B.state book.old).is_open ≡ true }
-    ensures code { IfOk result (λ code. (B.state book.new).is_clean ≡ true → code ≡ (status_at order.now name.now (B.state book.old).content.registry).code) }
-    ensures made { OnOk result (Moves (B.state book.old) (B.state book.new) (with_changes policy.now (status_at order.now name.now (B.state book.old).content.registry).changes (B.state book.old).content)) }
+    ensures code { IfOk result (λ code. (B.state book.new).is_clean ≡ true
+        → code ≡ (status_at order.now name.now (B.state book.old).content.registry).code) }
+    ensures made { OnOk result (Moves (B.state book.old) (B.state book.new)
+        (with_changes policy.now
+        (status_at order.now name.now (B.state book.old).content.registry).changes
+        (B.state book.old).content)) }
     ensures fault { IfErr result (λ fault. GoesBack fault (B.state book.old) (B.state book.new)) }
     ensures follows { Follows (B.state book.old) (B.state book.new) }
     ensures leaves { LeavesSame (B.state book.old) (B.state book.new) }
@@ -135,8 +142,11 @@ fn deposit<B: Book>(
     policy: &Policy,
 ) -> Result<Code, Fault>
     requires { (B.state book.old).is_open ≡ true }
-    ensures code { IfOk result (λ code. code ≡ (deposit_decision policy.now now registrar.now cents).code) }
-    ensures made { OnOk result (Moves (B.state book.old) (B.state book.new) (with_changes policy.now (deposit_decision policy.now now registrar.now cents).changes (B.state book.old).content)) }
+    ensures code { IfOk result (λ code. code
+        ≡ (deposit_decision policy.now now registrar.now cents).code) }
+    ensures made { OnOk result (Moves (B.state book.old) (B.state book.new)
+        (with_changes policy.now (deposit_decision policy.now now registrar.now cents).changes
+        (B.state book.old).content)) }
     ensures fault { IfErr result (λ fault. GoesBack fault (B.state book.old) (B.state book.new)) }
     ensures follows { Follows (B.state book.old) (B.state book.new) }
     ensures leaves { LeavesSame (B.state book.old) (B.state book.new) }
@@ -154,7 +164,8 @@ fn object_named<B: Book>(
     name: &Option<Text>,
 ) -> Result<Option<Object>, Fault>
     requires { (B.state book.old).is_open ≡ true }
-    ensures found { IfOk result (λ object. (B.state book.new).is_clean ≡ true → object ≡ option_and_then (object_at (B.state book.old).content.registry kind) name.now) }
+    ensures found { IfOk result (λ object. (B.state book.new).is_clean ≡ true
+        → object ≡ option_and_then (object_at (B.state book.old).content.registry kind) name.now) }
     ensures same { OnOk result (IsSame (B.state book.old) (B.state book.new)) }
     ensures fault { IfErr result (λ fault. GoesBack fault (B.state book.old) (B.state book.new)) }
     ensures follows { Follows (B.state book.old) (B.state book.new) }

@@ -28,8 +28,10 @@ pub(crate) fn pass_for<B: Book>(
     policy: &Policy,
 ) -> Result<Moment, Fault>
     requires { (B.state book.old).is_open ≡ true }
-    ensures moved { OnOk result (Passes policy.now (Some caller) (named_by command.now) moment (B.state book.old) (B.state book.new)) }
-    ensures clock { IfOk result (λ clock. (B.state book.new).is_clean ≡ true → clock ≡ max moment (B.state book.old).content.registry.clock) }
+    ensures moved { OnOk result (Passes policy.now (Some caller) (named_by command.now) moment
+        (B.state book.old) (B.state book.new)) }
+    ensures clock { IfOk result (λ clock. (B.state book.new).is_clean ≡ true
+        → clock ≡ max moment (B.state book.old).content.registry.clock) }
     ensures fault { IfErr result (λ fault. GoesBack fault (B.state book.old) (B.state book.new)) }
     ensures follows { Follows (B.state book.old) (B.state book.new) }
     ensures leaves { LeavesSame (B.state book.old) (B.state book.new) }
@@ -50,8 +52,10 @@ pub(crate) fn pass_at<B: Book>(
     policy: &Policy,
 ) -> Result<Moment, Fault>
     requires { (B.state book.old).is_open ≡ true }
-    ensures moved { OnOk result (Passes policy.now None (names_at kind name.now) moment (B.state book.old) (B.state book.new)) }
-    ensures clock { IfOk result (λ clock. (B.state book.new).is_clean ≡ true → clock ≡ max moment (B.state book.old).content.registry.clock) }
+    ensures moved { OnOk result (Passes policy.now None (names_at kind name.now) moment
+        (B.state book.old) (B.state book.new)) }
+    ensures clock { IfOk result (λ clock. (B.state book.new).is_clean ≡ true
+        → clock ≡ max moment (B.state book.old).content.registry.clock) }
     ensures fault { IfErr result (λ fault. GoesBack fault (B.state book.old) (B.state book.new)) }
     ensures follows { Follows (B.state book.old) (B.state book.new) }
     ensures leaves { LeavesSame (B.state book.old) (B.state book.new) }
@@ -70,8 +74,10 @@ pub(crate) fn pass_alone<B: Book>(
     policy: &Policy,
 ) -> Result<Moment, Fault>
     requires { (B.state book.old).is_open ≡ true }
-    ensures moved { OnOk result (Passes policy.now None no_names moment (B.state book.old) (B.state book.new)) }
-    ensures clock { IfOk result (λ clock. (B.state book.new).is_clean ≡ true → clock ≡ max moment (B.state book.old).content.registry.clock) }
+    ensures moved { OnOk result (Passes policy.now None no_names moment (B.state book.old)
+        (B.state book.new)) }
+    ensures clock { IfOk result (λ clock. (B.state book.new).is_clean ≡ true
+        → clock ≡ max moment (B.state book.old).content.registry.clock) }
     ensures fault { IfErr result (λ fault. GoesBack fault (B.state book.old) (B.state book.new)) }
     ensures follows { Follows (B.state book.old) (B.state book.new) }
     ensures leaves { LeavesSame (B.state book.old) (B.state book.new) }
@@ -89,8 +95,10 @@ pub(crate) fn pass_with<B: Book>(
     policy: &Policy,
 ) -> Result<Moment, Fault>
     requires { (B.state book.old).is_open ≡ true }
-    ensures moved { OnOk result (Passes policy.now None (names_at kind (Some name.now)) moment (B.state book.old) (B.state book.new)) }
-    ensures clock { IfOk result (λ clock. (B.state book.new).is_clean ≡ true → clock ≡ max moment (B.state book.old).content.registry.clock) }
+    ensures moved { OnOk result (Passes policy.now None (names_at kind (Some name.now)) moment
+        (B.state book.old) (B.state book.new)) }
+    ensures clock { IfOk result (λ clock. (B.state book.new).is_clean ≡ true
+        → clock ≡ max moment (B.state book.old).content.registry.clock) }
     ensures fault { IfErr result (λ fault. GoesBack fault (B.state book.old) (B.state book.new)) }
     ensures follows { Follows (B.state book.old) (B.state book.new) }
     ensures leaves { LeavesSame (B.state book.old) (B.state book.new) }

@@ -66,12 +66,14 @@ impl<B: Book + Drop> Registry<B> {
     /// formed registry.
     pub fn open(alloc: Global, book: B, policy: Policy) -> Result<Registry<B>, (OpenFault, B)>
         requires { (B.state book).is_open ≡ false }
-        ensures opened { IfOk result (λ registry. IsOpenedAs policy registry.policy (B.state book) (B.state registry.book)) }
+        ensures opened { IfOk result (λ registry. IsOpenedAs policy registry.policy (B.state book)
+            (B.state registry.book)) }
         ensures lengths { IfOk result (λ registry. (B.state registry.book).is_clean ≡ true
             → KeepsLengths policy (B.state book).content) }
         ensures same { IfOk result (λ registry. (B.state registry.book).is_clean ≡ true
             → OpensAsItWas policy (B.state book).content (B.state registry.book).content) }
-        ensures refused { IfErr result (λ refusal. IsRefused refusal.0 policy (B.state book) (B.state refusal.1)) }
+        ensures refused { IfErr result (λ refusal. IsRefused refusal.0 policy (B.state book)
+            (B.state refusal.1)) }
     {
         let mut book = book;
         policy.is_sound();
@@ -111,9 +113,12 @@ impl<B: Book + Drop> Registry<B> {
         moment: Moment,
     ) -> Result<Reply, Fault>
         requires { IsRegistrar self.old.policy caller }
-        ensures step { IfOk result (λ reply. Steps self.old.policy caller command.now moment reply (B.state self.old.book) (B.state self.new.book)) }
-        ensures isolation { IfOk result (λ reply. Isolates self.old.policy caller command.now moment reply (B.state self.old.book) (B.state self.new.book)) }
-        ensures fault { IfErr result (λ fault. Fails fault (B.state self.old.book) (B.state self.new.book)) }
+        ensures step { IfOk result (λ reply. Steps self.old.policy caller command.now moment reply
+            (B.state self.old.book) (B.state self.new.book)) }
+        ensures isolation { IfOk result (λ reply. Isolates self.old.policy caller command.now moment
+            reply (B.state self.old.book) (B.state self.new.book)) }
+        ensures fault { IfErr result (λ fault. Fails fault (B.state self.old.book)
+            (B.state self.new.book)) }
         ensures keeps { CallKeeps self.old.policy moment (two_runs.command caller command.now) two_runs.reply
             (Makes (IsStep self.old.policy caller command.now moment)) result
             self.new.policy (B.state self.old.book) (B.state self.new.book) }
@@ -137,8 +142,10 @@ impl<B: Book + Drop> Registry<B> {
     /// A well formed registry stays well formed.
     #[tactic(auto, using(crate::proofs::CallsKept::kept_late))]
     pub fn operator(&mut self, order: &Order, moment: Moment) -> Result<Code, Fault>
-        ensures step { IfOk result (λ code. OrderSteps self.old.policy order.now moment code (B.state self.old.book) (B.state self.new.book)) }
-        ensures fault { IfErr result (λ fault. Fails fault (B.state self.old.book) (B.state self.new.book)) }
+        ensures step { IfOk result (λ code. OrderSteps self.old.policy order.now moment code
+            (B.state self.old.book) (B.state self.new.book)) }
+        ensures fault { IfErr result (λ fault. Fails fault (B.state self.old.book)
+            (B.state self.new.book)) }
         ensures keeps { CallKeeps self.old.policy moment (two_runs.order order.now) two_runs.code
             (Makes (IsOrderStep self.old.policy order.now moment)) result
             self.new.policy (B.state self.old.book) (B.state self.new.book) }
@@ -155,8 +162,10 @@ impl<B: Book + Drop> Registry<B> {
     /// stays well formed.
     #[tactic(auto, using(crate::proofs::CallsKept::kept_late))]
     pub fn greet(&mut self, moment: Moment) -> Result<Moment, Fault>
-        ensures step { IfOk result (λ date. Greets self.old.policy moment date (B.state self.old.book) (B.state self.new.book)) }
-        ensures fault { IfErr result (λ fault. Fails fault (B.state self.old.book) (B.state self.new.book)) }
+        ensures step { IfOk result (λ date. Greets self.old.policy moment date
+            (B.state self.old.book) (B.state self.new.book)) }
+        ensures fault { IfErr result (λ fault. Fails fault (B.state self.old.book)
+            (B.state self.new.book)) }
         ensures keeps { CallKeeps self.old.policy moment two_runs.date two_runs.dated
             (Makes (IsGreetingStep self.old.policy moment)) result
             self.new.policy (B.state self.old.book) (B.state self.new.book) }
@@ -173,8 +182,10 @@ impl<B: Book + Drop> Registry<B> {
     /// call can tell whether it was done, but this one. A well formed registry stays well formed.
     #[tactic(auto, using(crate::proofs::CallsKept::kept_late))]
     pub fn settle(&mut self, moment: Moment, at_most: u32) -> Result<u32, Fault>
-        ensures step { IfOk result (λ done. Settles self.old.policy moment at_most done (B.state self.old.book) (B.state self.new.book)) }
-        ensures fault { IfErr result (λ fault. Fails fault (B.state self.old.book) (B.state self.new.book)) }
+        ensures step { IfOk result (λ done. Settles self.old.policy moment at_most done
+            (B.state self.old.book) (B.state self.new.book)) }
+        ensures fault { IfErr result (λ fault. Fails fault (B.state self.old.book)
+            (B.state self.new.book)) }
         ensures keeps { LooksUpKeeping self.old.policy moment
             (Makes (IsSettlement self.old.policy moment at_most)) result
             self.new.policy (B.state self.old.book) (B.state self.new.book) }
@@ -193,8 +204,11 @@ impl<B: Book + Drop> Registry<B> {
         name: &DomainName,
         moment: Moment,
     ) -> Result<Option<DomainFace>, Fault>
-        ensures step { IfOk result (λ found. LooksUp self.old.policy (λ s. domain_face_at self.old.policy s name.now) moment found (B.state self.old.book) (B.state self.new.book)) }
-        ensures fault { IfErr result (λ fault. Fails fault (B.state self.old.book) (B.state self.new.book)) }
+        ensures step { IfOk result (λ found. LooksUp self.old.policy
+            (λ s. domain_face_at self.old.policy s name.now) moment found (B.state self.old.book)
+            (B.state self.new.book)) }
+        ensures fault { IfErr result (λ fault. Fails fault (B.state self.old.book)
+            (B.state self.new.book)) }
         ensures keeps { LooksUpKeeping self.old.policy moment
             (Makes (IsLookUp self.old.policy (λ s. domain_face_at self.old.policy s name.now) moment)) result
             self.new.policy (B.state self.old.book) (B.state self.new.book) }
@@ -205,8 +219,11 @@ impl<B: Book + Drop> Registry<B> {
 
     /// The same of the host under a name.
     pub fn host_face(&mut self, name: &HostName, moment: Moment) -> Result<Option<HostFace>, Fault>
-        ensures step { IfOk result (λ found. LooksUp self.old.policy (λ s. host_face_at self.old.policy s name.now) moment found (B.state self.old.book) (B.state self.new.book)) }
-        ensures fault { IfErr result (λ fault. Fails fault (B.state self.old.book) (B.state self.new.book)) }
+        ensures step { IfOk result (λ found. LooksUp self.old.policy
+            (λ s. host_face_at self.old.policy s name.now) moment found (B.state self.old.book)
+            (B.state self.new.book)) }
+        ensures fault { IfErr result (λ fault. Fails fault (B.state self.old.book)
+            (B.state self.new.book)) }
         ensures keeps { LooksUpKeeping self.old.policy moment
             (Makes (IsLookUp self.old.policy (λ s. host_face_at self.old.policy s name.now) moment)) result
             self.new.policy (B.state self.old.book) (B.state self.new.book) }
@@ -221,8 +238,11 @@ impl<B: Book + Drop> Registry<B> {
         name: &Text,
         moment: Moment,
     ) -> Result<Option<ContactFace>, Fault>
-        ensures step { IfOk result (λ found. LooksUp self.old.policy (λ s. contact_face_at s name.now) moment found (B.state self.old.book) (B.state self.new.book)) }
-        ensures fault { IfErr result (λ fault. Fails fault (B.state self.old.book) (B.state self.new.book)) }
+        ensures step { IfOk result (λ found. LooksUp self.old.policy
+            (λ s. contact_face_at s name.now) moment found (B.state self.old.book)
+            (B.state self.new.book)) }
+        ensures fault { IfErr result (λ fault. Fails fault (B.state self.old.book)
+            (B.state self.new.book)) }
         ensures keeps { LooksUpKeeping self.old.policy moment
             (Makes (IsLookUp self.old.policy (λ s. contact_face_at s name.now) moment)) result
             self.new.policy (B.state self.old.book) (B.state self.new.book) }
@@ -233,8 +253,10 @@ impl<B: Book + Drop> Registry<B> {
 
     /// The names of all domains at a moment, in their order.
     pub fn domain_names(&mut self, moment: Moment) -> Result<Seq<Text>, Fault>
-        ensures step { IfOk result (λ found. LooksUp self.old.policy (domain_names) moment found (B.state self.old.book) (B.state self.new.book)) }
-        ensures fault { IfErr result (λ fault. Fails fault (B.state self.old.book) (B.state self.new.book)) }
+        ensures step { IfOk result (λ found. LooksUp self.old.policy (domain_names) moment found
+            (B.state self.old.book) (B.state self.new.book)) }
+        ensures fault { IfErr result (λ fault. Fails fault (B.state self.old.book)
+            (B.state self.new.book)) }
         ensures keeps { LooksUpKeeping self.old.policy moment
             (Makes (IsLookUp self.old.policy domain_names moment)) result
             self.new.policy (B.state self.old.book) (B.state self.new.book) }
@@ -249,8 +271,11 @@ impl<B: Book + Drop> Registry<B> {
         name: &Text,
         moment: Moment,
     ) -> Result<Option<DomainFace>, Fault>
-        ensures step { IfOk result (λ found. LooksUp self.old.policy (λ s. domain_face_at self.old.policy s name.now) moment found (B.state self.old.book) (B.state self.new.book)) }
-        ensures fault { IfErr result (λ fault. Fails fault (B.state self.old.book) (B.state self.new.book)) }
+        ensures step { IfOk result (λ found. LooksUp self.old.policy
+            (λ s. domain_face_at self.old.policy s name.now) moment found (B.state self.old.book)
+            (B.state self.new.book)) }
+        ensures fault { IfErr result (λ fault. Fails fault (B.state self.old.book)
+            (B.state self.new.book)) }
         ensures keeps { LooksUpKeeping self.old.policy moment
             (Makes (IsLookUp self.old.policy (λ s. domain_face_at self.old.policy s name.now) moment)) result
             self.new.policy (B.state self.old.book) (B.state self.new.book) }
@@ -265,8 +290,11 @@ impl<B: Book + Drop> Registry<B> {
         name: &Text,
         moment: Moment,
     ) -> Result<Option<Seq<Text>>, Fault>
-        ensures step { IfOk result (λ found. LooksUp self.old.policy (λ s. host_addresses_at s name.now) moment found (B.state self.old.book) (B.state self.new.book)) }
-        ensures fault { IfErr result (λ fault. Fails fault (B.state self.old.book) (B.state self.new.book)) }
+        ensures step { IfOk result (λ found. LooksUp self.old.policy
+            (λ s. host_addresses_at s name.now) moment found (B.state self.old.book)
+            (B.state self.new.book)) }
+        ensures fault { IfErr result (λ fault. Fails fault (B.state self.old.book)
+            (B.state self.new.book)) }
         ensures keeps { LooksUpKeeping self.old.policy moment
             (Makes (IsLookUp self.old.policy (λ s. host_addresses_at s name.now) moment)) result
             self.new.policy (B.state self.old.book) (B.state self.new.book) }
@@ -278,8 +306,11 @@ impl<B: Book + Drop> Registry<B> {
     /// Looks something up at a moment, which every call may do that tells what everyone may know.
     #[tactic(auto, using(crate::proofs::CallsKept::kept_late))]
     fn look_up<L: LookUp>(&mut self, what: &L, moment: Moment) -> Result<L::Found, Fault>
-        ensures step { IfOk result (λ found. LooksUp self.old.policy (L.finds what.now self.old.policy) moment found (B.state self.old.book) (B.state self.new.book)) }
-        ensures fault { IfErr result (λ fault. Fails fault (B.state self.old.book) (B.state self.new.book)) }
+        ensures step { IfOk result (λ found. LooksUp self.old.policy
+            (L.finds what.now self.old.policy) moment found (B.state self.old.book)
+            (B.state self.new.book)) }
+        ensures fault { IfErr result (λ fault. Fails fault (B.state self.old.book)
+            (B.state self.new.book)) }
         ensures keeps { LooksUpKeeping self.old.policy moment
             (Makes (IsLookUp self.old.policy (L.finds what.now self.old.policy) moment)) result
             self.new.policy (B.state self.old.book) (B.state self.new.book) }
@@ -294,8 +325,11 @@ impl<B: Book + Drop> Registry<B> {
     /// Does the work of a call in a transaction of its own, and keeps what it did.
     #[tactic(auto, using(crate::proofs::CallsKept::step_gave_up))]
     fn transact<W: Work>(&mut self, work: &W) -> Result<W::Answer, Fault>
-        ensures step { IfOk result (λ answer. (B.state self.new.book).is_clean ≡ true → W.step work.now self.old.policy (B.state self.old.book).content.registry (B.state self.new.book).content.registry answer) }
-        ensures fault { IfErr result (λ fault. Fails fault (B.state self.old.book) (B.state self.new.book)) }
+        ensures step { IfOk result (λ answer. (B.state self.new.book).is_clean ≡ true
+            → W.step work.now self.old.policy (B.state self.old.book).content.registry
+            (B.state self.new.book).content.registry answer) }
+        ensures fault { IfErr result (λ fault. Fails fault (B.state self.old.book)
+            (B.state self.new.book)) }
         ensures keeps { StepKeeps self.old.policy (Makes (W.step work.now self.old.policy)) result
             self.new.policy (B.state self.old.book) (B.state self.new.book) }
         ensures early { result ≢ Err Fault.Moment }

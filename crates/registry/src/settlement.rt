@@ -40,7 +40,8 @@ fn settle_in<B: Book>(
     policy: &Policy,
 ) -> Result<u32, Fault>
     requires { (B.state book.old).is_open ≡ true }
-    ensures step { IfOk result (λ done. Settles policy.now moment at_most done (B.state book.old) (B.state book.new)) }
+    ensures step { IfOk result (λ done. Settles policy.now moment at_most done (B.state book.old)
+        (B.state book.new)) }
     ensures terms { OnOk result (SameTerms (B.state book.old) (B.state book.new)) }
     ensures within { OnOk result (IsWithin (B.state book.old) (B.state book.new)) }
     ensures fault { IfErr result (λ fault. GoesBack fault (B.state book.old) (B.state book.new)) }

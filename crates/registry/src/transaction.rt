@@ -41,7 +41,8 @@ pub(crate) fn or_rollback<B: Book, T>(book: &mut B, made: Result<T, AllocError>)
 /// The clock, in an open transaction.
 pub(crate) fn clock<B: Book>(book: &mut B) -> Result<Moment, Fault>
     requires { (B.state book.old).is_open ≡ true }
-    ensures found { IfOk result (λ clock. (B.state book.new).is_clean ≡ true → clock ≡ (B.state book.old).content.registry.clock) }
+    ensures found { IfOk result (λ clock. (B.state book.new).is_clean ≡ true
+        → clock ≡ (B.state book.old).content.registry.clock) }
     ensures same { OnOk result (IsSame (B.state book.old) (B.state book.new)) }
     ensures fault { IfErr result (λ fault. GoesBack fault (B.state book.old) (B.state book.new)) }
     ensures follows { Follows (B.state book.old) (B.state book.new) }
@@ -58,7 +59,8 @@ pub(crate) fn facts_for<B: Book>(
     policy: &Policy,
 ) -> Result<Facts, Fault>
     requires { (B.state book.old).is_open ≡ true }
-    ensures found { IfOk result (λ found. (B.state book.new).is_clean ≡ true → found ≡ facts policy.now caller command.now (B.state book.old).content.registry) }
+    ensures found { IfOk result (λ found. (B.state book.new).is_clean ≡ true
+        → found ≡ facts policy.now caller command.now (B.state book.old).content.registry) }
     ensures same { OnOk result (IsSame (B.state book.old) (B.state book.new)) }
     ensures fault { IfErr result (λ fault. GoesBack fault (B.state book.old) (B.state book.new)) }
     ensures follows { Follows (B.state book.old) (B.state book.new) }
@@ -74,7 +76,8 @@ pub(crate) fn object_at<B: Book>(
     name: &Text,
 ) -> Result<Option<Object>, Fault>
     requires { (B.state book.old).is_open ≡ true }
-    ensures found { IfOk result (λ found. (B.state book.new).is_clean ≡ true → found ≡ object_at (B.state book.old).content.registry kind name.now) }
+    ensures found { IfOk result (λ found. (B.state book.new).is_clean ≡ true
+        → found ≡ object_at (B.state book.old).content.registry kind name.now) }
     ensures same { OnOk result (IsSame (B.state book.old) (B.state book.new)) }
     ensures fault { IfErr result (λ fault. GoesBack fault (B.state book.old) (B.state book.new)) }
     ensures follows { Follows (B.state book.old) (B.state book.new) }
@@ -90,7 +93,8 @@ pub(crate) fn apply<B: Book>(
     policy: &Policy,
 ) -> Result<(), Fault>
     requires { (B.state book.old).is_open ≡ true }
-    ensures ok { OnOk result (Moves (B.state book.old) (B.state book.new) (with_changes policy.now changes (B.state book.old).content)) }
+    ensures ok { OnOk result (Moves (B.state book.old) (B.state book.new)
+        (with_changes policy.now changes (B.state book.old).content)) }
     ensures fault { IfErr result (λ fault. GoesBack fault (B.state book.old) (B.state book.new)) }
     ensures follows { Follows (B.state book.old) (B.state book.new) }
     ensures leaves { LeavesSame (B.state book.old) (B.state book.new) }
@@ -101,7 +105,8 @@ pub(crate) fn apply<B: Book>(
 /// The terms under which a book was opened, in an open transaction.
 pub(crate) fn terms<B: Book>(book: &mut B) -> Result<Option<Terms>, Fault>
     requires { (B.state book.old).is_open ≡ true }
-    ensures found { IfOk result (λ terms. (B.state book.new).is_clean ≡ true → terms ≡ (B.state book.old).content.terms) }
+    ensures found { IfOk result (λ terms. (B.state book.new).is_clean ≡ true
+        → terms ≡ (B.state book.old).content.terms) }
     ensures same { OnOk result (IsSame (B.state book.old) (B.state book.new)) }
     ensures fault { IfErr result (λ fault. GoesBack fault (B.state book.old) (B.state book.new)) }
     ensures follows { Follows (B.state book.old) (B.state book.new) }
@@ -113,7 +118,8 @@ pub(crate) fn terms<B: Book>(book: &mut B) -> Result<Option<Terms>, Fault>
 /// Puts down terms in an open transaction.
 pub(crate) fn keep_terms<B: Book>(book: &mut B, terms: Terms) -> Result<(), Fault>
     requires { (B.state book.old).is_open ≡ true }
-    ensures ok { OnOk result (Moves (B.state book.old) (B.state book.new) (with_terms terms (B.state book.old).content)) }
+    ensures ok { OnOk result (Moves (B.state book.old) (B.state book.new)
+        (with_terms terms (B.state book.old).content)) }
     ensures fault { IfErr result (λ fault. GoesBack fault (B.state book.old) (B.state book.new)) }
     ensures follows { Follows (B.state book.old) (B.state book.new) }
     ensures leaves { LeavesSame (B.state book.old) (B.state book.new) }
@@ -141,8 +147,10 @@ pub(crate) fn advance_clock<B: Book>(
     policy: &Policy,
 ) -> Result<Moment, Fault>
     requires { (B.state book.old).is_open ≡ true }
-    ensures moved { OnOk result (Moves (B.state book.old) (B.state book.new) (at_moment policy.now moment (B.state book.old).content)) }
-    ensures clock { IfOk result (λ clock. (B.state book.new).is_clean ≡ true → clock ≡ max moment (B.state book.old).content.registry.clock) }
+    ensures moved { OnOk result (Moves (B.state book.old) (B.state book.new)
+        (at_moment policy.now moment (B.state book.old).content)) }
+    ensures clock { IfOk result (λ clock. (B.state book.new).is_clean ≡ true
+        → clock ≡ max moment (B.state book.old).content.registry.clock) }
     ensures fault { IfErr result (λ fault. GoesBack fault (B.state book.old) (B.state book.new)) }
     ensures follows { Follows (B.state book.old) (B.state book.new) }
     ensures leaves { LeavesSame (B.state book.old) (B.state book.new) }
@@ -160,8 +168,10 @@ pub(crate) fn move_clock<B: Book>(
     policy: &Policy,
 ) -> Result<Moment, Fault>
     requires { (B.state book.old).is_open ≡ true }
-    ensures moved { OnOk result (Moves (B.state book.old) (B.state book.new) (with_changes policy.now (Change.MoveClock moment ∷ []) (B.state book.old).content)) }
-    ensures clock { IfOk result (λ clock. (B.state book.new).is_clean ≡ true → clock ≡ max moment (B.state book.old).content.registry.clock) }
+    ensures moved { OnOk result (Moves (B.state book.old) (B.state book.new)
+        (with_changes policy.now (Change.MoveClock moment ∷ []) (B.state book.old).content)) }
+    ensures clock { IfOk result (λ clock. (B.state book.new).is_clean ≡ true
+        → clock ≡ max moment (B.state book.old).content.registry.clock) }
     ensures fault { IfErr result (λ fault. GoesBack fault (B.state book.old) (B.state book.new)) }
     ensures follows { Follows (B.state book.old) (B.state book.new) }
     ensures leaves { LeavesSame (B.state book.old) (B.state book.new) }

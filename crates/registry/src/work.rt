@@ -32,10 +32,13 @@ pub(crate) trait Work {
         policy: &Policy,
     ) -> Result<Self::Answer, Fault>
         requires { (B.state book.old).is_open ≡ true }
-        ensures done { IfOk result (λ answer. (B.state book.new).is_clean ≡ true → step self.now policy.now (B.state book.old).content.registry (B.state book.new).content.registry answer) }
+        ensures done { IfOk result (λ answer. (B.state book.new).is_clean ≡ true
+            → step self.now policy.now (B.state book.old).content.registry
+            (B.state book.new).content.registry answer) }
         ensures terms { OnOk result (SameTerms (B.state book.old) (B.state book.new)) }
         ensures within { OnOk result (IsWithin (B.state book.old) (B.state book.new)) }
-        ensures fault { IfErr result (λ fault. GoesBack fault (B.state book.old) (B.state book.new)) }
+        ensures fault { IfErr result (λ fault. GoesBack fault (B.state book.old)
+            (B.state book.new)) }
         ensures follows { Follows (B.state book.old) (B.state book.new) }
         ensures leaves { LeavesSame (B.state book.old) (B.state book.new) };
 }
@@ -49,11 +52,14 @@ pub(crate) fn keep<B: Book, W: Work>(
     policy: &Policy,
 ) -> Result<W::Answer, Fault>
     requires { (B.state book.old).is_open ≡ true }
-    ensures step { IfOk result (λ answer. (B.state book.new).is_clean ≡ true → W.step work.now policy.now (B.state book.old).content.registry (B.state book.new).content.registry answer) }
+    ensures step { IfOk result (λ answer. (B.state book.new).is_clean ≡ true
+        → W.step work.now policy.now (B.state book.old).content.registry
+        (B.state book.new).content.registry answer) }
     ensures terms { OnOk result (SameTerms (B.state book.old) (B.state book.new)) }
     ensures closed { (B.state book.new).is_open ≡ false }
     ensures fault { IfErr result (λ fault. GoesBack fault (B.state book.old) (B.state book.new)) }
-    ensures crash { Outlives result (Makes (W.step work.now policy.now)) (B.state book.old) (B.state book.new) }
+    ensures crash { Outlives result (Makes (W.step work.now policy.now)) (B.state book.old)
+        (B.state book.new) }
     ensures follows { Follows (B.state book.old) (B.state book.new) }
 {
     let answer = work.work(book, alloc, policy)?;

@@ -33,7 +33,9 @@ impl Alike for Column {
 }
 
 fn acts_alike(reference: &Reference, other: &Reference) -> bool
-    ensures { IsTrue result ↔ ((reference.now.on_delete ≡ other.now.on_delete) × ((reference.now.on_update ≡ other.now.on_update) × (reference.now.is_deferred ≡ other.now.is_deferred))) }
+    ensures { IsTrue result ↔ ((reference.now.on_delete ≡ other.now.on_delete)
+        × ((reference.now.on_update ≡ other.now.on_update)
+        × (reference.now.is_deferred ≡ other.now.is_deferred))) }
 {
     reference.on_delete == other.on_delete
         && reference.on_update == other.on_update
@@ -98,7 +100,8 @@ impl Alike for Items<usize> {
 
 fn are_alike<T: Alike>(these: &[T], plain: &[T]) -> bool
     ensures same { IsTrue result → these.entry.now ≡ plain.entry.now }
-    ensures other { result ≡ false → AllByRecursion T.IsPlain plain.entry.now → these.entry.now ≢ plain.entry.now }
+    ensures other { result ≡ false → AllByRecursion T.IsPlain plain.entry.now
+        → these.entry.now ≢ plain.entry.now }
 {
     let mut rest = these;
     let mut others = plain;
@@ -136,7 +139,8 @@ fn computes_nothing(table: &Table) -> bool
 }
 
 fn is_headed_alike(table: &Table, other: &Table) -> bool
-    ensures { IsTrue result ↔ ((table.now.name ≡ other.now.name) × ((table.now.tree ≡ other.now.tree) × (table.now.is_counted ≡ other.now.is_counted))) }
+    ensures { IsTrue result ↔ ((table.now.name ≡ other.now.name)
+        × ((table.now.tree ≡ other.now.tree) × (table.now.is_counted ≡ other.now.is_counted))) }
 {
     table.name.as_slice() == other.name.as_slice()
         && table.tree == other.tree
@@ -160,7 +164,8 @@ fn has_references(table: &Table, references: &Items<Reference>) -> bool
 }
 
 fn is_keyed_alike(table: &Table, other: &Table) -> bool
-    ensures { IsTrue result ↔ ((table.now.key ≡ other.now.key) × (table.now.primary ≡ other.now.primary)) }
+    ensures { IsTrue result ↔ ((table.now.key ≡ other.now.key)
+        × (table.now.primary ≡ other.now.primary)) }
 {
     table.key == other.key && table.primary.as_slice() == other.primary.as_slice()
 }
@@ -175,14 +180,17 @@ fn has_orders(table: &Table, orders: &Items<Order>) -> bool
 
 fn has_columns(table: &Table, columns: &Items<Column>) -> bool
     ensures same { IsTrue result → table.now.columns ≡ columns.now }
-    ensures other { result ≡ false → AllByRecursion IsPlainColumn columns.now → table.now.columns ≢ columns.now }
+    ensures other { result ≡ false → AllByRecursion IsPlainColumn columns.now
+        → table.now.columns ≢ columns.now }
 {
     are_alike(table.columns.as_slice(), columns.as_slice())
 }
 
 fn computes_alike(table: &Table, other: &Table) -> bool
-    ensures same { IsTrue result → ComputesNothing table.now × (ComputesNothing other.now × (table.now.computed ≡ other.now.computed)) }
-    ensures other { result ≡ false → ComputesNothing other.now → ¬ (ComputesNothing table.now × (table.now.computed ≡ other.now.computed)) }
+    ensures same { IsTrue result → ComputesNothing table.now
+        × (ComputesNothing other.now × (table.now.computed ≡ other.now.computed)) }
+    ensures other { result ≡ false → ComputesNothing other.now
+        → ¬ (ComputesNothing table.now × (table.now.computed ≡ other.now.computed)) }
 {
     computes_nothing(table)
         && computes_nothing(other)

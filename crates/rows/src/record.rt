@@ -26,9 +26,13 @@ pub fn write<S: Alter>(
     sql: &str,
     params: &[ValueRef<'_>],
 ) -> Result<(), Error>
-    ensures does { writes_tables (command_of (understood conn.old.schema sql.now)) ≡ true → conn.old.in_transaction ≡ true → Writes sql.now (bound params.now) (state S.Store conn.old) (state S.Store conn.new) result }
+    ensures does { writes_tables (command_of (understood conn.old.schema sql.now)) ≡ true
+        → conn.old.in_transaction ≡ true
+        → Writes sql.now (bound params.now) (state S.Store conn.old) (state S.Store conn.new)
+        result }
     ensures steady { IsSteady (state S.Store conn.old) (state S.Store conn.new) }
-    ensures opened { HasCleanDisk (state S.Store conn.new) → IsTrue (state S.Store conn.new).is_open → IsTrue (state S.Store conn.old).is_open }
+    ensures opened { HasCleanDisk (state S.Store conn.new) → IsTrue (state S.Store conn.new).is_open
+        → IsTrue (state S.Store conn.old).is_open }
 {
     conn.execute(sql, params)?;
     Ok(())

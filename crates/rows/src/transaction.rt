@@ -8,7 +8,8 @@ use sqlite::{Alter, Connection, Error};
 
 /// Begins a transaction.
 pub fn begin<S: Alter>(conn: &mut Connection<S>) -> Result<(), Error>
-    ensures does { conn.old.in_transaction ≡ false → HasCleanDisk (state S.Store conn.new) → Begins (state S.Store conn.old) (state S.Store conn.new) result }
+    ensures does { conn.old.in_transaction ≡ false → HasCleanDisk (state S.Store conn.new)
+        → Begins (state S.Store conn.old) (state S.Store conn.new) result }
     ensures crash { Survives (state S.Store conn.old) (state S.Store conn.new) (λ _. ⊥) }
 {
     conn.execute("BEGIN", &[])?;
@@ -17,8 +18,10 @@ pub fn begin<S: Alter>(conn: &mut Connection<S>) -> Result<(), Error>
 
 /// Makes durable what the transaction wrote, or undoes it.
 pub fn commit<S: Alter>(conn: &mut Connection<S>) -> Result<(), Error>
-    ensures does { conn.old.in_transaction ≡ true → HasCleanDisk (state S.Store conn.new) → Commits (state S.Store conn.old) (state S.Store conn.new) result }
-    ensures crash { Survives (state S.Store conn.old) (state S.Store conn.new) (λ db. db ≡ (state S.Store conn.old).now.trees) }
+    ensures does { conn.old.in_transaction ≡ true → HasCleanDisk (state S.Store conn.new)
+        → Commits (state S.Store conn.old) (state S.Store conn.new) result }
+    ensures crash { Survives (state S.Store conn.old) (state S.Store conn.new) (λ db. db
+        ≡ (state S.Store conn.old).now.trees) }
 {
     conn.execute("COMMIT", &[])?;
     Ok(())
@@ -26,7 +29,9 @@ pub fn commit<S: Alter>(conn: &mut Connection<S>) -> Result<(), Error>
 
 /// Goes back to the last commit, if a transaction is open.
 pub fn go_back<S: Alter>(conn: &mut Connection<S>) -> Result<(), Error>
-    ensures does { HasCleanDisk (state S.Store conn.new) → IsRolledBack (state S.Store conn.old) (state S.Store conn.new) ⊎ ((conn.new ≡ conn.old) × (conn.old.in_transaction ≡ false)) }
+    ensures does { HasCleanDisk (state S.Store conn.new)
+        → IsRolledBack (state S.Store conn.old) (state S.Store conn.new)
+        ⊎ ((conn.new ≡ conn.old) × (conn.old.in_transaction ≡ false)) }
     ensures crash { Survives (state S.Store conn.old) (state S.Store conn.new) (λ _. ⊥) }
 {
     if conn.is_autocommit() {

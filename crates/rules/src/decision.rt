@@ -44,7 +44,8 @@ pub fn decide(
     moment: Moment,
     policy: &Policy,
 ) -> Result<Decision, AllocError>
-    ensures { IfOk result (λ decision. decision ≡ spec.decided policy.now caller moment command.now facts.now) }
+    ensures { IfOk result (λ decision. decision ≡ spec.decided policy.now caller moment command.now
+        facts.now) }
 {
     let verdict = judge(alloc, facts, caller, command, moment, policy)?;
     let code = verdict.code;
@@ -57,7 +58,8 @@ fn finish(
     changes: Result<Vec<Change>, AllocError>,
 ) -> Result<Decision, AllocError>
     ensures verdict { IfOk result (λ decision. decision.verdict ≡ verdict) }
-    ensures changes { IfOk result (λ decision. IfOk changes (λ made. decision.changes ≡ made.items)) }
+    ensures changes { IfOk result (λ decision. IfOk changes (λ made. decision.changes
+        ≡ made.items)) }
     ensures made { OnOk result (IsOk changes) }
 {
     match changes {
@@ -81,7 +83,8 @@ fn all_changes(
     answered: Code,
     policy: &Policy,
 ) -> Result<Vec<Change>, AllocError>
-    ensures { IfOk result (λ changes. changes.items ≡ Change.Give caller AccountChange.CountCommand ∷ spec.changes_after policy.now caller moment command.now facts.now answered) }
+    ensures { IfOk result (λ changes. changes.items ≡ Change.Give caller AccountChange.CountCommand
+        ∷ spec.changes_after policy.now caller moment command.now facts.now answered) }
 {
     let rest = changes_after(alloc, facts, caller, command, moment, answered, policy)?;
     with_count(alloc, caller, rest)
@@ -93,7 +96,8 @@ fn with_count(
     caller: RegistrarNo,
     mut rest: Vec<Change>,
 ) -> Result<Vec<Change>, AllocError>
-    ensures { IfOk result (λ changes. changes.items ≡ Change.Give caller AccountChange.CountCommand ∷ rest.items) }
+    ensures { IfOk result (λ changes. changes.items ≡ Change.Give caller AccountChange.CountCommand
+        ∷ rest.items) }
 {
     let mut changes = vec![in alloc; Change::Give(caller, AccountChange::CountCommand)]?;
     changes.append(&mut rest)?;
@@ -111,7 +115,8 @@ fn changes_after(
     answered: Code,
     policy: &Policy,
 ) -> Result<Vec<Change>, AllocError>
-    ensures { IfOk result (λ changes. changes.items ≡ spec.changes_after policy.now caller moment command.now facts.now answered) }
+    ensures { IfOk result (λ changes. changes.items ≡ spec.changes_after policy.now caller moment
+        command.now facts.now answered) }
 {
     match command {
         Command::Asked { request, .. } if answered.is_accepted() => {
@@ -131,7 +136,8 @@ fn accept(
     moment: Moment,
     policy: &Policy,
 ) -> Result<Vec<Change>, AllocError>
-    ensures { IfOk result (λ changes. changes.items ≡ spec.changes_of policy.now caller moment request.now facts.now) }
+    ensures { IfOk result (λ changes. changes.items ≡ spec.changes_of policy.now caller moment
+        request.now facts.now) }
 {
     match request {
         Request::CreateContact(new) => create_contact(alloc, facts, caller, new, moment),
@@ -216,7 +222,9 @@ fn create_contact(
     new: &NewContact,
     moment: Moment,
 ) -> Result<Vec<Change>, AllocError>
-    ensures { IfOk result (λ changes. changes.items ≡ Change.PutContact (spec.new_contact caller moment facts.now new.now) ∷ Change.Give caller AccountChange.TakeSerial ∷ []) }
+    ensures { IfOk result (λ changes. changes.items
+        ≡ Change.PutContact (spec.new_contact caller moment facts.now new.now)
+        ∷ Change.Give caller AccountChange.TakeSerial ∷ []) }
 {
     let contact = new_contact(alloc, facts, caller, new, moment)?;
     created(alloc, caller, Change::PutContact(contact))
@@ -230,7 +238,9 @@ fn create_host(
     moment: Moment,
     zone: &Zone,
 ) -> Result<Vec<Change>, AllocError>
-    ensures { IfOk result (λ changes. changes.items ≡ Change.PutHost (spec.new_host zone.now caller moment facts.now new.now) ∷ Change.Give caller AccountChange.TakeSerial ∷ []) }
+    ensures { IfOk result (λ changes. changes.items
+        ≡ Change.PutHost (spec.new_host zone.now caller moment facts.now new.now)
+        ∷ Change.Give caller AccountChange.TakeSerial ∷ []) }
 {
     let host = new_host(alloc, facts, caller, new, moment, zone)?;
     created(alloc, caller, Change::PutHost(host))
@@ -238,7 +248,8 @@ fn create_host(
 
 /// A new object takes its creator's next number.
 fn created(alloc: Global, caller: RegistrarNo, put: Change) -> Result<Vec<Change>, AllocError>
-    ensures { IfOk result (λ changes. changes.items ≡ put ∷ Change.Give caller AccountChange.TakeSerial ∷ []) }
+    ensures { IfOk result (λ changes. changes.items ≡ put
+        ∷ Change.Give caller AccountChange.TakeSerial ∷ []) }
 {
     Ok(vec![in alloc; put, Change::Give(caller, AccountChange::TakeSerial)]?)
 }
@@ -253,7 +264,11 @@ fn create_domain(
     moment: Moment,
     policy: &Policy,
 ) -> Result<Vec<Change>, AllocError>
-    ensures { IfOk result (λ changes. changes.items ≡ Change.PutDomain (spec.new_domain caller moment facts.now new.now) ∷ Change.Give caller AccountChange.TakeSerial ∷ spec.charge LineKind.Create policy.now caller moment (spec.new_roid ObjectKind.Domain caller facts.now) request.now facts.now ∷ []) }
+    ensures { IfOk result (λ changes. changes.items
+        ≡ Change.PutDomain (spec.new_domain caller moment facts.now new.now)
+        ∷ Change.Give caller AccountChange.TakeSerial ∷ spec.charge LineKind.Create policy.now
+        caller moment (spec.new_roid ObjectKind.Domain caller facts.now) request.now facts.now
+        ∷ []) }
 {
     let roid = new_roid(ObjectKind::Domain, facts, caller);
     let domain = new_domain(alloc, facts, caller, new, moment)?;
@@ -279,7 +294,8 @@ fn delete_domain(
     known: Option<&DomainFacts>,
     moment: Moment,
 ) -> Result<Vec<Change>, AllocError>
-    ensures { IfOk result (λ changes. changes.items ≡ spec.deletion_at caller moment (option_copied known.entry)) }
+    ensures { IfOk result (λ changes. changes.items ≡ spec.deletion_at caller moment
+        (option_copied known.entry)) }
 {
     let Some(known) = known else {
         return Ok(Vec::new(alloc));
@@ -297,7 +313,8 @@ fn delete_domain(
 
 /// A domain that can be restored first stays.
 fn ending(known: &DomainFacts, domain: &Domain, moment: Moment) -> Result<Change, AllocError>
-    ensures { IfOk result (λ change. change ≡ spec.ending (goes_at_once known.now.seen) moment known.now domain.now) }
+    ensures { IfOk result (λ change. change ≡ spec.ending (goes_at_once known.now.seen) moment
+        known.now domain.now) }
 {
     if goes_at_once(known.seen.as_ref()) {
         return Ok(Change::DropDomain(known.name.clone()?));
@@ -316,7 +333,8 @@ fn renew_domain(
     moment: Moment,
     policy: &Policy,
 ) -> Result<Vec<Change>, AllocError>
-    ensures { IfOk result (λ changes. changes.items ≡ spec.renewal_changes policy.now caller moment request.now facts.now (option_copied seen.entry)) }
+    ensures { IfOk result (λ changes. changes.items ≡ spec.renewal_changes policy.now caller moment
+        request.now facts.now (option_copied seen.entry)) }
 {
     match seen {
         Some(Seen::Full(known)) => {
@@ -342,7 +360,8 @@ fn request_restore(
     seen: Option<&Seen<FullDomain, DomainFace>>,
     moment: Moment,
 ) -> Result<Vec<Change>, AllocError>
-    ensures { IfOk result (λ changes. changes.items ≡ spec.restore_changes moment (option_copied seen.entry)) }
+    ensures { IfOk result (λ changes. changes.items
+        ≡ spec.restore_changes moment (option_copied seen.entry)) }
 {
     match seen {
         Some(Seen::Full(known)) => {
@@ -363,7 +382,8 @@ fn report_restore(
     moment: Moment,
     policy: &Policy,
 ) -> Result<Vec<Change>, AllocError>
-    ensures { IfOk result (λ changes. changes.items ≡ spec.report_changes policy.now caller moment request.now facts.now (option_copied seen.entry)) }
+    ensures { IfOk result (λ changes. changes.items ≡ spec.report_changes policy.now caller moment
+        request.now facts.now (option_copied seen.entry)) }
 {
     match seen {
         Some(Seen::Full(known)) => {
@@ -389,7 +409,8 @@ fn update_contact(
     seen: Option<&Seen<Contact, ContactFace>>,
     moment: Moment,
 ) -> Result<Vec<Change>, AllocError>
-    ensures { IfOk result (λ changes. changes.items ≡ spec.contact_changes moment update.now (option_copied seen.entry)) }
+    ensures { IfOk result (λ changes. changes.items ≡ spec.contact_changes moment update.now
+        (option_copied seen.entry)) }
 {
     match seen {
         Some(Seen::Full(contact)) => {
@@ -406,7 +427,8 @@ fn update_domain(
     seen: Option<&Seen<FullDomain, DomainFace>>,
     moment: Moment,
 ) -> Result<Vec<Change>, AllocError>
-    ensures { IfOk result (λ changes. changes.items ≡ spec.domain_changes moment update.now (option_copied seen.entry)) }
+    ensures { IfOk result (λ changes. changes.items ≡ spec.domain_changes moment update.now
+        (option_copied seen.entry)) }
 {
     match seen {
         Some(Seen::Full(known)) => {
@@ -425,7 +447,8 @@ fn update_host(
     moment: Moment,
     zone: &Zone,
 ) -> Result<Vec<Change>, AllocError>
-    ensures { IfOk result (λ changes. changes.items ≡ spec.host_changes zone.now caller moment update.now (option_copied host.entry)) }
+    ensures { IfOk result (λ changes. changes.items ≡ spec.host_changes zone.now caller moment
+        update.now (option_copied host.entry)) }
 {
     let Some(host) = host else {
         return Ok(Vec::new(alloc));
@@ -441,7 +464,8 @@ fn put_host(
     host: Host,
     new_name: Option<&GivenName>,
 ) -> Result<Vec<Change>, AllocError>
-    ensures { IfOk result (λ changes. changes.items ≡ spec.renaming old.now host (option_copied new_name.entry)) }
+    ensures { IfOk result (λ changes. changes.items
+        ≡ spec.renaming old.now host (option_copied new_name.entry)) }
 {
     let Some(new) = new_name else {
         return only(alloc, Change::PutHost(host));

@@ -22,7 +22,8 @@ pub fn lapse_changes(
     moment: Moment,
     policy: &Policy,
 ) -> Result<Seq<Change>, AllocError>
-    ensures { IfOk result (λ changes. changes ≡ spec.lapse_changes policy.now moment name.now object.now) }
+    ensures { IfOk result (λ changes. changes ≡ spec.lapse_changes policy.now moment name.now
+        object.now) }
 {
     match object {
         Some(Object::Contact(contact)) => contact_changes(alloc, name, contact, moment),
@@ -37,7 +38,8 @@ fn contact_changes(
     contact: &Contact,
     moment: Moment,
 ) -> Result<Seq<Change>, AllocError>
-    ensures { IfOk result (λ changes. changes ≡ spec.contact_changes name.now (lapse_contact moment contact.now)) }
+    ensures { IfOk result (λ changes. changes
+        ≡ spec.contact_changes name.now (lapse_contact moment contact.now)) }
 {
     let name = name.clone()?;
     let lapsed = lapse_contact(alloc, contact, moment)?;
@@ -52,7 +54,8 @@ fn domain_changes(
     moment: Moment,
     policy: &Policy,
 ) -> Result<Seq<Change>, AllocError>
-    ensures { IfOk result (λ changes. changes ≡ spec.domain_changes name.now (lapse policy.now moment domain.now)) }
+    ensures { IfOk result (λ changes. changes
+        ≡ spec.domain_changes name.now (lapse policy.now moment domain.now)) }
 {
     let name = name.clone()?;
     let lapsed = lapse(alloc, domain, moment, policy)?;

@@ -29,7 +29,8 @@ pub fn decide_order(
     order: &StatusOrder,
     object: Option<Object>,
 ) -> Result<OrderDecision, AllocError>
-    ensures { IfOk result (λ decision. decision ≡ spec.decided_order order.now object (order_code order.now object)) }
+    ensures { IfOk result (λ decision. decision ≡ spec.decided_order order.now object
+        (order_code order.now object)) }
 {
     let code = judge_order(order, object.as_ref());
     Ok(OrderDecision {
@@ -44,7 +45,8 @@ fn changes_after(
     object: Option<Object>,
     answered: Code,
 ) -> Result<Vec<Change>, AllocError>
-    ensures { IfOk result (λ changes. changes.items ≡ (spec.decided_order order.now object answered).changes) }
+    ensures { IfOk result (λ changes. changes.items
+        ≡ (spec.decided_order order.now object answered).changes) }
 {
     if !answered.is_accepted() {
         drop(object);
@@ -134,7 +136,8 @@ pub fn decide_deposit(
     moment: Moment,
     policy: &Policy,
 ) -> Result<OrderDecision, AllocError>
-    ensures { IfOk result (λ decision. decision ≡ spec.deposit_decision policy.now moment registrar.now cents) }
+    ensures { IfOk result (λ decision. decision ≡ spec.deposit_decision policy.now moment
+        registrar.now cents) }
 {
     let Some(cents) = cents_of(cents) else {
         return Ok(refused(alloc, Code::ParameterRange));

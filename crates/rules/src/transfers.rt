@@ -63,7 +63,8 @@ pub(crate) fn transfer_contact(
     moment: Moment,
     policy: &Policy,
 ) -> Result<Vec<Change>, AllocError>
-    ensures { IfOk result (λ changes. changes.items ≡ spec.contact_transfer_changes policy.now caller moment op (option_copied seen.entry)) }
+    ensures { IfOk result (λ changes. changes.items ≡ spec.contact_transfer_changes policy.now
+        caller moment op (option_copied seen.entry)) }
 {
     let Some(Seen::Full(contact)) = seen else {
         return Ok(Vec::new(alloc));
@@ -90,7 +91,8 @@ fn contact_transferred(
     contact: &Contact,
     moment: Moment,
 ) -> Result<Vec<Change>, AllocError>
-    ensures { IfOk result (λ changes. changes.items ≡ spec.contact_transferred moment op after contact.now) }
+    ensures { IfOk result (λ changes. changes.items ≡ spec.contact_transferred moment op after
+        contact.now) }
 {
     let (registrar, notice) = match op {
         TransferOp::Request => (after.losing_registrar, CommandNotice::TransferRequested),
@@ -127,7 +129,8 @@ pub(crate) fn transfer_domain(
     moment: Moment,
     policy: &Policy,
 ) -> Result<Vec<Change>, AllocError>
-    ensures { IfOk result (λ changes. changes.items ≡ spec.domain_transfer_changes policy.now caller moment op request.now facts.now (option_copied seen.entry)) }
+    ensures { IfOk result (λ changes. changes.items ≡ spec.domain_transfer_changes policy.now caller
+        moment op request.now facts.now (option_copied seen.entry)) }
 {
     let Some(Seen::Full(known)) = seen else {
         return Ok(Vec::new(alloc));
@@ -154,7 +157,8 @@ fn domain_transferred(
     moment: Moment,
     policy: &Policy,
 ) -> Result<Vec<Change>, AllocError>
-    ensures { IfOk result (λ changes. changes.items ≡ spec.domain_transferred policy.now caller moment op request.now facts.now after domain.now) }
+    ensures { IfOk result (λ changes. changes.items ≡ spec.domain_transferred policy.now caller
+        moment op request.now facts.now after domain.now) }
 {
     match op {
         TransferOp::Request => {
@@ -204,7 +208,10 @@ fn domain_requested(
     domain: &Domain,
     moment: Moment,
 ) -> Result<Vec<Change>, AllocError>
-    ensures { IfOk result (λ changes. changes.items ≡ Change.PutDomain (spec.domain_with_transfer after domain.now) ∷ Change.Give caller (AccountChange.Charge line) ∷ spec.tell after.losing_registrar moment CommandNotice.TransferRequested domain.now.name Subject.Domain ∷ []) }
+    ensures { IfOk result (λ changes. changes.items
+        ≡ Change.PutDomain (spec.domain_with_transfer after domain.now)
+        ∷ Change.Give caller (AccountChange.Charge line) ∷ spec.tell after.losing_registrar moment
+        CommandNotice.TransferRequested domain.now.name Subject.Domain ∷ []) }
 {
     let sponsor = after.losing_registrar;
     let name = domain.name.clone()?;
@@ -227,7 +234,11 @@ fn domain_approved(
     domain: &Domain,
     moment: Moment,
 ) -> Result<Vec<Change>, AllocError>
-    ensures { IfOk result (λ changes. changes.items ≡ gift (lapses.transfer_start after (lapses.gained domain.now after.ac_date) domain.now) ∷ Change.PutDomain (lapses.handed_over after (lapses.gained domain.now after.ac_date) domain.now) ∷ spec.tell after.requester moment CommandNotice.TransferApproved domain.now.name Subject.Domain ∷ []) }
+    ensures { IfOk result (λ changes. changes.items
+        ≡ gift (lapses.transfer_start after (lapses.gained domain.now after.ac_date) domain.now)
+        ∷ Change.PutDomain (lapses.handed_over after (lapses.gained domain.now after.ac_date)
+        domain.now) ∷ spec.tell after.requester moment CommandNotice.TransferApproved
+        domain.now.name Subject.Domain ∷ []) }
 {
     let requester = after.requester;
     let completed = after.ac_date;
@@ -259,7 +270,10 @@ fn domain_kept(
     domain: &Domain,
     moment: Moment,
 ) -> Result<Vec<Change>, AllocError>
-    ensures { IfOk result (λ changes. changes.items ≡ Change.PutDomain (spec.domain_with_transfer after domain.now) ∷ spec.give_back after.requester moment domain.now.roid ∷ spec.tell registrar moment notice domain.now.name Subject.Domain ∷ []) }
+    ensures { IfOk result (λ changes. changes.items
+        ≡ Change.PutDomain (spec.domain_with_transfer after domain.now)
+        ∷ spec.give_back after.requester moment domain.now.roid ∷ spec.tell registrar moment notice
+        domain.now.name Subject.Domain ∷ []) }
 {
     let requester = after.requester;
     let roid = domain.roid;

@@ -49,7 +49,8 @@ pub(crate) fn updated_contact(
     contact: &Contact,
     moment: Moment,
 ) -> Result<Contact, AllocError>
-    ensures { IfOk result (λ updated. updated ≡ spec.updated_contact moment update.now contact.now) }
+    ensures { IfOk result (λ updated. updated ≡ spec.updated_contact moment update.now
+        contact.now) }
 {
     let statuses = amended_statuses(
         alloc,
@@ -181,7 +182,8 @@ pub(crate) fn deleted_domain(
 
 /// The deletion, with a restoration asked for at the moment.
 fn with_request(deletion: Option<Deletion>, moment: Moment) -> Option<Deletion>
-    ensures { result ≡ option_map (λ (x : Deletion). record x { restore_requested = Some moment }) deletion }
+    ensures { result ≡ option_map (λ (x : Deletion). record x { restore_requested = Some moment })
+        deletion }
 {
     match deletion {
         None => None,
@@ -228,7 +230,8 @@ fn external_sponsor_after(
     new_name: Option<&GivenName>,
     old: Option<RegistrarNo>,
 ) -> Option<RegistrarNo>
-    ensures { result ≡ spec.external_sponsor_after zone.now caller (option_copied new_name.entry) old }
+    ensures { result ≡ spec.external_sponsor_after zone.now caller (option_copied new_name.entry)
+        old }
 {
     match new_name {
         None => old,
@@ -244,7 +247,8 @@ pub(crate) fn updated_host(
     moment: Moment,
     zone: &Zone,
 ) -> Result<Host, AllocError>
-    ensures { IfOk result (λ updated. updated ≡ spec.updated_host zone.now caller moment update.now host.now) }
+    ensures { IfOk result (λ updated. updated ≡ spec.updated_host zone.now caller moment update.now
+        host.now) }
 {
     let statuses = amended_statuses(
         alloc,

@@ -25,9 +25,12 @@ pub(crate) fn answer<B: Book + Drop>(
     number: u64,
     line: &[u8],
 ) -> Result<Option<Vec<u8>>, Exit>
-    ensures answered { IfOk result (λ told. (B.state registry.new.book).is_clean ≡ true → Answers registry.old.policy line.now (kept (B.state registry.old.book)) (kept (B.state registry.new.book)) (told_text (option_map (λ text. text.items) told))) }
+    ensures answered { IfOk result (λ told. (B.state registry.new.book).is_clean ≡ true
+        → Answers registry.old.policy line.now (kept (B.state registry.old.book))
+        (kept (B.state registry.new.book)) (told_text (option_map (λ text. text.items) told))) }
     ensures stopped { IfErr result (IsStopped registry.old.policy line.now number) }
-    ensures left { IfErr result (LeavesAsWas (B.state registry.old.book) (B.state registry.new.book)) }
+    ensures left { IfErr result (LeavesAsWas (B.state registry.old.book)
+        (B.state registry.new.book)) }
     ensures follows { Follows (B.state registry.old.book) (B.state registry.new.book) }
     ensures policy { registry.new.policy ≡ registry.old.policy }
 {
@@ -45,9 +48,13 @@ fn answer_asked<B: Book + Drop>(
     line: &Line<'_>,
 ) -> Result<Option<Vec<u8>>, Exit>
     requires { IsKnown registry.old.policy line.now.sender }
-    ensures answered { IfOk result (λ told. (B.state registry.new.book).is_clean ≡ true → IsAnswered registry.old.policy line.now.sender line.now.payload.now line.now.moment (kept (B.state registry.old.book)) (kept (B.state registry.new.book)) (told_text (option_map (λ text. text.items) told))) }
+    ensures answered { IfOk result (λ told. (B.state registry.new.book).is_clean ≡ true
+        → IsAnswered registry.old.policy line.now.sender line.now.payload.now line.now.moment
+        (kept (B.state registry.old.book)) (kept (B.state registry.new.book))
+        (told_text (option_map (λ text. text.items) told))) }
     ensures stopped { IfErr result (IsUnread line.now.sender line.now.payload.now number) }
-    ensures left { IfErr result (LeavesAsWas (B.state registry.old.book) (B.state registry.new.book)) }
+    ensures left { IfErr result (LeavesAsWas (B.state registry.old.book)
+        (B.state registry.new.book)) }
     ensures follows { Follows (B.state registry.old.book) (B.state registry.new.book) }
     ensures policy { registry.new.policy ≡ registry.old.policy }
 {
@@ -71,7 +78,10 @@ fn answer_registrar<B: Book + Drop>(
     moment: Moment,
 ) -> Result<Option<Vec<u8>>, AllocError>
     requires { IsRegistrar registry.old.policy caller }
-    ensures answered { IfOk result (λ told. (B.state registry.new.book).is_clean ≡ true → IsAnswered registry.old.policy (Registrar caller) payload.now moment (kept (B.state registry.old.book)) (kept (B.state registry.new.book)) (told_text (option_map (λ text. text.items) told))) }
+    ensures answered { IfOk result (λ told. (B.state registry.new.book).is_clean ≡ true
+        → IsAnswered registry.old.policy (Registrar caller) payload.now moment
+        (kept (B.state registry.old.book)) (kept (B.state registry.new.book))
+        (told_text (option_map (λ text. text.items) told))) }
     ensures follows { Follows (B.state registry.old.book) (B.state registry.new.book) }
     ensures policy { registry.new.policy ≡ registry.old.policy }
 {
@@ -90,7 +100,9 @@ fn answer_hello<B: Book + Drop>(
     registry: &mut Registry<B>,
     moment: Moment,
 ) -> Result<Option<Vec<u8>>, AllocError>
-    ensures answered { IfOk result (λ told. (B.state registry.new.book).is_clean ≡ true → IsAnsweredHello registry.old.policy moment (kept (B.state registry.old.book)) (kept (B.state registry.new.book)) (told_text (option_map (λ text. text.items) told))) }
+    ensures answered { IfOk result (λ told. (B.state registry.new.book).is_clean ≡ true
+        → IsAnsweredHello registry.old.policy moment (kept (B.state registry.old.book))
+        (kept (B.state registry.new.book)) (told_text (option_map (λ text. text.items) told))) }
     ensures follows { Follows (B.state registry.old.book) (B.state registry.new.book) }
     ensures policy { registry.new.policy ≡ registry.old.policy }
 {
@@ -102,9 +114,11 @@ fn answer_hello<B: Book + Drop>(
 
 /// The date of the greeting, unless the call gave up.
 fn date_of<B: Book + Drop>(registry: &mut Registry<B>, moment: Moment) -> Option<Moment>
-    ensures step { IfSome result (λ date. Greets registry.old.policy moment date (B.state registry.old.book) (B.state registry.new.book)) }
+    ensures step { IfSome result (λ date. Greets registry.old.policy moment date
+        (B.state registry.old.book) (B.state registry.new.book)) }
     ensures early { OnSome result (moment ≤ last_call) }
-    ensures same { IfNone result (IsUnchanged (B.state registry.old.book) (B.state registry.new.book)) }
+    ensures same { IfNone result (IsUnchanged (B.state registry.old.book)
+        (B.state registry.new.book)) }
     ensures follows { Follows (B.state registry.old.book) (B.state registry.new.book) }
     ensures policy { registry.new.policy ≡ registry.old.policy }
 {
@@ -120,7 +134,10 @@ fn answer_command<B: Book + Drop>(
     moment: Moment,
 ) -> Result<Option<Vec<u8>>, AllocError>
     requires { IsRegistrar registry.old.policy caller }
-    ensures answered { IfOk result (λ told. (B.state registry.new.book).is_clean ≡ true → IsAnsweredCommand registry.old.policy caller command moment (kept (B.state registry.old.book)) (kept (B.state registry.new.book)) (told_text (option_map (λ text. text.items) told))) }
+    ensures answered { IfOk result (λ told. (B.state registry.new.book).is_clean ≡ true
+        → IsAnsweredCommand registry.old.policy caller command moment
+        (kept (B.state registry.old.book)) (kept (B.state registry.new.book))
+        (told_text (option_map (λ text. text.items) told))) }
     ensures follows { Follows (B.state registry.old.book) (B.state registry.new.book) }
     ensures policy { registry.new.policy ≡ registry.old.policy }
 {
@@ -140,9 +157,11 @@ fn reply_to<B: Book + Drop>(
     moment: Moment,
 ) -> Option<Reply>
     requires { IsRegistrar registry.old.policy caller }
-    ensures step { IfSome result (λ reply. Steps registry.old.policy caller command moment reply (B.state registry.old.book) (B.state registry.new.book)) }
+    ensures step { IfSome result (λ reply. Steps registry.old.policy caller command moment reply
+        (B.state registry.old.book) (B.state registry.new.book)) }
     ensures early { OnSome result (moment ≤ last_call) }
-    ensures same { IfNone result (IsUnchanged (B.state registry.old.book) (B.state registry.new.book)) }
+    ensures same { IfNone result (IsUnchanged (B.state registry.old.book)
+        (B.state registry.new.book)) }
     ensures follows { Follows (B.state registry.old.book) (B.state registry.new.book) }
     ensures policy { registry.new.policy ≡ registry.old.policy }
 {
@@ -158,7 +177,9 @@ fn answer_operator<B: Book + Drop>(
     request: OperatorRequest,
     moment: Moment,
 ) -> Result<Option<Vec<u8>>, AllocError>
-    ensures answered { IfOk result (λ told. (B.state registry.new.book).is_clean ≡ true → IsAnsweredOperator registry.old.policy request moment (kept (B.state registry.old.book)) (kept (B.state registry.new.book)) (told_text (option_map (λ text. text.items) told))) }
+    ensures answered { IfOk result (λ told. (B.state registry.new.book).is_clean ≡ true
+        → IsAnsweredOperator registry.old.policy request moment (kept (B.state registry.old.book))
+        (kept (B.state registry.new.book)) (told_text (option_map (λ text. text.items) told))) }
     ensures follows { Follows (B.state registry.old.book) (B.state registry.new.book) }
     ensures policy { registry.new.policy ≡ registry.old.policy }
 {
@@ -175,7 +196,9 @@ fn answer_order<B: Book + Drop>(
     order: Order,
     moment: Moment,
 ) -> Result<Option<Vec<u8>>, AllocError>
-    ensures answered { IfOk result (λ told. (B.state registry.new.book).is_clean ≡ true → IsAnsweredOrder registry.old.policy order moment (kept (B.state registry.old.book)) (kept (B.state registry.new.book)) (told_text (option_map (λ text. text.items) told))) }
+    ensures answered { IfOk result (λ told. (B.state registry.new.book).is_clean ≡ true
+        → IsAnsweredOrder registry.old.policy order moment (kept (B.state registry.old.book))
+        (kept (B.state registry.new.book)) (told_text (option_map (λ text. text.items) told))) }
     ensures follows { Follows (B.state registry.old.book) (B.state registry.new.book) }
     ensures policy { registry.new.policy ≡ registry.old.policy }
 {
@@ -193,9 +216,11 @@ fn code_of<B: Book + Drop>(
     order: &Order,
     moment: Moment,
 ) -> Option<Code>
-    ensures step { IfSome result (λ code. OrderSteps registry.old.policy order.now moment code (B.state registry.old.book) (B.state registry.new.book)) }
+    ensures step { IfSome result (λ code. OrderSteps registry.old.policy order.now moment code
+        (B.state registry.old.book) (B.state registry.new.book)) }
     ensures early { OnSome result (moment ≤ last_call) }
-    ensures same { IfNone result (IsUnchanged (B.state registry.old.book) (B.state registry.new.book)) }
+    ensures same { IfNone result (IsUnchanged (B.state registry.old.book)
+        (B.state registry.new.book)) }
     ensures follows { Follows (B.state registry.old.book) (B.state registry.new.book) }
     ensures policy { registry.new.policy ≡ registry.old.policy }
 {
@@ -209,7 +234,9 @@ fn answer_settlement<B: Book + Drop>(
     at_most: u32,
     moment: Moment,
 ) -> Result<Option<Vec<u8>>, AllocError>
-    ensures answered { IfOk result (λ told. (B.state registry.new.book).is_clean ≡ true → IsAnsweredSettlement registry.old.policy at_most moment (kept (B.state registry.old.book)) (kept (B.state registry.new.book)) (told_text (option_map (λ text. text.items) told))) }
+    ensures answered { IfOk result (λ told. (B.state registry.new.book).is_clean ≡ true
+        → IsAnsweredSettlement registry.old.policy at_most moment (kept (B.state registry.old.book))
+        (kept (B.state registry.new.book)) (told_text (option_map (λ text. text.items) told))) }
     ensures follows { Follows (B.state registry.old.book) (B.state registry.new.book) }
     ensures policy { registry.new.policy ≡ registry.old.policy }
 {
@@ -221,9 +248,11 @@ fn answer_settlement<B: Book + Drop>(
 
 /// How many objects lapsed, of so many at most, unless the call gave up.
 fn settled<B: Book + Drop>(registry: &mut Registry<B>, at_most: u32, moment: Moment) -> Option<u32>
-    ensures step { IfSome result (λ done. Settles registry.old.policy moment at_most done (B.state registry.old.book) (B.state registry.new.book)) }
+    ensures step { IfSome result (λ done. Settles registry.old.policy moment at_most done
+        (B.state registry.old.book) (B.state registry.new.book)) }
     ensures early { OnSome result (moment ≤ last_call) }
-    ensures same { IfNone result (IsUnchanged (B.state registry.old.book) (B.state registry.new.book)) }
+    ensures same { IfNone result (IsUnchanged (B.state registry.old.book)
+        (B.state registry.new.book)) }
     ensures follows { Follows (B.state registry.old.book) (B.state registry.new.book) }
     ensures policy { registry.new.policy ≡ registry.old.policy }
 {

@@ -30,9 +30,12 @@ pub fn deposit_on<B: Book + Drop, W: Write>(
     cents: i64,
     writer: &mut W,
 ) -> Result<Code, Exit>
-    ensures step { IfOk result (λ code. OrderSteps registry.old.policy (orders.Deposit registrar.now cents) moment code (B.state registry.old.book) (B.state registry.new.book)) }
+    ensures step { IfOk result (λ code. OrderSteps registry.old.policy
+        (orders.Deposit registrar.now cents) moment code (B.state registry.old.book)
+        (B.state registry.new.book)) }
     ensures early { OnOk result (moment ≤ last_call) }
-    ensures told { IfOk result (λ code. Appends (W.contents writer.old) (W.contents writer.new) (answer_text code None ++ codes "\n")) }
+    ensures told { IfOk result (λ code. Appends (W.contents writer.old) (W.contents writer.new)
+        (answer_text code None ++ codes "\n")) }
     ensures stopped { IfErr result (EndsUntold
         (IsCarriedOut registry.old.policy (requests.Order (orders.Deposit registrar.now cents)) moment)
         (B.state registry.old.book) (B.state registry.new.book)

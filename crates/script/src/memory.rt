@@ -15,7 +15,8 @@ use store::{Book, BookFault};
 
 /// A registry in memory that was never used.
 pub(crate) fn open(alloc: Global, policy: Policy) -> Result<Registry<MemoryBook>, OpenFault>
-    ensures start { IfOk result (λ registry. kept (⟦<MemoryBook as Book>⟧.state registry.book) ≡ start policy) }
+    ensures start { IfOk result (λ registry. kept (⟦<MemoryBook as Book>⟧.state registry.book)
+        ≡ start policy) }
     ensures policy { IfOk result (λ registry. registry.policy ≡ policy) }
 {
     let book = match in_memory(alloc) {

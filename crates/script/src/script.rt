@@ -30,7 +30,8 @@ pub fn run_script<R: Read + Drop, W: Write>(
     reader: R,
     writer: &mut W,
 ) -> Exit
-    ensures { IfSome (R.remaining reader) (λ input. EndsByFile policy.now input (W.contents writer.old) (W.contents writer.new) result) }
+    ensures { IfSome (R.remaining reader) (λ input. EndsByFile policy.now input
+        (W.contents writer.old) (W.contents writer.new) result) }
 {
     match Policy::read(alloc, policy) {
         Ok(policy) => run_under(alloc, policy, reader, writer),
@@ -45,7 +46,8 @@ fn run_under<R: Read + Drop, W: Write>(
     reader: R,
     writer: &mut W,
 ) -> Exit
-    ensures { IfSome (R.remaining reader) (λ input. EndsUnder policy input (W.contents writer.old) (W.contents writer.new) result) }
+    ensures { IfSome (R.remaining reader) (λ input. EndsUnder policy input (W.contents writer.old)
+        (W.contents writer.new) result) }
 {
     match open(alloc, policy) {
         Ok(registry) => run_over(alloc, registry, reader, writer),
@@ -60,7 +62,9 @@ fn run_over<R: Read + Drop, W: Write>(
     reader: R,
     writer: &mut W,
 ) -> Exit
-    ensures { IfSome (R.remaining reader) (λ input. Ends registry.policy (kept (⟦<MemoryBook as Book>⟧.state registry.book)) input (W.contents writer.old) (W.contents writer.new) result) }
+    ensures { IfSome (R.remaining reader)
+        (λ input. Ends registry.policy (kept (⟦<MemoryBook as Book>⟧.state registry.book)) input
+        (W.contents writer.old) (W.contents writer.new) result) }
 {
     let mut registry = registry;
     let exit = run_on(alloc, &mut registry, reader, writer);
@@ -76,7 +80,10 @@ pub fn run_on<B: Book + Drop, R: Read + Drop, W: Write>(
     reader: R,
     writer: &mut W,
 ) -> Exit
-    ensures ends { IfSome (R.remaining reader) (λ input. (B.state registry.new.book).is_clean ≡ true → EndsIn registry.old.policy (kept (B.state registry.old.book)) (kept (B.state registry.new.book)) input (W.contents writer.old) (W.contents writer.new) result) }
+    ensures ends { IfSome (R.remaining reader) (λ input. (B.state registry.new.book).is_clean ≡ true
+        → EndsIn registry.old.policy (kept (B.state registry.old.book))
+        (kept (B.state registry.new.book)) input (W.contents writer.old) (W.contents writer.new)
+        result) }
     ensures follows { Follows (B.state registry.old.book) (B.state registry.new.book) }
     ensures policy { registry.new.policy ≡ registry.old.policy }
 {
@@ -93,7 +100,10 @@ fn answer_input<B: Book + Drop, R: Read + Drop, W: Write>(
     reader: R,
     writer: &mut W,
 ) -> Result<(), Exit>
-    ensures ends { IfSome (R.remaining reader) (λ input. (B.state registry.new.book).is_clean ≡ true → EndsIn registry.old.policy (kept (B.state registry.old.book)) (kept (B.state registry.new.book)) input (W.contents writer.old) (W.contents writer.new) (end_of result)) }
+    ensures ends { IfSome (R.remaining reader) (λ input. (B.state registry.new.book).is_clean ≡ true
+        → EndsIn registry.old.policy (kept (B.state registry.old.book))
+        (kept (B.state registry.new.book)) input (W.contents writer.old) (W.contents writer.new)
+        (end_of result)) }
     ensures follows { Follows (B.state registry.old.book) (B.state registry.new.book) }
     ensures policy { registry.new.policy ≡ registry.old.policy }
 {
@@ -113,7 +123,11 @@ fn answer_lines<B: Book + Drop, R: BufRead, W: Write>(
     pending: &mut Vec<u8>,
     writer: &mut W,
 ) -> Result<(), Exit>
-    ensures ends { IfSome (R.remaining reader.old) (λ input. (B.state registry.new.book).is_clean ≡ true → EndsBehind registry.old.policy (kept (B.state registry.old.book)) (kept (B.state registry.new.book)) input (W.contents writer.old) pending.old.items (append_known (W.contents writer.new) pending.new.items) (end_of result)) }
+    ensures ends { IfSome (R.remaining reader.old) (λ input. (B.state registry.new.book).is_clean
+        ≡ true
+        → EndsBehind registry.old.policy (kept (B.state registry.old.book))
+        (kept (B.state registry.new.book)) input (W.contents writer.old) pending.old.items
+        (append_known (W.contents writer.new) pending.new.items) (end_of result)) }
     ensures sent { (sent : List ℕ) × Appends (W.contents writer.old) (W.contents writer.new) sent }
     ensures follows { Follows (B.state registry.old.book) (B.state registry.new.book) }
     ensures policy { registry.new.policy ≡ registry.old.policy }
@@ -148,11 +162,20 @@ fn print_answer<B: Book + Drop, W: Write>(
     pending: &mut Vec<u8>,
     writer: &mut W,
 ) -> Result<(), Exit>
-    ensures told { OnOk result ((B.state registry.new.book).is_clean ≡ true → TellsLine registry.old.policy line.now (kept (B.state registry.old.book)) (kept (B.state registry.new.book)) (append_known (W.contents writer.old) pending.old.items) (append_known (W.contents writer.new) pending.new.items)) }
-    ensures stopped { IfErr result (HaltsAt registry.old.policy line.now number (append_known (W.contents writer.old) pending.old.items) (append_known (W.contents writer.new) pending.new.items)) }
-    ensures broken { OnErr result ((B.state registry.new.book).is_clean ≡ true → BreaksAt registry.old.policy line.now (kept (B.state registry.old.book)) (W.contents writer.old) pending.old.items (append_known (W.contents writer.new) pending.new.items)) }
+    ensures told { OnOk result ((B.state registry.new.book).is_clean ≡ true
+        → TellsLine registry.old.policy line.now (kept (B.state registry.old.book))
+        (kept (B.state registry.new.book)) (append_known (W.contents writer.old) pending.old.items)
+        (append_known (W.contents writer.new) pending.new.items)) }
+    ensures stopped { IfErr result (HaltsAt registry.old.policy line.now number
+        (append_known (W.contents writer.old) pending.old.items)
+        (append_known (W.contents writer.new) pending.new.items)) }
+    ensures broken { OnErr result ((B.state registry.new.book).is_clean ≡ true
+        → BreaksAt registry.old.policy line.now (kept (B.state registry.old.book))
+        (W.contents writer.old) pending.old.items (append_known (W.contents writer.new)
+        pending.new.items)) }
     ensures sent { (sent : List ℕ) × Appends (W.contents writer.old) (W.contents writer.new) sent }
-    ensures left { IfErr result (LeavesAsWas (B.state registry.old.book) (B.state registry.new.book)) }
+    ensures left { IfErr result (LeavesAsWas (B.state registry.old.book)
+        (B.state registry.new.book)) }
     ensures follows { Follows (B.state registry.old.book) (B.state registry.new.book) }
     ensures policy { registry.new.policy ≡ registry.old.policy }
 {
@@ -176,8 +199,11 @@ fn text_of(told: &Option<Vec<u8>>) -> &[u8]
 
 /// Prints a text and a line feed.
 fn print<W: Write>(pending: &mut Vec<u8>, writer: &mut W, text: &[u8]) -> io::Result<()>
-    ensures printed { OnOk result (Appends (append_known (W.contents writer.old) pending.old.items) (append_known (W.contents writer.new) pending.new.items) (text.now ++ codes "\n")) }
-    ensures begun { OnErr result (AppendsFront (W.contents writer.old) (append_known (W.contents writer.new) pending.new.items) (pending.old.items ++ (text.now ++ codes "\n"))) }
+    ensures printed { OnOk result (Appends (append_known (W.contents writer.old) pending.old.items)
+        (append_known (W.contents writer.new) pending.new.items) (text.now ++ codes "\n")) }
+    ensures begun { OnErr result (AppendsFront (W.contents writer.old)
+        (append_known (W.contents writer.new) pending.new.items) (pending.old.items
+        ++ (text.now ++ codes "\n"))) }
     ensures sent { (sent : List ℕ) × Appends (W.contents writer.old) (W.contents writer.new) sent }
 {
     make_room(pending, writer)?;
@@ -187,8 +213,10 @@ fn print<W: Write>(pending: &mut Vec<u8>, writer: &mut W, text: &[u8]) -> io::Re
 
 /// Writes what is pending, if that is much.
 fn make_room<W: Write>(pending: &mut Vec<u8>, writer: &mut W) -> io::Result<()>
-    ensures same { OnOk result (Keeps (append_known (W.contents writer.old) pending.old.items) (append_known (W.contents writer.new) pending.new.items)) }
-    ensures begun { OnErr result (AppendsFront (W.contents writer.old) (append_known (W.contents writer.new) pending.new.items) pending.old.items) }
+    ensures same { OnOk result (Keeps (append_known (W.contents writer.old) pending.old.items)
+        (append_known (W.contents writer.new) pending.new.items)) }
+    ensures begun { OnErr result (AppendsFront (W.contents writer.old)
+        (append_known (W.contents writer.new) pending.new.items) pending.old.items) }
     ensures sent { (sent : List ℕ) × Appends (W.contents writer.old) (W.contents writer.new) sent }
 {
     if pending.len() < ROOM {
@@ -199,8 +227,10 @@ fn make_room<W: Write>(pending: &mut Vec<u8>, writer: &mut W) -> io::Result<()>
 
 /// Adds a text and a line feed to what is pending.
 fn add(pending: &mut Vec<u8>, text: &[u8]) -> Result<(), AllocError>
-    ensures whole { OnOk result (pending.new.items ≡ pending.old.items ++ (text.now ++ codes "\n")) }
-    ensures begun { OnErr result (AppendsFront (Some pending.old.items) (Some pending.new.items) (text.now ++ codes "\n")) }
+    ensures whole { OnOk result (pending.new.items ≡ pending.old.items
+        ++ (text.now ++ codes "\n")) }
+    ensures begun { OnErr result (AppendsFront (Some pending.old.items) (Some pending.new.items)
+        (text.now ++ codes "\n")) }
 {
     pending.extend_from_slice(text)?;
     pending.push(b'\n')?;
@@ -210,8 +240,10 @@ fn add(pending: &mut Vec<u8>, text: &[u8]) -> Result<(), AllocError>
 /// Writes what is pending. After a fault nothing of it is tried again, so that nothing is written twice.
 fn write_pending<W: Write>(pending: &mut Vec<u8>, writer: &mut W) -> io::Result<()>
     ensures empty { pending.new.items ≡ [] }
-    ensures bytes { OnOk result (Appends (W.contents writer.old) (W.contents writer.new) pending.old.items) }
-    ensures begun { OnErr result (AppendsFront (W.contents writer.old) (W.contents writer.new) pending.old.items) }
+    ensures bytes { OnOk result (Appends (W.contents writer.old) (W.contents writer.new)
+        pending.old.items) }
+    ensures begun { OnErr result (AppendsFront (W.contents writer.old) (W.contents writer.new)
+        pending.old.items) }
 {
     let written = write_all(writer, pending);
     pending.clear();

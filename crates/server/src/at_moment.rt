@@ -86,7 +86,8 @@ pub(crate) fn answer_at<B: Book + Drop>(
 ) -> Asked<B>
     ensures answer { IfOk result.answer (λ bytes. (B.state result.registry.book).is_clean ≡ true
         → (faces : Faces) → MayShow registry.policy moment (B.state registry.book) faces → IsAnswer registry.policy faces head.now bytes.items) }
-    ensures passes { Passes registry.policy moment (B.state registry.book) (B.state result.registry.book) }
+    ensures passes { Passes registry.policy moment (B.state registry.book)
+        (B.state result.registry.book) }
     ensures policy { result.registry.policy ≡ registry.policy }
 {
     let mut source = AtMoment::new(registry, moment);

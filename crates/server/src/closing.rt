@@ -78,7 +78,8 @@ fn piece_buffer(alloc: Global) -> Result<Vec<u8>, AllocError>
 /// of so many reads. Answers whether the input ended.
 fn read_on<R: Read>(reader: &mut R, piece: &mut [u8]) -> bool
     requires { length piece.old ≡ spec.most_piece }
-    ensures bound { spec.TakesUpTo spec.most_behind (R.remaining reader.old) (R.remaining reader.new) }
+    ensures bound { spec.TakesUpTo spec.most_behind (R.remaining reader.old)
+        (R.remaining reader.new) }
     ensures end { result ≡ true → IsAtEnd (R.remaining reader.new) }
 {
     'reads: for _turn in 0..MOST_READS {

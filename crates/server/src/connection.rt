@@ -51,7 +51,9 @@ pub fn serve_one<R: Read, W: Write, C: Clock, B: Book + Drop>(
     clock: &mut C,
     registry: Registry<B>,
 ) -> Served<B>
-    ensures served { Serves registry.policy (R.remaining reader.old) (C.moments clock.old) (B.state registry.book) (W.contents writer.old) (W.contents writer.new) (C.moments clock.new) (B.state result.registry.book) result.end }
+    ensures served { Serves registry.policy (R.remaining reader.old) (C.moments clock.old)
+        (B.state registry.book) (W.contents writer.old) (W.contents writer.new)
+        (C.moments clock.new) (B.state result.registry.book) result.end }
     ensures follows { Follows (B.state registry.book) (B.state result.registry.book) }
     ensures policy { result.registry.policy ≡ registry.policy }
 {
@@ -94,7 +96,10 @@ fn serve_epp<R: Read, W: Write, C: Clock, B: Book + Drop>(
     clock: &mut C,
     registry: Registry<B>,
 ) -> Served<B>
-    ensures served { (end : SessionEnd) × (result.end ≡ ends.Session end) × Writes (W.contents writer.old) (W.contents writer.new) (λ written. IsServed registry.policy (R.remaining reader.old) (C.moments clock.old) (B.state registry.book) written (C.moments clock.new) (B.state result.registry.book) end) }
+    ensures served { (end : SessionEnd) × (result.end ≡ ends.Session end)
+        × Writes (W.contents writer.old) (W.contents writer.new)
+        (λ written. IsServed registry.policy (R.remaining reader.old) (C.moments clock.old)
+        (B.state registry.book) written (C.moments clock.new) (B.state result.registry.book) end) }
     ensures policy { result.registry.policy ≡ registry.policy }
 {
     let mut connection = Connection::new(alloc, registry);
@@ -114,7 +119,10 @@ fn serve_other<R: Read, W: Write, C: Clock, B: Book + Drop>(
     clock: &mut C,
     registry: Registry<B>,
 ) -> Served<B>
-    ensures served { (end : HttpEnd) × (result.end ≡ ends.Http end) × AnswersHttp registry.policy (R.remaining reader.old) (C.moments clock.old) (B.state registry.book) (W.contents writer.old) (W.contents writer.new) (C.moments clock.new) (B.state result.registry.book) end }
+    ensures served { (end : HttpEnd) × (result.end ≡ ends.Http end)
+        × AnswersHttp registry.policy (R.remaining reader.old) (C.moments clock.old)
+        (B.state registry.book) (W.contents writer.old) (W.contents writer.new)
+        (C.moments clock.new) (B.state result.registry.book) end }
     ensures policy { result.registry.policy ≡ registry.policy }
 {
     let served = serve_http(alloc, routes, reader, writer, clock, registry);

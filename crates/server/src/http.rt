@@ -39,7 +39,9 @@ pub(crate) fn serve_http<R: Read, W: Write, C: Clock, B: Book + Drop>(
     clock: &mut C,
     registry: Registry<B>,
 ) -> HttpServed<B>
-    ensures served { AnswersHttp registry.policy (R.remaining reader.old) (C.moments clock.old) (B.state registry.book) (W.contents writer.old) (W.contents writer.new) (C.moments clock.new) (B.state result.registry.book) result.end }
+    ensures served { AnswersHttp registry.policy (R.remaining reader.old) (C.moments clock.old)
+        (B.state registry.book) (W.contents writer.old) (W.contents writer.new)
+        (C.moments clock.new) (B.state result.registry.book) result.end }
     ensures policy { result.registry.policy ≡ registry.policy }
 {
     let Some(head) = read_request(alloc, reader) else {
@@ -60,7 +62,9 @@ fn answer_request<W: Write, C: Clock, B: Book + Drop>(
     clock: &mut C,
     registry: Registry<B>,
 ) -> HttpServed<B>
-    ensures served { AnswersHttp registry.policy (Some head.now) (C.moments clock.old) (B.state registry.book) (W.contents writer.old) (W.contents writer.new) (C.moments clock.new) (B.state result.registry.book) result.end }
+    ensures served { AnswersHttp registry.policy (Some head.now) (C.moments clock.old)
+        (B.state registry.book) (W.contents writer.old) (W.contents writer.new)
+        (C.moments clock.new) (B.state result.registry.book) result.end }
     ensures policy { result.registry.policy ≡ registry.policy }
 {
     let moment = clock.moment();
@@ -74,7 +78,8 @@ fn answer_request<W: Write, C: Clock, B: Book + Drop>(
 
 /// Writes an answer, where there is one.
 fn write_answer<W: Write>(writer: &mut W, answer: Result<Vec<u8>, Fault>) -> HttpEnd
-    ensures { IsWritten (λ bytes. bytes.items) answer (W.contents writer.old) (W.contents writer.new) result }
+    ensures { IsWritten (λ bytes. bytes.items) answer (W.contents writer.old)
+        (W.contents writer.new) result }
 {
     let Ok(answer) = answer else {
         return HttpEnd::Unanswered;
@@ -90,7 +95,8 @@ fn write_answer<W: Write>(writer: &mut W, answer: Result<Vec<u8>, Fault>) -> Htt
 /// The bytes of a connection, up to where it is decided which head they begin with, or to their end.
 /// None where a read fails or there is no memory.
 fn read_request<R: Read>(alloc: Global, reader: &mut R) -> Option<Vec<u8>>
-    ensures { IfSome result (λ head. IsRead (R.remaining reader.old) (R.remaining reader.new) head.items) }
+    ensures { IfSome result (λ head. IsRead (R.remaining reader.old) (R.remaining reader.new)
+        head.items) }
 {
     let Ok(mut buffer) = head_buffer(alloc) else {
         return None;
@@ -114,7 +120,8 @@ fn head_buffer(alloc: Global) -> Result<Vec<u8>, AllocError>
 fn read_to_decide<R: Read>(reader: &mut R, buffer: &mut [u8]) -> Result<usize, ReadFault>
     requires { most_bytes ≤ length buffer.old }
     ensures bound { IfOk result (λ n. n ≤ length buffer.new) }
-    ensures read { IfOk result (λ n. IsRead (R.remaining reader.old) (R.remaining reader.new) (take n buffer.new)) }
+    ensures read { IfOk result (λ n. IsRead (R.remaining reader.old) (R.remaining reader.new)
+        (take n buffer.new)) }
 {
     let mut count = 0;
     'reads: for _ in 0..u64::MAX {

@@ -54,7 +54,8 @@ pub fn zone_on<B: Book + Drop, W: Write>(
         → Appends (W.contents writer.old) (W.contents writer.new) (zone_at registry.old.policy moment (B.state registry.old.book).content.registry)) }
     ensures begun { OnErr result ((B.state registry.new.book).is_clean ≡ true
         → AppendsBeginning (W.contents writer.old) (W.contents writer.new) (zone_at registry.old.policy moment (B.state registry.old.book).content.registry)) }
-    ensures passes { Passes registry.old.policy moment (B.state registry.old.book) (B.state registry.new.book) }
+    ensures passes { Passes registry.old.policy moment (B.state registry.old.book)
+        (B.state registry.new.book) }
     ensures policy { registry.new.policy ≡ registry.old.policy }
 {
     let clock = registry.greet(moment)?;
@@ -73,7 +74,8 @@ fn write_at<B: Book + Drop, W: Write>(
         → Appends (W.contents writer.old) (W.contents writer.new) (zone_with registry.old.policy moment serial (B.state registry.old.book).content.registry)) }
     ensures begun { OnErr result ((B.state registry.new.book).is_clean ≡ true
         → AppendsBeginning (W.contents writer.old) (W.contents writer.new) (zone_with registry.old.policy moment serial (B.state registry.old.book).content.registry)) }
-    ensures passes { Passes registry.old.policy moment (B.state registry.old.book) (B.state registry.new.book) }
+    ensures passes { Passes registry.old.policy moment (B.state registry.old.book)
+        (B.state registry.new.book) }
     ensures policy { registry.new.policy ≡ registry.old.policy }
 {
     let mut source = LentAtMoment { registry, moment };

@@ -97,8 +97,11 @@ fn serve_frames<R: Read, W: Write, C: Clock, P: Peer>(
 /// Sends what is made of a payload, and says how the session ends with it, if it does.
 fn send<W: Write>(writer: &mut W, answer: &Answer) -> Result<Option<SessionEnd>, WriteFault>
     ensures end { IfOk result (λ end. end ≡ end_with (outcome_of answer.now)) }
-    ensures ok { OnOk result (Appends (W.contents writer.old) (W.contents writer.new) (frame (sent (outcome_of answer.now)))) }
-    ensures err { OnErr result ((n : ℕ) × Appends (W.contents writer.old) (W.contents writer.new) (take n (frame (sent (outcome_of answer.now))))) }
+    ensures ok { OnOk result (Appends (W.contents writer.old) (W.contents writer.new)
+        (frame (sent (outcome_of answer.now)))) }
+    ensures err { OnErr result ((n : ℕ)
+        × Appends (W.contents writer.old) (W.contents writer.new)
+        (take n (frame (sent (outcome_of answer.now))))) }
 {
     match answer {
         Answer::Reply(reply) => send_reply(writer, reply, None),
@@ -120,9 +123,13 @@ fn send_reply<W: Write>(
     reply: &[u8],
     end: Option<SessionEnd>,
 ) -> Result<Option<SessionEnd>, WriteFault>
-    ensures end { IfOk result (λ ended. ended ≡ (if spec.has_frame reply.now then end else Some SessionEnd.Lost)) }
-    ensures ok { OnOk result (Appends (W.contents writer.old) (W.contents writer.new) (frame (spec.framed reply.now))) }
-    ensures err { OnErr result ((n : ℕ) × Appends (W.contents writer.old) (W.contents writer.new) (take n (frame (spec.framed reply.now)))) }
+    ensures end { IfOk result (λ ended. ended
+        ≡ (if spec.has_frame reply.now then end else Some SessionEnd.Lost)) }
+    ensures ok { OnOk result (Appends (W.contents writer.old) (W.contents writer.new)
+        (frame (spec.framed reply.now))) }
+    ensures err { OnErr result ((n : ℕ)
+        × Appends (W.contents writer.old) (W.contents writer.new)
+        (take n (frame (spec.framed reply.now)))) }
 {
     if has_frame(reply) {
         write_frame(writer, reply)?;

@@ -28,7 +28,8 @@ pub fn maybe_row<S: Alter>(
     store: &mut RowStore<S>,
     registrar: RegistrarNo,
 ) -> Result<Option<AccountRow>, BookFault>
-    ensures row { Finds result (row_of store.old.content (registrar_column registrar)) store.old store.new }
+    ensures row { Finds result (row_of store.old.content (registrar_column registrar)) store.old
+        store.new }
     ensures place { IfOk result (λ row. is_place registrar ≡ true) }
 {
     let id = number_of(registrar)?;
@@ -41,7 +42,8 @@ pub fn found_row<S: Alter>(
     store: &mut RowStore<S>,
     registrar: RegistrarNo,
 ) -> Result<AccountRow, BookFault>
-    ensures row { Meets result (λ row. Some row ≡ row_of store.old.content (registrar_column registrar)) store.old store.new }
+    ensures row { Meets result (λ row. Some row
+        ≡ row_of store.old.content (registrar_column registrar)) store.old store.new }
     ensures place { IfOk result (λ row. is_place registrar ≡ true) }
 {
     match maybe_row(store, registrar)? {

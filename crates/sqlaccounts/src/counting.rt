@@ -25,7 +25,8 @@ pub fn counts<S: Alter>(
     store: &mut RowStore<S>,
     registrar: RegistrarNo,
 ) -> Result<Counters, BookFault>
-    ensures { Tells result (sums_are_right store.old.content) (counters_of (account_of registrar store.old.content)) store.old store.new }
+    ensures { Tells result (sums_are_right store.old.content)
+        (counters_of (account_of registrar store.old.content)) store.old store.new }
 {
     let row = maybe_row(store, registrar)?;
     Ok(counted(row))

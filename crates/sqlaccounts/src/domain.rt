@@ -28,7 +28,9 @@ pub fn lines_on<S: Alter>(
     registrar: RegistrarNo,
     roid: &Roid,
 ) -> Result<Lines, BookFault>
-    ensures { Finds result (filter (lines.is_on roid.now) (account_of registrar store.old.content).lines) store.old store.new }
+    ensures { Finds result
+        (filter (lines.is_on roid.now) (account_of registrar store.old.content).lines) store.old
+        store.new }
 {
     let rows = rows_on(store, registrar, roid)?;
     store.whole();
@@ -58,7 +60,10 @@ pub fn swaps<C: LineChange, S: Alter>(
     registrar: RegistrarNo,
     change: &C,
 ) -> Result<Seq<LineSwap>, BookFault>
-    ensures { Meets result (λ swaps. swapped_all swaps (account_of registrar store.old.content).lines ≡ remade in_order (C.changed change.now) (account_of registrar store.old.content).lines) store.old store.new }
+    ensures { Meets result
+        (λ swaps. swapped_all swaps (account_of registrar store.old.content).lines
+        ≡ remade in_order (C.changed change.now) (account_of registrar store.old.content).lines)
+        store.old store.new }
 {
     let roid = change.domain();
     let lines = lines_on(store, alloc, registrar, &roid)?;

@@ -24,7 +24,8 @@ pub(crate) fn rows_on<S: Alter>(
     registrar: RegistrarNo,
     roid: &Roid,
 ) -> Result<Seq<LineRow>, BookFault>
-    ensures rows { Finds result (filter (is_row_on registrar roid.now) store.old.content.lines) store.old store.new }
+    ensures rows { Finds result (filter (is_row_on registrar roid.now) store.old.content.lines)
+        store.old store.new }
     ensures place { IfOk result (λ rows. is_place registrar ≡ true) }
     ensures domain { IfOk result (λ rows. IsDomainRoid roid.now) }
 {
@@ -44,7 +45,8 @@ pub(crate) fn rows_about<S: Alter>(
     registrar: RegistrarNo,
     line: &Line,
 ) -> Result<Seq<LineRow>, BookFault>
-    ensures rows { Finds result (filter (is_row_about registrar line.now.roid) store.old.content.lines) store.old store.new }
+    ensures rows { Finds result (filter (is_row_about registrar line.now.roid)
+        store.old.content.lines) store.old store.new }
     ensures place { IfOk result (λ rows. is_place registrar ≡ true) }
     ensures domain { IfOk result (λ rows. IfSome line.now.roid IsDomainRoid) }
 {
@@ -59,7 +61,8 @@ fn all_rows<S: Alter>(
     store: &mut RowStore<S>,
     registrar: RegistrarNo,
 ) -> Result<Seq<LineRow>, BookFault>
-    ensures rows { Finds result (filter (is_row_about registrar None) store.old.content.lines) store.old store.new }
+    ensures rows { Finds result (filter (is_row_about registrar None) store.old.content.lines)
+        store.old store.new }
     ensures place { IfOk result (λ rows. is_place registrar ≡ true) }
 {
     let account = number_of(registrar)?;

@@ -26,7 +26,8 @@ use transactions::BookFault;
 
 /// What a registrar's account has, in whole cents: 0 where it was never opened.
 pub fn balance<S: Alter>(store: &mut RowStore<S>, registrar: RegistrarNo) -> Result<i128, BookFault>
-    ensures { Tells result (sums_are_right store.old.content) (lines.balance (account_of registrar store.old.content).lines) store.old store.new }
+    ensures { Tells result (sums_are_right store.old.content)
+        (lines.balance (account_of registrar store.old.content).lines) store.old store.new }
 {
     let row = maybe_row(store, registrar)?;
     Ok(cents_of(row))
@@ -51,7 +52,8 @@ pub fn add_line<S: Alter>(
     ends: Option<Moment>,
 ) -> Result<(), BookFault>
     requires { store.old.is_open ≡ true }
-    ensures { Turns result (IsChange registrar (with_lines (add in_order line))) store.old store.new }
+    ensures { Turns result (IsChange registrar (with_lines (add in_order line))) store.old
+        store.new }
 {
     let row = found_row(store, registrar)?;
     let row = paid(row, line.amount())?;
@@ -70,7 +72,8 @@ pub fn take_line<S: Alter>(
     line: Line,
 ) -> Result<(), BookFault>
     requires { store.old.is_open ≡ true }
-    ensures { Turns result (IsChange registrar (with_lines (taken in_order line))) store.old store.new }
+    ensures { Turns result (IsChange registrar (with_lines (taken in_order line))) store.old
+        store.new }
 {
     let row = found_row(store, registrar)?;
     let rows = rows_about(store, registrar, &line)?;

@@ -14,7 +14,8 @@ use transactions::BookFault;
 
 /// How many messages wait for a registrar: none where its account was never opened.
 pub fn waiting<S: Alter>(store: &mut RowStore<S>, registrar: RegistrarNo) -> Result<u64, BookFault>
-    ensures { Tells result (sums_are_right store.old.content) (length (account_of registrar store.old.content).queue) store.old store.new }
+    ensures { Tells result (sums_are_right store.old.content)
+        (length (account_of registrar store.old.content).queue) store.old store.new }
 {
     let row = maybe_row(store, registrar)?;
     match exact_of_column(waiting_of(row)) {

@@ -25,7 +25,8 @@ pub(crate) fn paid(row: AccountRow, cents: i128) -> Result<AccountRow, BookFault
 /// The row without what a line is worth.
 pub(crate) fn paid_back(row: AccountRow, line: &Line) -> Result<AccountRow, BookFault>
     ensures paid { IfOk result (IsPaid (pos 0 -ℤ amount line.now) row) }
-    ensures fits { OnErr result ((¬ FitsSigned w128 (pos 0 -ℤ amount line.now)) ⊎ (¬ FitsSigned w128 (balance_in row.balance +ℤ (pos 0 -ℤ amount line.now)))) }
+    ensures fits { OnErr result ((¬ FitsSigned w128 (pos 0 -ℤ amount line.now))
+        ⊎ (¬ FitsSigned w128 (balance_in row.balance +ℤ (pos 0 -ℤ amount line.now)))) }
 {
     let cents = less(line.amount())?;
     paid(row, cents)

@@ -24,7 +24,8 @@ pub fn counters<S: Alter>(
     store: &mut RowStore<S>,
     registrar: RegistrarNo,
 ) -> Result<Counters, BookFault>
-    ensures { Tells result (sums_are_right store.old.content) (counters_of (account_of registrar (registry_of store.old.content))) store.old store.new }
+    ensures { Tells result (sums_are_right store.old.content)
+        (counters_of (account_of registrar (registry_of store.old.content))) store.old store.new }
 {
     let counts = sqlaccounts::counts(store, registrar)?;
     Ok(Counters {
@@ -40,7 +41,8 @@ pub fn superordinate<S: Alter>(
     alloc: Global,
     name: &Text,
 ) -> Result<Option<Superordinate>, BookFault>
-    ensures { Finds result (option_map superordinate_of_domain (get (registry_of store.old.content).domains name.now)) store.old store.new }
+    ensures { Finds result (option_map superordinate_of_domain
+        (get (registry_of store.old.content).domains name.now)) store.old store.new }
 {
     let domain = sqldomains::domain(store, alloc, name)?;
     Ok(superordinate_of(domain))

@@ -29,7 +29,8 @@ pub type MemoryBook = SqlBook<MemStore, Made>;
 /// A book in memory, with nothing in it, which was never opened. What it may refuse is want of memory
 /// or room.
 pub fn in_memory(alloc: Global) -> Result<SqlBook<MemStore, Made>, BookFault>
-    ensures { IfOk result (λ book. IsUnused (stands (seen stored_of are_right book.records.store) book.refused)) }
+    ensures { IfOk result (λ book. IsUnused (stands (seen stored_of are_right book.records.store)
+        book.refused)) }
 {
     let store = RowStore::in_memory(alloc)?;
     Ok(Kept::over(SqlRecords {
@@ -108,7 +109,8 @@ pub fn adopt<S: Alter + Drop>(
 /// what the book told.
 pub fn into_connection<S: Alter, O: Origin<S> + Drop>(book: SqlBook<S, O>) -> Connection<S>
     ensures honest { (state S.Store result).is_clean ≡ book.records.store.is_honest }
-    ensures covers { HasCleanDisk (state S.Store result) → Covers book.records.store.crash_leaves (state S.Store result).may_leave }
+    ensures covers { HasCleanDisk (state S.Store result)
+        → Covers book.records.store.crash_leaves (state S.Store result).may_leave }
 {
     book.into_records().into_rows().into_connection()
 }

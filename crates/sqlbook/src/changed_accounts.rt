@@ -22,7 +22,8 @@ pub fn open_account<S: Alter>(
     registrar: RegistrarNo,
 ) -> Result<(), BookFault>
     requires { store.old.is_open ≡ true }
-    ensures { Alters result stored_of are_right (tables.account_opened registrar (stored_of store.old.content)) store.old store.new }
+    ensures { Alters result stored_of are_right (tables.account_opened registrar
+        (stored_of store.old.content)) store.old store.new }
 {
     store.whole();
     sqlaccounts::open_account(store, alloc, registrar)?;
@@ -37,7 +38,8 @@ pub fn set_counters<S: Alter>(
     counters: Counters,
 ) -> Result<(), BookFault>
     requires { store.old.is_open ≡ true }
-    ensures { Alters result stored_of are_right (tables.counters_set registrar counters (stored_of store.old.content)) store.old store.new }
+    ensures { Alters result stored_of are_right (tables.counters_set registrar counters
+        (stored_of store.old.content)) store.old store.new }
 {
     store.whole();
     sqlaccounts::set_counters(store, registrar, counts_of(counters))?;
@@ -63,7 +65,8 @@ pub fn add_line<S: Alter>(
     line: Line,
 ) -> Result<(), BookFault>
     requires { store.old.is_open ≡ true }
-    ensures { Alters result stored_of are_right (tables.line_added registrar line (stored_of store.old.content)) store.old store.new }
+    ensures { Alters result stored_of are_right (tables.line_added registrar line
+        (stored_of store.old.content)) store.old store.new }
 {
     store.whole();
     let days = sqlterms::days(store, alloc)?;
@@ -80,7 +83,8 @@ pub fn take_line<S: Alter>(
     line: Line,
 ) -> Result<(), BookFault>
     requires { store.old.is_open ≡ true }
-    ensures { Alters result stored_of are_right (tables.line_taken registrar line (stored_of store.old.content)) store.old store.new }
+    ensures { Alters result stored_of are_right (tables.line_taken registrar line
+        (stored_of store.old.content)) store.old store.new }
 {
     store.whole();
     sqlaccounts::take_line(store, registrar, line)?;
@@ -96,7 +100,8 @@ pub fn put_message<S: Alter>(
     message: Message,
 ) -> Result<(), BookFault>
     requires { store.old.is_open ≡ true }
-    ensures { Alters result stored_of are_right (tables.message_put registrar message (stored_of store.old.content)) store.old store.new }
+    ensures { Alters result stored_of are_right (tables.message_put registrar message
+        (stored_of store.old.content)) store.old store.new }
 {
     store.whole();
     sqlmessages::put_message(store, alloc, registrar, message)?;
@@ -112,7 +117,8 @@ pub fn take_message<S: Alter>(
     message: Message,
 ) -> Result<(), BookFault>
     requires { store.old.is_open ≡ true }
-    ensures { Alters result stored_of are_right (tables.message_taken registrar message (stored_of store.old.content)) store.old store.new }
+    ensures { Alters result stored_of are_right (tables.message_taken registrar message
+        (stored_of store.old.content)) store.old store.new }
 {
     store.whole();
     sqlmessages::take_message(store, alloc, registrar, message)?;

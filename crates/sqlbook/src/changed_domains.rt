@@ -32,7 +32,8 @@ pub fn put_domain<S: Alter>(
     policy: &Policy,
 ) -> Result<(), BookFault>
     requires { store.old.is_open ≡ true }
-    ensures { Alters result stored_of are_right (tables.domain_put name (Some domain) (stored_of store.old.content)) store.old store.new }
+    ensures { Alters result stored_of are_right (tables.domain_put name (Some domain)
+        (stored_of store.old.content)) store.old store.new }
 {
     let due = due_of_domain(&domain, policy);
     replace(store, alloc, &name, &Some(domain), due, policy)
@@ -46,7 +47,8 @@ pub fn drop_domain<S: Alter>(
     policy: &Policy,
 ) -> Result<(), BookFault>
     requires { store.old.is_open ≡ true }
-    ensures { Alters result stored_of are_right (tables.domain_put name None (stored_of store.old.content)) store.old store.new }
+    ensures { Alters result stored_of are_right
+        (tables.domain_put name None (stored_of store.old.content)) store.old store.new }
 {
     replace(store, alloc, &name, &None, Moment::first(), policy)
 }
@@ -61,7 +63,8 @@ pub fn rename_host<S: Alter>(
     policy: &Policy,
 ) -> Result<(), BookFault>
     requires { store.old.is_open ≡ true }
-    ensures { Alters result stored_of are_right (tables.host_renamed from.now to.now domain.now (stored_of store.old.content)) store.old store.new }
+    ensures { Alters result stored_of are_right (tables.host_renamed from.now to.now domain.now
+        (stored_of store.old.content)) store.old store.new }
 {
     let before = sqldomains::domain(store, alloc, domain)?;
     let renamed = put_renamed(store, alloc, domain, &before, from, to, policy);
@@ -80,7 +83,8 @@ fn put_renamed<S: Alter>(
     policy: &Policy,
 ) -> Result<(), BookFault>
     requires { store.old.is_open ≡ true }
-    ensures { Alters result stored_of are_right (with_renamed from.now to.now name.now before.now (stored_of store.old.content)) store.old store.new }
+    ensures { Alters result stored_of are_right (with_renamed from.now to.now name.now before.now
+        (stored_of store.old.content)) store.old store.new }
 {
     let Some(before) = before else {
         return Ok(());
@@ -97,7 +101,8 @@ fn found<S: Alter>(
     name: &Text,
     policy: &Policy,
 ) -> Result<Option<Domain>, BookFault>
-    ensures { Meets result (IsStanding name.now policy.now.days store.old.content) store.old store.new }
+    ensures { Meets result (IsStanding name.now policy.now.days store.old.content) store.old
+        store.new }
 {
     same_days(store, alloc, policy.schedule())?;
     standing(store, alloc, name, policy)
@@ -139,7 +144,8 @@ fn exchange_there<S: Alter>(
     policy: &Policy,
 ) -> Result<(), BookFault>
     requires { store.old.is_open ≡ true }
-    ensures { Turns result (IsExchangedThere name.now policy.now.days after.now due) store.old store.new }
+    ensures { Turns result (IsExchangedThere name.now policy.now.days after.now due) store.old
+        store.new }
 {
     store.whole();
     let before = found(store, alloc, name, policy)?;
@@ -174,7 +180,8 @@ fn put<S: Alter>(
     due: Moment,
 ) -> Result<(), BookFault>
     requires { store.old.is_open ≡ true }
-    ensures { Turns result (IsDomainPut name.now domain.now (due_with domain.now due)) store.old store.new }
+    ensures { Turns result (IsDomainPut name.now domain.now (due_with domain.now due)) store.old
+        store.new }
 {
     match domain {
         Some(domain) => sqldomains::put_domain(store, alloc, name, domain, due),

@@ -19,7 +19,8 @@ pub fn put_contact<S: Alter>(
     contact: Contact,
 ) -> Result<(), BookFault>
     requires { store.old.is_open ≡ true }
-    ensures { Alters result stored_of are_right (tables.contact_put name (Some contact) (stored_of store.old.content)) store.old store.new }
+    ensures { Alters result stored_of are_right (tables.contact_put name (Some contact)
+        (stored_of store.old.content)) store.old store.new }
 {
     sqlobjects::put_contact(store, alloc, name, contact)
 }
@@ -31,7 +32,8 @@ pub fn drop_contact<S: Alter>(
     name: Text,
 ) -> Result<(), BookFault>
     requires { store.old.is_open ≡ true }
-    ensures { Alters result stored_of are_right (tables.contact_put name None (stored_of store.old.content)) store.old store.new }
+    ensures { Alters result stored_of are_right
+        (tables.contact_put name None (stored_of store.old.content)) store.old store.new }
 {
     sqlobjects::drop_contact(store, alloc, name)
 }
@@ -43,7 +45,8 @@ pub fn put_host<S: Alter>(
     host: Host,
 ) -> Result<(), BookFault>
     requires { store.old.is_open ≡ true }
-    ensures { Alters result stored_of are_right (tables.host_put host.name (Some host) (stored_of store.old.content)) store.old store.new }
+    ensures { Alters result stored_of are_right (tables.host_put host.name (Some host)
+        (stored_of store.old.content)) store.old store.new }
 {
     sqlobjects::put_host(store, alloc, host)
 }
@@ -55,7 +58,8 @@ pub fn drop_host<S: Alter>(
     name: Text,
 ) -> Result<(), BookFault>
     requires { store.old.is_open ≡ true }
-    ensures { Alters result stored_of are_right (tables.host_put name None (stored_of store.old.content)) store.old store.new }
+    ensures { Alters result stored_of are_right
+        (tables.host_put name None (stored_of store.old.content)) store.old store.new }
 {
     sqlobjects::drop_host(store, alloc, name)
 }

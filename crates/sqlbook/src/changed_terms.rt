@@ -24,7 +24,8 @@ pub fn set_clock<S: Alter>(
     moment: Moment,
 ) -> Result<(), BookFault>
     requires { store.old.is_open ≡ true }
-    ensures { Alters result stored_of are_right (tables.clock_set moment (stored_of store.old.content)) store.old store.new }
+    ensures { Alters result stored_of are_right
+        (tables.clock_set moment (stored_of store.old.content)) store.old store.new }
 {
     sqlterms::set_clock(store, alloc, moment)
 }
@@ -37,9 +38,12 @@ pub fn set_terms<S: Alter>(
     terms: Terms,
 ) -> Result<(), BookFault>
     requires { store.old.is_open ≡ true }
-    ensures held { Alters result stored_of are_right (with_terms terms (stored_of store.old.content)) store.old store.new }
-    ensures lines { IfOk result (λ done. store.new.is_clean ≡ true → store.new.content.lines ≡ store.old.content.lines) }
-    ensures ends { IfOk result (λ done. store.new.is_clean ≡ true → AreRedated (days_of store.old.content) terms.days store.new.content) }
+    ensures held { Alters result stored_of are_right
+        (with_terms terms (stored_of store.old.content)) store.old store.new }
+    ensures lines { IfOk result (λ done. store.new.is_clean ≡ true
+        → store.new.content.lines ≡ store.old.content.lines) }
+    ensures ends { IfOk result (λ done. store.new.is_clean ≡ true
+        → AreRedated (days_of store.old.content) terms.days store.new.content) }
 {
     let before = sqlterms::days(store, alloc)?;
     let set = set_over(store, alloc, &before, &terms);
@@ -55,7 +59,8 @@ fn set_over<S: Alter>(
     terms: &Terms,
 ) -> Result<(), BookFault>
     requires { store.old.is_open ≡ true }
-    ensures { Turns result (λ old new. days_of old ≡ before.now → IsSetOver before.now terms.now old new) store.old store.new }
+    ensures { Turns result (λ old new. days_of old ≡ before.now
+        → IsSetOver before.now terms.now old new) store.old store.new }
 {
     match before {
         None => set_first(store, alloc, terms),
@@ -96,7 +101,8 @@ fn set_again<S: Alter>(
     terms: &Terms,
 ) -> Result<(), BookFault>
     requires { store.old.is_open ≡ true }
-    ensures { Turns result (λ old new. days_of old ≡ Some before.now → IsSetOver (Some before.now) terms.now old new) store.old store.new }
+    ensures { Turns result (λ old new. days_of old ≡ Some before.now
+        → IsSetOver (Some before.now) terms.now old new) store.old store.new }
 {
     if before.is_same(&terms.days) {
         set_same(store, alloc, terms)
@@ -112,7 +118,8 @@ fn set_same<S: Alter>(
     terms: &Terms,
 ) -> Result<(), BookFault>
     requires { store.old.is_open ≡ true }
-    ensures { Turns result (λ old new. days_of old ≡ Some terms.now.days → IsSetDown terms.now old new) store.old store.new }
+    ensures { Turns result (λ old new. days_of old ≡ Some terms.now.days
+        → IsSetDown terms.now old new) store.old store.new }
 {
     sqlterms::set_terms(store, alloc, terms)?;
     Ok(())
@@ -127,7 +134,8 @@ fn set_others<S: Alter>(
     terms: &Terms,
 ) -> Result<(), BookFault>
     requires { store.old.is_open ≡ true }
-    ensures { Turns result (λ old new. days_of old ≡ Some before.now → IsSetOver (Some before.now) terms.now old new) store.old store.new }
+    ensures { Turns result (λ old new. days_of old ≡ Some before.now
+        → IsSetOver (Some before.now) terms.now old new) store.old store.new }
 {
     redate(store, alloc, before, &terms.days)?;
     set_suited(store, alloc, before, terms)?;
@@ -144,7 +152,8 @@ fn set_suited<S: Alter>(
     terms: &Terms,
 ) -> Result<(), BookFault>
     requires { store.old.is_open ≡ true }
-    ensures { Turns result (λ old new. days_of old ≡ Some before.now → IsSetDown terms.now old new) store.old store.new }
+    ensures { Turns result (λ old new. days_of old ≡ Some before.now
+        → IsSetDown terms.now old new) store.old store.new }
 {
     ends_come(store, before)?;
     ends_come(store, &terms.days)?;

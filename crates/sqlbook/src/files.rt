@@ -16,7 +16,10 @@ use sqlite_store::FileStore;
 pub fn into_files<D: Disk + Drop, O: Origin<FileStore<D>> + Drop>(
     book: SqlBook<FileStore<D>, O>,
 ) -> Files<D>
-    ensures { AreClean D.Disk result.log result.db → (seen stored_of are_right book.records.store).is_honest ≡ true → IsLeftIn D.Disk result (stands (seen stored_of are_right book.records.store) book.refused) }
+    ensures { AreClean D.Disk result.log result.db
+        → (seen stored_of are_right book.records.store).is_honest ≡ true
+        → IsLeftIn D.Disk result (stands (seen stored_of are_right book.records.store)
+        book.refused) }
 {
     into_connection(book).into_store().close()
 }

@@ -181,7 +181,8 @@ fn copy_rest<S: Alter, T: Alter>(
     days: &Schedule,
 ) -> Result<(), BookFault>
     requires { to.old.is_open ≡ true }
-    ensures { Copies result (λ old new. put_lines days.now old (put_of_all others old new)) from.old from.new to.old to.new }
+    ensures { Copies result (λ old new. put_lines days.now old (put_of_all others old new)) from.old
+        from.new to.old to.new }
 {
     copy_others(from, to)?;
     copy_lines(alloc, from, to, days)
@@ -210,8 +211,10 @@ fn put_days<T: Alter>(
     policy: &Policy,
 ) -> Result<(), BookFault>
     requires { store.old.is_open ≡ true }
-    ensures held { Alters result stored_of are_right (redated policy.now (stored_of store.old.content)) store.old store.new }
-    ensures lines { IfOk result (λ done. store.new.is_clean ≡ true → store.new.content.lines ≡ store.old.content.lines) }
+    ensures held { Alters result stored_of are_right
+        (redated policy.now (stored_of store.old.content)) store.old store.new }
+    ensures lines { IfOk result (λ done. store.new.is_clean ≡ true
+        → store.new.content.lines ≡ store.old.content.lines) }
 {
     let Some(terms) = sqlterms::terms(store, alloc)? else {
         return Ok(());

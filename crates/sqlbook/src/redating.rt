@@ -80,7 +80,8 @@ fn redate_one<S: Alter>(
 
 /// The earlier of the two ends of a domain's deletion, if it is deleted.
 fn earlier_end(domain: &Domain, days: &Schedule, others: &Schedule) -> Option<Moment>
-    ensures { IfSome result (λ due. int_le (numbers.moment_column due) (pos (lapse.due_at (rules_with days.now) domain.now)) ≡ true) }
+    ensures { IfSome result (λ due. int_le (numbers.moment_column due)
+        (pos (lapse.due_at (rules_with days.now) domain.now)) ≡ true) }
 {
     let Some(deletion) = &domain.deletion else {
         return None;

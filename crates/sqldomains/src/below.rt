@@ -62,7 +62,8 @@ fn is_dotted(domain: &Text) -> bool
 
 /// The names of these rows that lie below the domain.
 fn names_below(alloc: Global, domain: &Text, rows: Seq<HostRow>) -> Result<Seq<Text>, AllocError>
-    ensures { IfOk result (λ names. names ≡ filter (hosts.is_below domain.now) (map (λ (r : Host). r.name) rows)) }
+    ensures { IfOk result (λ names. names ≡ filter (hosts.is_below domain.now)
+        (map (λ (r : Host). r.name) rows)) }
 {
     let mut names = Seq::new(alloc);
     for row in rows.into_vec() {
@@ -80,7 +81,8 @@ fn with_hosts<S: Alter>(
     alloc: Global,
     found: Seq<Text>,
 ) -> Result<NameMap<()>, BookFault>
-    ensures { Meets result (λ all. spec.with_read (spec.host_standing store.old.content) empty found ≡ Some all) store.old store.new }
+    ensures { Meets result (λ all. spec.with_read (spec.host_standing store.old.content) empty found
+        ≡ Some all) store.old store.new }
 {
     let mut names = NameMap::new(alloc);
     for name in found.into_vec() {
@@ -95,7 +97,8 @@ fn with_host<S: Alter>(
     names: NameMap<()>,
     name: Text,
 ) -> Result<NameMap<()>, BookFault>
-    ensures { Meets result (λ more. spec.with_one names (spec.host_standing store.old.content name) ≡ Some more) store.old store.new }
+    ensures { Meets result (λ more. spec.with_one names (spec.host_standing store.old.content name)
+        ≡ Some more) store.old store.new }
 {
     let is_there = has_host(store, alloc, &name)?;
     if !is_there {

@@ -42,7 +42,8 @@ fn put<S: Alter>(
     due: Moment,
 ) -> Result<(), BookFault>
     requires { store.old.is_open ≡ true }
-    ensures { Turns result (IsDomainPut domain.now.name (Some domain.now) (Some due)) store.old store.new }
+    ensures { Turns result (IsDomainPut domain.now.name (Some domain.now) (Some due)) store.old
+        store.new }
 {
     let registrant = contact_number(store, &domain.links.registrant)?;
     let beside = Beside { registrant, due };
@@ -57,7 +58,10 @@ fn put_beside<S: Alter>(
     domain: &Domain,
 ) -> Result<(), BookFault>
     requires { store.old.is_open ≡ true }
-    ensures { Turns result (λ old new. contact_name old beside.now.registrant ≡ Some domain.now.links.registrant → IsDomainPut domain.now.name (Some domain.now) (Some beside.now.due) old new) store.old store.new }
+    ensures { Turns result (λ old new. contact_name old beside.now.registrant
+        ≡ Some domain.now.links.registrant
+        → IsDomainPut domain.now.name (Some domain.now) (Some beside.now.due) old new) store.old
+        store.new }
 {
     if !is_domain(domain) {
         return Err(BookFault::Store);

@@ -33,7 +33,8 @@ pub(crate) fn row_named<S: Alter>(
     store: &mut RowStore<S>,
     name: &Text,
 ) -> Result<Option<DomainRow>, BookFault>
-    ensures { Meets result (λ row. filter (domain_with_name name.now) store.old.content.domains ≡ rows_of row) store.old store.new }
+    ensures { Meets result (λ row. filter (domain_with_name name.now) store.old.content.domains
+        ≡ rows_of row) store.old store.new }
 {
     let rows = store.domains_by_name(name.as_str())?;
     only(rows)
@@ -77,7 +78,8 @@ pub(crate) fn place<S: Alter>(
     domain: &Domain,
 ) -> Result<DomainRow, BookFault>
     requires { store.old.is_open ≡ true }
-    ensures { Brings result (λ row old new. IsWhole old → IsDomainPlaced domain.now beside.now row old new) store.old store.new }
+    ensures { Brings result (λ row old new. IsWhole old
+        → IsDomainPlaced domain.now beside.now row old new) store.old store.new }
 {
     let found = row_named(store, &domain.name)?;
     place_at(store, alloc, found, beside, domain)
@@ -92,7 +94,8 @@ fn place_at<S: Alter>(
     domain: &Domain,
 ) -> Result<DomainRow, BookFault>
     requires { store.old.is_open ≡ true }
-    ensures { Brings result (λ row old new. IsDomainPlacedAt found domain.now beside.now row old new) store.old store.new }
+    ensures { Brings result (λ row old new. IsDomainPlacedAt found domain.now beside.now row old
+        new) store.old store.new }
 {
     match found {
         None => add_row(store, alloc, beside, domain),
@@ -109,7 +112,8 @@ fn put_row<S: Alter>(
     domain: &Domain,
 ) -> Result<DomainRow, BookFault>
     requires { store.old.is_open ≡ true }
-    ensures { Brings result (λ row old new. IsDomainPlacedAt (Some found.now) domain.now beside.now row old new) store.old store.new }
+    ensures { Brings result (λ row old new. IsDomainPlacedAt (Some found.now) domain.now beside.now
+        row old new) store.old store.new }
 {
     let row = row_again(alloc, found, beside, domain)?;
     store.put_domain(&row)?;
@@ -124,7 +128,8 @@ fn add_row<S: Alter>(
     domain: &Domain,
 ) -> Result<DomainRow, BookFault>
     requires { store.old.is_open ≡ true }
-    ensures { Brings result (λ row old new. IsDomainPlacedAt None domain.now beside.now row old new) store.old store.new }
+    ensures { Brings result (λ row old new. IsDomainPlacedAt None domain.now beside.now row old new)
+        store.old store.new }
 {
     append(store, alloc, beside, domain)?;
     row_there(store, &domain.name)
@@ -166,7 +171,8 @@ fn row_again(
 
 /// The row of the domain of this name.
 fn row_there<S: Alter>(store: &mut RowStore<S>, name: &Text) -> Result<DomainRow, BookFault>
-    ensures { Meets result (λ row. filter (domain_with_name name.now) store.old.content.domains ≡ row ∷ []) store.old store.new }
+    ensures { Meets result (λ row. filter (domain_with_name name.now) store.old.content.domains
+        ≡ row ∷ []) store.old store.new }
 {
     match row_named(store, name)? {
         None => Err(BookFault::Store),

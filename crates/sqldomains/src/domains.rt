@@ -26,8 +26,10 @@ pub fn domain<S: Alter>(
     alloc: Global,
     name: &Text,
 ) -> Result<Option<Domain>, BookFault>
-    ensures found { Finds result (get (spec.domains_of store.old.content) name.now) store.old store.new }
-    ensures read { IfOk result (λ domain. store.new.is_clean ≡ true → IsRead (filter (domain_with_name name.now) store.old.content.domains) domain) }
+    ensures found { Finds result (get (spec.domains_of store.old.content) name.now) store.old
+        store.new }
+    ensures read { IfOk result (λ domain. store.new.is_clean ≡ true
+        → IsRead (filter (domain_with_name name.now) store.old.content.domains) domain) }
 {
     let rows = store.domains_by_name(name.as_str())?;
     first_domain(store, alloc, rows)
@@ -39,7 +41,8 @@ fn first_domain<S: Alter>(
     alloc: Global,
     rows: Seq<DomainRow>,
 ) -> Result<Option<Domain>, BookFault>
-    ensures found { Finds result (first_read (spec.domain_of store.old.content) rows) store.old store.new }
+    ensures found { Finds result (first_read (spec.domain_of store.old.content) rows) store.old
+        store.new }
     ensures read { IfOk result (λ domain. IsRead rows domain) }
 {
     let Some(row) = only(rows)? else {
@@ -54,7 +57,8 @@ pub fn domain_of<S: Alter>(
     alloc: Global,
     row: DomainRow,
 ) -> Result<Domain, BookFault>
-    ensures { Meets result (λ domain. spec.domain_of store.old.content row ≡ Some domain) store.old store.new }
+    ensures { Meets result (λ domain. spec.domain_of store.old.content row ≡ Some domain) store.old
+        store.new }
 {
     let links = links_of(store, alloc, &row)?;
     let transfer = transfer_of(store, &row)?;
@@ -66,7 +70,9 @@ fn transfer_of<S: Alter>(
     store: &mut RowStore<S>,
     row: &DomainRow,
 ) -> Result<Option<Transfer>, BookFault>
-    ensures { Meets result (λ transfer. objects_spec.last_transfer (filter (transfer_with_domain row.now.id) store.old.content.transfers) ≡ Some transfer) store.old store.new }
+    ensures { Meets result (λ transfer. objects_spec.last_transfer
+        (filter (transfer_with_domain row.now.id) store.old.content.transfers) ≡ Some transfer)
+        store.old store.new }
 {
     let number = number_of(row);
     let rows = store.transfers_by_domain(number)?;

@@ -22,7 +22,8 @@ pub(crate) fn put_links<S: Alter>(
     links: &Links,
 ) -> Result<(), BookFault>
     requires { store.old.is_open ≡ true }
-    ensures { Turns result (AreLinksPut domain.now.id domain.now.due links.now) store.old store.new }
+    ensures { Turns result (AreLinksPut domain.now.id domain.now.due links.now) store.old
+        store.new }
 {
     let number = number_of(domain);
     clear_links(store, number)?;
@@ -52,7 +53,8 @@ fn add_names<S: Alter>(
     names: &[Text],
 ) -> Result<(), BookFault>
     requires { store.old.is_open ≡ true }
-    ensures { Turns result (AreNamesAdded domain.now.id domain.now.due role names.now) store.old store.new }
+    ensures { Turns result (AreNamesAdded domain.now.id domain.now.due role names.now) store.old
+        store.new }
 {
     for name in names {
         add_name(store, domain, role, name)?;
@@ -68,7 +70,8 @@ fn add_name<S: Alter>(
     name: &Text,
 ) -> Result<(), BookFault>
     requires { store.old.is_open ≡ true }
-    ensures { Turns result (AreNamesAdded domain.now.id domain.now.due role (name.now ∷ [])) store.old store.new }
+    ensures { Turns result (AreNamesAdded domain.now.id domain.now.due role (name.now ∷ []))
+        store.old store.new }
 {
     let row = row_to(store, domain, role, name)?;
     store.append_link(&row)?;
@@ -82,7 +85,8 @@ fn row_to<S: Alter>(
     role: Role,
     name: &Text,
 ) -> Result<LinkRow, BookFault>
-    ensures { Meets result (IsLinkTo store.old.content domain.now.id domain.now.due role name.now) store.old store.new }
+    ensures { Meets result (IsLinkTo store.old.content domain.now.id domain.now.due role name.now)
+        store.old store.new }
 {
     match role {
         Role::Host => row_to_host(store, domain, name),
@@ -95,7 +99,8 @@ fn row_to_host<S: Alter>(
     domain: &DomainRow,
     name: &Text,
 ) -> Result<LinkRow, BookFault>
-    ensures { Meets result (IsHostLinkTo store.old.content domain.now.id domain.now.due name.now) store.old store.new }
+    ensures { Meets result (IsHostLinkTo store.old.content domain.now.id domain.now.due name.now)
+        store.old store.new }
 {
     let id = host_number(store, name)?;
     Ok(LinkRow {
@@ -114,7 +119,8 @@ fn row_to_contact<S: Alter>(
     role: Role,
     name: &Text,
 ) -> Result<LinkRow, BookFault>
-    ensures { Meets result (IsContactLinkTo store.old.content domain.now.id domain.now.due role name.now) store.old store.new }
+    ensures { Meets result (IsContactLinkTo store.old.content domain.now.id domain.now.due role
+        name.now) store.old store.new }
 {
     let id = contact_number(store, name)?;
     Ok(LinkRow {
@@ -132,7 +138,8 @@ pub(crate) fn contact_number<S: Alter>(
     store: &mut RowStore<S>,
     name: &Text,
 ) -> Result<i64, BookFault>
-    ensures { Meets result (λ id. changes.contact_name store.old.content id ≡ Some name.now) store.old store.new }
+    ensures { Meets result (λ id. changes.contact_name store.old.content id ≡ Some name.now)
+        store.old store.new }
 {
     store.whole();
     match number_of_contact(store, name)? {
@@ -143,7 +150,8 @@ pub(crate) fn contact_number<S: Alter>(
 
 /// The number of the host of this name, which has to be there.
 fn host_number<S: Alter>(store: &mut RowStore<S>, name: &Text) -> Result<i64, BookFault>
-    ensures { Meets result (λ id. changes.host_name store.old.content id ≡ Some name.now) store.old store.new }
+    ensures { Meets result (λ id. changes.host_name store.old.content id ≡ Some name.now) store.old
+        store.new }
 {
     store.whole();
     match number_of_host(store, name)? {

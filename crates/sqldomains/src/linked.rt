@@ -77,7 +77,9 @@ fn use_of_contact<S: Alter>(
 
 /// The first domain's row that has the contact with this number as its registrant.
 fn registered_by<S: Alter>(store: &mut RowStore<S>, id: i64) -> Result<Option<DomainRow>, BookFault>
-    ensures { Meets result (λ row. take 1 (filter (domain_with_registrant id) store.old.content.domains) ≡ rows_of row) store.old store.new }
+    ensures { Meets result
+        (λ row. take 1 (filter (domain_with_registrant id) store.old.content.domains) ≡ rows_of row)
+        store.old store.new }
 {
     let number = number(id);
     let rows = store.first_domains_by_registrant(number)?;
@@ -86,7 +88,8 @@ fn registered_by<S: Alter>(store: &mut RowStore<S>, id: i64) -> Result<Option<Do
 
 /// The first link to the contact with this number.
 fn link_to_contact<S: Alter>(store: &mut RowStore<S>, id: i64) -> Result<Option<LinkRow>, BookFault>
-    ensures { Meets result (λ row. take 1 (filter (link_with_contact id) store.old.content.links) ≡ rows_of row) store.old store.new }
+    ensures { Meets result (λ row. take 1 (filter (link_with_contact id) store.old.content.links)
+        ≡ rows_of row) store.old store.new }
 {
     let number = number(id);
     let rows = store.first_links_by_contact(number)?;
@@ -112,7 +115,8 @@ fn naming_contact<S: Alter>(
     row: DomainRow,
     name: &Text,
 ) -> Result<(), BookFault>
-    ensures { Meets result (λ done. spec.Passes store.old.content (λ d. links.names_contact name.now d.links) row) store.old store.new }
+    ensures { Meets result (λ done. spec.Passes store.old.content (λ d. links.names_contact name.now
+        d.links) row) store.old store.new }
 {
     let domain = domain_of(store, alloc, row)?;
     let is_named = domain.links.names_contact(name);
@@ -175,7 +179,8 @@ fn use_of_host<S: Alter>(store: &mut RowStore<S>, id: i64) -> Result<Option<Doma
 
 /// The first link to the host with this number.
 fn link_to_host<S: Alter>(store: &mut RowStore<S>, id: i64) -> Result<Option<LinkRow>, BookFault>
-    ensures { Meets result (λ row. take 1 (filter (link_with_host id) store.old.content.links) ≡ rows_of row) store.old store.new }
+    ensures { Meets result (λ row. take 1 (filter (link_with_host id) store.old.content.links)
+        ≡ rows_of row) store.old store.new }
 {
     let number = number(id);
     let rows = store.first_links_by_host(number)?;
@@ -189,7 +194,8 @@ fn naming_host<S: Alter>(
     row: DomainRow,
     name: &Text,
 ) -> Result<(), BookFault>
-    ensures { Meets result (λ done. spec.Passes store.old.content (λ d. links.names_host name.now d.links) row) store.old store.new }
+    ensures { Meets result (λ done. spec.Passes store.old.content
+        (λ d. links.names_host name.now d.links) row) store.old store.new }
 {
     let domain = domain_of(store, alloc, row)?;
     let is_named = domain.links.names_host(name);

@@ -21,7 +21,8 @@ pub(crate) fn links_of<S: Alter>(
     alloc: Global,
     row: &DomainRow,
 ) -> Result<Links, BookFault>
-    ensures { Meets result (λ links. spec.links_of store.old.content row.now ≡ Some links) store.old store.new }
+    ensures { Meets result (λ links. spec.links_of store.old.content row.now ≡ Some links) store.old
+        store.new }
 {
     let registrant = contact_name(store, row.registrant)?;
     let number = number_of(row);
@@ -69,7 +70,8 @@ fn with_links<S: Alter>(
     links: Links,
     rows: Seq<LinkRow>,
 ) -> Result<Links, BookFault>
-    ensures { Meets result (λ all. spec.with_links store.old.content links rows ≡ Some all) store.old store.new }
+    ensures { Meets result (λ all. spec.with_links store.old.content links rows ≡ Some all)
+        store.old store.new }
 {
     let mut links = links;
     for row in rows.into_vec() {
@@ -84,7 +86,8 @@ fn with_link<S: Alter>(
     links: Links,
     row: LinkRow,
 ) -> Result<Links, BookFault>
-    ensures { Meets result (λ more. spec.with_link store.old.content links row ≡ Some more) store.old store.new }
+    ensures { Meets result (λ more. spec.with_link store.old.content links row ≡ Some more)
+        store.old store.new }
 {
     let role = or_fault(role_of_column(row.role))?;
     let name = linked_name(store, role, row.contact, row.host)?;
@@ -98,7 +101,8 @@ fn linked_name<S: Alter>(
     contact: Option<i64>,
     host: Option<i64>,
 ) -> Result<Text, BookFault>
-    ensures { Meets result (λ name. spec.linked_name store.old.content role contact host ≡ Some name) store.old store.new }
+    ensures { Meets result (λ name. spec.linked_name store.old.content role contact host
+        ≡ Some name) store.old store.new }
 {
     match (role, contact, host) {
         (Role::Host, None, Some(id)) => host_name(store, id),

@@ -39,7 +39,8 @@ fn with_domains<S: Alter>(
     alloc: Global,
     rows: Seq<DomainRow>,
 ) -> Result<NameMap<()>, BookFault>
-    ensures { Meets result (λ all. spec.with_read (spec.name_in store.old.content) empty rows ≡ Some all) store.old store.new }
+    ensures { Meets result (λ all. spec.with_read (spec.name_in store.old.content) empty rows
+        ≡ Some all) store.old store.new }
 {
     let mut names = NameMap::new(alloc);
     for row in rows.into_vec() {
@@ -54,7 +55,8 @@ fn with_domain<S: Alter>(
     names: NameMap<()>,
     row: DomainRow,
 ) -> Result<NameMap<()>, BookFault>
-    ensures { Meets result (λ more. spec.with_one names (spec.name_in store.old.content row) ≡ Some more) store.old store.new }
+    ensures { Meets result (λ more. spec.with_one names (spec.name_in store.old.content row)
+        ≡ Some more) store.old store.new }
 {
     let domain = domain_of(store, alloc, row)?;
     Ok(with_name(names, domain.name)?)
@@ -98,7 +100,8 @@ pub fn domains_naming<S: Alter>(
 
 /// The links to the host with this number.
 fn links_to<S: Alter>(store: &mut RowStore<S>, id: i64) -> Result<Seq<LinkRow>, BookFault>
-    ensures { Finds result (filter (link_with_host id) store.old.content.links) store.old store.new }
+    ensures { Finds result (filter (link_with_host id) store.old.content.links) store.old
+        store.new }
 {
     let number = number(id);
     store.links_by_host(number)
@@ -111,7 +114,8 @@ fn with_links<S: Alter>(
     host: &Text,
     rows: Seq<LinkRow>,
 ) -> Result<NameMap<()>, BookFault>
-    ensures { Meets result (λ all. spec.with_read (spec.name_naming host.now store.old.content) empty rows ≡ Some all) store.old store.new }
+    ensures { Meets result (λ all. spec.with_read (spec.name_naming host.now store.old.content)
+        empty rows ≡ Some all) store.old store.new }
 {
     let mut names = NameMap::new(alloc);
     for row in rows.into_vec() {
@@ -127,7 +131,8 @@ fn with_link<S: Alter>(
     names: NameMap<()>,
     row: LinkRow,
 ) -> Result<NameMap<()>, BookFault>
-    ensures { Meets result (λ more. spec.with_one names (spec.name_naming host.now store.old.content row) ≡ Some more) store.old store.new }
+    ensures { Meets result (λ more. spec.with_one names (spec.name_naming host.now store.old.content
+        row) ≡ Some more) store.old store.new }
 {
     let name = name_naming(store, alloc, host, row)?;
     Ok(with_name(names, name)?)
@@ -140,7 +145,8 @@ fn name_naming<S: Alter>(
     host: &Text,
     row: LinkRow,
 ) -> Result<Text, BookFault>
-    ensures { Meets result (λ name. spec.name_naming host.now store.old.content row ≡ Some name) store.old store.new }
+    ensures { Meets result (λ name. spec.name_naming host.now store.old.content row ≡ Some name)
+        store.old store.new }
 {
     let row = domain_row(store, &row)?;
     let domain = domain_of(store, alloc, row)?;
@@ -149,7 +155,8 @@ fn name_naming<S: Alter>(
 
 /// The row of the domain to which a link belongs.
 fn domain_row<S: Alter>(store: &mut RowStore<S>, link: &LinkRow) -> Result<DomainRow, BookFault>
-    ensures { Meets result (λ row. get_by domains.key store.old.content.domains link.now.domain ≡ Some row) store.old store.new }
+    ensures { Meets result (λ row. get_by domains.key store.old.content.domains link.now.domain
+        ≡ Some row) store.old store.new }
 {
     match maybe_row(store, link.domain)? {
         None => Err(BookFault::Store),

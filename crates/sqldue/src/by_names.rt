@@ -22,7 +22,8 @@ pub(crate) fn domains_by_names<S: Alter>(
     names: &Names,
     moment: Moment,
 ) -> Result<Seq<DomainRow>, BookFault>
-    ensures { Finds result (spec.domains_by_names names.now moment store.old.content) store.old store.new }
+    ensures { Finds result (spec.domains_by_names names.now moment store.old.content) store.old
+        store.new }
 {
     let named = domains_named(store, alloc, names.domains.as_slice())?;
     let alike = domains_alike(store, alloc, named.as_slice())?;
@@ -39,7 +40,8 @@ pub(crate) fn contacts_named<S: Alter>(
     alloc: Global,
     names: &[Text],
 ) -> Result<Seq<ContactRow>, BookFault>
-    ensures { Finds result (spec.each_of (spec.contacts_named store.old.content) names.now) store.old store.new }
+    ensures { Finds result (spec.each_of (spec.contacts_named store.old.content) names.now)
+        store.old store.new }
 {
     let mut all = Seq::new(alloc);
     for name in names {
@@ -63,7 +65,8 @@ fn domains_named<S: Alter>(
     alloc: Global,
     names: &[Text],
 ) -> Result<Seq<DomainRow>, BookFault>
-    ensures { Finds result (spec.each_of (spec.domains_named store.old.content) names.now) store.old store.new }
+    ensures { Finds result (spec.each_of (spec.domains_named store.old.content) names.now) store.old
+        store.new }
 {
     let mut all = Seq::new(alloc);
     for name in names {
@@ -87,7 +90,8 @@ fn domains_alike<S: Alter>(
     alloc: Global,
     rows: &[DomainRow],
 ) -> Result<Seq<DomainRow>, BookFault>
-    ensures { Finds result (spec.each_of (spec.domains_alike store.old.content) rows.now) store.old store.new }
+    ensures { Finds result (spec.each_of (spec.domains_alike store.old.content) rows.now) store.old
+        store.new }
 {
     let mut all = Seq::new(alloc);
     for row in rows {
@@ -127,7 +131,8 @@ fn domains_to_contacts<S: Alter>(
     names: &[Text],
     moment: Moment,
 ) -> Result<Seq<DomainRow>, BookFault>
-    ensures { Finds result (spec.each_of (spec.domains_to_contacts moment store.old.content) names.now) store.old store.new }
+    ensures { Finds result (spec.each_of (spec.domains_to_contacts moment store.old.content)
+        names.now) store.old store.new }
 {
     let mut all = Seq::new(alloc);
     for name in names {
@@ -143,7 +148,8 @@ fn domains_to_name<S: Alter>(
     name: &Text,
     moment: Moment,
 ) -> Result<Seq<DomainRow>, BookFault>
-    ensures { Finds result (spec.domains_to_contacts moment store.old.content name.now) store.old store.new }
+    ensures { Finds result (spec.domains_to_contacts moment store.old.content name.now) store.old
+        store.new }
 {
     let contacts = contact_named(store, name)?;
     domains_to_rows(store, alloc, contacts.as_slice(), moment)
@@ -155,7 +161,8 @@ fn domains_to_rows<S: Alter>(
     rows: &[ContactRow],
     moment: Moment,
 ) -> Result<Seq<DomainRow>, BookFault>
-    ensures { Finds result (spec.each_of (spec.domains_to_contact moment store.old.content) rows.now) store.old store.new }
+    ensures { Finds result (spec.each_of (spec.domains_to_contact moment store.old.content)
+        rows.now) store.old store.new }
 {
     let mut all = Seq::new(alloc);
     for row in rows {
@@ -171,7 +178,8 @@ fn domains_to_contact<S: Alter>(
     row: &ContactRow,
     moment: Moment,
 ) -> Result<Seq<DomainRow>, BookFault>
-    ensures { Finds result (spec.domains_to_contact moment store.old.content row.now) store.old store.new }
+    ensures { Finds result (spec.domains_to_contact moment store.old.content row.now) store.old
+        store.new }
 {
     let registered = store.domains_by_registrant_until_due(id_of_contact(row), number(moment))?;
     let links = store.links_by_contact_until_due(id_of_contact(row), number(moment))?;
@@ -194,7 +202,8 @@ fn domains_to_hosts<S: Alter>(
     names: &[Text],
     moment: Moment,
 ) -> Result<Seq<DomainRow>, BookFault>
-    ensures { Finds result (spec.each_of (spec.domains_to_hosts moment store.old.content) names.now) store.old store.new }
+    ensures { Finds result (spec.each_of (spec.domains_to_hosts moment store.old.content) names.now)
+        store.old store.new }
 {
     let mut all = Seq::new(alloc);
     for name in names {
@@ -210,7 +219,8 @@ fn domains_to_host_name<S: Alter>(
     name: &Text,
     moment: Moment,
 ) -> Result<Seq<DomainRow>, BookFault>
-    ensures { Finds result (spec.domains_to_hosts moment store.old.content name.now) store.old store.new }
+    ensures { Finds result (spec.domains_to_hosts moment store.old.content name.now) store.old
+        store.new }
 {
     let hosts = store.hosts_by_name(name.as_str())?;
     domains_to_host_rows(store, alloc, hosts.as_slice(), moment)
@@ -222,7 +232,8 @@ fn domains_to_host_rows<S: Alter>(
     rows: &[HostRow],
     moment: Moment,
 ) -> Result<Seq<DomainRow>, BookFault>
-    ensures { Finds result (spec.each_of (spec.domains_to_host moment store.old.content) rows.now) store.old store.new }
+    ensures { Finds result (spec.each_of (spec.domains_to_host moment store.old.content) rows.now)
+        store.old store.new }
 {
     let mut all = Seq::new(alloc);
     for row in rows {
@@ -238,7 +249,8 @@ fn domains_to_host<S: Alter>(
     row: &HostRow,
     moment: Moment,
 ) -> Result<Seq<DomainRow>, BookFault>
-    ensures { Finds result (spec.domains_to_host moment store.old.content row.now) store.old store.new }
+    ensures { Finds result (spec.domains_to_host moment store.old.content row.now) store.old
+        store.new }
 {
     let links = store.links_by_host_until_due(id_of_host(row), number(moment))?;
     domains_of_links(store, alloc, links.as_slice())
@@ -258,7 +270,8 @@ fn domains_of_links<S: Alter>(
     alloc: Global,
     rows: &[LinkRow],
 ) -> Result<Seq<DomainRow>, BookFault>
-    ensures { Finds result (spec.each_of (spec.domain_of_link store.old.content) rows.now) store.old store.new }
+    ensures { Finds result (spec.each_of (spec.domain_of_link store.old.content) rows.now) store.old
+        store.new }
 {
     let mut all = Seq::new(alloc);
     for row in rows {

@@ -23,7 +23,8 @@ pub(crate) fn contacts_sponsored<S: Alter>(
     caller: &Option<RegistrarNo>,
     moment: Moment,
 ) -> Result<Seq<ContactRow>, BookFault>
-    ensures { Finds result (spec.contacts_sponsored caller.now moment store.old.content) store.old store.new }
+    ensures { Finds result (spec.contacts_sponsored caller.now moment store.old.content) store.old
+        store.new }
 {
     match caller {
         None => Ok(Seq::new(alloc)),
@@ -39,7 +40,8 @@ pub(crate) fn domains_sponsored<S: Alter>(
     caller: &Option<RegistrarNo>,
     moment: Moment,
 ) -> Result<Seq<DomainRow>, BookFault>
-    ensures { Finds result (spec.domains_sponsored caller.now moment store.old.content) store.old store.new }
+    ensures { Finds result (spec.domains_sponsored caller.now moment store.old.content) store.old
+        store.new }
 {
     match caller {
         None => Ok(Seq::new(alloc)),
@@ -75,7 +77,8 @@ fn pending_with<S: Alter>(
     store: &mut RowStore<S>,
     registrar: RegistrarNo,
 ) -> Result<Seq<TransferRow>, BookFault>
-    ensures { Finds result (spec.pending_of (Some registrar) store.old.content) store.old store.new }
+    ensures { Finds result (spec.pending_of (Some registrar) store.old.content) store.old
+        store.new }
 {
     let number = account_number(registrar);
     let asked = store.pending_transfers_by_requester(number)?;
@@ -88,7 +91,8 @@ pub(crate) fn contacts_of_transfers<S: Alter>(
     alloc: Global,
     rows: &[TransferRow],
 ) -> Result<Seq<ContactRow>, BookFault>
-    ensures { Finds result (spec.each_of (spec.contact_of_transfer store.old.content) rows.now) store.old store.new }
+    ensures { Finds result (spec.each_of (spec.contact_of_transfer store.old.content) rows.now)
+        store.old store.new }
 {
     let mut all = Seq::new(alloc);
     for row in rows {
@@ -125,7 +129,8 @@ pub(crate) fn domains_of_transfers<S: Alter>(
     alloc: Global,
     rows: &[TransferRow],
 ) -> Result<Seq<DomainRow>, BookFault>
-    ensures { Finds result (spec.each_of (spec.domain_of_transfer store.old.content) rows.now) store.old store.new }
+    ensures { Finds result (spec.each_of (spec.domain_of_transfer store.old.content) rows.now)
+        store.old store.new }
 {
     let mut all = Seq::new(alloc);
     for row in rows {

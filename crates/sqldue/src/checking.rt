@@ -27,7 +27,8 @@ use transactions::BookFault;
 
 /// When a domain's row is due: when the domain is, or at the last moment where that lies past it.
 pub fn due_of_domain(domain: &Domain, policy: &Policy) -> Moment
-    ensures { int_le (numbers.moment_column result) (pos (lapse.due_at (rules_with policy.now.days) domain.now)) ≡ true }
+    ensures { int_le (numbers.moment_column result)
+        (pos (lapse.due_at (rules_with policy.now.days) domain.now)) ≡ true }
 {
     let last = last_moment();
     match due_by(domain, last, policy) {
@@ -47,7 +48,9 @@ pub fn standing<S: Alter>(
     name: &Text,
     policy: &Policy,
 ) -> Result<Option<Domain>, BookFault>
-    ensures { Meets result (λ domain. (get (domains.domains_of store.old.content) name.now ≡ domain) × ((row : table.Domain) → Has store.old.content.domains row → row.name ≡ name.now → is_due_right policy.now.days store.old.content row ≡ true)) store.old store.new }
+    ensures { Meets result (λ domain. (get (domains.domains_of store.old.content) name.now ≡ domain)
+        × ((row : table.Domain) → Has store.old.content.domains row → row.name ≡ name.now
+        → is_due_right policy.now.days store.old.content row ≡ true)) store.old store.new }
 {
     let rows = store.domains_by_name(name.as_str())?;
     first_right(store, alloc, rows, policy)
@@ -60,7 +63,9 @@ fn first_right<S: Alter>(
     rows: Seq<DomainRow>,
     policy: &Policy,
 ) -> Result<Option<Domain>, BookFault>
-    ensures { Meets result (λ domain. (first_read (domains.domain_of store.old.content) rows ≡ domain) × ((row : table.Domain) → Has rows row → is_due_right policy.now.days store.old.content row ≡ true)) store.old store.new }
+    ensures { Meets result (λ domain. (first_read (domains.domain_of store.old.content) rows
+        ≡ domain) × ((row : table.Domain) → Has rows row
+        → is_due_right policy.now.days store.old.content row ≡ true)) store.old store.new }
 {
     let Some(row) = only(rows)? else {
         return Ok(None);
@@ -75,7 +80,8 @@ fn right_domain<S: Alter>(
     row: DomainRow,
     policy: &Policy,
 ) -> Result<Domain, BookFault>
-    ensures { Meets result (λ domain. (domains.domain_of store.old.content row ≡ Some domain) × (is_due_right policy.now.days store.old.content row ≡ true)) store.old store.new }
+    ensures { Meets result (λ domain. (domains.domain_of store.old.content row ≡ Some domain)
+        × (is_due_right policy.now.days store.old.content row ≡ true)) store.old store.new }
 {
     let due = due_in(&row)?;
     let domain = domain_of(store, alloc, row)?;
@@ -93,7 +99,9 @@ pub(crate) fn due_in(row: &DomainRow) -> Result<Moment, BookFault>
 }
 
 fn is_no_later(due: Moment, domain: &Domain, policy: &Policy) -> bool
-    ensures { result ≡ true → int_le (numbers.moment_column due) (pos (lapse.due_at (rules_with policy.now.days) domain.now)) ≡ true }
+    ensures { result ≡ true
+        → int_le (numbers.moment_column due)
+        (pos (lapse.due_at (rules_with policy.now.days) domain.now)) ≡ true }
 {
     due <= due_of_domain(domain, policy)
 }

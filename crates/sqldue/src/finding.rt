@@ -36,7 +36,10 @@ pub fn due<S: Alter>(
     moment: Moment,
     policy: &Policy,
 ) -> Result<Seq<Due>, BookFault>
-    ensures { Tells result (dues_are_right store.old.content) (dues.found_due (dues.domain_due policy.now moment) (dues.found_due (dues.contact_due moment) [] (entries (contacts_of store.old.content))) (entries (domains_of store.old.content))) store.old store.new }
+    ensures { Tells result (dues_are_right store.old.content)
+        (dues.found_due (dues.domain_due policy.now moment)
+        (dues.found_due (dues.contact_due moment) [] (entries (contacts_of store.old.content)))
+        (entries (domains_of store.old.content))) store.old store.new }
 {
     have_days(store, alloc, policy)?;
     store.whole();
@@ -51,7 +54,8 @@ fn contacts_due<S: Alter>(
     alloc: Global,
     moment: Moment,
 ) -> Result<BTreeSet<Due>, BookFault>
-    ensures { Meets result (λ found. spec.with_rows (spec.contact_in moment store.old.content) [] (spec.contacts_until moment store.old.content) ≡ Some found.keys) store.old store.new }
+    ensures { Meets result (λ found. spec.with_rows (spec.contact_in moment store.old.content) []
+        (spec.contacts_until moment store.old.content) ≡ Some found.keys) store.old store.new }
 {
     let rows = contact_rows(store, moment)?;
     of_contacts(store, alloc, moment, rows)
@@ -74,7 +78,8 @@ pub(crate) fn of_contacts<S: Alter>(
     moment: Moment,
     rows: Seq<ContactRow>,
 ) -> Result<BTreeSet<Due>, BookFault>
-    ensures { Meets result (λ found. spec.with_rows (spec.contact_in moment store.old.content) [] rows ≡ Some found.keys) store.old store.new }
+    ensures { Meets result (λ found. spec.with_rows (spec.contact_in moment store.old.content) []
+        rows ≡ Some found.keys) store.old store.new }
 {
     let mut found = BTreeSet::new(alloc);
     for row in rows.into_vec() {
@@ -90,7 +95,8 @@ fn with_contact<S: Alter>(
     found: BTreeSet<Due>,
     row: ContactRow,
 ) -> Result<BTreeSet<Due>, BookFault>
-    ensures { Meets result (λ more. spec.with_row found.keys (spec.contact_in moment store.old.content row) ≡ Some more.keys) store.old store.new }
+    ensures { Meets result (λ more. spec.with_row found.keys
+        (spec.contact_in moment store.old.content row) ≡ Some more.keys) store.old store.new }
 {
     let contact = contact_of(store, alloc, row)?;
     let due = contact_due_by(&contact, moment);
@@ -111,7 +117,9 @@ fn with_domains_due<S: Alter>(
     policy: &Policy,
     found: BTreeSet<Due>,
 ) -> Result<BTreeSet<Due>, BookFault>
-    ensures { Meets result (λ all. spec.with_rows (spec.domain_in policy.now moment store.old.content) found.keys (spec.domains_until moment store.old.content) ≡ Some all.keys) store.old store.new }
+    ensures { Meets result
+        (λ all. spec.with_rows (spec.domain_in policy.now moment store.old.content) found.keys
+        (spec.domains_until moment store.old.content) ≡ Some all.keys) store.old store.new }
 {
     let rows = domain_rows(store, moment)?;
     with_domains(store, alloc, moment, policy, found, rows)
@@ -135,7 +143,9 @@ pub(crate) fn with_domains<S: Alter>(
     found: BTreeSet<Due>,
     rows: Seq<DomainRow>,
 ) -> Result<BTreeSet<Due>, BookFault>
-    ensures { Meets result (λ all. spec.with_rows (spec.domain_in policy.now moment store.old.content) found.keys rows ≡ Some all.keys) store.old store.new }
+    ensures { Meets result
+        (λ all. spec.with_rows (spec.domain_in policy.now moment store.old.content) found.keys rows
+        ≡ Some all.keys) store.old store.new }
 {
     let mut found = found;
     for row in rows.into_vec() {
@@ -152,7 +162,8 @@ fn with_domain<S: Alter>(
     found: BTreeSet<Due>,
     row: DomainRow,
 ) -> Result<BTreeSet<Due>, BookFault>
-    ensures { Meets result (λ more. spec.with_row found.keys (spec.domain_in policy.now moment store.old.content row) ≡ Some more.keys) store.old store.new }
+    ensures { Meets result (λ more. spec.with_row found.keys (spec.domain_in policy.now moment
+        store.old.content row) ≡ Some more.keys) store.old store.new }
 {
     let domain = domain_of(store, alloc, row)?;
     let due = due_by(&domain, moment, policy);
@@ -172,7 +183,8 @@ fn with_due(
     name: Text,
     due: Option<Moment>,
 ) -> Result<BTreeSet<Due>, AllocError>
-    ensures { IfOk result (λ more. more.keys ≡ dues.with_due (dues.due_then kind name due) found.keys) }
+    ensures { IfOk result (λ more. more.keys ≡ dues.with_due (dues.due_then kind name due)
+        found.keys) }
 {
     let Some(due) = due else {
         return Ok(found);

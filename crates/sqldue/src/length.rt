@@ -16,7 +16,8 @@ pub fn same_days<S: Alter>(
     alloc: Global,
     these: &Schedule,
 ) -> Result<(), BookFault>
-    ensures { Meets result (λ done. IfSome (terms.days_of store.old.content) (λ days. days ≡ these.now)) store.old store.new }
+    ensures { Meets result (λ done. IfSome (terms.days_of store.old.content) (λ days. days
+        ≡ these.now)) store.old store.new }
 {
     let Some(days) = days(store, alloc)? else {
         return Ok(());
@@ -33,7 +34,8 @@ pub(crate) fn have_days<S: Alter>(
     alloc: Global,
     policy: &Policy,
 ) -> Result<(), BookFault>
-    ensures { Meets result (λ done. terms.days_of store.old.content ≡ Some policy.now.days) store.old store.new }
+    ensures { Meets result (λ done. terms.days_of store.old.content ≡ Some policy.now.days)
+        store.old store.new }
 {
     let Some(days) = days(store, alloc)? else {
         return Err(BookFault::Store);

@@ -38,7 +38,9 @@ pub fn due_near<S: Alter>(
     moment: Moment,
     policy: &Policy,
 ) -> Result<Seq<Due>, BookFault>
-    ensures { Meets result (λ due. dues_are_right store.old.content ≡ true → spec.HasAllNear policy.now caller names.now moment store.old.content due) store.old store.new }
+    ensures { Meets result (λ due. dues_are_right store.old.content ≡ true
+        → spec.HasAllNear policy.now caller names.now moment store.old.content due) store.old
+        store.new }
 {
     have_days(store, alloc, policy)?;
     store.whole();
@@ -61,14 +63,16 @@ fn is_behind<S: Alter>(store: &mut RowStore<S>, moment: Moment) -> Result<bool, 
 }
 
 fn is_contact_behind<S: Alter>(store: &mut RowStore<S>, moment: Moment) -> Result<bool, BookFault>
-    ensures { Finds result (spec.is_any (take 1 (finding.contacts_until moment store.old.content))) store.old store.new }
+    ensures { Finds result (spec.is_any (take 1 (finding.contacts_until moment store.old.content)))
+        store.old store.new }
 {
     let rows = store.first_contacts_until_due(number(moment))?;
     Ok(!rows.is_empty())
 }
 
 fn is_domain_behind<S: Alter>(store: &mut RowStore<S>, moment: Moment) -> Result<bool, BookFault>
-    ensures { Finds result (spec.is_any (take 1 (finding.domains_until moment store.old.content))) store.old store.new }
+    ensures { Finds result (spec.is_any (take 1 (finding.domains_until moment store.old.content)))
+        store.old store.new }
 {
     let rows = store.first_domains_until_due(number(moment))?;
     Ok(!rows.is_empty())
@@ -85,7 +89,8 @@ fn found_near<S: Alter>(
     moment: Moment,
     policy: &Policy,
 ) -> Result<Seq<Due>, BookFault>
-    ensures { Meets result (spec.IsFoundNear policy.now caller.now names.now moment store.old.content) store.old store.new }
+    ensures { Meets result (spec.IsFoundNear policy.now caller.now names.now moment
+        store.old.content) store.old store.new }
 {
     let pending = pending_of(store, alloc, caller)?;
     let contact_rows = contacts_near(store, alloc, caller, pending.as_slice(), names, moment)?;
@@ -106,7 +111,8 @@ fn contacts_near<S: Alter>(
     names: &Names,
     moment: Moment,
 ) -> Result<Seq<ContactRow>, BookFault>
-    ensures { Finds result (spec.contacts_found caller.now pending.now names.now moment store.old.content) store.old store.new }
+    ensures { Finds result (spec.contacts_found caller.now pending.now names.now moment
+        store.old.content) store.old store.new }
 {
     let sponsored = contacts_sponsored(store, alloc, caller, moment)?;
     let transferred = contacts_of_transfers(store, alloc, pending)?;
@@ -124,7 +130,8 @@ fn domains_near<S: Alter>(
     names: &Names,
     moment: Moment,
 ) -> Result<Seq<DomainRow>, BookFault>
-    ensures { Finds result (spec.domains_found caller.now pending.now names.now moment store.old.content) store.old store.new }
+    ensures { Finds result (spec.domains_found caller.now pending.now names.now moment
+        store.old.content) store.old store.new }
 {
     let sponsored = domains_sponsored(store, alloc, caller, moment)?;
     let transferred = domains_of_transfers(store, alloc, pending)?;

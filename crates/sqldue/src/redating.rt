@@ -55,7 +55,8 @@ pub fn end_of_deletion(deletion: &Deletion, days: &Schedule) -> Moment
 
 /// Refuses a column that is later than its domain's deletion ends by these lengths.
 pub fn ends_come<S: Alter>(store: &mut RowStore<S>, days: &Schedule) -> Result<(), BookFault>
-    ensures { Meets result (λ done. spec.ends_are_right days.now store.old.content ≡ true) store.old store.new }
+    ensures { Meets result (λ done. spec.ends_are_right days.now store.old.content ≡ true) store.old
+        store.new }
 {
     let rows = store.all_domains()?;
     if all_right(rows.as_slice(), days) {
@@ -90,7 +91,8 @@ fn is_right(row: &DomainRow, days: &Schedule) -> bool
 
 /// Refuses a column that isn't the moment when its domain's deletion ends by these lengths.
 pub fn ends_are<S: Alter>(store: &mut RowStore<S>, days: &Schedule) -> Result<(), BookFault>
-    ensures { Meets result (λ done. spec.ends_are days.now store.old.content ≡ true) store.old store.new }
+    ensures { Meets result (λ done. spec.ends_are days.now store.old.content ≡ true) store.old
+        store.new }
 {
     let rows = store.all_domains()?;
     if all_are(rows.as_slice(), days) {
@@ -154,7 +156,9 @@ pub fn deleted<S: Alter>(
     name: &Text,
     days: &Schedule,
 ) -> Result<Option<Domain>, BookFault>
-    ensures { Meets result (λ domain. (get (domains.domains_of store.old.content) name.now ≡ domain) × ((row : table.Domain) → Has store.old.content.domains row → row.name ≡ name.now → is_due_right days.now store.old.content row ≡ true)) store.old store.new }
+    ensures { Meets result (λ domain. (get (domains.domains_of store.old.content) name.now ≡ domain)
+        × ((row : table.Domain) → Has store.old.content.domains row → row.name ≡ name.now
+        → is_due_right days.now store.old.content row ≡ true)) store.old store.new }
 {
     let rows = store.domains_by_name(name.as_str())?;
     first_deleted(store, alloc, rows, days)
@@ -167,7 +171,9 @@ fn first_deleted<S: Alter>(
     rows: Seq<DomainRow>,
     days: &Schedule,
 ) -> Result<Option<Domain>, BookFault>
-    ensures { Meets result (λ domain. (first_read (domains.domain_of store.old.content) rows ≡ domain) × ((row : table.Domain) → Has rows row → is_due_right days.now store.old.content row ≡ true)) store.old store.new }
+    ensures { Meets result (λ domain. (first_read (domains.domain_of store.old.content) rows
+        ≡ domain) × ((row : table.Domain) → Has rows row
+        → is_due_right days.now store.old.content row ≡ true)) store.old store.new }
 {
     let Some(row) = only(rows)? else {
         return Ok(None);
@@ -182,7 +188,8 @@ fn deleted_domain<S: Alter>(
     row: DomainRow,
     days: &Schedule,
 ) -> Result<Domain, BookFault>
-    ensures { Meets result (λ domain. (domains.domain_of store.old.content row ≡ Some domain) × (is_due_right days.now store.old.content row ≡ true)) store.old store.new }
+    ensures { Meets result (λ domain. (domains.domain_of store.old.content row ≡ Some domain)
+        × (is_due_right days.now store.old.content row ≡ true)) store.old store.new }
 {
     let due = due_in(&row)?;
     let domain = domain_of(store, alloc, row)?;
@@ -193,7 +200,9 @@ fn deleted_domain<S: Alter>(
 }
 
 fn is_by_end(due: Moment, domain: &Domain, days: &Schedule) -> bool
-    ensures { result ≡ true → int_le (numbers.moment_column due) (pos (lapse.due_at (rules_with days.now) domain.now)) ≡ true }
+    ensures { result ≡ true
+        → int_le (numbers.moment_column due) (pos (lapse.due_at (rules_with days.now) domain.now))
+        ≡ true }
 {
     let Some(deletion) = &domain.deletion else {
         return false;

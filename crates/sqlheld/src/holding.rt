@@ -19,7 +19,8 @@ pub fn holds_the_most<S: Alter>(
     registrar: RegistrarNo,
     most: usize,
 ) -> Result<bool, BookFault>
-    ensures { Tells result (helds_are_right store.old.content) (nat_le most (held_of store.old.content registrar)) store.old store.new }
+    ensures { Tells result (helds_are_right store.old.content)
+        (nat_le most (held_of store.old.content registrar)) store.old store.new }
 {
     let row = maybe_row(store, registrar)?;
     store.whole();

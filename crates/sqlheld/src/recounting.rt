@@ -38,7 +38,8 @@ fn leave<S: Alter>(
     after: &Option<Parties>,
 ) -> Result<(), BookFault>
     requires { store.old.is_open ≡ true }
-    ensures { Turns result (IsCountedAnew (λ r. counts_one (is_in r before.now && not (is_in r after.now))) (λ r. 0)) store.old store.new }
+    ensures { Turns result (IsCountedAnew (λ r. counts_one (is_in r before.now
+        && not (is_in r after.now))) (λ r. 0)) store.old store.new }
 {
     one_less(store, sponsor_without(before, after))?;
     one_less(store, incoming_without(before, after))?;
@@ -52,7 +53,8 @@ fn join<S: Alter>(
     after: &Option<Parties>,
 ) -> Result<(), BookFault>
     requires { store.old.is_open ≡ true }
-    ensures { Turns result (IsCountedAnew (λ r. 0) (λ r. counts_one (is_in r after.now && not (is_in r before.now)))) store.old store.new }
+    ensures { Turns result (IsCountedAnew (λ r. 0) (λ r. counts_one (is_in r after.now
+        && not (is_in r before.now)))) store.old store.new }
 {
     one_more(store, sponsor_without(after, before))?;
     one_more(store, incoming_without(after, before))?;
@@ -65,7 +67,8 @@ fn one_less<S: Alter>(
     registrar: Option<RegistrarNo>,
 ) -> Result<(), BookFault>
     requires { store.old.is_open ≡ true }
-    ensures { Turns result (IsCountedAnew (λ r. counts_where (λ q. q == r) registrar) (λ r. 0)) store.old store.new }
+    ensures { Turns result (IsCountedAnew (λ r. counts_where (λ q. q == r) registrar) (λ r. 0))
+        store.old store.new }
 {
     let Some(registrar) = registrar else {
         return Ok(());
@@ -82,7 +85,8 @@ fn one_more<S: Alter>(
     registrar: Option<RegistrarNo>,
 ) -> Result<(), BookFault>
     requires { store.old.is_open ≡ true }
-    ensures { Turns result (IsCountedAnew (λ r. 0) (λ r. counts_where (λ q. q == r) registrar)) store.old store.new }
+    ensures { Turns result (IsCountedAnew (λ r. 0) (λ r. counts_where (λ q. q == r) registrar))
+        store.old store.new }
 {
     let Some(registrar) = registrar else {
         return Ok(());

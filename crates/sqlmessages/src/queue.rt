@@ -36,7 +36,8 @@ pub fn oldest<S: Alter>(
     store: &mut RowStore<S>,
     registrar: RegistrarNo,
 ) -> Result<Option<Message>, BookFault>
-    ensures { Finds result (slice_get (unwrap_or (get (accounts_of store.old.content) registrar) empty_account).queue 0) store.old store.new }
+    ensures { Finds result (slice_get (unwrap_or (get (accounts_of store.old.content) registrar)
+        empty_account).queue 0) store.old store.new }
 {
     let id = number_of(registrar)?;
     let row = first_row(store, id)?;
@@ -50,7 +51,8 @@ pub fn oldest<S: Alter>(
 
 /// The first row of a queue, if there is one.
 fn first_row<S: Alter>(store: &mut RowStore<S>, id: Number) -> Result<Option<MessageRow>, BookFault>
-    ensures { Finds result (slice_get (table.queue_of id store.old.content.messages) 0) store.old store.new }
+    ensures { Finds result (slice_get (table.queue_of id store.old.content.messages) 0) store.old
+        store.new }
 {
     let rows = store.first_messages_by_account(id)?;
     only(rows)
@@ -88,7 +90,8 @@ pub fn put_message<S: Alter>(
     message: Message,
 ) -> Result<(), BookFault>
     requires { store.old.is_open ≡ true }
-    ensures { Turns result (IsChange registrar (with_queue (queue.put message))) store.old store.new }
+    ensures { Turns result (IsChange registrar (with_queue (queue.put message))) store.old
+        store.new }
 {
     let Found { account, row, same } = look(store, alloc, registrar, &message)?;
     drop(message);
@@ -111,7 +114,10 @@ fn append<S: Alter>(
     account: &AccountRow,
 ) -> Result<(), BookFault>
     requires { store.old.is_open ≡ true }
-    ensures { Makes result (accounts_to (λ rows. insert_by account_table.accounts.key rows account.now) (messages_to (appended table.messages (λ id. record row.now { id = id })) store.old.content)) store.old store.new }
+    ensures { Makes result
+        (accounts_to (λ rows. insert_by account_table.accounts.key rows account.now)
+        (messages_to (appended table.messages (λ id. record row.now { id = id }))
+        store.old.content)) store.old store.new }
 {
     store.append_message(row)?;
     store.put_account(account)?;
@@ -127,7 +133,8 @@ pub fn take_message<S: Alter>(
     message: Message,
 ) -> Result<(), BookFault>
     requires { store.old.is_open ≡ true }
-    ensures { Turns result (IsChange registrar (with_queue (queue.dropped message))) store.old store.new }
+    ensures { Turns result (IsChange registrar (with_queue (queue.dropped message))) store.old
+        store.new }
 {
     let Found { account, row, same } = look(store, alloc, registrar, &message)?;
     drop(message);
@@ -149,7 +156,10 @@ fn remove<S: Alter>(
     account: &AccountRow,
 ) -> Result<(), BookFault>
     requires { store.old.is_open ≡ true }
-    ensures { Makes result (accounts_to (λ rows. insert_by account_table.accounts.key rows account.now) (messages_to (delete_where (table.message_with_id row.now.id)) store.old.content)) store.old store.new }
+    ensures { Makes result
+        (accounts_to (λ rows. insert_by account_table.accounts.key rows account.now)
+        (messages_to (delete_where (table.message_with_id row.now.id)) store.old.content)) store.old
+        store.new }
 {
     store.remove_messages_by_id(number_of_row(row))?;
     store.put_account(account)?;

@@ -24,7 +24,8 @@ pub(crate) fn row_named<S: Alter>(
     store: &mut RowStore<S>,
     name: &Text,
 ) -> Result<Option<ContactRow>, BookFault>
-    ensures { Meets result (λ row. filter (contact_with_name name.now) store.old.content.contacts ≡ rows_of row) store.old store.new }
+    ensures { Meets result (λ row. filter (contact_with_name name.now) store.old.content.contacts
+        ≡ rows_of row) store.old store.new }
 {
     let rows = store.contacts_by_name(name.as_str())?;
     only(rows)
@@ -72,7 +73,8 @@ pub(crate) fn place<S: Alter>(
     contact: &Contact,
 ) -> Result<ContactRow, BookFault>
     requires { store.old.is_open ≡ true }
-    ensures { Brings result (λ row old new. IsWhole old → IsContactPlaced contact.now row old new) store.old store.new }
+    ensures { Brings result (λ row old new. IsWhole old
+        → IsContactPlaced contact.now row old new) store.old store.new }
 {
     let found = row_named(store, &contact.name)?;
     place_at(store, alloc, found, contact)
@@ -86,7 +88,8 @@ fn place_at<S: Alter>(
     contact: &Contact,
 ) -> Result<ContactRow, BookFault>
     requires { store.old.is_open ≡ true }
-    ensures { Brings result (λ row old new. IsContactPlacedAt found contact.now row old new) store.old store.new }
+    ensures { Brings result (λ row old new. IsContactPlacedAt found contact.now row old new)
+        store.old store.new }
 {
     match found {
         None => add_row(store, alloc, contact),
@@ -102,7 +105,8 @@ fn put_row<S: Alter>(
     contact: &Contact,
 ) -> Result<ContactRow, BookFault>
     requires { store.old.is_open ≡ true }
-    ensures { Brings result (λ row old new. IsContactPlacedAt (Some found.now) contact.now row old new) store.old store.new }
+    ensures { Brings result (λ row old new. IsContactPlacedAt (Some found.now) contact.now row old
+        new) store.old store.new }
 {
     let row = row_again(alloc, found, contact)?;
     store.put_contact(&row)?;
@@ -116,7 +120,8 @@ fn add_row<S: Alter>(
     contact: &Contact,
 ) -> Result<ContactRow, BookFault>
     requires { store.old.is_open ≡ true }
-    ensures { Brings result (λ row old new. IsContactPlacedAt None contact.now row old new) store.old store.new }
+    ensures { Brings result (λ row old new. IsContactPlacedAt None contact.now row old new)
+        store.old store.new }
 {
     append(store, alloc, contact)?;
     row_there(store, &contact.name)
@@ -154,7 +159,8 @@ fn row_again(alloc: Global, found: &ContactRow, contact: &Contact) -> Result<Con
 
 /// The row of the contact of this name.
 fn row_there<S: Alter>(store: &mut RowStore<S>, name: &Text) -> Result<ContactRow, BookFault>
-    ensures { Meets result (λ row. filter (contact_with_name name.now) store.old.content.contacts ≡ row ∷ []) store.old store.new }
+    ensures { Meets result (λ row. filter (contact_with_name name.now) store.old.content.contacts
+        ≡ row ∷ []) store.old store.new }
 {
     match row_named(store, name)? {
         None => Err(BookFault::Store),

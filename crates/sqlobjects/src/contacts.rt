@@ -25,8 +25,10 @@ pub fn contact<S: Alter>(
     alloc: Global,
     name: &Text,
 ) -> Result<Option<Contact>, BookFault>
-    ensures found { Finds result (get (spec.contacts_of store.old.content) name.now) store.old store.new }
-    ensures read { IfOk result (λ contact. store.new.is_clean ≡ true → IsRead (filter (contact_with_name name.now) store.old.content.contacts) contact) }
+    ensures found { Finds result (get (spec.contacts_of store.old.content) name.now) store.old
+        store.new }
+    ensures read { IfOk result (λ contact. store.new.is_clean ≡ true
+        → IsRead (filter (contact_with_name name.now) store.old.content.contacts) contact) }
 {
     let rows = store.contacts_by_name(name.as_str())?;
     first_contact(store, alloc, rows)
@@ -38,7 +40,8 @@ fn first_contact<S: Alter>(
     alloc: Global,
     rows: Seq<ContactRow>,
 ) -> Result<Option<Contact>, BookFault>
-    ensures found { Finds result (first_read (spec.contact_of store.old.content) rows) store.old store.new }
+    ensures found { Finds result (first_read (spec.contact_of store.old.content) rows) store.old
+        store.new }
     ensures read { IfOk result (λ contact. IsRead rows contact) }
 {
     let Some(row) = only(rows)? else {
@@ -53,7 +56,8 @@ pub fn contact_of<S: Alter>(
     alloc: Global,
     row: ContactRow,
 ) -> Result<Contact, BookFault>
-    ensures { Meets result (λ contact. spec.contact_of store.old.content row ≡ Some contact) store.old store.new }
+    ensures { Meets result (λ contact. spec.contact_of store.old.content row ≡ Some contact)
+        store.old store.new }
 {
     match transfer_of(store, &row) {
         Ok(transfer) => read_contact(alloc, row, transfer),
@@ -69,7 +73,9 @@ fn transfer_of<S: Alter>(
     store: &mut RowStore<S>,
     row: &ContactRow,
 ) -> Result<Option<Transfer>, BookFault>
-    ensures { Meets result (λ transfer. spec.last_transfer (filter (transfer_with_contact row.now.id) store.old.content.transfers) ≡ Some transfer) store.old store.new }
+    ensures { Meets result
+        (λ transfer. spec.last_transfer (filter (transfer_with_contact row.now.id)
+        store.old.content.transfers) ≡ Some transfer) store.old store.new }
 {
     let transfers = store.transfers_by_contact(Number::new(row.id))?;
     last_transfer(transfers)
@@ -102,7 +108,8 @@ pub fn has_contact<S: Alter>(
     alloc: Global,
     name: &Text,
 ) -> Result<bool, BookFault>
-    ensures { Finds result (is_some (get (spec.contacts_of store.old.content) name.now)) store.old store.new }
+    ensures { Finds result (is_some (get (spec.contacts_of store.old.content) name.now)) store.old
+        store.new }
 {
     let contact = contact(store, alloc, name)?;
     let is_there = contact.is_some();

@@ -75,7 +75,8 @@ fn move_all<S: Alter>(
     sponsors: &Sponsors,
 ) -> Result<(), BookFault>
     requires { store.old.is_open ≡ true }
-    ensures { Turns result (AreWritten (λ xs. with_all_moved sponsors.now xs rows)) store.old store.new }
+    ensures { Turns result (AreWritten (λ xs. with_all_moved sponsors.now xs rows)) store.old
+        store.new }
 {
     for row in rows.into_vec() {
         move_one(store, row, sponsors)?;

@@ -24,7 +24,8 @@ pub(crate) fn row_named<S: Alter>(
     store: &mut RowStore<S>,
     name: &Text,
 ) -> Result<Option<HostRow>, BookFault>
-    ensures { Meets result (λ row. filter (host_with_name name.now) store.old.content.hosts ≡ rows_of row) store.old store.new }
+    ensures { Meets result (λ row. filter (host_with_name name.now) store.old.content.hosts
+        ≡ rows_of row) store.old store.new }
 {
     let rows = store.hosts_by_name(name.as_str())?;
     only(rows)
@@ -76,7 +77,8 @@ pub(crate) fn place<S: Alter>(
     host: &Host,
 ) -> Result<HostRow, BookFault>
     requires { store.old.is_open ≡ true }
-    ensures { Brings result (λ row old new. IsHostPlacedRight host.now row old new) store.old store.new }
+    ensures { Brings result (λ row old new. IsHostPlacedRight host.now row old new) store.old
+        store.new }
 {
     let found = row_to_change(store, &host.name)?;
     place_at(store, alloc, found, host)
@@ -90,7 +92,8 @@ fn place_at<S: Alter>(
     host: &Host,
 ) -> Result<HostRow, BookFault>
     requires { store.old.is_open ≡ true }
-    ensures { Brings result (λ row old new. IsHostPlacedAt found host.now row old new) store.old store.new }
+    ensures { Brings result (λ row old new. IsHostPlacedAt found host.now row old new) store.old
+        store.new }
 {
     match found {
         None => add_row(store, alloc, host),
@@ -106,7 +109,8 @@ fn put_row<S: Alter>(
     host: &Host,
 ) -> Result<HostRow, BookFault>
     requires { store.old.is_open ≡ true }
-    ensures { Brings result (λ row old new. IsHostPlacedAt (Some found.now) host.now row old new) store.old store.new }
+    ensures { Brings result (λ row old new. IsHostPlacedAt (Some found.now) host.now row old new)
+        store.old store.new }
 {
     let row = row_again(store, alloc, found, host)?;
     store.put_host(&row)?;
@@ -120,7 +124,8 @@ fn add_row<S: Alter>(
     host: &Host,
 ) -> Result<HostRow, BookFault>
     requires { store.old.is_open ≡ true }
-    ensures { Brings result (λ row old new. IsHostPlacedAt None host.now row old new) store.old store.new }
+    ensures { Brings result (λ row old new. IsHostPlacedAt None host.now row old new) store.old
+        store.new }
 {
     append(store, alloc, host)?;
     row_there(store, &host.name)
@@ -143,7 +148,8 @@ fn row_of<S: Alter>(
     id: i64,
     host: &Host,
 ) -> Result<HostRow, BookFault>
-    ensures { Meets result (λ row. IsHostRow store.old.content id host.now row) store.old store.new }
+    ensures { Meets result (λ row. IsHostRow store.old.content id host.now row) store.old
+        store.new }
 {
     let row = row_without(alloc, id, host)?;
     with_sponsor(store, row)
@@ -163,14 +169,16 @@ fn row_again<S: Alter>(
     found: &HostRow,
     host: &Host,
 ) -> Result<HostRow, BookFault>
-    ensures { Meets result (λ row. IsHostRow store.old.content found.now.id host.now row) store.old store.new }
+    ensures { Meets result (λ row. IsHostRow store.old.content found.now.id host.now row) store.old
+        store.new }
 {
     row_of(store, alloc, found.id, host)
 }
 
 /// The row of the host of this name.
 fn row_there<S: Alter>(store: &mut RowStore<S>, name: &Text) -> Result<HostRow, BookFault>
-    ensures { Meets result (λ row. filter (host_with_name name.now) store.old.content.hosts ≡ row ∷ []) store.old store.new }
+    ensures { Meets result (λ row. filter (host_with_name name.now) store.old.content.hosts ≡ row
+        ∷ []) store.old store.new }
 {
     match row_named(store, name)? {
         None => Err(BookFault::Store),

@@ -24,8 +24,10 @@ pub fn host<S: Alter>(
     alloc: Global,
     name: &Text,
 ) -> Result<Option<Host>, BookFault>
-    ensures found { Finds result (get (spec.hosts_of store.old.content) name.now) store.old store.new }
-    ensures read { IfOk result (λ host. store.new.is_clean ≡ true → IsRead (filter (host_with_name name.now) store.old.content.hosts) host) }
+    ensures found { Finds result (get (spec.hosts_of store.old.content) name.now) store.old
+        store.new }
+    ensures read { IfOk result (λ host. store.new.is_clean ≡ true
+        → IsRead (filter (host_with_name name.now) store.old.content.hosts) host) }
 {
     let rows = store.hosts_by_name(name.as_str())?;
     first_host(store, alloc, rows)
@@ -37,7 +39,8 @@ fn first_host<S: Alter>(
     alloc: Global,
     rows: Seq<HostRow>,
 ) -> Result<Option<Host>, BookFault>
-    ensures found { Finds result (first_read (spec.host_of store.old.content) rows) store.old store.new }
+    ensures found { Finds result (first_read (spec.host_of store.old.content) rows) store.old
+        store.new }
     ensures read { IfOk result (λ host. IsRead rows host) }
 {
     let Some(row) = only(rows)? else {
@@ -51,7 +54,8 @@ fn host_of<S: Alter>(
     alloc: Global,
     row: HostRow,
 ) -> Result<Host, BookFault>
-    ensures { Meets result (λ host. spec.host_of store.old.content row ≡ Some host) store.old store.new }
+    ensures { Meets result (λ host. spec.host_of store.old.content row ≡ Some host) store.old
+        store.new }
 {
     let number = number_of(&row);
     let addresses = store.addresses_by_host(number)?;
@@ -87,7 +91,8 @@ pub fn has_host<S: Alter>(
     alloc: Global,
     name: &Text,
 ) -> Result<bool, BookFault>
-    ensures { Finds result (is_some (get (spec.hosts_of store.old.content) name.now)) store.old store.new }
+    ensures { Finds result (is_some (get (spec.hosts_of store.old.content) name.now)) store.old
+        store.new }
 {
     let host = host(store, alloc, name)?;
     Ok(host.is_some())
@@ -99,7 +104,8 @@ pub fn host_addresses<S: Alter>(
     alloc: Global,
     name: &Text,
 ) -> Result<Option<Seq<Text>>, BookFault>
-    ensures { Finds result (option_map (λ h. h.addresses) (get (spec.hosts_of store.old.content) name.now)) store.old store.new }
+    ensures { Finds result (option_map (λ h. h.addresses) (get (spec.hosts_of store.old.content)
+        name.now)) store.old store.new }
 {
     let host = host(store, alloc, name)?;
     Ok(addresses_in(host))

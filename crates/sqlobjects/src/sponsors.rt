@@ -16,7 +16,8 @@ pub(crate) fn domain_sponsor<S: Alter>(
     store: &mut RowStore<S>,
     name: &str,
 ) -> Result<Option<i64>, BookFault>
-    ensures { Meets result (λ sponsor. sponsor ≡ spec.domain_sponsor store.old.content name.now) store.old store.new }
+    ensures { Meets result (λ sponsor. sponsor ≡ spec.domain_sponsor store.old.content name.now)
+        store.old store.new }
 {
     let rows = store.domains_by_name(name)?;
     let domain = only(rows)?;
@@ -35,7 +36,8 @@ fn first_sponsor(domain: Option<DomainRow>) -> Option<i64>
 /// The account that sponsors the host of a row: outside the zone its own sponsor, or else that of the
 /// domain that it lies below, if there is one.
 fn sponsor_of<S: Alter>(store: &mut RowStore<S>, row: &HostRow) -> Result<Option<i64>, BookFault>
-    ensures { Meets result (λ sponsor. sponsor ≡ spec.sponsor_of store.old.content row.now) store.old store.new }
+    ensures { Meets result (λ sponsor. sponsor ≡ spec.sponsor_of store.old.content row.now)
+        store.old store.new }
 {
     if let Some(sponsor) = row.external_sponsor {
         return Ok(Some(sponsor));
@@ -48,7 +50,8 @@ pub(crate) fn with_sponsor<S: Alter>(
     store: &mut RowStore<S>,
     row: HostRow,
 ) -> Result<HostRow, BookFault>
-    ensures { Meets result (λ right. right ≡ record row { sponsor = spec.sponsor_of store.old.content row }) store.old store.new }
+    ensures { Meets result (λ right. right
+        ≡ record row { sponsor = spec.sponsor_of store.old.content row }) store.old store.new }
 {
     let sponsor = sponsor_of(store, &row)?;
     let mut row = row;
@@ -61,7 +64,8 @@ pub(crate) fn check_sponsor<S: Alter>(
     store: &mut RowStore<S>,
     row: &Option<HostRow>,
 ) -> Result<(), BookFault>
-    ensures { Meets result (λ done. IfSome row.now (HasRightSponsor store.old.content)) store.old store.new }
+    ensures { Meets result (λ done. IfSome row.now (HasRightSponsor store.old.content)) store.old
+        store.new }
 {
     match row {
         None => Ok(()),

@@ -25,7 +25,8 @@ pub(crate) fn days_made(
     answer: Option<u32>,
     lock: Option<u32>,
 ) -> Option<Days>
-    ensures { result ≡ spec.days_made add auto_renew renew transfer redemption restore pending_delete answer lock }
+    ensures { result ≡ spec.days_made add auto_renew renew transfer redemption restore
+        pending_delete answer lock }
 {
     Some(Days {
         add: add?,

@@ -83,7 +83,8 @@ pub(crate) fn with_terms(
     terms: &Terms,
     labels: String,
 ) -> Result<MetaRow, AllocError>
-    ensures { IfOk result (λ changed. changed ≡ spec.with_terms terms.now (string_bytes labels) row) }
+    ensures { IfOk result (λ changed. changed ≡ spec.with_terms terms.now (string_bytes labels)
+        row) }
 {
     let days = &terms.days.first;
     let prices = &terms.prices;

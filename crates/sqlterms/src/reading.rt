@@ -34,7 +34,8 @@ pub fn clock<S: Alter>(store: &mut RowStore<S>) -> Result<Moment, BookFault>
 /// The lengths of periods over time, if the registry was opened. Columns that are none are refused.
 pub fn days<S: Alter>(store: &mut RowStore<S>, alloc: Global) -> Result<Option<Schedule>, BookFault>
     ensures found { Finds result (spec.days_of store.old.content) store.old store.new }
-    ensures all { IfOk result (λ days. store.new.is_clean ≡ true → is_some days ≡ spec.has_terms store.old.content) }
+    ensures all { IfOk result (λ days. store.new.is_clean ≡ true
+        → is_some days ≡ spec.has_terms store.old.content) }
 {
     let Some(row) = maybe_meta(store)? else {
         return Ok(None);
@@ -82,7 +83,8 @@ fn schedule_made(first: Option<Days>, later: Option<Seq<DatedDays>>) -> Option<S
 /// The terms that the registry is used under, if it was opened. What doesn't read as terms is refused.
 pub fn terms<S: Alter>(store: &mut RowStore<S>, alloc: Global) -> Result<Option<Terms>, BookFault>
     ensures found { Finds result (spec.terms_of store.old.content) store.old store.new }
-    ensures all { IfOk result (λ terms. store.new.is_clean ≡ true → is_some terms ≡ spec.has_terms store.old.content) }
+    ensures all { IfOk result (λ terms. store.new.is_clean ≡ true
+        → is_some terms ≡ spec.has_terms store.old.content) }
 {
     let Some(row) = maybe_meta(store)? else {
         return Ok(None);
@@ -101,7 +103,10 @@ fn terms_at<S: Alter>(
     alloc: Global,
     row: &MetaRow,
 ) -> Result<Terms, BookFault>
-    ensures { Meets result (λ terms. spec.terms_made row.now.zone (spec.reserved_in row.now.reserved) (spec.schedule_in row.now store.old.content.days) (spec.prices_in row.now) (spec.ids_in store.old.content.accounts) ≡ Some terms) store.old store.new }
+    ensures { Meets result (λ terms. spec.terms_made row.now.zone
+        (spec.reserved_in row.now.reserved) (spec.schedule_in row.now store.old.content.days)
+        (spec.prices_in row.now) (spec.ids_in store.old.content.accounts) ≡ Some terms) store.old
+        store.new }
 {
     let days = schedule_at(store, alloc, row)?;
     let ids = ids_at(store, alloc)?;
@@ -110,7 +115,8 @@ fn terms_at<S: Alter>(
 
 /// The ids of all accounts.
 fn ids_at<S: Alter>(store: &mut RowStore<S>, alloc: Global) -> Result<Seq<Text>, BookFault>
-    ensures { Meets result (λ ids. spec.ids_in store.old.content.accounts ≡ Some ids) store.old store.new }
+    ensures { Meets result (λ ids. spec.ids_in store.old.content.accounts ≡ Some ids) store.old
+        store.new }
 {
     let accounts = store.all_accounts()?;
     ids_of(alloc, accounts.as_slice())
@@ -123,7 +129,8 @@ fn terms_of_row(
     days: Option<Schedule>,
     ids: Seq<Text>,
 ) -> Result<Terms, BookFault>
-    ensures { IfOk result (λ terms. spec.terms_made row.now.zone (spec.reserved_in row.now.reserved) days (spec.prices_in row.now) (Some ids) ≡ Some terms) }
+    ensures { IfOk result (λ terms. spec.terms_made row.now.zone (spec.reserved_in row.now.reserved)
+        days (spec.prices_in row.now) (Some ids) ≡ Some terms) }
 {
     let zone = Text::from_str(alloc, row.zone.as_str())?;
     let reserved = reserved_of_column(alloc, row.reserved.as_str())?;

@@ -22,7 +22,8 @@ pub(crate) fn apply<R: Records>(
     policy: &Policy,
 ) -> Result<(), BookFault>
     requires { (R.kept records.old).is_open ≡ true }
-    ensures { Makes result (with_changes policy.now changes (R.kept records.old).content) (R.kept records.old) (R.kept records.new) }
+    ensures { Makes result (with_changes policy.now changes (R.kept records.old).content)
+        (R.kept records.old) (R.kept records.new) }
 {
     for change in changes.into_vec() {
         make(records, change, policy)?;
@@ -33,7 +34,8 @@ pub(crate) fn apply<R: Records>(
 /// Makes a change.
 fn make<R: Records>(records: &mut R, change: Change, policy: &Policy) -> Result<(), BookFault>
     requires { (R.kept records.old).is_open ≡ true }
-    ensures { Makes result (with_changes policy.now (change ∷ []) (R.kept records.old).content) (R.kept records.old) (R.kept records.new) }
+    ensures { Makes result (with_changes policy.now (change ∷ []) (R.kept records.old).content)
+        (R.kept records.old) (R.kept records.new) }
 {
     match change {
         Change::MoveClock(moment) => move_clock(records, moment),
@@ -54,7 +56,8 @@ fn make<R: Records>(records: &mut R, change: Change, policy: &Policy) -> Result<
 /// The moment was seen.
 fn move_clock<R: Records>(records: &mut R, moment: Moment) -> Result<(), BookFault>
     requires { (R.kept records.old).is_open ≡ true }
-    ensures { Makes result (clock_set (max moment (R.kept records.old).content.registry.clock) (R.kept records.old).content) (R.kept records.old) (R.kept records.new) }
+    ensures { Makes result (clock_set (max moment (R.kept records.old).content.registry.clock)
+        (R.kept records.old).content) (R.kept records.old) (R.kept records.new) }
 {
     let clock = records.clock()?;
     records.set_clock(moment.later(clock))
@@ -63,7 +66,8 @@ fn move_clock<R: Records>(records: &mut R, moment: Moment) -> Result<(), BookFau
 /// The contact stands under its name.
 fn put_contact<R: Records>(records: &mut R, contact: Contact) -> Result<(), BookFault>
     requires { (R.kept records.old).is_open ≡ true }
-    ensures { Makes result (contact_put contact.name (Some contact) (R.kept records.old).content) (R.kept records.old) (R.kept records.new) }
+    ensures { Makes result (contact_put contact.name (Some contact) (R.kept records.old).content)
+        (R.kept records.old) (R.kept records.new) }
 {
     let name = contact.name.clone()?;
     records.put_contact(name, contact)
@@ -72,7 +76,8 @@ fn put_contact<R: Records>(records: &mut R, contact: Contact) -> Result<(), Book
 /// The domain stands under its name.
 fn put_domain<R: Records>(records: &mut R, domain: Domain, policy: &Policy) -> Result<(), BookFault>
     requires { (R.kept records.old).is_open ≡ true }
-    ensures { Makes result (domain_put domain.name (Some domain) (R.kept records.old).content) (R.kept records.old) (R.kept records.new) }
+    ensures { Makes result (domain_put domain.name (Some domain) (R.kept records.old).content)
+        (R.kept records.old) (R.kept records.new) }
 {
     let name = domain.name.clone()?;
     records.put_domain(name, domain, policy)
@@ -85,7 +90,8 @@ fn leave_contact<R: Records>(
     left: Option<Contact>,
 ) -> Result<(), BookFault>
     requires { (R.kept records.old).is_open ≡ true }
-    ensures { Makes result (contact_left name left (R.kept records.old).content) (R.kept records.old) (R.kept records.new) }
+    ensures { Makes result (contact_left name left (R.kept records.old).content)
+        (R.kept records.old) (R.kept records.new) }
 {
     match left {
         None => records.drop_contact(name),
@@ -101,7 +107,8 @@ fn leave_domain<R: Records>(
     policy: &Policy,
 ) -> Result<(), BookFault>
     requires { (R.kept records.old).is_open ≡ true }
-    ensures { Makes result (domain_left name left (R.kept records.old).content) (R.kept records.old) (R.kept records.new) }
+    ensures { Makes result (domain_left name left (R.kept records.old).content) (R.kept records.old)
+        (R.kept records.new) }
 {
     match left {
         None => records.drop_domain(name, policy),
@@ -117,7 +124,8 @@ fn rename<R: Records>(
     policy: &Policy,
 ) -> Result<(), BookFault>
     requires { (R.kept records.old).is_open ≡ true }
-    ensures { Makes result (with_changes policy.now (change.RenameHost from.now to.now ∷ []) (R.kept records.old).content) (R.kept records.old) (R.kept records.new) }
+    ensures { Makes result (with_changes policy.now (change.RenameHost from.now to.now ∷ [])
+        (R.kept records.old).content) (R.kept records.old) (R.kept records.new) }
 {
     let names = records.domains_naming(from)?;
     rename_in(records, from, to, names.as_slice(), policy)
@@ -132,7 +140,8 @@ fn rename_in<R: Records>(
     policy: &Policy,
 ) -> Result<(), BookFault>
     requires { (R.kept records.old).is_open ≡ true }
-    ensures { Makes result (host_renamed_in from.now to.now names.now (R.kept records.old).content) (R.kept records.old) (R.kept records.new) }
+    ensures { Makes result (host_renamed_in from.now to.now names.now (R.kept records.old).content)
+        (R.kept records.old) (R.kept records.new) }
 {
     for name in names {
         records.rename_host(name, from, to, policy)?;

@@ -27,7 +27,8 @@ impl Content {
 
     /// What takes a message back, or the account as it is.
     fn notice_back(&self, registrar: RegistrarNo, message: &Message) -> Result<Edit, AllocError>
-        ensures { IfOk result (λ edit. edit ≡ spec.notice_back registrar message.now (finmap.get self.now.accounts registrar)) }
+        ensures { IfOk result (λ edit. edit ≡ spec.notice_back registrar message.now
+            (finmap.get self.now.accounts registrar)) }
     {
         if self.accounts.lacks(registrar, message) {
             return Ok(Edit::Unnotice(registrar, message_clone(message)?));
@@ -37,14 +38,17 @@ impl Content {
 
     /// What gives a registrar its account as it is.
     fn account_back(&self, registrar: RegistrarNo) -> Result<Edit, AllocError>
-        ensures { IfOk result (λ it. it ≡ edits.Account registrar (finmap.get self.now.accounts registrar)) }
+        ensures { IfOk result (λ it. it
+            ≡ edits.Account registrar (finmap.get self.now.accounts registrar)) }
     {
         Ok(Edit::Account(registrar, self.accounts.copy(registrar)?))
     }
 
     /// What gives a registrar's account its counters back.
     fn counters_back(&self, registrar: RegistrarNo) -> Edit
-        ensures { result ≡ spec.counters_back registrar (option_map counters_of (finmap.get self.now.accounts registrar)) }
+        ensures { result
+            ≡ spec.counters_back registrar
+            (option_map counters_of (finmap.get self.now.accounts registrar)) }
     {
         match self.accounts.counters_there(registrar) {
             None => Edit::Account(registrar, None),
@@ -54,7 +58,8 @@ impl Content {
 
     /// What takes an edit back: once the edit is made, it leads back.
     pub fn inverse(&self, edit: &Edit) -> Result<Edit, AllocError>
-        ensures { IfOk result (λ inverse. edited inverse (edited edit.now (content_of self.now)) ≡ content_of self.now) }
+        ensures { IfOk result (λ inverse. edited inverse (edited edit.now (content_of self.now))
+            ≡ content_of self.now) }
     {
         if let Some(back) = self.put_back(edit)? {
             return Ok(back);
@@ -64,7 +69,9 @@ impl Content {
 
     /// What puts a line or a message back that an edit takes out, where it is there.
     fn put_back(&self, edit: &Edit) -> Result<Option<Edit>, AllocError>
-        ensures { IfOk result (λ back. IfSome back (λ it. edited it (edited edit.now (content_of self.now)) ≡ content_of self.now)) }
+        ensures { IfOk result
+            (λ back. IfSome back (λ it. edited it (edited edit.now (content_of self.now))
+            ≡ content_of self.now)) }
     {
         match edit {
             Edit::Unline(registrar, line) if self.accounts.has_line(*registrar, line) => {

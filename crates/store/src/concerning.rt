@@ -30,7 +30,8 @@ pub(crate) fn due_for<R: Records>(
     moment: Moment,
     policy: &Policy,
 ) -> Result<Seq<Due>, BookFault>
-    ensures { Finds result (dues.due_for policy.now caller (names.named_by command.now) moment (R.kept records.old).content.registry) (R.kept records.old) (R.kept records.new) }
+    ensures { Finds result (dues.due_for policy.now caller (names.named_by command.now) moment
+        (R.kept records.old).content.registry) (R.kept records.old) (R.kept records.new) }
 {
     let names = Names::of_command(records.alloc(), command)?;
     due_that_concerns(records, &caller, &names, moment, policy)
@@ -44,7 +45,8 @@ pub(crate) fn due_at<R: Records>(
     moment: Moment,
     policy: &Policy,
 ) -> Result<Seq<Due>, BookFault>
-    ensures { Finds result (dues.due_for policy.now None (names.named_of kind name.now) moment (R.kept records.old).content.registry) (R.kept records.old) (R.kept records.new) }
+    ensures { Finds result (dues.due_for policy.now None (names.named_of kind name.now) moment
+        (R.kept records.old).content.registry) (R.kept records.old) (R.kept records.new) }
 {
     let names = Names::of_object(records.alloc(), kind, name)?;
     due_that_concerns(records, &None, &names, moment, policy)
@@ -57,7 +59,8 @@ fn due_that_concerns<R: Records>(
     moment: Moment,
     policy: &Policy,
 ) -> Result<Seq<Due>, BookFault>
-    ensures { Finds result (dues.due_for policy.now caller.now names.now moment (R.kept records.old).content.registry) (R.kept records.old) (R.kept records.new) }
+    ensures { Finds result (dues.due_for policy.now caller.now names.now moment
+        (R.kept records.old).content.registry) (R.kept records.old) (R.kept records.new) }
 {
     let due = records.due_near(*caller, names, moment, policy)?;
     picked(records, caller, names, due)
@@ -70,7 +73,10 @@ fn picked<R: Records>(
     names: &Names,
     due: Seq<Due>,
 ) -> Result<Seq<Due>, BookFault>
-    ensures { Finds result (filter (dues.is_picked (spec.concerned caller.now names.now (R.kept records.old).content.registry)) due) (R.kept records.old) (R.kept records.new) }
+    ensures { Finds result
+        (filter
+        (dues.is_picked (spec.concerned caller.now names.now (R.kept records.old).content.registry))
+        due) (R.kept records.old) (R.kept records.new) }
 {
     if due.is_empty() {
         return Ok(due);
@@ -87,7 +93,9 @@ fn picked_by<R: Records>(
     meant: &Meant,
     due: Seq<Due>,
 ) -> Result<Seq<Due>, BookFault>
-    ensures { Finds result (filter (dues.picks_by caller.now names.now meant.now (R.kept records.old).content.registry) due) (R.kept records.old) (R.kept records.new) }
+    ensures { Finds result
+        (filter (dues.picks_by caller.now names.now meant.now (R.kept records.old).content.registry)
+        due) (R.kept records.old) (R.kept records.new) }
 {
     let mut picked = Seq::new(records.alloc());
     for it in due.into_vec() {
@@ -105,7 +113,8 @@ fn is_picked<R: Records>(
     meant: &Meant,
     due: &Due,
 ) -> Result<bool, BookFault>
-    ensures { Finds result (dues.picks_by caller.now names.now meant.now (R.kept records.old).content.registry due.now) (R.kept records.old) (R.kept records.new) }
+    ensures { Finds result (dues.picks_by caller.now names.now meant.now
+        (R.kept records.old).content.registry due.now) (R.kept records.old) (R.kept records.new) }
 {
     match due.kind {
         ObjectKind::Contact => is_contact_picked(records, caller, meant, &due.name),
@@ -120,7 +129,10 @@ fn is_contact_picked<R: Records>(
     meant: &Meant,
     name: &Text,
 ) -> Result<bool, BookFault>
-    ensures { Finds result (has_name meant.now.contacts name.now || holds_of (λ (x : Contact). spec.is_about caller.now x.sponsor x.transfer) (finmap.get (R.kept records.old).content.registry.contacts name.now)) (R.kept records.old) (R.kept records.new) }
+    ensures { Finds result (has_name meant.now.contacts name.now
+        || holds_of (λ (x : Contact). spec.is_about caller.now x.sponsor x.transfer)
+        (finmap.get (R.kept records.old).content.registry.contacts name.now)) (R.kept records.old)
+        (R.kept records.new) }
 {
     if has_name(meant.contacts.as_slice(), name) {
         return Ok(true);
@@ -130,7 +142,8 @@ fn is_contact_picked<R: Records>(
 }
 
 fn is_contact_about(caller: &Option<RegistrarNo>, contact: &Option<Contact>) -> bool
-    ensures { result ≡ holds_of (λ (x : Contact). spec.is_about caller.now x.sponsor x.transfer) contact.now }
+    ensures { result ≡ holds_of (λ (x : Contact). spec.is_about caller.now x.sponsor x.transfer)
+        contact.now }
 {
     match contact {
         None => false,
@@ -145,7 +158,10 @@ fn is_domain_picked<R: Records>(
     meant: &Meant,
     name: &Text,
 ) -> Result<bool, BookFault>
-    ensures { Finds result (has_name meant.now.domains name.now || holds_of (spec.concerns_domain caller.now names.now meant.now.roids) (finmap.get (R.kept records.old).content.registry.domains name.now)) (R.kept records.old) (R.kept records.new) }
+    ensures { Finds result (has_name meant.now.domains name.now
+        || holds_of (spec.concerns_domain caller.now names.now meant.now.roids)
+        (finmap.get (R.kept records.old).content.registry.domains name.now)) (R.kept records.old)
+        (R.kept records.new) }
 {
     if has_name(meant.domains.as_slice(), name) {
         return Ok(true);
@@ -160,7 +176,8 @@ fn is_domain_concerned(
     meant: &Meant,
     domain: &Option<Domain>,
 ) -> bool
-    ensures { result ≡ holds_of (spec.concerns_domain caller.now names.now meant.now.roids) domain.now }
+    ensures { result ≡ holds_of (spec.concerns_domain caller.now names.now meant.now.roids)
+        domain.now }
 {
     match domain {
         None => false,
@@ -171,7 +188,8 @@ fn is_domain_concerned(
 // ---- what is meant by names
 
 fn meant_by<R: Records>(records: &mut R, names: &Names) -> Result<Meant, BookFault>
-    ensures { Finds result (spec.meant_at names.now (R.kept records.old).content.registry) (R.kept records.old) (R.kept records.new) }
+    ensures { Finds result (spec.meant_at names.now (R.kept records.old).content.registry)
+        (R.kept records.old) (R.kept records.new) }
 {
     let contacts = contacts_meant(records, names.contacts.as_slice())?;
     let (domains, roids) = domains_meant(records, names.domains.as_slice())?;
@@ -183,7 +201,9 @@ fn meant_by<R: Records>(records: &mut R, names: &Names) -> Result<Meant, BookFau
 }
 
 fn contacts_meant<R: Records>(records: &mut R, names: &[Text]) -> Result<Seq<Text>, BookFault>
-    ensures { Finds result (spec.meant spec.contact_name (R.kept records.old).content.registry.contacts names.now) (R.kept records.old) (R.kept records.new) }
+    ensures { Finds result
+        (spec.meant spec.contact_name (R.kept records.old).content.registry.contacts names.now)
+        (R.kept records.old) (R.kept records.new) }
 {
     let mut meant = copies(records.alloc(), names)?;
     for name in names {
@@ -196,7 +216,9 @@ fn contacts_meant<R: Records>(records: &mut R, names: &[Text]) -> Result<Seq<Tex
 
 /// The name that the contact bears which stands under one.
 fn name_of_contact<R: Records>(records: &mut R, name: &Text) -> Result<Option<Text>, BookFault>
-    ensures { Finds result (option_map spec.contact_name (finmap.get (R.kept records.old).content.registry.contacts name.now)) (R.kept records.old) (R.kept records.new) }
+    ensures { Finds result
+        (option_map spec.contact_name (finmap.get (R.kept records.old).content.registry.contacts
+        name.now)) (R.kept records.old) (R.kept records.new) }
 {
     match records.contact(name)? {
         None => Ok(None),
@@ -209,7 +231,11 @@ fn domains_meant<R: Records>(
     records: &mut R,
     names: &[Text],
 ) -> Result<(Seq<Text>, Seq<Roid>), BookFault>
-    ensures { Finds result (spec.meant spec.domain_name (R.kept records.old).content.registry.domains names.now, spec.read_at spec.domain_roid (R.kept records.old).content.registry.domains names.now) (R.kept records.old) (R.kept records.new) }
+    ensures { Finds result (
+      spec.meant spec.domain_name (R.kept records.old).content.registry.domains names.now,
+      spec.read_at spec.domain_roid (R.kept records.old).content.registry.domains names.now,
+    )
+        (R.kept records.old) (R.kept records.new) }
 {
     let mut meant = copies(records.alloc(), names)?;
     let mut roids = Seq::new(records.alloc());

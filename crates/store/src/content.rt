@@ -71,7 +71,8 @@ impl Content {
         from: &Text,
         to: &Text,
     ) -> Result<Option<Domain>, AllocError>
-        ensures { IfOk result (λ it. it ≡ option_map (changes.with_host_renamed from.now to.now) (finmap.get (registry_in self.now).domains domain.now)) }
+        ensures { IfOk result (λ it. it ≡ option_map (changes.with_host_renamed from.now to.now)
+            (finmap.get (registry_in self.now).domains domain.now)) }
     {
         match self.domains.get(domain) {
             None => Ok(None),
@@ -85,7 +86,8 @@ impl Content {
 impl Content {
     /// Of a domain, what its hosts hang on.
     pub fn superordinate(&self, domain: &Text) -> Option<Superordinate>
-        ensures { result ≡ option_map facts.superordinate_of_domain (finmap.get (registry_in self.now).domains domain.now) }
+        ensures { result ≡ option_map facts.superordinate_of_domain
+            (finmap.get (registry_in self.now).domains domain.now) }
     {
         match self.domains.get(domain) {
             None => None,
@@ -98,7 +100,8 @@ impl Content {
 
     /// The hosts below a domain, in the order of their names.
     pub fn subordinate(&self, domain: &Text) -> Result<Seq<Text>, AllocError>
-        ensures { IfOk result (λ names. names ≡ facts.subordinate (registry_in self.now) domain.now) }
+        ensures { IfOk result (λ names. names ≡ facts.subordinate (registry_in self.now)
+            domain.now) }
     {
         let mut names = Seq::new(self.alloc);
         for name in self.hosts.keys() {
@@ -121,7 +124,8 @@ impl Content {
     }
 
     pub fn host_addresses(&self, name: &Text) -> Result<Option<Seq<Text>>, AllocError>
-        ensures { IfOk result (λ addresses. addresses ≡ faces.host_addresses_at (registry_in self.now) name.now) }
+        ensures { IfOk result (λ addresses. addresses
+            ≡ faces.host_addresses_at (registry_in self.now) name.now) }
     {
         match self.hosts.get(name) {
             None => Ok(None),

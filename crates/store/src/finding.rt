@@ -41,7 +41,8 @@ pub(crate) fn facts_for<R: Records>(
     command: &Command,
     policy: &Policy,
 ) -> Result<Facts, BookFault>
-    ensures { Finds result (facts.facts policy.now caller command.now (R.kept records.old).content.registry) (R.kept records.old) (R.kept records.new) }
+    ensures { Finds result (facts.facts policy.now caller command.now
+        (R.kept records.old).content.registry) (R.kept records.old) (R.kept records.new) }
 {
     let missing = reference_missing(records, command)?;
     let limit = holding_limit_reached(records, caller, command)?;
@@ -68,7 +69,9 @@ fn objects_for<R: Records>(
     command: &Command,
     policy: &Policy,
 ) -> Result<(Seq<ContactFacts>, Seq<DomainFacts>, Seq<HostFacts>), BookFault>
-    ensures { Finds result (lookups.objects_in (facts.facts policy.now caller command.now (R.kept records.old).content.registry)) (R.kept records.old) (R.kept records.new) }
+    ensures { Finds result
+        (lookups.objects_in (facts.facts policy.now caller command.now
+        (R.kept records.old).content.registry)) (R.kept records.old) (R.kept records.new) }
 {
     let hosts = hosts_for(records, command)?;
     let contacts = contacts_for(records, caller, command, policy)?;
@@ -83,7 +86,9 @@ fn account_facts<R: Records>(
     registrar: RegistrarNo,
     command: &Command,
 ) -> Result<AccountFacts, BookFault>
-    ensures { Finds result (facts.account_facts command.now (account_of registrar (R.kept records.old).content.registry)) (R.kept records.old) (R.kept records.new) }
+    ensures { Finds result (facts.account_facts command.now
+        (account_of registrar (R.kept records.old).content.registry)) (R.kept records.old)
+        (R.kept records.new) }
 {
     let counters = records.counters(registrar)?;
     let balance = known_balance(records, registrar, command)?;
@@ -100,7 +105,9 @@ fn known_balance<R: Records>(
     registrar: RegistrarNo,
     command: &Command,
 ) -> Result<i128, BookFault>
-    ensures { Finds result (facts.balance_asked command.now (account_of registrar (R.kept records.old).content.registry)) (R.kept records.old) (R.kept records.new) }
+    ensures { Finds result (facts.balance_asked command.now
+        (account_of registrar (R.kept records.old).content.registry)) (R.kept records.old)
+        (R.kept records.new) }
 {
     if !command.reads_balance() {
         return Ok(0);
@@ -114,7 +121,9 @@ fn queue_facts<R: Records>(
     caller: RegistrarNo,
     command: &Command,
 ) -> Result<QueueFacts, BookFault>
-    ensures { Finds result (facts.queue_asked command.now (account_of caller (R.kept records.old).content.registry)) (R.kept records.old) (R.kept records.new) }
+    ensures { Finds result
+        (facts.queue_asked command.now (account_of caller (R.kept records.old).content.registry))
+        (R.kept records.old) (R.kept records.new) }
 {
     if !command.reads_oldest_message() {
         return Ok(QueueFacts::none());
@@ -123,7 +132,9 @@ fn queue_facts<R: Records>(
 }
 
 fn queue_known<R: Records>(records: &mut R, registrar: RegistrarNo) -> Result<QueueFacts, BookFault>
-    ensures { Finds result (facts.queue_known (account_of registrar (R.kept records.old).content.registry).queue) (R.kept records.old) (R.kept records.new) }
+    ensures { Finds result
+        (facts.queue_known (account_of registrar (R.kept records.old).content.registry).queue)
+        (R.kept records.old) (R.kept records.new) }
 {
     let waiting = records.waiting(registrar)?;
     let oldest = records.oldest(registrar)?;
@@ -154,7 +165,11 @@ fn contacts_for<R: Records>(
     command: &Command,
     policy: &Policy,
 ) -> Result<Seq<ContactFacts>, BookFault>
-    ensures { Finds result (map (facts.contact_facts (facts.lookups policy.now caller command.now (R.kept records.old).content.registry) command.now) (requests.asked [] requests.contacts_asked command.now)) (R.kept records.old) (R.kept records.new) }
+    ensures { Finds result
+        (map (facts.contact_facts (facts.lookups policy.now caller command.now
+        (R.kept records.old).content.registry) command.now)
+        (requests.asked [] requests.contacts_asked command.now)) (R.kept records.old)
+        (R.kept records.new) }
 {
     let mut contacts = Seq::new(records.alloc());
     for name in command.contacts() {
@@ -170,7 +185,9 @@ fn contact_facts<R: Records>(
     policy: &Policy,
     name: &Text,
 ) -> Result<ContactFacts, BookFault>
-    ensures { Finds result (facts.contact_facts (facts.lookups policy.now caller command.now (R.kept records.old).content.registry) command.now name.now) (R.kept records.old) (R.kept records.new) }
+    ensures { Finds result (facts.contact_facts (facts.lookups policy.now caller command.now
+        (R.kept records.old).content.registry) command.now name.now) (R.kept records.old)
+        (R.kept records.new) }
 {
     let own = name.clone()?;
     let presented = command.presented_for_contact(name);
@@ -190,7 +207,9 @@ fn contact_seen<R: Records>(
     presented: Option<&Text>,
     name: &Text,
 ) -> Result<Option<Seen<Contact, ContactFace>>, BookFault>
-    ensures { Finds result (option_map (contact_as caller (option_copied presented.entry)) (finmap.get (R.kept records.old).content.registry.contacts name.now)) (R.kept records.old) (R.kept records.new) }
+    ensures { Finds result (option_map (contact_as caller (option_copied presented.entry))
+        (finmap.get (R.kept records.old).content.registry.contacts name.now)) (R.kept records.old)
+        (R.kept records.new) }
 {
     let contact = records.contact(name)?;
     let seen = found_contact(records, caller, presented, &contact);
@@ -204,7 +223,8 @@ fn found_contact<R: Records>(
     presented: Option<&Text>,
     contact: &Option<Contact>,
 ) -> Result<Option<Seen<Contact, ContactFace>>, BookFault>
-    ensures { Finds result (option_map (contact_as caller (option_copied presented.entry)) contact.now) (R.kept records.old) (R.kept records.new) }
+    ensures { Finds result (option_map (contact_as caller (option_copied presented.entry))
+        contact.now) (R.kept records.old) (R.kept records.new) }
 {
     match contact {
         None => Ok(None),
@@ -218,7 +238,9 @@ fn is_linked_contact<R: Records>(
     command: &Command,
     name: &Text,
 ) -> Result<bool, BookFault>
-    ensures { Finds result (requests.asked false requests.reads_associations command.now && facts.is_linked_contact (R.kept records.old).content.registry name.now) (R.kept records.old) (R.kept records.new) }
+    ensures { Finds result (requests.asked false requests.reads_associations command.now
+        && facts.is_linked_contact (R.kept records.old).content.registry name.now)
+        (R.kept records.old) (R.kept records.new) }
 {
     if !command.reads_associations() {
         return Ok(false);
@@ -234,7 +256,11 @@ fn domains_for<R: Records>(
     command: &Command,
     policy: &Policy,
 ) -> Result<Seq<DomainFacts>, BookFault>
-    ensures { Finds result (map (λ name. facts.domain_facts (facts.lookups policy.now caller command.now (R.kept records.old).content.registry) command.now (name_of name)) (requests.asked [] requests.domains_asked command.now)) (R.kept records.old) (R.kept records.new) }
+    ensures { Finds result
+        (map (λ name. facts.domain_facts (facts.lookups policy.now caller command.now
+        (R.kept records.old).content.registry) command.now (name_of name))
+        (requests.asked [] requests.domains_asked command.now)) (R.kept records.old)
+        (R.kept records.new) }
 {
     let mut domains = Seq::new(records.alloc());
     for name in command.domains() {
@@ -250,7 +276,9 @@ fn domain_facts<R: Records>(
     policy: &Policy,
     name: &Text,
 ) -> Result<DomainFacts, BookFault>
-    ensures { Finds result (facts.domain_facts (facts.lookups policy.now caller command.now (R.kept records.old).content.registry) command.now name.now) (R.kept records.old) (R.kept records.new) }
+    ensures { Finds result (facts.domain_facts (facts.lookups policy.now caller command.now
+        (R.kept records.old).content.registry) command.now name.now) (R.kept records.old)
+        (R.kept records.new) }
 {
     let presented = command.presented(name);
     let seen = domain_seen(records, caller, policy, presented, name)?;
@@ -266,7 +294,9 @@ fn domain_facts_of<R: Records>(
     name: &Text,
     seen: Option<Seen<FullDomain, DomainFace>>,
 ) -> Result<DomainFacts, BookFault>
-    ensures { Finds result (facts.domain_facts_of (facts.lookups policy.now caller command.now (R.kept records.old).content.registry) command.now name.now seen) (R.kept records.old) (R.kept records.new) }
+    ensures { Finds result (facts.domain_facts_of (facts.lookups policy.now caller command.now
+        (R.kept records.old).content.registry) command.now name.now seen) (R.kept records.old)
+        (R.kept records.new) }
 {
     match beside_domain(records, caller, command, policy, name, seen.as_ref()) {
         Ok((name, subordinate, given_back)) => Ok(DomainFacts {
@@ -292,7 +322,10 @@ fn beside_domain<R: Records>(
     name: &Text,
     seen: Option<&Seen<FullDomain, DomainFace>>,
 ) -> Result<(Text, Seq<Text>, GivenBack), BookFault>
-    ensures { Finds result (lookups.beside_domain (facts.domain_facts_of (facts.lookups policy.now caller command.now (R.kept records.old).content.registry) command.now name.now (option_copied seen.entry))) (R.kept records.old) (R.kept records.new) }
+    ensures { Finds result
+        (lookups.beside_domain (facts.domain_facts_of (facts.lookups policy.now caller command.now
+        (R.kept records.old).content.registry) command.now name.now (option_copied seen.entry)))
+        (R.kept records.old) (R.kept records.new) }
 {
     let subordinate = hosts_around(records, command, name, seen.is_some())?;
     let given_back = back_asked(records, caller, command, policy, seen)?;
@@ -307,7 +340,10 @@ fn domain_seen<R: Records>(
     presented: Option<&Text>,
     name: &Text,
 ) -> Result<Option<Seen<FullDomain, DomainFace>>, BookFault>
-    ensures { Finds result (option_map (domain_sight policy.now caller (R.kept records.old).content.registry (option_copied presented.entry)) (finmap.get (R.kept records.old).content.registry.domains name.now)) (R.kept records.old) (R.kept records.new) }
+    ensures { Finds result
+        (option_map (domain_sight policy.now caller (R.kept records.old).content.registry
+        (option_copied presented.entry)) (finmap.get (R.kept records.old).content.registry.domains
+        name.now)) (R.kept records.old) (R.kept records.new) }
 {
     let domain = records.domain(name)?;
     let seen = found_domain(records, caller, policy, presented, &domain);
@@ -322,7 +358,9 @@ fn found_domain<R: Records>(
     presented: Option<&Text>,
     domain: &Option<Domain>,
 ) -> Result<Option<Seen<FullDomain, DomainFace>>, BookFault>
-    ensures { Finds result (option_map (domain_sight policy.now caller (R.kept records.old).content.registry (option_copied presented.entry)) domain.now) (R.kept records.old) (R.kept records.new) }
+    ensures { Finds result
+        (option_map (domain_sight policy.now caller (R.kept records.old).content.registry
+        (option_copied presented.entry)) domain.now) (R.kept records.old) (R.kept records.new) }
 {
     match domain {
         None => Ok(None),
@@ -338,7 +376,8 @@ fn seen_domain<R: Records>(
     presented: Option<&Text>,
     domain: &Domain,
 ) -> Result<Seen<FullDomain, DomainFace>, BookFault>
-    ensures { Finds result (domain_sight policy.now caller (R.kept records.old).content.registry (option_copied presented.entry) domain.now) (R.kept records.old) (R.kept records.new) }
+    ensures { Finds result (domain_sight policy.now caller (R.kept records.old).content.registry
+        (option_copied presented.entry) domain.now) (R.kept records.old) (R.kept records.new) }
 {
     let standing = standing_now(records, policy, domain)?;
     Ok(domain.seen_by(records.alloc(), caller, presented, standing)?)
@@ -350,7 +389,8 @@ pub(crate) fn standing_now<R: Records>(
     policy: &Policy,
     domain: &Domain,
 ) -> Result<Standing, BookFault>
-    ensures { Finds result (standing_of policy.now (R.kept records.old).content.registry domain.now) (R.kept records.old) (R.kept records.new) }
+    ensures { Finds result (standing_of policy.now (R.kept records.old).content.registry domain.now)
+        (R.kept records.old) (R.kept records.new) }
 {
     let clock = records.clock()?;
     let lines = records.lines_on(domain.sponsor, &domain.roid)?;
@@ -376,7 +416,10 @@ fn back_asked<R: Records>(
     policy: &Policy,
     seen: Option<&Seen<FullDomain, DomainFace>>,
 ) -> Result<GivenBack, BookFault>
-    ensures { Finds result (facts.back_asked (facts.lookups policy.now caller command.now (R.kept records.old).content.registry) command.now (option_copied seen.entry)) (R.kept records.old) (R.kept records.new) }
+    ensures { Finds result
+        (facts.back_asked (facts.lookups policy.now caller command.now
+        (R.kept records.old).content.registry) command.now (option_copied seen.entry))
+        (R.kept records.old) (R.kept records.new) }
 {
     match seen {
         Some(Seen::Full(known)) if command.reads_refund() => {
@@ -393,7 +436,11 @@ fn back_for<R: Records>(
     policy: &Policy,
     domain: &Domain,
 ) -> Result<GivenBack, BookFault>
-    ensures { Finds result (refunds.given_back policy.now (refunds.refund_at (R.kept records.old).content.registry.clock domain.now) (account_of registrar (R.kept records.old).content.registry).lines) (R.kept records.old) (R.kept records.new) }
+    ensures { Finds result
+        (refunds.given_back policy.now
+        (refunds.refund_at (R.kept records.old).content.registry.clock domain.now)
+        (account_of registrar (R.kept records.old).content.registry).lines) (R.kept records.old)
+        (R.kept records.new) }
 {
     let clock = records.clock()?;
     let lines = records.lines_on(registrar, &domain.roid)?;
@@ -409,7 +456,9 @@ fn hosts_around<R: Records>(
     domain: &Text,
     is_there: bool,
 ) -> Result<Seq<Text>, BookFault>
-    ensures { Finds result (if requests.asked false requests.reads_associations command.now && is_there then facts.subordinate (R.kept records.old).content.registry domain.now else []) (R.kept records.old) (R.kept records.new) }
+    ensures { Finds result (if requests.asked false requests.reads_associations command.now
+        && is_there then facts.subordinate (R.kept records.old).content.registry domain.now else [])
+        (R.kept records.old) (R.kept records.new) }
 {
     if command.reads_associations() && is_there {
         records.hosts_below(domain)
@@ -421,7 +470,10 @@ fn hosts_around<R: Records>(
 // ---- hosts
 
 fn hosts_for<R: Records>(records: &mut R, command: &Command) -> Result<Seq<HostFacts>, BookFault>
-    ensures { Finds result (map (λ name. lookups.host_facts_in command.now (R.kept records.old).content.registry (name_of name)) (requests.asked [] requests.hosts_asked command.now)) (R.kept records.old) (R.kept records.new) }
+    ensures { Finds result
+        (map (λ name. lookups.host_facts_in command.now (R.kept records.old).content.registry
+        (name_of name)) (requests.asked [] requests.hosts_asked command.now)) (R.kept records.old)
+        (R.kept records.new) }
 {
     let mut hosts = Seq::new(records.alloc());
     for name in command.hosts() {
@@ -434,7 +486,10 @@ fn new_name_for<R: Records>(
     records: &mut R,
     command: &Command,
 ) -> Result<Option<HostFacts>, BookFault>
-    ensures { Finds result (option_map (λ name. lookups.host_facts_in command.now (R.kept records.old).content.registry (name_of name)) (requests.asked None requests.new_host_asked command.now)) (R.kept records.old) (R.kept records.new) }
+    ensures { Finds result
+        (option_map (λ name. lookups.host_facts_in command.now (R.kept records.old).content.registry
+        (name_of name)) (requests.asked None requests.new_host_asked command.now))
+        (R.kept records.old) (R.kept records.new) }
 {
     match command.new_host() {
         None => Ok(None),
@@ -447,7 +502,8 @@ fn host_facts<R: Records>(
     command: &Command,
     name: &Text,
 ) -> Result<HostFacts, BookFault>
-    ensures { Finds result (lookups.host_facts_in command.now (R.kept records.old).content.registry name.now) (R.kept records.old) (R.kept records.new) }
+    ensures { Finds result (lookups.host_facts_in command.now (R.kept records.old).content.registry
+        name.now) (R.kept records.old) (R.kept records.new) }
 {
     let own = name.clone()?;
     let superordinate = superordinate(records, name)?;
@@ -467,7 +523,9 @@ fn is_linked_host<R: Records>(
     command: &Command,
     name: &Text,
 ) -> Result<bool, BookFault>
-    ensures { Finds result (requests.asked false requests.reads_associations command.now && facts.is_linked_host (R.kept records.old).content.registry name.now) (R.kept records.old) (R.kept records.new) }
+    ensures { Finds result (requests.asked false requests.reads_associations command.now
+        && facts.is_linked_host (R.kept records.old).content.registry name.now) (R.kept records.old)
+        (R.kept records.new) }
 {
     if !command.reads_associations() {
         return Ok(false);
@@ -480,7 +538,8 @@ pub(crate) fn superordinate<R: Records>(
     records: &mut R,
     host: &Text,
 ) -> Result<Option<Superordinate>, BookFault>
-    ensures { Finds result (lookups.superordinate_in (R.kept records.old).content.registry host.now) (R.kept records.old) (R.kept records.new) }
+    ensures { Finds result (lookups.superordinate_in (R.kept records.old).content.registry host.now)
+        (R.kept records.old) (R.kept records.new) }
 {
     let domain = last_two_labels(records.alloc(), host)?;
     superordinate_of(records, &domain)
@@ -490,7 +549,9 @@ fn superordinate_of<R: Records>(
     records: &mut R,
     domain: &Option<Text>,
 ) -> Result<Option<Superordinate>, BookFault>
-    ensures { Finds result (option_and_then (λ name. option_map facts.superordinate_of_domain (finmap.get (R.kept records.old).content.registry.domains name)) domain.now) (R.kept records.old) (R.kept records.new) }
+    ensures { Finds result (option_and_then (λ name. option_map facts.superordinate_of_domain
+        (finmap.get (R.kept records.old).content.registry.domains name)) domain.now)
+        (R.kept records.old) (R.kept records.new) }
 {
     match domain {
         None => Ok(None),
@@ -502,7 +563,9 @@ fn superordinate_of<R: Records>(
 
 /// Whether a contact or host isn't there that a domain is to name from now on.
 fn reference_missing<R: Records>(records: &mut R, command: &Command) -> Result<bool, BookFault>
-    ensures { Finds result (requests.asked false (lookups.references_fail_in (R.kept records.old).content.registry) command.now) (R.kept records.old) (R.kept records.new) }
+    ensures { Finds result
+        (requests.asked false (lookups.references_fail_in (R.kept records.old).content.registry)
+        command.now) (R.kept records.old) (R.kept records.new) }
 {
     match command.request() {
         None => Ok(false),
@@ -511,7 +574,8 @@ fn reference_missing<R: Records>(records: &mut R, command: &Command) -> Result<b
 }
 
 fn any_reference_missing<R: Records>(records: &mut R, request: &Request) -> Result<bool, BookFault>
-    ensures { Finds result (lookups.references_fail_in (R.kept records.old).content.registry request.now) (R.kept records.old) (R.kept records.new) }
+    ensures { Finds result (lookups.references_fail_in (R.kept records.old).content.registry
+        request.now) (R.kept records.old) (R.kept records.new) }
 {
     let added = request.added();
     if lacks_registrant(records, request.registrant())? {
@@ -527,13 +591,17 @@ fn any_reference_missing<R: Records>(records: &mut R, request: &Request) -> Resu
 }
 
 fn lacks_contact<R: Records>(records: &mut R, name: &Text) -> Result<bool, BookFault>
-    ensures { Finds result (not (lookups.has_contact (R.kept records.old).content.registry name.now)) (R.kept records.old) (R.kept records.new) }
+    ensures { Finds result
+        (not (lookups.has_contact (R.kept records.old).content.registry name.now))
+        (R.kept records.old) (R.kept records.new) }
 {
     Ok(!records.has_contact(name)?)
 }
 
 fn lacks_registrant<R: Records>(records: &mut R, name: Option<&Text>) -> Result<bool, BookFault>
-    ensures { Finds result (requests.holds_of (λ it. not (lookups.has_contact (R.kept records.old).content.registry it)) (option_copied name.entry)) (R.kept records.old) (R.kept records.new) }
+    ensures { Finds result
+        (requests.holds_of (λ it. not (lookups.has_contact (R.kept records.old).content.registry
+        it)) (option_copied name.entry)) (R.kept records.old) (R.kept records.new) }
 {
     match name {
         None => Ok(false),
@@ -542,7 +610,9 @@ fn lacks_registrant<R: Records>(records: &mut R, name: Option<&Text>) -> Result<
 }
 
 fn lacks_contacts<R: Records>(records: &mut R, names: &[Text]) -> Result<bool, BookFault>
-    ensures { Finds result (list_any (λ name. not (lookups.has_contact (R.kept records.old).content.registry name)) names.now) (R.kept records.old) (R.kept records.new) }
+    ensures { Finds result
+        (list_any (λ name. not (lookups.has_contact (R.kept records.old).content.registry name))
+        names.now) (R.kept records.old) (R.kept records.new) }
 {
     for name in names {
         if lacks_contact(records, name)? {
@@ -553,13 +623,16 @@ fn lacks_contacts<R: Records>(records: &mut R, names: &[Text]) -> Result<bool, B
 }
 
 fn lacks_host<R: Records>(records: &mut R, name: &Text) -> Result<bool, BookFault>
-    ensures { Finds result (not (lookups.has_host (R.kept records.old).content.registry name.now)) (R.kept records.old) (R.kept records.new) }
+    ensures { Finds result (not (lookups.has_host (R.kept records.old).content.registry name.now))
+        (R.kept records.old) (R.kept records.new) }
 {
     Ok(!records.has_host(name)?)
 }
 
 fn lacks_hosts<R: Records>(records: &mut R, names: &[GivenName]) -> Result<bool, BookFault>
-    ensures { Finds result (list_any (λ name. not (lookups.has_host (R.kept records.old).content.registry (name_of name))) names.now) (R.kept records.old) (R.kept records.new) }
+    ensures { Finds result
+        (list_any (λ name. not (lookups.has_host (R.kept records.old).content.registry
+        (name_of name))) names.now) (R.kept records.old) (R.kept records.new) }
 {
     for name in names {
         if lacks_host(records, name.text())? {
@@ -575,7 +648,9 @@ fn holding_limit_reached<R: Records>(
     caller: RegistrarNo,
     command: &Command,
 ) -> Result<bool, BookFault>
-    ensures { Finds result (requests.asked false requests.adds_a_held_domain command.now && nat_le HOLDING_LIMIT (facts.held caller (R.kept records.old).content.registry)) (R.kept records.old) (R.kept records.new) }
+    ensures { Finds result (requests.asked false requests.adds_a_held_domain command.now
+        && nat_le HOLDING_LIMIT (facts.held caller (R.kept records.old).content.registry))
+        (R.kept records.old) (R.kept records.new) }
 {
     if !command.adds_a_held_domain() {
         return Ok(false);
@@ -591,7 +666,8 @@ pub(crate) fn object_at<R: Records>(
     kind: ObjectKind,
     name: &Text,
 ) -> Result<Option<Object>, BookFault>
-    ensures { Finds result (objects.object_at (R.kept records.old).content.registry kind name.now) (R.kept records.old) (R.kept records.new) }
+    ensures { Finds result (objects.object_at (R.kept records.old).content.registry kind name.now)
+        (R.kept records.old) (R.kept records.new) }
 {
     match kind {
         ObjectKind::Contact => match records.contact(name)? {

@@ -25,7 +25,8 @@ pub(crate) fn give<R: Records>(
     policy: &Policy,
 ) -> Result<(), BookFault>
     requires { (R.kept records.old).is_open ≡ true }
-    ensures { Makes result (given_to registrar (changed policy.now what) (R.kept records.old).content) (R.kept records.old) (R.kept records.new) }
+    ensures { Makes result (given_to registrar (changed policy.now what)
+        (R.kept records.old).content) (R.kept records.old) (R.kept records.new) }
 {
     records.open_account(registrar)?;
     give_there(records, registrar, what, policy)
@@ -39,8 +40,10 @@ fn give_there<R: Records>(
     policy: &Policy,
 ) -> Result<(), BookFault>
     requires open { (R.kept records.old).is_open ≡ true }
-    requires there { (R.kept records.old).is_clean ≡ true → is_some (get (R.kept records.old).content.registry.accounts registrar) ≡ true }
-    ensures { Makes result (given_to registrar (changed policy.now what) (R.kept records.old).content) (R.kept records.old) (R.kept records.new) }
+    requires there { (R.kept records.old).is_clean ≡ true
+        → is_some (get (R.kept records.old).content.registry.accounts registrar) ≡ true }
+    ensures { Makes result (given_to registrar (changed policy.now what)
+        (R.kept records.old).content) (R.kept records.old) (R.kept records.new) }
 {
     match what {
         AccountChange::Charge(line) => records.add_line(registrar, line),
@@ -69,8 +72,10 @@ fn enter<R: Records>(
     what: LapseEntry,
 ) -> Result<(), BookFault>
     requires open { (R.kept records.old).is_open ≡ true }
-    requires there { (R.kept records.old).is_clean ≡ true → is_some (get (R.kept records.old).content.registry.accounts registrar) ≡ true }
-    ensures { Makes result (given_to registrar (entered what) (R.kept records.old).content) (R.kept records.old) (R.kept records.new) }
+    requires there { (R.kept records.old).is_clean ≡ true
+        → is_some (get (R.kept records.old).content.registry.accounts registrar) ≡ true }
+    ensures { Makes result (given_to registrar (entered what) (R.kept records.old).content)
+        (R.kept records.old) (R.kept records.new) }
 {
     match what {
         LapseEntry::Renewal(renewal) => records.add_line(registrar, renewal.line()),
@@ -86,8 +91,10 @@ fn swap_lines<R: Records, C: LineChange>(
     change: &C,
 ) -> Result<(), BookFault>
     requires open { (R.kept records.old).is_open ≡ true }
-    requires there { (R.kept records.old).is_clean ≡ true → is_some (get (R.kept records.old).content.registry.accounts registrar) ≡ true }
-    ensures { Makes result (given_to registrar (with_lines (remade in_order (C.changed change.now))) (R.kept records.old).content) (R.kept records.old) (R.kept records.new) }
+    requires there { (R.kept records.old).is_clean ≡ true
+        → is_some (get (R.kept records.old).content.registry.accounts registrar) ≡ true }
+    ensures { Makes result (given_to registrar (with_lines (remade in_order (C.changed change.now)))
+        (R.kept records.old).content) (R.kept records.old) (R.kept records.new) }
 {
     let swaps = records.swaps(registrar, change)?;
     swap_all(records, registrar, swaps)
@@ -100,7 +107,8 @@ fn swap_all<R: Records>(
     swaps: Seq<LineSwap>,
 ) -> Result<(), BookFault>
     requires { (R.kept records.old).is_open ≡ true }
-    ensures { Makes result (lines_swapped registrar swaps (R.kept records.old).content) (R.kept records.old) (R.kept records.new) }
+    ensures { Makes result (lines_swapped registrar swaps (R.kept records.old).content)
+        (R.kept records.old) (R.kept records.new) }
 {
     for swap in swaps.into_vec() {
         records.take_line(registrar, swap.from)?;
@@ -116,8 +124,10 @@ fn tell<R: Records>(
     notification: Notification,
 ) -> Result<(), BookFault>
     requires open { (R.kept records.old).is_open ≡ true }
-    requires there { (R.kept records.old).is_clean ≡ true → is_some (get (R.kept records.old).content.registry.accounts registrar) ≡ true }
-    ensures { Makes result (given_to registrar (told_by_command notification) (R.kept records.old).content) (R.kept records.old) (R.kept records.new) }
+    requires there { (R.kept records.old).is_clean ≡ true
+        → is_some (get (R.kept records.old).content.registry.accounts registrar) ≡ true }
+    ensures { Makes result (given_to registrar (told_by_command notification)
+        (R.kept records.old).content) (R.kept records.old) (R.kept records.new) }
 {
     let counters = records.counters(registrar)?.next_message();
     let message = notification.numbered(counters.messages);
@@ -132,8 +142,10 @@ fn acknowledge<R: Records>(
     id: &Text,
 ) -> Result<(), BookFault>
     requires open { (R.kept records.old).is_open ≡ true }
-    requires there { (R.kept records.old).is_clean ≡ true → is_some (get (R.kept records.old).content.registry.accounts registrar) ≡ true }
-    ensures { Makes result (given_to registrar (with_acked id.now) (R.kept records.old).content) (R.kept records.old) (R.kept records.new) }
+    requires there { (R.kept records.old).is_clean ≡ true
+        → is_some (get (R.kept records.old).content.registry.accounts registrar) ≡ true }
+    ensures { Makes result (given_to registrar (with_acked id.now) (R.kept records.old).content)
+        (R.kept records.old) (R.kept records.new) }
 {
     let oldest = records.oldest(registrar)?;
     take_named(records, registrar, oldest, id)
@@ -147,7 +159,8 @@ fn take_named<R: Records>(
     id: &Text,
 ) -> Result<(), BookFault>
     requires { (R.kept records.old).is_open ≡ true }
-    ensures { Makes result (message_acked registrar id.now oldest (R.kept records.old).content) (R.kept records.old) (R.kept records.new) }
+    ensures { Makes result (message_acked registrar id.now oldest (R.kept records.old).content)
+        (R.kept records.old) (R.kept records.new) }
 {
     let Some(message) = oldest else {
         return Ok(());

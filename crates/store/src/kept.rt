@@ -52,7 +52,8 @@ impl<R: Records> Kept<R> {
     fn count(&mut self)
         ensures same { self.new.records ≡ self.old.records }
         ensures counted { self.old.refused ≤ self.new.refused }
-        ensures refused { HasRefused (stands (R.kept self.old.records) self.old.refused) (stands (R.kept self.new.records) self.new.refused) }
+        ensures refused { HasRefused (stands (R.kept self.old.records) self.old.refused)
+            (stands (R.kept self.new.records) self.new.refused) }
     {
         self.refused = self.refused.saturating_add(1);
     }
@@ -61,7 +62,8 @@ impl<R: Records> Kept<R> {
     /// whatever it says. Gives what is to be answered.
     #[tactic(auto, using(crate::proofs::KeptLemmas::counts))]
     fn give_up(&mut self, fault: BookFault) -> BookFault
-        ensures { GaveUp result (state_of (R.kept self.old.records) R.REFUSES self.old.refused) (state_of (R.kept self.new.records) R.REFUSES self.new.refused) }
+        ensures { GaveUp result (state_of (R.kept self.old.records) R.REFUSES self.old.refused)
+            (state_of (R.kept self.new.records) R.REFUSES self.new.refused) }
     {
         self.records.back();
         if !R::REFUSES {

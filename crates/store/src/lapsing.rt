@@ -58,7 +58,8 @@ impl Content {
     }
 
     fn find_contacts(&self, moment: Moment, found: &mut BTreeSet<Due>) -> Result<(), AllocError>
-        ensures { OnOk result (found.new.keys ≡ spec.found_due (spec.contact_due moment) found.old.keys (entries self.now.contacts)) }
+        ensures { OnOk result (found.new.keys ≡ spec.found_due (spec.contact_due moment)
+            found.old.keys (entries self.now.contacts)) }
     {
         for (name, contact) in self.contacts.iter() {
             put_due(found, contact_due(name, contact, moment)?)?;
@@ -72,7 +73,8 @@ impl Content {
         policy: &Policy,
         found: &mut BTreeSet<Due>,
     ) -> Result<(), AllocError>
-        ensures { OnOk result (found.new.keys ≡ spec.found_due (spec.domain_due policy.now moment) found.old.keys (entries self.now.domains)) }
+        ensures { OnOk result (found.new.keys ≡ spec.found_due (spec.domain_due policy.now moment)
+            found.old.keys (entries self.now.domains)) }
     {
         for (name, domain) in self.domains.iter() {
             put_due(found, domain_due(name, domain, moment, policy)?)?;

@@ -130,7 +130,8 @@ impl Ledgers {
 
     /// A registrar's account, for its lines and messages: its counters may be old.
     pub fn ledger(&self, registrar: RegistrarNo) -> Option<&Account>
-        ensures { spec.lines_of (option_copied result) ≡ spec.lines_of (map.get self.now registrar) }
+        ensures { spec.lines_of (option_copied result)
+            ≡ spec.lines_of (map.get self.now registrar) }
     {
         self.accounts.get(registrar)
     }
@@ -163,7 +164,8 @@ impl Ledgers {
         registrar: RegistrarNo,
         roid: &Roid,
     ) -> Result<Lines, AllocError>
-        ensures { IfOk result (λ on. on ≡ filter (lines.is_on roid.now) (spec.lines_of (map.get self.now registrar))) }
+        ensures { IfOk result (λ on. on
+            ≡ filter (lines.is_on roid.now) (spec.lines_of (map.get self.now registrar))) }
     {
         match self.ledger(registrar) {
             None => Ok(Lines::new(alloc)),
@@ -173,7 +175,8 @@ impl Ledgers {
 
     /// The message that has waited longest for a registrar.
     pub fn oldest(&self, registrar: RegistrarNo) -> Result<Option<Message>, AllocError>
-        ensures { IfOk result (λ oldest. oldest ≡ slice_get (spec.queue_of (map.get self.now registrar)) 0) }
+        ensures { IfOk result (λ oldest. oldest
+            ≡ slice_get (spec.queue_of (map.get self.now registrar)) 0) }
     {
         match self.queue(registrar) {
             None => Ok(None),
@@ -198,7 +201,9 @@ impl Ledgers {
         registrar: RegistrarNo,
         change: &C,
     ) -> Result<Vec<LineSwap>, AllocError>
-        ensures { IfOk result (λ swaps. swapped_all swaps.items (spec.lines_of (map.get self.now registrar)) ≡ remade in_order (C.changed change.now) (spec.lines_of (map.get self.now registrar))) }
+        ensures { IfOk result (λ swaps. swapped_all swaps.items
+            (spec.lines_of (map.get self.now registrar)) ≡ remade in_order (C.changed change.now)
+            (spec.lines_of (map.get self.now registrar))) }
     {
         match self.accounts.get(registrar) {
             None => Ok(Vec::new(alloc)),
@@ -208,7 +213,9 @@ impl Ledgers {
 
     /// Whether a registrar has a line, so that it can be taken out and put back.
     pub fn has_line(&self, registrar: RegistrarNo, line: &Line) -> bool
-        ensures { result ≡ true → spec.with_line (spec.without_line self.now registrar line.now) registrar line.now ≡ self.now }
+        ensures { result ≡ true
+            → spec.with_line (spec.without_line self.now registrar line.now) registrar line.now
+            ≡ self.now }
     {
         match self.accounts.get(registrar) {
             None => false,
@@ -218,7 +225,9 @@ impl Ledgers {
 
     /// Whether a message waits for a registrar, so that it can be taken out and put back.
     pub fn has_notice(&self, registrar: RegistrarNo, message: &Message) -> bool
-        ensures { result ≡ true → spec.with_notice (spec.without_notice self.now registrar message.now) registrar message.now ≡ self.now }
+        ensures { result ≡ true
+            → spec.with_notice (spec.without_notice self.now registrar message.now) registrar
+            message.now ≡ self.now }
     {
         match self.accounts.get(registrar) {
             None => false,

@@ -70,7 +70,8 @@ impl<B> OnceBook<B> {
         ensures place { self.new.place ≡ self.old.place }
         ensures refused { self.new.refused ≡ self.old.refused }
         ensures counted { self.new.calls ≡ min (self.old.calls + 1) 0xFFFF_FFFF_FFFF_FFFF }
-        ensures next { result ≡ (nat_eq self.old.calls self.old.place && nat_eq self.old.refused 0) }
+        ensures next { result ≡ (nat_eq self.old.calls self.old.place
+            && nat_eq self.old.refused 0) }
     {
         let is_next = self.calls == self.place && self.refused == 0;
         self.calls = self.calls.saturating_add(1);
@@ -82,7 +83,8 @@ impl<B: Book> OnceBook<B> {
     /// Goes back, and counts a refusal.
     fn give_up<T>(&mut self) -> Result<T, BookFault>
         ensures fault { result ≡ Err BookFault.Store }
-        ensures back { RefusesOnce (with_refusals self.old.refused (B.state self.old.inner)) (with_refusals self.new.refused (B.state self.new.inner)) }
+        ensures back { RefusesOnce (with_refusals self.old.refused (B.state self.old.inner))
+            (with_refusals self.new.refused (B.state self.new.inner)) }
     {
         if self.inner.active() {
             self.inner.back();

@@ -20,7 +20,8 @@ pub(crate) fn domain_face<R: Records>(
     name: &Text,
     policy: &Policy,
 ) -> Result<Option<DomainFace>, BookFault>
-    ensures { Finds result (spec.domain_face_at policy.now (R.kept records.old).content.registry name.now) (R.kept records.old) (R.kept records.new) }
+    ensures { Finds result (spec.domain_face_at policy.now (R.kept records.old).content.registry
+        name.now) (R.kept records.old) (R.kept records.new) }
 {
     let domain = records.domain(name)?;
     face_of_found_domain(records, &domain, policy)
@@ -31,7 +32,9 @@ fn face_of_found_domain<R: Records>(
     domain: &Option<Domain>,
     policy: &Policy,
 ) -> Result<Option<DomainFace>, BookFault>
-    ensures { Finds result (option_map (spec.domain_face policy.now (R.kept records.old).content.registry) domain.now) (R.kept records.old) (R.kept records.new) }
+    ensures { Finds result
+        (option_map (spec.domain_face policy.now (R.kept records.old).content.registry) domain.now)
+        (R.kept records.old) (R.kept records.new) }
 {
     match domain {
         None => Ok(None),
@@ -44,7 +47,8 @@ fn face_of_domain<R: Records>(
     domain: &Domain,
     policy: &Policy,
 ) -> Result<DomainFace, BookFault>
-    ensures { Finds result (spec.domain_face policy.now (R.kept records.old).content.registry domain.now) (R.kept records.old) (R.kept records.new) }
+    ensures { Finds result (spec.domain_face policy.now (R.kept records.old).content.registry
+        domain.now) (R.kept records.old) (R.kept records.new) }
 {
     let standing = standing_now(records, policy, domain)?;
     Ok(domain.face(records.alloc(), standing)?)
@@ -55,7 +59,8 @@ pub(crate) fn host_face<R: Records>(
     name: &Text,
     policy: &Policy,
 ) -> Result<Option<HostFace>, BookFault>
-    ensures { Finds result (spec.host_face_at policy.now (R.kept records.old).content.registry name.now) (R.kept records.old) (R.kept records.new) }
+    ensures { Finds result (spec.host_face_at policy.now (R.kept records.old).content.registry
+        name.now) (R.kept records.old) (R.kept records.new) }
 {
     let host = records.host(name)?;
     face_of_found_host(records, name, &host, policy)
@@ -67,7 +72,9 @@ fn face_of_found_host<R: Records>(
     host: &Option<Host>,
     policy: &Policy,
 ) -> Result<Option<HostFace>, BookFault>
-    ensures { Finds result (option_map (spec.host_face policy.now (R.kept records.old).content.registry name.now) host.now) (R.kept records.old) (R.kept records.new) }
+    ensures { Finds result
+        (option_map (spec.host_face policy.now (R.kept records.old).content.registry name.now)
+        host.now) (R.kept records.old) (R.kept records.new) }
 {
     match host {
         None => Ok(None),
@@ -86,7 +93,8 @@ fn face_of_host<R: Records>(
     linked: bool,
     policy: &Policy,
 ) -> Result<HostFace, BookFault>
-    ensures { Finds result (spec.host_face_told policy.now (R.kept records.old).content.registry linked name.now host.now) (R.kept records.old) (R.kept records.new) }
+    ensures { Finds result (spec.host_face_told policy.now (R.kept records.old).content.registry
+        linked name.now host.now) (R.kept records.old) (R.kept records.new) }
 {
     let sponsor = match sponsor_of_host(records, name, host, policy.zone())? {
         Some(sponsor) => sponsor,
@@ -104,7 +112,8 @@ fn sponsor_of_host<R: Records>(
     host: &Host,
     zone: &Zone,
 ) -> Result<Option<RegistrarNo>, BookFault>
-    ensures { Finds result (spec.sponsor_of_host zone.now (R.kept records.old).content.registry name.now host.now) (R.kept records.old) (R.kept records.new) }
+    ensures { Finds result (spec.sponsor_of_host zone.now (R.kept records.old).content.registry
+        name.now host.now) (R.kept records.old) (R.kept records.new) }
 {
     if !zone.has_superordinate(name) {
         return Ok(host.external_sponsor);
@@ -119,7 +128,8 @@ pub(crate) fn contact_face<R: Records>(
     records: &mut R,
     name: &Text,
 ) -> Result<Option<ContactFace>, BookFault>
-    ensures { Finds result (spec.contact_face_at (R.kept records.old).content.registry name.now) (R.kept records.old) (R.kept records.new) }
+    ensures { Finds result (spec.contact_face_at (R.kept records.old).content.registry name.now)
+        (R.kept records.old) (R.kept records.new) }
 {
     let contact = records.contact(name)?;
     face_of_found_contact(records, name, &contact)
@@ -130,7 +140,8 @@ fn face_of_found_contact<R: Records>(
     name: &Text,
     contact: &Option<Contact>,
 ) -> Result<Option<ContactFace>, BookFault>
-    ensures { Finds result (option_map (spec.contact_face (R.kept records.old).content.registry name.now) contact.now) (R.kept records.old) (R.kept records.new) }
+    ensures { Finds result (option_map (spec.contact_face (R.kept records.old).content.registry
+        name.now) contact.now) (R.kept records.old) (R.kept records.new) }
 {
     match contact {
         None => Ok(None),

@@ -99,9 +99,12 @@ impl Plain {
     fn set_kept(&mut self, edit: Edit) -> Result<(), AllocError>
         ensures open { self.new.is_open ≡ self.old.is_open }
         ensures used { self.new.is_used ≡ self.old.is_used }
-        ensures ok { OnOk result (content_of self.new.content ≡ edited edit (content_of self.old.content)) }
-        ensures kept { OnOk result (at_begin self.new ≡ undone_all self.old.undo (edited edit (content_of self.old.content))) }
-        ensures err { OnErr result (at_begin self.new ≡ undone_all (without_latest self.old.undo) (content_of self.old.content)) }
+        ensures ok { OnOk result (content_of self.new.content
+            ≡ edited edit (content_of self.old.content)) }
+        ensures kept { OnOk result (at_begin self.new
+            ≡ undone_all self.old.undo (edited edit (content_of self.old.content))) }
+        ensures err { OnErr result (at_begin self.new ≡ undone_all (without_latest self.old.undo)
+            (content_of self.old.content)) }
     {
         self.quiet = None;
         match self.content.set(edit) {
@@ -118,7 +121,8 @@ impl Plain {
         ensures at_begin { at_begin self.new ≡ at_begin self.old }
         ensures open { self.new.is_open ≡ self.old.is_open }
         ensures used { self.new.is_used ≡ self.old.is_used }
-        ensures ok { OnOk result (content_of self.new.content ≡ edited edit (content_of self.old.content)) }
+        ensures ok { OnOk result (content_of self.new.content
+            ≡ edited edit (content_of self.old.content)) }
     {
         match self.keep_inverse(&edit) {
             Ok(()) => self.set_kept(edit),
@@ -149,7 +153,8 @@ impl Plain {
     fn set_until(&mut self, edit: Edit, quiet: Option<Moment>) -> Result<(), BookFault>
         requires open { self.old.is_open ≡ true }
         requires quiet { IsQuiet quiet (edited edit (content_of self.old.content)) }
-        ensures { Makes result (edited edit (plain_records self.old).content) (plain_records self.old) (plain_records self.new) }
+        ensures { Makes result (edited edit (plain_records self.old).content)
+            (plain_records self.old) (plain_records self.new) }
     {
         self.make(edit)?;
         self.quiet = quiet;
@@ -159,7 +164,8 @@ impl Plain {
     /// Makes an edit in the open transaction.
     pub(crate) fn set(&mut self, edit: Edit) -> Result<(), BookFault>
         requires { self.old.is_open ≡ true }
-        ensures { Makes result (edited edit (plain_records self.old).content) (plain_records self.old) (plain_records self.new) }
+        ensures { Makes result (edited edit (plain_records self.old).content)
+            (plain_records self.old) (plain_records self.new) }
     {
         let quiet = quiet_after(self.quiet, &edit);
         self.set_until(edit, quiet)
@@ -173,7 +179,8 @@ impl Plain {
         policy: &Policy,
     ) -> Result<(), BookFault>
         requires { self.old.is_open ≡ true }
-        ensures { Makes result (domain_put name (Some domain) (plain_records self.old).content) (plain_records self.old) (plain_records self.new) }
+        ensures { Makes result (domain_put name (Some domain) (plain_records self.old).content)
+            (plain_records self.old) (plain_records self.new) }
     {
         let quiet = self.quiet_put(&domain, policy);
         self.set_until(Edit::Domain(name, Some(domain)), quiet)
@@ -181,7 +188,8 @@ impl Plain {
 
     /// Until when nothing is due once a domain is put, where that is known.
     fn quiet_put(&self, domain: &Domain, policy: &Policy) -> Option<Moment>
-        ensures { (name : List ℕ) → IsQuiet result (domain_put name (Some domain.now) (content_of self.now.content)) }
+        ensures { (name : List ℕ)
+            → IsQuiet result (domain_put name (Some domain.now) (content_of self.now.content)) }
     {
         let until = self.quiet?;
         if !has_days_of(&self.content.terms, policy) {

@@ -16,7 +16,8 @@ pub struct WriteFault;
 /// fault nothing is known of the bytes that were taken.
 pub fn read_to_fill<R: Read>(reader: &mut R, buffer: &mut [u8]) -> Result<usize, ReadFault>
     ensures bound { IfOk result (λ n. n ≤ length buffer.new) }
-    ensures bytes { IfOk result (λ n. Consumes (R.remaining reader.old) (R.remaining reader.new) (take n buffer.new)) }
+    ensures bytes { IfOk result (λ n. Consumes (R.remaining reader.old) (R.remaining reader.new)
+        (take n buffer.new)) }
     ensures end { IfOk result (λ n. n < length buffer.new → IsAtEnd (R.remaining reader.new)) }
 {
     let mut count = 0;
@@ -37,7 +38,8 @@ pub fn read_to_fill<R: Read>(reader: &mut R, buffer: &mut [u8]) -> Result<usize,
 /// Writes all bytes. A fault leaves a beginning of them.
 pub fn write_whole<W: Write>(writer: &mut W, bytes: &[u8]) -> Result<(), WriteFault>
     ensures ok { OnOk result (Appends (W.contents writer.old) (W.contents writer.new) bytes.now) }
-    ensures err { OnErr result ((n : ℕ) × Appends (W.contents writer.old) (W.contents writer.new) (take n bytes.now)) }
+    ensures err { OnErr result ((n : ℕ)
+        × Appends (W.contents writer.old) (W.contents writer.new) (take n bytes.now)) }
 {
     match write_all(writer, bytes) {
         Ok(()) => Ok(()),
@@ -48,7 +50,8 @@ pub fn write_whole<W: Write>(writer: &mut W, bytes: &[u8]) -> Result<(), WriteFa
 /// The same with the error of the write that failed. `Write::write_all` doesn't say what one leaves.
 pub fn write_all<W: Write>(writer: &mut W, bytes: &[u8]) -> io::Result<()>
     ensures ok { OnOk result (Appends (W.contents writer.old) (W.contents writer.new) bytes.now) }
-    ensures err { OnErr result ((n : ℕ) × Appends (W.contents writer.old) (W.contents writer.new) (take n bytes.now)) }
+    ensures err { OnErr result ((n : ℕ)
+        × Appends (W.contents writer.old) (W.contents writer.new) (take n bytes.now)) }
 {
     let mut sent = 0;
     'writes: for _ in 0..u64::MAX {

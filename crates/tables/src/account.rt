@@ -79,7 +79,8 @@ impl AccountRow {
 
     /// Whether both are of one account, under one name.
     pub(crate) fn is_of(&self, other: &AccountRow) -> bool
-        ensures { result ≡ true → (self.now.id ≡ other.now.id) × (self.now.ident ≡ other.now.ident) }
+        ensures { result ≡ true → (self.now.id ≡ other.now.id)
+            × (self.now.ident ≡ other.now.ident) }
     {
         self.id == other.id && self.ident.as_str() == other.ident.as_str()
     }
@@ -149,7 +150,8 @@ impl<S: Alter> Base<S> {
 
     /// Those with this number.
     pub(crate) fn accounts_by_id(&mut self, id: Number) -> Result<Seq<AccountRow>, BookFault>
-        ensures { Finds result (filter (account_with_id id) self.old.content.accounts) self.old self.new }
+        ensures { Finds result (filter (account_with_id id) self.old.content.accounts) self.old
+            self.new }
     {
         self.select(BY_ID, params![id])
     }
@@ -157,7 +159,8 @@ impl<S: Alter> Base<S> {
     /// Puts a row in the place of the one with its number, or beside all others.
     pub(crate) fn put_account(&mut self, account: &AccountRow) -> Result<(), BookFault>
         requires { self.old.is_open ≡ true }
-        ensures { Makes result (accounts_to (λ xs. insert_by accounts.key xs account.now) self.old.content) self.old self.new }
+        ensures { Makes result (accounts_to (λ xs. insert_by accounts.key xs account.now)
+            self.old.content) self.old self.new }
     {
         self.write(PUT, &account.params())
     }
@@ -173,7 +176,8 @@ impl<S: Alter> RowStore<S> {
 
     /// Those with this number.
     pub fn accounts_by_id(&mut self, id: Number) -> Result<Seq<AccountRow>, BookFault>
-        ensures { Finds result (filter (account_with_id id) self.old.content.accounts) self.old self.new }
+        ensures { Finds result (filter (account_with_id id) self.old.content.accounts) self.old
+            self.new }
     {
         look_up(&mut self.base, &mut self.hand, id)
     }
@@ -181,7 +185,8 @@ impl<S: Alter> RowStore<S> {
     /// Puts a row in the place of the one with its number, or beside all others.
     pub fn put_account(&mut self, account: &AccountRow) -> Result<(), BookFault>
         requires { self.old.is_open ≡ true }
-        ensures { Makes result (accounts_to (λ xs. insert_by accounts.key xs account.now) self.old.content) self.old self.new }
+        ensures { Makes result (accounts_to (λ xs. insert_by accounts.key xs account.now)
+            self.old.content) self.old self.new }
     {
         put(&mut self.base, &mut self.hand, account)
     }
@@ -195,7 +200,9 @@ fn look_up<S: Alter>(
 ) -> Result<Seq<AccountRow>, BookFault>
     requires { IsAtHand hand.old base.old }
     ensures kept { IsAtHand hand.new base.new }
-    ensures found { Finds result (filter (account_with_id id) (seen_with hand.old base.old).content.accounts) (seen_with hand.old base.old) (seen_with hand.new base.new) }
+    ensures found { Finds result
+        (filter (account_with_id id) (seen_with hand.old base.old).content.accounts)
+        (seen_with hand.old base.old) (seen_with hand.new base.new) }
 {
     base.whole();
     if hand.has_number(id) {
@@ -214,7 +221,9 @@ fn fetch<S: Alter>(
     requires kept { IsAtHand hand.old base.old }
     requires nothing { hand.old.owed ≡ false }
     ensures kept { IsAtHand hand.new base.new }
-    ensures found { Finds result (filter (account_with_id id) (seen_with hand.old base.old).content.accounts) (seen_with hand.old base.old) (seen_with hand.new base.new) }
+    ensures found { Finds result
+        (filter (account_with_id id) (seen_with hand.old base.old).content.accounts)
+        (seen_with hand.old base.old) (seen_with hand.new base.new) }
 {
     let rows = base.accounts_by_id(id);
     let rows = hand.or_forget(rows)?;
@@ -226,7 +235,8 @@ fn fetch<S: Alter>(
 fn all<S: Alter>(base: &mut Base<S>, hand: &mut Hand) -> Result<Seq<AccountRow>, BookFault>
     requires { IsAtHand hand.old base.old }
     ensures kept { IsAtHand hand.new base.new }
-    ensures found { Finds result (seen_with hand.old base.old).content.accounts (seen_with hand.old base.old) (seen_with hand.new base.new) }
+    ensures found { Finds result (seen_with hand.old base.old).content.accounts
+        (seen_with hand.old base.old) (seen_with hand.new base.new) }
 {
     settle(base, hand)?;
     let rows = base.all_accounts();
@@ -238,7 +248,9 @@ fn put<S: Alter>(base: &mut Base<S>, hand: &mut Hand, account: &AccountRow) -> R
     requires kept { IsAtHand hand.old base.old }
     requires open { base.old.is_open ≡ true }
     ensures kept { IsAtHand hand.new base.new }
-    ensures made { Makes result (accounts_to (λ xs. insert_by accounts.key xs account.now) (seen_with hand.old base.old).content) (seen_with hand.old base.old) (seen_with hand.new base.new) }
+    ensures made { Makes result (accounts_to (λ xs. insert_by accounts.key xs account.now)
+        (seen_with hand.old base.old).content) (seen_with hand.old base.old)
+        (seen_with hand.new base.new) }
 {
     if hand.has_row(account) {
         hand.renew(account);
@@ -258,7 +270,9 @@ fn put_there<S: Alter>(
     requires nothing { hand.old.owed ≡ false }
     requires open { base.old.is_open ≡ true }
     ensures kept { IsAtHand hand.new base.new }
-    ensures made { Makes result (accounts_to (λ xs. insert_by accounts.key xs account.now) (seen_with hand.old base.old).content) (seen_with hand.old base.old) (seen_with hand.new base.new) }
+    ensures made { Makes result (accounts_to (λ xs. insert_by accounts.key xs account.now)
+        (seen_with hand.old base.old).content) (seen_with hand.old base.old)
+        (seen_with hand.new base.new) }
 {
     let made = base.put_account(account);
     hand.or_forget(made)?;

@@ -78,7 +78,8 @@ impl Record for AddressRow {
 impl<S: Alter> RowStore<S> {
     /// Those whose `host` is this.
     pub fn addresses_by_host(&mut self, host: Number) -> Result<Seq<AddressRow>, BookFault>
-        ensures { Finds result (filter (address_with_host host) self.old.content.addresses) self.old self.new }
+        ensures { Finds result (filter (address_with_host host) self.old.content.addresses) self.old
+            self.new }
     {
         self.select(BY_HOST, params![host])
     }
@@ -86,7 +87,8 @@ impl<S: Alter> RowStore<S> {
     /// Puts a row in the place of the one with its number, or beside all others.
     pub fn put_address(&mut self, address: &AddressRow) -> Result<(), BookFault>
         requires { self.old.is_open ≡ true }
-        ensures { Makes result (addresses_to (λ xs. insert_by addresses.key xs address.now) self.old.content) self.old self.new }
+        ensures { Makes result (addresses_to (λ xs. insert_by addresses.key xs address.now)
+            self.old.content) self.old self.new }
     {
         self.write(PUT, &address.params())
     }
@@ -94,7 +96,9 @@ impl<S: Alter> RowStore<S> {
     /// Adds a row at the end, with the number after the last one. The given row's number isn't looked at.
     pub fn append_address(&mut self, address: &AddressRow) -> Result<(), BookFault>
         requires { self.old.is_open ≡ true }
-        ensures { Makes result (addresses_to (appended addresses (λ id. record address.now { id = id })) self.old.content) self.old self.new }
+        ensures { Makes result
+            (addresses_to (appended addresses (λ id. record address.now { id = id }))
+            self.old.content) self.old self.new }
     {
         self.write(APPEND, &address.params()[1..])
     }
@@ -102,7 +106,8 @@ impl<S: Alter> RowStore<S> {
     /// Removes those whose `host` is this.
     pub fn remove_addresses_by_host(&mut self, host: Number) -> Result<(), BookFault>
         requires { self.old.is_open ≡ true }
-        ensures { Makes result (addresses_to (delete_where (address_with_host host)) self.old.content) self.old self.new }
+        ensures { Makes result (addresses_to (delete_where (address_with_host host))
+            self.old.content) self.old self.new }
     {
         self.write(REMOVE_HOST, params![host])
     }

@@ -37,9 +37,12 @@ pub fn reread<S: Alter + Drop>(
     conn: Connection<S>,
     alloc: Global,
 ) -> Result<Connection<S>, (BookFault, S)>
-    ensures reread { IfOk result (λ c. HasCleanDisk (state S.Store c) → IsReread (state S.Store conn) (state S.Store c)) }
-    ensures clean { IfOk result (λ c. HasCleanDisk (state S.Store c) → HasCleanDisk (state S.Store conn)) }
-    ensures leaves { IfOk result (λ c. HasCleanDisk (state S.Store c) → LeavesNoMore (state S.Store conn) (state S.Store c).may_leave) }
+    ensures reread { IfOk result (λ c. HasCleanDisk (state S.Store c)
+        → IsReread (state S.Store conn) (state S.Store c)) }
+    ensures clean { IfOk result (λ c. HasCleanDisk (state S.Store c)
+        → HasCleanDisk (state S.Store conn)) }
+    ensures leaves { IfOk result (λ c. HasCleanDisk (state S.Store c)
+        → LeavesNoMore (state S.Store conn) (state S.Store c).may_leave) }
     ensures refused { IfErr result (λ e. LeavesNoMore (state S.Store conn) (S.Store.recovers e.1)) }
 {
     let mut store = conn.into_store();

@@ -88,7 +88,8 @@ impl<S: Alter> Base<S> {
         params: &[ValueRef<'_>],
     ) -> Result<Seq<R>, BookFault>
         requires { IsPlain (understood registry sql.now) }
-        ensures { (f : Content → List R) → Asks R.shown sql.now (bound params.now) f → Finds result (f self.old.content) self.old self.new }
+        ensures { (f : Content → List R) → Asks R.shown sql.now (bound params.now) f
+            → Finds result (f self.old.content) self.old self.new }
     {
         self.look(sql)?;
         self.ask(sql, params)
@@ -112,7 +113,8 @@ impl<S: Alter> Base<S> {
     fn ask<R: Record>(&mut self, sql: &str, params: &[ValueRef<'_>]) -> Result<Seq<R>, BookFault>
         requires plain { IsPlain (understood registry sql.now) }
         requires answers { self.old.is_honest ≡ true → self.old.is_clean ≡ true }
-        ensures { (f : Content → List R) → Asks R.shown sql.now (bound params.now) f → Finds result (f self.old.content) self.old self.new }
+        ensures { (f : Content → List R) → Asks R.shown sql.now (bound params.now) f
+            → Finds result (f self.old.content) self.old self.new }
     {
         if !self.form.has_rows() {
             return Err(BookFault::Store);
@@ -133,7 +135,8 @@ impl<S: Alter> Base<S> {
     pub(crate) fn write(&mut self, sql: &str, params: &[ValueRef<'_>]) -> Result<(), BookFault>
         requires means { (f : Content → Content) × Alters sql.now (bound params.now) f }
         requires begun { self.old.is_open ≡ true }
-        ensures { (f : Content → Content) → Alters sql.now (bound params.now) f → Makes result (f self.old.content) self.old self.new }
+        ensures { (f : Content → Content) → Alters sql.now (bound params.now) f
+            → Makes result (f self.old.content) self.old self.new }
     {
         if !self.form.has_rows() {
             return Err(BookFault::Store);
@@ -281,7 +284,8 @@ impl<S: Alter> Base<S> {
     /// told.
     pub(crate) fn into_connection(self) -> Connection<S>
         ensures honest { (state S.Store result).is_clean ≡ self.is_honest }
-        ensures covers { HasCleanDisk (state S.Store result) → Covers self.crash_leaves (state S.Store result).may_leave }
+        ensures covers { HasCleanDisk (state S.Store result)
+            → Covers self.crash_leaves (state S.Store result).may_leave }
     {
         self.conn
     }
@@ -307,7 +311,8 @@ impl<S: Alter + Drop> Base<S> {
 
     /// Gives back what the connection is over. A transaction that is open is undone.
     fn into_store(self) -> S
-        ensures { IsClean (S.Store.view result) → (self.is_honest ≡ true) × Covers self.crash_leaves (S.Store.recovers result) }
+        ensures { IsClean (S.Store.view result) → (self.is_honest ≡ true)
+            × Covers self.crash_leaves (S.Store.recovers result) }
     {
         self.into_connection().into_store()
     }
@@ -315,12 +320,17 @@ impl<S: Alter + Drop> Base<S> {
     /// A store of the rows of a database that was read anew, by its tables alone.
     fn over(conn: Connection<S>, alloc: Global) -> Result<Base<S>, (Unadopted, S)>
         requires { IsFound (state S.Store conn) }
-        ensures shown { (trees : Trees) → (HasCleanDisk (state S.Store conn) → (state S.Store conn).now.trees ≡ trees) → IfOk result (IsShown trees) }
+        ensures shown { (trees : Trees) → (HasCleanDisk (state S.Store conn)
+            → (state S.Store conn).now.trees ≡ trees) → IfOk result (IsShown trees) }
         ensures ours { IfOk result (λ store. store.readiness ≢ Ready.Other) }
         ensures honest { IfOk result (λ store. store.is_honest ≡ (state S.Store conn).is_clean) }
-        ensures clean { IfErr result (λ e. IsClean (S.Store.view e.1) → HasCleanDisk (state S.Store conn)) }
-        ensures refused { IfErr result (λ e. LeavesNoMore (state S.Store conn) (S.Store.recovers e.1)) }
-        ensures others { IfErr result (λ e. e.0 ≡ Unadopted.Other → HasCleanDisk (state S.Store conn) → IsKnownAs Ready.Other (state S.Store conn).now.trees) }
+        ensures clean { IfErr result (λ e. IsClean (S.Store.view e.1)
+            → HasCleanDisk (state S.Store conn)) }
+        ensures refused { IfErr result (λ e. LeavesNoMore (state S.Store conn)
+            (S.Store.recovers e.1)) }
+        ensures others { IfErr result (λ e. e.0 ≡ Unadopted.Other
+            → HasCleanDisk (state S.Store conn)
+            → IsKnownAs Ready.Other (state S.Store conn).now.trees) }
     {
         let form = match form_of(&conn, alloc) {
             Ok(form) => form,
@@ -347,8 +357,12 @@ impl<S: Alter + Drop> Base<S> {
         ensures ours { IfOk result (λ it. it.readiness ≢ Ready.Other) }
         ensures honest { IfOk result (λ it. it.is_honest ≡ true → store.is_honest ≡ true) }
         ensures clean { IfErr result (λ e. IsClean (S.Store.view e.1) → store.is_honest ≡ true) }
-        ensures refused { (trees : Trees) → IsShown trees store → IfErr result (λ e. IsClean (S.Store.view e.1) → LeavesSameRegistry trees (S.Store.recovers e.1)) }
-        ensures others { (trees : Trees) → IsShown trees store → IfErr result (λ e. e.0 ≡ Unadopted.Other → IsClean (S.Store.view e.1) → IsKnownAs Ready.Other trees) }
+        ensures refused { (trees : Trees) → IsShown trees store
+            → IfErr result (λ e. IsClean (S.Store.view e.1)
+            → LeavesSameRegistry trees (S.Store.recovers e.1)) }
+        ensures others { (trees : Trees) → IsShown trees store
+            → IfErr result (λ e. e.0 ≡ Unadopted.Other → IsClean (S.Store.view e.1)
+            → IsKnownAs Ready.Other trees) }
     {
         let Form::Made = store.form else {
             return Ok(store);
@@ -373,10 +387,14 @@ impl<S: Alter + Drop> Base<S> {
         requires { IsFound (state S.Store conn) }
         ensures adopted { IfOk result (IsAdopted (state S.Store conn).committed.trees) }
         ensures ours { IfOk result (λ store. store.readiness ≢ Ready.Other) }
-        ensures honest { IfOk result (λ store. store.is_honest ≡ true → HasCleanDisk (state S.Store conn)) }
-        ensures clean { IfErr result (λ e. IsClean (S.Store.view e.1) → HasCleanDisk (state S.Store conn)) }
-        ensures refused { IfErr result (λ e. IsClean (S.Store.view e.1) → LeavesAsFound (state S.Store conn).committed.trees (S.Store.recovers e.1)) }
-        ensures others { IfErr result (λ e. e.0 ≡ Unadopted.Other → IsClean (S.Store.view e.1) → IsKnownAs Ready.Other (state S.Store conn).committed.trees) }
+        ensures honest { IfOk result (λ store. store.is_honest ≡ true
+            → HasCleanDisk (state S.Store conn)) }
+        ensures clean { IfErr result (λ e. IsClean (S.Store.view e.1)
+            → HasCleanDisk (state S.Store conn)) }
+        ensures refused { IfErr result (λ e. IsClean (S.Store.view e.1)
+            → LeavesAsFound (state S.Store conn).committed.trees (S.Store.recovers e.1)) }
+        ensures others { IfErr result (λ e. e.0 ≡ Unadopted.Other → IsClean (S.Store.view e.1)
+            → IsKnownAs Ready.Other (state S.Store conn).committed.trees) }
     {
         let store = Base::over(conn, alloc)?;
         Base::numbered(store)
@@ -388,9 +406,12 @@ impl<S: Alter + Drop> Base<S> {
     pub(crate) fn adopt(conn: Connection<S>, alloc: Global) -> Result<Base<S>, (Unadopted, S)>
         ensures adopted { IfOk result (IsAdopted (state S.Store conn).committed.trees) }
         ensures ours { IfOk result (λ store. store.readiness ≢ Ready.Other) }
-        ensures honest { IfOk result (λ store. store.is_honest ≡ true → HasCleanDisk (state S.Store conn)) }
-        ensures refused { IfErr result (λ e. IsClean (S.Store.view e.1) → LeavesAsItWas (state S.Store conn) (S.Store.recovers e.1)) }
-        ensures others { IfErr result (λ e. e.0 ≡ Unadopted.Other → IsClean (S.Store.view e.1) → IsKnownAs Ready.Other (state S.Store conn).committed.trees) }
+        ensures honest { IfOk result (λ store. store.is_honest ≡ true
+            → HasCleanDisk (state S.Store conn)) }
+        ensures refused { IfErr result (λ e. IsClean (S.Store.view e.1)
+            → LeavesAsItWas (state S.Store conn) (S.Store.recovers e.1)) }
+        ensures others { IfErr result (λ e. e.0 ≡ Unadopted.Other → IsClean (S.Store.view e.1)
+            → IsKnownAs Ready.Other (state S.Store conn).committed.trees) }
     {
         match reread(conn, alloc) {
             Ok(conn) => Base::taken(conn, alloc),

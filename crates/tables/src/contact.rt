@@ -168,7 +168,9 @@ struct ContactDates {
 }
 
 fn dates_of(row: &Row) -> Result<ContactDates, Error>
-    ensures { (x : Contact) → row.now ≡ contact_shown x → IfOk result (λ dates. (dates.created ≡ x.created) × (dates.transferred ≡ x.transferred) × (dates.updated ≡ x.updated) × (dates.due ≡ x.due)) }
+    ensures { (x : Contact) → row.now ≡ contact_shown x
+        → IfOk result (λ dates. (dates.created ≡ x.created) × (dates.transferred ≡ x.transferred)
+        × (dates.updated ≡ x.updated) × (dates.due ≡ x.due)) }
 {
     Ok(ContactDates {
         created: row.get(5)?,
@@ -207,14 +209,16 @@ impl Record for ContactRow {
 impl<S: Alter> RowStore<S> {
     /// Those with this number.
     pub fn contacts_by_id(&mut self, id: Number) -> Result<Seq<ContactRow>, BookFault>
-        ensures { Finds result (filter (contact_with_id id) self.old.content.contacts) self.old self.new }
+        ensures { Finds result (filter (contact_with_id id) self.old.content.contacts) self.old
+            self.new }
     {
         self.select(BY_ID, params![id])
     }
 
     /// Those whose `name` is this.
     pub fn contacts_by_name(&mut self, name: &str) -> Result<Seq<ContactRow>, BookFault>
-        ensures { Finds result (filter (contact_with_name name.now) self.old.content.contacts) self.old self.new }
+        ensures { Finds result (filter (contact_with_name name.now) self.old.content.contacts)
+            self.old self.new }
     {
         self.select(BY_NAME, params![name])
     }
@@ -222,7 +226,9 @@ impl<S: Alter> RowStore<S> {
     /// Those whose `due` is this moment or one before, in the order in which they are due. No moment is
     /// before 1970.
     pub fn contacts_until_due(&mut self, due: Number) -> Result<Seq<ContactRow>, BookFault>
-        ensures { Finds result (contacts_by_due (filter (contact_within_due due) self.old.content.contacts)) self.old self.new }
+        ensures { Finds result
+            (contacts_by_due (filter (contact_within_due due) self.old.content.contacts)) self.old
+            self.new }
     {
         self.select(UNTIL_DUE, params![due])
     }
@@ -230,7 +236,9 @@ impl<S: Alter> RowStore<S> {
     /// The first of those whose `due` is this moment or one before, in the order in which they are due, if
     /// there is any.
     pub fn first_contacts_until_due(&mut self, due: Number) -> Result<Seq<ContactRow>, BookFault>
-        ensures { Finds result (take 1 (contacts_by_due (filter (contact_within_due due) self.old.content.contacts))) self.old self.new }
+        ensures { Finds result
+            (take 1 (contacts_by_due (filter (contact_within_due due) self.old.content.contacts)))
+            self.old self.new }
     {
         self.select(FIRST_UNTIL_DUE, params![due])
     }
@@ -241,7 +249,8 @@ impl<S: Alter> RowStore<S> {
         sponsor: Number,
         due: Number,
     ) -> Result<Seq<ContactRow>, BookFault>
-        ensures { Finds result (filter (contact_of_sponsor_within sponsor due) self.old.content.contacts) self.old self.new }
+        ensures { Finds result (filter (contact_of_sponsor_within sponsor due)
+            self.old.content.contacts) self.old self.new }
     {
         self.select(BY_SPONSOR_UNTIL_DUE, params![sponsor, due])
     }
@@ -249,7 +258,8 @@ impl<S: Alter> RowStore<S> {
     /// Puts a row in the place of the one with its number, or beside all others.
     pub fn put_contact(&mut self, contact: &ContactRow) -> Result<(), BookFault>
         requires { self.old.is_open ≡ true }
-        ensures { Makes result (contacts_to (λ xs. insert_by contacts.key xs contact.now) self.old.content) self.old self.new }
+        ensures { Makes result (contacts_to (λ xs. insert_by contacts.key xs contact.now)
+            self.old.content) self.old self.new }
     {
         self.write(PUT, &contact.params())
     }
@@ -257,7 +267,9 @@ impl<S: Alter> RowStore<S> {
     /// Adds a row at the end, with the number after the last one. The given row's number isn't looked at.
     pub fn append_contact(&mut self, contact: &ContactRow) -> Result<(), BookFault>
         requires { self.old.is_open ≡ true }
-        ensures { Makes result (contacts_to (appended contacts (λ id. record contact.now { id = id })) self.old.content) self.old self.new }
+        ensures { Makes result
+            (contacts_to (appended contacts (λ id. record contact.now { id = id }))
+            self.old.content) self.old self.new }
     {
         self.write(APPEND, &contact.params()[1..])
     }
@@ -265,7 +277,8 @@ impl<S: Alter> RowStore<S> {
     /// Removes those whose `id` is this.
     pub fn remove_contacts_by_id(&mut self, id: Number) -> Result<(), BookFault>
         requires { self.old.is_open ≡ true }
-        ensures { Makes result (contacts_to (delete_where (contact_with_id id)) self.old.content) self.old self.new }
+        ensures { Makes result (contacts_to (delete_where (contact_with_id id)) self.old.content)
+            self.old self.new }
     {
         self.write(REMOVE_ID, params![id])
     }

@@ -112,7 +112,8 @@ impl<S: Alter> RowStore<S> {
     /// Adds a row at the end, with the number after the last one. The given row's number isn't looked at.
     pub fn append_day(&mut self, day: &DayRow) -> Result<(), BookFault>
         requires { self.old.is_open ≡ true }
-        ensures { Makes result (days_to (appended days (λ id. record day.now { id = id })) self.old.content) self.old self.new }
+        ensures { Makes result (days_to (appended days (λ id. record day.now { id = id }))
+            self.old.content) self.old self.new }
     {
         self.write(APPEND, &day.params()[1..])
     }

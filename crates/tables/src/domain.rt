@@ -159,14 +159,16 @@ impl<S: Alter> RowStore<S> {
 
     /// Those with this number.
     pub fn domains_by_id(&mut self, id: Number) -> Result<Seq<DomainRow>, BookFault>
-        ensures { Finds result (filter (domain_with_id id) self.old.content.domains) self.old self.new }
+        ensures { Finds result (filter (domain_with_id id) self.old.content.domains) self.old
+            self.new }
     {
         self.select(BY_ID, params![id])
     }
 
     /// Those whose `name` is this.
     pub fn domains_by_name(&mut self, name: &str) -> Result<Seq<DomainRow>, BookFault>
-        ensures { Finds result (filter (domain_with_name name.now) self.old.content.domains) self.old self.new }
+        ensures { Finds result (filter (domain_with_name name.now) self.old.content.domains)
+            self.old self.new }
     {
         self.select(BY_NAME, params![name])
     }
@@ -176,14 +178,18 @@ impl<S: Alter> RowStore<S> {
         &mut self,
         registrant: Number,
     ) -> Result<Seq<DomainRow>, BookFault>
-        ensures { Finds result (take 1 (filter (domain_with_registrant registrant) self.old.content.domains)) self.old self.new }
+        ensures { Finds result
+            (take 1 (filter (domain_with_registrant registrant) self.old.content.domains)) self.old
+            self.new }
     {
         self.select(FIRST_BY_REGISTRANT, params![registrant])
     }
 
     /// Those whose `due` is this moment or one before, in the order in which they are due.
     pub fn domains_until_due(&mut self, due: Number) -> Result<Seq<DomainRow>, BookFault>
-        ensures { Finds result (domains_by_due (filter (domain_within_due due) self.old.content.domains)) self.old self.new }
+        ensures { Finds result
+            (domains_by_due (filter (domain_within_due due) self.old.content.domains)) self.old
+            self.new }
     {
         self.select(UNTIL_DUE, params![due])
     }
@@ -191,7 +197,9 @@ impl<S: Alter> RowStore<S> {
     /// The first of those whose `due` is this moment or one before, in the order in which they are due, if
     /// there is any.
     pub fn first_domains_until_due(&mut self, due: Number) -> Result<Seq<DomainRow>, BookFault>
-        ensures { Finds result (take 1 (domains_by_due (filter (domain_within_due due) self.old.content.domains))) self.old self.new }
+        ensures { Finds result
+            (take 1 (domains_by_due (filter (domain_within_due due) self.old.content.domains)))
+            self.old self.new }
     {
         self.select(FIRST_UNTIL_DUE, params![due])
     }
@@ -202,7 +210,8 @@ impl<S: Alter> RowStore<S> {
         sponsor: Number,
         due: Number,
     ) -> Result<Seq<DomainRow>, BookFault>
-        ensures { Finds result (filter (domain_of_sponsor_within sponsor due) self.old.content.domains) self.old self.new }
+        ensures { Finds result (filter (domain_of_sponsor_within sponsor due)
+            self.old.content.domains) self.old self.new }
     {
         self.select(BY_SPONSOR_UNTIL_DUE, params![sponsor, due])
     }
@@ -213,7 +222,8 @@ impl<S: Alter> RowStore<S> {
         registrant: Number,
         due: Number,
     ) -> Result<Seq<DomainRow>, BookFault>
-        ensures { Finds result (filter (domain_of_registrant_within registrant due) self.old.content.domains) self.old self.new }
+        ensures { Finds result (filter (domain_of_registrant_within registrant due)
+            self.old.content.domains) self.old self.new }
     {
         self.select(BY_REGISTRANT_UNTIL_DUE, params![registrant, due])
     }
@@ -224,7 +234,8 @@ impl<S: Alter> RowStore<S> {
         creator: Number,
         serial: Number,
     ) -> Result<Seq<DomainRow>, BookFault>
-        ensures { Finds result (filter (domain_with_roid creator serial) self.old.content.domains) self.old self.new }
+        ensures { Finds result (filter (domain_with_roid creator serial) self.old.content.domains)
+            self.old self.new }
     {
         self.select(BY_ROID, params![creator, serial])
     }
@@ -232,7 +243,8 @@ impl<S: Alter> RowStore<S> {
     /// Puts a row in the place of the one with its number, or beside all others.
     pub fn put_domain(&mut self, domain: &DomainRow) -> Result<(), BookFault>
         requires { self.old.is_open ≡ true }
-        ensures { Makes result (domains_to (λ xs. insert_by domains.key xs domain.now) self.old.content) self.old self.new }
+        ensures { Makes result (domains_to (λ xs. insert_by domains.key xs domain.now)
+            self.old.content) self.old self.new }
     {
         self.write(PUT, &domain.params())
     }
@@ -240,7 +252,8 @@ impl<S: Alter> RowStore<S> {
     /// Adds a row at the end, with the number after the last one. The given row's number isn't looked at.
     pub fn append_domain(&mut self, domain: &DomainRow) -> Result<(), BookFault>
         requires { self.old.is_open ≡ true }
-        ensures { Makes result (domains_to (appended domains (λ id. record domain.now { id = id })) self.old.content) self.old self.new }
+        ensures { Makes result (domains_to (appended domains (λ id. record domain.now { id = id }))
+            self.old.content) self.old self.new }
     {
         self.write(APPEND, &domain.params()[1..])
     }
@@ -248,7 +261,8 @@ impl<S: Alter> RowStore<S> {
     /// Removes those whose `id` is this.
     pub fn remove_domains_by_id(&mut self, id: Number) -> Result<(), BookFault>
         requires { self.old.is_open ≡ true }
-        ensures { Makes result (domains_to (delete_where (domain_with_id id)) self.old.content) self.old self.new }
+        ensures { Makes result (domains_to (delete_where (domain_with_id id)) self.old.content)
+            self.old self.new }
     {
         self.write(REMOVE_ID, params![id])
     }

@@ -132,14 +132,16 @@ impl<S: Alter> RowStore<S> {
 
     /// Those whose `name` is this.
     pub fn hosts_by_name(&mut self, name: &str) -> Result<Seq<HostRow>, BookFault>
-        ensures { Finds result (filter (host_with_name name.now) self.old.content.hosts) self.old self.new }
+        ensures { Finds result (filter (host_with_name name.now) self.old.content.hosts) self.old
+            self.new }
     {
         self.select(BY_NAME, params![name])
     }
 
     /// Those whose `above` is this.
     pub fn hosts_by_above(&mut self, above: &str) -> Result<Seq<HostRow>, BookFault>
-        ensures { Finds result (filter (host_with_above above.now) self.old.content.hosts) self.old self.new }
+        ensures { Finds result (filter (host_with_above above.now) self.old.content.hosts) self.old
+            self.new }
     {
         self.select(BY_ABOVE, params![above])
     }
@@ -147,7 +149,8 @@ impl<S: Alter> RowStore<S> {
     /// Puts a row in the place of the one with its number, or beside all others.
     pub fn put_host(&mut self, host: &HostRow) -> Result<(), BookFault>
         requires { self.old.is_open ≡ true }
-        ensures { Makes result (hosts_to (λ xs. insert_by hosts.key xs host.now) self.old.content) self.old self.new }
+        ensures { Makes result (hosts_to (λ xs. insert_by hosts.key xs host.now) self.old.content)
+            self.old self.new }
     {
         self.write(PUT, &host.params())
     }
@@ -155,7 +158,8 @@ impl<S: Alter> RowStore<S> {
     /// Adds a row at the end, with the number after the last one. The given row's number isn't looked at.
     pub fn append_host(&mut self, host: &HostRow) -> Result<(), BookFault>
         requires { self.old.is_open ≡ true }
-        ensures { Makes result (hosts_to (appended hosts (λ id. record host.now { id = id })) self.old.content) self.old self.new }
+        ensures { Makes result (hosts_to (appended hosts (λ id. record host.now { id = id }))
+            self.old.content) self.old self.new }
     {
         self.write(APPEND, &host.params()[1..])
     }
@@ -163,7 +167,8 @@ impl<S: Alter> RowStore<S> {
     /// Removes those whose `id` is this.
     pub fn remove_hosts_by_id(&mut self, id: Number) -> Result<(), BookFault>
         requires { self.old.is_open ≡ true }
-        ensures { Makes result (hosts_to (delete_where (host_with_id id)) self.old.content) self.old self.new }
+        ensures { Makes result (hosts_to (delete_where (host_with_id id)) self.old.content) self.old
+            self.new }
     {
         self.write(REMOVE_ID, params![id])
     }

@@ -136,7 +136,8 @@ impl Record for LineRow {
 impl<S: Alter> RowStore<S> {
     /// Those whose `account` is this.
     pub fn lines_by_account(&mut self, account: Number) -> Result<Seq<LineRow>, BookFault>
-        ensures { Finds result (filter (line_with_account account) self.old.content.lines) self.old self.new }
+        ensures { Finds result (filter (line_with_account account) self.old.content.lines) self.old
+            self.new }
     {
         self.select(BY_ACCOUNT, params![account])
     }
@@ -148,7 +149,8 @@ impl<S: Alter> RowStore<S> {
         creator: Number,
         serial: Number,
     ) -> Result<Seq<LineRow>, BookFault>
-        ensures { Finds result (filter (line_of_object account creator serial) self.old.content.lines) self.old self.new }
+        ensures { Finds result (filter (line_of_object account creator serial)
+            self.old.content.lines) self.old self.new }
     {
         self.select(BY_OBJECT, params![account, creator, serial])
     }
@@ -156,7 +158,8 @@ impl<S: Alter> RowStore<S> {
     /// Puts a row in the place of the one with its number, or beside all others.
     pub fn put_line(&mut self, line: &LineRow) -> Result<(), BookFault>
         requires { self.old.is_open ≡ true }
-        ensures { Makes result (lines_to (λ xs. insert_by lines.key xs line.now) self.old.content) self.old self.new }
+        ensures { Makes result (lines_to (λ xs. insert_by lines.key xs line.now) self.old.content)
+            self.old self.new }
     {
         self.write(PUT, &line.params())
     }
@@ -164,7 +167,8 @@ impl<S: Alter> RowStore<S> {
     /// Adds a row at the end, with the number after the last one. The given row's number isn't looked at.
     pub fn append_line(&mut self, line: &LineRow) -> Result<(), BookFault>
         requires { self.old.is_open ≡ true }
-        ensures { Makes result (lines_to (appended lines (λ id. record line.now { id = id })) self.old.content) self.old self.new }
+        ensures { Makes result (lines_to (appended lines (λ id. record line.now { id = id }))
+            self.old.content) self.old self.new }
     {
         self.write(APPEND, &line.params()[1..])
     }
@@ -172,7 +176,8 @@ impl<S: Alter> RowStore<S> {
     /// Removes those whose `id` is this.
     pub fn remove_lines_by_id(&mut self, id: Number) -> Result<(), BookFault>
         requires { self.old.is_open ≡ true }
-        ensures { Makes result (lines_to (delete_where (line_with_id id)) self.old.content) self.old self.new }
+        ensures { Makes result (lines_to (delete_where (line_with_id id)) self.old.content) self.old
+            self.new }
     {
         self.write(REMOVE_ID, params![id])
     }

@@ -107,28 +107,32 @@ impl Record for LinkRow {
 impl<S: Alter> RowStore<S> {
     /// Those whose `domain` is this.
     pub fn links_by_domain(&mut self, domain: Number) -> Result<Seq<LinkRow>, BookFault>
-        ensures { Finds result (filter (link_with_domain domain) self.old.content.links) self.old self.new }
+        ensures { Finds result (filter (link_with_domain domain) self.old.content.links) self.old
+            self.new }
     {
         self.select(BY_DOMAIN, params![domain])
     }
 
     /// Those whose `host` is this.
     pub fn links_by_host(&mut self, host: Number) -> Result<Seq<LinkRow>, BookFault>
-        ensures { Finds result (filter (link_with_host host) self.old.content.links) self.old self.new }
+        ensures { Finds result (filter (link_with_host host) self.old.content.links) self.old
+            self.new }
     {
         self.select(BY_HOST, params![host])
     }
 
     /// The first of those whose `contact` is this, by number, if there is any.
     pub fn first_links_by_contact(&mut self, contact: Number) -> Result<Seq<LinkRow>, BookFault>
-        ensures { Finds result (take 1 (filter (link_with_contact contact) self.old.content.links)) self.old self.new }
+        ensures { Finds result (take 1 (filter (link_with_contact contact) self.old.content.links))
+            self.old self.new }
     {
         self.select(FIRST_BY_CONTACT, params![contact])
     }
 
     /// The first of those whose `host` is this, by number, if there is any.
     pub fn first_links_by_host(&mut self, host: Number) -> Result<Seq<LinkRow>, BookFault>
-        ensures { Finds result (take 1 (filter (link_with_host host) self.old.content.links)) self.old self.new }
+        ensures { Finds result (take 1 (filter (link_with_host host) self.old.content.links))
+            self.old self.new }
     {
         self.select(FIRST_BY_HOST, params![host])
     }
@@ -139,7 +143,8 @@ impl<S: Alter> RowStore<S> {
         contact: Number,
         due: Number,
     ) -> Result<Seq<LinkRow>, BookFault>
-        ensures { Finds result (filter (link_of_contact_within contact due) self.old.content.links) self.old self.new }
+        ensures { Finds result (filter (link_of_contact_within contact due) self.old.content.links)
+            self.old self.new }
     {
         self.select(BY_CONTACT_UNTIL_DUE, params![contact, due])
     }
@@ -150,7 +155,8 @@ impl<S: Alter> RowStore<S> {
         host: Number,
         due: Number,
     ) -> Result<Seq<LinkRow>, BookFault>
-        ensures { Finds result (filter (link_of_host_within host due) self.old.content.links) self.old self.new }
+        ensures { Finds result (filter (link_of_host_within host due) self.old.content.links)
+            self.old self.new }
     {
         self.select(BY_HOST_UNTIL_DUE, params![host, due])
     }
@@ -158,7 +164,8 @@ impl<S: Alter> RowStore<S> {
     /// Puts a row in the place of the one with its number, or beside all others.
     pub fn put_link(&mut self, link: &LinkRow) -> Result<(), BookFault>
         requires { self.old.is_open ≡ true }
-        ensures { Makes result (links_to (λ xs. insert_by links.key xs link.now) self.old.content) self.old self.new }
+        ensures { Makes result (links_to (λ xs. insert_by links.key xs link.now) self.old.content)
+            self.old self.new }
     {
         self.write(PUT, &link.params())
     }
@@ -166,7 +173,8 @@ impl<S: Alter> RowStore<S> {
     /// Adds a row at the end, with the number after the last one. The given row's number isn't looked at.
     pub fn append_link(&mut self, link: &LinkRow) -> Result<(), BookFault>
         requires { self.old.is_open ≡ true }
-        ensures { Makes result (links_to (appended links (λ id. record link.now { id = id })) self.old.content) self.old self.new }
+        ensures { Makes result (links_to (appended links (λ id. record link.now { id = id }))
+            self.old.content) self.old self.new }
     {
         self.write(APPEND, &link.params()[1..])
     }
@@ -174,7 +182,8 @@ impl<S: Alter> RowStore<S> {
     /// Removes those whose `domain` is this.
     pub fn remove_links_by_domain(&mut self, domain: Number) -> Result<(), BookFault>
         requires { self.old.is_open ≡ true }
-        ensures { Makes result (links_to (delete_where (link_with_domain domain)) self.old.content) self.old self.new }
+        ensures { Makes result (links_to (delete_where (link_with_domain domain)) self.old.content)
+            self.old self.new }
     {
         self.write(REMOVE_DOMAIN, params![domain])
     }

@@ -109,14 +109,16 @@ impl<S: Alter> RowStore<S> {
         &mut self,
         account: Number,
     ) -> Result<Seq<MessageRow>, BookFault>
-        ensures { Finds result (take 1 (queue_of account self.old.content.messages)) self.old self.new }
+        ensures { Finds result (take 1 (queue_of account self.old.content.messages)) self.old
+            self.new }
     {
         self.select(FIRST_BY_ACCOUNT, params![account])
     }
 
     /// Those that are equal to this one in all columns but the number.
     pub fn same_messages(&mut self, message: &MessageRow) -> Result<Seq<MessageRow>, BookFault>
-        ensures { Finds result (filter (is_same_message message.now) self.old.content.messages) self.old self.new }
+        ensures { Finds result (filter (is_same_message message.now) self.old.content.messages)
+            self.old self.new }
     {
         self.select(SAME, &message.params()[1..])
     }
@@ -124,7 +126,8 @@ impl<S: Alter> RowStore<S> {
     /// Puts a row in the place of the one with its number, or beside all others.
     pub fn put_message(&mut self, message: &MessageRow) -> Result<(), BookFault>
         requires { self.old.is_open ≡ true }
-        ensures { Makes result (messages_to (λ xs. insert_by messages.key xs message.now) self.old.content) self.old self.new }
+        ensures { Makes result (messages_to (λ xs. insert_by messages.key xs message.now)
+            self.old.content) self.old self.new }
     {
         self.write(PUT, &message.params())
     }
@@ -132,7 +135,9 @@ impl<S: Alter> RowStore<S> {
     /// Adds a row at the end, with the number after the last one. The given row's number isn't looked at.
     pub fn append_message(&mut self, message: &MessageRow) -> Result<(), BookFault>
         requires { self.old.is_open ≡ true }
-        ensures { Makes result (messages_to (appended messages (λ id. record message.now { id = id })) self.old.content) self.old self.new }
+        ensures { Makes result
+            (messages_to (appended messages (λ id. record message.now { id = id }))
+            self.old.content) self.old self.new }
     {
         self.write(APPEND, &message.params()[1..])
     }
@@ -140,7 +145,8 @@ impl<S: Alter> RowStore<S> {
     /// Removes those whose `id` is this.
     pub fn remove_messages_by_id(&mut self, id: Number) -> Result<(), BookFault>
         requires { self.old.is_open ≡ true }
-        ensures { Makes result (messages_to (delete_where (message_with_id id)) self.old.content) self.old self.new }
+        ensures { Makes result (messages_to (delete_where (message_with_id id)) self.old.content)
+            self.old self.new }
     {
         self.write(REMOVE_ID, params![id])
     }

@@ -166,7 +166,8 @@ impl<S: Alter> Base<S> {
     /// Puts a row in the place of the one with its number, or beside all others.
     pub(crate) fn put_meta(&mut self, meta: &MetaRow) -> Result<(), BookFault>
         requires { self.old.is_open ≡ true }
-        ensures { Makes result (metas_to (λ xs. insert_by metas.key xs meta.now) self.old.content) self.old self.new }
+        ensures { Makes result (metas_to (λ xs. insert_by metas.key xs meta.now) self.old.content)
+            self.old self.new }
     {
         self.write(PUT, &meta.params())
     }
@@ -183,7 +184,8 @@ impl<S: Alter> RowStore<S> {
     /// Puts a row in the place of the one with its number, or beside all others.
     pub fn put_meta(&mut self, meta: &MetaRow) -> Result<(), BookFault>
         requires { self.old.is_open ≡ true }
-        ensures { Makes result (metas_to (λ xs. insert_by metas.key xs meta.now) self.old.content) self.old self.new }
+        ensures { Makes result (metas_to (λ xs. insert_by metas.key xs meta.now) self.old.content)
+            self.old self.new }
     {
         put(&mut self.base, &mut self.hand, meta)
     }
@@ -193,7 +195,8 @@ impl<S: Alter> RowStore<S> {
 fn look_up<S: Alter>(base: &mut Base<S>, hand: &mut Hand) -> Result<Seq<MetaRow>, BookFault>
     requires { IsAtHand hand.old base.old }
     ensures kept { IsAtHand hand.new base.new }
-    ensures found { Finds result (seen_with hand.old base.old).content.metas (seen_with hand.old base.old) (seen_with hand.new base.new) }
+    ensures found { Finds result (seen_with hand.old base.old).content.metas
+        (seen_with hand.old base.old) (seen_with hand.new base.new) }
 {
     if hand.meta.is_some() {
         return Ok(hand.metas(base.alloc())?);
@@ -209,7 +212,9 @@ fn put<S: Alter>(base: &mut Base<S>, hand: &mut Hand, meta: &MetaRow) -> Result<
     requires kept { IsAtHand hand.old base.old }
     requires open { base.old.is_open ≡ true }
     ensures kept { IsAtHand hand.new base.new }
-    ensures made { Makes result (metas_to (λ xs. insert_by metas.key xs meta.now) (seen_with hand.old base.old).content) (seen_with hand.old base.old) (seen_with hand.new base.new) }
+    ensures made { Makes result (metas_to (λ xs. insert_by metas.key xs meta.now)
+        (seen_with hand.old base.old).content) (seen_with hand.old base.old)
+        (seen_with hand.new base.new) }
 {
     let is_only = hand.has_meta(meta);
     let made = base.put_meta(meta);

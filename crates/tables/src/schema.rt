@@ -92,10 +92,15 @@ const TRANSFER_LOSING: &str = "CREATE INDEX transfer_losing ON transfer (losing,
 
 /// Makes the tables and their indexes, in a transaction on a database that was never used.
 pub fn create<S: Alter>(conn: &mut Connection<S>) -> Result<(), Error>
-    ensures makes { conn.old.schema ≡ no_schema → IsTrue (state S.Store conn.old).is_open → conn.old.in_transaction ≡ true → HasCleanDisk (state S.Store conn.new) → Makes registry (state S.Store conn.old) (state S.Store conn.new) result }
-    ensures empty { conn.old.schema ≡ no_schema → IsTrue (state S.Store conn.old).is_open → conn.old.in_transaction ≡ true → HasCleanDisk (state S.Store conn.new) → OnOk result (IsContent no_content (state S.Store conn.new).now) }
+    ensures makes { conn.old.schema ≡ no_schema → IsTrue (state S.Store conn.old).is_open
+        → conn.old.in_transaction ≡ true → HasCleanDisk (state S.Store conn.new)
+        → Makes registry (state S.Store conn.old) (state S.Store conn.new) result }
+    ensures empty { conn.old.schema ≡ no_schema → IsTrue (state S.Store conn.old).is_open
+        → conn.old.in_transaction ≡ true → HasCleanDisk (state S.Store conn.new)
+        → OnOk result (IsContent no_content (state S.Store conn.new).now) }
     ensures steady { IsSteady (state S.Store conn.old) (state S.Store conn.new) }
-    ensures opened { HasCleanDisk (state S.Store conn.new) → IsTrue (state S.Store conn.new).is_open → IsTrue (state S.Store conn.old).is_open }
+    ensures opened { HasCleanDisk (state S.Store conn.new) → IsTrue (state S.Store conn.new).is_open
+        → IsTrue (state S.Store conn.old).is_open }
 {
     define(
         conn,
@@ -137,7 +142,9 @@ pub fn create<S: Alter>(conn: &mut Connection<S>) -> Result<(), Error>
 
 /// Makes the tables of the schema before this one, in a transaction on a database that was never used.
 pub fn create_first<S: Alter>(conn: &mut Connection<S>) -> Result<(), Error>
-    ensures { conn.old.schema ≡ no_schema → IsTrue (state S.Store conn.old).is_open → conn.old.in_transaction ≡ true → HasCleanDisk (state S.Store conn.new) → Makes first_registry (state S.Store conn.old) (state S.Store conn.new) result }
+    ensures { conn.old.schema ≡ no_schema → IsTrue (state S.Store conn.old).is_open
+        → conn.old.in_transaction ≡ true → HasCleanDisk (state S.Store conn.new)
+        → Makes first_registry (state S.Store conn.old) (state S.Store conn.new) result }
 {
     define(
         conn,

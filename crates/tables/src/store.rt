@@ -88,7 +88,8 @@ impl<S: Alter> RowStore<S> {
         params: &[ValueRef<'_>],
     ) -> Result<Seq<R>, BookFault>
         requires { (f : Content → List R) × Asks R.shown sql.now (bound params.now) f }
-        ensures { (f : Content → List R) → Asks R.shown sql.now (bound params.now) f → IsBlind f → Finds result (f self.old.content) self.old self.new }
+        ensures { (f : Content → List R) → Asks R.shown sql.now (bound params.now) f → IsBlind f
+            → Finds result (f self.old.content) self.old self.new }
     {
         let found = self.base.select(sql, params);
         self.hand.or_forget(found)
@@ -98,7 +99,8 @@ impl<S: Alter> RowStore<S> {
     pub(crate) fn write(&mut self, sql: &str, params: &[ValueRef<'_>]) -> Result<(), BookFault>
         requires means { (f : Content → Content) × Alters sql.now (bound params.now) f × IsApart f }
         requires begun { self.old.is_open ≡ true }
-        ensures { (f : Content → Content) → Alters sql.now (bound params.now) f → IsApart f → Makes result (f self.old.content) self.old self.new }
+        ensures { (f : Content → Content) → Alters sql.now (bound params.now) f → IsApart f
+            → Makes result (f self.old.content) self.old self.new }
     {
         let made = self.base.write(sql, params);
         self.hand.or_forget(made)
@@ -184,7 +186,8 @@ impl<S: Alter> RowStore<S> {
     /// told. An account's row that is owed isn't written: it is a part of a transaction that isn't kept.
     pub fn into_connection(self) -> Connection<S>
         ensures honest { (state S.Store result).is_clean ≡ self.is_honest }
-        ensures covers { HasCleanDisk (state S.Store result) → Covers self.crash_leaves (state S.Store result).may_leave }
+        ensures covers { HasCleanDisk (state S.Store result)
+            → Covers self.crash_leaves (state S.Store result).may_leave }
     {
         self.base.into_connection()
     }
@@ -211,10 +214,14 @@ impl<S: Alter + Drop> RowStore<S> {
         requires { IsFound (state S.Store conn) }
         ensures adopted { IfOk result (IsAdopted (state S.Store conn).committed.trees) }
         ensures ours { IfOk result (λ store. store.readiness ≢ Ready.Other) }
-        ensures honest { IfOk result (λ store. store.is_honest ≡ true → HasCleanDisk (state S.Store conn)) }
-        ensures clean { IfErr result (λ e. IsClean (S.Store.view e.1) → HasCleanDisk (state S.Store conn)) }
-        ensures refused { IfErr result (λ e. IsClean (S.Store.view e.1) → LeavesAsFound (state S.Store conn).committed.trees (S.Store.recovers e.1)) }
-        ensures others { IfErr result (λ e. e.0 ≡ Unadopted.Other → IsClean (S.Store.view e.1) → IsKnownAs Ready.Other (state S.Store conn).committed.trees) }
+        ensures honest { IfOk result (λ store. store.is_honest ≡ true
+            → HasCleanDisk (state S.Store conn)) }
+        ensures clean { IfErr result (λ e. IsClean (S.Store.view e.1)
+            → HasCleanDisk (state S.Store conn)) }
+        ensures refused { IfErr result (λ e. IsClean (S.Store.view e.1)
+            → LeavesAsFound (state S.Store conn).committed.trees (S.Store.recovers e.1)) }
+        ensures others { IfErr result (λ e. e.0 ≡ Unadopted.Other → IsClean (S.Store.view e.1)
+            → IsKnownAs Ready.Other (state S.Store conn).committed.trees) }
     {
         let base = Base::taken(conn, alloc)?;
         Ok(RowStore::over(base))
@@ -226,9 +233,12 @@ impl<S: Alter + Drop> RowStore<S> {
     pub fn adopt(conn: Connection<S>, alloc: Global) -> Result<RowStore<S>, (Unadopted, S)>
         ensures adopted { IfOk result (IsAdopted (state S.Store conn).committed.trees) }
         ensures ours { IfOk result (λ store. store.readiness ≢ Ready.Other) }
-        ensures honest { IfOk result (λ store. store.is_honest ≡ true → HasCleanDisk (state S.Store conn)) }
-        ensures refused { IfErr result (λ e. IsClean (S.Store.view e.1) → LeavesAsItWas (state S.Store conn) (S.Store.recovers e.1)) }
-        ensures others { IfErr result (λ e. e.0 ≡ Unadopted.Other → IsClean (S.Store.view e.1) → IsKnownAs Ready.Other (state S.Store conn).committed.trees) }
+        ensures honest { IfOk result (λ store. store.is_honest ≡ true
+            → HasCleanDisk (state S.Store conn)) }
+        ensures refused { IfErr result (λ e. IsClean (S.Store.view e.1)
+            → LeavesAsItWas (state S.Store conn) (S.Store.recovers e.1)) }
+        ensures others { IfErr result (λ e. e.0 ≡ Unadopted.Other → IsClean (S.Store.view e.1)
+            → IsKnownAs Ready.Other (state S.Store conn).committed.trees) }
     {
         let base = Base::adopt(conn, alloc)?;
         Ok(RowStore::over(base))

@@ -114,14 +114,16 @@ impl Record for TransferRow {
 impl<S: Alter> RowStore<S> {
     /// Those whose `contact` is this.
     pub fn transfers_by_contact(&mut self, contact: Number) -> Result<Seq<TransferRow>, BookFault>
-        ensures { Finds result (filter (transfer_with_contact contact) self.old.content.transfers) self.old self.new }
+        ensures { Finds result (filter (transfer_with_contact contact) self.old.content.transfers)
+            self.old self.new }
     {
         self.select(BY_CONTACT, params![contact])
     }
 
     /// Those whose `domain` is this.
     pub fn transfers_by_domain(&mut self, domain: Number) -> Result<Seq<TransferRow>, BookFault>
-        ensures { Finds result (filter (transfer_with_domain domain) self.old.content.transfers) self.old self.new }
+        ensures { Finds result (filter (transfer_with_domain domain) self.old.content.transfers)
+            self.old self.new }
     {
         self.select(BY_DOMAIN, params![domain])
     }
@@ -131,7 +133,8 @@ impl<S: Alter> RowStore<S> {
         &mut self,
         requester: Number,
     ) -> Result<Seq<TransferRow>, BookFault>
-        ensures { Finds result (filter (transfer_pending_by requester) self.old.content.transfers) self.old self.new }
+        ensures { Finds result (filter (transfer_pending_by requester) self.old.content.transfers)
+            self.old self.new }
     {
         self.select(PENDING_BY_REQUESTER, params![requester])
     }
@@ -141,7 +144,8 @@ impl<S: Alter> RowStore<S> {
         &mut self,
         losing: Number,
     ) -> Result<Seq<TransferRow>, BookFault>
-        ensures { Finds result (filter (transfer_pending_from losing) self.old.content.transfers) self.old self.new }
+        ensures { Finds result (filter (transfer_pending_from losing) self.old.content.transfers)
+            self.old self.new }
     {
         self.select(PENDING_BY_LOSING, params![losing])
     }
@@ -149,7 +153,8 @@ impl<S: Alter> RowStore<S> {
     /// Puts a row in the place of the one with its number, or beside all others.
     pub fn put_transfer(&mut self, transfer: &TransferRow) -> Result<(), BookFault>
         requires { self.old.is_open ≡ true }
-        ensures { Makes result (transfers_to (λ xs. insert_by transfers.key xs transfer.now) self.old.content) self.old self.new }
+        ensures { Makes result (transfers_to (λ xs. insert_by transfers.key xs transfer.now)
+            self.old.content) self.old self.new }
     {
         self.write(PUT, &transfer.params())
     }
@@ -157,7 +162,9 @@ impl<S: Alter> RowStore<S> {
     /// Adds a row at the end, with the number after the last one. The given row's number isn't looked at.
     pub fn append_transfer(&mut self, transfer: &TransferRow) -> Result<(), BookFault>
         requires { self.old.is_open ≡ true }
-        ensures { Makes result (transfers_to (appended transfers (λ id. record transfer.now { id = id })) self.old.content) self.old self.new }
+        ensures { Makes result
+            (transfers_to (appended transfers (λ id. record transfer.now { id = id }))
+            self.old.content) self.old self.new }
     {
         self.write(APPEND, &transfer.params()[1..])
     }
@@ -165,7 +172,8 @@ impl<S: Alter> RowStore<S> {
     /// Removes those whose `contact` is this.
     pub fn remove_transfers_by_contact(&mut self, contact: Number) -> Result<(), BookFault>
         requires { self.old.is_open ≡ true }
-        ensures { Makes result (transfers_to (delete_where (transfer_with_contact contact)) self.old.content) self.old self.new }
+        ensures { Makes result (transfers_to (delete_where (transfer_with_contact contact))
+            self.old.content) self.old self.new }
     {
         self.write(REMOVE_CONTACT, params![contact])
     }
@@ -173,7 +181,8 @@ impl<S: Alter> RowStore<S> {
     /// Removes those whose `domain` is this.
     pub fn remove_transfers_by_domain(&mut self, domain: Number) -> Result<(), BookFault>
         requires { self.old.is_open ≡ true }
-        ensures { Makes result (transfers_to (delete_where (transfer_with_domain domain)) self.old.content) self.old self.new }
+        ensures { Makes result (transfers_to (delete_where (transfer_with_domain domain))
+            self.old.content) self.old self.new }
     {
         self.write(REMOVE_DOMAIN, params![domain])
     }

@@ -65,7 +65,8 @@ impl<'a> Mark<'a> {
 
 /// What stands behind a mark, of a text that begins with it.
 fn behind<'a>(mark: &[u8], text: &'a [u8]) -> Option<&'a [u8]>
-    ensures { MatchOption result ((rest : List ℕ) → text.now ≢ mark.now ++ rest) (λ rest. text.now ≡ mark.now ++ rest.now) }
+    ensures { MatchOption result ((rest : List ℕ)
+        → text.now ≢ mark.now ++ rest) (λ rest. text.now ≡ mark.now ++ rest.now) }
 {
     text.strip_prefix(mark)
 }

@@ -98,7 +98,8 @@ fn the_host_lacks(lists: Lists<'_>, host: &Host) -> bool
 
 /// Whether the domain has more than a list's limit afterwards.
 fn the_domain_is_over(removed: Lists<'_>, added: Lists<'_>, domain: &Domain) -> bool
-    ensures { result ≡ spec.domain_is_over (lists_of removed.entry) (lists_of added.entry) domain.now }
+    ensures { result ≡ spec.domain_is_over (lists_of removed.entry) (lists_of added.entry)
+        domain.now }
 {
     let links = &domain.links;
     is_over(
@@ -135,7 +136,8 @@ fn the_host_is_over(removed: Lists<'_>, added: Lists<'_>, host: &Host) -> bool
 
 /// Whether there is a contact that has a status of the lists.
 pub(crate) fn contact_has(lists: Lists<'_>, contact: Option<&Contact>) -> bool
-    ensures { result ≡ holds_of (spec.contact_has (lists_of lists.entry)) (option_copied contact.entry) }
+    ensures { result ≡ holds_of (spec.contact_has (lists_of lists.entry))
+        (option_copied contact.entry) }
 {
     match contact {
         None => false,
@@ -145,7 +147,8 @@ pub(crate) fn contact_has(lists: Lists<'_>, contact: Option<&Contact>) -> bool
 
 /// Whether there is a contact that hasn't a status of the lists.
 pub(crate) fn contact_lacks(lists: Lists<'_>, contact: Option<&Contact>) -> bool
-    ensures { result ≡ holds_of (spec.contact_lacks (lists_of lists.entry)) (option_copied contact.entry) }
+    ensures { result ≡ holds_of (spec.contact_lacks (lists_of lists.entry))
+        (option_copied contact.entry) }
 {
     match contact {
         None => false,
@@ -155,7 +158,8 @@ pub(crate) fn contact_lacks(lists: Lists<'_>, contact: Option<&Contact>) -> bool
 
 /// Whether there is a domain that has something of the lists.
 pub(crate) fn domain_has(lists: Lists<'_>, domain: Option<&Domain>) -> bool
-    ensures { result ≡ holds_of (spec.domain_has (lists_of lists.entry)) (option_copied domain.entry) }
+    ensures { result ≡ holds_of (spec.domain_has (lists_of lists.entry))
+        (option_copied domain.entry) }
 {
     match domain {
         None => false,
@@ -175,7 +179,8 @@ pub(crate) fn host_has(lists: Lists<'_>, host: Option<&Host>) -> bool
 
 /// Whether there is a domain that hasn't something of the lists.
 pub(crate) fn domain_lacks(lists: Lists<'_>, domain: Option<&Domain>) -> bool
-    ensures { result ≡ holds_of (spec.domain_lacks (lists_of lists.entry)) (option_copied domain.entry) }
+    ensures { result ≡ holds_of (spec.domain_lacks (lists_of lists.entry))
+        (option_copied domain.entry) }
 {
     match domain {
         None => false,
@@ -185,7 +190,8 @@ pub(crate) fn domain_lacks(lists: Lists<'_>, domain: Option<&Domain>) -> bool
 
 /// Whether there is a host that hasn't something of the lists.
 pub(crate) fn host_lacks(lists: Lists<'_>, host: Option<&Host>) -> bool
-    ensures { result ≡ holds_of (spec.host_lacks (lists_of lists.entry)) (option_copied host.entry) }
+    ensures { result ≡ holds_of (spec.host_lacks (lists_of lists.entry))
+        (option_copied host.entry) }
 {
     match host {
         None => false,
@@ -195,7 +201,9 @@ pub(crate) fn host_lacks(lists: Lists<'_>, host: Option<&Host>) -> bool
 
 /// Whether there is a domain that has more than a list's limit afterwards.
 pub(crate) fn domain_is_over(removed: Lists<'_>, added: Lists<'_>, domain: Option<&Domain>) -> bool
-    ensures { result ≡ holds_of (spec.domain_is_over (lists_of removed.entry) (lists_of added.entry)) (option_copied domain.entry) }
+    ensures { result
+        ≡ holds_of (spec.domain_is_over (lists_of removed.entry) (lists_of added.entry))
+        (option_copied domain.entry) }
 {
     match domain {
         None => false,
@@ -205,7 +213,8 @@ pub(crate) fn domain_is_over(removed: Lists<'_>, added: Lists<'_>, domain: Optio
 
 /// Whether there is a host that has more than a list's limit afterwards.
 pub(crate) fn host_is_over(removed: Lists<'_>, added: Lists<'_>, host: Option<&Host>) -> bool
-    ensures { result ≡ holds_of (spec.host_is_over (lists_of removed.entry) (lists_of added.entry)) (option_copied host.entry) }
+    ensures { result ≡ holds_of (spec.host_is_over (lists_of removed.entry) (lists_of added.entry))
+        (option_copied host.entry) }
 {
     match host {
         None => false,

@@ -52,7 +52,8 @@ fn full<O, F>(seen: Option<&Seen<O, F>>) -> Option<&O>
 
 /// The domain that is seen in full.
 pub(crate) fn full_domain(seen: Option<&Seen<FullDomain, DomainFace>>) -> Option<&Domain>
-    ensures { option_copied result ≡ option_and_then spec.domain_in_full (option_copied seen.entry) }
+    ensures { option_copied result ≡ option_and_then spec.domain_in_full
+        (option_copied seen.entry) }
 {
     match seen {
         Some(Seen::Full(known)) => Some(&known.domain),
@@ -64,7 +65,8 @@ pub(crate) fn full_domain(seen: Option<&Seen<FullDomain, DomainFace>>) -> Option
 
 impl<'a> Case<'a> {
     fn contact_known(&self) -> Option<&'a ContactFacts>
-        ensures { option_copied result ≡ option_and_then (facts_spec.contact_at self.now.facts.now) (slice_get (requests.contacts_asked self.now.request.now) 0) }
+        ensures { option_copied result ≡ option_and_then (facts_spec.contact_at self.now.facts.now)
+            (slice_get (requests.contacts_asked self.now.request.now) 0) }
     {
         match self.request.contacts().first() {
             None => None,
@@ -163,7 +165,8 @@ impl Case<'_> {
     }
 
     fn new_host_is_refused(&self) -> bool
-        ensures { result ≡ requests.holds_of (spec.host_is_refused self.now.policy.now.zone) (requests.asks_of self.now.request.now).new_host }
+        ensures { result ≡ requests.holds_of (spec.host_is_refused self.now.policy.now.zone)
+            (requests.asks_of self.now.request.now).new_host }
     {
         match self.request.new_host() {
             None => false,
@@ -186,7 +189,8 @@ impl Case<'_> {
     }
 
     fn is_of_another(&self) -> bool
-        ensures { result ≡ spec.is_of_another self.now.policy.now.zone self.now.caller self.now.request.now self.now.facts.now }
+        ensures { result ≡ spec.is_of_another self.now.policy.now.zone self.now.caller
+            self.now.request.now self.now.facts.now }
     {
         is_anothers(self.caller, self.contact())
             || is_anothers(self.caller, self.domain())
@@ -194,7 +198,8 @@ impl Case<'_> {
     }
 
     fn secret_is_wrong(&self) -> bool
-        ensures { result ≡ spec.secret_is_wrong self.now.caller self.now.request.now self.now.facts.now }
+        ensures { result ≡ spec.secret_is_wrong self.now.caller self.now.request.now
+            self.now.facts.now }
     {
         presents_wrong(self.caller, self.request.secret(), self.contact())
             || presents_wrong(self.caller, self.request.secret(), self.domain())
@@ -255,7 +260,9 @@ impl Case<'_> {
     }
 
     fn addresses_kept(&self) -> usize
-        ensures { result ≡ spec.addresses_kept (requests.asks_of self.now.request.now).removes.addresses (spec.the_host self.now.request.now self.now.facts.now) }
+        ensures { result
+            ≡ spec.addresses_kept (requests.asks_of self.now.request.now).removes.addresses
+            (spec.the_host self.now.request.now self.now.facts.now) }
     {
         match self.host() {
             None => 0,
@@ -279,7 +286,8 @@ impl Case<'_> {
     }
 
     fn leaves_addresses_outside(&self) -> bool
-        ensures { result ≡ spec.leaves_addresses_outside self.now.policy.now.zone self.now.request.now self.now.facts.now }
+        ensures { result ≡ spec.leaves_addresses_outside self.now.policy.now.zone
+            self.now.request.now self.now.facts.now }
     {
         match self.host_name_after() {
             None => false,
@@ -290,7 +298,8 @@ impl Case<'_> {
     }
 
     fn passes_ten_years(&self) -> bool
-        ensures { result ≡ spec.passes_ten_years self.now.moment self.now.request.now self.now.facts.now }
+        ensures { result ≡ spec.passes_ten_years self.now.moment self.now.request.now
+            self.now.facts.now }
     {
         let domain = full_domain(self.domain());
         passes_ten_years(self.moment, self.request.years(), domain)
@@ -322,7 +331,8 @@ impl Case<'_> {
     }
 
     fn lacks_money(&self) -> bool
-        ensures { result ≡ spec.lacks_money self.now.policy.now self.now.moment self.now.request.now self.now.facts.now }
+        ensures { result ≡ spec.lacks_money self.now.policy.now self.now.moment self.now.request.now
+            self.now.facts.now }
     {
         let charge = charge_of(self.policy, self.request, self.facts, self.moment);
         charge > 0 && self.facts.account.balance < i128::from(charge)
@@ -330,7 +340,8 @@ impl Case<'_> {
 
     /// Whether the condition holds.
     fn meets(&self, condition: Condition) -> bool
-        ensures { result ≡ spec.holds self.now.policy.now self.now.caller self.now.moment self.now.request.now self.now.facts.now condition }
+        ensures { result ≡ spec.holds self.now.policy.now self.now.caller self.now.moment
+            self.now.request.now self.now.facts.now condition }
     {
         let zone = self.policy.zone();
         match condition {
@@ -377,7 +388,9 @@ impl Case<'_> {
     }
 
     fn find_refusal(&self, table: &'static [Condition]) -> Option<&'static Condition>
-        ensures { option_copied result ≡ find (spec.holds self.now.policy.now self.now.caller self.now.moment self.now.request.now self.now.facts.now) table.now }
+        ensures { option_copied result
+            ≡ find (spec.holds self.now.policy.now self.now.caller self.now.moment
+            self.now.request.now self.now.facts.now) table.now }
     {
         table.iter().find(|condition| self.meets(**condition))
     }
@@ -385,7 +398,8 @@ impl Case<'_> {
     /// The code with which the command is refused.
     #[tactic(auto, unfolding(crate::specs::Refusals::first_refusal))]
     pub(crate) fn refusal(&self) -> Option<Code>
-        ensures { result ≡ refusal_of self.now.policy.now self.now.caller self.now.moment self.now.request.now self.now.facts.now }
+        ensures { result ≡ refusal_of self.now.policy.now self.now.caller self.now.moment
+            self.now.request.now self.now.facts.now }
     {
         match self.find_refusal(table(self.request)) {
             Some(condition) => Some(condition.cause().code()),

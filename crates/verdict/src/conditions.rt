@@ -158,7 +158,8 @@ pub(crate) fn is_authorized<O: Sponsored, F>(
     secret: Option<&Text>,
     seen: Option<&Seen<O, F>>,
 ) -> bool
-    ensures { result ≡ holds_of (spec.is_authorized O.secret (option_copied secret.entry)) (option_copied seen.entry) }
+    ensures { result ≡ holds_of (spec.is_authorized O.secret (option_copied secret.entry))
+        (option_copied seen.entry) }
 {
     match seen {
         Some(Seen::Full(object)) => object.authorizes(secret),
@@ -172,7 +173,8 @@ pub(crate) fn presents_wrong<O: Sponsored, F>(
     secret: Option<&Text>,
     seen: Option<&Seen<O, F>>,
 ) -> bool
-    ensures { result ≡ spec.presents_wrong O.sponsor O.secret caller (option_copied secret.entry) (option_copied seen.entry) }
+    ensures { result ≡ spec.presents_wrong O.sponsor O.secret caller (option_copied secret.entry)
+        (option_copied seen.entry) }
 {
     let Some(presented) = secret else {
         return false;
@@ -224,7 +226,8 @@ pub(crate) fn superordinate_is_anothers(
     caller: RegistrarNo,
     known: Option<&HostFacts>,
 ) -> bool
-    ensures { result ≡ holds_of (spec.superordinate_is_anothers zone.now caller) (option_copied known.entry) }
+    ensures { result ≡ holds_of (spec.superordinate_is_anothers zone.now caller)
+        (option_copied known.entry) }
 {
     match known {
         None => false,
@@ -237,7 +240,8 @@ pub(crate) fn superordinate_is_anothers(
 
 /// Whether the name lies in the zone, below a domain that is deleted.
 pub(crate) fn superordinate_is_deleted(zone: &Zone, known: Option<&HostFacts>) -> bool
-    ensures { result ≡ holds_of (spec.superordinate_is_deleted zone.now) (option_copied known.entry) }
+    ensures { result ≡ holds_of (spec.superordinate_is_deleted zone.now)
+        (option_copied known.entry) }
 {
     match known {
         None => false,

@@ -49,7 +49,8 @@ pub(crate) fn code_granted(request: &Request, facts: &Facts) -> Code
 
 /// What the sponsor of the domain is told.
 pub(crate) fn deleted_data(known: Option<&DomainFacts>) -> Result<Option<Data>, AllocError>
-    ensures { IfOk result (λ content. content ≡ option_map Data.Deleted (option_map spec.deleted (option_copied known.entry))) }
+    ensures { IfOk result (λ content. content
+        ≡ option_map Data.Deleted (option_map spec.deleted (option_copied known.entry))) }
 {
     match known {
         None => Ok(None),

@@ -77,7 +77,8 @@ pub fn judge_order(order: &StatusOrder, object: Option<&Object>) -> Code
 }
 
 fn find_refusal(order: &StatusOrder, object: Option<&Object>) -> Option<&'static OrderCondition>
-    ensures { option_copied result ≡ find (spec.order_holds order.now (option_copied object.entry)) STATUS_ORDER.now }
+    ensures { option_copied result ≡ find (spec.order_holds order.now (option_copied object.entry))
+        STATUS_ORDER.now }
 {
     STATUS_ORDER
         .iter()
@@ -102,7 +103,8 @@ fn meets(order: &StatusOrder, condition: OrderCondition, object: Option<&Object>
 }
 
 fn contradicts(added: &[ObjectStatus], object: Option<&Object>) -> bool
-    ensures { result ≡ holds_of (spec.contradicts_pending_state added.now) (option_copied object.entry) }
+    ensures { result ≡ holds_of (spec.contradicts_pending_state added.now)
+        (option_copied object.entry) }
 {
     match object {
         None => false,
@@ -136,7 +138,8 @@ fn any_foreign(kind: ObjectKind, statuses: &[ObjectStatus]) -> bool
 }
 
 fn adds_set(added: &[ObjectStatus], object: Option<&Object>) -> bool
-    ensures { result ≡ holds_of (λ it. conditions.any_set (model.statuses_of it) added.now) (option_copied object.entry) }
+    ensures { result ≡ holds_of (λ it. conditions.any_set (model.statuses_of it) added.now)
+        (option_copied object.entry) }
 {
     match object {
         None => false,
@@ -145,7 +148,8 @@ fn adds_set(added: &[ObjectStatus], object: Option<&Object>) -> bool
 }
 
 fn removes_unset(removed: &[ObjectStatus], object: Option<&Object>) -> bool
-    ensures { result ≡ holds_of (λ it. conditions.any_unset (model.statuses_of it) removed.now) (option_copied object.entry) }
+    ensures { result ≡ holds_of (λ it. conditions.any_unset (model.statuses_of it) removed.now)
+        (option_copied object.entry) }
 {
     match object {
         None => false,

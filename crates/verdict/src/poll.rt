@@ -44,7 +44,8 @@ pub(crate) fn code_of_poll(oldest: &Option<OldestMessage>) -> Code
 
 /// The oldest message, and how many wait.
 pub(crate) fn polled_data(queue: &QueueFacts) -> Result<Option<Data>, AllocError>
-    ensures { IfOk result (λ content. content ≡ option_map Data.Polled (option_map (spec.polled queue.now.waiting) queue.now.oldest)) }
+    ensures { IfOk result (λ content. content
+        ≡ option_map Data.Polled (option_map (spec.polled queue.now.waiting) queue.now.oldest)) }
 {
     match &queue.oldest {
         None => Ok(None),

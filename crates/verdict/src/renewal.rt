@@ -22,7 +22,8 @@ pub(crate) fn renewed_expiry(domain: &Domain, years: u32) -> Moment
 
 /// Whether there is a domain that would be registered for more than ten years from the moment on.
 pub(crate) fn passes_ten_years(moment: Moment, years: u32, domain: Option<&Domain>) -> bool
-    ensures { result ≡ holds_of (λ d. nat_lt (plus_years moment 10) (spec.renewed_expiry years d)) (option_copied domain.entry) }
+    ensures { result ≡ holds_of (λ d. nat_lt (plus_years moment 10) (spec.renewed_expiry years d))
+        (option_copied domain.entry) }
 {
     match domain {
         None => false,
@@ -35,7 +36,8 @@ pub(crate) fn passes_ten_years(moment: Moment, years: u32, domain: Option<&Domai
 
 /// Whether there is a domain, and a date that isn't the one on which it is shown to expire.
 pub(crate) fn expires_otherwise(date: Option<&Text>, domain: Option<&Domain>) -> bool
-    ensures { result ≡ holds_of (λ d. holds_of (spec.is_another_date d) (option_copied date.entry)) (option_copied domain.entry) }
+    ensures { result ≡ holds_of (λ d. holds_of (spec.is_another_date d) (option_copied date.entry))
+        (option_copied domain.entry) }
 {
     match domain {
         None => false,

@@ -36,7 +36,8 @@ pub(crate) fn response_data(
     moment: Moment,
     policy: &Policy,
 ) -> Result<Option<Data>, AllocError>
-    ensures { IfOk result (λ content. content ≡ spec.response_data policy.now caller moment request.now facts.now) }
+    ensures { IfOk result (λ content. content ≡ spec.response_data policy.now caller moment
+        request.now facts.now) }
 {
     match request {
         Request::Logout => Ok(None),
@@ -121,7 +122,8 @@ fn check_contacts(
     facts: &Facts,
     names: &[Text],
 ) -> Result<Vec<CheckResult>, AllocError>
-    ensures { IfOk result (λ results. results.items ≡ map (spec.contact_result facts.now) names.now) }
+    ensures { IfOk result (λ results. results.items ≡ map (spec.contact_result facts.now)
+        names.now) }
 {
     let mut results = Vec::new(alloc);
     for name in names {
@@ -139,7 +141,8 @@ fn check_domains(
     facts: &Facts,
     names: &[GivenName],
 ) -> Result<Vec<CheckResult>, AllocError>
-    ensures { IfOk result (λ results. results.items ≡ map (spec.domain_result zone.now facts.now) names.now) }
+    ensures { IfOk result (λ results. results.items ≡ map (spec.domain_result zone.now facts.now)
+        names.now) }
 {
     let mut results = Vec::new(alloc);
     for name in names {
@@ -160,7 +163,8 @@ fn check_hosts(
     facts: &Facts,
     names: &[GivenName],
 ) -> Result<Vec<CheckResult>, AllocError>
-    ensures { IfOk result (λ results. results.items ≡ map (spec.host_result zone.now facts.now) names.now) }
+    ensures { IfOk result (λ results. results.items ≡ map (spec.host_result zone.now facts.now)
+        names.now) }
 {
     let mut results = Vec::new(alloc);
     for name in names {
@@ -207,7 +211,9 @@ fn renewed_data(
     years: u32,
     seen: Option<&Seen<FullDomain, DomainFace>>,
 ) -> Result<Option<Data>, AllocError>
-    ensures { IfOk result (λ content. content ≡ option_map Data.Renewed (option_map (spec.renewed charge name.now years) (option_and_then domain_in_full (option_copied seen.entry)))) }
+    ensures { IfOk result (λ content. content
+        ≡ option_map Data.Renewed (option_map (spec.renewed charge name.now years)
+        (option_and_then domain_in_full (option_copied seen.entry)))) }
 {
     match full_domain(seen) {
         None => Ok(None),
@@ -239,7 +245,10 @@ fn contact_data(
     secret: Option<&Text>,
     known: Option<&ContactFacts>,
 ) -> Result<Option<Data>, AllocError>
-    ensures { IfOk result (λ content. content ≡ option_map Data.Contact (option_and_then (spec.contact_info_at policy.now caller (option_copied secret.entry)) (option_copied known.entry))) }
+    ensures { IfOk result (λ content. content
+        ≡ option_map Data.Contact
+        (option_and_then (spec.contact_info_at policy.now caller (option_copied secret.entry))
+        (option_copied known.entry))) }
 {
     let Some(known) = known else {
         return Ok(None);
@@ -261,7 +270,8 @@ fn contact_info(
     linked: bool,
     seen: &Seen<Contact, ContactFace>,
 ) -> Result<ContactInfo, AllocError>
-    ensures { IfOk result (λ info. info ≡ spec.contact_info policy.now caller (option_copied secret.entry) linked seen.now) }
+    ensures { IfOk result (λ info. info ≡ spec.contact_info policy.now caller
+        (option_copied secret.entry) linked seen.now) }
 {
     match seen {
         Seen::Full(contact) if contact.is_sponsored_by(caller) => {
@@ -311,7 +321,8 @@ fn contact_full_info(
     secret: Option<Text>,
     contact: &Contact,
 ) -> Result<ContactInfo, AllocError>
-    ensures { IfOk result (λ info. info ≡ spec.contact_full_info policy.now linked secret contact.now) }
+    ensures { IfOk result (λ info. info ≡ spec.contact_full_info policy.now linked secret
+        contact.now) }
 {
     let sponsor = id_of(alloc, policy, contact.sponsor)?;
     let face = with_shown_link(alloc, linked, contact.face(alloc)?)?;
@@ -351,7 +362,10 @@ fn domain_data(
     secret: Option<&Text>,
     known: Option<&DomainFacts>,
 ) -> Result<Option<Data>, AllocError>
-    ensures { IfOk result (λ content. content ≡ option_map Data.Domain (option_and_then (spec.domain_info_at policy.now caller (option_copied secret.entry)) (option_copied known.entry))) }
+    ensures { IfOk result (λ content. content
+        ≡ option_map Data.Domain
+        (option_and_then (spec.domain_info_at policy.now caller (option_copied secret.entry))
+        (option_copied known.entry))) }
 {
     let Some(known) = known else {
         return Ok(None);
@@ -374,7 +388,8 @@ fn domain_info(
     subordinate: &Seq<Text>,
     seen: &Seen<FullDomain, DomainFace>,
 ) -> Result<DomainInfo, AllocError>
-    ensures { IfOk result (λ info. info ≡ spec.domain_info policy.now caller (option_copied secret.entry) subordinate.now seen.now) }
+    ensures { IfOk result (λ info. info ≡ spec.domain_info policy.now caller
+        (option_copied secret.entry) subordinate.now seen.now) }
 {
     match seen {
         Seen::Full(known) if known.domain.is_sponsored_by(caller) => {
@@ -414,7 +429,8 @@ fn domain_full_info(
     secret: Option<Text>,
     known: &FullDomain,
 ) -> Result<DomainInfo, AllocError>
-    ensures { IfOk result (λ info. info ≡ spec.domain_full_info policy.now subordinate.now secret known.now) }
+    ensures { IfOk result (λ info. info ≡ spec.domain_full_info policy.now subordinate.now secret
+        known.now) }
 {
     let sponsor = id_of(alloc, policy, known.domain.sponsor)?;
     let hidden = domain_hidden(alloc, policy, secret, &known.domain)?;
@@ -476,7 +492,9 @@ fn host_data(
     policy: &Policy,
     known: Option<&HostFacts>,
 ) -> Result<Option<Data>, AllocError>
-    ensures { IfOk result (λ content. content ≡ option_map Data.Host (option_and_then (spec.host_info_at policy.now) (option_copied known.entry))) }
+    ensures { IfOk result (λ content. content
+        ≡ option_map Data.Host (option_and_then (spec.host_info_at policy.now)
+        (option_copied known.entry))) }
 {
     let Some(known) = known else {
         return Ok(None);

@@ -20,7 +20,8 @@ fn phase_seen(seen: &Seen<FullDomain, DomainFace>) -> Phase
 
 /// Whether the deletion of the domain has come to the phase.
 pub(crate) fn is_in(phase: Phase, seen: Option<&Seen<FullDomain, DomainFace>>) -> bool
-    ensures { result ≡ holds_of (λ seen. objects_spec.is_phase (spec.phase_seen seen) phase) (option_copied seen.entry) }
+    ensures { result ≡ holds_of (λ seen. objects_spec.is_phase (spec.phase_seen seen) phase)
+        (option_copied seen.entry) }
 {
     match seen {
         None => false,
@@ -64,7 +65,8 @@ pub(crate) fn report_differs(
     res_time: Option<Moment>,
     domain: Option<&Domain>,
 ) -> bool
-    ensures { result ≡ holds_of (spec.is_another_report del_time res_time) (option_copied domain.entry) }
+    ensures { result ≡ holds_of (spec.is_another_report del_time res_time)
+        (option_copied domain.entry) }
 {
     match domain {
         None => false,

@@ -55,7 +55,8 @@ pub fn transfer_after(
 
 /// The last transfer of what is seen.
 fn last_seen<O: Sponsored, F>(seen: Option<&Seen<O, F>>) -> Option<Transfer>
-    ensures { result ≡ option_and_then (conditions.last_seen O.transfer) (option_copied seen.entry) }
+    ensures { result ≡ option_and_then (conditions.last_seen O.transfer)
+        (option_copied seen.entry) }
 {
     match seen {
         Some(Seen::Full(object)) => object.last_transfer(),
@@ -82,7 +83,8 @@ pub(crate) fn seen_after<O: Sponsored, F: Faced>(
     moment: Moment,
     policy: &Policy,
 ) -> Option<Transfer>
-    ensures { result ≡ option_and_then (spec.seen_after O.sponsor F.sponsor O.transfer policy.now caller moment op) (option_copied seen.entry) }
+    ensures { result ≡ option_and_then (spec.seen_after O.sponsor F.sponsor O.transfer policy.now
+        caller moment op) (option_copied seen.entry) }
 {
     let Some(it) = seen else {
         return None;
@@ -146,13 +148,15 @@ impl Case<'_> {
 
     /// Whether the caller sponsors the object.
     pub(crate) fn sponsors(&self) -> bool
-        ensures { result ≡ conditions.sponsors self.now.caller self.now.request.now self.now.facts.now }
+        ensures { result ≡ conditions.sponsors self.now.caller self.now.request.now
+            self.now.facts.now }
     {
         is_sponsored(self.caller, self.contact()) || is_sponsored(self.caller, self.domain())
     }
 
     fn is_named(&self) -> bool
-        ensures { result ≡ holds_of (names self.now.caller) (conditions.the_transfer self.now.request.now self.now.facts.now) }
+        ensures { result ≡ holds_of (names self.now.caller)
+            (conditions.the_transfer self.now.request.now self.now.facts.now) }
     {
         match self.transfer() {
             None => false,
@@ -161,7 +165,8 @@ impl Case<'_> {
     }
 
     fn is_involved(&self) -> bool
-        ensures { result ≡ conditions.is_involved self.now.caller self.now.request.now self.now.facts.now }
+        ensures { result ≡ conditions.is_involved self.now.caller self.now.request.now
+            self.now.facts.now }
     {
         self.sponsors() || self.is_named()
     }
@@ -174,26 +179,30 @@ impl Case<'_> {
     }
 
     pub(crate) fn secret_is_not_right(&self) -> bool
-        ensures { result ≡ not (conditions.presents_secret self.now.request.now self.now.facts.now) }
+        ensures { result
+            ≡ not (conditions.presents_secret self.now.request.now self.now.facts.now) }
     {
         !self.presents_secret()
     }
 
     pub(crate) fn is_stranger(&self) -> bool
-        ensures { result ≡ conditions.is_stranger self.now.caller self.now.request.now self.now.facts.now }
+        ensures { result ≡ conditions.is_stranger self.now.caller self.now.request.now
+            self.now.facts.now }
     {
         !self.is_involved() && self.request.secret().is_none()
     }
 
     pub(crate) fn strangers_secret_is_wrong(&self) -> bool
-        ensures { result ≡ conditions.strangers_secret_is_wrong self.now.caller self.now.request.now self.now.facts.now }
+        ensures { result ≡ conditions.strangers_secret_is_wrong self.now.caller self.now.request.now
+            self.now.facts.now }
     {
         !self.is_involved() && self.request.secret().is_some() && self.secret_is_not_right()
     }
 
     /// Whether the caller asked for the last transfer.
     pub(crate) fn is_requester(&self) -> bool
-        ensures { result ≡ conditions.is_requester self.now.caller self.now.request.now self.now.facts.now }
+        ensures { result ≡ conditions.is_requester self.now.caller self.now.request.now
+            self.now.facts.now }
     {
         match self.transfer() {
             None => false,
@@ -202,7 +211,8 @@ impl Case<'_> {
     }
 
     pub(crate) fn has_no_transfer(&self) -> bool
-        ensures { result ≡ is_none (conditions.the_transfer self.now.request.now self.now.facts.now) }
+        ensures { result
+            ≡ is_none (conditions.the_transfer self.now.request.now self.now.facts.now) }
     {
         self.transfer().is_none()
     }
@@ -217,7 +227,8 @@ impl Case<'_> {
     }
 
     pub(crate) fn domain_is_locked(&self) -> bool
-        ensures { result ≡ conditions.domain_is_locked self.now.policy.now self.now.moment self.now.request.now self.now.facts.now }
+        ensures { result ≡ conditions.domain_is_locked self.now.policy.now self.now.moment
+            self.now.request.now self.now.facts.now }
     {
         match full_domain(self.domain()) {
             None => false,

@@ -31,8 +31,10 @@ pub fn judge(
     moment: Moment,
     policy: &Policy,
 ) -> Result<Verdict, AllocError>
-    ensures verdict { IfOk result (λ verdict. verdict ≡ judged policy.now caller moment command.now facts.now) }
-    ensures laws { IfOk result (λ verdict. AnswersLawfully policy.now caller moment command.now facts.now verdict) }
+    ensures verdict { IfOk result (λ verdict. verdict ≡ judged policy.now caller moment command.now
+        facts.now) }
+    ensures laws { IfOk result (λ verdict. AnswersLawfully policy.now caller moment command.now
+        facts.now verdict) }
 {
     match verdict_on(alloc, facts, caller, command, moment, policy) {
         Ok(verdict) => Ok(verdict),
@@ -49,7 +51,8 @@ fn verdict_on(
     moment: Moment,
     policy: &Policy,
 ) -> Result<Verdict, AllocError>
-    ensures { IfOk result (λ verdict. verdict ≡ judged policy.now caller moment command.now facts.now) }
+    ensures { IfOk result (λ verdict. verdict ≡ judged policy.now caller moment command.now
+        facts.now) }
 {
     match command {
         Command::Bad { fault, .. } => Ok(refused(fault.code())),
@@ -69,7 +72,8 @@ fn grant(
     moment: Moment,
     policy: &Policy,
 ) -> Result<Verdict, AllocError>
-    ensures { IfOk result (λ verdict. verdict ≡ granted policy.now caller moment request.now facts.now) }
+    ensures { IfOk result (λ verdict. verdict ≡ granted policy.now caller moment request.now
+        facts.now) }
 {
     Ok(Verdict {
         code: code_granted(request, facts),

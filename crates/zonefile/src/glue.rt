@@ -17,7 +17,8 @@ pub(crate) fn add_own_hosts(
     face: &DomainFace,
     names: &mut NameMap<()>,
 ) -> Result<(), ZoneFault>
-    ensures { OnOk result (names.new ≡ fold spec.with_name names.old (spec.own_hosts zone.now face.now)) }
+    ensures { OnOk result (names.new
+        ≡ fold spec.with_name names.old (spec.own_hosts zone.now face.now)) }
 {
     if is_served(face) {
         add_hosts_within(zone, face.links.hosts.as_slice(), names)?;
@@ -27,7 +28,8 @@ pub(crate) fn add_own_hosts(
 
 /// Adds those of the hosts that lie in the zone.
 fn add_hosts_within(zone: &Zone, hosts: &[Text], names: &mut NameMap<()>) -> Result<(), AllocError>
-    ensures { OnOk result (names.new ≡ fold spec.with_name names.old (filter (spec.is_in_zone zone.now) hosts.now)) }
+    ensures { OnOk result (names.new
+        ≡ fold spec.with_name names.old (filter (spec.is_in_zone zone.now) hosts.now)) }
 {
     for host in hosts {
         if zone.has_superordinate(host) {
@@ -61,7 +63,8 @@ fn add_addresses(
     addresses: &[Text],
     text: &mut Vec<u8>,
 ) -> Result<(), AllocError>
-    ensures { OnOk result (text.new.items ≡ text.old.items ++ spec.address_lines ttl kind host.now addresses.now) }
+    ensures { OnOk result (text.new.items ≡ text.old.items ++ spec.address_lines ttl kind host.now
+        addresses.now) }
 {
     for address in addresses {
         if kind.is_of(address) {

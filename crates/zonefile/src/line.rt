@@ -9,7 +9,8 @@ use std::alloc::{AllocError, Global};
 
 /// The start of authority (RFC 1035, 3.3.13) of a policy's zone.
 pub(crate) fn soa_line(alloc: Global, policy: &Policy, serial: u32) -> Result<String, AllocError>
-    ensures { IfOk result (λ line. string_bytes line ≡ spec.soa_line policy.now.zone.label policy.now.soa serial) }
+    ensures { IfOk result (λ line. string_bytes line ≡ spec.soa_line policy.now.zone.label
+        policy.now.soa serial) }
 {
     let soa = policy.soa();
     let numbers = soa_numbers(alloc, soa, serial)?;
@@ -83,7 +84,8 @@ pub(crate) fn address_line(
     kind: AddressType,
     address: &Text,
 ) -> Result<String, AllocError>
-    ensures { IfOk result (λ line. string_bytes line ≡ spec.address_line host.now ttl kind address.now) }
+    ensures { IfOk result (λ line. string_bytes line ≡ spec.address_line host.now ttl kind
+        address.now) }
 {
     let (owner, kind, address) = (host.as_str(), kind.text(), address.as_str());
     format!(in alloc; "{owner}. {ttl} IN {kind} {address}\n")

@@ -30,17 +30,20 @@ pub trait ZoneSource {
 
     /// The names of all domains, in their order.
     fn domain_names(&mut self) -> Result<Seq<Text>, Self::Fault>
-        ensures found { IfOk result (λ names. (faces : Faces) → shows self.new faces → names ≡ keys faces.domains) }
+        ensures found { IfOk result (λ names. (faces : Faces) → shows self.new faces
+            → names ≡ keys faces.domains) }
         ensures left { leaves self.old self.new };
 
     /// The domain under a name.
     fn domain(&mut self, name: &Text) -> Result<Option<DomainFace>, Self::Fault>
-        ensures found { IfOk result (λ face. (faces : Faces) → shows self.new faces → face ≡ get faces.domains name.now) }
+        ensures found { IfOk result (λ face. (faces : Faces) → shows self.new faces
+            → face ≡ get faces.domains name.now) }
         ensures left { leaves self.old self.new };
 
     /// The addresses of the host under a name.
     fn addresses(&mut self, host: &Text) -> Result<Option<Seq<Text>>, Self::Fault>
-        ensures found { IfOk result (λ addresses. (faces : Faces) → shows self.new faces → addresses ≡ addresses_of faces.hosts host.now) }
+        ensures found { IfOk result (λ addresses. (faces : Faces) → shows self.new faces
+            → addresses ≡ addresses_of faces.hosts host.now) }
         ensures left { leaves self.old self.new };
 
     /// None may be made.

@@ -54,8 +54,10 @@ fn write_soa<W: Write>(
     serial: u32,
     writer: &mut W,
 ) -> Result<(), ZoneFault>
-    ensures written { OnOk result (Appends (W.contents writer.old) (W.contents writer.new) (soa_line policy.now.zone.label policy.now.soa serial)) }
-    ensures begun { OnErr result (AppendsBeginning (W.contents writer.old) (W.contents writer.new) (soa_line policy.now.zone.label policy.now.soa serial)) }
+    ensures written { OnOk result (Appends (W.contents writer.old) (W.contents writer.new)
+        (soa_line policy.now.zone.label policy.now.soa serial)) }
+    ensures begun { OnErr result (AppendsBeginning (W.contents writer.old) (W.contents writer.new)
+        (soa_line policy.now.zone.label policy.now.soa serial)) }
 {
     let line = soa_line(alloc, policy, serial)?;
     write_whole(writer, line.as_bytes())?;
@@ -122,9 +124,12 @@ fn write_face<W: Write>(
     hosts: &mut NameMap<()>,
     writer: &mut W,
 ) -> Result<(), ZoneFault>
-    ensures written { OnOk result (Appends (W.contents writer.old) (W.contents writer.new) (delegation_of ttl face.now)) }
-    ensures begun { OnErr result (AppendsBeginning (W.contents writer.old) (W.contents writer.new) (delegation_of ttl face.now)) }
-    ensures hosts { OnOk result (hosts.new ≡ fold with_name hosts.old (own_hosts zone.now face.now)) }
+    ensures written { OnOk result (Appends (W.contents writer.old) (W.contents writer.new)
+        (delegation_of ttl face.now)) }
+    ensures begun { OnErr result (AppendsBeginning (W.contents writer.old) (W.contents writer.new)
+        (delegation_of ttl face.now)) }
+    ensures hosts { OnOk result (hosts.new
+        ≡ fold with_name hosts.old (own_hosts zone.now face.now)) }
 {
     write_delegation(alloc, ttl, face, writer)?;
     add_own_hosts(zone, face, hosts)?;
@@ -138,8 +143,10 @@ fn write_delegation<W: Write>(
     face: &DomainFace,
     writer: &mut W,
 ) -> Result<(), ZoneFault>
-    ensures written { OnOk result (Appends (W.contents writer.old) (W.contents writer.new) (delegation_of ttl face.now)) }
-    ensures begun { OnErr result (AppendsBeginning (W.contents writer.old) (W.contents writer.new) (delegation_of ttl face.now)) }
+    ensures written { OnOk result (Appends (W.contents writer.old) (W.contents writer.new)
+        (delegation_of ttl face.now)) }
+    ensures begun { OnErr result (AppendsBeginning (W.contents writer.old) (W.contents writer.new)
+        (delegation_of ttl face.now)) }
 {
     let text = delegation(alloc, ttl, face)?;
     write_whole(writer, &text)?;
@@ -195,8 +202,10 @@ fn write_addresses<W: Write>(
     addresses: &[Text],
     writer: &mut W,
 ) -> Result<(), ZoneFault>
-    ensures written { OnOk result (Appends (W.contents writer.old) (W.contents writer.new) (glue_of ttl host.now addresses.now)) }
-    ensures begun { OnErr result (AppendsBeginning (W.contents writer.old) (W.contents writer.new) (glue_of ttl host.now addresses.now)) }
+    ensures written { OnOk result (Appends (W.contents writer.old) (W.contents writer.new)
+        (glue_of ttl host.now addresses.now)) }
+    ensures begun { OnErr result (AppendsBeginning (W.contents writer.old) (W.contents writer.new)
+        (glue_of ttl host.now addresses.now)) }
 {
     let text = glue(alloc, ttl, host, addresses)?;
     write_whole(writer, &text)?;
