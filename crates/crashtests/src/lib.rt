@@ -1,0 +1,18 @@
+//! What is found of a registry in files after the machine stopped: disks in memory stop after so many calls,
+//! for each number of calls until a command passes, and what lies on them is opened again.
+#![tactic(auto)]
+
+#[cfg(test)]
+mod cases;
+#[cfg(test)]
+mod disks;
+#[cfg(test)]
+mod policies;
+#[cfg(test)]
+mod registries;
+#[cfg(test)]
+mod stops;
+#[cfg(test)]
+mod stumbling;
+#[cfg(test)]
+mod takeovers;

@@ -1,0 +1,427 @@
+//! A file fails at each of its calls in turn, until a command passes, and what lies in the files is opened
+//! again: what was written, and what was synchronised.
+
+use crate::cases::{
+    Case, Look, Tried, acknowledgement, approval, create, first_opening, one_registrar_more,
+    other_days, rename, report, settlement, take_over,
+};
+use crate::disks::{File, Image, Limits, UNLIMITED, lose_what_was_not_synchronised};
+use crate::policies::Under;
+use crate::registries::{Left, NOT_OPENED, NOT_TAKEN_UP, Work, work_in};
+use crate::takeovers::{REFUSED, take_over_into_files};
+use sqlite::{Files, Options};
+use std::alloc::{AllocError, Global};
+use std::process::Abort;
+use std::test::Fail;
+
+/// What is printed where a call gave up: of a command, and of an opening.
+const FAILED: &str = "{\"code\":2400,\"msg\":\"Command failed\",\"svTRID\":\"ANON\"}\n";
+
+const STORE_FAULT: &str = "store fault\n";
+
+/// Before so many calls on a disk every command has passed.
+const MANY: u64 = 2000;
+
+#[derive(Clone, Copy, Debug)]
+enum Which {
+    Log,
+    Database,
+}
+
+#[derive(Clone, Copy, Debug)]
+enum How {
+    /// Each call after so many fails.
+    Stops,
+    /// One does, and what comes then is answered or not.
+    Stumbles,
+}
+
+/// Pages in the log at which these are written back to the database file: so many that none is here, or each
+/// at once.
+const LATER: usize = 1000;
+
+const AT_ONCE: usize = 1;
+
+/// Which file fails, and how, and when the log is written back.
+type Trouble = (Which, How, usize);
+
+/// The database file is written to where the log is written back at once.
+const PLACES: [(Which, usize); 3] = [
+    (Which::Log, LATER),
+    (Which::Log, AT_ONCE),
+    (Which::Database, AT_ONCE),
+];
+
+fn limits(how: How, calls: u64) -> Limits {
+    match how {
+        How::Stops => Limits {
+            stops_after: calls,
+            stumbles_after: u64::MAX,
+        },
+        How::Stumbles => Limits {
+            stops_after: u64::MAX,
+            stumbles_after: calls,
+        },
+    }
+}
+
+/// Pages that are held in memory, for which an opening takes room: more than the files here have.
+const PAGES: usize = 100;
+
+fn options(checkpoint_frames: usize) -> Options {
+    Options {
+        cache_pages: PAGES,
+        spill_pages: PAGES,
+        checkpoint_frames,
+        seed: 7,
+    }
+}
+
+/// A script over what lies in files, none of whose calls fails.
+fn carry_out(
+    alloc: Global,
+    image: &Image,
+    under: Under,
+    script: &str,
+    frames: usize,
+) -> Result<Left<File>, Fail> {
+    let work = Work {
+        under,
+        script,
+        told: "",
+        then: "",
+    };
+    let files = image.files(alloc, UNLIMITED, UNLIMITED)?;
+    work_in(alloc, files, options(frames), &work)
+}
+
+/// What lies in the files before what a case tries: the last command's transaction in the log, and all that
+/// was before it written back.
+fn earlier_image(alloc: Global, case: &Case) -> Result<Image, Fail> {
+    let mut image = Image::new(alloc);
+    for script in case.earlier {
+        let left = carry_out(alloc, &image, Under::TwoRegistrars, script, AT_ONCE)?;
+        image = Image::of(alloc, &left.files)?;
+    }
+    Ok(image)
+}
+
+/// What is told by the registry in which that lies.
+fn seen(alloc: Global, image: &Image, looks: &[Look]) -> Result<String, Fail> {
+    let mut told = String::new(alloc);
+    for (under, script) in looks.iter().copied() {
+        let left = carry_out(alloc, image, under, script, LATER)?;
+        told.push_str(left.said.as_str())?;
+    }
+    Ok(told)
+}
+
+/// The files before what a case tries, one of which fails.
+fn failing_files(
+    alloc: Global,
+    image: &Image,
+    (which, how, _): Trouble,
+    calls: u64,
+) -> Result<Files<File>, Fail> {
+    match which {
+        Which::Log => image.files(alloc, limits(how, calls), UNLIMITED),
+        Which::Database => image.files(alloc, UNLIMITED, limits(how, calls)),
+    }
+}
+
+/// What a case tries, over files one of which fails.
+fn tried(
+    alloc: Global,
+    case: &Case,
+    image: &Image,
+    trouble: Trouble,
+    calls: u64,
+) -> Result<Left<File>, Fail> {
+    let files = failing_files(alloc, image, trouble, calls)?;
+    let options = options(trouble.2);
+    match case.tried {
+        Tried::Lines(under, script) => {
+            let work = Work {
+                under,
+                script,
+                told: case.told,
+                then: case.then,
+            };
+            work_in(alloc, files, options, &work)
+        }
+        Tried::TakeOver => take_over_into_files(alloc, files, options),
+    }
+}
+
+/// How many calls a file passed on.
+fn calls_of(files: &Files<File>, which: Which) -> u64 {
+    match which {
+        Which::Log => files.log.inner().calls(),
+        Which::Database => files.db.inner().calls(),
+    }
+}
+
+/// Whether what was printed is a fault's.
+fn is_fault(said: &str) -> bool {
+    [FAILED, STORE_FAULT, REFUSED, NOT_OPENED, NOT_TAKEN_UP].contains(&said)
+}
+
+/// Whether what is found may be found.
+fn is_right(case: &Case, is_kept: bool, said_then: &str, found: &str) -> bool {
+    if is_kept {
+        return found == case.after;
+    }
+    match said_then {
+        "" => found == case.before || found == case.after,
+        FAILED => found == case.before || found == case.after || found == case.instead,
+        _ => said_then == case.told_then && found == case.instead,
+    }
+}
+
+/// What lies in files afterwards, where all that was written was kept, and where nothing was of what wasn't
+/// synchronised; and whether each call was passed on.
+#[derive(Drop)]
+struct Remains {
+    written: Image,
+    synchronised: Image,
+    had_no_trouble: bool,
+}
+
+fn remains_of(
+    alloc: Global,
+    files: Files<File>,
+    which: Which,
+    calls: u64,
+) -> Result<Remains, AllocError> {
+    let mut files = files;
+    let had_no_trouble = calls_of(&files, which) < calls;
+    let written = Image::of(alloc, &files);
+    lose_what_was_not_synchronised(&mut files);
+    let synchronised = Image::of(alloc, &files);
+    drop(files);
+    Ok(Remains {
+        written: written?,
+        synchronised: synchronised?,
+        had_no_trouble,
+    })
+}
+
+/// What was found in files last.
+#[derive(Drop)]
+struct Found {
+    image: Image,
+    told: String,
+}
+
+impl Found {
+    fn nothing(alloc: Global) -> Found {
+        Found {
+            image: Image::new(alloc),
+            told: String::new(alloc),
+        }
+    }
+
+    /// Opens what lies in files, unless the same lay there before.
+    fn look(&mut self, alloc: Global, image: Image, looks: &[Look]) -> Result<(), Fail> {
+        if image != self.image || self.told.is_empty() {
+            self.told = seen(alloc, &image, looks)?;
+            self.image = image;
+        }
+        Ok(())
+    }
+}
+
+/// What lay in the files before what a case tries, and what was found in them last.
+#[derive(Drop)]
+struct Findings {
+    earlier: Image,
+    written: Found,
+    synchronised: Found,
+}
+
+/// Lets a file fail after so many calls, and compares what is found: whether no call failed.
+fn fail_after(
+    rt: &(impl Abort + AllocGlobal),
+    case: &Case,
+    trouble: Trouble,
+    calls: u64,
+    findings: &mut Findings,
+) -> Result<bool, Fail> {
+    let alloc = rt.alloc();
+    let left = tried(alloc, case, &findings.earlier, trouble, calls)?;
+    let (said, said_then) = (left.said, left.said_then);
+    let is_kept = said.as_str() == case.told;
+    assert!(rt;
+        is_kept || is_fault(said.as_str()),
+        "{}, {trouble:?} {calls}: {said}",
+        case.name
+    );
+    let remains = remains_of(alloc, left.files, trouble.0, calls)?;
+    findings.written.look(alloc, remains.written, case.looks)?;
+    findings
+        .synchronised
+        .look(alloc, remains.synchronised, case.looks)?;
+    for it in [
+        findings.written.told.as_str(),
+        findings.synchronised.told.as_str(),
+    ] {
+        assert!(rt;
+            is_right(case, is_kept, said_then.as_str(), it),
+            "{}, {trouble:?} {calls}: {said}{said_then}{it}",
+            case.name
+        );
+    }
+    assert!(rt;
+        is_kept || !remains.had_no_trouble,
+        "{}, {trouble:?}: {said}",
+        case.name
+    );
+    Ok(remains.had_no_trouble)
+}
+
+/// Lets a file fail after each number of calls in turn, until no call fails.
+fn fail_after_each(
+    rt: &(impl Abort + AllocGlobal),
+    case: &Case,
+    trouble: Trouble,
+    findings: &mut Findings,
+) -> Result<(), Fail> {
+    for calls in 0..MANY {
+        if fail_after(rt, case, trouble, calls, findings)? {
+            return Ok(());
+        }
+    }
+    Err(Fail::from("never passes"))
+}
+
+/// Lets each file fail in this way, after each number of calls.
+fn leaves_all_or_nothing(
+    rt: &(impl Abort + AllocGlobal),
+    case: &Case,
+    how: How,
+) -> Result<(), Fail> {
+    let alloc = rt.alloc();
+    let earlier = earlier_image(alloc, case)?;
+    let mut findings = Findings {
+        earlier,
+        written: Found::nothing(alloc),
+        synchronised: Found::nothing(alloc),
+    };
+    let failed = fail_in_each_place(rt, case, how, &mut findings);
+    drop(findings);
+    failed
+}
+
+fn fail_in_each_place(
+    rt: &(impl Abort + AllocGlobal),
+    case: &Case,
+    how: How,
+    findings: &mut Findings,
+) -> Result<(), Fail> {
+    for (which, frames) in PLACES {
+        fail_after_each(rt, case, (which, how, frames), findings)?;
+    }
+    Ok(())
+}
+
+// A test has a minute: one for each case and each way to fail.
+
+#[test]
+fn a_create_of_a_domain(rt: HostRuntime) -> Result<(), Fail> {
+    leaves_all_or_nothing(&rt, create(), How::Stops)
+}
+
+#[test]
+fn a_create_of_a_domain_with_one_fault(rt: HostRuntime) -> Result<(), Fail> {
+    leaves_all_or_nothing(&rt, create(), How::Stumbles)
+}
+
+#[test]
+fn an_approval_of_a_transfer(rt: HostRuntime) -> Result<(), Fail> {
+    leaves_all_or_nothing(&rt, approval(), How::Stops)
+}
+
+#[test]
+fn an_approval_of_a_transfer_with_one_fault(rt: HostRuntime) -> Result<(), Fail> {
+    leaves_all_or_nothing(&rt, approval(), How::Stumbles)
+}
+
+#[test]
+fn a_new_name_of_a_host(rt: HostRuntime) -> Result<(), Fail> {
+    leaves_all_or_nothing(&rt, rename(), How::Stops)
+}
+
+#[test]
+fn a_new_name_of_a_host_with_one_fault(rt: HostRuntime) -> Result<(), Fail> {
+    leaves_all_or_nothing(&rt, rename(), How::Stumbles)
+}
+
+#[test]
+fn a_report_on_a_restoration(rt: HostRuntime) -> Result<(), Fail> {
+    leaves_all_or_nothing(&rt, report(), How::Stops)
+}
+
+#[test]
+fn a_report_on_a_restoration_with_one_fault(rt: HostRuntime) -> Result<(), Fail> {
+    leaves_all_or_nothing(&rt, report(), How::Stumbles)
+}
+
+#[test]
+fn an_acknowledgement(rt: HostRuntime) -> Result<(), Fail> {
+    leaves_all_or_nothing(&rt, acknowledgement(), How::Stops)
+}
+
+#[test]
+fn an_acknowledgement_with_one_fault(rt: HostRuntime) -> Result<(), Fail> {
+    leaves_all_or_nothing(&rt, acknowledgement(), How::Stumbles)
+}
+
+#[test]
+fn a_settlement(rt: HostRuntime) -> Result<(), Fail> {
+    leaves_all_or_nothing(&rt, settlement(), How::Stops)
+}
+
+#[test]
+fn a_settlement_with_one_fault(rt: HostRuntime) -> Result<(), Fail> {
+    leaves_all_or_nothing(&rt, settlement(), How::Stumbles)
+}
+
+#[test]
+fn a_first_opening(rt: HostRuntime) -> Result<(), Fail> {
+    leaves_all_or_nothing(&rt, first_opening(), How::Stops)
+}
+
+#[test]
+fn a_first_opening_with_one_fault(rt: HostRuntime) -> Result<(), Fail> {
+    leaves_all_or_nothing(&rt, first_opening(), How::Stumbles)
+}
+
+#[test]
+fn an_opening_with_a_registrar_more(rt: HostRuntime) -> Result<(), Fail> {
+    leaves_all_or_nothing(&rt, one_registrar_more(), How::Stops)
+}
+
+#[test]
+fn an_opening_with_a_registrar_more_with_one_fault(rt: HostRuntime) -> Result<(), Fail> {
+    leaves_all_or_nothing(&rt, one_registrar_more(), How::Stumbles)
+}
+
+#[test]
+fn an_opening_with_other_days(rt: HostRuntime) -> Result<(), Fail> {
+    leaves_all_or_nothing(&rt, other_days(), How::Stops)
+}
+
+#[test]
+fn an_opening_with_other_days_with_one_fault(rt: HostRuntime) -> Result<(), Fail> {
+    leaves_all_or_nothing(&rt, other_days(), How::Stumbles)
+}
+
+#[test]
+fn a_registry_taken_over(rt: HostRuntime) -> Result<(), Fail> {
+    leaves_all_or_nothing(&rt, take_over(), How::Stops)
+}
+
+#[test]
+fn a_registry_taken_over_with_one_fault(rt: HostRuntime) -> Result<(), Fail> {
+    leaves_all_or_nothing(&rt, take_over(), How::Stumbles)
+}
