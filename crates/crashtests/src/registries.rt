@@ -1,11 +1,14 @@
 //! Registries in files. A disk is known by its bounds alone here: a book over one of a known kind costs the
 //! prover more than it has.
+ghost use Rattle.std.specs.Prelude.{IfOk};
+ghost use Rattle.sqlite.specs.Held.{state};
+ghost use Rattle.tables.specs.Adoption.{IsFound};
 
 use crate::policies::{Under, policy_under};
 use registry::Registry;
 use script::run_on;
 use sqlbook::{Found, SqlBook, Unadopted, into_files, taken};
-use sqlite::{Connection, FileStore, Files, Options};
+use sqlite::{Alter, Connection, Error, FileStore, Files, Leftover, Options};
 use sqlite_disk::Disk;
 use std::alloc::Global;
 use std::test::Fail;
@@ -61,6 +64,12 @@ impl<D: Disk + Drop> KeepsFiles<D> for FileStore<D> {
     }
 }
 
+impl<D: Disk + Drop> KeepsFiles<D> for Leftover<D> {
+    fn files(self) -> Files<D> {
+        self.into_files()
+    }
+}
+
 /// Opens the registry in files, and has it answer.
 pub fn work_in<D: Disk + Drop>(
     alloc: Global,
@@ -71,9 +80,22 @@ pub fn work_in<D: Disk + Drop>(
     if !files.may_be_used() {
         return Err(Fail::from("files that can't be used"));
     }
-    match Connection::open_files(alloc, files, options) {
+    work_if_opened(alloc, Connection::open_files(alloc, files, options), work)
+}
+
+/// The same over a database, if one was opened in them.
+fn work_if_opened<D: Disk + Drop, S: Alter + KeepsFiles<D> + Drop, L: KeepsFiles<D> + Drop>(
+    alloc: Global,
+    opened: Result<Connection<S>, (Error, L)>,
+    work: &Work<'_>,
+) -> Result<Left<D>, Fail>
+where
+    SqlBook<S, Found>: KeepsFiles<D>,
+    requires { IfOk opened (λ conn. IsFound (state S.Store conn)) }
+{
+    match opened {
         Ok(conn) => work_if_taken_up(alloc, taken(conn, alloc), work),
-        Err((_, left)) => Left::new(alloc, NOT_OPENED, left.into_files()),
+        Err((_, left)) => Left::new(alloc, NOT_OPENED, left.files()),
     }
 }
 

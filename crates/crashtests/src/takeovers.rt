@@ -54,9 +54,17 @@ pub fn take_over_into_files<D: Disk + Drop>(
     if !files.may_be_used() {
         return Err(Fail::from("files that can't be used"));
     }
-    match Connection::open_files(alloc, files, options) {
+    take_over_if_opened(alloc, Connection::open_files(alloc, files, options))
+}
+
+/// The same into a database, if one was opened in them.
+fn take_over_if_opened<D: Disk + Drop, S: Alter + KeepsFiles<D> + Drop, L: KeepsFiles<D> + Drop>(
+    alloc: Global,
+    opened: Result<Connection<S>, (Error, L)>,
+) -> Result<Left<D>, Fail> {
+    match opened {
         Ok(conn) => take_over_if_taken_up(alloc, RowStore::adopt(conn, alloc)),
-        Err((_, left)) => Left::new(alloc, NOT_OPENED, left.into_files()),
+        Err((_, left)) => Left::new(alloc, NOT_OPENED, left.files()),
     }
 }
 
@@ -86,12 +94,25 @@ fn take_over_from<S: Alter + Drop, T: Alter + Drop>(
     database: Result<Connection<S>, Error>,
     rows: &mut RowStore<T>,
 ) -> Result<&'static str, Fail> {
-    let policy = policy_under(alloc, Under::TwoRegistrars)?;
     let mut old = OldRows::adopt(database?, alloc)?;
+    let said = take_over_rows(alloc, &mut old, rows);
+    drop(old);
+    said
+}
+
+/// The same of rows that are lent: where they would fall in each way out, the prover has more to do.
+fn take_over_rows<S: Alter, T: Alter>(
+    alloc: Global,
+    old: &mut OldRows<S>,
+    rows: &mut RowStore<T>,
+) -> Result<&'static str, Fail> {
     if rows.is_open() {
         return Err(Fail::from("a transaction is open"));
     }
-    match migrate(alloc, &mut old, rows, &policy) {
+    let policy = policy_under(alloc, Under::TwoRegistrars)?;
+    let migrated = migrate(alloc, old, rows, &policy);
+    drop(policy);
+    match migrated {
         Ok(()) => Ok(TAKEN_OVER),
         Err(MigrateFault::Store) => Ok(REFUSED),
         Err(_) => Err(Fail::from("not to be taken over")),
