@@ -1,7 +1,7 @@
 -- The transfer of a domain, removed and added.
-use Rattle.std.proofs.Common.{◌≡◌, ℤ, true, false, List, [], ◌∷◌, ◌++◌, filter, Option, Some, None, IfSome, is_some, option_map, refl, sym, ap, subst, ◌∙◌, int_eq, true≢false}
+use Rattle.std.proofs.Common.{◌≡◌, ℤ, true, false, List, [], ◌∷◌, ◌++◌, filter, Option, Some, None, IfSome, is_some, option_map, refl, sym, ap, subst, ◌∙◌, int_eq, eqb, length, arith, true≢false}
 use Rattle.std.specs.List.{list_any}
-use Rattle.std.proofs.lemmas.Bool.Decides.{Decides-int_eq}
+use Rattle.std.proofs.lemmas.Bool.Decides.{Decides-eqb, Decides-int_eq}
 use Rattle.sqlite_keyed.specs.Keyed.{next_key}
 use Rattle.sqlite_keyed.specs.Lists.{delete_where}
 use Rattle.sqlite_keyed.specs.Rules.{points_to}
@@ -29,6 +29,17 @@ elsewhere (Some c) id other apart is = ap (λ k. int_eq k other) (same_int c id 
 nowhere : (o : Option ℤ) (contact : ℤ) → is_some o ≡ false → points_to o contact ≡ false
 nowhere None contact e = refl
 nowhere (Some d) contact e = absurd (true≢false e)
+
+no-rows : (rows : List Transfer) → eqb (length rows) 0 ≡ true → rows ≡ []
+no-rows [] short = refl
+no-rows (t ∷ ts) short = let zero : length (t ∷ ts) ≡ 0 = (Decides-eqb (length (t ∷ ts)) 0).0 short in absurd (omega arith)
+
+-- there was none
+pub clear-already : (id : ℤ) (xs : Content) (rows : List Transfer) → rows ≡ filter (transfer_with_domain id) xs.transfers → eqb (length rows) 0 ≡ true → IsTransferCleared id xs xs
+clear-already id xs rows all short = record {
+  none = sym all ∙ no-rows rows short;
+  others = record { domains = λ other apart. refl; contacts = λ contact. refl; rest = refl };
+}
 
 pub cleared : (id : ℤ) (xs : Content) (rows : List Transfer) → rows ≡ filter (transfer_with_domain id) xs.transfers → list_any (λ (t : Transfer). is_some t.contact) rows ≡ false
     → IsTransferCleared id xs (transfers_to (delete_where (transfer_with_domain id)) xs)

@@ -26,6 +26,9 @@ pub(crate) fn clear_transfer<S: Alter>(
     ensures { Turns result (IsTransferCleared domain) store.old store.new }
 {
     let rows = store.transfers_by_domain(domain)?;
+    if rows.is_empty() {
+        return Ok(());
+    }
     if names_contact(rows.as_slice()) {
         return Err(BookFault::Store);
     }

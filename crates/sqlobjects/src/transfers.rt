@@ -25,6 +25,9 @@ pub(crate) fn clear_transfer<S: Alter>(
     ensures { Turns result (IsTransferCleared contact) store.old store.new }
 {
     let rows = store.transfers_by_contact(contact)?;
+    if rows.is_empty() {
+        return Ok(());
+    }
     if names_domain(rows.as_slice()) {
         return Err(BookFault::Store);
     }

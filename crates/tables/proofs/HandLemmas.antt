@@ -9,8 +9,7 @@ use Rattle.sqlite_rules.specs.Lists.{Has}
 use Rattle.tables.specs.Account.{Account, accounts, account_with_id}
 use Rattle.tables.specs.Address.{Address}
 use Rattle.tables.specs.Contact.{Contact}
-use Rattle.tables.specs.Content.{Content, accounts_to, addresses_to, contacts_to, days_to, domains_to, hosts_to, lines_to, links_to, messages_to, transfers_to}
-use Rattle.tables.specs.Day.{Day}
+use Rattle.tables.specs.Content.{Content, accounts_to, addresses_to, contacts_to, domains_to, hosts_to, lines_to, links_to, messages_to, transfers_to}
 use Rattle.tables.specs.Domain.{Domain}
 use Rattle.tables.specs.Host.{Host}
 use Rattle.tables.specs.Line.{Line}
@@ -193,28 +192,25 @@ seen-renewed true (Some it) row xs same = sym (ap (λ rows. accounts_to (λ _. r
 -- ---- statements on other tables
 
 pub apart-contacts : (change : List Contact → List Contact) → IsApart (contacts_to change)
-apart-contacts change = record { accounts = λ f xs. refl; metas = λ xs. refl }
+apart-contacts change = record { accounts = λ f xs. refl; metas = λ xs. refl; days = λ xs. refl }
 
 pub apart-domains : (change : List Domain → List Domain) → IsApart (domains_to change)
-apart-domains change = record { accounts = λ f xs. refl; metas = λ xs. refl }
+apart-domains change = record { accounts = λ f xs. refl; metas = λ xs. refl; days = λ xs. refl }
 
 pub apart-hosts : (change : List Host → List Host) → IsApart (hosts_to change)
-apart-hosts change = record { accounts = λ f xs. refl; metas = λ xs. refl }
+apart-hosts change = record { accounts = λ f xs. refl; metas = λ xs. refl; days = λ xs. refl }
 
 pub apart-addresses : (change : List Address → List Address) → IsApart (addresses_to change)
-apart-addresses change = record { accounts = λ f xs. refl; metas = λ xs. refl }
+apart-addresses change = record { accounts = λ f xs. refl; metas = λ xs. refl; days = λ xs. refl }
 
 pub apart-links : (change : List Link → List Link) → IsApart (links_to change)
-apart-links change = record { accounts = λ f xs. refl; metas = λ xs. refl }
+apart-links change = record { accounts = λ f xs. refl; metas = λ xs. refl; days = λ xs. refl }
 
 pub apart-lines : (change : List Line → List Line) → IsApart (lines_to change)
-apart-lines change = record { accounts = λ f xs. refl; metas = λ xs. refl }
+apart-lines change = record { accounts = λ f xs. refl; metas = λ xs. refl; days = λ xs. refl }
 
 pub apart-messages : (change : List Message → List Message) → IsApart (messages_to change)
-apart-messages change = record { accounts = λ f xs. refl; metas = λ xs. refl }
+apart-messages change = record { accounts = λ f xs. refl; metas = λ xs. refl; days = λ xs. refl }
 
 pub apart-transfers : (change : List Transfer → List Transfer) → IsApart (transfers_to change)
-apart-transfers change = record { accounts = λ f xs. refl; metas = λ xs. refl }
-
-pub apart-days : (change : List Day → List Day) → IsApart (days_to change)
-apart-days change = record { accounts = λ f xs. refl; metas = λ xs. refl }
+apart-transfers change = record { accounts = λ f xs. refl; metas = λ xs. refl; days = λ xs. refl }

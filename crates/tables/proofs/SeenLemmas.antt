@@ -9,11 +9,12 @@ use Rattle.tables.specs.declared.hand.Hand.{Hand}
 use Rattle.tables.specs.Account.{Account, accounts, account_with_id}
 use Rattle.tables.specs.Content.{Content, accounts_to}
 use Rattle.tables.specs.Hand.{IsApart, IsAtHand, IsBlind, IsSameRow, IsThere, KeepsAccount, after, no_row, seen_with, with_owed}
+use Rattle.tables.specs.Day.{Day}
 use Rattle.tables.specs.Meta.{Meta}
 use Rattle.tables.proofs.HandLemmas.{has-filter, has-put, seen-renewed}
 
 pub none-at-hand : (s : StateOf Content) → IsAtHand no_row s
-none-at-hand s = record { within = λ e. absurd (true≢false (sym e)); account = λ clean. tt; meta = λ clean. tt }
+none-at-hand s = record { within = λ e. absurd (true≢false (sym e)); account = λ clean. tt; meta = λ clean. tt; days = λ clean. tt }
 
 -- what a crash may leave isn't changed by what is at hand
 seen-leaves : (hand hand' : Hand) (old new : StateOf Content) → LeavesSame old new → LeavesSame (seen_with hand old) (seen_with hand' new)
@@ -26,6 +27,7 @@ module _ (hand : Hand) (old new : StateOf Content) where
     within = λ e. it.opened ∙ held.within e;
     account = λ clean. subst (λ (xs : Content). IfSome hand.account (λ row. IsThere hand.owed row xs.accounts)) (sym (it.content clean)) (held.account (it.clean clean));
     meta = λ clean. subst (λ (xs : Content). IfSome hand.meta (λ row. xs.metas ≡ row ∷ [])) (sym (it.content clean)) (held.meta (it.clean clean));
+    days = λ clean. subst (λ (xs : Content). IfSome hand.days (λ rows. xs.days ≡ rows)) (sym (it.content clean)) (held.days (it.clean clean));
   }
 
   pub seen-read : Reads old new → Reads (seen_with hand old) (seen_with hand new)
@@ -63,13 +65,14 @@ same-read s = record { clean = λ e. e; before = λ e. refl; opened = refl; cont
 
 -- ---- changes of the database
 
--- the same rows of accounts and of `meta`
+-- the same rows of accounts, of `meta` and of days
 kept-beside : (hand : Hand) (old new : StateOf Content) → (new.is_clean ≡ true → old.is_clean ≡ true) → new.is_open ≡ true → (new.is_clean ≡ true → new.content.accounts ≡ old.content.accounts)
-    → (new.is_clean ≡ true → new.content.metas ≡ old.content.metas) → IsAtHand hand old → IsAtHand hand new
-kept-beside hand old new clean opened accounts-same metas-same held = record {
+    → (new.is_clean ≡ true → new.content.metas ≡ old.content.metas) → (new.is_clean ≡ true → new.content.days ≡ old.content.days) → IsAtHand hand old → IsAtHand hand new
+kept-beside hand old new clean opened accounts-same metas-same days-same held = record {
   within = λ e. opened;
   account = λ e. subst (λ (rows : List Account). IfSome hand.account (λ row. IsThere hand.owed row rows)) (sym (accounts-same e)) (held.account (clean e));
   meta = λ e. subst (λ (rows : List Meta). IfSome hand.meta (λ row. rows ≡ row ∷ [])) (sym (metas-same e)) (held.meta (clean e));
+  days = λ e. subst (λ (all : List Day). IfSome hand.days (λ rows. all ≡ rows)) (sym (days-same e)) (held.days (clean e));
 }
 
 -- a change that is apart leaves the accounts as they were
@@ -89,7 +92,8 @@ module _ {A : Type 0} (said : Result A BookFault) (hand : Hand) (f : Content →
       go : (r : Result A BookFault) → Makes r (f old.content) old new → IsAtHand (after r hand) new
       go (Ok x) h =
           kept-beside hand old new h.clean h.opened (λ e. ap (λ (ys : Content). ys.accounts) (h.content e) ∙ apart-accounts f apart old.content)
-          (λ e. ap (λ (ys : Content). ys.metas) (h.content e) ∙ apart.metas old.content) held
+          (λ e. ap (λ (ys : Content). ys.metas) (h.content e) ∙ apart.metas old.content)
+          (λ e. ap (λ (ys : Content). ys.days) (h.content e) ∙ apart.days old.content) held
       go (Err fault) h = none-at-hand new
 
   pub made-seen : Makes said (f old.content) old new → Makes said (f (seen_with hand old).content) (seen_with hand old) (seen_with (after said hand) new)
@@ -117,32 +121,33 @@ blind-seen f it hand s = go hand.owed hand.account
 
 -- ---- an account's row that is owed is written
 
-abbrev owing : Account → Option Meta → Hand
-owing row meta = record { account = Some row; owed = true; meta = meta }
+abbrev owing : Account → Option Meta → Option (List Day) → Hand
+owing row meta days = record { account = Some row; owed = true; meta = meta; days = days }
 
-abbrev settled : Account → Option Meta → Hand
-settled row meta = record { account = Some row; owed = false; meta = meta }
+abbrev settled : Account → Option Meta → Option (List Day) → Hand
+settled row meta days = record { account = Some row; owed = false; meta = meta; days = days }
 
-module _ {A : Type 0} (said : Result A BookFault) (row : Account) (meta : Option Meta) (old new : StateOf Content) where
-  pub settled-kept : Makes said (accounts_to (λ rows. insert_by accounts.key rows row) old.content) old new → IsAtHand (owing row meta) old → IsAtHand (after said (settled row meta)) new
+module _ {A : Type 0} (said : Result A BookFault) (row : Account) (meta : Option Meta) (days : Option (List Day)) (old new : StateOf Content) where
+  pub settled-kept : Makes said (accounts_to (λ rows. insert_by accounts.key rows row) old.content) old new → IsAtHand (owing row meta days) old → IsAtHand (after said (settled row meta days)) new
   settled-kept it held = go said it
     where
-      go : (r : Result A BookFault) → Makes r (accounts_to (λ rows. insert_by accounts.key rows row) old.content) old new → IsAtHand (after r (settled row meta)) new
+      go : (r : Result A BookFault) → Makes r (accounts_to (λ rows. insert_by accounts.key rows row) old.content) old new → IsAtHand (after r (settled row meta days)) new
       go (Ok x) h = record {
         within = λ e. absurd (true≢false (sym e));
         account = λ e. record { old = row; has = subst (λ (xs : Content). Has xs.accounts row) (sym (h.content e)) (has-put accounts.key old.content.accounts row); id = refl; ident = refl; same = λ _. refl };
         meta = λ e. subst (λ (xs : Content). IfSome meta (λ it. xs.metas ≡ it ∷ [])) (sym (h.content e)) (held.meta (h.clean e));
+        days = λ e. subst (λ (xs : Content). IfSome days (λ rows. xs.days ≡ rows)) (sym (h.content e)) (held.days (h.clean e));
       }
       go (Err fault) h = none-at-hand new
 
-as-owing : (hand : Hand) (row : Account) → hand.account ≡ Some row → hand.owed ≡ true → owing row hand.meta ≡ hand
-as-owing hand row is owes = ap₂ (λ (a : Option Account) (o : Bool). record { account = a; owed = o; meta = hand.meta }) (sym is) (sym owes)
+as-owing : (hand : Hand) (row : Account) → hand.account ≡ Some row → hand.owed ≡ true → owing row hand.meta hand.days ≡ hand
+as-owing hand row is owes = ap₂ (λ (a : Option Account) (o : Bool). record { account = a; owed = o; meta = hand.meta; days = hand.days }) (sym is) (sym owes)
 
 module _ {A : Type 0} (said : Result A BookFault) (hand : Hand) (row : Account) (old new : StateOf Content) (is : hand.account ≡ Some row) (owes : hand.owed ≡ true) where
   pub settled-at : Makes said (accounts_to (λ rows. insert_by accounts.key rows row) old.content) old new → IsAtHand hand old → IsAtHand (after said (record hand { owed = false })) new
   settled-at it held =
-      subst (λ (a : Option Account). IsAtHand (after said (record { account = a; owed = false; meta = hand.meta })) new) (sym is)
-      (settled-kept said row hand.meta old new it (subst (λ (h : Hand). IsAtHand h old) (sym (as-owing hand row is owes)) held))
+      subst (λ (a : Option Account). IsAtHand (after said (record { account = a; owed = false; meta = hand.meta; days = hand.days })) new) (sym is)
+      (settled-kept said row hand.meta hand.days old new it (subst (λ (h : Hand). IsAtHand h old) (sym (as-owing hand row is owes)) held))
 
 -- ---- an account's row that was found or put is kept at hand
 
@@ -154,11 +159,12 @@ has-one : {A : Type 0} (rows : List A) (x : A) → rows ≡ x ∷ [] → Has row
 has-one rows x e = subst (λ xs. Has xs x) (sym e) (inl refl)
 
 pub kept-found : (hand mid hand' : Hand) (rows : List Account) (s : StateOf Content) → KeepsAccount rows mid hand' → mid ≡ hand → hand.owed ≡ false → (s.is_clean ≡ true → IfSome hand.meta (λ row. s.content.metas ≡ row ∷ []))
-    → (s.is_clean ≡ true → (row : Account) → Has rows row → Has s.content.accounts row) → IsAtHand hand' s
-kept-found hand mid hand' rows s it same nothing metas there = record {
+    → (s.is_clean ≡ true → IfSome hand.days (λ rows. s.content.days ≡ rows)) → (s.is_clean ≡ true → (row : Account) → Has rows row → Has s.content.accounts row) → IsAtHand hand' s
+kept-found hand mid hand' rows s it same nothing metas days there = record {
   within = λ e. absurd (true≢false (sym e ∙ it.owed ∙ ap (λ (h : Hand). h.owed) same ∙ nothing));
   account = λ e. if-some hand'.account it.account (λ row is. record { old = row; has = there e row (has-one rows row is); id = refl; ident = refl; same = λ _. refl });
   meta = λ e. subst (λ (o : Option Meta). IfSome o (λ row. s.content.metas ≡ row ∷ [])) (sym (it.meta ∙ ap (λ (h : Hand). h.meta) same)) (metas e);
+  days = λ e. subst (λ (o : Option (List Day)). IfSome o (λ rows. s.content.days ≡ rows)) (sym (it.days ∙ ap (λ (h : Hand). h.days) same)) (days e);
 }
 
 -- what was found by number

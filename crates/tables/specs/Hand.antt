@@ -9,11 +9,12 @@ use Rattle.transactions.specs.declared.readiness.Ready.TheVariants.{Used}
 use Rattle.transactions.specs.declared.fault.BookFault.{BookFault}
 use Rattle.tables.specs.Account.{Account, accounts}
 use Rattle.tables.specs.Meta.{Meta}
+use Rattle.tables.specs.Day.{Day}
 use Rattle.tables.specs.Content.{Content, accounts_to}
 use Rattle.tables.specs.declared.hand.Hand.{Hand}
 
 abbrev pub no_row : Hand
-no_row = record { account = None; owed = false; meta = None }
+no_row = record { account = None; owed = false; meta = None; days = None }
 
 -- ---- what is seen
 
@@ -63,6 +64,7 @@ pub record IsAtHand (hand : Hand) (s : StateOf Content) : Type 0 where
   pub account : s.is_clean ≡ true
       → IfSome hand.account (λ row. IsThere hand.owed row s.content.accounts)
   pub meta : s.is_clean ≡ true → IfSome hand.meta (λ row. s.content.metas ≡ row ∷ [])
+  pub days : s.is_clean ≡ true → IfSome hand.days (λ rows. s.content.days ≡ rows)
 
 -- ---- statements on other tables
 
@@ -70,11 +72,12 @@ pub record IsAtHand (hand : Hand) (s : StateOf Content) : Type 0 where
 abbrev pub IsBlind : {R : Type 0} → (Content → List R) → Type 0
 IsBlind f = (change : List Account → List Account) (xs : Content) → f (accounts_to change xs) ≡ f xs
 
--- a change that hangs on no account and changes none, nor what holds of the whole registry
+-- a change that hangs on no account and changes none, nor what holds of the whole registry, nor its days
 pub record IsApart (f : Content → Content) : Type 0 where
   pub accounts : (change : List Account → List Account) (xs : Content)
       → f (accounts_to change xs) ≡ accounts_to change (f xs)
   pub metas : (xs : Content) → (f xs).metas ≡ xs.metas
+  pub days : (xs : Content) → (f xs).days ≡ xs.days
 
 -- ---- steps
 
@@ -106,16 +109,26 @@ pub record KeepsAccount (rows : List Account) (old new : Hand) : Type 0 where
   pub account : IfSome new.account (λ row. rows ≡ row ∷ [])
   pub owed : new.owed ≡ old.owed
   pub meta : new.meta ≡ old.meta
+  pub days : new.days ≡ old.days
 
 pub record KeepsMeta (rows : List Meta) (old new : Hand) : Type 0 where
   pub meta : IfSome new.meta (λ row. rows ≡ row ∷ [])
   pub account : new.account ≡ old.account
   pub owed : new.owed ≡ old.owed
+  pub days : new.days ≡ old.days
 
 pub record RenewsMeta (is_only : Bool) (row : Meta) (old new : Hand) : Type 0 where
   pub meta : IfSome new.meta (λ it. (it ≡ row) × (is_only ≡ true))
   pub account : new.account ≡ old.account
   pub owed : new.owed ≡ old.owed
+  pub days : new.days ≡ old.days
+
+-- the rows that were found are kept, or none
+pub record KeepsDays (rows : List Day) (old new : Hand) : Type 0 where
+  pub days : IfSome new.days (λ it. rows ≡ it)
+  pub account : new.account ≡ old.account
+  pub owed : new.owed ≡ old.owed
+  pub meta : new.meta ≡ old.meta
 
 -- a call by which nothing changes that is seen
 abbrev pub Leaves : {A X : Type 0} → Result A BookFault → StateOf X → StateOf X → Type 0

@@ -1,8 +1,9 @@
 //! Rows that are kept at hand.
-ghost use Rattle.std.specs.Prelude.{◌≡◌, true, ◌∷◌, [], Some, IfOk};
-ghost use Rattle.tables.specs.Hand.{IsSameMeta, IsSameRow, KeepsAccount, KeepsMeta, RenewsMeta, after, has_number, no_row, rows_at};
+ghost use Rattle.std.specs.Prelude.{◌≡◌, true, ◌∷◌, [], Some, None, IfOk};
+ghost use Rattle.tables.specs.Hand.{IsSameMeta, IsSameRow, KeepsAccount, KeepsDays, KeepsMeta, RenewsMeta, after, has_number, no_row, rows_at};
 
 use crate::account::AccountRow;
+use crate::day::{DayRow, copies};
 use crate::meta::MetaRow;
 use basis::list::Seq;
 use rows::Number;
@@ -10,13 +11,14 @@ use sqlite::types::{ToSql, ValueRef};
 use std::alloc::{AllocError, Global};
 use transactions::BookFault;
 
-/// Rows that are kept at hand: that of the account that was read or put last, and that of `meta`.
+/// Rows that are kept at hand: that of the account that was read or put last, that of `meta`, and all of `days`.
 #[derive(Drop)]
 pub(crate) struct Hand {
     pub account: Option<AccountRow>,
     /// Whether the database has the account's row in an older form.
     pub owed: bool,
     pub meta: Option<MetaRow>,
+    pub days: Option<Seq<DayRow>>,
 }
 
 /// The value of a number.
@@ -38,6 +40,7 @@ impl Hand {
             account: None,
             owed: false,
             meta: None,
+            days: None,
         }
     }
 
@@ -144,5 +147,19 @@ impl Hand {
         } else {
             None
         };
+    }
+
+    /// Keeps the rows of `days` that were found.
+    pub fn keep_days(&mut self, rows: &[DayRow], alloc: Global)
+        ensures { KeepsDays rows.now self.old self.new }
+    {
+        self.days = copies(alloc, rows).ok();
+    }
+
+    /// Keeps no rows of `days`.
+    pub fn forget_days(&mut self)
+        ensures { self.new ≡ record self.old { days = None } }
+    {
+        self.days = None;
     }
 }

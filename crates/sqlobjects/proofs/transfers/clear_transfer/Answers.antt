@@ -1,12 +1,25 @@
-use Rattle.std.proofs.Common.{◌∙◌, sym, ap, is_some}
+use Rattle.std.proofs.Common.{◌∙◌, sym, ap, subst, is_some}
 use Rattle.std.specs.List.{list_any}
 use Rattle.sqlite_keyed.specs.Lists.{delete_where}
 use Rattle.tables.specs.Content.{transfers_to}
 use Rattle.tables.specs.Transfer.{Transfer, transfer_with_contact}
 use Rattle.meanings.proofs.StateLemmas.{then-made}
 use Rattle.sqlobjects.specs.Stages.{IsTransferCleared}
-use Rattle.sqlobjects.proofs.TransferLemmas.{cleared}
+use Rattle.sqlobjects.proofs.TransferLemmas.{clear-already, cleared}
 use Rattle.sqlobjects.proofs.transfers.clear_transfer.Goals as goal
+
+pub returns-then-is_empty : goal.returns-then-is_empty
+returns-then-is_empty g c =
+    let found = c.in_ok-rows.ensures in
+    let xs = c.args.store.now.content in
+    record {
+      clean = found.0.clean;
+      before = found.0.before;
+      opened = found.0.opened ∙ c.requires;
+      content = λ e. subst (IsTransferCleared c.args.contact xs) (sym (found.0.content e)) (clear-already c.args.contact xs c.in_ok-rows.rows (found.1 e) (sym c.is_empty.ensures ∙ c.if-is_empty.true));
+      answers = found.0.answers;
+      leaves = found.0.leaves;
+    }
 
 pub returns : goal.returns
 returns g c =

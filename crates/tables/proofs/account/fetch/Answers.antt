@@ -18,4 +18,5 @@ returns-clause-kept g c =
     (subst (λ rows. KeepsAccount rows c.or_forget.new.self c.keep_account.new.self) c.as_slice.ensures c.keep_account.ensures)
     (c.in_ok-rows.ensures.hand ∙ ap (λ r. after r hand) ok) c.requires.nothing
     (λ e. subst (λ (xs : Content). IfSome hand.meta (λ it. xs.metas ≡ it ∷ [])) (sym (found.0.content e)) (c.requires.kept.meta (found.0.clean e)))
+    (λ e. subst (λ (xs : Content). IfSome hand.days (λ rows. xs.days ≡ rows)) (sym (found.0.content e)) (c.requires.kept.days (found.0.clean e)))
     (λ e it h. subst (λ (xs : Content). Has xs.accounts it) (sym (found.0.content e)) (has-found c.in_ok-rows.rows c.args.id old.content.accounts (found.1 e) it h))

@@ -21,4 +21,5 @@ returns-clause-kept g c =
     (subst (λ rows. Rattle.tables.specs.Hand.KeepsAccount rows c.or_forget.new.self c.keep_account.new.self) c.from_ref.ensures.value c.keep_account.ensures)
     (c.in_ok-or_forget.ensures.hand ∙ ap (λ r. after r hand) ok) c.requires.nothing
     (λ e. subst (λ (xs : Content). IfSome hand.meta (λ it. xs.metas ≡ it ∷ [])) (sym (made.content e)) (c.requires.kept.meta (made.clean e)))
+    (λ e. subst (λ (xs : Content). IfSome hand.days (λ rows. xs.days ≡ rows)) (sym (made.content e)) (c.requires.kept.days (made.clean e)))
     (λ e it h. subst (λ (xs : Content). Has xs.accounts it) (sym (made.content e)) (has-made row old.content.accounts it h))
