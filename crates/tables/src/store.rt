@@ -14,10 +14,10 @@ use std::alloc::Global;
 use std::marker::Model;
 use transactions::{BookFault, Ready};
 
-/// The eleven tables in a database, as rows. The row of the account that was read or put last, and that of
-/// `meta`, are kept at hand within a transaction: they are read again without a statement, and an account's
-/// row that is put again and again is written once, before another account's comes to hand or the transaction
-/// is kept.
+/// The eleven tables in a database, as rows. The row of the account that was read or put last, that of `meta`
+/// and all of `days` are kept at hand within a transaction: they are read again without a statement, and an
+/// account's row that is put again and again is written once, before another account's comes to hand or the
+/// transaction is kept.
 #[derive(Drop)]
 pub struct RowStore<S: Alter> {
     pub(crate) base: Base<S>,
@@ -95,7 +95,7 @@ impl<S: Alter> RowStore<S> {
         self.hand.or_forget(found)
     }
 
-    /// Runs a statement that writes rows, of neither `account` nor `meta`, in the open transaction.
+    /// Runs a statement that writes rows, of neither `account` nor `meta` nor `days`, in the open transaction.
     pub(crate) fn write(&mut self, sql: &str, params: &[ValueRef<'_>]) -> Result<(), BookFault>
         requires means { (f : Content → Content) × Alters sql.now (bound params.now) f × IsApart f }
         requires begun { self.old.is_open ≡ true }
