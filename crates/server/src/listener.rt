@@ -6,6 +6,7 @@ ghost use Rattle.store.specs.Book.{Follows};
 use crate::clock::MachineClock;
 use crate::closing::let_go;
 use crate::connection::serve_one;
+use crate::impatient::Impatient;
 use rdap::Routes;
 use registry::Registry;
 use std::alloc::Global;
@@ -80,7 +81,8 @@ fn serve_stream<T: time::Clock, B: Book + Drop>(
     if set_up(stream, silence).is_err() {
         return registry;
     }
-    let served = serve_one(alloc, routes, &mut &*stream, &mut &*stream, clock, registry);
+    let mut writer = Impatient::new(stream);
+    let served = serve_one(alloc, routes, &mut &*stream, &mut writer, clock, registry);
     let_go(alloc, stream, served.end);
     served.registry
 }

@@ -1,9 +1,10 @@
 //! Peers that stand still, that are gone, or that send no more, before others that wait for their turn.
 
 use crate::connections::{ASKED, TOLD};
+use crate::frames::Narrow;
 use crate::serving::{client_of, is_told};
 use fixtures::registry_of;
-use server::{MachineClock, serve_each_within};
+use server::{Impatient, MachineClock, serve_each_within};
 use std::io::{self, Write};
 use std::net::{Ipv4Addr, Net, TcpListener, TcpStream};
 use std::test::Fail;
@@ -75,5 +76,23 @@ fn silent_and_gone(rt: HostRuntime) -> Result<(), Fail> {
         assert!(&rt; is_told(alloc, client, wanted));
     }
     assert!(&rt; is_told(alloc, last, TOLD));
+    Ok(())
+}
+
+/// A write that takes all its bytes, one that is cut short, and then none any more.
+#[test]
+fn behind_a_write_cut_short(rt: HostRuntime) -> Result<(), Fail> {
+    let mut narrow = Narrow {
+        bytes: Vec::new(rt.alloc()),
+        step: 3,
+        writes: usize::MAX,
+        fails: false,
+    };
+    let mut writer = Impatient::new(&mut narrow);
+    let counts = (writer.write(b"abc")?, writer.write(b"defg")?);
+    let is_over = writer.write(b"g").is_err() && writer.write(b"h").is_err();
+    drop(writer);
+    assert!(&rt; counts == (3, 3) && is_over);
+    assert!(&rt; narrow.bytes.as_slice() == b"abcdef".as_slice());
     Ok(())
 }
