@@ -6,7 +6,7 @@ For each number of domains (1,000, 10,000 and 100,000 where none is given) it pr
 
 memory   `tldreg serve` over a database in memory, under the example policy with prices of 0, since no deposit can be
          sent over a connection; no transfers, since the machine's clock doesn't reach the end of a lock
-file     the same over a file, with a deposit and prices
+file     the same over a file, with a deposit and prices, in the folder that TMPDIR names, or in /var/tmp
 
 Each command is a frame, 1,000 of them written at once over loopback, and the time is that until the last reply.
 Beside each stands what the floor says of such a database.
@@ -165,7 +165,7 @@ def main(words):
     program, beneath = words[:2]
     print("where   domains command        ours     floor  ratio")
     for place, domains in enumerate([int(word) for word in words[2:]] or [1000, 10000, 100000]):
-        with tempfile.TemporaryDirectory(dir="/var/tmp") as folder:
+        with tempfile.TemporaryDirectory(dir=os.environ.get("TMPDIR", "/var/tmp")) as folder:
             port = 7700 + 2 * place
             show("memory", domains, in_memory(program, domains, folder, port), floor(beneath, ":memory:", domains))
             floors = floor(beneath, os.path.join(folder, "floor.db"), domains)

@@ -120,7 +120,8 @@ static void bind_for(enum statement which, const struct subject *of) {
         break;
     case LINE_BY_OBJECT: bind(s, "iii", N(1), N(1), of->domain); break;
     case LINE_APPEND:
-        bind(s, "iiiiiiini", of->registrar, N(1), N(1), of->domain, N(1), N(800), of->clock, of->clock);
+        bind(s, "iiiiiiiini", of->registrar, N(1), N(1), of->domain, N(1), N(800), of->clock, of->clock + 5 * day,
+             of->clock);
         break;
     case MESSAGE_SAME: case MESSAGE_APPEND:
         bind(s, "iiiitii", N(1), of->clock, N(1), of->domain, name, N(1), N(1));

@@ -37,7 +37,8 @@ def main():
     print("enum statement { " + ", ".join(name for name, _ in found) + ", STATEMENTS };")
     show("TEXTS", [text for _, text in found])
     show("NAMES", [name for name, _ in found])
-    show("SCHEMA", [text for _, text in texts_of("schema")])
+    # not those of the schema before this one
+    show("SCHEMA", [text for name, text in texts_of("schema") if not name.startswith("FIRST_")])
 
 
 main()
