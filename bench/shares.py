@@ -21,8 +21,8 @@ import make_script
 import rows
 
 JSON = {"eppcommands", "eppforms", "eppreplies", "serde_json"}
-ROWS = {"rows", "tables", "columns", "meanings"}
-ABOVE = {"store", "registry", "eppsessions", "sessions", "server", "tldreg", "script"}
+ROWS = {"sqlrows", "sqltables", "sqlcolumns"}
+ABOVE = {"store", "registry", "mapbook", "eppwire", "frames", "server", "tldreg", "script"}
 DOMAINS = 1000
 COUNTED = 200
 

@@ -4,7 +4,7 @@ usage: python3 statements.py TLDREG FLOOR     (the program as rt ci builds it; t
 
 For a database in memory and one on a file, with 1,000 domains, under the example policy with prices of 0: how often one
 create runs each statement, what one run of it takes, in microseconds, and its part of the create. First ours: a line
-stands for the calls from one function above the database into it (into the crates `tables` and `rows`, or into the
+stands for the calls from one function above the database into it (into the crates `sqltables` and `sqlrows`, or into the
 library where these are compiled away), by callgrind's instructions of 200 creates, as a share of the processor's time of
 a create. What makes less than a hundredth isn't printed, and the last line is what lies outside. Then the floor's
 statements by their names, measured.
@@ -22,7 +22,7 @@ import rows
 import shares
 
 
-BELOW = re.compile(r"[<&]*(tables|rows|sqlite|sqlite_\w*)::")
+BELOW = re.compile(r"[<&]*(sqltables|sqlrows|sqlite|sqlite_\w*)::")
 
 
 def bare(function):

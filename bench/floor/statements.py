@@ -1,13 +1,13 @@
 """Writes the statements of the tables as a C header: python3 statements.py > statements.h, from this folder.
 
-Each constant of crates/tables/src is there under the name of its table and its own, as DOMAIN_BY_NAME, and its
+Each constant of crates/sqltables/src is there under the name of its table and its own, as DOMAIN_BY_NAME, and its
 text in TEXTS, its name in NAMES; the statements that make the tables are the list SCHEMA. OWN are the floor's.
 """
 import json
 import re
 from pathlib import Path
 
-SOURCES = Path(__file__).resolve().parents[2] / "crates" / "tables" / "src"
+SOURCES = Path(__file__).resolve().parents[2] / "crates" / "sqltables" / "src"
 TABLES = ["meta", "account", "contact", "domain", "host", "address", "link", "line", "message", "transfer"]
 OWN = [
     ("DOMAIN_AND_REGISTRANT", "SELECT d.id, d.name, d.creator, d.serial, d.sponsor, d.created, d.years, d.transferred, d.updated, d.statuses, "

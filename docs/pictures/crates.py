@@ -9,14 +9,13 @@ left out. Crates that stand on the database are grouped, and so are programs and
 from pathlib import Path
 
 ROOT = Path(__file__).resolve().parent.parent.parent
-DATABASE = {"sqlite", "rows"}
+DATABASE = {"sqlite", "sqlrows", "sqltables"}
 TESTS = ("tests", "wiretests", "rowtests", "crashtests", "fixtures", "transcripts", "refusals")
 GROUPS = [
     ("values and objects", "#eef3fa", ["basis", "calendar", "names", "policy", "objects", "accounts", "lifecycle"]),
-    ("the wire", "#f3eefa", ["protocol", "eppforms", "eppcommands", "eppreplies", "eppwire", "streams", "eppframes",
-                             "sessions"]),
+    ("the wire", "#f3eefa", ["protocol", "eppforms", "eppcommands", "jsonobjects", "eppreplies", "streams", "frames"]),
     ("the rules", "#e3f3e6", ["model", "facts", "verdict", "rules", "privacy", "concerns"]),
-    ("the book and the registry", "#fbf0e3", ["transactions", "store", "registry", "runs", "eppsessions"]),
+    ("the book and the registry", "#fbf0e3", ["transactions", "store", "mapbook", "registry", "runs", "eppwire"]),
     ("the public", "#e6f4f4", ["zonefile", "rdap", "server"]),
 ]
 
@@ -32,8 +31,14 @@ def read():
 def reached(below):
     """All that a crate stands on, by one arrow or many."""
     all_below = {}
+
+    def of(name):
+        if name not in all_below:
+            all_below[name] = set(below[name]).union(*[of(it) for it in below[name]])
+        return all_below[name]
+
     for name in below:
-        all_below[name] = set(below[name]).union(*[all_below.get(it, set()) for it in below[name]])
+        of(name)
     return all_below
 
 

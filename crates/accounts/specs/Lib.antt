@@ -6,3 +6,4 @@ pub mod Groups
 pub mod LineChanges
 pub mod Queue
 pub mod Entries
+pub mod Counters

@@ -6,6 +6,7 @@
 #![tactic(auto)]
 
 mod account;
+mod counters;
 mod entries;
 mod groups;
 mod line;
@@ -14,6 +15,7 @@ mod message;
 mod queue;
 
 pub use account::{Account, saturating_next};
+pub use counters::Counters;
 pub use entries::{AutoRenewal, LapseEntry, Posting};
 pub use line::{Line, LineChange, LineKind, LineSwap, TransferRefund, TransferStart};
 pub use lines::Lines;

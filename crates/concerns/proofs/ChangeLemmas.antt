@@ -35,10 +35,10 @@ use Rattle.basis.proofs.ChangeLaws.{change_at-commutes}
 use Rattle.basis.proofs.MapLemmas.{entries-map_values, get-map_values, names_apart}
 use Rattle.basis.proofs.SweepLaws.{entries-kept, fold_append, swap}
 use Rattle.lifecycle.specs.declared.change.AccountChange.{AccountChange}
-use Rattle.lifecycle.specs.declared.change.AccountChange.TheVariants.{Charge, RefundRunning, RefundTransfer, Lapse, Tell, Ack, CountCommand, TakeSerial}
+use Rattle.lifecycle.specs.declared.change.AccountChange.TheVariants.{Charge, RefundRunning, RefundTransfer, Lapse, Notify, Ack, CountCommand, TakeSerial}
 use Rattle.lifecycle.specs.declared.change.Notification.{Notification}
 use Rattle.lifecycle.specs.declared.lapsed.Lapsed.{Lapsed}
-use Rattle.lifecycle.specs.Changes.{changed as account_changed, numbered, told_by_command}
+use Rattle.lifecycle.specs.Changes.{changed as account_changed, numbered, notified}
 use Rattle.lifecycle.specs.Lapse.{due_by, lapse, lapse_by, lapse_contact, leaves, lived, purged, renewals}
 use Rattle.lifecycle.specs.Phases.{purge_at}
 use Rattle.lifecycle.specs.Turns.{turns}
@@ -55,7 +55,7 @@ use Rattle.model.specs.Registry.{Registry, account_of}
 use Rattle.model.proofs.LapseLaws.{all-due-lapse-as-all, lapses-on-from-some}
 use Rattle.model.proofs.SweepLemmas.{gives, left, registry}
 use Rattle.rules.specs.declared.change.Change.{Change}
-use Rattle.rules.specs.declared.change.Change.TheVariants.{MoveClock, OpenAccount, PutContact, DropContact, PutDomain, DropDomain, PutHost, DropHost, RenameHost, LapseContact, LapseDomain, Give}
+use Rattle.rules.specs.declared.change.Change.TheVariants.{MoveClock, OpenAccount, PutContact, DropContact, PutDomain, DropDomain, PutHost, DropHost, RenameHost, LapseContact, LapseDomain, Post}
 use Rattle.rules.specs.Changes.{changed, changed_all, with_account, with_host_renamed}
 use Rattle.concerns.specs.declared.given.Names.{Names}
 use Rattle.concerns.specs.Concerns.{IsSettledIn, concerned, is_about, without}
@@ -194,7 +194,7 @@ module _ (p : PolicyRules) where
   refund-swaps x (Start y) off a = ap (with_lines_so a) (remade-swap (transfer_started y) (transfer_refunded x) (refund-start x y off) a.lines)
   refund-swaps x (Notice m) off a = refl
 
-  tell-swaps : (n : Notification) (w : LapseEntry) → Swaps (Tell n) p w
+  tell-swaps : (n : Notification) (w : LapseEntry) → Swaps (Notify n) p w
   tell-swaps n (Renewal r) a = refl
   tell-swaps n (Start x) a = refl
   tell-swaps n (Notice m) a =
@@ -233,7 +233,7 @@ module _ (p : PolicyRules) (r : Option ℕ) (g : Names) (u : Registry) where
   SuitsAny (RefundRunning x) = ⊥
   SuitsAny (RefundTransfer x) = IsNamedRoid x.roid
   SuitsAny (Lapse what) = Unit {0}
-  SuitsAny (Tell n) = Unit {0}
+  SuitsAny (Notify n) = Unit {0}
   SuitsAny (Ack id) = ⊥
   SuitsAny CountCommand = Unit {0}
   SuitsAny TakeSerial = Unit {0}
@@ -252,7 +252,7 @@ module _ (p : PolicyRules) (r : Option ℕ) (g : Names) (u : Registry) where
   Suits (RenameHost old new) = Unit {0}
   Suits (LapseContact name left) = ⊥
   Suits (LapseDomain name left) = ⊥
-  Suits (Give q what) = (r ≡ Some q) ⊎ SuitsAny what
+  Suits (Post q what) = (r ≡ Some q) ⊎ SuitsAny what
 
   abbrev pub AllSuit : List Change → Type 0
   AllSuit [] = Unit {0}
@@ -311,7 +311,7 @@ module _ (p : PolicyRules) (r : Option ℕ) (g : Names) (u : Registry) where
   }
   rest-changed (LapseContact name left) suits v is = absurd suits
   rest-changed (LapseDomain name left) suits v is = absurd suits
-  rest-changed (Give q what) suits v is = record { contacts = is.contacts; domains = is.domains; roids = is.roids }
+  rest-changed (Post q what) suits v is = record { contacts = is.contacts; domains = is.domains; roids = is.roids }
 
   -- ---- what the rest posts
 
@@ -332,7 +332,7 @@ module _ (p : PolicyRules) (r : Option ℕ) (g : Names) (u : Registry) where
   swaps-any (RefundRunning x) suits e aside = absurd suits
   swaps-any (RefundTransfer x) suits e aside = refund-swaps p x e.what (aside x.roid suits)
   swaps-any (Lapse v) suits e aside = lapse-swaps p v e.what
-  swaps-any (Tell n) suits e aside = tell-swaps p n e.what
+  swaps-any (Notify n) suits e aside = tell-swaps p n e.what
   swaps-any (Ack id) suits e aside = absurd suits
   swaps-any CountCommand suits e aside = count-swaps p e.what
   swaps-any TakeSerial suits e aside = serial-swaps p e.what
@@ -374,7 +374,7 @@ module _ (p : PolicyRules) (r : Option ℕ) (g : Names) (u : Registry) where
           (λ x none. post-weaker IsAside (Fits q what) (λ e aside same. swaps-any what suits e aside) (lapse_contact t x).postings (to-aside (lapse_contact t x).postings (λ roid named. completed-off p roid (due_by t x.transfer) x)))
           (λ d none off. post-weaker IsAside (Fits q what) (λ e aside same. swaps-any what suits e aside) (lapse p t d).postings (to-aside (lapse p t d).postings (λ roid named. domain-off p roid t d (off roid named))))
 
-      fits : (q : ℕ) (what : AccountChange) → Suits p r g u (Give q what) → AllPost (Fits q what) (rest_postings v)
+      fits : (q : ℕ) (what : AccountChange) → Suits p r g u (Post q what) → AllPost (Fits q what) (rest_postings v)
       fits q what suits = ⊎_elim (fits-own q what) (fits-any q what) suits
 
     -- ---- each change
@@ -429,7 +429,7 @@ module _ (p : PolicyRules) (r : Option ℕ) (g : Names) (u : Registry) where
         (λ a. ap (fold posted a) (given-mapped fd (with_host_renamed old new) (λ name d. if-renamed p t old new (to_lapse.domains name) d) v.domains))
     commutes (LapseContact name left) suits v is = absurd suits
     commutes (LapseDomain name left) suits v is = absurd suits
-    commutes (Give q what) suits v is = ap (λ (m : FinMap nat_cmp Account). record (lapsed_rest v) { accounts = m }) (give-posted q what (rest_postings v) (fits v is q what suits) v.accounts)
+    commutes (Post q what) suits v is = ap (λ (m : FinMap nat_cmp Account). record (lapsed_rest v) { accounts = m }) (give-posted q what (rest_postings v) (fits v is q what suits) v.accounts)
 
     commute-all : (changes : List Change) → AllSuit p r g u changes → (v : Registry) → IsRest p r g u v → lapsed_rest (changed_all p changes v) ≡ changed_all p changes (lapsed_rest v)
     commute-all [] suit v is = refl
@@ -449,7 +449,7 @@ module _ (p : PolicyRules) (r : Option ℕ) (g : Names) (u : Registry) where
   clock-stands (RenameHost old new) suits v = refl
   clock-stands (LapseContact name left) suits v = absurd suits
   clock-stands (LapseDomain name left) suits v = absurd suits
-  clock-stands (Give q what) suits v = refl
+  clock-stands (Post q what) suits v = refl
 
   clocks-stand : (changes : List Change) → AllSuit p r g u changes → (v : Registry) → (changed_all p changes v).clock ≡ v.clock
   clocks-stand [] suit v = refl

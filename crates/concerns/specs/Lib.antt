@@ -1,3 +1,4 @@
 pub mod Names
 pub mod Concerns
 pub mod ConcernLaws
+pub mod DueFor

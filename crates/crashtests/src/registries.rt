@@ -2,12 +2,12 @@
 //! prover more than it has.
 ghost use Rattle.std.specs.Prelude.{IfOk};
 ghost use Rattle.sqlite.specs.Held.{state};
-ghost use Rattle.tables.specs.Adoption.{IsFound};
+ghost use Rattle.sqltables.specs.Adoption.{IsFound};
 
 use crate::policies::{Under, policy_under};
 use registry::Registry;
 use script::run_on;
-use sqlbook::{Found, SqlBook, Unadopted, into_files, taken};
+use sqlbook::{OnDisk, SqlBook, Unadopted, into_files, taken};
 use sqlite::{Alter, Connection, Error, FileStore, Files, Leftover, Options};
 use sqlite_disk::Disk;
 use std::alloc::Global;
@@ -52,7 +52,7 @@ pub trait KeepsFiles<D: Disk> {
     fn files(self) -> Files<D>;
 }
 
-impl<D: Disk + Drop> KeepsFiles<D> for SqlBook<FileStore<D>, Found> {
+impl<D: Disk + Drop> KeepsFiles<D> for SqlBook<FileStore<D>, OnDisk> {
     fn files(self) -> Files<D> {
         into_files(self)
     }
@@ -90,7 +90,7 @@ fn work_if_opened<D: Disk + Drop, S: Alter + KeepsFiles<D> + Drop, L: KeepsFiles
     work: &Work<'_>,
 ) -> Result<Left<D>, Fail>
 where
-    SqlBook<S, Found>: KeepsFiles<D>,
+    SqlBook<S, OnDisk>: KeepsFiles<D>,
     requires { IfOk opened (λ conn. IsFound (state S.Store conn)) }
 {
     match opened {

@@ -6,9 +6,9 @@ use oldrows::OldRows;
 use sqlbook::{MigrateFault, migrate};
 use sqlite::{Alter, Connection, Error, Files, MemStore, Options};
 use sqlite_disk::Disk;
+use sqltables::{RowStore, Unadopted, create_first};
 use std::alloc::Global;
 use std::test::Fail;
-use tables::{RowStore, Unadopted, create_first};
 
 /// What is printed where all was taken over, and where what keeps one of the two refused.
 pub const TAKEN_OVER: &str = "taken over\n";

@@ -1,9 +1,7 @@
 -- A reply has no float.
-use Rattle.std.proofs.Common.{◌≡◌, ℕ, Bool, false, List, [], ◌∷◌, Option, Some, None, refl, map, codes}
-use Rattle.std.specs.Prelude.{◌||◌, IfSome, option_map, option_and_then, decimal}
-use Rattle.serde_json.specs.Data.{Data, string, array}
-use Rattle.serde_json.specs.View.{items_of}
-use Rattle.serde_json.specs.Written.{has_float, members_have_float}
+use Rattle.std.proofs.Common.{ℕ, List, [], ◌∷◌, Option, Some, None, refl, map, codes}
+use Rattle.std.specs.Prelude.{option_and_then, decimal}
+use Rattle.serde_json.specs.Data.{string}
 use Rattle.protocol.specs.declared.code.Code.{Code}
 use Rattle.protocol.specs.declared.reply.Reply.{Reply}
 use Rattle.protocol.specs.declared.reply.Data as the_data
@@ -16,44 +14,11 @@ use Rattle.protocol.specs.declared.reply.TransferInfo.{TransferInfo}
 use Rattle.objects.specs.declared.contact.Postal.{Postal}
 use Rattle.objects.specs.Graces.{states_of}
 use Rattle.objects.specs.StatusTexts.{status_text, rgp_text}
-use Rattle.eppreplies.specs.Members.{members_with, texts_value, moment_value}
+use Rattle.jsonobjects.proofs.Floats.{ArePlain, IsPlain, items_plain, maybe_moment, maybe_plain, maybe_text, members_plain, texts}
 use Rattle.eppreplies.specs.Answer.{settled_value, answer_members, answer_value}
 use Rattle.eppreplies.specs.Session.{nobodys_members, nobodys_value}
 use Rattle.eppreplies.specs.Greeting.{greeting_value}
 use Rattle.eppreplies.specs.Reply.{reason_text, checked_members, checked_value, checks_value, created_members, balance_members, renewed_members, deleted_members, transferred_members, polled_members, acked_members, transfer_members, transfer_value, postal_members, postal_value, contact_transfer_of, contact_members, host_members, domain_members, data_value, reply_members, reply_value, deleted_of, restore_requested_of, secret_of, transfer_of}
-
-abbrev pub IsPlain : Data → Type 0
-IsPlain d = has_float d ≡ false
-
--- the values that are there are plain
-abbrev pub ArePlain : List (List ℕ × Option Data) → Type 0
-ArePlain [] = Unit {0}
-ArePlain (m ∷ ms) = IfSome m.1 IsPlain × ArePlain ms
-
-either_plain : (a b : Bool) → a ≡ false → b ≡ false → (a || b) ≡ false
-either_plain a b p q = rw (p, q) refl
-
-pub members_plain : (ms : List (List ℕ × Option Data)) → ArePlain ms → members_have_float (members_with ms) ≡ false
-members_plain [] p = refl
-members_plain ((k, None) ∷ ms) p = members_plain ms p.1
-members_plain ((k, Some d) ∷ ms) p = either_plain _ _ p.0 (members_plain ms p.1)
-
-pub items_plain : {X : Type 0} (f : X → Data) (xs : List X) → ((x : X) → IsPlain (f x)) → IsPlain (array (items_of (map f xs)))
-items_plain f [] p = refl
-items_plain f (x ∷ xs) p = either_plain _ _ (p x) (items_plain f xs p)
-
-pub maybe_plain : {X : Type 0} (f : X → Data) (o : Option X) → ((x : X) → IsPlain (f x)) → IfSome (option_map f o) IsPlain
-maybe_plain f None p = tt
-maybe_plain f (Some x) p = p x
-
-pub maybe_text : (o : Option (List ℕ)) → IfSome (option_map string o) IsPlain
-maybe_text o = maybe_plain string o (λ s. refl)
-
-pub maybe_moment : (o : Option ℕ) → IfSome (option_map moment_value o) IsPlain
-maybe_moment o = maybe_plain moment_value o (λ m. refl)
-
-pub texts : (ts : List (List ℕ)) → IsPlain (texts_value ts)
-texts ts = items_plain string ts (λ s. refl)
 
 checked_plain : (c : CheckResult) → IsPlain (checked_value c)
 checked_plain c = members_plain (checked_members c) (refl, (refl, (maybe_plain (λ r. string (reason_text r)) c.reason (λ r. refl), tt)))

@@ -4,7 +4,7 @@ use Rattle.serde_json.specs.Data.{Data, number, unsigned, string, object}
 use Rattle.serde_json.specs.Written.{compact_text}
 use Rattle.protocol.specs.Codes.{number_of, message_of}
 use Rattle.protocol.specs.declared.code.Code.{Code}
-use Rattle.eppreplies.specs.Members.{members_with}
+use Rattle.jsonobjects.specs.Members.{members_with}
 
 abbrev pub settled_value : ℕ → Data
 settled_value done = object (members_with ((codes "done", Some (number (unsigned done))) ∷ []))

@@ -4,7 +4,7 @@ use Rattle.serde_json.specs.Data.{Data, string, object}
 use Rattle.serde_json.specs.Written.{compact_text}
 use Rattle.objects.specs.declared.roid.ObjectKind.TheVariants.{Contact, Domain, Host}
 use Rattle.protocol.specs.Texts.{object_text}
-use Rattle.eppreplies.specs.Members.{members_with, texts_value, moment_value}
+use Rattle.jsonobjects.specs.Members.{members_with, texts_value, moment_value}
 
 -- the kinds of objects that commands are on
 abbrev pub objects_value : Data

@@ -1,5 +1,3 @@
-pub mod Members
-pub mod Item
 pub mod Reply
 pub mod Answer
 pub mod Greeting

@@ -29,7 +29,7 @@ use Rattle.protocol.specs.declared.reply.ContactInfo.{ContactInfo}
 use Rattle.protocol.specs.declared.reply.DomainInfo.{DomainInfo}
 use Rattle.protocol.specs.declared.reply.HostInfo.{HostInfo}
 use Rattle.protocol.specs.declared.reply.TransferInfo.{TransferInfo}
-use Rattle.eppreplies.specs.Members.{members_with, texts_value, moment_value}
+use Rattle.jsonobjects.specs.Members.{members_with, texts_value, moment_value}
 
 -- ---- check (RFC 5731, 3.1.1; RFC 5732, 3.1.1; RFC 5733, 3.1.1)
 

@@ -4,7 +4,7 @@ use Rattle.serde_json.specs.Data.{Data, number, unsigned, string, object}
 use Rattle.serde_json.specs.Written.{compact_text}
 use Rattle.protocol.specs.Codes.{number_of, message_of}
 use Rattle.protocol.specs.declared.code.Code.{Code}
-use Rattle.eppreplies.specs.Members.{members_with}
+use Rattle.jsonobjects.specs.Members.{members_with}
 
 abbrev pub nobodys_members : Option (List ℕ) → Code → List (List ℕ × Option Data)
 nobodys_members cl_trid code =

@@ -3,7 +3,7 @@ ghost use Rattle.std.specs.Prelude.{◌≡◌, IfOk};
 ghost use Rattle.serde_json.specs.View.{view};
 ghost use Rattle.eppreplies.specs.Answer as spec;
 
-use crate::item::{Item, object};
+use jsonobjects::{Item, object};
 use protocol::Code;
 use serde_json::Value;
 use std::alloc::{AllocError, Global};

@@ -2,11 +2,11 @@
 ghost use Rattle.std.specs.Prelude.{◌≡◌, IfOk};
 ghost use Rattle.serde_json.specs.Data.{object};
 ghost use Rattle.serde_json.specs.View.{view};
-ghost use Rattle.eppreplies.specs.Members.{members_with};
+ghost use Rattle.jsonobjects.specs.Members.{members_with};
 ghost use Rattle.eppreplies.specs.Greeting as spec;
 
-use crate::item::{Item, object, texts};
 use calendar::Moment;
+use jsonobjects::{Item, object, texts};
 use objects::ObjectKind;
 use serde_json::Value;
 use std::alloc::{AllocError, Global};

@@ -5,17 +5,14 @@
 //! - `answer`: the answer to an order.
 //! - `greeting`: what answers hello.
 //! - `session`: the replies of nobody's command.
-//! - `item`: what a member says, and an object of members.
 #![tactic(auto)]
 
 mod answer;
 mod greeting;
-mod item;
 mod reply;
 mod session;
 
 pub use answer::order_bytes;
 pub use greeting::greeting_bytes;
-pub use item::{Item, Shown, object, texts};
 pub use reply::reply_bytes;
-pub use session::nobodys_bytes;
+pub use session::anonymous_reply_bytes;

@@ -4,11 +4,11 @@ ghost use Rattle.objects.specs.Roid.{roid_text};
 ghost use Rattle.std.specs.Option.{option_copied};
 ghost use Rattle.serde_json.specs.Data.{string};
 ghost use Rattle.serde_json.specs.View.{view};
-ghost use Rattle.eppreplies.specs.Item.{item_value};
+ghost use Rattle.jsonobjects.specs.Item.{item_value};
 ghost use Rattle.eppreplies.specs.Reply as spec;
 
-use crate::item::{Item, object, states};
 use calendar::Moment;
+use jsonobjects::{Item, object, states};
 use objects::{Deletion, Postal, Roid, TransferState};
 use protocol::{
     CheckResult, ContactInfo, Created, Data, Deleted, DomainInfo, HostInfo, Polled, Reason,

@@ -4,8 +4,8 @@ ghost use Rattle.std.specs.Prelude.{◌≡◌, IfOk};
 ghost use Rattle.serde_json.specs.View.{view};
 ghost use Rattle.eppreplies.specs.Session as spec;
 
-use crate::item::{Item, object};
 use basis::text::Text;
+use jsonobjects::{Item, object};
 use protocol::Code;
 use serde_json::Value;
 use std::alloc::{AllocError, Global};
@@ -14,7 +14,7 @@ use std::alloc::{AllocError, Global};
 const NOBODY: &str = "ANON";
 
 /// The reply of nobody's command: a code, and its text.
-pub fn nobodys_bytes(
+pub fn anonymous_reply_bytes(
     alloc: Global,
     cl_trid: &Option<Text>,
     code: Code,

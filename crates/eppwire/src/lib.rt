@@ -1,6 +1,17 @@
-//! The wire: commands and orders as JSON, and what they are answered. Each name stands in a crate of
-//! its own: `eppcommands` reads, by the forms of `eppforms`, and `eppreplies` writes.
+//! The wire: sessions of EPP with a registry (RFC 5730, 2), who is logged in on a connection, and what
+//! each of its frames is answered.
+//!
+//! A [`Connection`] is the peer of a session: [`serve_session`] asks it for each frame. What it sends a
+//! registrar hangs on nothing that the registrar may not see. Beside it stands all else that the wire
+//! has: frames, and commands, orders and replies as JSON, each of which is made in a crate of its own.
 #![tactic(auto)]
 
+mod answer;
+mod connection;
+mod laws;
+
+pub use connection::Connection;
 pub use eppcommands::{command_of, order_of};
 pub use eppreplies::{greeting_bytes, order_bytes, reply_bytes};
+pub use frames::{Clock, ListClock, SessionEnd, read_frame, serve_session, write_frame};
+pub use laws::{alike_lists_send_the_same, frames_are_isolated, late_frames_fail};

@@ -11,7 +11,7 @@ use Rattle.accounts.specs.Lines.{in_order, transfer_refunded}
 use Rattle.accounts.specs.Queue.{acked, put}
 use Rattle.policy.specs.Rules.{PolicyRules}
 use Rattle.lifecycle.specs.declared.change.AccountChange.{AccountChange}
-use Rattle.lifecycle.specs.declared.change.AccountChange.TheVariants.{Charge, RefundRunning, RefundTransfer, Lapse, Tell, Ack, CountCommand, TakeSerial}
+use Rattle.lifecycle.specs.declared.change.AccountChange.TheVariants.{Charge, RefundRunning, RefundTransfer, Lapse, Notify, Ack, CountCommand, TakeSerial}
 use Rattle.lifecycle.specs.declared.change.Notification.{Notification}
 use Rattle.lifecycle.specs.declared.change.RefundUnder.{RefundUnder}
 use Rattle.lifecycle.specs.declared.change.RunningRefund.{RunningRefund}
@@ -31,8 +31,8 @@ with_running_refunded p r a = with_lines (remade in_order (refunded_by p r)) a
 abbrev pub numbered : ℕ → Notification → Message
 numbered number n = record { moment = n.moment; origin = origins.Command number n.notice; name = n.name; subject = n.subject }
 
-abbrev pub told_by_command : Notification → Account → Account
-told_by_command n a = record a { queue = put (numbered (saturating_next a.messages) n) a.queue; messages = saturating_next a.messages }
+abbrev pub notified : Notification → Account → Account
+notified n a = record a { queue = put (numbered (saturating_next a.messages) n) a.queue; messages = saturating_next a.messages }
 
 abbrev pub with_acked : List ℕ → Account → Account
 with_acked id a = with_queue (acked id) a
@@ -43,7 +43,7 @@ changed p (Charge line) a = with_lines (add in_order line) a
 changed p (RefundRunning r) a = with_running_refunded p r a
 changed p (RefundTransfer r) a = with_lines (remade in_order (transfer_refunded r)) a
 changed p (Lapse what) a = entered what a
-changed p (Tell n) a = told_by_command n a
+changed p (Notify n) a = notified n a
 changed p (Ack id) a = with_acked id a
 changed p CountCommand a = with_command a
 changed p TakeSerial a = with_serial a

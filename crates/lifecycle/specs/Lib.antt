@@ -7,3 +7,5 @@ pub mod Changes
 pub mod Untouched
 pub mod Refunds
 pub mod Transfers
+pub mod DueObjects
+pub mod DueOrder

@@ -39,7 +39,7 @@ pub enum AccountChange {
     RefundRunning(RunningRefund),
     RefundTransfer(TransferRefund),
     Lapse(LapseEntry),
-    Tell(Notification),
+    Notify(Notification),
     /// The oldest message is acknowledged, where this is its identifier.
     Ack(Text),
     CountCommand,
@@ -101,7 +101,7 @@ impl LineChange for RefundUnder<'_> {
 
 /// Puts a message with the recipient's next number into the queue.
 fn tell(notification: Notification, account: &mut Account) -> Result<(), AllocError>
-    ensures ok { OnOk result (account.new ≡ spec.told_by_command notification account.old) }
+    ensures ok { OnOk result (account.new ≡ spec.notified notification account.old) }
     ensures err { OnErr result (account.new ≡ account.old) }
 {
     let number = saturating_next(account.messages);
@@ -145,7 +145,7 @@ pub fn change_account(
             Ok(())
         }
         AccountChange::Lapse(what) => account.enter(what),
-        AccountChange::Tell(notification) => tell(notification, account),
+        AccountChange::Notify(notification) => tell(notification, account),
         AccountChange::Ack(id) => ack(alloc, &id, account),
         AccountChange::CountCommand => {
             account.count_command();

@@ -9,3 +9,4 @@ pub mod WellFormed
 pub mod Standards
 pub mod Money
 pub mod MoneyLaws
+pub mod DueBy

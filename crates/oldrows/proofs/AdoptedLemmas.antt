@@ -12,26 +12,26 @@ use Rattle.sqlite_schema.specs.declared.schema.Table.{Table}
 use Rattle.sqlite_catalog.specs.Listing.{IsSound}
 use Rattle.sqlite.specs.Effect.{Database, IsDatabase}
 use Rattle.sqlite.specs.State.{State, HasCleanDisk}
-use Rattle.tables.specs.Tables.{meta, account, contact, domain, host, address, link, message, transfer}
-use Rattle.tables.specs.FirstTables.{first_line, first_registry}
-use Rattle.tables.specs.Meta.{metas}
-use Rattle.tables.specs.Account.{accounts}
-use Rattle.tables.specs.Contact.{contacts}
-use Rattle.tables.specs.Domain.{domains}
-use Rattle.tables.specs.Host.{hosts}
-use Rattle.tables.specs.Address.{addresses}
-use Rattle.tables.specs.Link.{links}
-use Rattle.tables.specs.Line.{Line}
-use Rattle.tables.specs.Message.{messages}
-use Rattle.tables.specs.Transfer.{transfers}
-use Rattle.tables.specs.Decoding.{meta_in, account_in, contact_in, domain_in, host_in, address_in, link_in, message_in, transfer_in}
-use Rattle.tables.specs.Adoption.{IsFound, IsInOrder}
-use Rattle.tables.proofs.AdoptedLemmas.{schema_once}
-use Rattle.tables.proofs.SoundLemmas.{after_key, holds}
-use Rattle.tables.proofs.StandingLemmas.{honest}
-use Rattle.oldrows.specs.Adoption.{IsSeen, IsSeenAs, IsShapedAs}
-use Rattle.oldrows.specs.Lines.{first_line_in, first_lines, without_end}
-use Rattle.oldrows.specs.Stored.{Fits, IsOld, IsOldContent, old_contents, readiness_of, rows_in, stands}
+use Rattle.sqltables.specs.Tables.{meta, account, contact, domain, host, address, link, message, transfer}
+use Rattle.sqltables.specs.inner.FirstTables.{first_line, first_registry}
+use Rattle.sqltables.specs.Meta.{metas}
+use Rattle.sqltables.specs.Account.{accounts}
+use Rattle.sqltables.specs.Contact.{contacts}
+use Rattle.sqltables.specs.inner.Domain.{domains}
+use Rattle.sqltables.specs.Host.{hosts}
+use Rattle.sqltables.specs.Address.{addresses}
+use Rattle.sqltables.specs.Link.{links}
+use Rattle.sqltables.specs.Line.{Line}
+use Rattle.sqltables.specs.inner.Message.{messages}
+use Rattle.sqltables.specs.Transfer.{transfers}
+use Rattle.sqltables.specs.Decoding.{meta_in, account_in, contact_in, domain_in, host_in, address_in, link_in, message_in, transfer_in}
+use Rattle.sqltables.specs.Adoption.{IsFound, IsInOrder}
+use Rattle.sqltables.proofs.AdoptedLemmas.{schema_once}
+use Rattle.sqltables.proofs.SoundLemmas.{after_key, holds}
+use Rattle.sqltables.proofs.StandingLemmas.{honest}
+use Rattle.oldrows.specs.inner.Adoption.{IsSeen, IsSeenAs, IsShapedAs}
+use Rattle.oldrows.specs.inner.Lines.{first_line_in, first_lines, without_end}
+use Rattle.oldrows.specs.inner.Stored.{Fits, IsOld, IsOldContent, old_contents, readiness_of, rows_in, stands}
 
 endless-read : (rows : List Row) → map without_end (map first_line_in rows) ≡ map first_line_in rows
 endless-read [] = refl

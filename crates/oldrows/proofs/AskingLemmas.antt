@@ -12,15 +12,16 @@ use Rattle.sqlite.specs.Given.{IsPlain}
 use Rattle.sqlite.specs.Listing.{understood}
 use Rattle.sqlite.specs.State.{State, FailsToQuery, HasCleanDisk, IsUnchanged, Shown, Survives}
 use Rattle.sqlite.proofs.Callers.{reads_as}
-use Rattle.rows.specs.Calls.{Stands}
-use Rattle.rows.proofs.SelectLemmas.{same_command}
-use Rattle.rows.proofs.SoundLemmas.{not_queried_open, queried_open, was_open}
-use Rattle.rows.proofs.StandLemmas.{same_if_shown, stands_if_not_shown}
-use Rattle.tables.specs.Content.{Content}
-use Rattle.tables.specs.FirstTables.{first_registry}
-use Rattle.tables.proofs.StandingLemmas.{clean-of, honest, was-honest}
+use Rattle.sqlrows.specs.inner.Calls.{Stands}
+use Rattle.sqlrows.proofs.SelectLemmas.{same_command}
+use Rattle.sqlrows.proofs.SoundLemmas.{not_queried_open, queried_open, was_open}
+use Rattle.sqlrows.proofs.StandLemmas.{same_if_shown, stands_if_not_shown}
+use Rattle.sqltables.specs.Content.{Content}
+use Rattle.sqltables.specs.inner.FirstTables.{first_registry}
+use Rattle.sqltables.proofs.StandingLemmas.{clean-of, honest, was-honest}
 use Rattle.transactions.specs.declared.fault.BookFault.{BookFault}
-use Rattle.oldrows.specs.Stored.{Agrees, Asks, Finds, Fits, IsOld, IsRead, OldState, old_contents, rows_in, stands}
+use Rattle.oldrows.specs.inner.Stored.{Agrees, Asks, Finds, Fits, IsOld, old_contents, rows_in, stands}
+use Rattle.oldrows.specs.Stored.{IsRead, OldState}
 
 -- the database is the same one, and nothing is open
 record IsSame (old new : State) : Type 0 where

@@ -7,13 +7,13 @@ use Rattle.std.specs.declared.cmp.Ordering.{Ordering}
 use Rattle.sqlite_keyed.specs.Keyed.{IsKeyedBy, insert_by}
 use Rattle.sqlite_keyed.proofs.KeyedLemmas.{Less-from_lt}
 use Rattle.sqlite_keyed.proofs.ListLemmas.{all-append, all_both}
-use Rattle.meanings.specs.Calls.{Became}
+use Rattle.sqlrows.specs.Meanings.{HasChanged}
 use Rattle.transactions.specs.declared.fault.BookFault.{BookFault}
 use Rattle.transactions.specs.States.{Makes, StateOf, Writes}
 use Rattle.transactions.proofs.LeavingLemmas.{leaves-on}
-use Rattle.tables.specs.Content.{Content}
+use Rattle.sqltables.specs.Content.{Content}
 use Rattle.oldrows.specs.Stored.{IsRead, OldState}
-use Rattle.oldrows.specs.Copies.{Copies, IsCopied, IsLeft, IsOnItsWay, put_all}
+use Rattle.oldrows.specs.inner.Copies.{Copies, IsCopied, IsLeft, IsOnItsWay, put_all}
 
 -- ---- rows in the order of their numbers
 
@@ -73,8 +73,8 @@ copied-so (Err fault) put rows of from read store written reads same makes = rec
 
 -- one more row
 pub put-more : {X : Type 0} (key : X → ℤ) (to : (List X → List X) → Content → Content) → ((f g : List X → List X) (c : Content) → to g (to f c) ≡ to (λ xs. g (f xs)) c)
-    → (all rest : List X) (row : X) (a b c : StateOf Content) → Became (λ was is. to (put_all key (row ∷ rest)) is ≡ to (put_all key all) was) a b → Writes (to (λ xs. insert_by key xs row) b.content) b c
-    → Became (λ was is. to (put_all key rest) is ≡ to (put_all key all) was) a c
+    → (all rest : List X) (row : X) (a b c : StateOf Content) → HasChanged (λ was is. to (put_all key (row ∷ rest)) is ≡ to (put_all key all) was) a b → Writes (to (λ xs. insert_by key xs row) b.content) b c
+    → HasChanged (λ was is. to (put_all key rest) is ≡ to (put_all key all) was) a c
 put-more key to together all rest row a b c on wrote = record {
   clean = λ e. on.clean (wrote.clean e);
   before = λ e. wrote.before e ∙ on.before (wrote.clean e);
@@ -89,7 +89,7 @@ put-more key to together all rest row a b c on wrote = record {
 
 -- after the last one
 pub all-put : {X : Type 0} (key : X → ℤ) (to : (List X → List X) → Content → Content) → ((c : Content) → to (λ xs. xs) c ≡ c)
-    → (all : List X) (a b : StateOf Content) → Became (λ was is. to (put_all key []) is ≡ to (put_all key all) was) a b → Writes (to (put_all key all) a.content) a b
+    → (all : List X) (a b : StateOf Content) → HasChanged (λ was is. to (put_all key []) is ≡ to (put_all key all) was) a b → Writes (to (put_all key all) a.content) a b
 all-put key to none all a b on = record {
   clean = on.clean;
   before = on.before;

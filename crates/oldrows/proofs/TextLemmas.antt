@@ -6,22 +6,22 @@ use Rattle.sqlite_sql.specs.Term.{Term, col, lit}
 use Rattle.sqlite_keyed.proofs.ListLemmas.{filter_all, all_of}
 use Rattle.sqlite.specs.Listing.{understood}
 use Rattle.sqlite_tied.specs.Compute.{everything}
-use Rattle.rows.specs.Layouts.{IsSelect, select_query}
-use Rattle.rows.proofs.SelectLemmas.{selects}
-use Rattle.tables.specs.FirstTables.{first_registry}
-use Rattle.tables.specs.Meta.{meta_shown, metas}
-use Rattle.tables.specs.Account.{account_shown, accounts}
-use Rattle.tables.specs.Contact.{contact_shown, contacts}
-use Rattle.tables.specs.Domain.{domain_shown, domains}
-use Rattle.tables.specs.Host.{host_shown, hosts}
-use Rattle.tables.specs.Address.{address_shown, addresses}
-use Rattle.tables.specs.Link.{link_shown, links}
-use Rattle.tables.specs.Line.{Line, line_shown}
-use Rattle.tables.specs.Message.{message_shown, messages}
-use Rattle.tables.specs.Transfer.{transfer_shown, transfers}
-use Rattle.oldrows.specs.Stored.{Asks}
-use Rattle.oldrows.specs.Lines.{first_lines, without_end}
-use Rattle.oldrows.specs.Texts.{meta_all, account_all, contact_all, domain_all, host_all, address_all, link_all, line_all, message_all, transfer_all}
+use Rattle.sqlrows.specs.inner.Layouts.{IsSelect, select_query}
+use Rattle.sqlrows.proofs.SelectLemmas.{selects}
+use Rattle.sqltables.specs.inner.FirstTables.{first_registry}
+use Rattle.sqltables.specs.Meta.{meta_shown, metas}
+use Rattle.sqltables.specs.Account.{account_shown, accounts}
+use Rattle.sqltables.specs.Contact.{contact_shown, contacts}
+use Rattle.sqltables.specs.inner.Domain.{domain_shown, domains}
+use Rattle.sqltables.specs.Host.{host_shown, hosts}
+use Rattle.sqltables.specs.Address.{address_shown, addresses}
+use Rattle.sqltables.specs.Link.{link_shown, links}
+use Rattle.sqltables.specs.Line.{Line, line_shown}
+use Rattle.sqltables.specs.inner.Message.{message_shown, messages}
+use Rattle.sqltables.specs.Transfer.{transfer_shown, transfers}
+use Rattle.oldrows.specs.inner.Stored.{Asks}
+use Rattle.oldrows.specs.inner.Lines.{first_lines, without_end}
+use Rattle.oldrows.specs.inner.Texts.{meta_all, account_all, contact_all, domain_all, host_all, address_all, link_all, line_all, message_all, transfer_all}
 
 abbrev meta_columns : List Term
 meta_columns = col 1 0 ∷ col 1 2 ∷ col 1 3 ∷ col 1 4 ∷ col 1 5 ∷ col 1 6 ∷ col 1 7 ∷ col 1 8 ∷ col 1 9 ∷ col 1 10 ∷ col 1 11 ∷ col 1 12 ∷ col 1 13 ∷ col 1 14 ∷ col 1 15 ∷ col 1 16 ∷ col 1 17 ∷ []

@@ -1,5 +1,3 @@
-pub mod Lines
 pub mod Stored
-pub mod Texts
-pub mod Adoption
 pub mod Copies
+pub mod inner

@@ -1,21 +1,20 @@
 //! The rows of each table, as they are copied.
 ghost use Rattle.std.specs.Prelude.{◌≡◌, ℤ, true, List, map, refl, IfOk};
 ghost use Rattle.sqlite_keyed.specs.Keyed.{insert_by};
-ghost use Rattle.tables.specs.Content.{Content};
-ghost use Rattle.oldrows.specs.Stored.{Finds};
+ghost use Rattle.sqltables.specs.Content.{Content};
+ghost use Rattle.oldrows.specs.inner.Stored.{Finds};
 ghost use Rattle.transactions.specs.States.{Makes};
 ghost use Rattle.oldrows.specs.Copies.{renumbered};
 
 use crate::reading::OldRows;
 use basis::list::Seq;
-use meanings::only;
-use rows::Record;
 use sqlite::Alter;
-use std::alloc::Global;
-use tables::{
+use sqlrows::{Record, only};
+use sqltables::{
     AccountRow, AddressRow, ContactRow, DomainRow, HostRow, LineRow, LinkRow, MessageRow, MetaRow,
     RowStore, SCHEMA_NUMBER, TransferRow,
 };
+use std::alloc::Global;
 use transactions::BookFault;
 
 const ACCOUNTS: &str =
@@ -66,8 +65,8 @@ pub trait Copied: Record {
 }
 
 impl Copied for AccountRow {
-    ghost use Rattle.tables.specs.Content.{accounts_to};
-    ghost use Rattle.tables.specs.Account.{accounts};
+    ghost use Rattle.sqltables.specs.inner.Content.{accounts_to};
+    ghost use Rattle.sqltables.specs.Account.{accounts};
 
     ghost key = { accounts.key };
 
@@ -89,8 +88,8 @@ impl Copied for AccountRow {
 }
 
 impl Copied for ContactRow {
-    ghost use Rattle.tables.specs.Content.{contacts_to};
-    ghost use Rattle.tables.specs.Contact.{contacts};
+    ghost use Rattle.sqltables.specs.inner.Content.{contacts_to};
+    ghost use Rattle.sqltables.specs.Contact.{contacts};
 
     ghost key = { contacts.key };
 
@@ -112,8 +111,8 @@ impl Copied for ContactRow {
 }
 
 impl Copied for DomainRow {
-    ghost use Rattle.tables.specs.Content.{domains_to};
-    ghost use Rattle.tables.specs.Domain.{domains};
+    ghost use Rattle.sqltables.specs.inner.Content.{domains_to};
+    ghost use Rattle.sqltables.specs.inner.Domain.{domains};
 
     ghost key = { domains.key };
 
@@ -135,8 +134,8 @@ impl Copied for DomainRow {
 }
 
 impl Copied for HostRow {
-    ghost use Rattle.tables.specs.Content.{hosts_to};
-    ghost use Rattle.tables.specs.Host.{hosts};
+    ghost use Rattle.sqltables.specs.inner.Content.{hosts_to};
+    ghost use Rattle.sqltables.specs.Host.{hosts};
 
     ghost key = { hosts.key };
 
@@ -158,8 +157,8 @@ impl Copied for HostRow {
 }
 
 impl Copied for AddressRow {
-    ghost use Rattle.tables.specs.Content.{addresses_to};
-    ghost use Rattle.tables.specs.Address.{addresses};
+    ghost use Rattle.sqltables.specs.inner.Content.{addresses_to};
+    ghost use Rattle.sqltables.specs.Address.{addresses};
 
     ghost key = { addresses.key };
 
@@ -181,8 +180,8 @@ impl Copied for AddressRow {
 }
 
 impl Copied for LinkRow {
-    ghost use Rattle.tables.specs.Content.{links_to};
-    ghost use Rattle.tables.specs.Link.{links};
+    ghost use Rattle.sqltables.specs.inner.Content.{links_to};
+    ghost use Rattle.sqltables.specs.Link.{links};
 
     ghost key = { links.key };
 
@@ -204,8 +203,8 @@ impl Copied for LinkRow {
 }
 
 impl Copied for LineRow {
-    ghost use Rattle.tables.specs.Content.{lines_to};
-    ghost use Rattle.tables.specs.Line.{lines};
+    ghost use Rattle.sqltables.specs.inner.Content.{lines_to};
+    ghost use Rattle.sqltables.specs.Line.{lines};
 
     ghost key = { lines.key };
 
@@ -227,8 +226,8 @@ impl Copied for LineRow {
 }
 
 impl Copied for MessageRow {
-    ghost use Rattle.tables.specs.Content.{messages_to};
-    ghost use Rattle.tables.specs.Message.{messages};
+    ghost use Rattle.sqltables.specs.inner.Content.{messages_to};
+    ghost use Rattle.sqltables.specs.inner.Message.{messages};
 
     ghost key = { messages.key };
 
@@ -250,8 +249,8 @@ impl Copied for MessageRow {
 }
 
 impl Copied for TransferRow {
-    ghost use Rattle.tables.specs.Content.{transfers_to};
-    ghost use Rattle.tables.specs.Transfer.{transfers};
+    ghost use Rattle.sqltables.specs.inner.Content.{transfers_to};
+    ghost use Rattle.sqltables.specs.Transfer.{transfers};
 
     ghost key = { transfers.key };
 
@@ -274,8 +273,8 @@ impl Copied for TransferRow {
 
 impl Copied for MetaRow {
     ghost use Rattle.std.specs.Prelude.{map};
-    ghost use Rattle.tables.specs.Content.{metas_to};
-    ghost use Rattle.tables.specs.Meta.{metas};
+    ghost use Rattle.sqltables.specs.inner.Content.{metas_to};
+    ghost use Rattle.sqltables.specs.Meta.{metas};
     ghost use Rattle.oldrows.specs.Copies.{renumbered};
 
     ghost key = { metas.key };

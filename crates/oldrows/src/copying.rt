@@ -1,12 +1,12 @@
 //! Rows, copied into the same tables of today.
 ghost use Rattle.std.specs.Prelude.{◌≡◌, true};
-ghost use Rattle.oldrows.specs.Copies.{Copies, put_all, put_of, put_of_all};
+ghost use Rattle.oldrows.specs.inner.Copies.{Copies, put_all, put_of, put_of_all};
 ghost use Rattle.transactions.specs.States.{Makes};
 
 use crate::copied::Copied;
 use crate::reading::OldRows;
 use sqlite::Alter;
-use tables::{
+use sqltables::{
     AccountRow, AddressRow, ContactRow, DomainRow, HostRow, LineRow, LinkRow, MessageRow, MetaRow,
     RowStore, TransferRow,
 };

@@ -1,15 +1,15 @@
 //! A database with the tables of the schema before this one.
 ghost use Rattle.std.specs.Prelude.{◌≡◌, ◌≢◌, true, false, List, map, IfOk};
-ghost use Rattle.oldrows.specs.Adoption.{is_first};
-ghost use Rattle.tables.specs.FirstTables.{first_registry};
+ghost use Rattle.oldrows.specs.inner.Adoption.{is_first};
+ghost use Rattle.sqltables.specs.inner.FirstTables.{first_registry};
 
 use basis::list::Seq;
-use rows::{Record, begin, is_schema};
 use sqlite::{Alter, Connection, Error};
 use sqlite_schema::schema::Schema;
+use sqlrows::{Record, begin, is_schema};
+use sqltables::{MetaRow, create_first, fault_of, read_all, reread};
 use std::alloc::Global;
 use std::marker::Model;
-use tables::{MetaRow, create_first, fault_of, read_all, reread};
 use transactions::{BookFault, Ready};
 
 /// The number of the schema before this one, which the row of `meta` keeps.
@@ -29,7 +29,8 @@ pub struct OldRows<S: Alter> {
 
 impl<S: Alter> Model for OldRows<S> {
     ghost use Rattle.sqlite.specs.Held.{state};
-    ghost use Rattle.oldrows.specs.Stored.{Fits, OldState, stands};
+    ghost use Rattle.oldrows.specs.inner.Stored.{Fits, stands};
+    ghost use Rattle.oldrows.specs.Stored.{OldState};
 
     ghost Value = { OldState };
 
@@ -70,8 +71,8 @@ fn is_first(metas: &[MetaRow]) -> bool
 impl<S: Alter> OldRows<S> {
     ghost use Rattle.sqlite.specs.Given.{IsPlain};
     ghost use Rattle.sqlite.specs.Listing.{understood};
-    ghost use Rattle.tables.specs.Content.{Content};
-    ghost use Rattle.oldrows.specs.Stored.{Asks, Finds, IsOldContent};
+    ghost use Rattle.sqltables.specs.Content.{Content};
+    ghost use Rattle.oldrows.specs.inner.Stored.{Asks, Finds, IsOldContent};
 
     /// The records that the rows of a query show.
     pub(crate) fn select<R: Record>(&mut self, sql: &str) -> Result<Seq<R>, BookFault>
@@ -124,8 +125,8 @@ impl<S: Alter + Drop> OldRows<S> {
     ghost use Rattle.sqlite.specs.Held.{state};
     ghost use Rattle.sqlite.specs.State.{HasCleanDisk};
     ghost use Rattle.sqlite_trees.specs.Tree.{Trees};
-    ghost use Rattle.tables.specs.Adoption.{IsFound};
-    ghost use Rattle.oldrows.specs.Adoption.{IsAdopted, IsSeen};
+    ghost use Rattle.sqltables.specs.Adoption.{IsFound};
+    ghost use Rattle.oldrows.specs.inner.Adoption.{IsAdopted, IsSeen};
 
     /// The rows of a database that was read anew, by its tables alone.
     fn over(conn: Connection<S>, alloc: Global) -> Result<OldRows<S>, BookFault>

@@ -20,7 +20,7 @@ use Rattle.accounts.proofs.LineLaws.{lines_in_order}
 use Rattle.basis.specs.Bag.{add, bag_of, precedes, remade}
 use Rattle.basis.proofs.BagLaws.{filter-bag_of}
 use Rattle.lifecycle.specs.declared.change.AccountChange.{AccountChange}
-use Rattle.lifecycle.specs.declared.change.AccountChange.TheVariants.{Charge, RefundRunning, RefundTransfer, Lapse, Tell, Ack, CountCommand, TakeSerial}
+use Rattle.lifecycle.specs.declared.change.AccountChange.TheVariants.{Charge, RefundRunning, RefundTransfer, Lapse, Notify, Ack, CountCommand, TakeSerial}
 use Rattle.lifecycle.specs.declared.change.RunningRefund.{RunningRefund}
 use Rattle.lifecycle.specs.Changes.{changed, refunded_by}
 use Rattle.lifecycle.specs.Graces.{gives, graces, period_of, runs, runs_from}
@@ -203,7 +203,7 @@ left_changed p (Charge line) a = with_lines (λ lines. cond (is_charge line) (ad
 left_changed p (RefundRunning x) a = changed p (RefundRunning x) a
 left_changed p (RefundTransfer x) a = changed p (RefundTransfer x) a
 left_changed p (Lapse what) a = changed p (Lapse what) a
-left_changed p (Tell n) a = changed p (Tell n) a
+left_changed p (Notify n) a = changed p (Notify n) a
 left_changed p (Ack id) a = changed p (Ack id) a
 left_changed p CountCommand a = changed p CountCommand a
 left_changed p TakeSerial a = changed p TakeSerial a
@@ -219,7 +219,7 @@ changed-left p (Charge line) a = ap (λ (lines : List Line). record a { lines = 
 changed-left p (RefundRunning x) a = ap (λ (lines : List Line). record a { lines = lines }) (remade-left (refunded_by p x) (refund-kind p x) a.lines)
 changed-left p (RefundTransfer x) a = ap (λ (lines : List Line). record a { lines = lines }) (remade-left (transfer_refunded x) (λ l. turned-kind _ l (record l { refunded = Some x.moment }) refl) a.lines)
 changed-left p (Lapse what) a = entered-left what a
-changed-left p (Tell n) a = refl
+changed-left p (Notify n) a = refl
 changed-left p (Ack id) a = refl
 changed-left p CountCommand a = refl
 changed-left p TakeSerial a = refl

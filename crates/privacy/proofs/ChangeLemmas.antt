@@ -20,7 +20,7 @@ use Rattle.objects.specs.declared.contact.Contact.{Contact}
 use Rattle.objects.specs.declared.domain.Domain.{Domain}
 use Rattle.policy.specs.Rules.{PolicyRules}
 use Rattle.rules.specs.declared.change.Change.{Change}
-use Rattle.rules.specs.declared.change.Change.TheVariants.{MoveClock, OpenAccount, PutContact, DropContact, PutDomain, DropDomain, PutHost, DropHost, RenameHost, LapseContact, LapseDomain, Give}
+use Rattle.rules.specs.declared.change.Change.TheVariants.{MoveClock, OpenAccount, PutContact, DropContact, PutDomain, DropDomain, PutHost, DropHost, RenameHost, LapseContact, LapseDomain, Post}
 use Rattle.rules.specs.Changes.{changed, changed_all, itself, with_host_renamed}
 use Rattle.privacy.specs.Redaction.{Objects, AreOne, is_charge, redacted, redacted_account, redacted_contact, redacted_domain, without_deposits}
 use Rattle.privacy.proofs.AccountLemmas.{account-changed, account-entered, deposited-left}
@@ -108,7 +108,7 @@ module _ (p : PolicyRules) (r : ℕ) (touched : Objects) where
         ∙ sym (ap (λ (m : Named Domain). record (redacted r touched t) { domains = m }) (domains-insert t.domains d.name d));
   }
 
-  pub give-alike : (q : ℕ) (x y : AccountChange) → ChangesAlike r q (account_changed p x) (account_changed p y) → IsAlikeChange p r touched (Give q x) (Give q y)
+  pub give-alike : (q : ℕ) (x y : AccountChange) → ChangesAlike r q (account_changed p x) (account_changed p y) → IsAlikeChange p r touched (Post q x) (Post q y)
   give-alike q x y alike = record {
     leaves = λ s t one i. record (one i) {
       accounts = account-alike r q (account_changed p x) (account_changed p y) alike s.accounts t.accounts (ap (λ (z : Registry). z.accounts) one) i;
@@ -158,7 +158,7 @@ module _ (p : PolicyRules) (r : ℕ) (touched : Objects) where
       ∙ sym (ap (λ (m : Named Domain). record (redacted r touched t) { domains = m }) (domains-renamed old new t.domains))
   same-left (LapseContact name left) s t one = contact-left-by name left s t one
   same-left (LapseDomain name left) s t one = domain-left-by name left s t one
-  same-left (Give q what) s t one = (give-alike q what what (given-alike p r q what)).leaves s t one
+  same-left (Post q what) s t one = (give-alike q what what (given-alike p r q what)).leaves s t one
 
   pub same-change : (x : Change) → IsAlikeChange p r touched x x
   same-change x = record { leaves = same-left x }

@@ -54,7 +54,7 @@ use Rattle.protocol.specs.declared.transfer.TransferOp.{TransferOp}
 use Rattle.protocol.specs.declared.transfer.TransferOp.TheVariants as ops
 use Rattle.protocol.specs.Requests.{asks_of, holds_of, presented, presented_contact}
 use Rattle.rules.specs.declared.change.Change.{Change}
-use Rattle.rules.specs.declared.change.Change.TheVariants.{DropDomain, PutContact, PutDomain, PutHost, Give}
+use Rattle.rules.specs.declared.change.Change.TheVariants.{DropDomain, PutContact, PutDomain, PutHost, Post}
 use Rattle.rules.specs.Decisions.{changes_of, charge, contact_changes, deleted_domain, deletion_at, deletion_changes, domain_changes, host_changes, new_contact, new_domain, new_host, new_roid, or_old, renewal_changes, renewed_domain, report_changes, restore_changes, restored_domain, restoring_domain, updated_contact, updated_domain}
 use Rattle.rules.specs.Transfers.{contact_transfer_changes, contact_transferred_if, domain_transfer_changes, domain_transferred_if}
 use Rattle.rules.proofs.CommandLemmas.{at-itself}
@@ -149,24 +149,24 @@ module _ (p : PolicyRules) (r q : ℕ) (other : q ≢ r) (touched : Objects) (s 
   -- ---- creates
 
   create-contact : (new : NewContact) → let f = here (requests.CreateContact new) in let g = there (requests.CreateContact new) in
-      AreAlike (PutContact (new_contact q s.clock f new) ∷ Give q TakeSerial ∷ []) (PutContact (new_contact q s.clock g new) ∷ Give q TakeSerial ∷ [])
+      AreAlike (PutContact (new_contact q s.clock f new) ∷ Post q TakeSerial ∷ []) (PutContact (new_contact q s.clock g new) ∷ Post q TakeSerial ∷ [])
   unfolding serial_at
-  create-contact new = equal-lists p r touched _ _ (λ i. PutContact (new_contact q s.clock (serial_at (here (requests.CreateContact new)) (same-serial i)) new) ∷ Give q TakeSerial ∷ [])
+  create-contact new = equal-lists p r touched _ _ (λ i. PutContact (new_contact q s.clock (serial_at (here (requests.CreateContact new)) (same-serial i)) new) ∷ Post q TakeSerial ∷ [])
 
   create-host : (new : NewHost) → let f = here (requests.CreateHost new) in let g = there (requests.CreateHost new) in
-      AreAlike (PutHost (new_host p.zone q s.clock f new) ∷ Give q TakeSerial ∷ []) (PutHost (new_host p.zone q s.clock g new) ∷ Give q TakeSerial ∷ [])
+      AreAlike (PutHost (new_host p.zone q s.clock f new) ∷ Post q TakeSerial ∷ []) (PutHost (new_host p.zone q s.clock g new) ∷ Post q TakeSerial ∷ [])
   unfolding serial_at
-  create-host new = equal-lists p r touched _ _ (λ i. PutHost (new_host p.zone q s.clock (serial_at (here (requests.CreateHost new)) (same-serial i)) new) ∷ Give q TakeSerial ∷ [])
+  create-host new = equal-lists p r touched _ _ (λ i. PutHost (new_host p.zone q s.clock (serial_at (here (requests.CreateHost new)) (same-serial i)) new) ∷ Post q TakeSerial ∷ [])
 
   abbrev domain_charge : NewDomain → Facts → Change
   domain_charge new f = charge lines.Create p q s.clock (new_roid kinds.Domain q f) (requests.CreateDomain new) f
 
   create-domain : (new : NewDomain) → let f = here (requests.CreateDomain new) in let g = there (requests.CreateDomain new) in
-      AreAlike (PutDomain (new_domain q s.clock f new) ∷ Give q TakeSerial ∷ domain_charge new f ∷ []) (PutDomain (new_domain q s.clock g new) ∷ Give q TakeSerial ∷ domain_charge new g ∷ [])
+      AreAlike (PutDomain (new_domain q s.clock f new) ∷ Post q TakeSerial ∷ domain_charge new f ∷ []) (PutDomain (new_domain q s.clock g new) ∷ Post q TakeSerial ∷ domain_charge new g ∷ [])
   unfolding serial_at
   create-domain new =
       let f : ℕ → Facts = serial_at (here (requests.CreateDomain new)) in
-      equal-lists p r touched _ _ (λ i. PutDomain (new_domain q s.clock (f (same-serial i)) new) ∷ Give q TakeSerial ∷ domain_charge new (f (same-serial i)) ∷ [])
+      equal-lists p r touched _ _ (λ i. PutDomain (new_domain q s.clock (f (same-serial i)) new) ∷ Post q TakeSerial ∷ domain_charge new (f (same-serial i)) ∷ [])
 
   -- what the caller creates isn't the registrar's
   new-out : (roid : Roid) → touched roid ≡ true → is_redacted r touched roid q None ≡ true
@@ -180,8 +180,8 @@ module _ (p : PolicyRules) (r q : ℕ) (other : q ≢ r) (touched : Objects) (s 
   other_contact h new = record new { secret = or_old h.secret new.secret; postal = or_old h.postal new.postal; voice = h.voice; mail = or_old h.mail new.mail }
 
   create-contact-hidden : (h : Hidden) (new : NewContact) → let f = here (requests.CreateContact new) in let g = there (requests.CreateContact (other_contact h new)) in
-      ((roid : Roid) → list_any (puts roid) (PutContact (new_contact q s.clock f new) ∷ Give q TakeSerial ∷ []) ≡ true → touched roid ≡ true)
-      → AreAlike (PutContact (new_contact q s.clock f new) ∷ Give q TakeSerial ∷ []) (PutContact (new_contact q s.clock g (other_contact h new)) ∷ Give q TakeSerial ∷ [])
+      ((roid : Roid) → list_any (puts roid) (PutContact (new_contact q s.clock f new) ∷ Post q TakeSerial ∷ []) ≡ true → touched roid ≡ true)
+      → AreAlike (PutContact (new_contact q s.clock f new) ∷ Post q TakeSerial ∷ []) (PutContact (new_contact q s.clock g (other_contact h new)) ∷ Post q TakeSerial ∷ [])
   unfolding serial_at
   create-contact-hidden h new marks =
       let f : ℕ → Facts = serial_at (here (requests.CreateContact new)) in
@@ -198,8 +198,8 @@ module _ (p : PolicyRules) (r q : ℕ) (other : q ≢ r) (touched : Objects) (s 
   other_domain h new = record new { secret = or_old h.secret new.secret }
 
   create-domain-hidden : (h : Hidden) (new : NewDomain) → let f = here (requests.CreateDomain new) in let g = there (requests.CreateDomain (other_domain h new)) in
-      ((roid : Roid) → list_any (puts roid) (PutDomain (new_domain q s.clock f new) ∷ Give q TakeSerial ∷ domain_charge new f ∷ []) ≡ true → touched roid ≡ true)
-      → AreAlike (PutDomain (new_domain q s.clock f new) ∷ Give q TakeSerial ∷ domain_charge new f ∷ []) (PutDomain (new_domain q s.clock g (other_domain h new)) ∷ Give q TakeSerial ∷ domain_charge (other_domain h new) g ∷ [])
+      ((roid : Roid) → list_any (puts roid) (PutDomain (new_domain q s.clock f new) ∷ Post q TakeSerial ∷ domain_charge new f ∷ []) ≡ true → touched roid ≡ true)
+      → AreAlike (PutDomain (new_domain q s.clock f new) ∷ Post q TakeSerial ∷ domain_charge new f ∷ []) (PutDomain (new_domain q s.clock g (other_domain h new)) ∷ Post q TakeSerial ∷ domain_charge (other_domain h new) g ∷ [])
   unfolding serial_at
   create-domain-hidden h new marks =
       let f : ℕ → Facts = serial_at (here (requests.CreateDomain new)) in
@@ -349,7 +349,7 @@ module _ (p : PolicyRules) (r q : ℕ) (other : q ≢ r) (touched : Objects) (s 
 
   -- the charge of a report, of so many years
   report_charge : Roid → ℕ → Change
-  report_charge roid n = Give q (Charge (record {
+  report_charge roid n = Post q (Charge (record {
     kind = lines.Restore;
     roid = Some roid;
     recorded = s.clock;
@@ -410,7 +410,7 @@ module _ (p : PolicyRules) (r q : ℕ) (other : q ≢ r) (touched : Objects) (s 
         alike-then p r touched _ _ _ (ended-natural (standing_of p s c).graces.add (name_of name) years c)
             (alike-then p r touched _ _ _ (equal-change _ _ (λ i. ended_as (standing i).graces.add (name_of name) (back i).years (same i)))
             (alike-turned p r touched _ _ (ended-natural (standing_of p t d).graces.add (name_of name) years_too d))),
-        (equal-change _ _ (λ i. Give q (RefundRunning (refund_at s.clock (same i)))), tt),
+        (equal-change _ _ (λ i. Post q (RefundRunning (refund_at s.clock (same i)))), tt),
       ))))
 
   -- ---- transfers of contacts

@@ -30,7 +30,7 @@ use Rattle.protocol.specs.declared.order.StatusOrder.{StatusOrder}
 use Rattle.protocol.specs.Orders.{name_ordered}
 use Rattle.protocol.specs.Requests.{asks_of}
 use Rattle.rules.specs.declared.change.Change.{Change}
-use Rattle.rules.specs.declared.change.Change.TheVariants.{Give, PutContact}
+use Rattle.rules.specs.declared.change.Change.TheVariants.{Post, PutContact}
 use Rattle.rules.specs.Changes.{changed_all}
 use Rattle.rules.specs.Decisions.{changes_after, changes_of}
 use Rattle.rules.specs.Orders.{cents_of, deposit_line, deposited, deposited_to, order_answer, order_changes, order_effect, ordered}
@@ -105,12 +105,12 @@ module _ (p : PolicyRules) (r q : ℕ) (other : q ≢ r) (touched : Objects) (s 
 
     other-asked : AreOne r touched (effect p q asked s) (effect p q asked_too t)
     other-asked = changed-alike p r touched (decision p q asked s).changes (decision p q asked_too t).changes
-        (same-change p r touched (Give q CountCommand), after-by (refusal_of p q s.clock request here) (refusal_of p q t.clock request_too there) refl refl) s t one
+        (same-change p r touched (Post q CountCommand), after-by (refusal_of p q s.clock request here) (refusal_of p q t.clock request_too there) refl refl) s t one
 
 module _ (p : PolicyRules) (r q : ℕ) (other : q ≢ r) (touched : Objects) (s t : Registry) (one : AreOne r touched s t) where
   pub other-command : (c : Command) → (answer p q c s).code ≡ (answer p q c t).code → AreOne r touched (effect p q c s) (effect p q c t)
   unfolding changes_after
-  other-command (Bad cl_trid fault) codes = changed-alike p r touched (decision p q (Bad cl_trid fault) s).changes (decision p q (Bad cl_trid fault) t).changes (same-change p r touched (Give q CountCommand), tt) s t one
+  other-command (Bad cl_trid fault) codes = changed-alike p r touched (decision p q (Bad cl_trid fault) s).changes (decision p q (Bad cl_trid fault) t).changes (same-change p r touched (Post q CountCommand), tt) s t one
   other-command (Asked cl_trid request) codes = other-asked p r q other touched s t one cl_trid request request codes (same-request p r q other touched s t one cl_trid request)
 
 either-way : (a b : Bool) → b ≡ true → (a || b) ≡ true

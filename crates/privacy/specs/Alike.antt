@@ -19,7 +19,7 @@ use Rattle.protocol.specs.declared.command.Request.TheVariants.{Balance, CheckCo
 use Rattle.protocol.specs.declared.order.Order.TheVariants.{Deposit}
 use Rattle.protocol.specs.Requests.{asks_of, presented, presented_contact}
 use Rattle.rules.specs.declared.change.Change.{Change}
-use Rattle.rules.specs.declared.change.Change.TheVariants.{MoveClock, OpenAccount, PutContact, DropContact, PutDomain, DropDomain, PutHost, DropHost, RenameHost, LapseContact, LapseDomain, Give}
+use Rattle.rules.specs.declared.change.Change.TheVariants.{MoveClock, OpenAccount, PutContact, DropContact, PutDomain, DropDomain, PutHost, DropHost, RenameHost, LapseContact, LapseDomain, Post}
 use Rattle.rules.specs.Decisions.{or_old}
 use Rattle.rules.specs.Steps.{decision}
 use Rattle.privacy.specs.Redaction.{Objects}
@@ -108,7 +108,7 @@ puts roid (DropHost name) = false
 puts roid (RenameHost old new) = false
 puts roid (LapseContact name left) = false
 puts roid (LapseDomain name left) = false
-puts roid (Give r what) = false
+puts roid (Post r what) = false
 
 -- A command that sets other hidden data, as creates and updates do, touches the objects that it puts. One
 -- that presents a secret sets none; and two secrets of one object can both be right only where it is touched

@@ -4,7 +4,7 @@ use Rattle.std.specs.Prelude.{◌||◌, IfSome, map}
 use Rattle.serde_json.specs.Data.{Data, array}
 use Rattle.serde_json.specs.View.{items_of}
 use Rattle.serde_json.specs.Written.{has_float}
-use Rattle.eppreplies.proofs.Floats.{IsPlain, items_plain, members_plain, texts}
+use Rattle.jsonobjects.proofs.Floats.{IsPlain, items_plain, members_plain, texts}
 use Rattle.names.specs.Canonical.{unicode_of}
 use Rattle.names.specs.declared.fault.NameFault.{NameFault}
 use Rattle.names.specs.Reading.{or_syntax}

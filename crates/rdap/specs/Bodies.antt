@@ -6,7 +6,7 @@ use Rattle.std.specs.Str.{bytes_eq}
 use Rattle.serde_json.specs.Data.{Data, string, array, object}
 use Rattle.serde_json.specs.View.{items_of}
 use Rattle.serde_json.specs.Written.{compact_text}
-use Rattle.eppreplies.specs.Members.{members_with, texts_value, moment_value}
+use Rattle.jsonobjects.specs.Members.{members_with, texts_value, moment_value}
 use Rattle.names.specs.Addresses.{has_colon}
 use Rattle.names.specs.Canonical.{unicode_of}
 use Rattle.names.specs.declared.fault.NameFault.{NameFault}

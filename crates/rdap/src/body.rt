@@ -3,13 +3,13 @@ ghost use Rattle.std.specs.Prelude.{◌≡◌, ◌++◌, IfOk, OnOk, map};
 ghost use Rattle.serde_json.specs.Data.{string};
 ghost use Rattle.serde_json.specs.View.{view};
 ghost use Rattle.objects.specs.Roid.{roid_text};
-ghost use Rattle.eppreplies.specs.Members.{texts_value};
+ghost use Rattle.jsonobjects.specs.Members.{texts_value};
 ghost use Rattle.rdap.specs.Bodies as spec;
 ghost use Rattle.rdap.specs.StatusWords.{status_words};
 
 use crate::status::status_words;
 use calendar::Moment;
-use eppreplies::{Item, object, texts};
+use jsonobjects::{Item, object, texts};
 use objects::{Rgp, Roid, Status};
 use serde_json::Value;
 use std::alloc::{AllocError, Global};

@@ -9,7 +9,7 @@ use crate::body::{Dates, conformance, events_value, roid_value, words_value};
 use basis::list::Seq;
 use basis::registrar::RegistrarNo;
 use basis::text::Text;
-use eppreplies::{Item, Shown, object, texts};
+use jsonobjects::{Item, Shown, object, texts};
 use names::DomainName;
 use objects::{DomainFace, Links, Standing, Status, has_name, in_order};
 use policy::Policy;

@@ -4,7 +4,7 @@ ghost use Rattle.serde_json.specs.View.{view};
 ghost use Rattle.rdap.specs.Bodies as spec;
 
 use crate::body::{Dates, conformance, events_value, words_value};
-use eppreplies::{Item, object};
+use jsonobjects::{Item, object};
 use objects::ContactFace;
 use serde_json::Value;
 use std::alloc::{AllocError, Global};

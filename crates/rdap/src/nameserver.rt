@@ -1,12 +1,12 @@
 //! Nameservers (RFC 9083, 5.2).
 ghost use Rattle.std.specs.Prelude.{◌≡◌, IfOk, Some};
 ghost use Rattle.serde_json.specs.View.{view};
-ghost use Rattle.eppreplies.specs.Item.{item_value};
+ghost use Rattle.jsonobjects.specs.Item.{item_value};
 ghost use Rattle.rdap.specs.Bodies as spec;
 
 use crate::body::{Dates, conformance, events_value, roid_value, words_value};
 use basis::text::Text;
-use eppreplies::{Item, object, texts};
+use jsonobjects::{Item, object, texts};
 use names::HostName;
 use objects::HostFace;
 use serde_json::Value;

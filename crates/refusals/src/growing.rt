@@ -5,10 +5,11 @@ use crate::cases::{LOOKS, PRELUDE};
 use crate::refusing::{Kind, Script, Tried, replies_to, sent, try_script};
 use anyhow::{Result, bail};
 use fixtures::{POLICY, policy_of};
+use mapbook::PlainBook;
 use registry::Registry;
 use sqlbook::in_memory;
 use std::alloc::Global;
-use store::{Book, PlainBook};
+use store::Book;
 
 /// What was found of a line.
 #[derive(Clone, Copy)]
@@ -57,7 +58,7 @@ pub fn find(alloc: Global, kind: Kind, line: &str, stops: bool) -> Result<Found>
             Ok(book) => found_over(alloc, book, line, stops, &expected),
             Err(_) => bail!("no memory for a database"),
         },
-        Kind::Maps => found_over(alloc, PlainBook::new(alloc), line, stops, &expected),
+        Kind::Maps => found_over(alloc, mapbook::new_book(alloc), line, stops, &expected),
     }
 }
 

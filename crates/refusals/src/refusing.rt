@@ -4,11 +4,12 @@ ghost use Rattle.std.specs.Prelude.{◌≡◌, false};
 use crate::cases::{LOOKS, PRELUDE};
 use anyhow::{Result, bail};
 use fixtures::{POLICY, policy_of};
+use mapbook::PlainBook;
 use registry::Registry;
 use script::{Exit, run_on};
 use sqlbook::in_memory;
 use std::alloc::Global;
-use store::{Book, OnceBook, PlainBook};
+use store::{Book, OnceBook};
 
 /// Where a registry is kept.
 #[derive(Clone, Copy)]
@@ -97,7 +98,7 @@ pub fn try_script(alloc: Global, kind: Kind, place: u64, script: Script<'_>) -> 
             Ok(book) => try_over(alloc, book, place, script),
             Err(_) => bail!("no memory for a database"),
         },
-        Kind::Maps => try_over(alloc, PlainBook::new(alloc), place, script),
+        Kind::Maps => try_over(alloc, mapbook::new_book(alloc), place, script),
     }
 }
 

@@ -5,10 +5,11 @@ ghost use Rattle.std.specs.Prelude.{◌≡◌, false};
 use crate::refusing::{Kind, replies_to, sent};
 use anyhow::{Result, bail};
 use fixtures::{POLICY, policy_of};
+use mapbook::PlainBook;
 use registry::Registry;
 use sqlbook::in_memory;
 use std::alloc::Global;
-use store::{Book, OnceBook, PlainBook};
+use store::{Book, OnceBook};
 
 const BEFORE: &str =
     r#"2028-01-01T00:00:00Z operator {"order":"deposit","registrar":"alfa","cents":100000}
@@ -47,7 +48,7 @@ pub fn run_row(alloc: Global, kind: Kind) -> Result<()> {
             Ok(book) => row_over(alloc, book, calls_before(alloc, kind)?),
             Err(_) => bail!("no memory for a database"),
         },
-        Kind::Maps => row_over(alloc, PlainBook::new(alloc), calls_before(alloc, kind)?),
+        Kind::Maps => row_over(alloc, mapbook::new_book(alloc), calls_before(alloc, kind)?),
     }
 }
 
@@ -58,7 +59,7 @@ fn calls_before(alloc: Global, kind: Kind) -> Result<u64> {
             Ok(book) => counted_over(alloc, book),
             Err(_) => bail!("no memory for a database"),
         },
-        Kind::Maps => counted_over(alloc, PlainBook::new(alloc)),
+        Kind::Maps => counted_over(alloc, mapbook::new_book(alloc)),
     }
 }
 

@@ -7,7 +7,7 @@ use Rattle.registry.specs.declared.fault.OpenFault.{OpenFault}
 use Rattle.registry.specs.declared.fault.OpenFault.TheVariants as refusals
 use Rattle.registry.specs.Crashes.{GivesUpTo, OpensTo, Outlives, OutlivesOpening}
 use Rattle.registry.specs.Execution.{GoesBack}
-use Rattle.store.specs.Book.{BookState, Commits, Follows, LeavesHeld, LeavesItself, LeavesOld, LeavesOldOrMade, LeavesSame, Stored, may_leave}
+use Rattle.store.specs.Book.{BookState, BookKeeps, Follows, LeavesHeld, LeavesItself, LeavesOld, LeavesOldOrMade, LeavesSame, Stored, may_leave}
 use Rattle.transactions.specs.States.{Has, Remains, holding}
 
 -- nothing was tried
@@ -25,7 +25,7 @@ gave_up_by faults.Store makes old new same = gave_up makes old new same
 gave_up_by faults.Moment makes old new same = left_alone old new same
 
 -- what was made in the transaction is kept
-pub kept_alone : {A E : Type 0} (result : Result A E) (mid new : BookState) → LeavesHeld result mid new → OnOk result (Commits mid new) → OnOk result (LeavesItself new)
+pub kept_alone : {A E : Type 0} (result : Result A E) (mid new : BookState) → LeavesHeld result mid new → OnOk result (BookKeeps mid new) → OnOk result (LeavesItself new)
 unfolding may_leave
 kept_alone (Ok it) mid new held commits = record {
   used = held.used;
@@ -43,7 +43,7 @@ kept_or_not result makes old mid new follows same made held left may =
     ⊎_elim (λ before. inl (left_alone old mid same left (held.honest may.0, before))) (λ is. inr (record { clean = follows.clean clean; held = mid.content; is = is; made = made clean })) (held.tried left may.1)
 
 pub outlives_by : {A : Type 0} (result : Result A Fault) (makes : Stored → Stored → Type 0) (old mid new : BookState) → Follows old mid → LeavesSame old mid → (mid.is_clean ≡ true → makes old.content mid.content)
-    → LeavesHeld result mid new → OnOk result (Commits mid new) → IfErr result (λ fault. GoesBack fault mid new) → Outlives result makes old new
+    → LeavesHeld result mid new → OnOk result (BookKeeps mid new) → IfErr result (λ fault. GoesBack fault mid new) → Outlives result makes old new
 outlives_by (Ok it) makes old mid new follows same made held commits back = kept_alone (Ok it) mid new held commits
 outlives_by (Err fault) makes old mid new follows same made held commits back = (go fault back (kept_or_not (Err fault) makes old mid new follows same made held), held.as_before ∙ same.ready)
   where

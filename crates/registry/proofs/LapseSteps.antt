@@ -11,9 +11,9 @@ use Rattle.registry.specs.declared.fault.Fault.TheVariants as faults
 use Rattle.registry.specs.Execution.{GoesBack, Settles, at_moment}
 use Rattle.registry.specs.Lapsing.{dues_lapsed, with_dues_lapsed, with_lapsed}
 use Rattle.registry.proofs.LapsingLemmas.{all-lapsed, some-lapsed}
-use Rattle.store.specs.declared.due.Due.{Due}
-use Rattle.store.specs.Book.{BookState, Follows, IsBack, IsSame, LeavesSame, Moves, Stored, with_changes}
-use Rattle.store.specs.Due.{due_by}
+use Rattle.lifecycle.specs.declared.due_object.Due.{Due}
+use Rattle.store.specs.Book.{BookState, Follows, IsBack, BookReads, LeavesSame, BookWrites, Stored, with_changes}
+use Rattle.model.specs.DueBy.{due_by}
 
 -- some of what is due has lapsed, and what is left leads to where all of it does
 pub record IsUnderWay (p : PolicyRules) (t : ℕ) (left all : List Due) (old new : BookState) : Type 0 where
@@ -35,7 +35,7 @@ begins p t all s is_open = record {
 }
 
 pub goes-on : (p : PolicyRules) (t : ℕ) (d : Due) (left all : List Due) (old mid new : BookState) → IsUnderWay p t (d ∷ left) all old mid
-    → Moves mid new (with_changes p (lapse_changes p t d.name (object_at mid.content.registry d.kind d.name)) mid.content) → Follows mid new → LeavesSame mid new → IsUnderWay p t left all old new
+    → BookWrites mid new (with_changes p (lapse_changes p t d.name (object_at mid.content.registry d.kind d.name)) mid.content) → Follows mid new → LeavesSame mid new → IsUnderWay p t left all old new
 goes-on p t d left all old mid new is moved then leaves = record {
   counted = moved.counted ∙ is.counted;
   opened = moved.opened;
@@ -45,7 +45,7 @@ goes-on p t d left all old mid new is moved then leaves = record {
   leaves = record { honest = λ honest. is.leaves.honest (leaves.honest honest); same = leaves.same ∙ is.leaves.same; ready = leaves.ready ∙ is.leaves.ready };
 }
 
-pub done : (p : PolicyRules) (t : ℕ) (all : List Due) (old new : BookState) → IsUnderWay p t [] all old new → Moves old new (with_dues_lapsed p t all old.content)
+pub done : (p : PolicyRules) (t : ℕ) (all : List Due) (old new : BookState) → IsUnderWay p t [] all old new → BookWrites old new (with_dues_lapsed p t all old.content)
 done p t all old new is = record { counted = is.counted; opened = is.opened; content = is.content; before = is.before }
 
 home-of : (p : PolicyRules) (t : ℕ) (left all : List Due) (old mid new : BookState) → old.is_open ≡ true → IsUnderWay p t left all old mid → Follows mid new → IsBack mid new → IsBack old new
@@ -63,8 +63,8 @@ gave-up p t left all faults.Store old mid new was_open is then back = (home-of p
 gave-up p t left all faults.Moment old mid new was_open is then back = back
 
 -- time has passed, with all that fell due
-pub passed : (p : PolicyRules) (moment now : ℕ) (old mid new : BookState) → Moves old mid (with_changes p (MoveClock moment ∷ []) old.content) → (mid.is_clean ≡ true → now ≡ max moment old.content.registry.clock)
-    → Follows mid new → Moves mid new (with_lapsed p now mid.content) → Moves old new (at_moment p moment old.content)
+pub passed : (p : PolicyRules) (moment now : ℕ) (old mid new : BookState) → BookWrites old mid (with_changes p (MoveClock moment ∷ []) old.content) → (mid.is_clean ≡ true → now ≡ max moment old.content.registry.clock)
+    → Follows mid new → BookWrites mid new (with_lapsed p now mid.content) → BookWrites old new (at_moment p moment old.content)
 unfolding accounts_at
 passed p moment now old mid new first told then second = record {
   counted = second.counted ∙ first.counted;
@@ -88,9 +88,9 @@ same-lapse p u s = refl
 
 -- the clock has moved, and the first of what is due have lapsed and are kept
 pub settled : (p : PolicyRules) (moment at_most clock count : ℕ) (due part : List Due) (old moved listed new : BookState)
-    → Moves old moved (with_changes p (MoveClock moment ∷ []) old.content) → (moved.is_clean ≡ true → clock ≡ max moment old.content.registry.clock) → Follows moved listed
-    → IsSame moved listed → (listed.is_clean ≡ true → due ≡ due_by p clock moved.content.registry) → Follows listed new
-    → part ≡ take at_most due → count ≡ min at_most (length due) → Moves listed new (with_dues_lapsed p clock part listed.content)
+    → BookWrites old moved (with_changes p (MoveClock moment ∷ []) old.content) → (moved.is_clean ≡ true → clock ≡ max moment old.content.registry.clock) → Follows moved listed
+    → BookReads moved listed → (listed.is_clean ≡ true → due ≡ due_by p clock moved.content.registry) → Follows listed new
+    → part ≡ take at_most due → count ≡ min at_most (length due) → BookWrites listed new (with_dues_lapsed p clock part listed.content)
     → Settles p moment at_most count old new
 settled p moment at_most clock count due part old moved listed new first told listing same found lapsing cut counted second clean = record {
   counted = counted ∙ ap (λ (ds : List Due). min at_most (length ds)) due-is;

@@ -31,19 +31,20 @@ use Rattle.objects.specs.Transfers.{is_pending_state}
 use Rattle.policy.specs.Rules.{PolicyRules}
 use Rattle.rules.specs.declared.change.Change.TheVariants.{LapseContact, LapseDomain}
 use Rattle.rules.specs.Changes.{changed, changed_all}
-use Rattle.rules.specs.Lapsing.{gift, lapse_changes}
+use Rattle.rules.specs.Lapsing.{posting_change, lapse_changes}
 use Rattle.concerns.specs.declared.given.Names.{Names}
 use Rattle.concerns.specs.Concerns.{HasConcerned, concerned}
-use Rattle.store.specs.Due as dues
-use Rattle.store.specs.declared.due.Due.{Due}
-use Rattle.store.specs.Due.{contact_due, domain_due, due_by, due_cmp, due_then, found_due, kind_rank, with_due}
+use Rattle.concerns.specs.DueFor as dues
+use Rattle.lifecycle.specs.declared.due_object.Due.{Due}
+use Rattle.lifecycle.specs.DueObjects.{contact_due, domain_due, due_cmp, due_then, found_due, kind_rank, with_due}
+use Rattle.model.specs.DueBy.{due_by}
 use Rattle.registry.specs.Lapsing.{dues_lapsed}
 
 -- ---- one object
 
-gifts : (p : PolicyRules) (xs : List Posting) (s : Registry) → changed_all p (map gift xs) s ≡ record s { accounts = fold posted s.accounts xs }
+gifts : (p : PolicyRules) (xs : List Posting) (s : Registry) → changed_all p (map posting_change xs) s ≡ record s { accounts = fold posted s.accounts xs }
 gifts p [] s = refl
-gifts p (x ∷ xs) s = gifts p xs (changed p (gift x) s)
+gifts p (x ∷ xs) s = gifts p xs (changed p (posting_change x) s)
 
 module _ (p : PolicyRules) (t : ℕ) (name : List ℕ) (s : Registry) where
   contact-one : (o : Option Contact) → changed_all p (lapse_changes p t name (option_map objects.Contact o)) s ≡ with_contact_lapsed t name o s

@@ -6,7 +6,7 @@ use Rattle.registry.specs.declared.fault.OpenFault.TheVariants as refusals
 use Rattle.registry.specs.Opening.{IsOthers, IsOurs, Opens, Refuses, RefusesOurs, goes_on, openings}
 use Rattle.policy.specs.Terms.{terms_of}
 use Rattle.registry.specs.Opening.{opened}
-use Rattle.store.specs.Book.{BookState, Follows, IsBack, IsSame, home}
+use Rattle.store.specs.Book.{BookState, Follows, IsBack, BookReads, home}
 use Rattle.transactions.specs.declared.readiness.Ready.{Ready}
 use Rattle.transactions.specs.declared.readiness.Ready.TheVariants.{Other}
 use Rattle.rules.specs.declared.change.Change.TheVariants.{OpenAccount}
@@ -22,24 +22,24 @@ openings-next n = let next : n + 1 ≡ suc n = omega arith in rw next refl
 -- ---- a book that was only looked at
 
 -- what it goes back to is what it was before
-home-same : (old mid : BookState) → IsSame old mid → mid.is_clean ≡ true → old.is_open ≡ false → home mid ≡ home old
+home-same : (old mid : BookState) → BookReads old mid → mid.is_clean ≡ true → old.is_open ≡ false → home mid ≡ home old
 home-same old mid same clean closed =
     ap (λ b. cond b mid.before mid.content) (same.opened ∙ closed) ∙ same.content clean ∙ sym (ap (λ b. cond b old.before old.content) closed)
 
-back-later : (old mid new : BookState) → IsSame old mid → Follows mid new → old.is_open ≡ false → IsBack mid new → IsBack old new
+back-later : (old mid new : BookState) → BookReads old mid → Follows mid new → old.is_open ≡ false → IsBack mid new → IsBack old new
 back-later old mid new same then closed back = record {
   closed = back.closed;
   content = λ clean. back.content clean ∙ home-same old mid same (then.clean clean) closed;
 }
 
-pub is_others : (old new : BookState) → IsSame old new → old.is_open ≡ false → (new.is_clean ≡ true → Other ≡ old.readiness) → IsOthers old new
+pub is_others : (old new : BookState) → BookReads old new → old.is_open ≡ false → (new.is_clean ≡ true → Other ≡ old.readiness) → IsOthers old new
 is_others old new same closed found = record {
   back = record { closed = same.opened ∙ closed; content = λ clean. same.content clean ∙ sym (ap (λ b. cond b old.before old.content) closed) };
   counted = same.counted;
   other = λ clean. sym (found clean);
 }
 
-pub opens_later : (p : PolicyRules) (old mid new : BookState) → IsSame old mid → Follows mid new → Opens p mid new → Opens p old new
+pub opens_later : (p : PolicyRules) (old mid new : BookState) → BookReads old mid → Follows mid new → Opens p mid new → Opens p old new
 opens_later p old mid new same then opens = record {
   counted = opens.counted ∙ same.counted;
   closed = opens.closed;
@@ -47,7 +47,7 @@ opens_later p old mid new same then opens = record {
   fits = λ clean. sym (ap (goes_on (terms_of p)) (same.content (then.clean clean))) ∙ opens.fits clean;
 }
 
-pub refuses_later : (fault : OpenFault) (p : PolicyRules) (old mid new : BookState) → old.is_open ≡ false → IsSame old mid → Follows mid new → Refuses fault p mid new → fault ≢ refusals.Schema → Refuses fault p old new
+pub refuses_later : (fault : OpenFault) (p : PolicyRules) (old mid new : BookState) → old.is_open ≡ false → BookReads old mid → Follows mid new → Refuses fault p mid new → fault ≢ refusals.Schema → Refuses fault p old new
 refuses_later refusals.Policy p old mid new closed same then refused other = record {
   back = back-later old mid new same then closed refused.back;
   differs = λ clean. sym (ap (goes_on (terms_of p)) (same.content (then.clean clean))) ∙ refused.differs clean;

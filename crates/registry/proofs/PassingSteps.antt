@@ -23,7 +23,7 @@ use Rattle.registry.specs.declared.command.Prepared.{Prepared}
 use Rattle.registry.specs.Execution.{Greets, IsPrepared, IsStep, OrderSteps, Steps, at_moment}
 use Rattle.registry.specs.Faces.{LooksUp}
 use Rattle.registry.specs.Lapsing.{dues_lapsed, with_dues_lapsed}
-use Rattle.registry.specs.Passing.{IsPassed, Passes, Reaches, names_at, status_at}
+use Rattle.registry.specs.inner.Passing.{IsPassed, Passes, Reaches, names_at, status_at}
 use Rattle.registry.proofs.LapseSteps.{same-lapse}
 use Rattle.registry.proofs.LapsingLemmas.{each-as-some, has-concerned, objects_of, some-lapsed}
 use Rattle.rules.specs.declared.change.Change.TheVariants.{MoveClock}
@@ -32,9 +32,9 @@ use Rattle.rules.specs.Decisions.{decided}
 use Rattle.rules.specs.Orders.{deposit_decision, order_answer, order_effect}
 use Rattle.rules.specs.Steps.{answer, effect, reply_of}
 use Rattle.registry.specs.declared.fault.Fault.{Fault}
-use Rattle.store.specs.declared.due.Due.{Due}
-use Rattle.store.specs.Book.{BookState, Follows, IsSame, Moves, Stored, with_changes}
-use Rattle.store.specs.Due.{due_for}
+use Rattle.lifecycle.specs.declared.due_object.Due.{Due}
+use Rattle.store.specs.Book.{BookState, Follows, BookReads, BookWrites, Stored, with_changes}
+use Rattle.concerns.specs.DueFor.{due_for}
 
 -- ---- of a registry
 
@@ -64,9 +64,9 @@ passed-alone p moment before = record {
 -- ---- of a book
 
 pub passes : (p : PolicyRules) (r : Option ℕ) (g : Names) (moment clock : ℕ) (due : List Due) (old moved listed mid : BookState)
-    → Moves old moved (with_changes p (MoveClock moment ∷ []) old.content) → (moved.is_clean ≡ true → clock ≡ max moment old.content.registry.clock) → Follows moved listed
-    → IsSame moved listed → (listed.is_clean ≡ true → due ≡ due_for p r g clock moved.content.registry) → Follows listed mid
-    → Moves listed mid (with_dues_lapsed p clock due listed.content) → Passes p r g moment old mid
+    → BookWrites old moved (with_changes p (MoveClock moment ∷ []) old.content) → (moved.is_clean ≡ true → clock ≡ max moment old.content.registry.clock) → Follows moved listed
+    → BookReads moved listed → (listed.is_clean ≡ true → due ≡ due_for p r g clock moved.content.registry) → Follows listed mid
+    → BookWrites listed mid (with_dues_lapsed p clock due listed.content) → Passes p r g moment old mid
 passes p r g moment clock due old moved listed mid first told listing same found lapsing second = record {
   counted = second.counted ∙ same.counted ∙ first.counted;
   opened = second.opened;
@@ -99,7 +99,7 @@ passes p r g moment clock due old moved listed mid first told listing same found
         ∙ (λ i. dues_lapsed p (clock-is clean i) (due-is clean i) (same.content (lapsing.clean clean) i).registry)
         ∙ ap (dues_lapsed p m (due_for p r g m (at m s))) (moved-is clean)
 
-pub passes-alone : (p : PolicyRules) (moment : ℕ) (old new : BookState) → Moves old new (with_changes p (MoveClock moment ∷ []) old.content) → Passes p None no_names moment old new
+pub passes-alone : (p : PolicyRules) (moment : ℕ) (old new : BookState) → BookWrites old new (with_changes p (MoveClock moment ∷ []) old.content) → Passes p None no_names moment old new
 passes-alone p moment old new moved = record {
   counted = moved.counted;
   opened = moved.opened;
@@ -109,7 +109,7 @@ passes-alone p moment old new moved = record {
 }
 
 -- where the clock moved, time passed
-pub alone-passes : (p : PolicyRules) (moment : ℕ) (old new : BookState) (r : Result ℕ Fault) → OnOk r (Moves old new (with_changes p (MoveClock moment ∷ []) old.content)) → OnOk r (Passes p None no_names moment old new)
+pub alone-passes : (p : PolicyRules) (moment : ℕ) (old new : BookState) (r : Result ℕ Fault) → OnOk r (BookWrites old new (with_changes p (MoveClock moment ∷ []) old.content)) → OnOk r (Passes p None no_names moment old new)
 alone-passes p moment old new (Ok clock) moved = passes-alone p moment old new moved
 alone-passes p moment old new (Err fault) moved = moved
 
@@ -127,8 +127,8 @@ module _ (p : PolicyRules) (moment : ℕ) (before mid after : Registry) where
 
 pub executed : (p : PolicyRules) (r : ℕ) (c : Command) (moment clock : ℕ) (prepared : Prepared) (reply : Reply) (old mid looked new : BookState)
     → Passes p (Some r) (named_by c) moment old mid → (mid.is_clean ≡ true → clock ≡ max moment old.content.registry.clock) → Follows mid looked
-    → IsSame mid looked → (looked.is_clean ≡ true → IsPrepared p r c clock (facts p r c mid.content.registry) prepared) → Follows looked new
-    → reply ≡ prepared.reply → Moves looked new (with_changes p prepared.changes looked.content) → Steps p r c moment reply old new
+    → BookReads mid looked → (looked.is_clean ≡ true → IsPrepared p r c clock (facts p r c mid.content.registry) prepared) → Follows looked new
+    → reply ≡ prepared.reply → BookWrites looked new (with_changes p prepared.changes looked.content) → Steps p r c moment reply old new
 executed p r c moment clock prepared reply old mid looked new first told looking same decided-so keeping given kept clean =
     let looked-clean : looked.is_clean ≡ true = keeping.clean clean in
     let mid-clean : mid.is_clean ≡ true = looking.clean looked-clean in
@@ -144,8 +144,8 @@ executed p r c moment clock prepared reply old mid looked new first told looking
 
 pub executes : (p : PolicyRules) (r : ℕ) (c : Command) (moment clock : ℕ) (prepared : Prepared) (result : Result Reply Fault) (old mid looked new : BookState)
     → Passes p (Some r) (named_by c) moment old mid → (mid.is_clean ≡ true → clock ≡ max moment old.content.registry.clock) → Follows mid looked
-    → IsSame mid looked → (looked.is_clean ≡ true → IsPrepared p r c clock (facts p r c mid.content.registry) prepared) → Follows looked new
-    → IfOk result (λ reply. reply ≡ prepared.reply) → OnOk result (Moves looked new (with_changes p prepared.changes looked.content)) → IfOk result (λ reply. Steps p r c moment reply old new)
+    → BookReads mid looked → (looked.is_clean ≡ true → IsPrepared p r c clock (facts p r c mid.content.registry) prepared) → Follows looked new
+    → IfOk result (λ reply. reply ≡ prepared.reply) → OnOk result (BookWrites looked new (with_changes p prepared.changes looked.content)) → IfOk result (λ reply. Steps p r c moment reply old new)
 executes p r c moment clock prepared (Ok reply) old mid looked new first told looking same decided-so keeping given kept = executed p r c moment clock prepared reply old mid looked new first told looking same decided-so keeping given kept
 executes p r c moment clock prepared (Err fault) old mid looked new first told looking same decided-so keeping given kept = tt
 
@@ -161,7 +161,7 @@ now-lapsed p moment s = lapses-on p (max moment s.clock) (max moment s.clock) (o
 
 pub ordered : (p : PolicyRules) (o : StatusOrder) (moment : ℕ) (name : Option (List ℕ)) (code : Code) (old mid new : BookState)
     → name ≡ name_ordered p.zone o → Passes p None (names_at o.kind name) moment old mid → Follows mid new
-    → (new.is_clean ≡ true → code ≡ (status_at o name mid.content.registry).code) → Moves mid new (with_changes p (status_at o name mid.content.registry).changes mid.content)
+    → (new.is_clean ≡ true → code ≡ (status_at o name mid.content.registry).code) → BookWrites mid new (with_changes p (status_at o name mid.content.registry).changes mid.content)
     → OrderSteps p (orders.Status o) moment code old new
 ordered p o moment name code old mid new named first keeping told kept clean =
     let is = first.passed (keeping.clean clean) in
@@ -175,7 +175,7 @@ ordered p o moment name code old mid new named first keeping told kept clean =
 
 pub deposited-in : (p : PolicyRules) (id : List ℕ) (cents : ℤ) (moment clock : ℕ) (code : Code) (old mid new : BookState)
     → Passes p None no_names moment old mid → (mid.is_clean ≡ true → clock ≡ max moment old.content.registry.clock) → Follows mid new
-    → code ≡ (deposit_decision p clock id cents).code → Moves mid new (with_changes p (deposit_decision p clock id cents).changes mid.content)
+    → code ≡ (deposit_decision p clock id cents).code → BookWrites mid new (with_changes p (deposit_decision p clock id cents).changes mid.content)
     → OrderSteps p (orders.Deposit id cents) moment code old new
 deposited-in p id cents moment clock code old mid new first told keeping given kept clean =
     let is = first.passed (keeping.clean clean) in
@@ -189,7 +189,7 @@ deposited-in p id cents moment clock code old mid new first told keeping given k
 
 pub orders-set : {E : Type 0} (p : PolicyRules) (o : StatusOrder) (moment : ℕ) (name : Option (List ℕ)) (made : Result (Option (List ℕ)) E) (result : Result Code Fault) (old tried mid new : BookState)
     → IfOk made (λ n. n ≡ name_ordered p.zone o) → made ≡ Ok name → tried ≡ old → Passes p None (names_at o.kind name) moment tried mid → Follows mid new
-    → IfOk result (λ code. new.is_clean ≡ true → code ≡ (status_at o name mid.content.registry).code) → OnOk result (Moves mid new (with_changes p (status_at o name mid.content.registry).changes mid.content))
+    → IfOk result (λ code. new.is_clean ≡ true → code ≡ (status_at o name mid.content.registry).code) → OnOk result (BookWrites mid new (with_changes p (status_at o name mid.content.registry).changes mid.content))
     → IfOk result (λ code. OrderSteps p (orders.Status o) moment code old new)
 orders-set {E} p o moment name made (Ok code) old tried mid new read is same first keeping told kept =
     ordered p o moment name code old mid new (subst (λ (m : Result (Option (List ℕ)) E). IfOk m (λ n. n ≡ name_ordered p.zone o)) is read) (subst (λ (b : BookState). Passes p None (names_at o.kind name) moment b mid) same first) keeping told kept
@@ -197,7 +197,7 @@ orders-set p o moment name made (Err fault) old tried mid new read is same first
 
 pub orders-paid : (p : PolicyRules) (id : List ℕ) (cents : ℤ) (moment clock : ℕ) (result : Result Code Fault) (old mid new : BookState)
     → Passes p None no_names moment old mid → (mid.is_clean ≡ true → clock ≡ max moment old.content.registry.clock) → Follows mid new
-    → IfOk result (λ code. code ≡ (deposit_decision p clock id cents).code) → OnOk result (Moves mid new (with_changes p (deposit_decision p clock id cents).changes mid.content))
+    → IfOk result (λ code. code ≡ (deposit_decision p clock id cents).code) → OnOk result (BookWrites mid new (with_changes p (deposit_decision p clock id cents).changes mid.content))
     → IfOk result (λ code. OrderSteps p (orders.Deposit id cents) moment code old new)
 orders-paid p id cents moment clock (Ok code) old mid new first told keeping given kept = deposited-in p id cents moment clock code old mid new first told keeping given kept
 orders-paid p id cents moment clock (Err fault) old mid new first told keeping given kept = tt
@@ -225,7 +225,7 @@ reached-by p find g moment old new stands first = record {
   before = first.before;
 }
 
-pub reached-all : {X : Type 0} (p : PolicyRules) (find : Registry → X) (moment : ℕ) (old new : BookState) → Moves old new (at_moment p moment old.content) → Reaches p find moment old new
+pub reached-all : {X : Type 0} (p : PolicyRules) (find : Registry → X) (moment : ℕ) (old new : BookState) → BookWrites old new (at_moment p moment old.content) → Reaches p find moment old new
 reached-all p find moment old new moved = record {
   counted = moved.counted;
   opened = moved.opened;
@@ -236,7 +236,7 @@ reached-all p find moment old new moved = record {
 }
 
 pub looked-up : {X : Type 0} (p : PolicyRules) (find : Registry → X) (moment : ℕ) (it : X) (old mid new : BookState)
-    → Reaches p find moment old mid → Follows mid new → IsSame mid new → (new.is_clean ≡ true → it ≡ find mid.content.registry) → LooksUp p find moment it old new
+    → Reaches p find moment old mid → Follows mid new → BookReads mid new → (new.is_clean ≡ true → it ≡ find mid.content.registry) → LooksUp p find moment it old new
 looked-up p find moment it old mid new first looking same told clean =
     let mid-clean : mid.is_clean ≡ true = looking.clean clean in
     record {
@@ -245,7 +245,7 @@ looked-up p find moment it old mid new first looking same told clean =
     }
 
 pub looks-up : {X : Type 0} (p : PolicyRules) (find : Registry → X) (moment : ℕ) (result : Result X Fault) (old mid new : BookState)
-    → Reaches p find moment old mid → Follows mid new → OnOk result (IsSame mid new) → IfOk result (λ it. new.is_clean ≡ true → it ≡ find mid.content.registry)
+    → Reaches p find moment old mid → Follows mid new → OnOk result (BookReads mid new) → IfOk result (λ it. new.is_clean ≡ true → it ≡ find mid.content.registry)
     → IfOk result (λ found. LooksUp p find moment found old new)
 looks-up p find moment (Ok found) old mid new first looking same told = looked-up p find moment found old mid new first looking same told
 looks-up p find moment (Err fault) old mid new first looking same told = tt

@@ -11,7 +11,7 @@ use Rattle.rules.specs.Orders.{order_answer, order_effect}
 use Rattle.rules.specs.Steps.{answer, effect, reply_of}
 use Rattle.rules.specs.Isolation.{IsIsolated}
 use Rattle.store.specs.Book.{BookState, HasRefused, IsBack, NoRefusal, Stored}
-use Rattle.store.specs.Due.{due_by}
+use Rattle.model.specs.DueBy.{due_by}
 use Rattle.protocol.specs.declared.code.Code.{Code}
 use Rattle.protocol.specs.declared.command.Command.{Command}
 use Rattle.facts.specs.declared.facts.Facts.{Facts}

@@ -5,9 +5,9 @@ use Rattle.model.specs.Registry.{Registry}
 use Rattle.policy.specs.Rules.{PolicyRules}
 use Rattle.rules.specs.Changes.{changed_all}
 use Rattle.rules.specs.Lapsing.{lapse_changes}
-use Rattle.store.specs.declared.due.Due.{Due}
+use Rattle.lifecycle.specs.declared.due_object.Due.{Due}
 use Rattle.store.specs.Book.{Stored}
-use Rattle.store.specs.Due.{due_by}
+use Rattle.model.specs.DueBy.{due_by}
 
 abbrev pub due_lapsed : PolicyRules → ℕ → Registry → Due → Registry
 due_lapsed p t s d = changed_all p (lapse_changes p t d.name (object_at s d.kind d.name)) s

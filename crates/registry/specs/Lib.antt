@@ -1,6 +1,5 @@
 pub mod Faults
 pub mod Lapsing
-pub mod Passing
 pub mod Execution
 pub mod Faces
 pub mod Opening
@@ -10,3 +9,4 @@ pub mod Money
 pub mod TwoRuns
 pub mod Calls
 pub mod Sound
+pub mod inner

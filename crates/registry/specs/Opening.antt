@@ -10,7 +10,7 @@ use Rattle.registry.specs.declared.fault.OpenFault.TheVariants as refusals
 use Rattle.rules.specs.declared.change.Change.{Change}
 use Rattle.rules.specs.declared.change.Change.TheVariants.{OpenAccount}
 use Rattle.rules.specs.Changes.{changed_all}
-use Rattle.store.specs.Book.{BookState, HasRefused, IsBack, Moves, NoRefusal, Stored}
+use Rattle.store.specs.Book.{BookState, HasRefused, IsBack, BookWrites, NoRefusal, Stored}
 use Rattle.transactions.specs.declared.readiness.Ready.TheVariants.{Other}
 
 abbrev pub continues_earlier : ℕ → Terms → Option Terms → Bool
@@ -79,7 +79,7 @@ RefusesOurs refusals.Store old new = Unit {0}
 
 -- in the open transaction the accounts are there, and the terms put down
 pub record IsTakenUp (p : PolicyRules) (old new : BookState) : Type 0 where
-  pub moves : Moves old new (opened p old.content)
+  pub moves : BookWrites old new (opened p old.content)
   pub fits : new.is_clean ≡ true → goes_on (terms_of p) old.content ≡ true
 
 -- in a transaction, the book was taken up or it went back

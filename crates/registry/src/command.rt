@@ -3,7 +3,7 @@ ghost use Rattle.std.specs.Prelude.{◌≡◌, true, IfOk, IfErr, OnOk};
 ghost use Rattle.accounts.specs.Account.{saturating_next};
 ghost use Rattle.registry.specs.Execution.{GoesBack, IsPrepared, IsStep, IsWithin, SameTerms, Steps};
 ghost use Rattle.rules.specs.Steps.{reply_of};
-ghost use Rattle.store.specs.Book.{Follows, IsSame, LeavesSame, Moves, with_changes};
+ghost use Rattle.store.specs.Book.{Follows, BookReads, LeavesSame, BookWrites, with_changes};
 ghost use Rattle.facts.specs.Facts.{facts};
 ghost use Rattle.verdict.specs.ResponseData.{id_of};
 ghost use Rattle.protocol.specs.Requests.{cl_trid_of};
@@ -85,7 +85,7 @@ fn prepare<B: Book>(
     ensures prepared { IfOk result (λ prepared. (B.state book.new).is_clean ≡ true
         → IsPrepared policy.now caller command.now now (facts policy.now caller command.now
         (B.state book.old).content.registry) prepared) }
-    ensures same { OnOk result (IsSame (B.state book.old) (B.state book.new)) }
+    ensures same { OnOk result (BookReads (B.state book.old) (B.state book.new)) }
     ensures fault { IfErr result (λ fault. GoesBack fault (B.state book.old) (B.state book.new)) }
     ensures follows { Follows (B.state book.old) (B.state book.new) }
     ensures leaves { LeavesSame (B.state book.old) (B.state book.new) }
@@ -119,7 +119,7 @@ fn prepared_by(
 fn make_prepared<B: Book>(book: &mut B, prepared: Prepared, policy: &Policy) -> Result<Reply, Fault>
     requires { (B.state book.old).is_open ≡ true }
     ensures reply { IfOk result (λ reply. reply ≡ prepared.reply) }
-    ensures made { OnOk result (Moves (B.state book.old) (B.state book.new)
+    ensures made { OnOk result (BookWrites (B.state book.old) (B.state book.new)
         (with_changes policy.now prepared.changes (B.state book.old).content)) }
     ensures fault { IfErr result (λ fault. GoesBack fault (B.state book.old) (B.state book.new)) }
     ensures follows { Follows (B.state book.old) (B.state book.new) }

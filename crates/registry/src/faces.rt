@@ -2,7 +2,7 @@
 ghost use Rattle.std.specs.Prelude.{◌≡◌, true, IfOk, IfErr, OnOk};
 ghost use Rattle.registry.specs.Execution.{GoesBack};
 ghost use Rattle.registry.specs.Faces.{IsLookUp};
-ghost use Rattle.store.specs.Book.{Follows, IsSame, LeavesSame};
+ghost use Rattle.store.specs.Book.{Follows, BookReads, LeavesSame};
 ghost use Rattle.store.specs.Faces.{contact_face_at, domain_face_at, domain_names, host_addresses_at, host_face_at};
 
 use crate::fault::Fault;
@@ -23,8 +23,8 @@ pub(crate) trait LookUp {
     ghost use Rattle.model.specs.Registry.{Registry};
     ghost use Rattle.policy.specs.Rules.{PolicyRules};
     ghost use Rattle.registry.specs.Execution.{GoesBack};
-    ghost use Rattle.registry.specs.Passing.{Reaches};
-    ghost use Rattle.store.specs.Book.{Follows, IsSame, LeavesSame};
+    ghost use Rattle.registry.specs.inner.Passing.{Reaches};
+    ghost use Rattle.store.specs.Book.{Follows, BookReads, LeavesSame};
 
     /// What is found.
     type Found: Drop;
@@ -53,7 +53,7 @@ pub(crate) trait LookUp {
         requires { (B.state book.old).is_open ≡ true }
         ensures found { IfOk result (λ found. (B.state book.new).is_clean ≡ true
             → found ≡ finds self.now policy.now (B.state book.old).content.registry) }
-        ensures same { OnOk result (IsSame (B.state book.old) (B.state book.new)) }
+        ensures same { OnOk result (BookReads (B.state book.old) (B.state book.new)) }
         ensures fault { IfErr result (λ fault. GoesBack fault (B.state book.old)
             (B.state book.new)) }
         ensures follows { Follows (B.state book.old) (B.state book.new) }

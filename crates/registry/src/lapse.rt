@@ -3,8 +3,9 @@ ghost use Rattle.std.specs.Prelude.{◌≡◌, true, Some, None, IfOk, IfErr, On
 ghost use Rattle.concerns.specs.Names.{named_by, named_of};
 ghost use Rattle.registry.specs.Execution.{GoesBack};
 ghost use Rattle.registry.specs.Lapsing as spec;
-ghost use Rattle.store.specs.Book.{Follows, IsSame, LeavesSame, Moves, with_changes};
-ghost use Rattle.store.specs.Due.{due_by, due_for};
+ghost use Rattle.store.specs.Book.{Follows, BookReads, LeavesSame, BookWrites, with_changes};
+ghost use Rattle.model.specs.DueBy.{due_by};
+ghost use Rattle.concerns.specs.DueFor.{due_for};
 ghost use Rattle.model.specs.Objects.{object_at};
 ghost use Rattle.rules.specs.Lapsing.{lapse_changes};
 
@@ -14,19 +15,20 @@ use basis::list::Seq;
 use basis::registrar::RegistrarNo;
 use basis::text::Text;
 use calendar::Moment;
+use lifecycle::Due;
 use objects::ObjectKind;
 use policy::Policy;
 use protocol::Command;
 use rules::{Change, lapse_changes};
 use std::alloc::Global;
-use store::{Book, Due};
+use store::Book;
 
 /// What is due by a moment, in an open transaction.
 pub(crate) fn due<B: Book>(book: &mut B, moment: Moment, policy: &Policy) -> Result<Seq<Due>, Fault>
     requires { (B.state book.old).is_open ≡ true }
     ensures found { IfOk result (λ due. (B.state book.new).is_clean ≡ true
         → due ≡ due_by policy.now moment (B.state book.old).content.registry) }
-    ensures same { OnOk result (IsSame (B.state book.old) (B.state book.new)) }
+    ensures same { OnOk result (BookReads (B.state book.old) (B.state book.new)) }
     ensures fault { IfErr result (λ fault. GoesBack fault (B.state book.old) (B.state book.new)) }
     ensures follows { Follows (B.state book.old) (B.state book.new) }
     ensures leaves { LeavesSame (B.state book.old) (B.state book.new) }
@@ -46,7 +48,7 @@ pub(crate) fn due_for<B: Book>(
     ensures found { IfOk result (λ due. (B.state book.new).is_clean ≡ true
         → due ≡ due_for policy.now (Some caller) (named_by command.now) moment
         (B.state book.old).content.registry) }
-    ensures same { OnOk result (IsSame (B.state book.old) (B.state book.new)) }
+    ensures same { OnOk result (BookReads (B.state book.old) (B.state book.new)) }
     ensures fault { IfErr result (λ fault. GoesBack fault (B.state book.old) (B.state book.new)) }
     ensures follows { Follows (B.state book.old) (B.state book.new) }
     ensures leaves { LeavesSame (B.state book.old) (B.state book.new) }
@@ -66,7 +68,7 @@ pub(crate) fn due_at<B: Book>(
     ensures found { IfOk result (λ due. (B.state book.new).is_clean ≡ true
         → due ≡ due_for policy.now None (named_of kind name.now) moment
         (B.state book.old).content.registry) }
-    ensures same { OnOk result (IsSame (B.state book.old) (B.state book.new)) }
+    ensures same { OnOk result (BookReads (B.state book.old) (B.state book.new)) }
     ensures fault { IfErr result (λ fault. GoesBack fault (B.state book.old) (B.state book.new)) }
     ensures follows { Follows (B.state book.old) (B.state book.new) }
     ensures leaves { LeavesSame (B.state book.old) (B.state book.new) }
@@ -82,7 +84,7 @@ pub(crate) fn lapse_all<B: Book>(
     policy: &Policy,
 ) -> Result<(), Fault>
     requires { (B.state book.old).is_open ≡ true }
-    ensures ok { OnOk result (Moves (B.state book.old) (B.state book.new)
+    ensures ok { OnOk result (BookWrites (B.state book.old) (B.state book.new)
         (spec.with_lapsed policy.now moment (B.state book.old).content)) }
     ensures fault { IfErr result (λ fault. GoesBack fault (B.state book.old) (B.state book.new)) }
     ensures follows { Follows (B.state book.old) (B.state book.new) }
@@ -101,7 +103,7 @@ pub(crate) fn lapse_each<B: Book>(
     policy: &Policy,
 ) -> Result<(), Fault>
     requires { (B.state book.old).is_open ≡ true }
-    ensures ok { OnOk result (Moves (B.state book.old) (B.state book.new)
+    ensures ok { OnOk result (BookWrites (B.state book.old) (B.state book.new)
         (spec.with_dues_lapsed policy.now moment due (B.state book.old).content)) }
     ensures fault { IfErr result (λ fault. GoesBack fault (B.state book.old) (B.state book.new)) }
     ensures follows { Follows (B.state book.old) (B.state book.new) }
@@ -122,7 +124,7 @@ fn lapse_one<B: Book>(
     policy: &Policy,
 ) -> Result<(), Fault>
     requires { (B.state book.old).is_open ≡ true }
-    ensures ok { OnOk result (Moves (B.state book.old) (B.state book.new)
+    ensures ok { OnOk result (BookWrites (B.state book.old) (B.state book.new)
         (with_changes policy.now (lapse_changes policy.now moment due.now.name
         (object_at (B.state book.old).content.registry due.now.kind due.now.name))
         (B.state book.old).content)) }
@@ -146,7 +148,7 @@ fn changes_of<B: Book>(
     ensures found { IfOk result (λ changes. (B.state book.new).is_clean ≡ true
         → changes ≡ lapse_changes policy.now moment due.now.name
         (object_at (B.state book.old).content.registry due.now.kind due.now.name)) }
-    ensures same { OnOk result (IsSame (B.state book.old) (B.state book.new)) }
+    ensures same { OnOk result (BookReads (B.state book.old) (B.state book.new)) }
     ensures fault { IfErr result (λ fault. GoesBack fault (B.state book.old) (B.state book.new)) }
     ensures follows { Follows (B.state book.old) (B.state book.new) }
     ensures leaves { LeavesSame (B.state book.old) (B.state book.new) }

@@ -6,7 +6,7 @@ ghost use Rattle.registry.specs.Execution.{GoesBack};
 ghost use Rattle.registry.specs.Opening as spec;
 ghost use Rattle.registry.specs.declared.fault.OpenFault.TheVariants as refusals;
 ghost use Rattle.registry.specs.Opening.{IsOurs, Opens, Refuses, RefusesOurs, TakesUp};
-ghost use Rattle.store.specs.Book.{Follows, LeavesSame, Moves};
+ghost use Rattle.store.specs.Book.{Follows, LeavesSame, BookWrites};
 
 use crate::fault::{Fault, OpenFault};
 use crate::transaction::{apply, clock, keep_terms, or_rollback, terms};
@@ -129,7 +129,7 @@ fn continues_earlier(terms: &Terms, earlier: &Option<Terms>, clock: Moment) -> b
 fn install<B: Book>(book: &mut B, alloc: Global, policy: &Policy, own: Terms) -> Result<(), Fault>
     requires open { (B.state book.old).is_open ≡ true }
     requires own { own ≡ terms_of policy.now }
-    ensures opened { OnOk result (Moves (B.state book.old) (B.state book.new)
+    ensures opened { OnOk result (BookWrites (B.state book.old) (B.state book.new)
         (spec.opened policy.now (B.state book.old).content)) }
     ensures fault { IfErr result (λ fault. GoesBack fault (B.state book.old) (B.state book.new)) }
     ensures follows { Follows (B.state book.old) (B.state book.new) }

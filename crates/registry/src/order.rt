@@ -2,9 +2,9 @@
 ghost use Rattle.std.specs.Prelude.{◌≡◌, true, option_and_then, IfOk, IfErr, OnOk};
 ghost use Rattle.registry.specs.Execution.{GoesBack, IsOrderStep, IsWithin, OrderSteps, SameTerms};
 ghost use Rattle.protocol.specs.declared.order.Order.TheVariants as orders;
-ghost use Rattle.registry.specs.Passing.{status_at};
+ghost use Rattle.registry.specs.inner.Passing.{status_at};
 ghost use Rattle.rules.specs.Orders.{deposit_decision};
-ghost use Rattle.store.specs.Book.{Follows, IsSame, LeavesSame, Moves, with_changes};
+ghost use Rattle.store.specs.Book.{Follows, BookReads, LeavesSame, BookWrites, with_changes};
 ghost use Rattle.model.specs.Objects.{object_at};
 
 use crate::fault::Fault;
@@ -118,7 +118,7 @@ fn set_statuses<B: Book>(
     requires { (B.state book.old).is_open ≡ true }
     ensures code { IfOk result (λ code. (B.state book.new).is_clean ≡ true
         → code ≡ (status_at order.now name.now (B.state book.old).content.registry).code) }
-    ensures made { OnOk result (Moves (B.state book.old) (B.state book.new)
+    ensures made { OnOk result (BookWrites (B.state book.old) (B.state book.new)
         (with_changes policy.now
         (status_at order.now name.now (B.state book.old).content.registry).changes
         (B.state book.old).content)) }
@@ -144,7 +144,7 @@ fn deposit<B: Book>(
     requires { (B.state book.old).is_open ≡ true }
     ensures code { IfOk result (λ code. code
         ≡ (deposit_decision policy.now now registrar.now cents).code) }
-    ensures made { OnOk result (Moves (B.state book.old) (B.state book.new)
+    ensures made { OnOk result (BookWrites (B.state book.old) (B.state book.new)
         (with_changes policy.now (deposit_decision policy.now now registrar.now cents).changes
         (B.state book.old).content)) }
     ensures fault { IfErr result (λ fault. GoesBack fault (B.state book.old) (B.state book.new)) }
@@ -166,7 +166,7 @@ fn object_named<B: Book>(
     requires { (B.state book.old).is_open ≡ true }
     ensures found { IfOk result (λ object. (B.state book.new).is_clean ≡ true
         → object ≡ option_and_then (object_at (B.state book.old).content.registry kind) name.now) }
-    ensures same { OnOk result (IsSame (B.state book.old) (B.state book.new)) }
+    ensures same { OnOk result (BookReads (B.state book.old) (B.state book.new)) }
     ensures fault { IfErr result (λ fault. GoesBack fault (B.state book.old) (B.state book.new)) }
     ensures follows { Follows (B.state book.old) (B.state book.new) }
     ensures leaves { LeavesSame (B.state book.old) (B.state book.new) }

@@ -3,7 +3,7 @@
 ghost use Rattle.std.specs.Prelude.{◌≡◌, max, true, Some, None, IfOk, IfErr, OnOk};
 ghost use Rattle.concerns.specs.Names.{named_by, no_names};
 ghost use Rattle.registry.specs.Execution.{GoesBack};
-ghost use Rattle.registry.specs.Passing.{Passes, names_at};
+ghost use Rattle.registry.specs.inner.Passing.{Passes, names_at};
 ghost use Rattle.store.specs.Book.{Follows, LeavesSame};
 
 use crate::fault::Fault;

@@ -9,9 +9,10 @@ use crate::transaction::move_clock;
 use crate::work::Work;
 use basis::list::Seq;
 use calendar::Moment;
+use lifecycle::Due;
 use policy::Policy;
 use std::alloc::Global;
-use store::{Book, Due};
+use store::Book;
 
 /// A settlement at a moment, of so many objects at most.
 #[derive(Drop)]

@@ -1,7 +1,7 @@
 //! The steps of a transaction, each with one kind of fault: it then went back.
 ghost use Rattle.std.specs.Prelude.{◌≡◌, ◌∷◌, [], max, true, IfOk, IfErr, OnOk, Ok};
 ghost use Rattle.registry.specs.Execution.{GoesBack, at_moment};
-ghost use Rattle.store.specs.Book.{Commits, Follows, IsSame, LeavesHeld, LeavesSame, Moves, with_changes, with_terms};
+ghost use Rattle.store.specs.Book.{BookKeeps, Follows, BookReads, LeavesHeld, LeavesSame, BookWrites, with_changes, with_terms};
 ghost use Rattle.facts.specs.Facts.{facts};
 ghost use Rattle.model.specs.Objects.{object_at};
 
@@ -43,7 +43,7 @@ pub(crate) fn clock<B: Book>(book: &mut B) -> Result<Moment, Fault>
     requires { (B.state book.old).is_open ≡ true }
     ensures found { IfOk result (λ clock. (B.state book.new).is_clean ≡ true
         → clock ≡ (B.state book.old).content.registry.clock) }
-    ensures same { OnOk result (IsSame (B.state book.old) (B.state book.new)) }
+    ensures same { OnOk result (BookReads (B.state book.old) (B.state book.new)) }
     ensures fault { IfErr result (λ fault. GoesBack fault (B.state book.old) (B.state book.new)) }
     ensures follows { Follows (B.state book.old) (B.state book.new) }
     ensures leaves { LeavesSame (B.state book.old) (B.state book.new) }
@@ -61,7 +61,7 @@ pub(crate) fn facts_for<B: Book>(
     requires { (B.state book.old).is_open ≡ true }
     ensures found { IfOk result (λ found. (B.state book.new).is_clean ≡ true
         → found ≡ facts policy.now caller command.now (B.state book.old).content.registry) }
-    ensures same { OnOk result (IsSame (B.state book.old) (B.state book.new)) }
+    ensures same { OnOk result (BookReads (B.state book.old) (B.state book.new)) }
     ensures fault { IfErr result (λ fault. GoesBack fault (B.state book.old) (B.state book.new)) }
     ensures follows { Follows (B.state book.old) (B.state book.new) }
     ensures leaves { LeavesSame (B.state book.old) (B.state book.new) }
@@ -78,7 +78,7 @@ pub(crate) fn object_at<B: Book>(
     requires { (B.state book.old).is_open ≡ true }
     ensures found { IfOk result (λ found. (B.state book.new).is_clean ≡ true
         → found ≡ object_at (B.state book.old).content.registry kind name.now) }
-    ensures same { OnOk result (IsSame (B.state book.old) (B.state book.new)) }
+    ensures same { OnOk result (BookReads (B.state book.old) (B.state book.new)) }
     ensures fault { IfErr result (λ fault. GoesBack fault (B.state book.old) (B.state book.new)) }
     ensures follows { Follows (B.state book.old) (B.state book.new) }
     ensures leaves { LeavesSame (B.state book.old) (B.state book.new) }
@@ -93,7 +93,7 @@ pub(crate) fn apply<B: Book>(
     policy: &Policy,
 ) -> Result<(), Fault>
     requires { (B.state book.old).is_open ≡ true }
-    ensures ok { OnOk result (Moves (B.state book.old) (B.state book.new)
+    ensures ok { OnOk result (BookWrites (B.state book.old) (B.state book.new)
         (with_changes policy.now changes (B.state book.old).content)) }
     ensures fault { IfErr result (λ fault. GoesBack fault (B.state book.old) (B.state book.new)) }
     ensures follows { Follows (B.state book.old) (B.state book.new) }
@@ -107,7 +107,7 @@ pub(crate) fn terms<B: Book>(book: &mut B) -> Result<Option<Terms>, Fault>
     requires { (B.state book.old).is_open ≡ true }
     ensures found { IfOk result (λ terms. (B.state book.new).is_clean ≡ true
         → terms ≡ (B.state book.old).content.terms) }
-    ensures same { OnOk result (IsSame (B.state book.old) (B.state book.new)) }
+    ensures same { OnOk result (BookReads (B.state book.old) (B.state book.new)) }
     ensures fault { IfErr result (λ fault. GoesBack fault (B.state book.old) (B.state book.new)) }
     ensures follows { Follows (B.state book.old) (B.state book.new) }
     ensures leaves { LeavesSame (B.state book.old) (B.state book.new) }
@@ -118,7 +118,7 @@ pub(crate) fn terms<B: Book>(book: &mut B) -> Result<Option<Terms>, Fault>
 /// Puts down terms in an open transaction.
 pub(crate) fn keep_terms<B: Book>(book: &mut B, terms: Terms) -> Result<(), Fault>
     requires { (B.state book.old).is_open ≡ true }
-    ensures ok { OnOk result (Moves (B.state book.old) (B.state book.new)
+    ensures ok { OnOk result (BookWrites (B.state book.old) (B.state book.new)
         (with_terms terms (B.state book.old).content)) }
     ensures fault { IfErr result (λ fault. GoesBack fault (B.state book.old) (B.state book.new)) }
     ensures follows { Follows (B.state book.old) (B.state book.new) }
@@ -130,7 +130,7 @@ pub(crate) fn keep_terms<B: Book>(book: &mut B, terms: Terms) -> Result<(), Faul
 /// Keeps what an open transaction did.
 pub(crate) fn commit<B: Book>(book: &mut B) -> Result<(), Fault>
     requires { (B.state book.old).is_open ≡ true }
-    ensures ok { OnOk result (Commits (B.state book.old) (B.state book.new)) }
+    ensures ok { OnOk result (BookKeeps (B.state book.old) (B.state book.new)) }
     ensures fault { IfErr result (λ fault. GoesBack fault (B.state book.old) (B.state book.new)) }
     ensures follows { Follows (B.state book.old) (B.state book.new) }
     ensures leaves { LeavesHeld result (B.state book.old) (B.state book.new) }
@@ -147,7 +147,7 @@ pub(crate) fn advance_clock<B: Book>(
     policy: &Policy,
 ) -> Result<Moment, Fault>
     requires { (B.state book.old).is_open ≡ true }
-    ensures moved { OnOk result (Moves (B.state book.old) (B.state book.new)
+    ensures moved { OnOk result (BookWrites (B.state book.old) (B.state book.new)
         (at_moment policy.now moment (B.state book.old).content)) }
     ensures clock { IfOk result (λ clock. (B.state book.new).is_clean ≡ true
         → clock ≡ max moment (B.state book.old).content.registry.clock) }
@@ -168,7 +168,7 @@ pub(crate) fn move_clock<B: Book>(
     policy: &Policy,
 ) -> Result<Moment, Fault>
     requires { (B.state book.old).is_open ≡ true }
-    ensures moved { OnOk result (Moves (B.state book.old) (B.state book.new)
+    ensures moved { OnOk result (BookWrites (B.state book.old) (B.state book.new)
         (with_changes policy.now (Change.MoveClock moment ∷ []) (B.state book.old).content)) }
     ensures clock { IfOk result (λ clock. (B.state book.new).is_clean ≡ true
         → clock ≡ max moment (B.state book.old).content.registry.clock) }

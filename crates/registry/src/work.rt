@@ -2,7 +2,7 @@
 ghost use Rattle.std.specs.Prelude.{◌≡◌, true, false, IfOk, IfErr, OnOk};
 ghost use Rattle.registry.specs.Crashes.{Makes, Outlives};
 ghost use Rattle.registry.specs.Execution.{GoesBack, SameTerms};
-ghost use Rattle.store.specs.Book.{Commits, Follows, LeavesHeld};
+ghost use Rattle.store.specs.Book.{BookKeeps, Follows, LeavesHeld};
 
 use crate::fault::Fault;
 use crate::transaction::commit;
@@ -70,7 +70,7 @@ pub(crate) fn keep<B: Book, W: Work>(
 fn keep_with<B: Book, T: Drop>(book: &mut B, answer: T) -> Result<T, Fault>
     requires { (B.state book.old).is_open ≡ true }
     ensures answer { IfOk result (λ it. it ≡ answer) }
-    ensures kept { OnOk result (Commits (B.state book.old) (B.state book.new)) }
+    ensures kept { OnOk result (BookKeeps (B.state book.old) (B.state book.new)) }
     ensures fault { IfErr result (λ fault. GoesBack fault (B.state book.old) (B.state book.new)) }
     ensures follows { Follows (B.state book.old) (B.state book.new) }
     ensures leaves { LeavesHeld result (B.state book.old) (B.state book.new) }

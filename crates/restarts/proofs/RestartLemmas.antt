@@ -12,15 +12,15 @@ use Rattle.registry.specs.Opening.{Opens}
 use Rattle.runs.specs.Crashes.{Happens, answered, crash, opening}
 use Rattle.store.specs.Book.{BookState, Follows, LeavesItself, may_leave}
 use Rattle.store.specs.Reopening.{IsBook, IsTakenUp, LeavesFound}
-use Rattle.tables.specs.Adoption.{IsAdopted}
-use Rattle.tables.specs.Content.{Content}
+use Rattle.sqltables.specs.Adoption.{IsAdopted}
+use Rattle.sqltables.specs.Content.{Content}
 use Rattle.transactions.specs.States.{Has, Remains, StateOf}
 use Rattle.transactions.proofs.LeavingLemmas.{has-alone}
 use Rattle.sqlbook.specs.Beginning.{IsTakenFrom}
 use Rattle.sqlbook.specs.Files.{AreTakenIn}
 use Rattle.sqlbook.proofs.BeginningLemmas.{rows_new}
 use Rattle.sqlbook.specs.Meaning.{are_right, stored_of}
-use Rattle.sqlbook.specs.Seen.{are_all_right, meant}
+use Rattle.sqlbook.specs.AsBook.{are_all_right, meant}
 use Rattle.transactions.specs.declared.readiness.Ready.{Ready}
 use Rattle.restarts.specs.Restarts.{IsOpenedIn, NewFilesAreBooks, RestartsAreEvents, StopsAreCrashes, book_of}
 

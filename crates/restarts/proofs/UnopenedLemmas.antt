@@ -13,24 +13,24 @@ use Rattle.registry.specs.Calls.{IsRefused}
 use Rattle.registry.specs.Crashes.{RefusedTo}
 use Rattle.registry.specs.declared.fault.OpenFault.{OpenFault}
 use Rattle.registry.specs.declared.fault.OpenFault.TheVariants as refusals
-use Rattle.rows.specs.Columns.{no_schema}
+use Rattle.sqlrows.specs.Columns.{no_schema}
 use Rattle.runs.specs.Crashes.{Happens, crash}
 use Rattle.runs.proofs.CrashLemmas.{refused-opening}
 use Rattle.store.specs.Book.{BookState, Stored, may_leave}
-use Rattle.tables.specs.Adoption.{IsAdopted, IsSameRegistry, IsTakenAs, LeavesAsFound}
-use Rattle.tables.specs.Content.{Content}
-use Rattle.tables.specs.Readiness.{IsKnownAs, is_numbered}
-use Rattle.tables.specs.Tables.{registry}
-use Rattle.tables.specs.declared.adoption.Unadopted.{Unadopted}
-use Rattle.tables.specs.declared.adoption.Unadopted.TheVariants as unadopted
-use Rattle.tables.proofs.AdoptedLemmas.{schema_once, some-tables}
+use Rattle.sqltables.specs.Adoption.{IsAdopted, IsSameRegistry, IsTakenAs, LeavesAsFound}
+use Rattle.sqltables.specs.Content.{Content}
+use Rattle.sqltables.specs.Readiness.{IsKnownAs, is_numbered}
+use Rattle.sqltables.specs.Tables.{registry}
+use Rattle.sqltables.specs.declared.adoption.Unadopted.{Unadopted}
+use Rattle.sqltables.specs.declared.adoption.Unadopted.TheVariants as unadopted
+use Rattle.sqltables.proofs.AdoptedLemmas.{schema_once, some-tables}
 use Rattle.transactions.specs.declared.fault.BookFault.{BookFault}
 use Rattle.transactions.specs.declared.readiness.Ready.{Ready}
 use Rattle.transactions.specs.declared.readiness.Ready.TheVariants.{Empty, Used, Other}
 use Rattle.transactions.specs.States.{Remains, StateOf}
 use Rattle.sqlbook.specs.Files.{AreTakenIn}
 use Rattle.sqlbook.specs.Meaning.{are_right}
-use Rattle.sqlbook.specs.Seen.{are_all_right}
+use Rattle.sqlbook.specs.AsBook.{are_all_right}
 use Rattle.restarts.specs.Restarts.{book_of}
 use Rattle.restarts.specs.Unopened.{FailuresGoUnnoticed, GivesBack, IsLeftAsFound, IsRefusedIn, RefusalsAreEvents, never, never_for, or_cause, or_database, unconnected}
 use Rattle.restarts.specs.declared.unopened.Unopened.{Unopened}

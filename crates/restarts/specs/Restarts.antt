@@ -11,15 +11,15 @@ use Rattle.runs.specs.Crashes.{Happened, Happens, answered, crash, opening}
 use Rattle.store.specs.Book.{BookState, Follows, LeavesItself}
 use Rattle.store.specs.Kept.{stands}
 use Rattle.store.specs.Reopening.{IsTakenUp}
-use Rattle.tables.specs.Content.{Content}
+use Rattle.sqltables.specs.Content.{Content}
 use Rattle.transactions.specs.States.{StateOf}
 use Rattle.sqlbook.specs.Files.{AreTakenIn, IsLeftIn}
 use Rattle.sqlbook.specs.Meaning.{are_right, stored_of}
-use Rattle.sqlbook.specs.Seen.{seen}
+use Rattle.sqlbook.specs.AsBook.{as_book}
 
 -- what rows are to a registry, where so many refusals were counted
 abbrev pub book_of : StateOf Content → ℕ → BookState
-book_of rows refused = stands (seen stored_of are_right rows) refused
+book_of rows refused = stands (as_book stored_of are_right rows) refused
 
 -- The book was found in files that held this, and is opened under a policy.
 pub record IsOpenedIn (image : Image) (p : PolicyRules) (new : BookState) : Type 0 where

@@ -16,11 +16,11 @@ use Rattle.registry.specs.declared.fault.OpenFault.TheVariants as refusals
 use Rattle.runs.specs.Crashes.{Happened, Happens, crash, opening}
 use Rattle.runs.specs.CrashLaws.{refusal_of}
 use Rattle.store.specs.Book.{BookState, Stored, may_leave}
-use Rattle.tables.specs.Adoption.{IsAdopted, LeavesAsFound}
-use Rattle.tables.specs.Content.{Content}
-use Rattle.tables.specs.Readiness.{IsKnownAs}
-use Rattle.tables.specs.declared.adoption.Unadopted.{Unadopted}
-use Rattle.tables.specs.declared.adoption.Unadopted.TheVariants as unadopted
+use Rattle.sqltables.specs.Adoption.{IsAdopted, LeavesAsFound}
+use Rattle.sqltables.specs.Content.{Content}
+use Rattle.sqltables.specs.Readiness.{IsKnownAs}
+use Rattle.sqltables.specs.declared.adoption.Unadopted.{Unadopted}
+use Rattle.sqltables.specs.declared.adoption.Unadopted.TheVariants as unadopted
 use Rattle.transactions.specs.States.{Remains, StateOf}
 use Rattle.transactions.specs.declared.fault.BookFault.{BookFault}
 use Rattle.transactions.specs.declared.fault.BookFault.TheVariants as faults

@@ -5,7 +5,7 @@ ghost use Rattle.sqlite.specs.Start.{FindsIn};
 ghost use Rattle.sqlite.specs.State.{HasCleanDisk};
 ghost use Rattle.sqlite_std_file.specs.File.{IsFresh};
 ghost use Rattle.sqlite_wal.specs.Files.{image_at};
-ghost use Rattle.tables.specs.Adoption.{IsFound};
+ghost use Rattle.sqltables.specs.Adoption.{IsFound};
 ghost use Rattle.transactions.specs.declared.fault.BookFault.{BookFault};
 ghost use Rattle.restarts.specs.Unopened.{AreLeft, GivesBack, never_for, unconnected};
 

@@ -16,13 +16,13 @@ use crate::connection::connect;
 use crate::unopened::{Unopened, or_cause};
 use policy::Policy;
 use registry::{OpenFault, Registry};
-use sqlbook::{Found, SqlBook, Unadopted, taken};
+use sqlbook::{OnDisk, SqlBook, Unadopted, taken};
 use sqlite::{FileFrom, FileStore, Leftover, Start};
 use std::alloc::Global;
 use store::Book;
 
 /// The book in a file. `S` stands for what the file and its log held.
-pub type FileBook<S> = SqlBook<FileStore<FileFrom<S>>, Found>;
+pub type FileBook<S> = SqlBook<FileStore<FileFrom<S>>, OnDisk>;
 
 /// What an opening of a registry in a file gives back that failed.
 pub type FileUnopened<S> = Unopened<Leftover<FileFrom<S>>, FileStore<FileFrom<S>>, FileBook<S>>;

@@ -7,14 +7,14 @@ use fixtures::registry_over;
 use policy::Policy;
 use registry::Registry;
 use script::{Exit, run_on};
-use sqlbook::{Made, SqlBook, in_memory};
+use sqlbook::{InMemory, SqlBook, in_memory};
 use sqlite::MemStore;
 use std::alloc::Global;
 use std::test::Fail;
 use store::{Book, BookFault};
 
 /// A registry in the rows of a database in memory.
-pub type Rows = Registry<SqlBook<MemStore, Made>>;
+pub type Rows = Registry<SqlBook<MemStore, InMemory>>;
 
 /// A registry that is new.
 pub fn new_registry(alloc: Global) -> Result<Rows, Fail> {

@@ -4,11 +4,11 @@
 ghost use Rattle.std.specs.Prelude.{◌≡◌, true, false, OnOk};
 
 use sqlite::{Alter, Connection, Error, MemStore};
-use std::alloc::{AllocError, Global};
-use std::process::Abort;
-use tables::{
+use sqltables::{
     AccountRow, LinkRow, MetaRow, RowStore, Unadopted, balance_of_bytes, bytes_of_balance, create,
 };
+use std::alloc::{AllocError, Global};
+use std::process::Abort;
 use transactions::{BookFault, Ready};
 
 // ---- rows
@@ -137,7 +137,7 @@ const ADOPTED: &[(bool, &[&str], Ready)] = &[
 ];
 
 fn make<S: Alter>(conn: &mut Connection<S>, has_tables: bool, texts: &[&str]) -> Result<(), Error> {
-    rows::begin(conn)?;
+    sqlrows::begin(conn)?;
     if has_tables {
         create(conn)?;
     }

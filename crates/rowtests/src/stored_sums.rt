@@ -4,13 +4,13 @@
 
 use crate::registries::{new_registry, printed};
 use registry::Registry;
-use sqlbook::{Origin, SqlBook};
+use sqlbook::{Provenance, SqlBook};
 use sqlite::Alter;
+use sqltables::{AccountRow, DomainRow, HostRow, RowStore, balance_of_bytes};
 use std::alloc::Global;
 use std::process::Abort;
 use std::test::Fail;
 use store::{Book, BookFault};
-use tables::{AccountRow, DomainRow, HostRow, RowStore, balance_of_bytes};
 
 /// `waiting`, `balance` and `held` of the account of a number.
 type Account = (i64, i64, i128, i64);
@@ -148,7 +148,7 @@ trait RowBook: Book {
     fn into_rows(self) -> RowStore<Self::Kind>;
 }
 
-impl<S: Alter + Drop, O: Origin<S> + Drop> RowBook for SqlBook<S, O> {
+impl<S: Alter + Drop, O: Provenance<S> + Drop> RowBook for SqlBook<S, O> {
     type Kind = S;
 
     fn into_rows(self) -> RowStore<S> {

@@ -3,12 +3,12 @@
 ghost use Rattle.std.specs.Prelude.{[], ◌∷◌};
 ghost use Rattle.sqlite_value.specs.declared.value.Value.TheVariants.{Int};
 
-use rows::{
-    Number, Record, begin, commit, define, go_back, is_schema, is_unused, maybe_number, maybe_text,
-    write,
-};
 use sqlite::types::ToSql;
 use sqlite::{Alter, Connection, Error, Row, params};
+use sqlrows::{
+    Number, Record, begin, commit, define, is_schema, is_unused, maybe_number, maybe_text,
+    rollback, write,
+};
 use std::alloc::Global;
 use std::process::Abort;
 
@@ -70,8 +70,8 @@ fn keep_notes<S: Alter>(
     begin(conn)?;
     put(conn, 2, &None)?;
     assert_eq!(rt; notes_since(conn, alloc, 1)?.len(), 2);
-    go_back(conn)?;
-    go_back(conn)?;
+    rollback(conn)?;
+    rollback(conn)?;
     assert_eq!(rt; notes_since(conn, alloc, 1)?.len(), 1);
     assert_eq!(rt; notes_since(conn, alloc, 2)?.len(), 0);
     Ok(())
@@ -102,7 +102,7 @@ fn make_beside_notes<S: Alter>(
     begin(conn)?;
     define(conn, &[NOTE, BY_RANK])?;
     let notes = conn.schema().copy(alloc)?;
-    go_back(conn)?;
+    rollback(conn)?;
     begin(conn)?;
     define(conn, texts)?;
     Ok(is_schema(conn.schema(), &notes))

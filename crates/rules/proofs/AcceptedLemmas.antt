@@ -1,19 +1,12 @@
 -- What holds of the changes of a command holds where it was refused, or where it wasn't.
 use Rattle.std.proofs.Common.{◌≡◌, ℕ, Bool, true, false, cond, List, [], Option, Some, None, refl, sym, subst}
-use Rattle.facts.specs.declared.facts.Facts.{Facts}
+use Rattle.rules.proofs.Words.{Asked, Change, domain_seen, Facts, name_of, PolicyRules, Request, TransferOp}
 use Rattle.facts.specs.declared.facts.OldestMessage.{OldestMessage}
-use Rattle.facts.specs.Facts.{domain_seen}
-use Rattle.names.specs.GivenName.{name_of}
-use Rattle.policy.specs.Rules.{PolicyRules}
 use Rattle.protocol.specs.declared.code.Code.{Code}
 use Rattle.protocol.specs.declared.code.Code.TheVariants.{Completed, CompletedActionPending}
-use Rattle.protocol.specs.declared.command.Command.TheVariants.{Asked}
-use Rattle.protocol.specs.declared.command.Request.{Request}
 use Rattle.protocol.specs.declared.command.Request.TheVariants.{DeleteDomain, PollRequest, TransferContact, TransferDomain}
-use Rattle.protocol.specs.declared.transfer.TransferOp.{TransferOp}
 use Rattle.protocol.specs.declared.transfer.TransferOp.TheVariants as ops
 use Rattle.protocol.specs.Codes.{is_accepted}
-use Rattle.rules.specs.declared.change.Change.{Change}
 use Rattle.rules.specs.Decisions.{changes_of}
 use Rattle.verdict.specs.Deletion.{goes_at_once}
 use Rattle.verdict.specs.Poll.{code_of_poll}

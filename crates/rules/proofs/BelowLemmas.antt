@@ -6,9 +6,8 @@ use Rattle.std.proofs.Math.Seq.{drop-append-add, get_or-append_seam}
 use Rattle.std.proofs.lemmas.Bool.{lt-ltb}
 use Rattle.std.proofs.lemmas.Cmp.{nat_list_eq_equiv}
 use Rattle.std.proofs.lemmas.List.{length-append}
-use Rattle.names.specs.Zone.{ZoneRules, superordinate_of}
+use Rattle.rules.proofs.Words.{is_below, superordinate_of, ZoneRules}
 use Rattle.names.proofs.SuperordinateLemmas.{spells-superordinate_of}
-use Rattle.objects.specs.Hosts.{is_below}
 
 module _ (lower domain : List ℕ) where
   abbrev host : List ℕ

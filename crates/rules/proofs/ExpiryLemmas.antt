@@ -3,16 +3,13 @@
 use Rattle.std.proofs.Common.{◌≡◌, inl, inr, ℕ, zero, suc, ◌+◌, ◌-◌, ◌/◌, ◌<◌, ◌≤◌, max, min, nat_lt, Bool, true, false, cond, refl, sym, subst, arith}
 use Rattle.std.proofs.lemmas.Bool.{cases_lt}
 use Rattle.std.proofs.lemmas.Bool.Decides.{nat_tests}
+use Rattle.rules.proofs.Words.{Domain, gained, last_clock, turns}
 use Rattle.calendar.specs.Calendar.{Date, date_of, day_number, days_of_years}
 use Rattle.calendar.specs.Moment.{plus_years, years_later}
 use Rattle.calendar.proofs.CalendarLemmas.{IsReal, IsReal-date_of}
 use Rattle.calendar.proofs.YearLaws.{IsReal-years_later, day_number-year, days_of_years-mono, plus_years-lt, plus_years-zero}
-use Rattle.lifecycle.specs.Lapse.{gained}
-use Rattle.lifecycle.specs.Turns.{turns}
 use Rattle.lifecycle.proofs.TurnLaws.{turns-are}
-use Rattle.objects.specs.declared.domain.Domain.{Domain}
 use Rattle.model.specs.Shapes.{end_of_expiries}
-use Rattle.model.specs.WellFormed.{last_clock}
 use Rattle.rules.specs.Decisions.{more_years}
 
 days_to_2100 : days_of_years 130 ≡ 47_482

@@ -1,19 +1,10 @@
 -- What is so of an object stays so while the clock and the accounts' serials grow.
-use Rattle.std.proofs.Common.{◌≡◌, ◌≢◌, ◌⊎◌, ⊎_elim, ℕ, ◌≤◌, true, List, Option, Some, None, IsSome, refl, subst, arith}
-use Rattle.std.specs.FinMap.{get}
-use Rattle.names.specs.Zone.{ZoneRules, superordinate_of}
-use Rattle.objects.specs.declared.contact.Contact.{Contact}
-use Rattle.objects.specs.declared.domain.Deletion.{Deletion}
-use Rattle.objects.specs.declared.domain.Domain.{Domain}
-use Rattle.objects.specs.declared.domain.Links.{Links}
-use Rattle.objects.specs.declared.host.Host.{Host}
-use Rattle.objects.specs.declared.roid.ObjectKind.{ObjectKind}
-use Rattle.objects.specs.declared.roid.Roid.{Roid}
-use Rattle.objects.specs.declared.transfer.Transfer.{Transfer}
-use Rattle.objects.specs.Links.{names_contact, names_host}
-use Rattle.policy.specs.Rules.{PolicyRules, IsRegistrar}
-use Rattle.model.specs.Registry.{Registry, account_of}
-use Rattle.model.specs.WellFormed.{BelongsTo, HasBeen, HasRoid, IsContactOf, IsDeletion, IsDomainOf, IsHostOf, IsLastTransfer}
+use Rattle.std.proofs.Common.{◌≡◌, ◌≢◌, ◌⊎◌, ⊎_elim, ℕ, ◌≤◌, true, List, Option, Some, None, IsSome, refl, sym, ap, subst, ◌∙◌, arith}
+use Rattle.rules.proofs.Words.{account_of, Contact, Deletion, Domain, get, HasBeen, HasRoid, Host, IsContactOf, IsDeletion, IsDomainOf}
+use Rattle.rules.proofs.Words.{IsHostOf, IsLastTransfer, IsRegistrar, Links, names_contact, names_host, ObjectKind, PolicyRules, Registry}
+use Rattle.rules.proofs.Words.{Roid, superordinate_of, Transfer, ZoneRules}
+use Rattle.objects.specs.declared.roid.ObjectKind.TheVariants as kinds
+use Rattle.model.specs.WellFormed.{BelongsTo}
 
 -- A registry under a policy becomes another, under a policy of the same zone with at least its
 -- registrars: the clock and each account's serial stand where they stood, or later.
@@ -111,3 +102,32 @@ module _ (p q : PolicyRules) (s t : Registry) (grows : Grows p q s t) where
     };
     transfer = transfer-grown d.created d.transferred d.transfer h.transfer;
   }
+
+-- ---- a domain with other dates, in other hands, or deleted
+
+-- what stays of a domain
+pub record IsSameDomain (d e : Domain) : Type 0 where
+  pub name : e.name ≡ d.name
+  pub roid : e.roid ≡ d.roid
+  pub created : e.created ≡ d.created
+  pub links : e.links ≡ d.links
+
+pub same-domain : {d e : Domain} → e.name ≡ d.name → e.roid ≡ d.roid → e.created ≡ d.created → e.links ≡ d.links → IsSameDomain d e
+same-domain name roid created links = record { name = name; roid = roid; created = created; links = links }
+
+pub domain-with : (p : PolicyRules) (s : Registry) (name : List ℕ) (d e : Domain) → IsDomainOf p s name d → IsSameDomain d e
+    → IsRegistrar p e.sponsor → HasBeen s e.transferred → HasBeen s e.updated → IsDeletion p s e e.deletion → IsLastTransfer p s e.created e.transferred e.transfer → IsDomainOf p s name e
+domain-with p s name d e of same sponsor transferred updated deletion transfer = record {
+  stands = record {
+    named = same.name ∙ of.stands.named;
+    roid = subst (HasRoid p s kinds.Domain) (sym same.roid) of.stands.roid;
+    sponsor = sponsor;
+    created = omega (arith, same.created, of.stands.created);
+    transferred = transferred;
+    updated = updated;
+    deletion = deletion;
+    contacts = λ contact named. of.stands.contacts contact (ap (names_contact contact) (sym same.links) ∙ named);
+    hosts = λ host named. of.stands.hosts host (ap (names_host host) (sym same.links) ∙ named);
+  };
+  transfer = transfer;
+}

@@ -2,30 +2,19 @@
 -- 3915, 3.1; RFC 5730, 2.9.3.4).
 use Rattle.std.proofs.Common.{◌≡◌, ◌≢◌, ℕ, ◌≤◌, ◌<◌, ◌==◌, nat_lt, nat_le, Bool, true, false, cond, not, ◌&&◌, List, Option, Some, None, is_some, refl, ap, subst, ◌∙◌, arith, eqb-true}
 use Rattle.std.specs.Prelude.{IfSome}
-use Rattle.std.specs.FinMap.{get}
-use Rattle.std.specs.List.{list_any}
 use Rattle.std.proofs.lemmas.Bool.{and_parts}
 use Rattle.std.proofs.lemmas.Bool.Decides.{nat_tests}
-use Rattle.accounts.specs.declared.line.Line.{Line}
-use Rattle.accounts.specs.declared.line.LineKind.{LineKind}
+use Rattle.rules.proofs.Words.{account_of, begins_after, Domain, end, get, Graces, is_begun_after, is_for_transfer, is_kind, is_on}
+use Rattle.rules.proofs.Words.{is_pending_state, IsLater, IsSound, Line, LineKind, list_any, MeetsStandards, PolicyRules, Registry, remade}
+use Rattle.rules.proofs.Words.{Roid, runs, Transfer, transfer_started, TransferStart, waits}
 use Rattle.accounts.specs.declared.line.LineKind.TheVariants as kinds
-use Rattle.accounts.specs.declared.line.TransferStart.{TransferStart}
-use Rattle.accounts.specs.Lines.{begins_by, in_order, is_for_transfer, is_kind, is_on, kind_rank, transfer_started, waits}
-use Rattle.basis.specs.Bag.{remade}
-use Rattle.lifecycle.specs.Graces.{gives, graces, period_of, runs, runs_from}
-use Rattle.lifecycle.specs.Periods.{end}
-use Rattle.objects.specs.declared.domain.Domain.{Domain}
-use Rattle.objects.specs.declared.grace.Graces.{Graces}
-use Rattle.objects.specs.declared.roid.Roid.{Roid}
-use Rattle.objects.specs.declared.transfer.Transfer.{Transfer}
-use Rattle.objects.specs.Transfers.{is_pending_state}
+use Rattle.accounts.specs.Lines.{begins_by, in_order, kind_rank}
+use Rattle.lifecycle.specs.Graces.{gives, graces, period_of, runs_from}
 use Rattle.policy.specs.declared.days.Period.{Period}
 use Rattle.policy.specs.declared.days.Period.TheVariants as periods
-use Rattle.policy.specs.Rules.{PolicyRules, IsSound}
 use Rattle.policy.proofs.ScheduleLemmas.{day-count}
-use Rattle.model.specs.Registry.{Registry, account_of}
-use Rattle.model.specs.Standards.{IsStandardRequest, MeetsStandards}
-use Rattle.model.specs.WellFormed.{IsLater, IsTransferRecord, begins_after, is_begun_after}
+use Rattle.model.specs.Standards.{IsStandardRequest}
+use Rattle.model.specs.WellFormed.{IsTransferRecord}
 use Rattle.model.proofs.LineLemmas.{and-false, any-of-one, none-remade}
 
 -- ---- one line

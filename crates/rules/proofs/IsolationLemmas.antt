@@ -1,23 +1,17 @@
 -- Who can't tell two registries apart is answered alike, and can't tell them apart afterwards. No
 -- command is named here: facts are a function of the view, and each change commutes with it.
 use Rattle.std.proofs.Common.{◌≡◌, ℕ, ◌≤◌, max, sym, ap, subst, ◌∙◌}
-use Rattle.policy.specs.Rules.{PolicyRules, IsSound}
-use Rattle.rules.specs.Changes.{changed_all}
+use Rattle.rules.proofs.Words.{account_of, changed_all, Command, decision, effect, facts, IsSound, lapsed, last_clock, MeetsStandards, now}
+use Rattle.rules.proofs.Words.{PolicyRules, Registry, view}
 use Rattle.rules.specs.Decisions.{decided}
 use Rattle.rules.specs.Isolation.{IsIsolated}
-use Rattle.rules.specs.Steps.{answer, decision, effect, reply_of}
+use Rattle.rules.specs.Steps.{answer, reply_of}
 use Rattle.rules.proofs.RegistryLemmas.{registry-lapsed}
 use Rattle.rules.proofs.MeetingLemmas.{meets-decided}
 use Rattle.rules.proofs.SettledLemmas.{settled-effect}
 use Rattle.rules.proofs.ViewLemmas.{AllMeet, same_facts, same_view, same_changed_all}
-use Rattle.protocol.specs.declared.command.Command.{Command}
 use Rattle.protocol.specs.declared.reply.Reply.{Reply}
-use Rattle.facts.specs.Facts.{facts}
-use Rattle.model.specs.Lapse.{lapsed, now}
-use Rattle.model.specs.Registry.{Registry, account_of}
-use Rattle.model.specs.View.{view, view_for}
-use Rattle.model.specs.Standards.{MeetsStandards}
-use Rattle.model.specs.WellFormed.{last_clock}
+use Rattle.model.specs.View.{view_for}
 use Rattle.model.proofs.LapseLaws.{lapsed-is-settled, settled-is-now}
 use Rattle.model.proofs.StandardLemmas.{registries-meet-standards}
 

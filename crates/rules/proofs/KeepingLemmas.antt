@@ -1,30 +1,19 @@
 -- Each change keeps a registry well formed, where what it puts or takes away fits.
 use Rattle.std.proofs.Common.{◌≡◌, ◌≢◌, ◌↔◌, ◌⊎◌, inl, inr, ⊎_elim, ℕ, ◌≤◌, Bool, true, false, cond, not, List, filter, Some, IsSome, is_some, refl, sym, ap, subst, subst₂, ◌∙◌, arith}
-use Rattle.std.specs.Cmp.{nat_cmp_total, Equal-is, eq_by_cmp_equiv}
-use Rattle.std.specs.Cmp.Lexicographic.{slice_cmp, bytes_decides}
-use Rattle.std.specs.FinMap.{FinMap, get, insert, remove, get-insert, nat_cmp-IsAntisymmetric}
-use Rattle.std.specs.Ordering.{eq_by_cmp, nat_cmp}
-use Rattle.std.specs.Str.{bytes_eq}
 use Rattle.std.proofs.lemmas.Bool.{and_parts, not-true, or_cases}
-use Rattle.accounts.specs.declared.account.Account.{Account}
-use Rattle.basis.specs.Bag.{add, precedes}
-use Rattle.basis.specs.Maps.{map_values}
+use Rattle.rules.proofs.Words.{Account, account_of, AreApart, bytes_decides, bytes_eq, changed, Contact, Domain, domain_roid, DropContact}
+use Rattle.rules.proofs.Words.{DropDomain, DropHost, eq_by_cmp, eq_by_cmp_equiv, Equal-is, FinMap, get, get-insert, has_name, HasObjects}
+use Rattle.rules.proofs.Words.{Host, insert, IsContactOf, IsDomainOf, IsHostOf, IsRegistrar, map_values, names_contact, names_host, nat_cmp}
+use Rattle.rules.proofs.Words.{nat_cmp-IsAntisymmetric, nat_cmp_total, PolicyRules, precedes, PutContact, PutDomain, PutHost, Registry}
+use Rattle.rules.proofs.Words.{remove, renamed, RenameHost, Roid, slice_cmp, superordinate_of, with_account, with_host_renamed}
+use Rattle.basis.specs.Bag.{add}
 use Rattle.basis.proofs.BagLaws.{any-add}
-use Rattle.names.specs.Zone.{superordinate_of}
-use Rattle.objects.specs.declared.contact.Contact.{Contact}
-use Rattle.objects.specs.declared.domain.Domain.{Domain}
-use Rattle.objects.specs.declared.host.Host.{Host}
-use Rattle.objects.specs.declared.roid.Roid.{Roid}
-use Rattle.objects.specs.Links.{has_name, names_contact, names_host}
-use Rattle.policy.specs.Rules.{PolicyRules, IsRegistrar}
-use Rattle.rules.specs.declared.change.Change.TheVariants.{PutContact, DropContact, PutDomain, DropDomain, PutHost, DropHost, RenameHost}
-use Rattle.rules.specs.Changes.{changed, with_account, with_host_renamed, links_with_host_renamed, renamed}
+use Rattle.rules.specs.Changes.{links_with_host_renamed}
 use Rattle.rules.proofs.GrowthLemmas.{Grows, contact-grown, domain-grown, host-grown, host-grown-below}
 use Rattle.rules.proofs.NameListLemmas.{has_name-filter}
 use Rattle.rules.proofs.NamedLemmas.{drop-cases, drop-keeps, drop-there, is-there, put-cases, put-is, put-keeps, put-there, remade-cases, remade-keeps, swap-names}
-use Rattle.rules.proofs.ViewLemmas.{account_of-with_account}
-use Rattle.model.specs.Registry.{Registry, account_of}
-use Rattle.model.specs.WellFormed.{AreApart, IsContactOf, IsDomainOf, IsHostOf, HasObjects, contact_roid, domain_roid, host_roid}
+use Rattle.rules.proofs.ViewLemmas.{account-keep}
+use Rattle.model.specs.WellFormed.{contact_roid, host_roid}
 
 -- ---- the clock and the accounts
 
@@ -45,13 +34,6 @@ kept-grown p q s accounts clock grows places is =
       domains = λ name d at. let k = is.domains name d at in domain-grown p q s t grows name d d.links (λ host there. inl there) k.stands.contacts k.stands.hosts k;
     }
 
-serial-risen : (f : Account → Account) → ((a : Account) → a.serial ≤ (f a).serial) → (r other : ℕ) (s : Registry) → (account_of r s).serial ≤ (account_of r (with_account other f s)).serial
-serial-risen f rises r other s = subst (λ (a : Account). (account_of r s).serial ≤ a.serial) (sym (account_of-with_account r other f s)) (by (eq_by_cmp nat_cmp r other))
-  where
-    by : (b : Bool) → (account_of r s).serial ≤ (cond b (f (account_of r s)) (account_of r s)).serial
-    by true = rises (account_of r s)
-    by false = omega arith
-
 -- a registrar's account is put
 pub placed : (accounts : FinMap nat_cmp Account) (r : ℕ) (a : Account) (q : ℕ) → IsSome (get (insert accounts r a) q) ↔ ((q ≡ r) ⊎ IsSome (get accounts q))
 placed accounts r a q = by (eq_by_cmp nat_cmp q r) refl (ap is_some (get-insert nat_cmp_total accounts r a q))
@@ -64,7 +46,7 @@ placed accounts r a q = by (eq_by_cmp nat_cmp q r) refl (ap is_some (get-insert 
 pub kept-account : (p : PolicyRules) (r : ℕ) (f : Account → Account) → ((a : Account) → a.serial ≤ (f a).serial) → (s : Registry) → IsRegistrar p r → HasObjects p s → HasObjects p (with_account r f s)
 kept-account p r f rises s place is =
     let accounts : FinMap nat_cmp Account = insert s.accounts r (f (account_of r s)) in
-    kept-grown p p s accounts s.clock (record { zone = refl; place = λ q place. place; clock = omega arith; serial = λ q. serial-risen f rises q r s })
+    kept-grown p p s accounts s.clock (record { zone = refl; place = λ q place. place; clock = omega arith; serial = λ q. account-keep (λ (a : Account). (account_of q s).serial ≤ a.serial) s r f q (λ own le. rises (account_of q s)) (omega arith) })
     (λ q. (λ there. ⊎_elim (λ same. subst (IsRegistrar p) (sym same) place) (is.identities.accounts q).0 ((placed s.accounts r (f (account_of r s)) q).0 there), λ of. (placed s.accounts r (f (account_of r s)) q).1 (inr ((is.identities.accounts q).1 of)))) is
 
 -- ---- ROIDs
@@ -125,112 +107,83 @@ module _ (p : PolicyRules) (s : Registry) (is : HasObjects p s) where
   same-domain contacts hosts domains name d of free there-contacts there-hosts =
       domain-grown p p s (with_objects contacts hosts domains s) (same-time p s contacts hosts domains) name d d.links free there-contacts there-hosts of
 
-  pub put-contact : (name : List ℕ) (c : Contact) → IsContactOf p s name c → IsItsOwn contact_roid s.contacts name c.roid → HasObjects p (changed p (PutContact c) s)
-  put-contact name c fits own =
-      let contacts : Contacts = insert s.contacts c.name c in
-      let grows : Grows p p s (changed p (PutContact c) s) = same-time p s contacts s.hosts s.domains in
+  -- contacts, or hosts, or domains change, and the others stay
+  contacts-kept : (contacts : Contacts) → AreApart contact_roid contacts → ((name : List ℕ) (c : Contact) → get contacts name ≡ Some c → IsContactOf p s name c)
+      → ((n : List ℕ) (d : Domain) → get s.domains n ≡ Some d → (contact : List ℕ) → names_contact contact d.links ≡ true → IsSome (get s.contacts contact) → IsSome (get contacts contact))
+      → HasObjects p (with_objects contacts s.hosts s.domains s)
+  contacts-kept contacts apart of there =
+      let grows = same-time p s contacts s.hosts s.domains in
       record {
-        identities = record {
-          accounts = is.identities.accounts;
-          contact_roids = apart-put contact_roid s.contacts is.identities.contact_roids c.name c (λ n x at same. own n x at same ∙ sym fits.stands.named);
-          host_roids = is.identities.host_roids;
-          domain_roids = is.identities.domain_roids;
-        };
-        contacts = at-put (IsContactOf p (changed p (PutContact c) s)) s.contacts c.name c (contact-grown p p s _ grows c.name c (subst (λ (n : List ℕ). IsContactOf p s n c) (sym fits.stands.named) fits)) (λ n x at. contact-grown p p s _ grows n x (is.contacts n x at));
+        identities = record { accounts = is.identities.accounts; contact_roids = apart; host_roids = is.identities.host_roids; domain_roids = is.identities.domain_roids };
+        contacts = λ n c at. contact-grown p p s _ grows n c (of n c at);
         hosts = λ n h at. host-grown p p s _ grows (λ domain there. there) n h (is.hosts n h at);
-        domains = λ n d at. let k = is.domains n d at in same-domain contacts s.hosts s.domains n d k (λ host there. inl there) (λ contact named. put-keeps s.contacts c.name c contact (k.stands.contacts contact named)) k.stands.hosts;
+        domains = λ n d at. let k = is.domains n d at in same-domain contacts s.hosts s.domains n d k (λ host there. inl there) (λ contact named. there n d at contact named (k.stands.contacts contact named)) k.stands.hosts;
       }
+
+  hosts-kept : (hosts : Hosts) → AreApart host_roid hosts → ((name : List ℕ) (h : Host) → get hosts name ≡ Some h → IsHostOf p s name h)
+      → ((n : List ℕ) (d : Domain) → get s.domains n ≡ Some d → (host : List ℕ) → IsSome (get hosts host) → IsSome (get s.hosts host) ⊎ (IsSome d.deletion → superordinate_of p.zone host ≢ Some d.name))
+      → ((n : List ℕ) (d : Domain) → get s.domains n ≡ Some d → (host : List ℕ) → names_host host d.links ≡ true → IsSome (get s.hosts host) → IsSome (get hosts host))
+      → HasObjects p (with_objects s.contacts hosts s.domains s)
+  hosts-kept hosts apart of free there =
+      let grows = same-time p s s.contacts hosts s.domains in
+      record {
+        identities = record { accounts = is.identities.accounts; contact_roids = is.identities.contact_roids; host_roids = apart; domain_roids = is.identities.domain_roids };
+        contacts = λ n c at. contact-grown p p s _ grows n c (is.contacts n c at);
+        hosts = λ n h at. host-grown p p s _ grows (λ domain there. there) n h (of n h at);
+        domains = λ n d at. let k = is.domains n d at in same-domain s.contacts hosts s.domains n d k (free n d at) k.stands.contacts (λ host named. there n d at host named (k.stands.hosts host named));
+      }
+
+  domains-kept : (domains : Domains) → AreApart domain_roid domains → ((name : List ℕ) (d : Domain) → get domains name ≡ Some d → IsDomainOf p s name d)
+      → ((n : List ℕ) (h : Host) → get s.hosts n ≡ Some h → (domain : List ℕ) → superordinate_of p.zone n ≡ Some domain → IsSome (get s.domains domain) → IsSome (get domains domain))
+      → HasObjects p (with_objects s.contacts s.hosts domains s)
+  domains-kept domains apart of there =
+      let grows = same-time p s s.contacts s.hosts domains in
+      record {
+        identities = record { accounts = is.identities.accounts; contact_roids = is.identities.contact_roids; host_roids = is.identities.host_roids; domain_roids = apart };
+        contacts = λ n c at. contact-grown p p s _ grows n c (is.contacts n c at);
+        hosts = λ n h at. host-grown-below p p s _ grows n h (there n h at) (is.hosts n h at);
+        domains = λ n d at. let k = of n d at in same-domain s.contacts s.hosts domains n d k (λ host there. inl there) k.stands.contacts k.stands.hosts;
+      }
+
+  pub put-contact : (name : List ℕ) (c : Contact) → IsContactOf p s name c → IsItsOwn contact_roid s.contacts name c.roid → HasObjects p (changed p (PutContact c) s)
+  put-contact name c fits own = contacts-kept (insert s.contacts c.name c)
+      (apart-put contact_roid s.contacts is.identities.contact_roids c.name c (λ n x at same. own n x at same ∙ sym fits.stands.named))
+      (at-put (IsContactOf p s) s.contacts c.name c (subst (λ (n : List ℕ). IsContactOf p s n c) (sym fits.stands.named) fits) is.contacts)
+      (λ n d at contact named there. put-keeps s.contacts c.name c contact there)
 
   -- a contact that no domain names
   pub drop-contact : (name : List ℕ) → ((n : List ℕ) (d : Domain) → get s.domains n ≡ Some d → names_contact name d.links ≢ true) → HasObjects p (changed p (DropContact name) s)
-  drop-contact name unnamed =
-      let contacts : Contacts = remove s.contacts name in
-      let grows : Grows p p s (changed p (DropContact name) s) = same-time p s contacts s.hosts s.domains in
-      record {
-        identities = record {
-          accounts = is.identities.accounts;
-          contact_roids = apart-drop contact_roid s.contacts is.identities.contact_roids name;
-          host_roids = is.identities.host_roids;
-          domain_roids = is.identities.domain_roids;
-        };
-        contacts = λ n c at. contact-grown p p s _ grows n c (is.contacts n c (drop-cases s.contacts name n c at).1);
-        hosts = λ n h at. host-grown p p s _ grows (λ domain there. there) n h (is.hosts n h at);
-        domains = λ n d at. let k = is.domains n d at in same-domain contacts s.hosts s.domains n d k (λ host there. inl there)
-            (λ contact named. drop-keeps s.contacts name contact (λ same. unnamed n d at (ap (λ (q : List ℕ). names_contact q d.links) (sym same) ∙ named)) (k.stands.contacts contact named)) k.stands.hosts;
-      }
+  drop-contact name unnamed = contacts-kept (remove s.contacts name) (apart-drop contact_roid s.contacts is.identities.contact_roids name)
+      (λ n c at. is.contacts n c (drop-cases s.contacts name n c at).1)
+      (λ n d at contact named there. drop-keeps s.contacts name contact (λ same. unnamed n d at (ap (λ (q : List ℕ). names_contact q d.links) (sym same) ∙ named)) there)
 
   pub put-host : (name : List ℕ) (h : Host) → IsHostOf p s name h → IsItsOwn host_roid s.hosts name h.roid → IsSome (get s.hosts name) ⊎ IsUndeleted p s name → HasObjects p (changed p (PutHost h) s)
-  put-host name h fits own free =
-      let hosts : Hosts = insert s.hosts h.name h in
-      let grows : Grows p p s (changed p (PutHost h) s) = same-time p s s.contacts hosts s.domains in
-      record {
-        identities = record {
-          accounts = is.identities.accounts;
-          contact_roids = is.identities.contact_roids;
-          host_roids = apart-put host_roid s.hosts is.identities.host_roids h.name h (λ n x at same. own n x at same ∙ sym fits.named);
-          domain_roids = is.identities.domain_roids;
-        };
-        contacts = λ n c at. contact-grown p p s _ grows n c (is.contacts n c at);
-        hosts = at-put (IsHostOf p (changed p (PutHost h) s)) s.hosts h.name h (host-grown p p s _ grows (λ domain there. there) h.name h (subst (λ (n : List ℕ). IsHostOf p s n h) (sym fits.named) fits)) (λ n x at. host-grown p p s _ grows (λ domain there. there) n x (is.hosts n x at));
-        domains = λ n d at. let k = is.domains n d at in same-domain s.contacts hosts s.domains n d k
-            (λ host there. ⊎_elim
-            (λ same. ⊎_elim (λ before. inl (subst (λ (q : List ℕ). IsSome (get s.hosts q)) (sym (same ∙ fits.named)) before)) (λ other. inr (subst (λ (q : List ℕ). IsSome d.deletion → superordinate_of p.zone q ≢ Some d.name) (sym (same ∙ fits.named)) (other n d at))) free)
-            (λ before. inl before) (put-there s.hosts h.name h host there))
-            k.stands.contacts (λ host named. put-keeps s.hosts h.name h host (k.stands.hosts host named));
-      }
+  put-host name h fits own free = hosts-kept (insert s.hosts h.name h)
+      (apart-put host_roid s.hosts is.identities.host_roids h.name h (λ n x at same. own n x at same ∙ sym fits.named))
+      (at-put (IsHostOf p s) s.hosts h.name h (subst (λ (n : List ℕ). IsHostOf p s n h) (sym fits.named) fits) is.hosts)
+      (λ n d at host there. ⊎_elim
+      (λ same. ⊎_elim (λ before. inl (subst (λ (q : List ℕ). IsSome (get s.hosts q)) (sym (same ∙ fits.named)) before)) (λ other. inr (subst (λ (q : List ℕ). IsSome d.deletion → superordinate_of p.zone q ≢ Some d.name) (sym (same ∙ fits.named)) (other n d at))) free)
+      (λ before. inl before) (put-there s.hosts h.name h host there))
+      (λ n d at host named there. put-keeps s.hosts h.name h host there)
 
   -- a host that no domain names
   pub drop-host : (name : List ℕ) → ((n : List ℕ) (d : Domain) → get s.domains n ≡ Some d → names_host name d.links ≢ true) → HasObjects p (changed p (DropHost name) s)
-  drop-host name unnamed =
-      let hosts : Hosts = remove s.hosts name in
-      let grows : Grows p p s (changed p (DropHost name) s) = same-time p s s.contacts hosts s.domains in
-      record {
-        identities = record {
-          accounts = is.identities.accounts;
-          contact_roids = is.identities.contact_roids;
-          host_roids = apart-drop host_roid s.hosts is.identities.host_roids name;
-          domain_roids = is.identities.domain_roids;
-        };
-        contacts = λ n c at. contact-grown p p s _ grows n c (is.contacts n c at);
-        hosts = λ n h at. host-grown p p s _ grows (λ domain there. there) n h (is.hosts n h (drop-cases s.hosts name n h at).1);
-        domains = λ n d at. let k = is.domains n d at in same-domain s.contacts hosts s.domains n d k (λ host there. inl (drop-there s.hosts name host there)) k.stands.contacts
-            (λ host named. drop-keeps s.hosts name host (λ same. unnamed n d at (ap (λ (q : List ℕ). names_host q d.links) (sym same) ∙ named)) (k.stands.hosts host named));
-      }
+  drop-host name unnamed = hosts-kept (remove s.hosts name) (apart-drop host_roid s.hosts is.identities.host_roids name)
+      (λ n h at. is.hosts n h (drop-cases s.hosts name n h at).1)
+      (λ n d at host there. inl (drop-there s.hosts name host there))
+      (λ n d at host named there. drop-keeps s.hosts name host (λ same. unnamed n d at (ap (λ (q : List ℕ). names_host q d.links) (sym same) ∙ named)) there)
 
   pub put-domain : (name : List ℕ) (d : Domain) → IsDomainOf p s name d → IsItsOwn domain_roid s.domains name d.roid → HasObjects p (changed p (PutDomain d) s)
-  put-domain name d fits own =
-      let domains : Domains = insert s.domains d.name d in
-      let grows : Grows p p s (changed p (PutDomain d) s) = same-time p s s.contacts s.hosts domains in
-      let same : (n : List ℕ) (x : Domain) → IsDomainOf p s n x → IsDomainOf p (changed p (PutDomain d) s) n x = λ n x k. same-domain s.contacts s.hosts domains n x k (λ host there. inl there) k.stands.contacts k.stands.hosts in
-      record {
-        identities = record {
-          accounts = is.identities.accounts;
-          contact_roids = is.identities.contact_roids;
-          host_roids = is.identities.host_roids;
-          domain_roids = apart-put domain_roid s.domains is.identities.domain_roids d.name d (λ n x at same. own n x at same ∙ sym fits.stands.named);
-        };
-        contacts = λ n c at. contact-grown p p s _ grows n c (is.contacts n c at);
-        hosts = λ n h at. host-grown p p s _ grows (λ domain there. put-keeps s.domains d.name d domain there) n h (is.hosts n h at);
-        domains = at-put (IsDomainOf p (changed p (PutDomain d) s)) s.domains d.name d (same d.name d (subst (λ (n : List ℕ). IsDomainOf p s n d) (sym fits.stands.named) fits)) (λ n x at. same n x (is.domains n x at));
-      }
+  put-domain name d fits own = domains-kept (insert s.domains d.name d)
+      (apart-put domain_roid s.domains is.identities.domain_roids d.name d (λ n x at same. own n x at same ∙ sym fits.stands.named))
+      (at-put (IsDomainOf p s) s.domains d.name d (subst (λ (n : List ℕ). IsDomainOf p s n d) (sym fits.stands.named) fits) is.domains)
+      (λ n h at domain above there. put-keeps s.domains d.name d domain there)
 
   -- a domain that no host lies below
   pub drop-domain : (name : List ℕ) → ((host : List ℕ) → IsSome (get s.hosts host) → superordinate_of p.zone host ≢ Some name) → HasObjects p (changed p (DropDomain name) s)
-  drop-domain name alone =
-      let domains : Domains = remove s.domains name in
-      let grows : Grows p p s (changed p (DropDomain name) s) = same-time p s s.contacts s.hosts domains in
-      record {
-        identities = record {
-          accounts = is.identities.accounts;
-          contact_roids = is.identities.contact_roids;
-          host_roids = is.identities.host_roids;
-          domain_roids = apart-drop domain_roid s.domains is.identities.domain_roids name;
-        };
-        contacts = λ n c at. contact-grown p p s _ grows n c (is.contacts n c at);
-        hosts = λ n h at. host-grown-below p p s _ grows n h
-            (λ domain above there. drop-keeps s.domains name domain (λ same. alone n (is-there (get s.hosts n) h at) (above ∙ ap (λ (q : List ℕ). Some q) same)) there) (is.hosts n h at);
-        domains = λ n d at. let k = is.domains n d (drop-cases s.domains name n d at).1 in same-domain s.contacts s.hosts domains n d k (λ host there. inl there) k.stands.contacts k.stands.hosts;
-      }
+  drop-domain name alone = domains-kept (remove s.domains name) (apart-drop domain_roid s.domains is.identities.domain_roids name)
+      (λ n d at. is.domains n d (drop-cases s.domains name n d at).1)
+      (λ n h at domain above there. drop-keeps s.domains name domain (λ same. alone n (is-there (get s.hosts n) h at) (above ∙ ap (λ (q : List ℕ). Some q) same)) there)
 
 -- ---- a host gets a new name
 

@@ -1,31 +1,21 @@
 -- What time alone makes of a well-formed registry is well formed.
 use Rattle.std.proofs.Common.{◌≡◌, inl, ℕ, ◌≤◌, ◌+◌, max, Bool, true, false, cond, nat_lt, List, [], Option, Some, None, IsSome, is_some, refl, sym, ap, subst, ◌∙◌, arith}
 use Rattle.std.specs.Prelude.{fold}
-use Rattle.std.specs.Cmp.Lexicographic.{slice_cmp, nat_list_cmp_total}
-use Rattle.std.specs.FinMap.{FinMap, get}
 use Rattle.std.specs.Option.{option_map_or}
-use Rattle.std.specs.Ordering.{nat_cmp}
-use Rattle.accounts.specs.Entries.{posted}
+use Rattle.rules.proofs.Words.{account_of, AreApart, Contact, contact_completed, Deletion, Domain, domain_roid, due_by, FinMap, get}
+use Rattle.rules.proofs.Words.{HasObjects, IsContactOf, IsDeletion, IsDomainOf, IsTransfer, lapse_by, lapse_contact, lapsed, leaves, lived}
+use Rattle.rules.proofs.Words.{moved, nat_cmp, nat_list_cmp_total, now, PolicyRules, posted, postings, purge_at, purged, raised, Registry}
+use Rattle.rules.proofs.Words.{Roid, slice_cmp, superordinate_of, Transfer, turns}
 use Rattle.basis.specs.Sweeps.{kept}
 use Rattle.basis.proofs.ApartLaws.{get-kept}
 use Rattle.basis.proofs.MapLemmas.{names_apart}
-use Rattle.names.specs.Zone.{superordinate_of}
 use Rattle.lifecycle.specs.declared.lapsed.Lapsed.{Lapsed}
-use Rattle.lifecycle.specs.Lapse.{approved, contact_completed, contact_moved, due_by, lapse, lapse_by, lapse_contact, leaves, lived, moved, purged, raised}
-use Rattle.lifecycle.specs.Phases.{purge_at}
-use Rattle.lifecycle.specs.Turns.{turns}
-use Rattle.objects.specs.declared.contact.Contact.{Contact}
-use Rattle.objects.specs.declared.domain.Deletion.{Deletion}
-use Rattle.objects.specs.declared.domain.Domain.{Domain}
-use Rattle.objects.specs.declared.roid.Roid.{Roid}
-use Rattle.objects.specs.declared.transfer.Transfer.{Transfer}
-use Rattle.policy.specs.Rules.{PolicyRules}
-use Rattle.model.specs.Lapse.{accounts_at, contacts_at, domains_at, lapse as lapse_registry, lapsed, now, postings}
-use Rattle.model.specs.Registry.{Registry, account_of}
-use Rattle.model.specs.WellFormed.{AreApart, HasObjects, IsContactOf, IsDeletion, IsDomainOf, IsTransfer, contact_roid, domain_roid}
+use Rattle.lifecycle.specs.Lapse.{approved, contact_moved, lapse}
+use Rattle.model.specs.Lapse.{accounts_at, contacts_at, domains_at, lapse as lapse_registry}
+use Rattle.model.specs.WellFormed.{contact_roid}
 use Rattle.model.proofs.LapseLaws.{lapses-on, left-of}
 use Rattle.model.proofs.SweepLemmas.{left}
-use Rattle.rules.proofs.GrowthLemmas.{Grows, contact-grown, domain-grown, host-grown-below}
+use Rattle.rules.proofs.GrowthLemmas.{Grows, contact-grown, domain-grown, domain-with, host-grown-below, same-domain}
 use Rattle.rules.proofs.KeepingLemmas.{kept-grown}
 use Rattle.rules.proofs.NamedLemmas.{is-there, there-is}
 use Rattle.rules.proofs.PostingLemmas.{due-is, due-transfer, kept-posted, postings-to, serial-posted}
@@ -43,25 +33,32 @@ with_years years d = record d { years = years }
 abbrev taken_over : Transfer → ℕ → Domain → Domain
 taken_over x years d = record d { sponsor = x.requester; transferred = Some x.ac_date; years = years; transfer = Some (approved x) }
 
-module _ (p : PolicyRules) (t : ℕ) (d : Domain) (P : Domain → Type 0) (deleted : (x : Deletion) → d.deletion ≡ Some x → P d) (aged : d.deletion ≡ None → (years : ℕ) → P (with_years years d))
-    (transferred : d.deletion ≡ None → (x : Transfer) → due_by t d.transfer ≡ Some x → (years : ℕ) → P (taken_over x years d)) where
+-- the domain once a transfer of it is due, with the years that it had by then
+abbrev pub transferred_by : Transfer → Domain → Domain
+transferred_by x d = moved x (raised (turns d x.ac_date) d)
+
+module _ (p : PolicyRules) (t : ℕ) (d : Domain) (P : Domain → Type 0) (deleted : (x : Deletion) → d.deletion ≡ Some x → P d) (aged : d.deletion ≡ None → P (raised (turns d t) d))
+    (transferred : d.deletion ≡ None → (x : Transfer) → due_by t d.transfer ≡ Some x → P (raised (turns (transferred_by x d) t) (transferred_by x d))) where
   by-purge : (x : Deletion) (b : Bool) (e : Domain) → d.deletion ≡ Some x → (cond b (leaves d []) (purged p x d)).object ≡ Some e → P e
   by-purge x true e gone found = subst P (some-only d e found) (deleted x gone)
   by-purge x false e gone found = cc
 
   by-transfer : (o : Option Transfer) (e : Domain) → d.deletion ≡ None → due_by t d.transfer ≡ o → (lived p t o d).object ≡ Some e → P e
-  by-transfer None e alive due found = subst P (some-only (raised (turns d t) d) e found) (aged alive (d.years + turns d t))
-  by-transfer (Some x) e alive due found =
-      let after : Domain = moved x (raised (turns d x.ac_date) d) in
-      subst P (some-only (raised (turns after t) after) e found) (transferred alive x due (after.years + turns after t))
+  by-transfer None e alive due found = subst P (some-only (raised (turns d t) d) e found) (aged alive)
+  by-transfer (Some x) e alive due found = subst P (some-only (raised (turns (transferred_by x d) t) (transferred_by x d)) e found) (transferred alive x due)
 
   by-deletion : (o : Option Deletion) (e : Domain) → d.deletion ≡ o → (lapse_by p t o d).object ≡ Some e → P e
   by-deletion None e alive found = by-transfer (due_by t d.transfer) e alive refl found
   by-deletion (Some x) e gone found = by-purge x (nat_lt t (purge_at p x)) e gone found
 
-  -- a deleted one as it was, and any other with other years, perhaps transferred
-  pub domain-left : (e : Domain) → (lapse p t d).object ≡ Some e → P e
-  domain-left e found = by-deletion d.deletion e refl found
+  pub domain-lapsed : (e : Domain) → (lapse p t d).object ≡ Some e → P e
+  domain-lapsed e found = by-deletion d.deletion e refl found
+
+-- a deleted one as it was, and any other with other years, perhaps transferred
+pub domain-left : (p : PolicyRules) (t : ℕ) (d : Domain) (P : Domain → Type 0) → ((x : Deletion) → d.deletion ≡ Some x → P d) → (d.deletion ≡ None → (years : ℕ) → P (with_years years d))
+    → (d.deletion ≡ None → (x : Transfer) → due_by t d.transfer ≡ Some x → (years : ℕ) → P (taken_over x years d)) → (e : Domain) → (lapse p t d).object ≡ Some e → P e
+domain-left p t d P deleted aged transferred = domain-lapsed p t d P deleted (λ alive. aged alive (d.years + turns d t))
+    (λ alive x due. transferred alive x due ((transferred_by x d).years + turns (transferred_by x d) t))
 
 -- one that isn't deleted stays
 lived-stays : (p : PolicyRules) (t : ℕ) (d : Domain) (o : Option Transfer) → IsSome (lived p t o d).object
@@ -148,37 +145,12 @@ module _ (p : PolicyRules) (t : ℕ) (s : Registry) (past : t ≤ s.clock) (is :
       let k : IsDomainOf p after name d = domain-grown p p s after grows name d d.links (λ host there. inl there) (λ contact named. contact-there contact (of.stands.contacts contact named)) of.stands.hosts of in
       let undeleted : (f : Domain) → d.deletion ≡ None → IsDeletion p after f d.deletion = λ f alive. subst (IsDeletion p after f) (sym alive) tt in
       domain-left p t d (IsDomainOf p after name) (λ x gone. k)
-      (λ alive years. record {
-        stands = record {
-          named = k.stands.named;
-          roid = k.stands.roid;
-          sponsor = k.stands.sponsor;
-          created = k.stands.created;
-          transferred = k.stands.transferred;
-          updated = k.stands.updated;
-          deletion = undeleted (with_years years d) alive;
-          contacts = k.stands.contacts;
-          hosts = k.stands.hosts;
-        };
-        transfer = k.transfer;
-      })
+      (λ alive years. domain-with p after name d (with_years years d) k (same-domain refl refl refl refl) k.stands.sponsor k.stands.transferred k.stands.updated (undeleted (with_years years d) alive) k.transfer)
       (λ alive x due years.
       let transfer = due-transfer p after t d.created d.transferred d.transfer x due k.transfer in
       let come = (due-is t d.transfer x due).1 in
-      record {
-        stands = record {
-          named = k.stands.named;
-          roid = k.stands.roid;
-          sponsor = transfer.recorded.requester;
-          created = k.stands.created;
-          transferred = omega (arith, come, past);
-          updated = k.stands.updated;
-          deletion = undeleted (taken_over x years d) alive;
-          contacts = k.stands.contacts;
-          hosts = k.stands.hosts;
-        };
-        transfer = ended d.created d.transferred x come transfer;
-      }) e
+      domain-with p after name d (taken_over x years d) k (same-domain refl refl refl refl) transfer.recorded.requester (omega (arith, come, past)) k.stands.updated (undeleted (taken_over x years d) alive)
+      (ended d.created d.transferred x come transfer)) e
 
   -- a domain that a host lies below isn't deleted, so it stays
   below-stays : (host : List ℕ) → IsSome (get s.hosts host) → (name : List ℕ) (d : Domain) → get s.domains name ≡ Some d → superordinate_of p.zone host ≡ Some name → (o : Option Deletion) → d.deletion ≡ o → IsSome (lapse_by p t o d).object

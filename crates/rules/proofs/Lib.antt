@@ -1,3 +1,4 @@
+pub mod Words
 pub mod SightLemmas
 pub mod ViewLemmas
 pub mod NameListLemmas
@@ -10,12 +11,11 @@ pub mod KeepingLemmas
 pub mod LinkLemmas
 pub mod StandInLemmas
 pub mod CommandLemmas
+pub mod FitLemmas
 pub mod BelowLemmas
-pub mod DeletionLemmas
-pub mod RestoreLemmas
+pub mod CreationLemmas
 pub mod WellFormedLemmas
 pub mod MeetingLemmas
-pub mod OrderLemmas
 pub mod PostingLemmas
 pub mod LapsedLemmas
 pub mod SettledLemmas
@@ -34,9 +34,10 @@ pub mod LineTransferLemmas
 pub mod TransferLemmas
 pub mod AcceptedLemmas
 pub mod TransferCases
+pub mod CommandCases
+pub mod OrderCases
 pub mod TransferKeepingLemmas
 pub mod PutLemmas
-pub mod TransferLineLemmas
 pub mod MoneyTimeLemmas
 pub mod MoneyChangesLemmas
 pub mod MoneyCommandLemmas

@@ -2,13 +2,10 @@
 use Rattle.std.proofs.Common.{◌≡◌, ℕ, ◌+◌, ◌≤◌, nat_lt, Bool, true, false, cond, not, ◌||◌, List, [], ◌∷◌, ◌++◌, map, filter, fold, length, length-append, refl, ◌∙◌, arith}
 use Rattle.std.proofs.lemmas.Bool.Decides.{nat_tests}
 use Rattle.std.proofs.lemmas.List.{length-map}
-use Rattle.std.specs.Cmp.Lexicographic.{slice_cmp}
-use Rattle.std.specs.Ordering.{nat_cmp}
-use Rattle.std.specs.Str.{bytes_eq}
-use Rattle.basis.specs.Bag.{add, precedes}
-use Rattle.facts.specs.Lists.{amended, is_over, kept}
-use Rattle.objects.specs.Links.{has_name, in_order}
-use Rattle.rules.specs.Changes.{renamed}
+use Rattle.rules.proofs.Words.{amended, bytes_eq, has_name, nat_cmp, precedes, renamed, slice_cmp}
+use Rattle.basis.specs.Bag.{add}
+use Rattle.facts.specs.Lists.{is_over, kept}
+use Rattle.objects.specs.Links.{in_order}
 
 abbrev Text : Type 0
 Text = List ℕ

@@ -1,34 +1,21 @@
 -- What is so of the lines of an account stays so as time enters into it.
 use Rattle.std.proofs.Common.{◌≡◌, ℕ, ◌≤◌, nat_lt, Bool, true, false, cond, not, ◌&&◌, List, [], ◌∷◌, ◌++◌, Option, Some, None, is_some, refl, sym, ap, subst, ◌∙◌, arith}
 use Rattle.std.specs.Prelude.{fold}
-use Rattle.std.specs.Cmp.Lexicographic.{slice_cmp, nat_list_cmp_total}
-use Rattle.std.specs.FinMap.{FinMap, entries, get}
-use Rattle.std.specs.List.{AllByRecursion, list_any}
-use Rattle.std.specs.Ordering.{eq_by_cmp, nat_cmp}
 use Rattle.std.proofs.lemmas.Bool.Decides.{nat_tests}
-use Rattle.accounts.specs.declared.account.Account.{Account}
+use Rattle.rules.proofs.Words.{Account, account_of, AllByRecursion, begins_after, entered, FinMap, get, given}
+use Rattle.rules.proofs.Words.{is_begun_after, is_for_transfer, is_kind, is_of, is_on, is_same_roid, IsLineOf, LapseEntry, Line, list_any}
+use Rattle.rules.proofs.Words.{nat_cmp, Notice, PolicyRules, posted, Posting, Registry, remade, Renewal, Roid}
+use Rattle.rules.proofs.Words.{slice_cmp, Start, start-elsewhere, start-stays, transfer_started, TransferStart, waits, WasGiven}
+use Rattle.rules.proofs.Words.{with_account}
 use Rattle.accounts.specs.declared.entries.AutoRenewal.{AutoRenewal}
-use Rattle.accounts.specs.declared.entries.LapseEntry.{LapseEntry}
-use Rattle.accounts.specs.declared.entries.LapseEntry.TheVariants.{Notice, Renewal, Start}
-use Rattle.accounts.specs.declared.entries.Posting.{Posting}
-use Rattle.accounts.specs.declared.line.Line.{Line}
-use Rattle.accounts.specs.declared.line.TransferStart.{TransferStart}
-use Rattle.accounts.specs.Entries.{entered, posted, renewal_line}
-use Rattle.accounts.specs.LineChanges.{start-elsewhere, start-stays}
-use Rattle.accounts.specs.Lines.{begins_by, in_order, is_for_transfer, is_kind, is_of, is_on, is_same_roid, transfer_started, waits}
+use Rattle.accounts.specs.Entries.{renewal_line}
+use Rattle.accounts.specs.Lines.{begins_by, in_order}
 use Rattle.accounts.specs.declared.line.LineKind.TheVariants as kinds
 use Rattle.accounts.proofs.LineLaws.{same-roids}
-use Rattle.basis.specs.Bag.{add, remade}
-use Rattle.basis.specs.Sweeps.{given, given_list}
-use Rattle.basis.proofs.EntryLaws.{Each, each_entry}
-use Rattle.basis.proofs.MapLemmas.{names_apart}
-use Rattle.objects.specs.declared.roid.Roid.{Roid}
-use Rattle.policy.specs.Rules.{PolicyRules}
-use Rattle.model.specs.Registry.{Registry, account_of}
-use Rattle.model.specs.WellFormed.{IsLineOf, WasGiven, begins_after, is_begun_after}
+use Rattle.basis.specs.Bag.{add}
 use Rattle.model.proofs.LineLemmas.{all-add, all-remade, and-false, count, count-add-none, count-remade, none-add, none-remade}
-use Rattle.rules.specs.Changes.{with_account}
-use Rattle.rules.proofs.ViewLemmas.{account_of-with_account, same_number}
+use Rattle.rules.proofs.PostingLemmas.{AllPosted, posted-both, posted-given}
+use Rattle.rules.proofs.ViewLemmas.{account-keep}
 
 -- ---- the lines once an entry is made
 
@@ -47,31 +34,22 @@ abbrev pub Keeps : (List Line → Type 0) → ℕ → Posting → Type 0
 Keeps P r e = e.registrar ≡ r → (ls : List Line) → P ls → P (entered_lines e.what ls)
 
 abbrev pub AllKeep : (List Line → Type 0) → ℕ → List Posting → Type 0
-AllKeep P r [] = Unit {0}
-AllKeep P r (e ∷ es) = Keeps P r e × AllKeep P r es
+AllKeep P r es = AllPosted (Keeps P r) es
 
 module _ (P : List Line → Type 0) (r : ℕ) where
   keep-one : (e : Posting) → Keeps P r e → (s : Registry) → P (account_of r s).lines → P (account_of r (with_account e.registrar (entered e.what) s)).lines
-  keep-one e keeps s h = subst (λ (a : Account). P a.lines) (sym (account_of-with_account r e.registrar (entered e.what) s)) (by (eq_by_cmp nat_cmp r e.registrar) refl)
-    where
-      by : (b : Bool) → eq_by_cmp nat_cmp r e.registrar ≡ b → P (cond b (entered e.what (account_of r s)) (account_of r s)).lines
-      by true own = subst P (sym (lines-entered e.what (account_of r s))) (keeps (sym (same_number r e.registrar own)) (account_of r s).lines h)
-      by false other = h
+  keep-one e keeps s h = account-keep (λ (a : Account). P a.lines) s e.registrar (entered e.what) r
+      (λ own h. subst P (sym (lines-entered e.what (account_of r s))) (keeps own (account_of r s).lines h)) h
 
   pub keep-posted : (es : List Posting) → AllKeep P r es → (s : Registry) → P (account_of r s).lines → P (account_of r (record s { accounts = fold posted s.accounts es })).lines
   keep-posted [] keep s h = h
   keep-posted (e ∷ es) keep s h = keep-posted es keep.1 (with_account e.registrar (entered e.what) s) (keep-one e keep.0 s h)
 
   pub keep-both : (es fs : List Posting) → AllKeep P r es → AllKeep P r fs → AllKeep P r (es ++ fs)
-  keep-both [] fs first second = second
-  keep-both (e ∷ es) fs first second = (first.0, keep-both es fs first.1 second)
-
-  keep-each : {X : Type 0} (g : List ℕ → X → List Posting) (es : List (List ℕ × X)) → Each (λ name x. AllKeep P r (g name x)) es → AllKeep P r (given_list g es)
-  keep-each g [] each = tt
-  keep-each g (e ∷ es) each = keep-both (g e.0 e.1) (given_list g es) each.0 (keep-each g es each.1)
+  keep-both = posted-both (Keeps P r)
 
   pub keep-given : {X : Type 0} (g : List ℕ → X → List Posting) (m : FinMap (slice_cmp nat_cmp) X) → ((name : List ℕ) (x : X) → get m name ≡ Some x → AllKeep P r (g name x)) → AllKeep P r (given g m)
-  keep-given g m all = keep-each g (entries m) (each_entry (slice_cmp nat_cmp) nat_list_cmp_total names_apart (λ name x. AllKeep P r (g name x)) m all)
+  keep-given = posted-given (Keeps P r)
 
 -- ---- entries on other domains
 
@@ -116,12 +94,10 @@ IsOff roid (Start x) = is_same_roid x.roid roid ≡ false
 IsOff roid (Notice m) = Unit {0}
 
 abbrev pub AllOff : Roid → List Posting → Type 0
-AllOff roid [] = Unit {0}
-AllOff roid (e ∷ es) = IsOff roid e.what × AllOff roid es
+AllOff roid es = AllPosted (λ (e : Posting). IsOff roid e.what) es
 
 pub off-both : (roid : Roid) (es fs : List Posting) → AllOff roid es → AllOff roid fs → AllOff roid (es ++ fs)
-off-both roid [] fs first second = second
-off-both roid (e ∷ es) fs first second = (first.0, off-both roid es fs first.1 second)
+off-both roid = posted-both (λ (e : Posting). IsOff roid e.what)
 
 -- what no entry on another domain changes
 abbrev pub IsKeptOff : Roid → (List Line → Type 0) → Type 0

@@ -1,35 +1,26 @@
 -- Each change keeps what a well-formed registry says of lines, where what it puts or charges fits.
-use Rattle.std.proofs.Common.{◌≡◌, ◌⊎◌, ⊎_elim, ℕ, ◌≤◌, ◌+◌, ◌==◌, Bool, true, false, cond, not, List, [], ◌∷◌, Option, Some, None, is_some, refl, sym, ap, subst, ◌∙◌, arith}
-use Rattle.std.specs.FinMap.{get}
-use Rattle.std.specs.List.{All, AllByRecursion, list_any}
-use Rattle.std.specs.Ordering.{eq_by_cmp, nat_cmp}
+use Rattle.std.proofs.Common.{◌≡◌, ◌⊎◌, ⊎_elim, ℕ, ◌≤◌, Bool, true, false, cond, not, List, Option, Some, None, is_some, unwrap_or, refl, sym, ap, subst, ◌∙◌, arith}
 use Rattle.std.proofs.lemmas.Bool.Decides.{nat_tests}
 use Rattle.std.proofs.lemmas.List.Elements.{All-from_recursion, recursion_from_All}
-use Rattle.accounts.specs.declared.account.Account.{Account}
-use Rattle.accounts.specs.declared.line.Line.{Line}
-use Rattle.accounts.specs.Account.{with_serial}
-use Rattle.accounts.specs.Entries.{with_lines}
-use Rattle.accounts.specs.Lines.{in_order, is_for_transfer, is_on, waits}
-use Rattle.basis.specs.Bag.{add, remade}
-use Rattle.lifecycle.specs.declared.change.AccountChange.{AccountChange}
-use Rattle.lifecycle.specs.declared.change.AccountChange.TheVariants.{Charge, RefundRunning, RefundTransfer, Lapse, Tell, Ack, CountCommand, TakeSerial}
+use Rattle.rules.proofs.Words.{Account, account_of, AccountChange, Ack, All, AllByRecursion, begins_after, Change, changed, changed_all}
+use Rattle.rules.proofs.Words.{Charge, charges_waiting, Domain, DropContact, DropDomain, DropHost, get, Post, HasBeen, HasLines, HasLinesOn}
+use Rattle.rules.proofs.Words.{is_begun_after, is_for_transfer, is_on, is_pending_state, IsLineOf, Lapse, LapseContact, LapseDomain, Line}
+use Rattle.rules.proofs.Words.{list_any, MoveClock, OpenAccount, PolicyRules, PutContact, PutDomain, PutHost, RefundRunning, RefundTransfer}
+use Rattle.rules.proofs.Words.{Registry, remade, RenameHost, Roid, runs, TakeSerial, Notify, Transfer, waits, WasGiven, with_account}
+use Rattle.rules.proofs.Words.{with_host_renamed, with_lines}
+use Rattle.accounts.specs.Account.{empty_account}
+use Rattle.accounts.specs.Lines.{in_order}
+use Rattle.basis.specs.Bag.{add}
+use Rattle.lifecycle.specs.declared.change.AccountChange.TheVariants.{CountCommand}
 use Rattle.lifecycle.specs.declared.change.RunningRefund.{RunningRefund}
 use Rattle.lifecycle.specs.Changes.{changed as account_changed, refunded_by}
-use Rattle.lifecycle.specs.Graces.{runs}
-use Rattle.objects.specs.declared.domain.Domain.{Domain}
-use Rattle.objects.specs.declared.roid.Roid.{Roid}
-use Rattle.objects.specs.declared.transfer.Transfer.{Transfer}
-use Rattle.objects.specs.Transfers.{is_pending_state}
-use Rattle.policy.specs.Rules.{PolicyRules}
-use Rattle.rules.specs.declared.change.Change.{Change}
-use Rattle.rules.specs.declared.change.Change.TheVariants.{MoveClock, OpenAccount, PutContact, DropContact, PutDomain, DropDomain, PutHost, DropHost, RenameHost, LapseContact, LapseDomain, Give}
-use Rattle.rules.specs.Changes.{changed, changed_all, itself, with_account, with_host_renamed}
+use Rattle.rules.specs.Changes.{itself}
+use Rattle.rules.proofs.FitLemmas.{AllFit, all-kept}
 use Rattle.rules.proofs.GrowthLemmas.{Grows, been-grown, roid-grown}
 use Rattle.rules.proofs.LineEntryLemmas.{begins-asks, waits-asks}
 use Rattle.rules.proofs.NamedLemmas.{drop-cases, put-cases, remade-cases}
-use Rattle.rules.proofs.ViewLemmas.{account_of-with_account, same_number}
-use Rattle.model.specs.Registry.{Registry, account_of}
-use Rattle.model.specs.WellFormed.{HasBeen, HasLines, HasLinesOn, IsAwaitedIfPending, IsLineOf, WasGiven, begins_after, charges_waiting, is_begun_after}
+use Rattle.rules.proofs.ViewLemmas.{account-keep, serial-rises}
+use Rattle.model.specs.WellFormed.{IsAwaitedIfPending}
 use Rattle.model.proofs.LineLemmas.{all-add, all-remade, all-weaker, and-false, awaited-carried, count, count-add-none, count-remade, none-add, none-remade}
 
 -- ---- the clock and serials grow, and lines stay
@@ -47,13 +38,18 @@ module _ (p q : PolicyRules) (s t : Registry) (grows : Grows p q s t) where
     each-grown is r = subst (λ (ls : List Line). All (IsLineOf q t) ls) (sym (same r))
         (All-from_recursion (IsLineOf q t) (account_of r s).lines (all-weaker (IsLineOf p s) (IsLineOf q t) line-grown (account_of r s).lines (recursion_from_All (IsLineOf p s) (account_of r s).lines (is.each r))))
 
--- a domain under the lines of another registry's accounts
-pub on-same : (s t : Registry) → ((r : ℕ) → (account_of r t).lines ≡ (account_of r s).lines) → (d : Domain) → HasLinesOn s d → HasLinesOn t d
-on-same s t same d h = record {
-  elsewhere = λ r other. ap (list_any (begins_after d.roid d.transferred)) (same r) ∙ h.elsewhere r other;
-  waiting = λ r. ap (count (waits d.roid)) (same r) ∙ h.waiting r;
-  awaited = awaited-carried s t d d.transfer (λ x at pending none. ap (list_any (begins_after d.roid (Some x.ac_date))) (same d.sponsor) ∙ none) h.awaited;
+-- a domain under other lines, where none begins that didn't, and as many wait
+pub on-carried : (s t : Registry) (d : Domain) → ((last : Option ℕ) (q : ℕ) → list_any (begins_after d.roid last) (account_of q s).lines ≡ false → list_any (begins_after d.roid last) (account_of q t).lines ≡ false)
+    → ((q n : ℕ) → count (waits d.roid) (account_of q s).lines ≡ n → count (waits d.roid) (account_of q t).lines ≡ n) → HasLinesOn s d → HasLinesOn t d
+on-carried s t d none as_many h = record {
+  elsewhere = λ q other. none d.transferred q (h.elsewhere q other);
+  waiting = λ q. as_many q (charges_waiting q d.transfer) (h.waiting q);
+  awaited = awaited-carried s t d d.transfer (λ x at pending. none (Some x.ac_date) d.sponsor) h.awaited;
 }
+
+-- under the lines of another registry's accounts
+pub on-same : (s t : Registry) → ((r : ℕ) → (account_of r t).lines ≡ (account_of r s).lines) → (d : Domain) → HasLinesOn s d → HasLinesOn t d
+on-same s t same d = on-carried s t d (λ last q none. ap (list_any (begins_after d.roid last)) (same q) ∙ none) (λ q n waiting. ap (count (waits d.roid)) (same q) ∙ waiting)
 
 -- what is asked of the lines on a domain hangs on these of its parts
 pub record IsAsBefore (d e : Domain) : Type 0 where
@@ -62,6 +58,9 @@ pub record IsAsBefore (d e : Domain) : Type 0 where
   pub created : e.created ≡ d.created
   pub transferred : e.transferred ≡ d.transferred
   pub transfer : e.transfer ≡ d.transfer
+
+pub as-before : {d e : Domain} → e.roid ≡ d.roid → e.sponsor ≡ d.sponsor → e.created ≡ d.created → e.transferred ≡ d.transferred → e.transfer ≡ d.transfer → IsAsBefore d e
+as-before roid sponsor created transferred transfer = record { roid = roid; sponsor = sponsor; created = created; transferred = transferred; transfer = transfer }
 
 abbrev with_parts : Domain → Roid → ℕ → ℕ → Option ℕ → Option Transfer → Domain
 with_parts e roid sponsor created transferred transfer = record e { roid = roid; sponsor = sponsor; created = created; transferred = transferred; transfer = transfer }
@@ -104,26 +103,14 @@ lines-domains p q s t grows same on is = record {
 module _ (s : Registry) (r : ℕ) (f : Account → Account) where
   -- its lines stay
   pub lines-stay : ((a : Account) → (f a).lines ≡ a.lines) → (q : ℕ) → (account_of q (with_account r f s)).lines ≡ (account_of q s).lines
-  lines-stay keeps q = ap (λ (a : Account). a.lines) (account_of-with_account q r f s) ∙ by (eq_by_cmp nat_cmp q r)
-    where
-      by : (b : Bool) → (cond b (f (account_of q s)) (account_of q s)).lines ≡ (account_of q s).lines
-      by true = keeps (account_of q s)
-      by false = refl
+  lines-stay keeps q = account-keep (λ (a : Account). a.lines ≡ (account_of q s).lines) s r f q (λ own same. keeps (account_of q s)) refl
 
   -- and a property of them
   pub lines-keep : (P : List Line → Type 0) (q : ℕ) → (r ≡ q → P (account_of q s).lines → P (f (account_of q s)).lines) → P (account_of q s).lines → P (account_of q (with_account r f s)).lines
-  lines-keep P q keeps h = subst (λ (a : Account). P a.lines) (sym (account_of-with_account q r f s)) (by (eq_by_cmp nat_cmp q r) refl)
-    where
-      by : (b : Bool) → eq_by_cmp nat_cmp q r ≡ b → P (cond b (f (account_of q s)) (account_of q s)).lines
-      by true own = keeps (sym (same_number q r own)) h
-      by false other = h
+  lines-keep P q keeps h = account-keep (λ (a : Account). P a.lines) s r f q keeps h
 
   pub rises : ((a : Account) → a.serial ≤ (f a).serial) → (q : ℕ) → (account_of q s).serial ≤ (account_of q (with_account r f s)).serial
-  rises more q = subst (λ (a : Account). (account_of q s).serial ≤ a.serial) (sym (account_of-with_account q r f s)) (by (eq_by_cmp nat_cmp q r))
-    where
-      by : (b : Bool) → (account_of q s).serial ≤ (cond b (f (account_of q s)) (account_of q s)).serial
-      by true = more (account_of q s)
-      by false = omega arith
+  rises more q = account-keep (λ (a : Account). (account_of q s).serial ≤ a.serial) s r f q (λ own le. more (account_of q s)) (omega arith)
 
   pub account-grows : (p : PolicyRules) → ((a : Account) → a.serial ≤ (f a).serial) → Grows p p s (with_account r f s)
   account-grows p more = record { zone = refl; place = λ q place. place; clock = omega arith; serial = rises more }
@@ -160,11 +147,7 @@ module _ (p : PolicyRules) (s : Registry) (r : ℕ) where
       lines-keep s r (with_lines (add in_order line)) (λ ls. count test ls ≡ n) q (λ own h. count-add-none in_order test line (account_of q s).lines fails ∙ h) e
 
   charged-off : (line : Line) (d : Domain) → is_on d.roid line ≡ false → HasLinesOn s d → HasLinesOn (with_line line) d
-  charged-off line d off h = record {
-    elsewhere = λ q other. none-charged line (begins_after d.roid d.transferred) q (λ own. begins-asks d.roid d.transferred line off) (h.elsewhere q other);
-    waiting = λ q. count-charged line (waits d.roid) q (charges_waiting q d.transfer) (waits-asks d.roid line off) (h.waiting q);
-    awaited = awaited-carried s (with_line line) d d.transfer (λ x at pending none. none-charged line (begins_after d.roid (Some x.ac_date)) d.sponsor (λ own. begins-asks d.roid (Some x.ac_date) line off) none) h.awaited;
-  }
+  charged-off line d off = on-carried s (with_line line) d (λ last q. none-charged line (begins_after d.roid last) q (λ own. begins-asks d.roid last line off)) (λ q n. count-charged line (waits d.roid) q n (waits-asks d.roid line off))
 
   charged-own : (line : Line) (d : Domain) → IsCharged r line d → HasLinesOn s d → HasLinesOn (with_line line) d
   charged-own line d charged h = record {
@@ -223,20 +206,11 @@ module _ (p : PolicyRules) (x : RunningRefund) where
     abbrev refunded : Registry
     refunded = with_account r (with_lines (remade in_order back)) s
 
-    none-refunded : (roid : Roid) (last : Option ℕ) (q : ℕ) → list_any (begins_after roid last) (account_of q s).lines ≡ false → list_any (begins_after roid last) (account_of q refunded).lines ≡ false
-    none-refunded roid last q none = lines-keep s r (with_lines (remade in_order back)) (λ ls. list_any (begins_after roid last) ls ≡ false) q
-        (λ own h. none-remade in_order (begins_after roid last) (begins_after roid last) back (λ l e. refund-begins roid last l ∙ e) (account_of q s).lines h) none
-
-    count-refunded : (roid : Roid) (q n : ℕ) → count (waits roid) (account_of q s).lines ≡ n → count (waits roid) (account_of q refunded).lines ≡ n
-    count-refunded roid q n e = lines-keep s r (with_lines (remade in_order back)) (λ ls. count (waits roid) ls ≡ n) q
-        (λ own h. count-remade in_order (waits roid) back (refund-waits roid) (account_of q s).lines ∙ h) e
-
     refunded-on : (d : Domain) → HasLinesOn s d → HasLinesOn refunded d
-    refunded-on d h = record {
-      elsewhere = λ q other. none-refunded d.roid d.transferred q (h.elsewhere q other);
-      waiting = λ q. count-refunded d.roid q (charges_waiting q d.transfer) (h.waiting q);
-      awaited = awaited-carried s refunded d d.transfer (λ y at pending none. none-refunded d.roid (Some y.ac_date) d.sponsor none) h.awaited;
-    }
+    refunded-on d = on-carried s refunded d
+        (λ last q. lines-keep s r (with_lines (remade in_order back)) (λ ls. list_any (begins_after d.roid last) ls ≡ false) q
+        (λ own h. none-remade in_order (begins_after d.roid last) (begins_after d.roid last) back (λ l e. refund-begins d.roid last l ∙ e) (account_of q s).lines h))
+        (λ q n. lines-keep s r (with_lines (remade in_order back)) (λ ls. count (waits d.roid) ls ≡ n) q (λ own h. count-remade in_order (waits d.roid) back (refund-waits d.roid) (account_of q s).lines ∙ h))
 
     pub lines-refunded : x.moment ≤ s.clock → HasLines p s → HasLines p (with_account r (with_lines (remade in_order (refunded_by p x))) s)
     lines-refunded come is =
@@ -257,75 +231,52 @@ FitsAccount p r (Charge line) s = IsChargeIn p s r line
 FitsAccount p r (RefundRunning x) s = x.moment ≤ s.clock
 FitsAccount p r (RefundTransfer x) s = ⊥
 FitsAccount p r (Lapse what) s = ⊥
-FitsAccount p r (Tell n) s = Unit {0}
-FitsAccount p r (Ack id) s = Unit {0}
-FitsAccount p r CountCommand s = Unit {0}
-FitsAccount p r TakeSerial s = Unit {0}
+FitsAccount p r _ s = Unit {0}
 
 -- a domain that is put has the lines that it is to have, and no time passes
 abbrev pub FitsLines : PolicyRules → Change → Registry → Type 0
 FitsLines p (MoveClock t) s = ⊥
-FitsLines p (OpenAccount r) s = Unit {0}
-FitsLines p (PutContact c) s = Unit {0}
-FitsLines p (DropContact name) s = Unit {0}
 FitsLines p (PutDomain d) s = HasLinesOn s d
-FitsLines p (DropDomain name) s = Unit {0}
-FitsLines p (PutHost h) s = Unit {0}
-FitsLines p (DropHost name) s = Unit {0}
-FitsLines p (RenameHost old new) s = Unit {0}
 FitsLines p (LapseContact name left) s = ⊥
 FitsLines p (LapseDomain name left) s = ⊥
-FitsLines p (Give r what) s = FitsAccount p r what s
+FitsLines p (Post r what) s = FitsAccount p r what s
+FitsLines p _ s = Unit {0}
 
-serial-rises : (a : Account) → a.serial ≤ (with_serial a).serial
-serial-rises a = by (a.serial == 0xFFFF_FFFF_FFFF_FFFF)
-  where
-    by : (b : Bool) → a.serial ≤ cond b a.serial (a.serial + 1)
-    by true = omega arith
-    by false = omega arith
-
-lines-account : (p : PolicyRules) (r : ℕ) (what : AccountChange) (s : Registry) → FitsAccount p r what s → HasLines p s → HasLines p (changed p (Give r what) s)
+lines-account : (p : PolicyRules) (r : ℕ) (what : AccountChange) (s : Registry) → FitsAccount p r what s → HasLines p s → HasLines p (changed p (Post r what) s)
 lines-account p r (Charge line) s fits is = lines-charged p s r line fits is
 lines-account p r (RefundRunning x) s fits is = lines-refunded p x s r fits is
 lines-account p r (RefundTransfer x) s fits is = absurd fits
 lines-account p r (Lapse what) s fits is = absurd fits
-lines-account p r (Tell n) s fits is = lines-counted p s r (account_changed p (Tell n)) (λ a. refl) (λ a. omega arith) is
+lines-account p r (Notify n) s fits is = lines-counted p s r (account_changed p (Notify n)) (λ a. refl) (λ a. omega arith) is
 lines-account p r (Ack id) s fits is = lines-counted p s r (account_changed p (Ack id)) (λ a. refl) (λ a. omega arith) is
 lines-account p r CountCommand s fits is = lines-counted p s r (account_changed p CountCommand) (λ a. refl) (λ a. omega arith) is
 lines-account p r TakeSerial s fits is = lines-counted p s r (account_changed p TakeSerial) (λ a. refl) serial-rises is
 
--- objects change, and no account does
-lines-objects : (p : PolicyRules) (change : Change) (s : Registry) → Grows p p s (changed p change s) → ((r : ℕ) → (account_of r (changed p change s)).lines ≡ (account_of r s).lines)
-    → ((name : List ℕ) (d : Domain) → get (changed p change s).domains name ≡ Some d → HasLinesOn s d) → HasLines p s → HasLines p (changed p change s)
-lines-objects p change s grows same on is = lines-domains p p s (changed p change s) grows same on is
+-- objects change, and neither the clock nor an account does
+lines-objects : (p : PolicyRules) (s t : Registry) → t.clock ≡ s.clock → t.accounts ≡ s.accounts → ((name : List ℕ) (d : Domain) → get t.domains name ≡ Some d → HasLinesOn s d) → HasLines p s → HasLines p t
+lines-objects p s t clock accounts on is = lines-domains p p s t
+    (record { zone = refl; place = λ r place. place; clock = omega (arith, clock); serial = λ r. omega (arith, ap (λ m. (unwrap_or (get m r) empty_account).serial) accounts) })
+    (λ r. ap (λ m. (unwrap_or (get m r) empty_account).lines) accounts) on is
 
-still : (p : PolicyRules) (s t : Registry) → s.clock ≤ t.clock → ((r : ℕ) → (account_of r s).serial ≤ (account_of r t).serial) → Grows p p s t
-still p s t clock serial = record { zone = refl; place = λ r place. place; clock = clock; serial = serial }
-
-pub lines-changed : (p : PolicyRules) (change : Change) (s : Registry) → FitsLines p change s → HasLines p s → HasLines p (changed p change s)
+lines-changed : (p : PolicyRules) (change : Change) (s : Registry) → FitsLines p change s → HasLines p s → HasLines p (changed p change s)
 lines-changed p (MoveClock t) s fits is = absurd fits
 lines-changed p (OpenAccount r) s fits is = lines-counted p s r itself (λ a. refl) (λ a. omega arith) is
-lines-changed p (PutContact c) s fits is = lines-objects p (PutContact c) s (still p s (changed p (PutContact c) s) (omega arith) (λ r. omega arith)) (λ r. refl) is.domains is
-lines-changed p (DropContact name) s fits is = lines-objects p (DropContact name) s (still p s (changed p (DropContact name) s) (omega arith) (λ r. omega arith)) (λ r. refl) is.domains is
-lines-changed p (PutDomain d) s fits is = lines-objects p (PutDomain d) s (still p s (changed p (PutDomain d) s) (omega arith) (λ r. omega arith)) (λ r. refl)
-    (λ name e at. ⊎_elim (λ put. subst (HasLinesOn s) put.1 fits) (λ before. is.domains name e before) (put-cases s.domains d.name d name e at)) is
-lines-changed p (DropDomain dropped) s fits is = lines-objects p (DropDomain dropped) s (still p s (changed p (DropDomain dropped) s) (omega arith) (λ r. omega arith)) (λ r. refl)
-    (λ name e at. is.domains name e (drop-cases s.domains dropped name e at).1) is
-lines-changed p (PutHost h) s fits is = lines-objects p (PutHost h) s (still p s (changed p (PutHost h) s) (omega arith) (λ r. omega arith)) (λ r. refl) is.domains is
-lines-changed p (DropHost name) s fits is = lines-objects p (DropHost name) s (still p s (changed p (DropHost name) s) (omega arith) (λ r. omega arith)) (λ r. refl) is.domains is
-lines-changed p (RenameHost old new) s fits is = lines-objects p (RenameHost old new) s (still p s (changed p (RenameHost old new) s) (omega arith) (λ r. omega arith)) (λ r. refl)
-    (λ name e at.
+lines-changed p (PutContact c) s fits is = lines-objects p s _ refl refl is.domains is
+lines-changed p (DropContact name) s fits is = lines-objects p s _ refl refl is.domains is
+lines-changed p (PutDomain d) s fits is = lines-objects p s _ refl refl (λ name e at. ⊎_elim (λ put. subst (HasLinesOn s) put.1 fits) (λ before. is.domains name e before) (put-cases s.domains d.name d name e at)) is
+lines-changed p (DropDomain dropped) s fits is = lines-objects p s _ refl refl (λ name e at. is.domains name e (drop-cases s.domains dropped name e at).1) is
+lines-changed p (PutHost h) s fits is = lines-objects p s _ refl refl is.domains is
+lines-changed p (DropHost name) s fits is = lines-objects p s _ refl refl is.domains is
+lines-changed p (RenameHost old new) s fits is = lines-objects p s _ refl refl (λ name e at.
     let was = remade-cases (with_host_renamed old new) s.domains name e at in
-    subst (HasLinesOn s) was.2 (on-as-before s was.0 (with_host_renamed old new was.0) (record { roid = refl; sponsor = refl; created = refl; transferred = refl; transfer = refl }) (is.domains name was.0 was.1))) is
+    subst (HasLinesOn s) was.2 (on-as-before s was.0 (with_host_renamed old new was.0) (as-before refl refl refl refl refl) (is.domains name was.0 was.1))) is
 lines-changed p (LapseContact name left) s fits is = absurd fits
 lines-changed p (LapseDomain name left) s fits is = absurd fits
-lines-changed p (Give r what) s fits is = lines-account p r what s fits is
+lines-changed p (Post r what) s fits is = lines-account p r what s fits is
 
 -- each of the changes fits when its turn comes
 abbrev pub AllFitLines : PolicyRules → List Change → Registry → Type 0
-AllFitLines p [] s = Unit {0}
-AllFitLines p (change ∷ changes) s = FitsLines p change s × AllFitLines p changes (changed p change s)
+AllFitLines p changes s = AllFit p (FitsLines p) changes s
 
 pub lines-changed_all : (p : PolicyRules) (changes : List Change) (s : Registry) → AllFitLines p changes s → HasLines p s → HasLines p (changed_all p changes s)
-lines-changed_all p [] s fits is = is
-lines-changed_all p (change ∷ changes) s fits is = lines-changed_all p changes (changed p change s) fits.1 (lines-changed p change s fits.0 is)
+lines-changed_all p = all-kept p (FitsLines p) (HasLines p) (lines-changed p)

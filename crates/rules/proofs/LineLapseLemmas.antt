@@ -1,35 +1,21 @@
 -- What time alone makes of a registry keeps what a well-formed one says of lines.
 use Rattle.std.proofs.Common.{◌≡◌, ◌≢◌, ℕ, zero, suc, ◌+◌, ◌≤◌, ◌<◌, Bool, true, false, cond, nat_lt, nat_le, ◌&&◌, List, [], ◌∷◌, ◌++◌, Option, Some, None, refl, sym, ap, subst, ◌∙◌, arith}
 use Rattle.std.specs.Prelude.{fold}
-use Rattle.std.specs.Cmp.{eq_by_cmp_equiv, nat_cmp_total}
-use Rattle.std.specs.FinMap.{FinMap}
-use Rattle.std.specs.List.{list_any}
-use Rattle.std.specs.Ordering.{eq_by_cmp, nat_cmp}
 use Rattle.std.proofs.lemmas.Bool.Decides.{nat_tests}
-use Rattle.accounts.specs.declared.account.Account.{Account}
+use Rattle.rules.proofs.Words.{Account, account_of, begins_after, charges_waiting, Deletion, Domain, due_by, entered, eq_by_cmp}
+use Rattle.rules.proofs.Words.{eq_by_cmp_equiv, FinMap, gained, HasLinesOn, is_begun_after, is_on, is_pending_state, IsLater, lapse_by}
+use Rattle.rules.proofs.Words.{leaves, Line, list_any, lived, moved, nat_cmp, nat_cmp_total, PolicyRules, posted, Posting, purge_at, purged}
+use Rattle.rules.proofs.Words.{raised, Registry, Roid, Start, Transfer, transfer_started, turns, waits, with_account}
 use Rattle.accounts.specs.declared.entries.AutoRenewal.{AutoRenewal}
-use Rattle.accounts.specs.declared.entries.LapseEntry.TheVariants.{Start}
-use Rattle.accounts.specs.declared.entries.Posting.{Posting}
 use Rattle.accounts.specs.declared.message.LapseNotice.TheVariants.{TransferApproved}
-use Rattle.accounts.specs.declared.line.Line.{Line}
-use Rattle.accounts.specs.Entries.{entered, posted, renewal_line}
-use Rattle.accounts.specs.Lines.{in_order, is_on, transfer_started, waits}
+use Rattle.accounts.specs.Entries.{renewal_line}
+use Rattle.accounts.specs.Lines.{in_order}
 use Rattle.basis.proofs.SweepLaws.{fold_append}
 use Rattle.calendar.specs.Moment.{plus_years}
-use Rattle.lifecycle.specs.Lapse.{due_by, gained, lapse, lapse_by, leaves, lived, moved, purged, raised, renewals, tell}
-use Rattle.lifecycle.specs.Phases.{purge_at}
-use Rattle.lifecycle.specs.Turns.{turns}
+use Rattle.lifecycle.specs.Lapse.{lapse, renewals, tell}
 use Rattle.lifecycle.proofs.TurnLaws.{turns-are}
-use Rattle.objects.specs.declared.domain.Deletion.{Deletion}
-use Rattle.objects.specs.declared.domain.Domain.{Domain}
-use Rattle.objects.specs.declared.roid.Roid.{Roid}
-use Rattle.objects.specs.declared.transfer.Transfer.{Transfer}
-use Rattle.objects.specs.Transfers.{is_pending_state}
-use Rattle.policy.specs.Rules.{PolicyRules}
-use Rattle.model.specs.Registry.{Registry, account_of}
-use Rattle.model.specs.WellFormed.{HasLinesOn, IsAwaited, IsAwaitedIfPending, IsLater, begins_after, charges_waiting, is_begun_after}
+use Rattle.model.specs.WellFormed.{IsAwaited, IsAwaitedIfPending}
 use Rattle.model.proofs.LineLemmas.{count, count-add-none, count-none-remade, none-add, none-weaker, not-itself, one-or-other}
-use Rattle.rules.specs.Changes.{with_account}
 use Rattle.rules.proofs.LineEntryLemmas.{AllKeep, keep-both, keep-posted, renewal-by, renewal-waits-not, started-waits-not}
 use Rattle.rules.proofs.PostingLemmas.{due-is}
 use Rattle.rules.proofs.ViewLemmas.{account_of-with_account}

@@ -1,71 +1,34 @@
 -- A registry that lapses keeps what a well-formed one says of lines.
-use Rattle.std.proofs.Common.{◌≡◌, ◌≢◌, ⊎_elim, ℕ, zero, suc, ◌+◌, ◌≤◌, ◌<◌, Bool, true, false, cond, not, nat_lt, ◌||◌, List, [], ◌++◌, Option, Some, None, refl, sym, ap, subst, ◌∙◌, arith}
+use Rattle.std.proofs.Common.{◌≡◌, ◌≢◌, ⊎_elim, ℕ, ◌+◌, ◌≤◌, Bool, true, false, not, ◌||◌, List, ◌++◌, Option, Some, None, refl, sym, ap, subst, ◌∙◌, arith}
 use Rattle.std.specs.Prelude.{fold}
-use Rattle.std.specs.Cmp.{eq_by_cmp_equiv}
-use Rattle.std.specs.Cmp.Lexicographic.{slice_cmp, nat_list_cmp_total}
-use Rattle.std.specs.FinMap.{FinMap, get}
-use Rattle.std.specs.List.{AllByRecursion, list_any}
-use Rattle.std.specs.Ordering.{nat_cmp}
 use Rattle.std.proofs.lemmas.List.Elements.{All-from_recursion, recursion_from_All}
-use Rattle.accounts.specs.declared.account.Account.{Account}
-use Rattle.accounts.specs.declared.entries.LapseEntry.TheVariants.{Renewal, Start}
-use Rattle.accounts.specs.declared.line.Line.{Line}
+use Rattle.rules.proofs.Words.{Account, account_of, AllByRecursion, begins_after, charges_waiting, Contact, contact_completed, Domain}
+use Rattle.rules.proofs.Words.{due_by, eq_by_cmp_equiv, FinMap, gained, get, given, HasBeen, HasLines, HasLinesOn, HasObjects, HasRoid}
+use Rattle.rules.proofs.Words.{is_same_roid, IsLineOf, lapse_contact, Line, list_any, moved, nat_cmp, nat_list_cmp_total, PolicyRules}
+use Rattle.rules.proofs.Words.{posted, Posting, postings, raised, Registry, Renewal, Roid, slice_cmp, Start, Transfer, turns, waits}
+use Rattle.rules.proofs.Words.{WasGiven}
 use Rattle.accounts.specs.declared.message.Subject.TheVariants as subjects
-use Rattle.accounts.specs.Entries.{posted}
-use Rattle.accounts.specs.Lines.{is_same_roid, waits}
 use Rattle.accounts.proofs.LineLaws.{same-roids}
-use Rattle.basis.specs.Sweeps.{given}
 use Rattle.calendar.specs.Moment.{plus_years}
 use Rattle.lifecycle.specs.declared.lapsed.Lapsed.{Lapsed}
-use Rattle.lifecycle.specs.Lapse.{completion, contact_completed, due_by, gained, lapse, lapse_by, lapse_contact, leaves, lived, moved, purged, raised, renewals}
-use Rattle.lifecycle.specs.Phases.{purge_at}
-use Rattle.lifecycle.specs.Turns.{turns}
-use Rattle.lifecycle.proofs.TurnLaws.{turns-are}
-use Rattle.objects.specs.declared.contact.Contact.{Contact}
-use Rattle.objects.specs.declared.domain.Deletion.{Deletion}
-use Rattle.objects.specs.declared.domain.Domain.{Domain}
+use Rattle.lifecycle.specs.Lapse.{lapse, turn}
 use Rattle.objects.specs.declared.roid.ObjectKind.TheVariants as kinds
-use Rattle.objects.specs.declared.roid.Roid.{Roid}
-use Rattle.objects.specs.declared.transfer.Transfer.{Transfer}
-use Rattle.policy.specs.Rules.{PolicyRules}
-use Rattle.model.specs.Lapse.{Choice, accounts_at, at, domains_at, is_named, lapse as lapse_registry, lapse_if, lapse_one, lapse_some, only, postings, put_or_drop, with_domain_lapsed}
-use Rattle.model.specs.Registry.{Registry, account_of}
-use Rattle.model.specs.WellFormed.{HasBeen, HasLines, HasLinesOn, HasRoid, IsLineOf, HasObjects, WasGiven, begins_after, charges_waiting}
+use Rattle.model.specs.Lapse.{Choice, accounts_at, at, domains_at, is_named, lapse as lapse_registry, lapse_if, lapse_one, lapse_some, only, put_or_drop, with_domain_lapsed}
 use Rattle.model.proofs.LapseLaws.{left-of, some-lapse-together}
 use Rattle.model.proofs.LineLemmas.{all-weaker, awaited-carried, count}
 use Rattle.model.proofs.OneByOneLemmas.{one-lapses}
 use Rattle.model.proofs.SweepLemmas.{swept-alike}
-use Rattle.rules.proofs.LineEntryLemmas.{AllKeep, AllOff, IsKeptOff, begins-asks, count-kept-off, keep-both, keep-given, keep-posted, lines-kept, none-kept-off, off-both, off-keep, waits-asks}
+use Rattle.rules.proofs.LineEntryLemmas.{AllKeep, AllOff, IsKeptOff, IsOff, Keeps, begins-asks, count-kept-off, keep-both, keep-given, keep-posted, lines-kept, none-kept-off, off-keep, waits-asks}
 use Rattle.rules.proofs.LapsedLemmas.{domain-left}
 use Rattle.rules.proofs.LineLapseLemmas.{lapsed-on, renewal_at}
 use Rattle.rules.proofs.NamedLemmas.{drop-cases, put-cases}
-use Rattle.rules.proofs.PostingLemmas.{due-is, serial-posted}
+use Rattle.rules.proofs.PostingLemmas.{domain-posted, due-is, serial-posted}
 
 -- ---- what is posted for another domain is on none of this one
 
 module _ (p : PolicyRules) (roid : Roid) where
-  renewals-off : (d : Domain) (n : ℕ) → is_same_roid d.roid roid ≡ false → AllOff roid (renewals p d n)
-  unfolding renewals
-  renewals-off d zero off = tt
-  renewals-off d (suc n) off = off-both roid (renewals p d n) _ (renewals-off d n off) (off, (tt, tt))
-
-  lived-off : (t : ℕ) (o : Option Transfer) (d : Domain) → is_same_roid d.roid roid ≡ false → AllOff roid (lived p t o d).postings
-  lived-off t None d off = renewals-off d (turns d t) off
-  lived-off t (Some x) d off =
-      let before : Domain = raised (turns d x.ac_date) d in
-      let after : Domain = moved x before in
-      off-both roid (renewals p d (turns d x.ac_date)) (completion x (gained before x.ac_date) before ++ renewals p after (turns after t)) (renewals-off d (turns d x.ac_date) off) (off, (tt, (tt, renewals-off after (turns after t) off)))
-
-  purged-off : (d : Domain) (x : Deletion) (b : Bool) → AllOff roid (cond b (leaves d []) (purged p x d)).postings
-  purged-off d x true = tt
-  purged-off d x false = (tt, tt)
-
-  by-off : (t : ℕ) (o : Option Deletion) (d : Domain) → is_same_roid d.roid roid ≡ false → AllOff roid (lapse_by p t o d).postings
-  by-off t None d off = lived-off t (due_by t d.transfer) d off
-  by-off t (Some x) d off = purged-off d x (nat_lt t (purge_at p x))
-
   pub domain-off : (t : ℕ) (d : Domain) → is_same_roid d.roid roid ≡ false → AllOff roid (lapse p t d).postings
-  domain-off t d off = by-off t d.deletion d off
+  domain-off t d off = domain-posted p t (λ (e : Posting). IsOff roid e.what) d (λ k come. (off, (tt, tt))) (λ x due. ((off, (tt, (tt, tt))), λ k come. (off, (tt, tt)))) (λ x past. tt)
 
   pub completed-off : (o : Option Transfer) (c : Contact) → AllOff roid (contact_completed o c).postings
   completed-off None c = tt
@@ -78,29 +41,16 @@ abbrev pub AreLinesOf : PolicyRules → Registry → List Line → Type 0
 AreLinesOf p s ls = AllByRecursion (IsLineOf p s) ls
 
 module _ (p : PolicyRules) (s : Registry) (r : ℕ) where
-  renewals-of : (d : Domain) (n : ℕ) → HasRoid p s kinds.Domain d.roid → ((k : ℕ) → k < n → plus_years d.created (d.years + k) ≤ s.clock) → AllKeep (AreLinesOf p s) r (renewals p d n)
-  unfolding renewals
-  renewals-of d zero has by = tt
-  renewals-of d (suc n) has by = keep-both (AreLinesOf p s) r (renewals p d n) _ (renewals-of d n has (λ k lt. by k (omega (arith, lt))))
-      ((λ own ls all. lines-kept p s (Renewal (renewal_at p d n)) (has, by n (omega arith)) ls all), ((λ own ls all. all), tt))
+  turned-of : (d : Domain) (k : ℕ) → HasRoid p s kinds.Domain d.roid → plus_years d.created (d.years + k) ≤ s.clock → AllKeep (AreLinesOf p s) r (turn p d k)
+  turned-of d k has come = ((λ own ls all. lines-kept p s (Renewal (renewal_at p d k)) (has, come) ls all), ((λ own ls all. all), tt))
 
-  lived-of : (o : Option Transfer) (d : Domain) → due_by s.clock d.transfer ≡ o → HasRoid p s kinds.Domain d.roid → AllKeep (AreLinesOf p s) r (lived p s.clock o d).postings
-  lived-of None d e has = renewals-of d (turns d s.clock) has (turns-are d s.clock).before
-  lived-of (Some x) d e has =
-      let come : x.ac_date ≤ s.clock = (due-is s.clock d.transfer x e).1 in
-      let before : Domain = raised (turns d x.ac_date) d in
-      let after : Domain = moved x before in
-      keep-both (AreLinesOf p s) r (renewals p d (turns d x.ac_date)) (completion x (gained before x.ac_date) before ++ renewals p after (turns after s.clock))
-      (renewals-of d (turns d x.ac_date) has (λ k lt. omega (arith, (turns-are d x.ac_date).before k lt, come)))
-      ((λ own ls all. lines-kept p s (Start (record { roid = d.roid; moment = x.ac_date; years = gained before x.ac_date })) come ls all), ((λ own ls all. all), ((λ own ls all. all), renewals-of after (turns after s.clock) has (turns-are after s.clock).before)))
-
-  purged-of : (d : Domain) (x : Deletion) (b : Bool) → AllKeep (AreLinesOf p s) r (cond b (leaves d []) (purged p x d)).postings
-  purged-of d x true = tt
-  purged-of d x false = ((λ own ls all. all), tt)
-
-  by-of : (o : Option Deletion) (d : Domain) → HasRoid p s kinds.Domain d.roid → AllKeep (AreLinesOf p s) r (lapse_by p s.clock o d).postings
-  by-of None d has = lived-of (due_by s.clock d.transfer) d refl has
-  by-of (Some x) d has = purged-of d x (nat_lt s.clock (purge_at p x))
+  domain-of : (d : Domain) → HasRoid p s kinds.Domain d.roid → AllKeep (AreLinesOf p s) r (lapse p s.clock d).postings
+  domain-of d has = domain-posted p s.clock (Keeps (AreLinesOf p s) r) d (λ k. turned-of d k has) (λ x due.
+      let before : Domain = raised (turns d x.ac_date) d in (
+        ((λ own ls all. lines-kept p s (Start (record { roid = d.roid; moment = x.ac_date; years = gained before x.ac_date })) (due-is s.clock d.transfer x due).1 ls all), ((λ own ls all. all), ((λ own ls all. all), tt))),
+        λ k. turned-of (moved x before) k has,
+      ))
+      (λ x past own ls all. all)
 
   completed-of : (P : List Line → Type 0) (o : Option Transfer) (c : Contact) → AllKeep P r (contact_completed o c).postings
   completed-of P None c = tt
@@ -208,7 +158,7 @@ module _ (p : PolicyRules) (t : ℕ) (s : Registry) (le : s.clock ≤ t) (object
       (keep-given P r (λ n c. (lapse_contact t c).postings) s.contacts (λ n c there. completed-of p later r P (due_by t c.transfer) c))
       (keep-given P r (λ n d. (lapse p t d).postings) s.domains (λ n d there.
       let has = (objects.domains n d there).stands.roid in
-      by-of p later r d.deletion d (record { kind_is = has.kind_is; creator = has.creator; serial = has.serial })))) s
+      domain-of p later r d (record { kind_is = has.kind_is; creator = has.creator; serial = has.serial })))) s
       (all-weaker (IsLineOf p s) (IsLineOf p later) (λ l k. record { roid = given-later l.roid k.roid; recorded = omega (arith, k.recorded, le); started = begun-later l.started k.started; refunded = begun-later l.refunded k.refunded }) (account_of r s).lines (recursion_from_All (IsLineOf p s) (account_of r s).lines (is.each r)))
 
   -- what is left of a domain, once all have lapsed

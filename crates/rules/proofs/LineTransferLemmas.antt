@@ -1,43 +1,37 @@
 -- What is asked for, approved, rejected or withdrawn of a domain's transfer keeps what a well-formed
 -- registry says of lines (RFC 5730, 2.9.3.4).
-use Rattle.std.proofs.Common.{◌≡◌, ◌≢◌, ⊎_elim, ℕ, ◌≤◌, ◌<◌, ◌==◌, Bool, true, false, cond, not, ◌&&◌, List, Option, Some, None, is_some, refl, sym, ap, subst, ◌∙◌, arith}
-use Rattle.std.specs.Cmp.{eq_by_cmp_equiv, nat_cmp_total}
-use Rattle.std.specs.FinMap.{get}
-use Rattle.std.specs.List.{AllByRecursion, list_any}
+use Rattle.std.proofs.Common.{◌≡◌, ◌≢◌, ⊎_elim, ℕ, ◌≤◌, ◌<◌, ◌==◌, Bool, true, false, cond, not, ◌&&◌, List, Option, Some, None, is_some, refl, sym, ap, subst, ◌∙◌, arith, max, nat_lt}
 use Rattle.std.proofs.lemmas.List.Elements.{All-from_recursion, recursion_from_All}
 use Rattle.std.proofs.lemmas.Option.{same_Some}
-use Rattle.accounts.specs.declared.account.Account.{Account}
-use Rattle.accounts.specs.declared.entries.LapseEntry.TheVariants.{Start}
-use Rattle.accounts.specs.declared.line.Line.{Line}
-use Rattle.accounts.specs.declared.line.LineKind.TheVariants as lines
+use Rattle.std.proofs.lemmas.Bool.Decides.{nat_tests}
+use Rattle.rules.proofs.Words.{Account, account_of, AllByRecursion, begins_after, changed, charges_waiting, Domain, domain_with_transfer}
+use Rattle.rules.proofs.Words.{end, Facts, get, HasBeen, HasLines, HasLinesOn, HasObjects, HasRoid, is_begun_after, is_kind, is_of, is_on}
+use Rattle.rules.proofs.Words.{is_pending, is_pending_state, is_same_roid, IsLater, IsLineOf, IsSound, last_clock, Line, list_any}
+use Rattle.rules.proofs.Words.{PolicyRules, PutDomain, Registry, remade, Request, requested, Roid, Start, start-elsewhere, start-stays}
+use Rattle.rules.proofs.Words.{Transfer, transfer_refunded, transfer_started, TransferStart, waits, WasGiven, with_account, with_command}
+use Rattle.rules.proofs.Words.{with_lines}
 use Rattle.accounts.specs.declared.line.TransferRefund.{TransferRefund}
-use Rattle.accounts.specs.declared.line.TransferStart.{TransferStart}
-use Rattle.accounts.specs.Entries.{with_lines}
-use Rattle.accounts.specs.LineChanges.{refund-elsewhere, refund-stays, start-elsewhere, start-stays}
-use Rattle.accounts.specs.Lines.{in_order, is_kind, is_of, is_on, is_same_roid, transfer_refunded, transfer_started, waits}
-use Rattle.accounts.proofs.LineLaws.{same-roids}
-use Rattle.basis.specs.Bag.{add, remade}
-use Rattle.objects.specs.declared.domain.Domain.{Domain}
-use Rattle.objects.specs.declared.roid.ObjectKind.TheVariants as kinds
-use Rattle.objects.specs.declared.roid.Roid.{Roid}
-use Rattle.objects.specs.declared.transfer.Transfer.{Transfer}
-use Rattle.objects.specs.Transfers.{is_pending, is_pending_state}
-use Rattle.policy.specs.Rules.{PolicyRules}
-use Rattle.model.specs.Registry.{Registry, account_of}
-use Rattle.model.specs.WellFormed.{HasBeen, HasLines, HasLinesOn, HasObjects, HasRoid, IsLater, IsLineOf, WasGiven, begins_after, charges_waiting, is_begun_after}
-use Rattle.model.proofs.LineLemmas.{and-false, all-add, all-remade, all-weaker, awaited-carried, count, count-add, count-add-none, count-none-remade, count-remade, itself, none-add, none-by, none-remade, not-itself, one-or-other, one_if}
-use Rattle.rules.specs.declared.change.Change.TheVariants.{PutDomain}
-use Rattle.rules.specs.Changes.{changed, with_account}
+use Rattle.accounts.specs.LineChanges.{refund-elsewhere, refund-stays}
+use Rattle.accounts.specs.Lines.{in_order}
+use Rattle.accounts.proofs.LineLaws.{same-roids, itself-roid}
+use Rattle.basis.specs.Bag.{add}
+use Rattle.model.proofs.LineLemmas.{and-false, all-add, all-remade, all-weaker, count, count-add, count-add-none, count-none-remade, count-remade, itself, none-add, none-by, none-remade, not-itself, one-or-other, one_if}
 use Rattle.rules.proofs.GrowthLemmas.{Grows}
 use Rattle.rules.proofs.LineEntryLemmas.{AsksFor, begins-asks, lines-kept, started-waits-not, test-elsewhere, waits-asks}
-use Rattle.rules.proofs.LineKeepingLemmas.{account-grows, begun-by, line-grown, lines-keep}
+use Rattle.rules.proofs.LineKeepingLemmas.{account-grows, begun-by, line-grown, lines-counted, lines-keep, on-carried}
 use Rattle.rules.proofs.NamedLemmas.{put-cases, put-is}
-use Rattle.rules.proofs.ViewLemmas.{account_of-with_account}
+use Rattle.rules.proofs.ViewLemmas.{own-account}
+use Rattle.lifecycle.specs.declared.change.Notification.{Notification}
+use Rattle.lifecycle.specs.Changes.{notified}
+use Rattle.lifecycle.specs.Transfers.{locked_since}
+use Rattle.policy.proofs.ScheduleLemmas.{day-count}
+use Rattle.rules.specs.Transfers.{transfer_line}
+use Rattle.rules.proofs.TransferCases.{IsAskable}
+use Rattle.accounts.specs.declared.line.LineKind.TheVariants as lines
+use Rattle.objects.specs.declared.roid.ObjectKind.TheVariants as kinds
+use Rattle.policy.specs.declared.days.Period.TheVariants as periods
 
 -- ---- accounts, and charges that wait
-
-own-account : (r : ℕ) (f : Account → Account) (s : Registry) → account_of r (with_account r f s) ≡ f (account_of r s)
-own-account r f s = account_of-with_account r r f s ∙ ap (λ (b : Bool). cond b (f (account_of r s)) (account_of r s)) ((eq_by_cmp_equiv nat_cmp_total).refl r)
 
 none-awaited : (r : ℕ) (o : Option Transfer) → is_pending o ≡ false → charges_waiting r o ≡ 0
 none-awaited r None over = refl
@@ -72,12 +66,9 @@ module _ (p : PolicyRules) (s : Registry) (objects : HasObjects p s) (has : HasL
 
     -- other domains see nothing of it
     others-on : IsOnDomain d.roid g → (x : Domain) → is_same_roid d.roid x.roid ≡ false → HasLinesOn s x → HasLinesOn left x
-    others-on only x apart h = record {
-      elsewhere = λ q other. none-changed (begins_after x.roid x.transferred) q (λ own. only.none x.roid (begins_after x.roid x.transferred) (begins-asks x.roid x.transferred) apart (account_of q s).lines) (h.elsewhere q other);
-      waiting = λ q. count-changed (waits x.roid) q (charges_waiting q x.transfer) (λ own k. only.as_many x.roid (waits x.roid) (waits-asks x.roid) apart (account_of q s).lines ∙ k) (h.waiting q);
-      awaited = awaited-carried s left x x.transfer
-          (λ y at pending none. none-changed (begins_after x.roid (Some y.ac_date)) x.sponsor (λ own. only.none x.roid (begins_after x.roid (Some y.ac_date)) (begins-asks x.roid (Some y.ac_date)) apart (account_of x.sponsor s).lines) none) h.awaited;
-    }
+    others-on only x apart = on-carried s left x
+        (λ last q. none-changed (begins_after x.roid last) q (λ own. only.none x.roid (begins_after x.roid last) (begins-asks x.roid last) apart (account_of q s).lines))
+        (λ q n. count-changed (waits x.roid) q n (λ own k. only.as_many x.roid (waits x.roid) (waits-asks x.roid) apart (account_of q s).lines ∙ k))
 
     pub lines-left : IsOnDomain d.roid g → ((ls : List Line) → AllByRecursion (IsLineOf p left) ls → AllByRecursion (IsLineOf p left) (g ls)) → HasLinesOn left e → HasLines p left
     lines-left only fits on = record {
@@ -274,3 +265,32 @@ module _ (p : PolicyRules) (s : Registry) (objects : HasObjects p s) (has : HasL
       pub lines-ended : HasLines p (with_account x.requester (with_lines (remade in_order (transfer_refunded (record { roid = d.roid; moment = moment })))) (changed p (PutDomain (record d { transfer = Some x })) s))
       lines-ended = lines-left ended refl x.requester refunded (remade-only (transfer_refunded back) (refund-elsewhere back) (refund-stays back))
           (λ ls all. all-remade in_order (IsLineOf p (left ended refl x.requester refunded)) (IsLineOf p (left ended refl x.requester refunded)) (transfer_refunded back) (refund-line (left ended refl x.requester refunded) come) ls all) ended-on
+
+-- a message changes no line
+pub told : (p : PolicyRules) (q : ℕ) (n : Notification) (s : Registry) → HasLines p s → HasLines p (with_account q (notified n) s)
+told p q n s has = lines-counted p s q (notified n) (λ a. refl) (λ a. omega arith) has
+
+-- ---- a domain that can be asked for
+
+module _ (p : PolicyRules) (sound : IsSound p) (r : ℕ) (s : Registry) (early : s.clock ≤ last_clock) (objects : HasObjects p (with_account r with_command s)) (lines : HasLines p (with_account r with_command s)) where
+  -- the registry once the command is counted
+  abbrev counted : Registry
+  counted = with_account r with_command s
+
+  -- a lock of at least a day is over
+  unlocked : (created : ℕ) (o : Option ℕ) → nat_lt s.clock (end periods.Lock (locked_since o created) p) ≡ false → (created < s.clock) × IsLater s.clock o
+  unlocked created None e = let over : end periods.Lock created p ≤ s.clock = grind (arith, nat_tests, e) in (omega (arith, over, (day-count periods.Lock created p.days sound.days_in_range).0), tt)
+  unlocked created (Some transferred) e =
+      let over : end periods.Lock (max created transferred) p ≤ s.clock = grind (arith, nat_tests, e) in
+      let least = day-count periods.Lock (max created transferred) p.days sound.days_in_range in
+      (omega (arith, over, least.0), omega (arith, over, least.0))
+
+  line-waits : (q : Request) (f : Facts) (d : Domain) → waits d.roid (transfer_line p s.clock d.roid q f) ≡ true
+  line-waits q f d = ap (λ (b : Bool). (b && true) && true) (itself-roid d.roid)
+
+  pub asked-kept : (q : Request) (f : Facts) (name : List ℕ) (d : Domain) → get s.domains name ≡ Some d → IsAskable p r s.clock d
+      → HasLines p (with_account r (with_lines (add in_order (transfer_line p s.clock d.roid q f))) (changed p (PutDomain (domain_with_transfer (requested p r d.sponsor s.clock) d)) (with_account r with_command s)))
+  asked-kept q f name d at askable =
+      let past = unlocked d.created d.transferred askable.unlocked in
+      lines-asked p counted objects lines name d at (requested p r d.sponsor s.clock) (transfer_line p s.clock d.roid q f) askable.over refl refl (line-waits q f d) refl (omega arith) refl
+      refl askable.other past.0 past.1 (omega (arith, early)) (omega (arith, early))

@@ -1,21 +1,16 @@
 -- What a domain is to name is there: the lists of its links, in order or amended, name what commands
 -- and the domain named before.
 use Rattle.std.proofs.Common.{◌≡◌, ⊎_elim, ℕ, Bool, true, false, not, ◌||◌, List, [], ◌∷◌, ◌++◌, map, Option, Some, None, refl, sym, ap, ◌∙◌}
-use Rattle.std.specs.Cmp.Lexicographic.{bytes_decides}
-use Rattle.std.specs.List.{list_any}
-use Rattle.std.specs.Str.{bytes_eq}
 use Rattle.std.proofs.lemmas.Bool.{and_parts, not-false, or_cases, or_left, or_parts, or_right}
 use Rattle.std.proofs.lemmas.List.Folds.{list_any-append}
-use Rattle.names.specs.GivenName.{name_of}
-use Rattle.objects.specs.declared.domain.Links.{Links}
-use Rattle.objects.specs.Links.{has_name, in_order, names_contact, names_host}
+use Rattle.rules.proofs.Words.{amended, bytes_decides, bytes_eq, DomainUpdate, has_name, holds_of, Links, list_any, name_of, names_contact}
+use Rattle.rules.proofs.Words.{names_host, NewDomain}
+use Rattle.objects.specs.Links.{in_order}
 use Rattle.rules.specs.Decisions.{new_links, or_old, updated_links}
 use Rattle.rules.proofs.NameListLemmas.{has_name-filter, has_name-in_order}
-use Rattle.protocol.specs.declared.command.DomainUpdate.{DomainUpdate}
-use Rattle.protocol.specs.declared.command.NewDomain.{NewDomain}
 use Rattle.protocol.specs.declared.command.Request.TheVariants.{CreateDomain, UpdateDomain}
-use Rattle.protocol.specs.Requests.{holds_of, references_fail}
-use Rattle.facts.specs.Lists.{amended, is_among, itself, kept}
+use Rattle.protocol.specs.Requests.{references_fail}
+use Rattle.facts.specs.Lists.{is_among, itself, kept}
 
 module _ (there : List ℕ → Bool) where
   -- what passes for a name passes for the same name

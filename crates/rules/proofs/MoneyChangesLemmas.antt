@@ -1,19 +1,13 @@
 -- Changes of a registry, and the money of its accounts.
-use Rattle.std.proofs.Common.{◌≡◌, ◌⊎◌, ℕ, ◌≤◌, true, List, [], ◌∷◌, Some, None, subst, pos, ◌+ℤ◌, ◌≤ℤ◌}
-use Rattle.accounts.specs.declared.account.Account.{Account}
-use Rattle.accounts.specs.declared.entries.LapseEntry.TheVariants.{Notice, Renewal, Start}
-use Rattle.accounts.specs.declared.line.Line.{Line}
-use Rattle.accounts.specs.Lines.{amount, balance, transfer_refunded, transfer_started, waits}
-use Rattle.lifecycle.specs.declared.change.AccountChange.{AccountChange}
-use Rattle.lifecycle.specs.declared.change.AccountChange.TheVariants.{Charge, RefundRunning, RefundTransfer, Lapse, Tell, Ack, CountCommand, TakeSerial}
+use Rattle.std.proofs.Common.{◌≡◌, ◌⊎◌, ℕ, ◌≤◌, true, List, Some, None, subst, pos, ◌+ℤ◌, ◌≤ℤ◌}
+use Rattle.rules.proofs.Words.{Account, account_of, AccountChange, balance, Change, changed, changed_all, Charge, Post, Lapse, Line, Notice}
+use Rattle.rules.proofs.Words.{OpenAccount, PolicyRules, RefundRunning, RefundTransfer, Registry, Renewal, runs, Start, Notify}
+use Rattle.rules.proofs.Words.{transfer_refunded, transfer_started, waits}
+use Rattle.accounts.specs.Lines.{amount}
 use Rattle.lifecycle.specs.Changes.{changed as account_changed, refunded_by}
-use Rattle.lifecycle.specs.Graces.{runs}
-use Rattle.policy.specs.Rules.{PolicyRules}
-use Rattle.model.specs.Registry.{Registry, account_of}
 use Rattle.model.proofs.MoneyChangeLemmas.{Follows, follows-changed, follows-charge, running-given-back, transfer-begun, transfer-given-back}
-use Rattle.rules.specs.declared.change.Change.{Change}
-use Rattle.rules.specs.declared.change.Change.TheVariants.{MoveClock, OpenAccount, PutContact, DropContact, PutDomain, DropDomain, PutHost, DropHost, RenameHost, LapseContact, LapseDomain, Give}
-use Rattle.rules.specs.Changes.{changed, changed_all, itself}
+use Rattle.rules.specs.Changes.{itself}
+use Rattle.rules.proofs.FitLemmas.{AllFit, all-kept}
 use Rattle.rules.proofs.LineKeepingLemmas.{lines-keep}
 
 -- a line that is nothing or more, or that these lines cover
@@ -29,29 +23,16 @@ FitsAccount L u p r (RefundTransfer x) ls = (l : Line) → waits x.roid l ≡ tr
 FitsAccount L u p r (Lapse (Renewal x)) ls = ⊥
 FitsAccount L u p r (Lapse (Start x)) ls = x.moment ≤ u
 FitsAccount L u p r (Lapse (Notice m)) ls = m.moment ≤ u
-FitsAccount L u p r (Tell n) ls = n.moment ≤ u
-FitsAccount L u p r (Ack id) ls = Unit {0}
-FitsAccount L u p r CountCommand ls = Unit {0}
-FitsAccount L u p r TakeSerial ls = Unit {0}
+FitsAccount L u p r (Notify n) ls = n.moment ≤ u
+FitsAccount L u p r _ ls = Unit {0}
 
 abbrev pub FitsMoney : (ℕ → ℕ → Line → Type 0) → ℕ → PolicyRules → Change → Registry → Type 0
-FitsMoney L u p (Give r what) s = FitsAccount L u p r what (account_of r s).lines
-FitsMoney L u p (MoveClock t) s = Unit {0}
-FitsMoney L u p (OpenAccount r) s = Unit {0}
-FitsMoney L u p (PutContact c) s = Unit {0}
-FitsMoney L u p (DropContact name) s = Unit {0}
-FitsMoney L u p (PutDomain d) s = Unit {0}
-FitsMoney L u p (DropDomain name) s = Unit {0}
-FitsMoney L u p (PutHost h) s = Unit {0}
-FitsMoney L u p (DropHost name) s = Unit {0}
-FitsMoney L u p (RenameHost old new) s = Unit {0}
-FitsMoney L u p (LapseContact name left) s = Unit {0}
-FitsMoney L u p (LapseDomain name left) s = Unit {0}
+FitsMoney L u p (Post r what) s = FitsAccount L u p r what (account_of r s).lines
+FitsMoney L u p _ s = Unit {0}
 
 -- each when its turn comes
 abbrev pub AllFitMoney : (ℕ → ℕ → Line → Type 0) → ℕ → PolicyRules → List Change → Registry → Type 0
-AllFitMoney L u p [] s = Unit {0}
-AllFitMoney L u p (change ∷ changes) s = FitsMoney L u p change s × AllFitMoney L u p changes (changed p change s)
+AllFitMoney L u p changes s = AllFit p (FitsMoney L u p) changes s
 
 module _ (L : ℕ → ℕ → Line → Type 0) (u : ℕ) (p : PolicyRules) (q : ℕ) (begin : List Line) where
   abbrev Follow : List Line → Type 0
@@ -63,27 +44,13 @@ module _ (L : ℕ → ℕ → Line → Type 0) (u : ℕ) (p : PolicyRules) (q : 
   own-follows (RefundTransfer x) a fits h = follows-changed (L q) u (transfer_refunded x) (λ l. transfer-given-back (L q) u x l (fits l)) begin a.lines h
   own-follows (Lapse (Renewal x)) a fits h = absurd fits
   own-follows (Lapse (Start x)) a fits h = follows-changed (L q) u (transfer_started x) (transfer-begun (L q) u x fits) begin a.lines h
-  own-follows (Lapse (Notice m)) a fits h = h
-  own-follows (Tell n) a fits h = h
-  own-follows (Ack id) a fits h = h
-  own-follows CountCommand a fits h = h
-  own-follows TakeSerial a fits h = h
+  own-follows _ a fits h = h
 
   change-follows : (change : Change) (s : Registry) → FitsMoney L u p change s → Follow (account_of q s).lines → Follow (account_of q (changed p change s)).lines
-  change-follows (Give r what) s fits h = lines-keep s r (account_changed p what) Follow q
+  change-follows (Post r what) s fits h = lines-keep s r (account_changed p what) Follow q
       (λ own h. own-follows what (account_of q s) (subst (λ (n : ℕ). FitsAccount L u p n what (account_of n s).lines) own fits) h) h
   change-follows (OpenAccount r) s fits h = lines-keep s r itself Follow q (λ own h. h) h
-  change-follows (MoveClock t) s fits h = h
-  change-follows (PutContact c) s fits h = h
-  change-follows (DropContact name) s fits h = h
-  change-follows (PutDomain d) s fits h = h
-  change-follows (DropDomain name) s fits h = h
-  change-follows (PutHost host) s fits h = h
-  change-follows (DropHost name) s fits h = h
-  change-follows (RenameHost old new) s fits h = h
-  change-follows (LapseContact name left) s fits h = h
-  change-follows (LapseDomain name left) s fits h = h
+  change-follows _ s fits h = h
 
   pub changes-follow : (changes : List Change) (s : Registry) → AllFitMoney L u p changes s → Follow (account_of q s).lines → Follow (account_of q (changed_all p changes s)).lines
-  changes-follow [] s fit h = h
-  changes-follow (change ∷ changes) s fit h = changes-follow changes (changed p change s) fit.1 (change-follows change s fit.0 h)
+  changes-follow = all-kept p (FitsMoney L u p) (λ s. Follow (account_of q s).lines) change-follows

@@ -1,16 +1,10 @@
 -- What becomes of the money of every account in a step of the rules, and as time passes.
 use Rattle.std.proofs.Common.{◌≡◌, ℕ, ◌≤◌, max, sym, subst, arith}
-use Rattle.policy.specs.Rules.{PolicyRules, IsSound}
-use Rattle.protocol.specs.declared.command.Command.{Command}
-use Rattle.protocol.specs.declared.order.Order.{Order}
-use Rattle.model.specs.Lapse.{lapsed, now}
-use Rattle.model.specs.Money.{AccountAges, AccountFollows, IsRefundable, MoneyFollows}
-use Rattle.model.specs.Registry.{Registry, account_of}
-use Rattle.model.specs.WellFormed.{IsRegistry, last_clock}
+use Rattle.rules.proofs.Words.{account_of, Command, decision, effect, IsRefundable, IsRegistry, IsSound, lapsed, last_clock, now, Order}
+use Rattle.rules.proofs.Words.{order_decision, order_effect, PolicyRules, Registry}
+use Rattle.model.specs.Money.{AccountAges, AccountFollows, MoneyFollows}
 use Rattle.model.proofs.LapseLaws.{lapsed-is-settled, lapses-on, settled-is-now}
 use Rattle.model.proofs.MoneyChangeLemmas.{Follows, follows-itself}
-use Rattle.rules.specs.Orders.{order_decision, order_effect}
-use Rattle.rules.specs.Steps.{decision, effect}
 use Rattle.rules.proofs.MoneyChangesLemmas.{changes-follow}
 use Rattle.rules.proofs.MoneyCommandLemmas.{command-lawful, order-lawful}
 use Rattle.rules.proofs.MoneyTimeLemmas.{lapse-ages}

@@ -1,13 +1,10 @@
 -- Lists of names that are filtered, or put in order.
 use Rattle.std.proofs.Common.{◌≡◌, ℕ, Bool, true, false, ◌&&◌, ◌||◌, List, [], ◌∷◌, filter, fold, refl, ap, ◌∙◌}
-use Rattle.std.specs.Cmp.Lexicographic.{slice_cmp, bytes_decides}
-use Rattle.std.specs.List.{list_any}
-use Rattle.std.specs.Ordering.{nat_cmp}
-use Rattle.std.specs.Str.{bytes_eq}
 use Rattle.std.proofs.lemmas.Map.Views.{any-filter_same}
-use Rattle.basis.specs.Bag.{add, precedes}
+use Rattle.rules.proofs.Words.{bytes_decides, bytes_eq, has_name, list_any, nat_cmp, precedes, slice_cmp}
+use Rattle.basis.specs.Bag.{add}
 use Rattle.basis.proofs.BagLaws.{any-add}
-use Rattle.objects.specs.Links.{has_name, in_order}
+use Rattle.objects.specs.Links.{in_order}
 
 -- of the names that pass, those that a list has
 pub has_name-filter : (test : List ℕ → Bool) (names : List (List ℕ)) (name : List ℕ) → has_name (filter test names) name ≡ (test name && has_name names name)

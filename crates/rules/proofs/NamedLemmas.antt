@@ -1,14 +1,10 @@
 -- What stands at a name after a map by names was changed.
 use Rattle.std.proofs.Common.{◌≡◌, ◌≢◌, ◌⊎◌, inl, inr, ⊎_elim, ℕ, Bool, true, false, cond, List, [], ◌∷◌, map, Option, Some, None, IsSome, is_some, option_map, refl, sym, ap, ◌∙◌, suc, length, filter, eqb-true, arith}
-use Rattle.std.specs.Cmp.{Equal-is, eq_by_cmp_equiv}
-use Rattle.std.specs.Cmp.Lexicographic.{slice_cmp, nat_list_cmp_total}
-use Rattle.std.specs.FinMap.{FinMap, entries, find, get, get-entries, insert, keys, nat_cmp-IsAntisymmetric, remove, same_map, slice_cmp-IsAntisymmetric, values, get-insert, get-remove}
-use Rattle.std.specs.List.{list_any}
-use Rattle.std.specs.Ordering.{eq_by_cmp, nat_cmp}
+use Rattle.std.specs.FinMap.{find, get-entries, keys, same_map, slice_cmp-IsAntisymmetric, values, get-remove}
 use Rattle.std.proofs.lemmas.Bool.{or_parts}
 use Rattle.std.proofs.lemmas.Option.{same_Some}
-use Rattle.basis.specs.Maps.{map_values}
-use Rattle.objects.specs.Domains.{is_empty}
+use Rattle.rules.proofs.Words.{entries, eq_by_cmp, eq_by_cmp_equiv, Equal-is, FinMap, get, get-insert, insert, is_empty, list_any}
+use Rattle.rules.proofs.Words.{map_values, nat_cmp, nat_cmp-IsAntisymmetric, nat_list_cmp_total, remove, slice_cmp}
 use Rattle.basis.proofs.MapLemmas.{names_apart, get-map_values}
 
 -- what is some value is there

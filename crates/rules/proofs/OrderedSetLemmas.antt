@@ -2,20 +2,18 @@
 use Rattle.std.proofs.Common.{◌≡◌, ℕ, Bool, true, false, cond, not, ◌&&◌, ◌||◌, List, [], ◌∷◌, ◌++◌, map, filter, fold, refl, sym, ap, subst, ◌∙◌}
 use Rattle.std.proofs.lemmas.Bool.{or_parts}
 use Rattle.std.proofs.lemmas.List.Folds.{list_any-append}
-use Rattle.std.specs.Cmp.Lexicographic.{slice_cmp, bytes_decides, nat_list_cmp_total}
-use Rattle.std.specs.List.{AllByRecursion, list_any}
 use Rattle.std.specs.List.Sorted.{IsStrictlySortedBy}
-use Rattle.std.specs.Ordering.{is_le, nat_cmp, ordering_reverse}
+use Rattle.std.specs.Ordering.{is_le, ordering_reverse}
 use Rattle.std.specs.declared.cmp.Ordering.{Ordering}
 use Rattle.std.specs.declared.cmp.Ordering.TheVariants.{Less, Equal, Greater}
-use Rattle.std.specs.Str.{bytes_eq}
-use Rattle.basis.specs.Bag.{add, precedes}
+use Rattle.rules.proofs.Words.{AllByRecursion, amended, bytes_decides, bytes_eq, has_name, list_any, nat_cmp, nat_list_cmp_total, precedes}
+use Rattle.rules.proofs.Words.{renamed, slice_cmp}
+use Rattle.basis.specs.Bag.{add}
 use Rattle.basis.proofs.BagLaws.{any-add}
 use Rattle.basis.proofs.MapLemmas.{names_apart}
-use Rattle.facts.specs.Lists.{adds_what_is_there, amended, has_twice, is_among, itself, kept}
-use Rattle.objects.specs.Links.{has_name, in_order}
+use Rattle.facts.specs.Lists.{adds_what_is_there, has_twice, is_among, itself, kept}
+use Rattle.objects.specs.Links.{in_order}
 use Rattle.model.specs.Shapes.{IsOrderedSet}
-use Rattle.rules.specs.Changes.{renamed}
 use Rattle.rules.proofs.NameListLemmas.{has_name-filter}
 
 abbrev Text : Type 0

@@ -1,50 +1,38 @@
 -- What time posts into accounts goes to registrars, and keeps a registry well formed.
-use Rattle.std.proofs.Common.{◌≡◌, ℕ, ◌≤◌, Bool, true, false, cond, nat_lt, zero, suc, List, [], ◌∷◌, ◌++◌, Option, Some, None, refl, ap, subst, ◌∙◌, arith}
+use Rattle.std.proofs.Common.{◌≡◌, ℕ, ◌+◌, ◌<◌, ◌≤◌, Bool, true, false, cond, nat_lt, zero, suc, List, [], ◌∷◌, ◌++◌, Option, Some, None, refl, ap, subst, ◌∙◌, arith}
 use Rattle.std.specs.Prelude.{fold, ◌&&◌, nat_le}
-use Rattle.std.specs.Cmp.Lexicographic.{slice_cmp, nat_list_cmp_total}
-use Rattle.std.specs.FinMap.{FinMap, entries, get}
-use Rattle.std.specs.Ordering.{eq_by_cmp, nat_cmp}
 use Rattle.std.proofs.lemmas.Bool.Decides.{nat_tests}
-use Rattle.accounts.specs.declared.account.Account.{Account}
-use Rattle.accounts.specs.declared.entries.LapseEntry.{LapseEntry}
-use Rattle.accounts.specs.declared.entries.LapseEntry.TheVariants.{Notice, Renewal, Start}
-use Rattle.accounts.specs.declared.entries.Posting.{Posting}
-use Rattle.accounts.specs.Entries.{entered, posted}
-use Rattle.basis.specs.Sweeps.{given, given_list}
+use Rattle.rules.proofs.Words.{Account, account_of, completion, Contact, contact_completed, Deletion, Domain, due_by, entered, entries}
+use Rattle.rules.proofs.Words.{FinMap, gained, get, given, given_list, HasObjects, is_pending_state, IsLastTransfer, IsRegistrar}
+use Rattle.rules.proofs.Words.{IsTransfer, lapse_by, lapse_contact, LapseEntry, leaves, lived, moved, nat_cmp, nat_list_cmp_total, Notice}
+use Rattle.rules.proofs.Words.{PolicyRules, posted, Posting, postings, purge_at, purged, raised, Registry, Renewal, slice_cmp, Start}
+use Rattle.rules.proofs.Words.{Transfer, turns, with_account}
 use Rattle.basis.proofs.EntryLaws.{Each, each_entry}
 use Rattle.basis.proofs.MapLemmas.{names_apart}
-use Rattle.lifecycle.specs.Lapse.{completion, contact_completed, due_by, gained, lapse, lapse_by, lapse_contact, leaves, lived, moved, purged, raised, renewals}
-use Rattle.lifecycle.specs.Phases.{purge_at}
-use Rattle.lifecycle.specs.Turns.{turns}
-use Rattle.objects.specs.declared.contact.Contact.{Contact}
-use Rattle.objects.specs.declared.domain.Deletion.{Deletion}
-use Rattle.objects.specs.declared.domain.Domain.{Domain}
-use Rattle.objects.specs.declared.transfer.Transfer.{Transfer}
-use Rattle.objects.specs.Transfers.{is_pending_state}
-use Rattle.policy.specs.Rules.{PolicyRules, IsRegistrar}
-use Rattle.model.specs.Lapse.{postings}
-use Rattle.model.specs.Registry.{Registry, account_of}
-use Rattle.model.specs.WellFormed.{IsLastTransfer, HasObjects, IsTransfer}
-use Rattle.rules.specs.Changes.{with_account}
+use Rattle.accounts.specs.declared.message.LapseNotice.TheVariants.{Purged}
+use Rattle.calendar.specs.Moment.{plus_years}
+use Rattle.lifecycle.specs.Lapse.{contact_completion, lapse, renewals, tell, turn}
+use Rattle.lifecycle.proofs.TurnLaws.{turns-are}
 use Rattle.rules.proofs.KeepingLemmas.{kept-account}
-use Rattle.rules.proofs.ViewLemmas.{account_of-with_account}
+use Rattle.rules.proofs.ViewLemmas.{account-keep}
 
--- ---- to registrars
+-- ---- what is so of each posting
 
-abbrev pub AreToRegistrars : PolicyRules → List Posting → Type 0
-AreToRegistrars p [] = Unit {0}
-AreToRegistrars p (e ∷ es) = IsRegistrar p e.registrar × AreToRegistrars p es
+abbrev pub AllPosted : (Posting → Type 0) → List Posting → Type 0
+AllPosted R [] = Unit {0}
+AllPosted R (e ∷ es) = R e × AllPosted R es
 
-to-both : (p : PolicyRules) (es fs : List Posting) → AreToRegistrars p es → AreToRegistrars p fs → AreToRegistrars p (es ++ fs)
-to-both p [] fs first second = second
-to-both p (e ∷ es) fs first second = (first.0, to-both p es fs first.1 second)
+module _ (R : Posting → Type 0) where
+  pub posted-both : (es fs : List Posting) → AllPosted R es → AllPosted R fs → AllPosted R (es ++ fs)
+  posted-both [] fs first second = second
+  posted-both (e ∷ es) fs first second = (first.0, posted-both es fs first.1 second)
 
-to-each : {X : Type 0} (p : PolicyRules) (g : List ℕ → X → List Posting) (es : List (List ℕ × X)) → Each (λ name x. AreToRegistrars p (g name x)) es → AreToRegistrars p (given_list g es)
-to-each p g [] each = tt
-to-each p g (e ∷ es) each = to-both p (g e.0 e.1) (given_list g es) each.0 (to-each p g es each.1)
+  posted-each : {X : Type 0} (g : List ℕ → X → List Posting) (es : List (List ℕ × X)) → Each (λ name x. AllPosted R (g name x)) es → AllPosted R (given_list g es)
+  posted-each g [] each = tt
+  posted-each g (e ∷ es) each = posted-both (g e.0 e.1) (given_list g es) each.0 (posted-each g es each.1)
 
-to-given : {X : Type 0} (p : PolicyRules) (g : List ℕ → X → List Posting) (m : FinMap (slice_cmp nat_cmp) X) → ((name : List ℕ) (x : X) → get m name ≡ Some x → AreToRegistrars p (g name x)) → AreToRegistrars p (given g m)
-to-given p g m all = to-each p g (entries m) (each_entry (slice_cmp nat_cmp) nat_list_cmp_total names_apart (λ name x. AreToRegistrars p (g name x)) m all)
+  pub posted-given : {X : Type 0} (g : List ℕ → X → List Posting) (m : FinMap (slice_cmp nat_cmp) X) → ((name : List ℕ) (x : X) → get m name ≡ Some x → AllPosted R (g name x)) → AllPosted R (given g m)
+  posted-given g m all = posted-each g (entries m) (each_entry (slice_cmp nat_cmp) nat_list_cmp_total names_apart (λ name x. AllPosted R (g name x)) m all)
 
 -- ---- a transfer that is due
 
@@ -64,40 +52,79 @@ due-is t (Some y) x e =
 pub due-transfer : (p : PolicyRules) (s : Registry) (t created : ℕ) (transferred : Option ℕ) (o : Option Transfer) (x : Transfer) → due_by t o ≡ Some x → IsLastTransfer p s created transferred o → IsTransfer p s created transferred x
 due-transfer p s t created transferred o x e is = subst (IsLastTransfer p s created transferred) (due-is t o x e).0 is
 
--- ---- what contacts and domains post
+-- ---- what time posts of contacts and domains
 
-module _ (p : PolicyRules) (s : Registry) (t : ℕ) where
-  contact-to : (c : Contact) (o : Option Transfer) → due_by t c.transfer ≡ o → IsLastTransfer p s c.created c.transferred c.transfer → AreToRegistrars p (contact_completed o c).postings
-  contact-to c None e is = tt
-  contact-to c (Some x) e is = let k = due-transfer p s t c.created c.transferred c.transfer x e is in (k.recorded.losing_registrar, (k.recorded.requester, tt))
+module _ (p : PolicyRules) (t : ℕ) (R : Posting → Type 0) where
+  -- of each turn of a domain's years that has come
+  abbrev pub AllTurned : Domain → Type 0
+  AllTurned d = (k : ℕ) → plus_years d.created (d.years + k) ≤ t → AllPosted R (turn p d k)
 
-  renewals-to : (d : Domain) (n : ℕ) → IsRegistrar p d.sponsor → AreToRegistrars p (renewals p d n)
+  renewals-posted : (d : Domain) (n : ℕ) → AllTurned d → ((k : ℕ) → k < n → plus_years d.created (d.years + k) ≤ t) → AllPosted R (renewals p d n)
   unfolding renewals
-  renewals-to d zero place = tt
-  renewals-to d (suc n) place = to-both p (renewals p d n) _ (renewals-to d n place) (place, (place, tt))
+  renewals-posted d zero turned by = tt
+  renewals-posted d (suc n) turned by = posted-both R (renewals p d n) (turn p d n) (renewals-posted d n turned (λ k lt. by k (omega (arith, lt)))) (turned n (by n (omega arith)))
 
-  lived-to : (d : Domain) (o : Option Transfer) → due_by t d.transfer ≡ o → IsRegistrar p d.sponsor → IsLastTransfer p s d.created d.transferred d.transfer → AreToRegistrars p (lived p t o d).postings
-  lived-to d None e place is = renewals-to d (turns d t) place
-  lived-to d (Some x) e place is =
-      let k = due-transfer p s t d.created d.transferred d.transfer x e is in
-      let to : IsRegistrar p x.requester = k.recorded.requester in
-      let before : Domain = raised (turns d x.ac_date) d in
-      let after : Domain = moved x before in
-      to-both p (renewals p d (turns d x.ac_date)) (completion x (gained before x.ac_date) before ++ renewals p after (turns after t)) (renewals-to d (turns d x.ac_date) place)
-      (to, (k.recorded.losing_registrar, (to, renewals-to after (turns after t) to)))
+  -- a domain as it is when a transfer of it is completed
+  abbrev before : Transfer → Domain → Domain
+  before x d = raised (turns d x.ac_date) d
 
-  purged-to : (d : Domain) (x : Deletion) (b : Bool) → IsRegistrar p d.sponsor → AreToRegistrars p (cond b (leaves d []) (purged p x d)).postings
-  purged-to d x true place = tt
-  purged-to d x false place = (place, tt)
+  -- what holds of its turns, of what completes a transfer that is due, of the turns after that, and of its purge
+  module _ (d : Domain) (turned : AllTurned d)
+      (completed : (x : Transfer) → due_by t d.transfer ≡ Some x → AllPosted R (completion x (gained (before x d) x.ac_date) (before x d)) × AllTurned (moved x (before x d)))
+      (gone : (x : Deletion) → nat_lt t (purge_at p x) ≡ false → R (tell d.sponsor (purge_at p x) Purged d)) where
+    by-transfer : (o : Option Transfer) → due_by t d.transfer ≡ o → AllPosted R (lived p t o d).postings
+    by-transfer None e = renewals-posted d (turns d t) turned (turns-are d t).before
+    by-transfer (Some x) e =
+        let come : x.ac_date ≤ t = (due-is t d.transfer x e).1 in
+        let after : Domain = moved x (before x d) in
+        let done : List Posting = completion x (gained (before x d) x.ac_date) (before x d) in
+        posted-both R (renewals p d (turns d x.ac_date)) (done ++ renewals p after (turns after t))
+        (renewals-posted d (turns d x.ac_date) turned (λ k lt. omega (arith, (turns-are d x.ac_date).before k lt, come)))
+        (posted-both R done (renewals p after (turns after t)) (completed x e).0 (renewals-posted after (turns after t) (completed x e).1 (turns-are after t).before))
 
-  domain-to : (d : Domain) (o : Option Deletion) → IsRegistrar p d.sponsor → IsLastTransfer p s d.created d.transferred d.transfer → AreToRegistrars p (lapse_by p t o d).postings
-  domain-to d None place is = lived-to d (due_by t d.transfer) refl place is
-  domain-to d (Some x) place is = purged-to d x (nat_lt t (purge_at p x)) place
+    by-purge : (x : Deletion) (b : Bool) → nat_lt t (purge_at p x) ≡ b → AllPosted R (cond b (leaves d []) (purged p x d)).postings
+    by-purge x true e = tt
+    by-purge x false e = (gone x e, tt)
 
-  pub postings-to : HasObjects p s → AreToRegistrars p (postings (λ name. lapse_contact t) (λ name. lapse p t) s)
-  postings-to is = to-both p (given (λ name c. (lapse_contact t c).postings) s.contacts) (given (λ name d. (lapse p t d).postings) s.domains)
-      (to-given p (λ name c. (lapse_contact t c).postings) s.contacts (λ name c at. contact-to c (due_by t c.transfer) refl (is.contacts name c at).transfer))
-      (to-given p (λ name d. (lapse p t d).postings) s.domains (λ name d at. let k = is.domains name d at in domain-to d d.deletion k.stands.sponsor k.transfer))
+    by-deletion : (o : Option Deletion) → AllPosted R (lapse_by p t o d).postings
+    by-deletion None = by-transfer (due_by t d.transfer) refl
+    by-deletion (Some x) = by-purge x (nat_lt t (purge_at p x)) refl
+
+    pub domain-posted : AllPosted R (lapse p t d).postings
+    domain-posted = by-deletion d.deletion
+
+  module _ (c : Contact) (completed : (x : Transfer) → due_by t c.transfer ≡ Some x → AllPosted R (contact_completion x c)) where
+    by-completion : (o : Option Transfer) → due_by t c.transfer ≡ o → AllPosted R (contact_completed o c).postings
+    by-completion None e = tt
+    by-completion (Some x) e = completed x e
+
+    pub contact-posted : AllPosted R (lapse_contact t c).postings
+    contact-posted = by-completion (due_by t c.transfer) refl
+
+  pub postings-posted : (s : Registry) → ((name : List ℕ) (c : Contact) → get s.contacts name ≡ Some c → AllPosted R (lapse_contact t c).postings)
+      → ((name : List ℕ) (d : Domain) → get s.domains name ≡ Some d → AllPosted R (lapse p t d).postings) → AllPosted R (postings (λ name. lapse_contact t) (λ name. lapse p t) s)
+  postings-posted s contacts domains = posted-both R (given (λ name c. (lapse_contact t c).postings) s.contacts) (given (λ name d. (lapse p t d).postings) s.domains)
+      (posted-given R (λ name c. (lapse_contact t c).postings) s.contacts contacts) (posted-given R (λ name d. (lapse p t d).postings) s.domains domains)
+
+-- ---- to registrars
+
+abbrev IsToRegistrar : PolicyRules → Posting → Type 0
+IsToRegistrar p e = IsRegistrar p e.registrar
+
+abbrev pub AreToRegistrars : PolicyRules → List Posting → Type 0
+AreToRegistrars p es = AllPosted (IsToRegistrar p) es
+
+pub postings-to : (p : PolicyRules) (s : Registry) (t : ℕ) → HasObjects p s → AreToRegistrars p (postings (λ name. lapse_contact t) (λ name. lapse p t) s)
+postings-to p s t is = postings-posted p t (IsToRegistrar p) s
+    (λ name c at. contact-posted p t (IsToRegistrar p) c (λ x due.
+    let k = (due-transfer p s t c.created c.transferred c.transfer x due (is.contacts name c at).transfer).recorded in
+    (k.losing_registrar, (k.requester, tt))))
+    (λ name d at.
+    let place = (is.domains name d at).stands.sponsor in
+    domain-posted p t (IsToRegistrar p) d (λ k come. (place, (place, tt))) (λ x due.
+    let k = (due-transfer p s t d.created d.transferred d.transfer x due (is.domains name d at).transfer).recorded in
+    ((k.requester, (k.losing_registrar, (k.requester, tt))), λ n come. (k.requester, (k.requester, tt))))
+    (λ x past. place))
 
 -- ---- the accounts that they leave
 
@@ -110,11 +137,7 @@ serial-stays : (what : LapseEntry) (a : Account) → a.serial ≤ (entered what 
 serial-stays what a = omega (arith, same-serial what a)
 
 serial-entered : (r other : ℕ) (what : LapseEntry) (s : Registry) → (account_of r (with_account other (entered what) s)).serial ≡ (account_of r s).serial
-serial-entered r other what s = ap (λ (a : Account). a.serial) (account_of-with_account r other (entered what) s) ∙ by (eq_by_cmp nat_cmp r other)
-  where
-    by : (b : Bool) → (cond b (entered what (account_of r s)) (account_of r s)).serial ≡ (account_of r s).serial
-    by true = same-serial what (account_of r s)
-    by false = refl
+serial-entered r other what s = account-keep (λ (a : Account). a.serial ≡ (account_of r s).serial) s other (entered what) r (λ own same. same-serial what (account_of r s)) refl
 
 pub serial-posted : (r : ℕ) (es : List Posting) (s : Registry) → (account_of r (record s { accounts = fold posted s.accounts es })).serial ≡ (account_of r s).serial
 serial-posted r [] s = refl

@@ -1,19 +1,12 @@
 -- The graces of a domain that is put can be told from what is seen.
 use Rattle.std.proofs.Common.{◌≡◌, ℕ, Bool, true, false, cond, List, Some, None, option_map, refl, sym, ap, ◌∙◌}
-use Rattle.std.specs.Cmp.{nat_cmp_total, eq_by_cmp_equiv}
-use Rattle.std.specs.Cmp.Lexicographic.{slice_cmp, nat_list_cmp_total}
-use Rattle.std.specs.FinMap.{get}
-use Rattle.std.specs.Ordering.{eq_by_cmp, nat_cmp}
+use Rattle.rules.proofs.Words.{account_of, Domain, domain_sight, eq_by_cmp, eq_by_cmp_equiv, get, graces_of, nat_cmp, nat_cmp_total}
+use Rattle.rules.proofs.Words.{nat_list_cmp_total, PolicyRules, Registry, slice_cmp, standing_of, view}
 use Rattle.basis.proofs.MapLemmas.{names_apart, get-map_values}
-use Rattle.objects.specs.declared.domain.Domain.{Domain}
-use Rattle.policy.specs.Rules.{PolicyRules}
 use Rattle.rules.proofs.HandedOver.{transfer_alone}
 use Rattle.rules.proofs.SightLemmas.{graces-seen, sponsor-seen}
 use Rattle.rules.proofs.ViewLemmas.{graces_kept, graces_put, same_number}
-use Rattle.model.specs.Registry.{Registry, account_of}
 use Rattle.lifecycle.specs.Graces.{graces}
-use Rattle.model.specs.Standing.{graces_of, standing_of}
-use Rattle.model.specs.View.{domain_sight, view}
 
 pub eq-self : (a : ℕ) → eq_by_cmp nat_cmp a a ≡ true
 eq-self a = (eq_by_cmp_equiv nat_cmp_total).refl a

@@ -1,17 +1,10 @@
 -- Each step of the rules, and time alone, keep a registry well formed, with its clock, its objects, its lines, its messages and its shapes.
 use Rattle.std.proofs.Common.{ℕ, ◌≤◌, ◌<◌, max, sym, subst, arith}
-use Rattle.std.specs.List.{All}
-use Rattle.policy.specs.Rules.{PolicyRules, IsRegistrar, IsSound}
-use Rattle.protocol.specs.declared.command.Command.{Command}
-use Rattle.protocol.specs.declared.order.Order.{Order}
-use Rattle.model.specs.Lapse.{lapse, lapsed, now}
-use Rattle.model.specs.LapseLaws.{IsSettled}
-use Rattle.model.specs.Registry.{Registry, account_of}
-use Rattle.model.specs.Money.{IsRefundable}
-use Rattle.model.specs.WellFormed.{HasCome, HasMessages, IsRegistry, last_clock}
+use Rattle.rules.proofs.Words.{account_of, All, Command, decision, effect, IsRefundable, IsRegistrar, IsRegistry, IsSettled, IsSound}
+use Rattle.rules.proofs.Words.{lapsed, last_clock, now, Order, order_decision, order_effect, PolicyRules, Registry}
+use Rattle.model.specs.Lapse.{lapse}
+use Rattle.model.specs.WellFormed.{HasCome, HasMessages}
 use Rattle.model.proofs.LapseLaws.{lapses-on}
-use Rattle.rules.specs.Orders.{order_decision, order_effect}
-use Rattle.rules.specs.Steps.{decision, effect}
 use Rattle.rules.specs.Askable.{CanBeAsked}
 use Rattle.rules.proofs.ClockLemmas.{clock-effect, clock-order}
 use Rattle.rules.proofs.LapsedLemmas.{kept-lapse}
@@ -19,10 +12,9 @@ use Rattle.rules.proofs.LineCommandLemmas.{lines-effect, lines-order}
 use Rattle.rules.proofs.LineTimeLemmas.{lines-lapse}
 use Rattle.rules.proofs.MessageLemmas.{changes-told, messages-lapse}
 use Rattle.rules.proofs.MoneyCommandLemmas.{command-lawful, order-lawful}
-use Rattle.rules.proofs.OrderLemmas.{kept-order}
 use Rattle.rules.proofs.ShapeCommandLemmas.{shapes-effect, shapes-order}
 use Rattle.rules.proofs.ShapeKeepingLemmas.{shapes-lapse}
-use Rattle.rules.proofs.WellFormedLemmas.{kept-effect}
+use Rattle.rules.proofs.WellFormedLemmas.{kept-effect, kept-order}
 
 pub registry-lapse : (p : PolicyRules) (t : ℕ) (s : Registry) → s.clock ≤ t → t ≤ last_clock → IsRegistry p s → IsRegistry p (lapse p t s)
 registry-lapse p t s le early is = record { clock = early; objects = kept-lapse p t s le is.objects; lines = lines-lapse p t s le is.objects is.lines; messages = messages-lapse p t s le is.messages; shapes = shapes-lapse p t s early is.shapes }

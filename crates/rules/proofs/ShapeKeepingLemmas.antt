@@ -1,25 +1,17 @@
 -- Each change, and time alone, keep the shapes of objects, where what is put has one.
-use Rattle.std.proofs.Common.{◌≡◌, ⊎_elim, ℕ, ◌≤◌, Bool, true, false, cond, nat_lt, List, [], ◌∷◌, Option, Some, None, refl, subst, arith}
-use Rattle.std.specs.FinMap.{get}
-use Rattle.lifecycle.specs.Lapse.{due_by, lapse, lapse_by, leaves, lived, moved, purged, raised}
-use Rattle.lifecycle.specs.Phases.{purge_at}
-use Rattle.lifecycle.specs.Turns.{turns}
-use Rattle.names.specs.Zone.{ZoneRules}
-use Rattle.objects.specs.declared.domain.Deletion.{Deletion}
-use Rattle.objects.specs.declared.domain.Domain.{Domain}
-use Rattle.objects.specs.declared.transfer.Transfer.{Transfer}
-use Rattle.objects.specs.Links.{has_name}
-use Rattle.policy.specs.Rules.{PolicyRules}
+use Rattle.std.proofs.Common.{◌≡◌, ⊎_elim, ℕ, ◌<◌, ◌≤◌, false, List, Some, refl, sym, subst, arith}
+use Rattle.rules.proofs.Words.{Change, changed, changed_all, Domain, DropContact, DropDomain, DropHost, expiry, get, Post}
+use Rattle.rules.proofs.Words.{has_name, LapseContact, LapseDomain, last_clock, MoveClock, moved, OpenAccount}
+use Rattle.rules.proofs.Words.{PolicyRules, PutContact, PutDomain, PutHost, raised, Registry, RenameHost, Transfer, turns}
+use Rattle.rules.proofs.Words.{with_host_renamed, ZoneRules}
+use Rattle.lifecycle.specs.Lapse.{lapse}
 use Rattle.protocol.specs.declared.lists.TheConstants.{MOST_HOSTS}
 use Rattle.model.specs.Lapse.{domains_at, lapse as lapse_registry}
-use Rattle.model.specs.Registry.{Registry}
-use Rattle.model.specs.Shapes.{HasShapes, IsShaped, IsShapedHost}
-use Rattle.model.specs.WellFormed.{last_clock}
+use Rattle.model.specs.Shapes.{AreSetsWithin, HasShapes, IsDomainName, IsShaped, IsShapedHost, end_of_expiries}
 use Rattle.model.proofs.LapseLaws.{left-of}
-use Rattle.rules.specs.declared.change.Change.{Change}
-use Rattle.rules.specs.declared.change.Change.TheVariants.{MoveClock, OpenAccount, PutContact, DropContact, PutDomain, DropDomain, PutHost, DropHost, RenameHost, LapseContact, LapseDomain, Give}
-use Rattle.rules.specs.Changes.{changed, changed_all, with_host_renamed}
 use Rattle.rules.proofs.ExpiryLemmas.{gained-end, turns-end}
+use Rattle.rules.proofs.FitLemmas.{AllFit, all-kept}
+use Rattle.rules.proofs.LapsedLemmas.{domain-lapsed, transferred_by}
 use Rattle.rules.proofs.LimitLemmas.{within-renamed}
 use Rattle.rules.proofs.NamedLemmas.{drop-cases, put-cases, remade-cases}
 use Rattle.rules.proofs.OrderedSetLemmas.{set-renamed}
@@ -29,18 +21,15 @@ use Rattle.rules.proofs.PostingLemmas.{due-is}
 
 -- What is put has its shape, and no domain names a host that a name is given to.
 abbrev pub FitsShapes : PolicyRules → Change → Registry → Type 0
-FitsShapes p (MoveClock t) s = Unit {0}
-FitsShapes p (OpenAccount r) s = Unit {0}
-FitsShapes p (PutContact c) s = Unit {0}
-FitsShapes p (DropContact name) s = Unit {0}
 FitsShapes p (PutDomain d) s = IsShaped p.zone d
-FitsShapes p (DropDomain name) s = Unit {0}
 FitsShapes p (PutHost h) s = IsShapedHost p.zone h
-FitsShapes p (DropHost name) s = Unit {0}
 FitsShapes p (RenameHost old new) s = (name : List ℕ) (d : Domain) → get s.domains name ≡ Some d → has_name d.links.hosts new ≡ false
-FitsShapes p (LapseContact name left) s = Unit {0}
 FitsShapes p (LapseDomain name left) s = ⊥
-FitsShapes p (Give r what) s = Unit {0}
+FitsShapes p _ s = Unit {0}
+
+-- a domain of the same name and links, which expires in time
+pub same-shape : (zone : ZoneRules) (d e : Domain) → e.name ≡ d.name → e.links ≡ d.links → expiry e < end_of_expiries → IsShaped zone d → IsShaped zone e
+same-shape zone d e name links expires h = record { name = subst (IsDomainName zone) (sym name) h.name; links = subst AreSetsWithin (sym links) h.links; expires = expires }
 
 shape-renamed : (zone : ZoneRules) (old new : List ℕ) (d : Domain) → has_name d.links.hosts new ≡ false → IsShaped zone d → IsShaped zone (with_host_renamed old new d)
 shape-renamed zone old new d absent h = record {
@@ -72,49 +61,30 @@ shapes-changed p (RenameHost old new) s fits is = record {
 }
 shapes-changed p (LapseContact name left) s fits is = record { domains = is.domains; hosts = is.hosts }
 shapes-changed p (LapseDomain name left) s fits is = absurd fits
-shapes-changed p (Give r what) s fits is = record { domains = is.domains; hosts = is.hosts }
+shapes-changed p (Post r what) s fits is = record { domains = is.domains; hosts = is.hosts }
 
 -- each of the changes fits when its turn comes
 abbrev pub AllFitShapes : PolicyRules → List Change → Registry → Type 0
-AllFitShapes p [] s = Unit {0}
-AllFitShapes p (change ∷ changes) s = FitsShapes p change s × AllFitShapes p changes (changed p change s)
+AllFitShapes p changes s = AllFit p (FitsShapes p) changes s
 
 pub shapes-changed_all : (p : PolicyRules) (changes : List Change) (s : Registry) → AllFitShapes p changes s → HasShapes p.zone s → HasShapes p.zone (changed_all p changes s)
-shapes-changed_all p [] s fit is = is
-shapes-changed_all p (change ∷ changes) s fit is = shapes-changed_all p changes (changed p change s) fit.1 (shapes-changed p change s fit.0 is)
+shapes-changed_all p = all-kept p (FitsShapes p) (HasShapes p.zone) (shapes-changed p)
 
 -- ---- time
 
-some-only : {X : Type 0} (x y : X) → (let o : Option X = Some x in o) ≡ Some y → x ≡ y
-some-only x y e = cc
-
 shape-raised : (zone : ZoneRules) (d : Domain) (t : ℕ) → t ≤ last_clock → IsShaped zone d → IsShaped zone (raised (turns d t) d)
-shape-raised zone d t early h = record { name = h.name; links = record { admin = h.links.admin; tech = h.links.tech; hosts = h.links.hosts }; expires = turns-end d t early h.expires }
+shape-raised zone d t early h = same-shape zone d (raised (turns d t) d) refl refl (turns-end d t early h.expires) h
 
 shape-moved : (zone : ZoneRules) (x : Transfer) (d : Domain) → x.ac_date ≤ last_clock → IsShaped zone d → IsShaped zone (moved x d)
-shape-moved zone x d early h = record { name = h.name; links = record { admin = h.links.admin; tech = h.links.tech; hosts = h.links.hosts }; expires = gained-end d x.ac_date early h.expires }
+shape-moved zone x d early h = same-shape zone d (moved x d) refl refl (gained-end d x.ac_date early h.expires) h
 
 module _ (p : PolicyRules) (t : ℕ) (early : t ≤ last_clock) (d : Domain) (h : IsShaped p.zone d) where
-  by-purge : (x : Deletion) (b : Bool) (e : Domain) → (cond b (leaves d []) (purged p x d)).object ≡ Some e → IsShaped p.zone e
-  by-purge x true e found = subst (IsShaped p.zone) (some-only d e found) h
-  by-purge x false e found = cc
-
-  by-transfer : (o : Option Transfer) (e : Domain) → due_by t d.transfer ≡ o → (lived p t o d).object ≡ Some e → IsShaped p.zone e
-  by-transfer None e due found = subst (IsShaped p.zone) (some-only (raised (turns d t) d) e found) (shape-raised p.zone d t early h)
-  by-transfer (Some x) e due found =
-      let come : x.ac_date ≤ t = (due-is t d.transfer x due).1 in
-      let then_early : x.ac_date ≤ last_clock = omega (arith, come, early) in
-      let before : Domain = raised (turns d x.ac_date) d in
-      let after : Domain = moved x before in
-      subst (IsShaped p.zone) (some-only (raised (turns after t) after) e found) (shape-raised p.zone after t early (shape-moved p.zone x before then_early (shape-raised p.zone d x.ac_date then_early h)))
-
-  by-deletion : (o : Option Deletion) (e : Domain) → (lapse_by p t o d).object ≡ Some e → IsShaped p.zone e
-  by-deletion None e found = by-transfer (due_by t d.transfer) e refl found
-  by-deletion (Some x) e found = by-purge x (nat_lt t (purge_at p x)) e found
-
   -- what is left of a domain
   shape-left : (e : Domain) → (lapse p t d).object ≡ Some e → IsShaped p.zone e
-  shape-left e found = by-deletion d.deletion e found
+  shape-left = domain-lapsed p t d (IsShaped p.zone) (λ x gone. h) (λ alive. shape-raised p.zone d t early h) (λ alive x due.
+      let come : x.ac_date ≤ t = (due-is t d.transfer x due).1 in
+      let then_early : x.ac_date ≤ last_clock = omega (arith, come, early) in
+      shape-raised p.zone (transferred_by x d) t early (shape-moved p.zone x (raised (turns d x.ac_date) d) then_early (shape-raised p.zone d x.ac_date then_early h)))
 
 pub shapes-lapse : (p : PolicyRules) (t : ℕ) (s : Registry) → t ≤ last_clock → HasShapes p.zone s → HasShapes p.zone (lapse_registry p t s)
 unfolding domains_at

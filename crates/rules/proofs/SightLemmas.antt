@@ -1,33 +1,22 @@
 -- What is seen without a secret, of what was seen with one.
 use Rattle.std.proofs.Common.{◌≡◌, ℕ, suc, length, arith, eqb-true, Bool, true, false, cond, not, ◌&&◌, Option, Some, None, List, [], ◌∷◌, filter, refl, sym, ap, ◌∙◌}
 use Rattle.std.specs.Prelude.{◌||◌, ◌==◌, is_some}
-use Rattle.std.specs.Cmp.Lexicographic.{slice_cmp}
-use Rattle.std.specs.Ordering.{nat_cmp}
-use Rattle.std.specs.Str.{bytes_eq}
-use Rattle.basis.specs.Bag.{add, precedes}
-use Rattle.objects.specs.declared.contact.Contact.{Contact}
-use Rattle.objects.specs.declared.domain.Domain.{Domain}
-use Rattle.objects.specs.declared.domain.DomainFace.{DomainFace}
-use Rattle.objects.specs.declared.domain.FullDomain.{FullDomain}
-use Rattle.objects.specs.declared.grace.Graces.{Graces}
+use Rattle.rules.proofs.Words.{bytes_eq, Contact, contact_as, Domain, DomainFace, Full, FullDomain, Graces, has_name, is_empty, is_party}
+use Rattle.rules.proofs.Words.{is_pending, nat_cmp, precedes, Public, renamed, Roid, Seen, slice_cmp, Superordinate}
+use Rattle.rules.proofs.Words.{superordinate_of_domain, Transfer, TransferParty, with_host_renamed}
+use Rattle.basis.specs.Bag.{add}
 use Rattle.objects.specs.declared.grace.Standing.{Standing}
-use Rattle.objects.specs.declared.roid.Roid.{Roid}
-use Rattle.objects.specs.declared.sight.Seen.{Seen}
-use Rattle.objects.specs.declared.sight.Seen.TheVariants.{Full, TransferParty, Public}
-use Rattle.objects.specs.declared.transfer.Transfer.{Transfer}
 use Rattle.objects.specs.Contacts.{contact_face_of}
 use Rattle.objects.specs.Domains.{face_of}
-use Rattle.objects.specs.Sight.{is_party, authorizes, seen_by_outsider, contact_as, domain_as}
+use Rattle.objects.specs.Sight.{authorizes, seen_by_outsider, domain_as}
 use Rattle.objects.specs.declared.status.Status.{Status}
 use Rattle.objects.specs.declared.status.Status.TheVariants as statuses
-use Rattle.objects.specs.Domains.{is_empty, shown, shows}
-use Rattle.objects.specs.Links.{has_name, links_seen}
+use Rattle.objects.specs.Domains.{shown, shows}
+use Rattle.objects.specs.Links.{links_seen}
 use Rattle.objects.specs.Statuses.{all_statuses, has_status}
-use Rattle.objects.specs.Transfers.{is_pending, names}
+use Rattle.objects.specs.Transfers.{names}
 use Rattle.objects.proofs.StatusLemmas.{has_status-filter}
-use Rattle.rules.specs.Changes.{with_host_renamed, links_with_host_renamed, renamed}
-use Rattle.facts.specs.declared.facts.Superordinate.{Superordinate}
-use Rattle.facts.specs.Facts.{superordinate_of_domain}
+use Rattle.rules.specs.Changes.{links_with_host_renamed}
 
 -- what is seen in full is looked at again, without a secret
 pub forget : {O F : Type 0} → (O → Seen O F) → Seen O F → Seen O F

@@ -1,22 +1,14 @@
 -- An object that stands in for another at its name, and agrees with it in what a registry asks, keeps
 -- a registry well formed.
-use Rattle.std.proofs.Common.{◌≡◌, inl, ℕ, true, List, Option, Some, None, IsSome, refl, ◌∙◌}
-use Rattle.std.specs.FinMap.{get}
-use Rattle.objects.specs.declared.contact.Contact.{Contact}
+use Rattle.std.proofs.Common.{◌≡◌, inl, ℕ, true, List, Option, Some, None, IsSome, refl, ap, ◌∙◌}
+use Rattle.rules.proofs.Words.{changed, Contact, Deletion, Domain, get, HasBeen, HasObjects, Host, is_pending, IsContactOf, IsDeletion}
+use Rattle.rules.proofs.Words.{IsDomainOf, IsHostOf, IsLastTransfer, IsRegistrar, Links, names_contact, names_host, PolicyRules, PutContact}
+use Rattle.rules.proofs.Words.{PutDomain, PutHost, Registry}
 use Rattle.objects.specs.declared.contact.Postal.{Postal}
-use Rattle.objects.specs.declared.domain.Deletion.{Deletion}
-use Rattle.objects.specs.declared.domain.Domain.{Domain}
-use Rattle.objects.specs.declared.domain.Links.{Links}
-use Rattle.objects.specs.declared.host.Host.{Host}
 use Rattle.objects.specs.declared.status.Status.{Status}
-use Rattle.objects.specs.Links.{names_contact, names_host}
-use Rattle.policy.specs.Rules.{PolicyRules}
-use Rattle.rules.specs.declared.change.Change.TheVariants.{PutContact, PutDomain, PutHost}
-use Rattle.rules.specs.Changes.{changed}
+use Rattle.rules.proofs.GrowthLemmas.{IsSameDomain, domain-with}
 use Rattle.rules.proofs.KeepingLemmas.{put-contact, put-domain, put-host}
 use Rattle.rules.proofs.NamedLemmas.{is-there}
-use Rattle.model.specs.Registry.{Registry}
-use Rattle.model.specs.WellFormed.{HasBeen, IsContactOf, IsDeletion, IsDomainOf, IsHostOf, HasObjects}
 
 module _ (p : PolicyRules) (s : Registry) (is : HasObjects p s) (name : List ℕ) where
   pub kept-put-contact : (c other : Contact) → get s.contacts name ≡ Some c → other.roid ≡ c.roid → IsContactOf p s name other → HasObjects p (changed p (PutContact other) s)
@@ -27,6 +19,17 @@ module _ (p : PolicyRules) (s : Registry) (is : HasObjects p s) (name : List ℕ
 
   pub kept-put-host : (h other : Host) → get s.hosts name ≡ Some h → other.roid ≡ h.roid → IsHostOf p s name other → HasObjects p (changed p (PutHost other) s)
   kept-put-host h other at same fits = put-host p s is name other fits (λ n x at-n alike. is.identities.host_roids n name x h at-n at (alike ∙ same)) (inl (is-there (get s.hosts name) h at))
+
+-- a deletion of a domain is one of another of its name and transfer
+deletion-as : (p : PolicyRules) (s : Registry) (d e : Domain) (deletion : Option Deletion) → e.name ≡ d.name → e.transfer ≡ d.transfer → IsDeletion p s d deletion → IsDeletion p s e deletion
+deletion-as p s d e None name transfer k = tt
+deletion-as p s d e (Some deletion) name transfer k = record {
+  deleted = k.deleted;
+  requested = k.requested;
+  since = k.since;
+  hosts = λ host there above. k.hosts host there (above ∙ ap (λ (n : List ℕ). Some n) name);
+  transfer = ap is_pending transfer ∙ k.transfer;
+}
 
 module _ (p : PolicyRules) (s : Registry) (name : List ℕ) where
   -- a contact with other content, last updated at another moment
@@ -45,11 +48,6 @@ module _ (p : PolicyRules) (s : Registry) (name : List ℕ) where
     losing = k.losing;
   }
 
-  deletion-same : (d : Domain) (years : ℕ) (updated : Option ℕ) (statuses : List Status) (secret : List ℕ) (links : Links) (deletion : Option Deletion)
-      → IsDeletion p s d deletion → IsDeletion p s (record d { years = years; updated = updated; statuses = statuses; secret = secret; links = links }) deletion
-  deletion-same d years updated statuses secret links None k = tt
-  deletion-same d years updated statuses secret links (Some deletion) k = record { deleted = k.deleted; requested = k.requested; since = k.since; hosts = k.hosts; transfer = k.transfer }
-
   -- a domain with other content, registered for other years, which names what is there
   pub domain-updated : (d : Domain) (years : ℕ) (updated : Option ℕ) (statuses : List Status) (secret : List ℕ) (links : Links) → HasBeen s updated
       → ((contact : List ℕ) → names_contact contact links ≡ true → IsSome (get s.contacts contact))
@@ -63,7 +61,7 @@ module _ (p : PolicyRules) (s : Registry) (name : List ℕ) where
       created = k.stands.created;
       transferred = k.stands.transferred;
       updated = been;
-      deletion = deletion-same d years updated statuses secret links d.deletion k.stands.deletion;
+      deletion = deletion-as p s d (record d { years = years; updated = updated; statuses = statuses; secret = secret; links = links }) d.deletion refl refl k.stands.deletion;
       contacts = contacts;
       hosts = hosts;
     };
@@ -74,6 +72,13 @@ module _ (p : PolicyRules) (s : Registry) (name : List ℕ) where
   pub host-updated : (h : Host) (updated : Option ℕ) (statuses : List Status) (addresses : List (List ℕ)) → HasBeen s updated
       → IsHostOf p s name h → IsHostOf p s name (record h { updated = updated; statuses = statuses; addresses = addresses })
   host-updated h updated statuses addresses been k = record { named = k.named; roid = k.roid; belongs = k.belongs; created = k.created; updated = been }
+
+-- ---- a domain with other dates, in other hands, or deleted
+
+pub kept-domain : (p : PolicyRules) (s : Registry) → HasObjects p s → (name : List ℕ) (d e : Domain) → get s.domains name ≡ Some d → IsSameDomain d e
+    → IsRegistrar p e.sponsor → HasBeen s e.transferred → HasBeen s e.updated → IsDeletion p s e e.deletion → IsLastTransfer p s e.created e.transferred e.transfer → HasObjects p (changed p (PutDomain e) s)
+kept-domain p s is name d e at same sponsor transferred updated deletion transfer =
+    kept-put-domain p s is name d e at same.roid (domain-with p s name d e (is.domains name d at) same sponsor transferred updated deletion transfer)
 
 -- ---- other statuses are set on an object
 

@@ -2,56 +2,25 @@
 -- hands a domain over.
 use Rattle.std.proofs.Common.{◌≡◌, ◌≢◌, inl, inr, ℕ, Bool, true, false, cond, not, ◌&&◌, ◌||◌, map, List, [], ◌∷◌, Option, Some, None, is_some, refl, sym, ap, ◌∙◌}
 use Rattle.std.proofs.lemmas.Bool.{and_parts}
-use Rattle.std.specs.List.{list_any}
-use Rattle.std.specs.FinMap.{get}
-use Rattle.std.specs.Ordering.{eq_by_cmp, nat_cmp}
-use Rattle.accounts.specs.declared.account.Account.{Account}
-use Rattle.accounts.specs.Account.{with_command}
-use Rattle.accounts.specs.declared.line.Line.{Line}
-use Rattle.accounts.specs.declared.line.LineKind.{LineKind}
+use Rattle.rules.proofs.Words.{Account, account_of, changed, ClientApproved, Domain, ended, entered, eq_by_cmp, gained, get, Post}
+use Rattle.rules.proofs.Words.{graces_of, handed_over, is_for_transfer, is_kind, is_on, is_pending_state, is_same_roid, IsSound, Lapse}
+use Rattle.rules.proofs.Words.{Line, LineKind, list_any, MeetsStandards, nat_cmp, PolicyRules, PutDomain, RefundTransfer, Registry, remade}
+use Rattle.rules.proofs.Words.{Roid, Start, start-elsewhere, start-stays, Transfer, transfer_refunded, transfer_started, TransferStart}
+use Rattle.rules.proofs.Words.{waits, with_account, with_command}
 use Rattle.accounts.specs.declared.line.LineKind.TheVariants as kinds
 use Rattle.accounts.specs.declared.line.TransferRefund.{TransferRefund}
-use Rattle.accounts.specs.declared.line.TransferStart.{TransferStart}
-use Rattle.accounts.specs.declared.entries.LapseEntry.TheVariants.{Start}
-use Rattle.accounts.specs.Entries.{entered}
-use Rattle.accounts.specs.LineChanges.{start-elsewhere, start-stays, unasked}
-use Rattle.accounts.specs.Lines.{in_order, is_for_transfer, is_kind, is_on, is_same_roid, transfer_refunded, transfer_started, waits}
+use Rattle.accounts.specs.LineChanges.{unasked}
+use Rattle.accounts.specs.Lines.{in_order}
 use Rattle.accounts.proofs.LineLaws.{same-roids}
-use Rattle.basis.specs.Bag.{remade}
 use Rattle.basis.proofs.BagLaws.{any-bag_of}
-use Rattle.lifecycle.specs.declared.change.AccountChange.TheVariants.{Lapse, RefundTransfer}
 use Rattle.lifecycle.specs.Changes.{changed as account_changed}
 use Rattle.lifecycle.specs.Graces.{gives, graces, period_of, runs_from}
-use Rattle.lifecycle.specs.Lapse.{gained, handed_over}
-use Rattle.lifecycle.specs.Transfers.{ended, requested}
-use Rattle.facts.specs.declared.facts.Facts.{Facts}
-use Rattle.facts.specs.Facts.{contact_seen, domain_seen, facts}
-use Rattle.names.specs.GivenName.{GivenName, name_of}
-use Rattle.protocol.specs.declared.command.Command.TheVariants.{Asked}
-use Rattle.protocol.specs.declared.command.Request.{Request}
-use Rattle.protocol.specs.declared.command.Request.TheVariants.{TransferContact, TransferDomain}
-use Rattle.protocol.specs.declared.transfer.TransferOp.{TransferOp}
-use Rattle.rules.specs.declared.change.Change.{Change}
-use Rattle.verdict.specs.Rules.{refusal_of}
-use Rattle.objects.specs.declared.domain.Domain.{Domain}
-use Rattle.objects.specs.declared.roid.Roid.{Roid}
-use Rattle.objects.specs.declared.transfer.Transfer.{Transfer}
-use Rattle.objects.specs.declared.transfer.TransferState.TheVariants.{ClientApproved, ClientCancelled, ClientRejected}
-use Rattle.objects.specs.Transfers.{is_pending_state}
-use Rattle.policy.specs.Rules.{PolicyRules, IsSound}
-use Rattle.model.specs.Registry.{Registry, account_of}
-use Rattle.model.specs.Standing.{graces_of}
-use Rattle.model.specs.Standards.{MeetsStandards}
-use Rattle.rules.specs.declared.change.Change.TheVariants.{PutDomain, Give}
-use Rattle.rules.specs.Changes.{changed, with_account}
-use Rattle.rules.specs.Transfers.{contact_transfer_changes, domain_transfer_changes, domain_with_transfer}
 use Rattle.rules.proofs.HandedOver.{graces-handed-over, transfer_alone}
 use Rattle.rules.proofs.LineEntryLemmas.{AsksFor, test-elsewhere}
-use Rattle.rules.proofs.ViewLemmas.{AllMeet, KeepsGraces, Meets, account_of-with_account, lines-kept, own, same_number}
-use Rattle.rules.proofs.PutLemmas.{eq-self, kept-at, put-again, put-by}
-use Rattle.rules.proofs.TransferCases.{contact-cases, domain-cases}
+use Rattle.rules.proofs.ViewLemmas.{KeepsGraces, Meets, account_of-with_account, lines-kept, own, same_number}
+use Rattle.rules.proofs.PutLemmas.{eq-self, kept-at, put-by}
 
--- ---- graces that a gift leaves
+-- ---- graces that a posting_change leaves
 
 none-of : (o : Option ℕ) → not (is_some o) ≡ true → o ≡ None
 none-of None e = refl
@@ -160,16 +129,16 @@ module _ (p : PolicyRules) (sound : IsSound p) (r : ℕ) (s : Registry) (is : Me
       by false apart = graces-elsewhere p s.clock e.roid e.transferred start apart (account_of y.requester counted).lines
 
   -- a requester that approves it sees its own account
-  pub start-meets : Meets p r (Give y.requester (Lapse (Start start))) counted
+  pub start-meets : Meets p r (Post y.requester (Lapse (Start start))) counted
   start-meets = by (eq_by_cmp nat_cmp y.requester r) refl
     where
-      by : (b : Bool) → eq_by_cmp nat_cmp y.requester r ≡ b → Meets p r (Give y.requester (Lapse (Start start))) counted
+      by : (b : Bool) → eq_by_cmp nat_cmp y.requester r ≡ b → Meets p r (Post y.requester (Lapse (Start start))) counted
       by true same = inl (same_number y.requester r same)
       by false apart = inr (start-keeps (other-sponsor apart))
 
   -- the registry once the grace of the transfer has begun
   abbrev begun : Registry
-  begun = changed p (Give y.requester (Lapse (Start start))) counted
+  begun = changed p (Post y.requester (Lapse (Start start))) counted
 
   abbrev handed : Domain
   handed = handed_over x years d
@@ -190,37 +159,3 @@ module _ (p : PolicyRules) (sound : IsSound p) (r : ℕ) (s : Registry) (is : Me
     where
       there : get s.domains d.name ≡ Some d
       there = ap (get s.domains) (is.domains name d at).stands.named ∙ at
-
--- ---- each operation
-
-module _ (p : PolicyRules) (r : ℕ) (cl_trid : Option (List ℕ)) (s : Registry) where
-  abbrev Meet : List Change → Type 0
-  Meet changes = AllMeet p r changes (with_account r with_command s)
-
-  pub meet-contact-transfers : (name : List ℕ) (op : TransferOp) (secret : Option (List ℕ))
-      → AllMeet p r (contact_transfer_changes p r s.clock op (contact_seen (facts p r (Asked cl_trid (TransferContact name op secret)) s) name)) (with_account r with_command s)
-  meet-contact-transfers name op secret = contact-cases p r cl_trid s Meet tt
-      (λ n c at. (tt, (inr (λ name d at own. refl), tt)))
-      (λ n c at y e. (tt, (inr (λ name d at own. refl), tt)))
-      (λ n c at y e. (tt, (inr (λ name d at own. refl), tt)))
-      (λ n c at y e. (tt, (inr (λ name d at own. refl), tt)))
-      name secret op
-
-module _ (p : PolicyRules) (sound : IsSound p) (r : ℕ) (cl_trid : Option (List ℕ)) (s : Registry) (is : MeetsStandards p s) where
-  abbrev after_count : Registry
-  after_count = with_account r with_command s
-
-  there-still : (name : List ℕ) (d : Domain) → get s.domains name ≡ Some d → get s.domains d.name ≡ Some d
-  there-still name d at = ap (get s.domains) (is.domains name d at).stands.named ∙ at
-
-  again : (name : List ℕ) (d : Domain) → get s.domains name ≡ Some d → (x : Transfer) → Meets p r (PutDomain (domain_with_transfer x d)) after_count
-  again name d at x = put-again p r after_count d (domain_with_transfer x d) (there-still name d at) refl refl
-
-  pub meet-domain-transfers : (name : GivenName) (op : TransferOp) (secret : Option (List ℕ)) → let q : Request = TransferDomain name op secret in let f : Facts = facts p r (Asked cl_trid q) s in
-      refusal_of p r s.clock q f ≡ None → AllMeet p r (domain_transfer_changes p r s.clock op q f (domain_seen f (name_of name))) (with_account r with_command s)
-  meet-domain-transfers name op secret taken = domain-cases p r cl_trid s (Meet p r cl_trid s) tt
-      (λ q f n d at askable. (again n d at (requested p r d.sponsor s.clock), (inl refl, (inr (λ name d at own. refl), tt))))
-      (λ q f n d at y e pending own. (start-meets p sound r s is n d at y e pending own, (handed-meets p sound r s is n d at y e pending own, (inr (λ name d at own. refl), tt))))
-      (λ q f n d at y e pending. (again n d at (ended ClientRejected s.clock y), (inr (refund-keeps p y.requester (record { roid = d.roid; moment = s.clock }) (changed p (PutDomain (domain_with_transfer (ended ClientRejected s.clock y) d)) after_count)), (inr (λ name d at own. refl), tt))))
-      (λ q f n d at y e pending. (again n d at (ended ClientCancelled s.clock y), (inr (refund-keeps p y.requester (record { roid = d.roid; moment = s.clock }) (changed p (PutDomain (domain_with_transfer (ended ClientCancelled s.clock y) d)) after_count)), (inr (λ name d at own. refl), tt))))
-      name secret op taken

@@ -1,45 +1,32 @@
 -- The facts of a command lie in the view, and each change is seen by the view alone.
-use Rattle.std.proofs.Common.{◌≡◌, ◌⊎◌, ⊎_elim, ℕ, suc, Bool, true, false, cond, List, [], ◌∷◌, map, filter, length, Option, Some, None, refl, sym, ap, ◌∙◌}
+use Rattle.std.proofs.Common.{◌≡◌, ◌⊎◌, ⊎_elim, ℕ, ◌≤◌, ◌+◌, ◌==◌, suc, Bool, true, false, cond, List, [], ◌∷◌, map, filter, length, Option, Some, None, refl, sym, ap, subst, ◌∙◌, arith}
 use Rattle.std.specs.Prelude.{◌||◌, is_some, option_map, unwrap_or}
-use Rattle.std.specs.List.{list_any}
-use Rattle.std.specs.Cmp.{nat_cmp_total, Equal-is}
-use Rattle.std.specs.Cmp.Lexicographic.{slice_cmp, nat_list_cmp_total}
-use Rattle.std.specs.FinMap.{FinMap, get, insert, remove, entries, keys, values, get-insert, nat_cmp-IsAntisymmetric, same_map}
-use Rattle.std.specs.Ordering.{eq_by_cmp, nat_cmp}
-use Rattle.accounts.specs.declared.account.Account.{Account}
+use Rattle.std.specs.FinMap.{keys, values, same_map}
+use Rattle.rules.proofs.Words.{Account, account_of, Change, changed, changed_all, Command, Contact, contact_as, Domain, domain_sight}
+use Rattle.rules.proofs.Words.{DomainFace, DropContact, DropDomain, DropHost, entries, eq_by_cmp, eq_by_cmp_equiv, Equal-is, facts, FinMap}
+use Rattle.rules.proofs.Words.{FullDomain, get, get-insert, Post, Graces, graces_of, insert, is_below, is_party, LapseContact, LapseDomain}
+use Rattle.rules.proofs.Words.{Line, Links, list_any, lookups, map_values, MoveClock, names_contact, names_host, nat_cmp}
+use Rattle.rules.proofs.Words.{nat_cmp-IsAntisymmetric, nat_cmp_total, nat_list_cmp_total, OpenAccount, PolicyRules, presented, PutContact}
+use Rattle.rules.proofs.Words.{PutDomain, PutHost, refund_at, Registry, remove, RenameHost, Seen, slice_cmp, standing_of}
+use Rattle.rules.proofs.Words.{superordinate_of_domain, view, with_account, with_host_renamed, with_serial}
 use Rattle.accounts.specs.Account.{empty_account}
-use Rattle.accounts.specs.declared.line.Line.{Line}
 use Rattle.lifecycle.specs.Changes.{changed as account_changed}
-use Rattle.basis.specs.Maps.{map_values}
 use Rattle.basis.proofs.MapLemmas.{names_apart, entries-map_values, get-map_values, map_values-insert, map_values-remove, map_values-twice, map-twice}
-use Rattle.objects.specs.declared.contact.Contact.{Contact}
 use Rattle.objects.specs.declared.contact.ContactFace.{ContactFace}
-use Rattle.objects.specs.declared.domain.Domain.{Domain}
-use Rattle.objects.specs.declared.domain.DomainFace.{DomainFace}
-use Rattle.objects.specs.declared.domain.FullDomain.{FullDomain}
-use Rattle.objects.specs.declared.grace.Graces.{Graces}
 use Rattle.objects.specs.declared.grace.Standing.{Standing}
 use Rattle.objects.specs.Graces.{no_graces}
-use Rattle.objects.specs.declared.domain.Links.{Links}
-use Rattle.objects.specs.declared.sight.Seen.{Seen}
-use Rattle.objects.specs.Hosts.{is_below}
-use Rattle.objects.specs.Links.{links_seen, names_contact, names_host}
-use Rattle.objects.specs.Sight.{contact_as, domain_as, is_party}
-use Rattle.policy.specs.Rules.{PolicyRules}
-use Rattle.rules.specs.declared.change.Change.{Change}
-use Rattle.rules.specs.declared.change.Change.TheVariants.{MoveClock, OpenAccount, PutContact, DropContact, PutDomain, DropDomain, PutHost, DropHost, RenameHost, LapseContact, LapseDomain, Give}
-use Rattle.rules.specs.Changes.{changed, changed_all, with_account, itself, with_host_renamed}
+use Rattle.objects.specs.Links.{links_seen}
+use Rattle.objects.specs.Sight.{domain_as}
+use Rattle.rules.specs.Changes.{itself}
+use Rattle.rules.proofs.FitLemmas.{AllFit}
 use Rattle.rules.proofs.HandedOver.{transfer_alone}
 use Rattle.rules.proofs.SightLemmas.{domain_again, forget, forget-domain, forget-contact, graces_seen, holds_seen, holds-seen, links-seen, Regrace, regraced, regraced-seen, relinked_seen, seen-relinked, sponsor_seen, superordinate_seen, superordinate-seen}
-use Rattle.protocol.specs.declared.command.Command.{Command}
-use Rattle.facts.specs.Facts.{Lookups, facts, facts_by, lookups, held, subordinate, superordinate_of_domain}
-use Rattle.protocol.specs.Requests.{presented, presented_contact}
-use Rattle.model.specs.Registry.{Registry, account_of}
+use Rattle.facts.specs.Facts.{Lookups, facts_by, held, subordinate}
+use Rattle.protocol.specs.Requests.{presented_contact}
 use Rattle.lifecycle.specs.Graces.{graces}
 use Rattle.lifecycle.specs.Phases.{phase}
-use Rattle.lifecycle.specs.Refunds.{given_back, refund_at}
-use Rattle.model.specs.Standing.{graces_of, standing_of}
-use Rattle.model.specs.View.{View, Secrets, domain_sight, view, view_for, view_with, secrets_of}
+use Rattle.lifecycle.specs.Refunds.{given_back}
+use Rattle.model.specs.View.{View, Secrets, view_for, view_with, secrets_of}
 
 -- ---- the facts lie in the view
 
@@ -185,32 +172,48 @@ seen_change p r (DropHost name) v = record v { hosts = remove v.hosts name }
 seen_change p r (RenameHost old new) v = record v { domains = map_values (λ name. relinked_seen old new) v.domains }
 seen_change p r (LapseContact name left) v = v
 seen_change p r (LapseDomain name left) v = v
-seen_change p r (Give other what) v = with_seen_account p r (own r other (account_changed p what) v.account) v
+seen_change p r (Post other what) v = with_seen_account p r (own r other (account_changed p what) v.account) v
 
 found-or : (b : Bool) (x d : Account) (o : Option Account) → unwrap_or (cond b (Some x) o) d ≡ cond b x (unwrap_or o d)
 found-or true x d o = refl
 found-or false x d o = refl
 
 -- the account that is changed is the registrar's own, or not
-own-account : (f : Account → Account) (s : Registry) (r other : ℕ) (b : Bool) → eq_by_cmp nat_cmp r other ≡ b → cond b (f (account_of other s)) (account_of r s) ≡ cond b (f (account_of r s)) (account_of r s)
-own-account f s r other true e = ap (λ q. f (account_of q s)) (sym (nat_cmp-IsAntisymmetric r other ((Equal-is (nat_cmp r other)).0 e)))
-own-account f s r other false e = refl
+own-or-other : (f : Account → Account) (s : Registry) (r other : ℕ) (b : Bool) → eq_by_cmp nat_cmp r other ≡ b → cond b (f (account_of other s)) (account_of r s) ≡ cond b (f (account_of r s)) (account_of r s)
+own-or-other f s r other true e = ap (λ q. f (account_of q s)) (sym (nat_cmp-IsAntisymmetric r other ((Equal-is (nat_cmp r other)).0 e)))
+own-or-other f s r other false e = refl
 
 pub account_of-with_account : (r other : ℕ) (f : Account → Account) (s : Registry) → account_of r (with_account other f s) ≡ own r other f (account_of r s)
 account_of-with_account r other f s =
     ap (λ o. unwrap_or o empty_account) (get-insert nat_cmp_total s.accounts other (f (account_of other s)) r)
     ∙ found-or (eq_by_cmp nat_cmp r other) (f (account_of other s)) empty_account (get s.accounts r)
-    ∙ own-account f s r other (eq_by_cmp nat_cmp r other) refl
+    ∙ own-or-other f s r other (eq_by_cmp nat_cmp r other) refl
+
+-- what holds of each account, and of one once it is changed, holds of each afterwards
+pub account-keep : (P : Account → Type 0) (s : Registry) (r : ℕ) (f : Account → Account) (q : ℕ) → (r ≡ q → P (account_of q s) → P (f (account_of q s))) → P (account_of q s) → P (account_of q (with_account r f s))
+account-keep P s r f q keeps h = subst P (sym (account_of-with_account q r f s)) (by (eq_by_cmp nat_cmp q r) refl)
+  where
+    by : (b : Bool) → eq_by_cmp nat_cmp q r ≡ b → P (cond b (f (account_of q s)) (account_of q s))
+    by true own = keeps (sym (nat_cmp-IsAntisymmetric q r ((Equal-is (nat_cmp q r)).0 own))) h
+    by false other = h
+
+-- the account itself
+pub own-account : (r : ℕ) (f : Account → Account) (s : Registry) → account_of r (with_account r f s) ≡ f (account_of r s)
+own-account r f s = account_of-with_account r r f s ∙ ap (λ (b : Bool). cond b (f (account_of r s)) (account_of r s)) ((eq_by_cmp_equiv nat_cmp_total).refl r)
+
+-- taking a serial lowers none
+pub serial-rises : (a : Account) → a.serial ≤ (with_serial a).serial
+serial-rises a = by (a.serial == 0xFFFF_FFFF_FFFF_FFFF)
+  where
+    by : (b : Bool) → a.serial ≤ cond b a.serial (a.serial + 1)
+    by true = omega arith
+    by false = omega arith
 
 -- ---- an account whose lines stay
 
 module _ (p : PolicyRules) (r q : ℕ) (f : Account → Account) (keeps : (a : Account) → (f a).lines ≡ a.lines) (s : Registry) where
   pub lines-kept : (k : ℕ) → (account_of k (with_account q f s)).lines ≡ (account_of k s).lines
-  lines-kept k = ap (λ (a : Account). a.lines) (account_of-with_account k q f s) ∙ by (eq_by_cmp nat_cmp k q)
-    where
-      by : (b : Bool) → (cond b (f (account_of k s)) (account_of k s)).lines ≡ (account_of k s).lines
-      by true = keeps (account_of k s)
-      by false = refl
+  lines-kept k = account-keep (λ (a : Account). a.lines ≡ (account_of k s).lines) s q f k (λ own same. keeps (account_of k s)) refl
 
   sights-kept : map_values (λ (name : List ℕ). domain_sight p r (with_account q f s) None) s.domains ≡ map_values (λ (name : List ℕ). domain_sight p r s None) s.domains
   sights-kept = λ i. map_values (λ (name : List ℕ) (d : Domain).
@@ -292,17 +295,11 @@ relinked-view p r s old new m =
 -- phases end by dates that aren't seen.
 abbrev pub Meets : PolicyRules → ℕ → Change → Registry → Type 0
 Meets p r (MoveClock t) s = ⊥
-Meets p r (OpenAccount other) s = Unit {0}
-Meets p r (PutContact c) s = Unit {0}
-Meets p r (DropContact name) s = Unit {0}
 Meets p r (PutDomain d) s = graces_of p s d ≡ graces_put p r d (view p r s)
-Meets p r (DropDomain name) s = Unit {0}
-Meets p r (PutHost h) s = Unit {0}
-Meets p r (DropHost name) s = Unit {0}
-Meets p r (RenameHost old new) s = Unit {0}
 Meets p r (LapseContact name left) s = ⊥
 Meets p r (LapseDomain name left) s = ⊥
-Meets p r (Give other what) s = (other ≡ r) ⊎ KeepsGraces p other (account_changed p what) s
+Meets p r (Post other what) s = (other ≡ r) ⊎ KeepsGraces p other (account_changed p what) s
+Meets p r _ s = Unit {0}
 
 -- to make a change and to look is to look and to see the change
 view-changed : (p : PolicyRules) (r : ℕ) (change : Change) (s : Registry) → Meets p r change s → view p r (changed p change s) ≡ seen_change p r change (view p r s)
@@ -321,12 +318,11 @@ view-changed p r (PutDomain d) s meets =
     ∙ ap (λ (g : Graces). insert (view p r s).domains d.name (domain_as r None (record { graces = g; phase = phase p s.clock d }) d)) meets)
 view-changed p r (LapseContact name left) s meets = absurd meets
 view-changed p r (LapseDomain name left) s meets = absurd meets
-view-changed p r (Give other what) s meets = view-given p r other (account_changed p what) s meets
+view-changed p r (Post other what) s meets = view-given p r other (account_changed p what) s meets
 
 -- each of the changes meets it when its turn comes
 abbrev pub AllMeet : PolicyRules → ℕ → List Change → Registry → Type 0
-AllMeet p r [] s = Unit {0}
-AllMeet p r (change ∷ changes) s = Meets p r change s × AllMeet p r changes (changed p change s)
+AllMeet p r changes s = AllFit p (Meets p r) changes s
 
 -- two registries that look alike look alike after the same changes
 pub same_changed_all : (p : PolicyRules) (r : ℕ) (changes : List Change) (s t : Registry) → AllMeet p r changes s → AllMeet p r changes t

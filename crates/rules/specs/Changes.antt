@@ -13,7 +13,7 @@ use Rattle.objects.specs.declared.domain.Domain.{Domain}
 use Rattle.objects.specs.declared.domain.Links.{Links}
 use Rattle.objects.specs.Links.{has_name}
 use Rattle.rules.specs.declared.change.Change.{Change}
-use Rattle.rules.specs.declared.change.Change.TheVariants.{MoveClock, OpenAccount, PutContact, DropContact, PutDomain, DropDomain, PutHost, DropHost, RenameHost, LapseContact, LapseDomain, Give}
+use Rattle.rules.specs.declared.change.Change.TheVariants.{MoveClock, OpenAccount, PutContact, DropContact, PutDomain, DropDomain, PutHost, DropHost, RenameHost, LapseContact, LapseDomain, Post}
 use Rattle.model.specs.Lapse.{put_or_drop}
 use Rattle.model.specs.Registry.{Registry, account_of}
 
@@ -49,7 +49,7 @@ changed p (RenameHost old new) s =
     record s { domains = map_values (λ name. with_host_renamed old new) s.domains }
 changed p (LapseContact name left) s = record s { contacts = put_or_drop s.contacts name left }
 changed p (LapseDomain name left) s = record s { domains = put_or_drop s.domains name left }
-changed p (Give r what) s = with_account r (account_changed p what) s
+changed p (Post r what) s = with_account r (account_changed p what) s
 
 -- changes, one after another
 abbrev pub changed_all : PolicyRules → List Change → Registry → Registry

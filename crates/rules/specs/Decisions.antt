@@ -27,7 +27,7 @@ use Rattle.objects.specs.Links.{in_order}
 use Rattle.objects.specs.Statuses.{amended_statuses}
 use Rattle.policy.specs.Rules.{PolicyRules}
 use Rattle.rules.specs.declared.change.Change.{Change}
-use Rattle.rules.specs.declared.change.Change.TheVariants.{PutContact, DropContact, PutDomain, DropDomain, PutHost, DropHost, RenameHost, Give}
+use Rattle.rules.specs.declared.change.Change.TheVariants.{PutContact, DropContact, PutDomain, DropDomain, PutHost, DropHost, RenameHost, Post}
 use Rattle.rules.specs.declared.decision.Decision.{Decision}
 use Rattle.protocol.specs.declared.code.Code.{Code}
 use Rattle.protocol.specs.declared.command.Command.{Command}
@@ -126,7 +126,7 @@ charge_line kind p t roid q f = record {
 }
 
 abbrev pub charge : LineKind → PolicyRules → ℕ → ℕ → Roid → Request → Facts → Change
-charge kind p r t roid q f = Give r (Charge (charge_line kind p t roid q f))
+charge kind p r t roid q f = Post r (Charge (charge_line kind p t roid q f))
 
 -- ---- updated objects: what isn't given stays
 
@@ -245,7 +245,7 @@ ending at_once t known d = if at_once then DropDomain known.name else PutDomain 
 abbrev pub deletion_changes : ℕ → ℕ → DomainFacts → Option (Seen FullDomain DomainFace)
     → List Change
 deletion_changes r t known None = []
-deletion_changes r t known (Some (Full full)) = ending (goes_at_once (Some (Full full))) t known full.domain ∷ Give r (RefundRunning (refund_at t full.domain)) ∷ []
+deletion_changes r t known (Some (Full full)) = ending (goes_at_once (Some (Full full))) t known full.domain ∷ Post r (RefundRunning (refund_at t full.domain)) ∷ []
 deletion_changes r t known (Some (TransferParty face transfer)) = []
 deletion_changes r t known (Some (Public face)) = []
 
@@ -267,11 +267,11 @@ unfoldable pub changes_of : PolicyRules → ℕ → ℕ → Request → Facts �
 changes_of p r t requests.Logout f = []
 changes_of p r t requests.Balance f = []
 changes_of p r t (requests.CreateContact new) f =
-    PutContact (new_contact r t f new) ∷ Give r TakeSerial ∷ []
+    PutContact (new_contact r t f new) ∷ Post r TakeSerial ∷ []
 changes_of p r t (requests.CreateDomain new) f =
-    PutDomain (new_domain r t f new) ∷ Give r TakeSerial ∷ charge lines.Create p r t (new_roid kinds.Domain r f) (requests.CreateDomain new) f ∷ []
+    PutDomain (new_domain r t f new) ∷ Post r TakeSerial ∷ charge lines.Create p r t (new_roid kinds.Domain r f) (requests.CreateDomain new) f ∷ []
 changes_of p r t (requests.CreateHost new) f =
-    PutHost (new_host p.zone r t f new) ∷ Give r TakeSerial ∷ []
+    PutHost (new_host p.zone r t f new) ∷ Post r TakeSerial ∷ []
 changes_of p r t (requests.DeleteContact name) f = DropContact name ∷ []
 changes_of p r t (requests.DeleteDomain name) f = deletion_at r t (domain_at f (name_of name))
 changes_of p r t (requests.DeleteHost name) f = DropHost (name_of name) ∷ []
@@ -287,7 +287,7 @@ changes_of p r t (requests.TransferContact name op secret) f =
     contact_transfer_changes p r t op (contact_seen f name)
 changes_of p r t (requests.TransferDomain name op secret) f = domain_transfer_changes p r t op (requests.TransferDomain name op secret) f (domain_seen f (name_of name))
 changes_of p r t requests.PollRequest f = []
-changes_of p r t (requests.PollAck id) f = Give r (Ack id) ∷ []
+changes_of p r t (requests.PollAck id) f = Post r (Ack id) ∷ []
 changes_of p r t (requests.CheckContact names) f = []
 changes_of p r t (requests.CheckDomain names) f = []
 changes_of p r t (requests.CheckHost names) f = []
@@ -302,7 +302,7 @@ changes_after p r t (Asked cl_trid request) f answered = if is_accepted answered
 
 abbrev pub decided_with : PolicyRules → ℕ → ℕ → Command → Facts → Verdict → Decision
 decided_with p r t c f v =
-    record { verdict = v; changes = Give r CountCommand ∷ changes_after p r t c f v.code }
+    record { verdict = v; changes = Post r CountCommand ∷ changes_after p r t c f v.code }
 
 abbrev pub decided : PolicyRules → ℕ → ℕ → Command → Facts → Decision
 decided p r t c f = decided_with p r t c f (judged p r t c f)

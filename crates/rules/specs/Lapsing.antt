@@ -10,17 +10,17 @@ use Rattle.objects.specs.declared.contact.Contact.{Contact}
 use Rattle.objects.specs.declared.domain.Domain.{Domain}
 use Rattle.policy.specs.Rules.{PolicyRules}
 use Rattle.rules.specs.declared.change.Change.{Change}
-use Rattle.rules.specs.declared.change.Change.TheVariants.{LapseContact, LapseDomain, Give}
+use Rattle.rules.specs.declared.change.Change.TheVariants.{LapseContact, LapseDomain, Post}
 
 -- what is posted into an account
-abbrev pub gift : Posting → Change
-gift x = Give x.registrar (Lapse x.what)
+abbrev pub posting_change : Posting → Change
+posting_change x = Post x.registrar (Lapse x.what)
 
 abbrev pub contact_changes : List ℕ → Lapsed Contact → List Change
-contact_changes name l = LapseContact name l.object ∷ map gift l.postings
+contact_changes name l = LapseContact name l.object ∷ map posting_change l.postings
 
 abbrev pub domain_changes : List ℕ → Lapsed Domain → List Change
-domain_changes name l = LapseDomain name l.object ∷ map gift l.postings
+domain_changes name l = LapseDomain name l.object ∷ map posting_change l.postings
 
 -- what stands under a name lapses up to a moment; a host doesn't
 abbrev pub lapse_changes : PolicyRules → ℕ → List ℕ → Option Object → List Change

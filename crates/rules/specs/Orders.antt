@@ -8,7 +8,7 @@ use Rattle.policy.specs.Rules.{PolicyRules, place_of}
 use Rattle.objects.specs.declared.status.Status.{Status}
 use Rattle.objects.specs.Statuses.{amended_statuses}
 use Rattle.rules.specs.declared.change.Change.{Change}
-use Rattle.rules.specs.declared.change.Change.TheVariants.{PutContact, PutDomain, PutHost, Give}
+use Rattle.rules.specs.declared.change.Change.TheVariants.{PutContact, PutDomain, PutHost, Post}
 use Rattle.rules.specs.declared.order.OrderDecision.{OrderDecision}
 use Rattle.rules.specs.declared.order.TheConstants.{MOST_DEPOSITED}
 use Rattle.rules.specs.Changes.{changed_all}
@@ -64,7 +64,7 @@ deposit_line t cents = record { kind = lines.Deposit; roid = None; recorded = t;
 abbrev pub deposited_to : ℕ → ℕ → Option ℕ → OrderDecision
 deposited_to t cents None = record { code = ObjectMissing; changes = [] }
 deposited_to t cents (Some r) =
-    record { code = Completed; changes = Give r (Charge (deposit_line t cents)) ∷ [] }
+    record { code = Completed; changes = Post r (Charge (deposit_line t cents)) ∷ [] }
 
 abbrev pub deposited : PolicyRules → ℕ → List ℕ → Option ℕ → OrderDecision
 deposited p t registrar None = record { code = ParameterRange; changes = [] }

@@ -8,7 +8,7 @@ use Rattle.accounts.specs.declared.message.CommandNotice.TheVariants as notices
 use Rattle.accounts.specs.declared.message.Subject.{Subject}
 use Rattle.accounts.specs.declared.message.Subject.TheVariants as subjects
 use Rattle.facts.specs.declared.facts.Facts.{Facts}
-use Rattle.lifecycle.specs.declared.change.AccountChange.TheVariants.{Charge, RefundTransfer, Tell}
+use Rattle.lifecycle.specs.declared.change.AccountChange.TheVariants.{Charge, RefundTransfer, Notify}
 use Rattle.lifecycle.specs.Lapse.{contact_handed_over, gained, handed_over, transfer_start}
 use Rattle.objects.specs.declared.contact.Contact.{Contact}
 use Rattle.objects.specs.declared.contact.ContactFace.{ContactFace}
@@ -24,8 +24,8 @@ use Rattle.protocol.specs.declared.command.Request.{Request}
 use Rattle.protocol.specs.declared.transfer.TransferOp.{TransferOp}
 use Rattle.protocol.specs.declared.transfer.TransferOp.TheVariants as ops
 use Rattle.rules.specs.declared.change.Change.{Change}
-use Rattle.rules.specs.declared.change.Change.TheVariants.{PutContact, PutDomain, Give}
-use Rattle.rules.specs.Lapsing.{gift}
+use Rattle.rules.specs.declared.change.Change.TheVariants.{PutContact, PutDomain, Post}
+use Rattle.rules.specs.Lapsing.{posting_change}
 use Rattle.verdict.specs.Charges.{charge_of, years_charged}
 use Rattle.verdict.specs.Transfers.{transfer_after}
 
@@ -35,7 +35,7 @@ use Rattle.verdict.specs.Transfers.{transfer_after}
 -- of what the sponsor does
 abbrev pub tell : ℕ → ℕ → CommandNotice → List ℕ → Subject → Change
 tell registrar t notice name subject =
-    Give registrar (Tell (record { moment = t; notice = notice; name = name; subject = subject }))
+    Post registrar (Notify (record { moment = t; notice = notice; name = name; subject = subject }))
 
 -- the charge of a transfer, whose grace begins with its completion alone (RFC 3915, 3.1)
 abbrev pub transfer_line : PolicyRules → ℕ → Roid → Request → Facts → Line
@@ -54,7 +54,7 @@ abbrev pub transfer_refund : ℕ → Roid → TransferRefund
 transfer_refund t roid = record { roid = roid; moment = t }
 
 abbrev pub give_back : ℕ → ℕ → Roid → Change
-give_back registrar t roid = Give registrar (RefundTransfer (transfer_refund t roid))
+give_back registrar t roid = Post registrar (RefundTransfer (transfer_refund t roid))
 
 -- ---- contacts
 
@@ -98,12 +98,12 @@ abbrev pub domain_transferred : PolicyRules → ℕ → ℕ → TransferOp → R
     → Domain → List Change
 domain_transferred p r t ops.Request q f x d =
     PutDomain (domain_with_transfer x d)
-    ∷ Give r (Charge (transfer_line p t d.roid q f))
+    ∷ Post r (Charge (transfer_line p t d.roid q f))
     ∷ tell x.losing_registrar t notices.TransferRequested d.name subjects.Domain
     ∷ []
 domain_transferred p r t ops.Query q f x d = []
 domain_transferred p r t ops.Approve q f x d =
-    gift (transfer_start x (gained d x.ac_date) d)
+    posting_change (transfer_start x (gained d x.ac_date) d)
     ∷ PutDomain (handed_over x (gained d x.ac_date) d)
     ∷ tell x.requester t notices.TransferApproved d.name subjects.Domain
     ∷ []

@@ -35,7 +35,7 @@ pub enum Change {
     /// The registrar has an account.
     OpenAccount(RegistrarNo),
     /// The registrar's account is changed.
-    Give(RegistrarNo, AccountChange),
+    Post(RegistrarNo, AccountChange),
 }
 
 /// One change and no other.

@@ -59,5 +59,5 @@ pub(crate) fn charge(
     ensures { result ≡ spec.charge kind policy.now caller moment roid request.now facts.now }
 {
     let line = charge_line(kind, roid, request, facts, moment, policy);
-    Change::Give(caller, AccountChange::Charge(line))
+    Change::Post(caller, AccountChange::Charge(line))
 }

@@ -83,7 +83,7 @@ fn all_changes(
     answered: Code,
     policy: &Policy,
 ) -> Result<Vec<Change>, AllocError>
-    ensures { IfOk result (λ changes. changes.items ≡ Change.Give caller AccountChange.CountCommand
+    ensures { IfOk result (λ changes. changes.items ≡ Change.Post caller AccountChange.CountCommand
         ∷ spec.changes_after policy.now caller moment command.now facts.now answered) }
 {
     let rest = changes_after(alloc, facts, caller, command, moment, answered, policy)?;
@@ -96,10 +96,10 @@ fn with_count(
     caller: RegistrarNo,
     mut rest: Vec<Change>,
 ) -> Result<Vec<Change>, AllocError>
-    ensures { IfOk result (λ changes. changes.items ≡ Change.Give caller AccountChange.CountCommand
+    ensures { IfOk result (λ changes. changes.items ≡ Change.Post caller AccountChange.CountCommand
         ∷ rest.items) }
 {
-    let mut changes = vec![in alloc; Change::Give(caller, AccountChange::CountCommand)]?;
+    let mut changes = vec![in alloc; Change::Post(caller, AccountChange::CountCommand)]?;
     changes.append(&mut rest)?;
     Ok(changes)
 }
@@ -209,7 +209,7 @@ fn accept(
             policy,
         ),
         Request::PollAck { id } => {
-            only(alloc, Change::Give(caller, AccountChange::Ack(id.clone()?)))
+            only(alloc, Change::Post(caller, AccountChange::Ack(id.clone()?)))
         }
         _ => Ok(Vec::new(alloc)),
     }
@@ -224,7 +224,7 @@ fn create_contact(
 ) -> Result<Vec<Change>, AllocError>
     ensures { IfOk result (λ changes. changes.items
         ≡ Change.PutContact (spec.new_contact caller moment facts.now new.now)
-        ∷ Change.Give caller AccountChange.TakeSerial ∷ []) }
+        ∷ Change.Post caller AccountChange.TakeSerial ∷ []) }
 {
     let contact = new_contact(alloc, facts, caller, new, moment)?;
     created(alloc, caller, Change::PutContact(contact))
@@ -240,7 +240,7 @@ fn create_host(
 ) -> Result<Vec<Change>, AllocError>
     ensures { IfOk result (λ changes. changes.items
         ≡ Change.PutHost (spec.new_host zone.now caller moment facts.now new.now)
-        ∷ Change.Give caller AccountChange.TakeSerial ∷ []) }
+        ∷ Change.Post caller AccountChange.TakeSerial ∷ []) }
 {
     let host = new_host(alloc, facts, caller, new, moment, zone)?;
     created(alloc, caller, Change::PutHost(host))
@@ -249,9 +249,9 @@ fn create_host(
 /// A new object takes its creator's next number.
 fn created(alloc: Global, caller: RegistrarNo, put: Change) -> Result<Vec<Change>, AllocError>
     ensures { IfOk result (λ changes. changes.items ≡ put
-        ∷ Change.Give caller AccountChange.TakeSerial ∷ []) }
+        ∷ Change.Post caller AccountChange.TakeSerial ∷ []) }
 {
-    Ok(vec![in alloc; put, Change::Give(caller, AccountChange::TakeSerial)]?)
+    Ok(vec![in alloc; put, Change::Post(caller, AccountChange::TakeSerial)]?)
 }
 
 /// A new domain is charged for.
@@ -266,7 +266,7 @@ fn create_domain(
 ) -> Result<Vec<Change>, AllocError>
     ensures { IfOk result (λ changes. changes.items
         ≡ Change.PutDomain (spec.new_domain caller moment facts.now new.now)
-        ∷ Change.Give caller AccountChange.TakeSerial ∷ spec.charge LineKind.Create policy.now
+        ∷ Change.Post caller AccountChange.TakeSerial ∷ spec.charge LineKind.Create policy.now
         caller moment (spec.new_roid ObjectKind.Domain caller facts.now) request.now facts.now
         ∷ []) }
 {
@@ -274,7 +274,7 @@ fn create_domain(
     let domain = new_domain(alloc, facts, caller, new, moment)?;
     Ok(vec![in alloc;
         Change::PutDomain(domain),
-        Change::Give(caller, AccountChange::TakeSerial),
+        Change::Post(caller, AccountChange::TakeSerial),
         charge(
             LineKind::Create,
             caller,
@@ -304,7 +304,7 @@ fn delete_domain(
         Some(Seen::Full(full)) => {
             let ending = ending(known, &full.domain, moment)?;
             let refund = RunningRefund::of(&full.domain, moment);
-            let given = Change::Give(caller, AccountChange::RefundRunning(refund));
+            let given = Change::Post(caller, AccountChange::RefundRunning(refund));
             Ok(vec![in alloc; ending, given]?)
         }
         _ => Ok(Vec::new(alloc)),

@@ -44,7 +44,7 @@ fn contact_changes(
     let name = name.clone()?;
     let lapsed = lapse_contact(alloc, contact, moment)?;
     let Lapsed { object, postings } = lapsed;
-    with_gifts(alloc, Change::LapseContact(name, object), postings)
+    with_postings(alloc, Change::LapseContact(name, object), postings)
 }
 
 fn domain_changes(
@@ -60,26 +60,26 @@ fn domain_changes(
     let name = name.clone()?;
     let lapsed = lapse(alloc, domain, moment, policy)?;
     let Lapsed { object, postings } = lapsed;
-    with_gifts(alloc, Change::LapseDomain(name, object), postings)
+    with_postings(alloc, Change::LapseDomain(name, object), postings)
 }
 
 /// A change, and what is posted into accounts.
-fn with_gifts(
+fn with_postings(
     alloc: Global,
     change: Change,
     postings: Seq<Posting>,
 ) -> Result<Seq<Change>, AllocError>
-    ensures { IfOk result (λ changes. changes ≡ change ∷ map spec.gift postings) }
+    ensures { IfOk result (λ changes. changes ≡ change ∷ map spec.posting_change postings) }
 {
     let mut changes = vec![in alloc; change]?;
     for posting in postings.into_vec() {
-        changes.push(gift(posting))?;
+        changes.push(posting_change(posting))?;
     }
     Ok(Seq::from_vec(changes))
 }
 
-fn gift(posting: Posting) -> Change
-    ensures { result ≡ spec.gift posting }
+fn posting_change(posting: Posting) -> Change
+    ensures { result ≡ spec.posting_change posting }
 {
-    Change::Give(posting.registrar, AccountChange::Lapse(posting.what))
+    Change::Post(posting.registrar, AccountChange::Lapse(posting.what))
 }

@@ -146,7 +146,7 @@ pub fn decide_deposit(
         return Ok(refused(alloc, Code::ObjectMissing));
     };
     let line = deposit_line(cents, moment);
-    let change = Change::Give(registrar, AccountChange::Charge(line));
+    let change = Change::Post(registrar, AccountChange::Charge(line));
     Ok(OrderDecision {
         code: Code::Completed,
         changes: Seq::from_vec(only(alloc, change)?),

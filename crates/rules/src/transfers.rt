@@ -2,7 +2,7 @@
 ghost use Rattle.std.specs.Prelude.{◌≡◌, ◌∷◌, [], IfOk};
 ghost use Rattle.std.specs.Option.{option_copied};
 ghost use Rattle.lifecycle.specs.Lapse as lapses;
-ghost use Rattle.rules.specs.Lapsing.{gift};
+ghost use Rattle.rules.specs.Lapsing.{posting_change};
 ghost use Rattle.rules.specs.Transfers as spec;
 
 use crate::change::Change;
@@ -34,7 +34,7 @@ fn tell(
         name,
         subject,
     };
-    Change::Give(registrar, AccountChange::Tell(notification))
+    Change::Post(registrar, AccountChange::Notify(notification))
 }
 
 fn two(alloc: Global, first: Change, second: Change) -> Result<Vec<Change>, AllocError>
@@ -210,13 +210,13 @@ fn domain_requested(
 ) -> Result<Vec<Change>, AllocError>
     ensures { IfOk result (λ changes. changes.items
         ≡ Change.PutDomain (spec.domain_with_transfer after domain.now)
-        ∷ Change.Give caller (AccountChange.Charge line) ∷ spec.tell after.losing_registrar moment
+        ∷ Change.Post caller (AccountChange.Charge line) ∷ spec.tell after.losing_registrar moment
         CommandNotice.TransferRequested domain.now.name Subject.Domain ∷ []) }
 {
     let sponsor = after.losing_registrar;
     let name = domain.name.clone()?;
     let put = with_transfer(after, domain.clone()?);
-    let charge = Change::Give(caller, AccountChange::Charge(line));
+    let charge = Change::Post(caller, AccountChange::Charge(line));
     let told = tell(
         sponsor,
         moment,
@@ -235,7 +235,7 @@ fn domain_approved(
     moment: Moment,
 ) -> Result<Vec<Change>, AllocError>
     ensures { IfOk result (λ changes. changes.items
-        ≡ gift (lapses.transfer_start after (lapses.gained domain.now after.ac_date) domain.now)
+        ≡ posting_change (lapses.transfer_start after (lapses.gained domain.now after.ac_date) domain.now)
         ∷ Change.PutDomain (lapses.handed_over after (lapses.gained domain.now after.ac_date)
         domain.now) ∷ spec.tell after.requester moment CommandNotice.TransferApproved
         domain.now.name Subject.Domain ∷ []) }
@@ -249,7 +249,7 @@ fn domain_approved(
     };
     let name = domain.name.clone()?;
     let domain = domain.clone()?;
-    let begun = Change::Give(requester, AccountChange::Lapse(LapseEntry::Start(start)));
+    let begun = Change::Post(requester, AccountChange::Lapse(LapseEntry::Start(start)));
     let put = Change::PutDomain(hand_over(domain, after));
     let told = tell(
         requester,
@@ -289,7 +289,7 @@ fn give_back(registrar: RegistrarNo, roid: Roid, moment: Moment) -> Change
     ensures { result ≡ spec.give_back registrar moment roid }
 {
     let refund = TransferRefund { roid, moment };
-    Change::Give(registrar, AccountChange::RefundTransfer(refund))
+    Change::Post(registrar, AccountChange::RefundTransfer(refund))
 }
 
 /// The domain, with this as its last transfer.

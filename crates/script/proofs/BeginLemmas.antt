@@ -13,7 +13,8 @@ use Rattle.policy.specs.Rules.{PolicyRules}
 use Rattle.script.specs.declared.exit.Exit.{Exit}
 use Rattle.script.specs.declared.exit.Exit.TheVariants as exits
 use Rattle.script.specs.Exits.{exit_of}
-use Rattle.script.specs.Runs.{Answers, AppendsFront, BeginsBehind, Begins, BreaksAt, EndsBehind, EndsIn, Prints, Writes, lines_of, printed}
+use Rattle.script.specs.Runs.{Answers, BeginsBehind, Begins, EndsIn, Prints, Writes, lines_of, printed}
+use Rattle.script.specs.inner.Runs.{AppendsFront, BreaksAt, EndsBehind}
 use Rattle.script.proofs.RunLemmas.{AreTold, Prints-told, Reads, next_lines, under}
 
 -- ---- fronts of known bytes

@@ -6,7 +6,8 @@ use Rattle.policy.specs.Reading.{policy_of}
 use Rattle.policy.specs.Rules.{PolicyRules}
 use Rattle.script.specs.declared.exit.Exit.{Exit}
 use Rattle.script.specs.declared.exit.Exit.TheVariants as exits
-use Rattle.script.specs.Runs.{AppendsFront, Ends, EndsBehind, EndsByFile, EndsIn, EndsUnder, start}
+use Rattle.script.specs.inner.Runs.{AppendsFront, EndsBehind}
+use Rattle.script.specs.Runs.{Ends, EndsByFile, EndsIn, EndsUnder, start}
 use Rattle.script.proofs.BeginLemmas.{IsFault, begun_by, fault_cut, fault_out}
 use Rattle.model.specs.Registry.{Registry}
 

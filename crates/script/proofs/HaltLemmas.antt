@@ -8,7 +8,8 @@ use Rattle.model.specs.Registry.{Registry}
 use Rattle.policy.specs.Rules.{PolicyRules}
 use Rattle.script.specs.declared.exit.Exit.{Exit}
 use Rattle.script.specs.declared.exit.Exit.TheVariants as exits
-use Rattle.script.specs.Runs.{BeginsBehind, BreaksAt, EndsBehind, HaltsAt, LeavesAsWas, Writes, kept, lines_of, printed}
+use Rattle.script.specs.Runs.{BeginsBehind, Writes, kept, lines_of, printed}
+use Rattle.script.specs.inner.Runs.{BreaksAt, EndsBehind, HaltsAt, LeavesAsWas}
 use Rattle.script.proofs.BeginLemmas.{begun_at}
 use Rattle.script.proofs.RunLemmas.{AreTold, Reads, next_lines, under}
 use Rattle.store.specs.Book.{BookState, Follows, Stored}

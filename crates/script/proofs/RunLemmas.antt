@@ -7,7 +7,8 @@ use Rattle.std.specs.Io.BufRead.{DropsThrough, drop_through, strip_last, take_th
 use Rattle.std.specs.Io.KnownBytes.{Appends, IsAtEnd}
 use Rattle.policy.specs.Rules.{PolicyRules}
 use Rattle.script.specs.declared.exit.Exit.TheVariants as exits
-use Rattle.script.specs.Runs.{Answers, EndsIn, Prints, TellsLine, begun_with, lines_of, printed}
+use Rattle.script.specs.Runs.{Answers, EndsIn, Prints, begun_with, lines_of, printed}
+use Rattle.script.specs.inner.Runs.{TellsLine}
 use Rattle.store.specs.Book.{BookState, Follows}
 use Rattle.model.specs.Registry.{Registry}
 

@@ -3,3 +3,4 @@ pub mod Exits
 pub mod Runs
 pub mod Deposits
 pub mod Orders
+pub mod inner

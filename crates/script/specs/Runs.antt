@@ -1,7 +1,7 @@
 -- What the lines of a script are answered.
-use Rattle.std.specs.Prelude.{◌≡◌, ◌≢◌, ◌⊎◌, ◌+◌, ◌≤◌, ◌==◌, ℕ, List, [], ◌∷◌, ◌++◌, length, if◌then◌else◌, Option, Some, None, IsSome, Result, Ok, Err, codes, ⊤}
+use Rattle.std.specs.Prelude.{◌≡◌, ◌≢◌, ◌⊎◌, ◌+◌, ◌≤◌, ◌==◌, ℕ, List, [], ◌∷◌, ◌++◌, length, if◌then◌else◌, Option, Some, None, IsSome, Ok, Err, codes}
 use Rattle.std.specs.List.{flat_map}
-use Rattle.std.specs.Io.KnownBytes.{Appends, Keeps, append_known}
+use Rattle.std.specs.Io.KnownBytes.{Appends, Keeps}
 use Rattle.eppcommands.specs.Session.{in_session}
 use Rattle.eppcommands.specs.Order.{order_in}
 use Rattle.eppreplies.specs.Answer.{answer_text}
@@ -10,7 +10,7 @@ use Rattle.eppreplies.specs.Reply.{reply_text}
 use Rattle.policy.specs.declared.fault.PolicyFault.TheVariants as faults
 use Rattle.policy.specs.Reading.{policy_of}
 use Rattle.policy.specs.Rules.{PolicyRules}
-use Rattle.registry.specs.Execution.{IsGreetingStep, IsOrderStep, IsSettlement, IsStep, IsUnchanged, last_call}
+use Rattle.registry.specs.Execution.{IsGreetingStep, IsOrderStep, IsSettlement, IsStep, last_call}
 use Rattle.registry.specs.Opening.{opened}
 use Rattle.script.specs.declared.exit.Exit.{Exit}
 use Rattle.script.specs.declared.exit.Exit.TheVariants as exits
@@ -96,37 +96,6 @@ abbrev pub IsAnswered : PolicyRules → Sender → List ℕ → ℕ → Registry
 IsAnswered p sender payload moment before after text =
     GivesUp before after text ⊎ Steps p sender payload moment before after text
 
--- the same of a command
-abbrev pub IsAnsweredCommand : PolicyRules → ℕ → Command → ℕ → Registry → Registry → List ℕ → Type 0
-IsAnsweredCommand p r c moment before after text =
-    GivesUp before after text ⊎ IsCommandStep p r c moment before after text
-
--- of hello
-abbrev pub IsAnsweredHello : PolicyRules → ℕ → Registry → Registry → List ℕ → Type 0
-IsAnsweredHello p moment before after text =
-    GivesUp before after text ⊎ IsHelloStep p moment before after text
-
--- of an order
-abbrev pub IsAnsweredOrder : PolicyRules → Order → ℕ → Registry → Registry → List ℕ → Type 0
-IsAnsweredOrder p order moment before after text =
-    GivesUp before after text ⊎ IsOrderedStep p order moment before after text
-
--- of a settlement
-abbrev pub IsAnsweredSettlement : PolicyRules → ℕ → ℕ → Registry → Registry → List ℕ → Type 0
-IsAnsweredSettlement p at_most moment before after text =
-    GivesUp before after text ⊎ IsSettledStep p at_most moment before after text
-
--- of what the operator sends
-abbrev pub IsAnsweredOperator : PolicyRules → OperatorRequest → ℕ → Registry → Registry → List ℕ
-    → Type 0
-IsAnsweredOperator p request moment before after text =
-    GivesUp before after text ⊎ OperatorSteps p request moment before after text
-
--- the text, or the fixed one where there is none
-abbrev pub told_text : Option (List ℕ) → List ℕ
-told_text None = failed_text
-told_text (Some text) = text
-
 -- what a line asks is answered
 pub record Answers (p : PolicyRules) (line : List ℕ) (before after : Registry) (text : List ℕ) : Type 0 where
   pub asked : Asked
@@ -141,23 +110,6 @@ Asks Operator payload = IsSome (order_in payload)
 -- the line isn't of the form
 abbrev pub AsksNothing : PolicyRules → List ℕ → Type 0
 AsksNothing p line = (asked : Asked) → IsLine p line asked → Asks asked.sender asked.payload → ⊥
-
--- a line that isn't of the form ends the run by its number; so may want of memory
-abbrev pub IsStopped : PolicyRules → List ℕ → ℕ → Exit → Type 0
-IsStopped p line number (exits.Script n) = (n ≡ number) × AsksNothing p line
-IsStopped p line number exits.Memory = Unit {0}
-IsStopped p line number _ = ⊥
-
--- the same where it is known who sends the payload
-abbrev pub IsUnread : Sender → List ℕ → ℕ → Exit → Type 0
-IsUnread sender payload number (exits.Script n) = (n ≡ number) × (Asks sender payload → ⊥)
-IsUnread sender payload number exits.Memory = Unit {0}
-IsUnread sender payload number _ = ⊥
-
--- a line that isn't of the form changes nothing
-abbrev pub LeavesAsWas : BookState → BookState → Exit → Type 0
-LeavesAsWas old new (exits.Script n) = IsUnchanged old new
-LeavesAsWas old new _ = Unit {0}
 
 -- ---- the lines of a script
 
@@ -184,37 +136,6 @@ abbrev pub printed : List (List ℕ) → List ℕ
 printed replies = flat_map (λ reply. reply ++ codes "\n") replies
 
 -- ---- a run
-
--- one line and what it adds to the known bytes: its reply, or nothing where it is empty
-abbrev pub TellsLine : PolicyRules → List ℕ → Registry → Registry → Option (List ℕ)
-    → Option (List ℕ) → Type 0
-TellsLine p line before after old new =
-    (replies : List (List ℕ)) × Prints p (line ∷ []) before after replies
-    × Appends old new (printed replies)
-
--- the known bytes grew by the front of a text
-abbrev pub AppendsFront : Option (List ℕ) → Option (List ℕ) → List ℕ → Type 0
-AppendsFront old new text = (front rest : List ℕ) × Appends old new front × (text ≡ front ++ rest)
-
--- the line is answered so, or it isn't answered
-abbrev pub MayPrint : PolicyRules → List ℕ → Registry → List (List ℕ) → Type 0
-MayPrint p line before replies =
-    (replies ≡ []) ⊎ ((after : Registry) × Prints p (line ∷ []) before after replies)
-
--- what a line leaves that breaks a run: the front of what was pending and of its reply, if it has one
-abbrev pub BreaksAt : PolicyRules → List ℕ → Registry → Option (List ℕ) → List ℕ → Option (List ℕ)
-    → Type 0
-BreaksAt p line before old pending new =
-    (replies : List (List ℕ)) × MayPrint p line before replies
-    × AppendsFront old new (pending ++ printed replies)
-
--- how a line ends a run: it isn't of the form, and nothing is added; or by a fault of the output or of memory
-abbrev pub HaltsAt : PolicyRules → List ℕ → ℕ → Option (List ℕ) → Option (List ℕ) → Exit → Type 0
-HaltsAt p line number old new (exits.Script n) =
-    (n ≡ number) × (line ≢ []) × AsksNothing p line × Keeps old new
-HaltsAt p line number old new exits.File = Unit {0}
-HaltsAt p line number old new exits.Memory = Unit {0}
-HaltsAt p line number old new _ = ⊥
 
 -- all lines are answered
 pub record Finishes (p : PolicyRules) (before after : Registry) (input written : List ℕ) : Type 0 where
@@ -279,21 +200,6 @@ EndsIn p before after input old new exits.Done = Writes old new (Finishes p befo
 EndsIn p before after input old new (exits.Script n) =
     Writes old new (λ written. (stops : Stops p before input written n) × (after ≡ stops.after))
 EndsIn p before after input old new exit = Ends p before input old new exit
-
--- the same behind bytes that were pending
-abbrev pub EndsBehind : PolicyRules → (before after : Registry) → List ℕ → Option (List ℕ) → List ℕ
-    → Option (List ℕ) → Exit → Type 0
-EndsBehind p before after input old pending new exits.File =
-    Writes old new (BeginsBehind pending p before input)
-EndsBehind p before after input old pending new exits.Memory =
-    Writes old new (BeginsBehind pending p before input)
-EndsBehind p before after input old pending new exit =
-    EndsIn p before after input (append_known old pending) new exit
-
--- a run that answers all its lines is done
-abbrev pub end_of : Result ⊤ Exit → Exit
-end_of (Ok _) = exits.Done
-end_of (Err exit) = exit
 
 -- how a run under a policy ends; a book in memory that can't be opened ends it with nothing printed
 abbrev pub EndsUnder : PolicyRules → List ℕ → Option (List ℕ) → Option (List ℕ) → Exit → Type 0

@@ -4,7 +4,8 @@ ghost use Rattle.policy.specs.Rules.{IsRegistrar};
 ghost use Rattle.registry.specs.Execution.{Greets, IsUnchanged, OrderSteps, Settles, Steps, last_call};
 ghost use Rattle.script.specs.declared.line.Sender.TheVariants.{Registrar};
 ghost use Rattle.script.specs.Lines.{IsKnown};
-ghost use Rattle.script.specs.Runs.{Answers, IsAnswered, IsAnsweredCommand, IsAnsweredHello, IsAnsweredOperator, IsAnsweredOrder, IsAnsweredSettlement, IsStopped, IsUnread, LeavesAsWas, kept, told_text};
+ghost use Rattle.script.specs.Runs.{Answers, IsAnswered, kept};
+ghost use Rattle.script.specs.inner.Runs.{IsAnsweredCommand, IsAnsweredHello, IsAnsweredOperator, IsAnsweredOrder, IsAnsweredSettlement, IsStopped, IsUnread, LeavesAsWas, told_text};
 ghost use Rattle.store.specs.Book.{Follows};
 
 use crate::exit::Exit;

@@ -5,9 +5,9 @@ use policy::Policy;
 use registry::OpenFault;
 use sqlbook::{MigrateFault, migrate};
 use sqlite::{Alter, Connection};
+use sqltables::{RowStore, Unadopted};
 use std::alloc::Global;
 use store::BookFault;
-use tables::{RowStore, Unadopted};
 
 /// Takes the registry of a database of the schema before this one over into another database, which is
 /// empty, under a policy that continues the one it was used under.

@@ -2,7 +2,8 @@
 ghost use Rattle.std.specs.Prelude.{◌≡◌, ℕ, List, [], ◌++◌, codes, option_map, true, Some, IfErr, IfSome, OnErr, OnOk};
 ghost use Rattle.std.specs.Io.BufRead.{strip_last};
 ghost use Rattle.std.specs.Io.KnownBytes.{Appends, Keeps, append_known};
-ghost use Rattle.script.specs.Runs.{AppendsFront, BreaksAt, Ends, EndsBehind, EndsByFile, EndsIn, EndsUnder, HaltsAt, LeavesAsWas, TellsLine, end_of, kept, told_text};
+ghost use Rattle.script.specs.inner.Runs.{AppendsFront, BreaksAt, EndsBehind, HaltsAt, LeavesAsWas, TellsLine, end_of, told_text};
+ghost use Rattle.script.specs.Runs.{Ends, EndsByFile, EndsIn, EndsUnder, kept};
 ghost use Rattle.store.specs.Book.{Follows};
 
 use crate::answer::answer;

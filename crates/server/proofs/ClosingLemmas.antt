@@ -2,7 +2,7 @@
 use Rattle.std.proofs.Common.{ℕ, ◌+◌, ◌*◌, ◌≤◌, Option, List, [], ◌++◌, length, take, arith, length-append, length-take}
 use Rattle.std.specs.Io.KnownBytes.{Consumes, Keeps}
 use Rattle.std.proofs.KnownBytes.{Consumes-nil, Consumes-trans, Consumes-kept}
-use Rattle.server.specs.Closing.{TakesUpTo}
+use Rattle.server.specs.inner.Closing.{TakesUpTo}
 
 -- before the first one nothing is taken
 pub takes_nothing : (a : Option (List ℕ)) → TakesUpTo 0 a a

@@ -4,11 +4,11 @@ use Rattle.std.specs.Prelude.{IfSome}
 use Rattle.std.specs.Fmt.{option_append}
 use Rattle.std.specs.Io.KnownBytes.{Consumes, IsAtEnd}
 use Rattle.policy.specs.Rules.{PolicyRules}
-use Rattle.sessions.specs.Outcomes.{Outcome}
-use Rattle.sessions.specs.Sessions.{Standing, Session, Writes}
-use Rattle.sessions.specs.declared.session.SessionEnd.{SessionEnd}
+use Rattle.frames.specs.Outcomes.{Outcome}
+use Rattle.frames.specs.Sessions.{Standing, Session, Writes}
+use Rattle.frames.specs.declared.session.SessionEnd.{SessionEnd}
 use Rattle.server.specs.Connections.{Agrees, AnswersAt, Desk, FramesBeginConnections, IsServed, Serves, begins_frame}
-use Rattle.eppsessions.proofs.FollowLemmas.{answers_follow, follows_on, same_follows}
+use Rattle.eppwire.proofs.FollowLemmas.{answers_follow, follows_on, same_follows}
 use Rattle.server.specs.Http.{AnswersHttp, MayAsk}
 use Rattle.server.specs.declared.connection.ConnectionEnd.{ConnectionEnd}
 use Rattle.server.specs.declared.connection.ConnectionEnd.TheVariants as ends

@@ -7,7 +7,7 @@ use Rattle.std.specs.Io.KnownBytes.{Consumes, ReadConsumes}
 use borrow.Rule.Slice.PartMut.{put_mid}
 use lib.Seq.{take-add}
 use Rattle.std.specs.Prelude.{IfOk, IfErr, OnOk}
-use Rattle.eppframes.specs.Clocks.{Tells}
+use Rattle.frames.specs.Clocks.{Tells}
 use Rattle.model.specs.Lapse.{lapse, lapsed, now}
 use Rattle.model.specs.Registry.{Registry}
 use Rattle.model.proofs.LapseLaws.{lapses-on}

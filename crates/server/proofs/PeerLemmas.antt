@@ -1,9 +1,9 @@
 -- A session with a peer is one with whatever the peer can be taken for.
 use Rattle.std.proofs.Common.{inl, inr, ℕ, List, [], ◌∷◌, ap}
-use Rattle.sessions.specs.Outcomes.{Outcome}
-use Rattle.sessions.specs.Sessions.{Standing, Turn, IsTurn, Run, Rests, Ends, Session}
-use Rattle.sessions.specs.declared.session.SessionEnd.{SessionEnd}
-use Rattle.sessions.specs.declared.session.SessionEnd.TheVariants.{Logout, End, Cut, Length, ReadFault, WriteFault, Lost}
+use Rattle.frames.specs.Outcomes.{Outcome}
+use Rattle.frames.specs.Sessions.{Standing, Turn, IsTurn, Run, Rests, Ends, Session}
+use Rattle.frames.specs.declared.session.SessionEnd.{SessionEnd}
+use Rattle.frames.specs.declared.session.SessionEnd.TheVariants.{Logout, End, Cut, Length, ReadFault, WriteFault, Lost}
 
 -- the peer of a session is taken for something else
 abbrev pub taken_for : {S T : Type 0} → (S → T) → Standing S → Standing T

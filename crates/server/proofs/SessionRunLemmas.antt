@@ -4,11 +4,11 @@ use Rattle.std.specs.Prelude.{if◌then◌else◌}
 use Rattle.std.proofs.lemmas.Bool.{and_parts}
 use Rattle.std.proofs.lemmas.Grind.{flat_map-append}
 use Rattle.eppcommands.specs.Session.{before_login, in_session}
-use Rattle.eppframes.specs.Frames.{frame}
-use Rattle.eppframes.specs.Texts.{closing_text}
+use Rattle.frames.specs.Frames.{frame}
+use Rattle.frames.specs.Texts.{closing_text}
 use Rattle.eppreplies.specs.Reply.{reply_text}
-use Rattle.eppsessions.specs.Answers.{AnswersHello, AnswersOpening, AnswersRegistrar, AnswersSaid, AnswersStranger, GivesUp, Tells, is_last}
-use Rattle.eppsessions.proofs.FollowLemmas.{answers_follow, follows_on, same_follows}
+use Rattle.eppwire.specs.Answers.{AnswersHello, AnswersOpening, AnswersRegistrar, AnswersSaid, AnswersStranger, GivesUp, Tells, is_last}
+use Rattle.eppwire.proofs.FollowLemmas.{answers_follow, follows_on, same_follows}
 use Rattle.model.specs.Lapse.{now}
 use Rattle.model.specs.Registry.{Registry}
 use Rattle.policy.specs.Rules.{PolicyRules}
@@ -19,10 +19,10 @@ use Rattle.protocol.specs.declared.session.InSession.{InSession}
 use Rattle.protocol.specs.declared.session.InSession.TheVariants as within
 use Rattle.runs.specs.Runs.{IsRun}
 use Rattle.runs.proofs.SettlementLemmas.{answers-are-determined}
-use Rattle.sessions.specs.Outcomes.{Outcome, ended, failed, lost, replied, sent}
-use Rattle.sessions.specs.Sessions.{Ends, IsTurn, Rests, Run, Standing, Turn, frames}
-use Rattle.sessions.specs.declared.session.SessionEnd.{SessionEnd}
-use Rattle.sessions.specs.declared.session.SessionEnd.TheVariants.{Logout, End, Cut, Length, ReadFault, WriteFault, Lost}
+use Rattle.frames.specs.Outcomes.{Outcome, ended, failed, lost, replied, sent}
+use Rattle.frames.specs.Sessions.{Ends, IsTurn, Rests, Run, Standing, Turn, frames}
+use Rattle.frames.specs.declared.session.SessionEnd.{SessionEnd}
+use Rattle.frames.specs.declared.session.SessionEnd.TheVariants.{Logout, End, Cut, Length, ReadFault, WriteFault, Lost}
 use Rattle.server.specs.Connections.{AnswersAt, Desk}
 use Rattle.server.specs.SessionRuns.{AreAnswered, IsAnsweredAll, SessionsAreAnswered, SessionsAreRuns, SessionsAreSentTheSame, are_sent, asked_by, asked_over, caller_after, caller_with, has_failed, has_text, outcome_before, outcome_by, outcome_told, question_within, questions_before, questions_said}
 use Rattle.store.specs.Book.{BookState, Follows, Stored}

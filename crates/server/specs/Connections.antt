@@ -1,12 +1,12 @@
 -- Connections to a registry, by the protocol that their first byte tells.
 use Rattle.std.specs.Prelude.{◌≡◌, ℕ, Bool, true, false, nat_eq, List, [], ◌∷◌, ◌++◌, Option, None, IfSome}
 use Rattle.std.specs.Io.KnownBytes.{Appends}
-use Rattle.eppframes.specs.Frames.{frame, IsPayload}
-use Rattle.eppsessions.specs.Answers.{Answers}
+use Rattle.frames.specs.Frames.{frame, IsPayload}
+use Rattle.eppwire.specs.Answers.{Answers}
 use Rattle.policy.specs.Rules.{PolicyRules}
-use Rattle.sessions.specs.Outcomes.{Outcome}
-use Rattle.sessions.specs.Sessions.{Session, Writes}
-use Rattle.sessions.specs.declared.session.SessionEnd.{SessionEnd}
+use Rattle.frames.specs.Outcomes.{Outcome}
+use Rattle.frames.specs.Sessions.{Session, Writes}
+use Rattle.frames.specs.declared.session.SessionEnd.{SessionEnd}
 use Rattle.server.specs.Http.{AnswersHttp}
 use Rattle.server.specs.declared.connection.ConnectionEnd.{ConnectionEnd}
 use Rattle.server.specs.declared.connection.ConnectionEnd.TheVariants as ends

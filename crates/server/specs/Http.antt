@@ -2,7 +2,7 @@
 -- (RFC 7480, 4 and 5).
 use Rattle.std.specs.Prelude.{◌≡◌, ◌⊎◌, ◌≤◌, ℕ, true, List, [], ◌++◌, take, Option, IfSome, Result, Ok, Err}
 use Rattle.std.specs.Io.KnownBytes.{Appends, Consumes, IsAtEnd}
-use Rattle.eppframes.specs.Clocks.{Tells}
+use Rattle.frames.specs.Clocks.{Tells}
 use Rattle.model.specs.Lapse.{lapsed, now}
 use Rattle.model.specs.Registry.{Registry}
 use Rattle.policy.specs.Rules.{PolicyRules}
@@ -11,7 +11,7 @@ use Rattle.rdap.specs.Heads.{IsCut, IsDecided}
 use Rattle.registry.specs.Execution.{last_call}
 use Rattle.server.specs.declared.http.HttpEnd.{HttpEnd}
 use Rattle.server.specs.declared.http.HttpEnd.TheVariants as ends
-use Rattle.sessions.specs.Sessions.{Writes}
+use Rattle.frames.specs.Sessions.{Writes}
 use Rattle.store.specs.Book.{BookState, Follows}
 use Rattle.store.specs.Faces.{contact_face_at, domain_face_at, host_face_at}
 

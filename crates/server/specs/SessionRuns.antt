@@ -2,9 +2,9 @@
 use Rattle.std.specs.Prelude.{◌≡◌, ℕ, Bool, true, false, if◌then◌else◌, List, [], ◌∷◌, ◌++◌, map, take, Option, Some, None}
 use Rattle.std.specs.List.{list_all}
 use Rattle.eppcommands.specs.Session.{before_login, in_session}
-use Rattle.eppframes.specs.Frames.{frame}
-use Rattle.eppframes.specs.Texts.{closing_text}
-use Rattle.eppsessions.specs.Answers.{Tells, caller_of, greeting_outcome, login_code, nobodys_outcome, reply_outcome}
+use Rattle.frames.specs.Frames.{frame}
+use Rattle.frames.specs.Texts.{closing_text}
+use Rattle.eppwire.specs.Answers.{Tells, caller_of, greeting_outcome, login_code, nobodys_outcome, reply_outcome}
 use Rattle.model.specs.Lapse.{now}
 use Rattle.model.specs.Registry.{Registry}
 use Rattle.policy.specs.Rules.{PolicyRules}
@@ -15,9 +15,9 @@ use Rattle.protocol.specs.declared.session.InSession.{InSession}
 use Rattle.protocol.specs.declared.session.InSession.TheVariants as within
 use Rattle.protocol.specs.Codes.{code_of_form}
 use Rattle.runs.specs.Runs.{IsRun}
-use Rattle.sessions.specs.Outcomes.{Outcome, ended, failed, lost, replied}
-use Rattle.sessions.specs.Sessions.{Session, Standing, Turn, frames}
-use Rattle.sessions.specs.declared.session.SessionEnd.{SessionEnd}
+use Rattle.frames.specs.Outcomes.{Outcome, ended, failed, lost, replied}
+use Rattle.frames.specs.Sessions.{Session, Standing, Turn, frames}
+use Rattle.frames.specs.declared.session.SessionEnd.{SessionEnd}
 use Rattle.server.specs.Connections.{AnswersAt, Desk}
 
 -- ---- what a frame asks

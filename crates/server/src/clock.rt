@@ -3,7 +3,7 @@ ghost use Rattle.std.specs.Prelude.{◌≡◌};
 ghost use Rattle.server.specs.Clocks.{nearest_moment};
 
 use calendar::{Moment, Range};
-use eppframes::Clock;
+use frames::Clock;
 use std::thread;
 use std::time::{self, Duration, SystemTime, UNIX_EPOCH};
 

@@ -1,11 +1,11 @@
 //! How a connection is let go: so that its client reads all that was written, whatever it sent besides.
 ghost use Rattle.std.specs.Prelude.{◌≡◌, true, length, vec_len, IfOk};
 ghost use Rattle.std.specs.Io.KnownBytes.{IsAtEnd};
-ghost use Rattle.server.specs.Closing as spec;
+ghost use Rattle.server.specs.inner.Closing as spec;
 
 use crate::connection::ConnectionEnd;
 use crate::http::HttpEnd;
-use sessions::SessionEnd;
+use frames::SessionEnd;
 use std::alloc::{AllocError, Global};
 use std::io::{ErrorKind, Read};
 use std::net::{Shutdown, TcpStream};

@@ -1,20 +1,19 @@
 //! One connection.
 ghost use Rattle.std.specs.Prelude.{◌≡◌};
-ghost use Rattle.sessions.specs.Sessions.{Writes};
+ghost use Rattle.frames.specs.Sessions.{Writes};
 ghost use Rattle.server.specs.Connections as spec;
 ghost use Rattle.server.specs.Connections.{IsServed, Serves};
 ghost use Rattle.server.specs.Http.{AnswersHttp};
 ghost use Rattle.server.specs.declared.connection.ConnectionEnd.TheVariants as ends;
 ghost use Rattle.server.specs.declared.http.HttpEnd.{HttpEnd};
-ghost use Rattle.sessions.specs.declared.session.SessionEnd.{SessionEnd};
+ghost use Rattle.frames.specs.declared.session.SessionEnd.{SessionEnd};
 ghost use Rattle.store.specs.Book.{Follows};
 
 use crate::http::{HttpEnd, serve_http};
-use eppframes::Clock;
-use eppsessions::Connection;
+use eppwire::Connection;
+use frames::{Clock, SessionEnd, serve_session};
 use rdap::Routes;
 use registry::Registry;
-use sessions::{SessionEnd, serve_session};
 use std::alloc::Global;
 use std::io::{Read, Write};
 use store::Book;

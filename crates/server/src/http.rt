@@ -4,7 +4,7 @@ ghost use Rattle.rdap.specs.Heads.{IsCut, IsDecided, most_bytes};
 ghost use Rattle.server.specs.Http.{AnswersHttp, IsRead, IsWritten};
 
 use crate::at_moment::answer_at;
-use eppframes::Clock;
+use frames::Clock;
 use rdap::{MOST_BYTES, Reading, Routes, read_head};
 use registry::{Fault, Registry};
 use std::alloc::{AllocError, Global};

@@ -1,6 +1,6 @@
 //! A registry that is lent at one moment, as the source of a zone.
 
-use crate::zone::HandOverFault;
+use crate::zone::ZoneExportFault;
 use basis::list::Seq;
 use basis::text::Text;
 use calendar::Moment;
@@ -22,7 +22,7 @@ impl<B: Book + Drop> ZoneSource for LentAtMoment<'_, B> {
     ghost use Rattle.std.proofs.Common.{refl, ◌∙◌};
     ghost use Rattle.server.specs.HandOver.{LeavesLent, Shows, lent_on, lent_stays};
 
-    type Fault = HandOverFault;
+    type Fault = ZoneExportFault;
 
     ghost shows = { λ it faces. Shows it.registry.now.policy it.moment (B.state it.registry.now.book) faces };
 
@@ -36,15 +36,15 @@ impl<B: Book + Drop> ZoneSource for LentAtMoment<'_, B> {
         self.registry.policy()
     }
 
-    fn domain_names(&mut self) -> Result<Seq<Text>, HandOverFault> {
+    fn domain_names(&mut self) -> Result<Seq<Text>, ZoneExportFault> {
         Ok(self.registry.domain_names(self.moment)?)
     }
 
-    fn domain(&mut self, name: &Text) -> Result<Option<DomainFace>, HandOverFault> {
+    fn domain(&mut self, name: &Text) -> Result<Option<DomainFace>, ZoneExportFault> {
         Ok(self.registry.listed_domain(name, self.moment)?)
     }
 
-    fn addresses(&mut self, host: &Text) -> Result<Option<Seq<Text>>, HandOverFault> {
+    fn addresses(&mut self, host: &Text) -> Result<Option<Seq<Text>>, ZoneExportFault> {
         Ok(self.registry.host_addresses(host, self.moment)?)
     }
 

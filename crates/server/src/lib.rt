@@ -24,4 +24,4 @@ pub use http::HttpEnd;
 pub use impatient::Impatient;
 pub use laws::{frames_begin_connections, public_texts_agree, sessions_are_runs};
 pub use listener::{serve_each, serve_each_within};
-pub use zone::{HandOverFault, zone_on};
+pub use zone::{ZoneExportFault, zone_on};

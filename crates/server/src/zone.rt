@@ -3,7 +3,7 @@ ghost use Rattle.std.specs.Prelude.{◌≡◌, true, OnOk, OnErr};
 ghost use Rattle.std.specs.Io.KnownBytes.{Appends};
 ghost use Rattle.server.specs.HandOver.{serial_of, zone_at, zone_with};
 ghost use Rattle.server.specs.Http.{Passes};
-ghost use Rattle.server.specs.declared.zone.HandOverFault.TheVariants as faults;
+ghost use Rattle.server.specs.declared.zone.ZoneExportFault.TheVariants as faults;
 ghost use Rattle.zonefile.specs.ZoneText.{AppendsBeginning};
 
 use crate::lent::LentAtMoment;
@@ -17,7 +17,7 @@ use zonefile::{ZoneFault, write_zone};
 
 /// Why a zone wasn't written to its end. A beginning of it was written.
 #[derive(Clone, Copy, Debug, PartialEq, Eq, Drop, Error)]
-pub enum HandOverFault {
+pub enum ZoneExportFault {
     /// The registry gave up.
     #[error("{0}")]
     Registry(Fault),
@@ -26,19 +26,19 @@ pub enum HandOverFault {
     Zone(ZoneFault),
 }
 
-impl From<Fault> for HandOverFault {
+impl From<Fault> for ZoneExportFault {
     ghost from_gives = { λ fault it. it ≡ faults.Registry fault };
 
-    fn from(fault: Fault) -> HandOverFault {
-        HandOverFault::Registry(fault)
+    fn from(fault: Fault) -> ZoneExportFault {
+        ZoneExportFault::Registry(fault)
     }
 }
 
-impl From<ZoneFault> for HandOverFault {
+impl From<ZoneFault> for ZoneExportFault {
     ghost from_gives = { λ fault it. it ≡ faults.Zone fault };
 
-    fn from(fault: ZoneFault) -> HandOverFault {
-        HandOverFault::Zone(fault)
+    fn from(fault: ZoneFault) -> ZoneExportFault {
+        ZoneExportFault::Zone(fault)
     }
 }
 
@@ -49,7 +49,7 @@ pub fn zone_on<B: Book + Drop, W: Write>(
     registry: &mut Registry<B>,
     moment: Moment,
     writer: &mut W,
-) -> Result<(), HandOverFault>
+) -> Result<(), ZoneExportFault>
     ensures written { OnOk result ((B.state registry.new.book).is_clean ≡ true
         → Appends (W.contents writer.old) (W.contents writer.new) (zone_at registry.old.policy moment (B.state registry.old.book).content.registry)) }
     ensures begun { OnErr result ((B.state registry.new.book).is_clean ≡ true
@@ -69,7 +69,7 @@ fn write_at<B: Book + Drop, W: Write>(
     moment: Moment,
     serial: u32,
     writer: &mut W,
-) -> Result<(), HandOverFault>
+) -> Result<(), ZoneExportFault>
     ensures written { OnOk result ((B.state registry.new.book).is_clean ≡ true
         → Appends (W.contents writer.old) (W.contents writer.new) (zone_with registry.old.policy moment serial (B.state registry.old.book).content.registry)) }
     ensures begun { OnErr result ((B.state registry.new.book).is_clean ≡ true

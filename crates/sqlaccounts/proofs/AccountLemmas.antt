@@ -11,13 +11,15 @@ use Rattle.sqlite_keyed.proofs.KeyedLemmas.{key-get_by, same_int}
 use Rattle.accounts.specs.declared.account.Account.{Account}
 use Rattle.accounts.specs.Account.{empty_account}
 use Rattle.accounts.specs.Lines.{balance}
-use Rattle.columns.specs.Numbers.{exact_in, is_exact, is_place, registrar_in}
-use Rattle.tables.specs.Account as table
-use Rattle.tables.specs.Content.{Content, accounts_to}
+use Rattle.sqlcolumns.specs.Numbers.{exact_in, is_exact, is_place, registrar_in}
+use Rattle.sqltables.specs.Account as table
+use Rattle.sqltables.specs.Content.{Content}
+use Rattle.sqltables.specs.inner.Content.{accounts_to}
 use Rattle.sqlaccounts.specs.Accounts.{account_in, accounts_of, balance_in, entries_of, has_right_sums, is_right, lines_of, queue_of, row_of, standing, standing_of, sums_are_right}
-use Rattle.sqlaccounts.specs.Changes.{AreOthersKept, IsChange, IsCounted, counters_in, counters_of, with_changed, with_counters}
-use Rattle.sqlaccounts.specs.declared.counting.Counters.{Counters}
-use Rattle.meanings.proofs.RowLemmas.{all-insert_by, all_with, get_by-insert_by}
+use Rattle.sqlaccounts.specs.inner.Changes.{AreOthersKept, IsChange, IsCounted, counters_in, with_changed}
+use Rattle.accounts.specs.Counters.{counters_of, with_counters}
+use Rattle.accounts.specs.declared.counters.Counters.{Counters}
+use Rattle.sqlrows.proofs.RowLemmas.{all-insert_by, all_with, get_by-insert_by}
 
 abbrev magnitude : ℤ → ℕ
 magnitude (pos n) = n

@@ -3,22 +3,23 @@ use Rattle.std.proofs.Common.{◌≡◌, true, sym, ap, subst, ◌∙◌}
 use Rattle.transactions.specs.States.{Reads, StateOf, Writes}
 use Rattle.transactions.proofs.LeavingLemmas.{leaves-on}
 use Rattle.sqlite_keyed.specs.Keyed.{insert_by}
-use Rattle.tables.specs.Account.{Account, accounts}
-use Rattle.tables.specs.Content.{Content, accounts_to}
-use Rattle.meanings.specs.Calls.{Became}
-use Rattle.meanings.proofs.StateLemmas.{then-made}
+use Rattle.sqltables.specs.Account.{Account, accounts}
+use Rattle.sqltables.specs.Content.{Content}
+use Rattle.sqltables.specs.inner.Content.{accounts_to}
+use Rattle.sqlrows.specs.Meanings.{HasChanged}
+use Rattle.sqlrows.proofs.StateLemmas.{then-made}
 
 -- a row of account is put
 pub then-put : (row new : Account) (way : Content → Content → Type 0) (a b c : StateOf Content)
     → Reads a b → row ≡ new → Writes (accounts_to (λ rows. insert_by accounts.key rows row) b.content) b c
-    → (b.is_clean ≡ true → way a.content (accounts_to (λ rows. insert_by accounts.key rows new) a.content)) → Became way a c
+    → (b.is_clean ≡ true → way a.content (accounts_to (λ rows. insert_by accounts.key rows new) a.content)) → HasChanged way a c
 then-put row new way a b c reads same makes is =
     then-made (accounts_to (λ rows. insert_by accounts.key rows row)) way a b c reads makes
     (λ e. subst (λ r. way a.content (accounts_to (λ rows. insert_by accounts.key rows r) a.content)) (sym same) (is e))
 
 -- two changes of what was looked at before
 pub then-twice : {C : Type 0} (h k : C → C) (way : C → C → Type 0) (a b c d : StateOf C)
-    → Reads a b → Writes (h b.content) b c → Writes (k c.content) c d → (b.is_clean ≡ true → way a.content (k (h a.content))) → Became way a d
+    → Reads a b → Writes (h b.content) b c → Writes (k c.content) c d → (b.is_clean ≡ true → way a.content (k (h a.content))) → HasChanged way a d
 then-twice h k way a b c d reads one two is = record {
   clean = λ e. reads.clean (one.clean (two.clean e));
   before = λ e. two.before e ∙ one.before (two.clean e) ∙ reads.before (one.clean (two.clean e));
@@ -29,7 +30,7 @@ then-twice h k way a b c d reads one two is = record {
 }
 
 -- nothing is changed
-pub then-kept : {C : Type 0} (way : C → C → Type 0) (a b : StateOf C) → Reads a b → a.is_open ≡ true → (b.is_clean ≡ true → way a.content a.content) → Became way a b
+pub then-kept : {C : Type 0} (way : C → C → Type 0) (a b : StateOf C) → Reads a b → a.is_open ≡ true → (b.is_clean ≡ true → way a.content a.content) → HasChanged way a b
 then-kept way a b reads begun is = record {
   clean = reads.clean;
   before = reads.before;

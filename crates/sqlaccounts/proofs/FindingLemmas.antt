@@ -18,18 +18,18 @@ use Rattle.accounts.specs.declared.line.Line.{Line}
 use Rattle.accounts.specs.Lines.{in_order, is_line, is_of, is_on, is_same_roid}
 use Rattle.accounts.proofs.LineLaws.{itself-roid, line-told, same-in_order, same-roids}
 use Rattle.basis.specs.Bag.{same}
-use Rattle.columns.specs.Lines.{line_in, maybe_domain_in}
-use Rattle.columns.specs.Numbers.{counter_column, exact_in, maybe_moment_in, moment_in, registrar_column, years_in}
-use Rattle.columns.specs.Codes.{kind_in}
-use Rattle.columns.specs.Roids.{roid_in}
-use Rattle.columns.specs.Steps.{◌>>=◌}
-use Rattle.columns.proofs.NumberLemmas.{registrar_back, registrar_written, serial_back, serial_written}
-use Rattle.columns.proofs.ReadLemmas.{same_some, some_read, step}
-use Rattle.columns.proofs.RoidLemmas.{roid_read}
-use Rattle.tables.specs.Line as table
-use Rattle.tables.specs.Line.{line_with_account}
-use Rattle.tables.proofs.RowLemmas.{all_at}
-use Rattle.sqlaccounts.specs.Finding.{IsDomainRoid, is_row_about, reads_as}
+use Rattle.sqlcolumns.specs.Lines.{line_in, maybe_domain_in}
+use Rattle.sqlcolumns.specs.Numbers.{counter_column, exact_in, maybe_moment_in, moment_in, registrar_column, years_in}
+use Rattle.sqlcolumns.specs.Codes.{kind_in}
+use Rattle.sqlcolumns.specs.Roids.{roid_in}
+use Rattle.sqlcolumns.specs.Steps.{◌>>=◌}
+use Rattle.sqlcolumns.proofs.NumberLemmas.{registrar_back, registrar_written, serial_back, serial_written}
+use Rattle.sqlcolumns.proofs.ReadLemmas.{same_some, some_read, step}
+use Rattle.sqlcolumns.proofs.RoidLemmas.{roid_read}
+use Rattle.sqltables.specs.Line as table
+use Rattle.sqltables.specs.Line.{line_with_account}
+use Rattle.sqltables.proofs.RowLemmas.{all_at}
+use Rattle.sqlaccounts.specs.inner.Finding.{IsDomainRoid, is_row_about, reads_as}
 
 pub equal : (a b : ℤ) → a ≡ b → int_eq a b ≡ true
 equal a b e = ap (λ z. int_eq z b) e ∙ ap is_eq (tied_itself int_cmp_total b)

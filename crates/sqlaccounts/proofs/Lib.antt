@@ -8,3 +8,8 @@ pub mod OpeningLemmas
 pub mod SwapLemmas
 pub mod TakingLemmas
 pub mod WholeLemmas
+pub mod QueueCallLemmas
+pub mod ColumnLemmas
+pub mod MessageLemmas
+pub mod QueueLemmas
+pub mod SortLemmas

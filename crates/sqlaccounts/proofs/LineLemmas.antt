@@ -10,19 +10,21 @@ use Rattle.accounts.specs.Entries.{with_lines}
 use Rattle.accounts.specs.Lines.{amount, balance, in_order}
 use Rattle.accounts.proofs.LineLaws.{balance-add, lines_in_order}
 use Rattle.basis.specs.Bag.{add, bag_of}
-use Rattle.columns.specs.Lines.{domain_columns, line_in, line_row, row_with}
-use Rattle.columns.specs.Messages.{message_in}
-use Rattle.columns.specs.Numbers.{counter_in, exact_column, is_place}
-use Rattle.columns.specs.Steps.{◌>>=◌}
-use Rattle.columns.proofs.ReadLemmas.{same_some}
-use Rattle.rows.specs.Layouts.{appended}
-use Rattle.tables.specs.Account as account_table
-use Rattle.tables.specs.Content.{Content, accounts_to, lines_to}
-use Rattle.tables.specs.Line as table
-use Rattle.tables.specs.Line.{line_with_account}
-use Rattle.tables.specs.Message.{message_with_account}
+use Rattle.sqlcolumns.specs.inner.Lines.{domain_columns, line_row, row_with}
+use Rattle.sqlcolumns.specs.Lines.{line_in}
+use Rattle.sqlcolumns.specs.Messages.{message_in}
+use Rattle.sqlcolumns.specs.Numbers.{counter_in, exact_column, is_place}
+use Rattle.sqlcolumns.specs.Steps.{◌>>=◌}
+use Rattle.sqlcolumns.proofs.ReadLemmas.{same_some}
+use Rattle.sqlrows.specs.inner.Layouts.{appended}
+use Rattle.sqltables.specs.Account as account_table
+use Rattle.sqltables.specs.Content.{Content}
+use Rattle.sqltables.specs.inner.Content.{accounts_to, lines_to}
+use Rattle.sqltables.specs.Line as table
+use Rattle.sqltables.specs.Line.{line_with_account}
+use Rattle.sqltables.specs.Message.{message_with_account}
 use Rattle.sqlaccounts.specs.Accounts.{balance_in, lines_of, put_all, queue_of, row_of, standing}
-use Rattle.sqlaccounts.specs.Changes.{AreOthersKept, IsChange, IsPaid, IsWritten}
+use Rattle.sqlaccounts.specs.inner.Changes.{AreOthersKept, IsChange, IsPaid, IsWritten}
 use Rattle.sqlaccounts.proofs.AccountLemmas.{changed}
 use Rattle.sqlaccounts.proofs.BagLemmas.{bag-middle}
 use Rattle.sqlaccounts.proofs.FindingLemmas.{equal}

@@ -12,15 +12,15 @@ use Rattle.accounts.specs.Lines.{in_order, is_on}
 use Rattle.accounts.proofs.LineLaws.{lines_in_order}
 use Rattle.basis.specs.Bag.{add, bag_of}
 use Rattle.basis.proofs.BagLaws.{bag_of-push, filter-bag_of}
-use Rattle.columns.specs.Lines.{line_in}
-use Rattle.columns.specs.Numbers.{is_place, registrar_column}
-use Rattle.tables.specs.Account as account_table
-use Rattle.tables.specs.Content.{Content}
-use Rattle.tables.specs.Line as table
-use Rattle.tables.specs.Line.{line_with_account}
-use Rattle.tables.specs.Whole.{IsWhole}
+use Rattle.sqlcolumns.specs.Lines.{line_in}
+use Rattle.sqlcolumns.specs.Numbers.{is_place, registrar_column}
+use Rattle.sqltables.specs.Account as account_table
+use Rattle.sqltables.specs.Content.{Content}
+use Rattle.sqltables.specs.Line as table
+use Rattle.sqltables.specs.Line.{line_with_account}
+use Rattle.sqltables.specs.inner.Whole.{IsWhole}
 use Rattle.sqlaccounts.specs.Accounts.{account_in, account_of, lines_of, row_of}
-use Rattle.sqlaccounts.specs.Finding.{IsDomainRoid, is_row_on}
+use Rattle.sqlaccounts.specs.inner.Finding.{IsDomainRoid, is_row_on}
 use Rattle.sqlaccounts.proofs.AccountLemmas.{get-accounts_of, get-found}
 use Rattle.sqlaccounts.proofs.BagLemmas.{bag-again, bag-nil}
 use Rattle.sqlaccounts.proofs.FindingLemmas.{on-row}

@@ -5,12 +5,13 @@ use Rattle.std.specs.Option.{option_map, option_map_or, unwrap_or}
 use Rattle.sqlite_keyed.specs.Keyed.{insert_by}
 use Rattle.accounts.specs.Account.{empty_account}
 use Rattle.accounts.specs.Lines.{balance}
-use Rattle.columns.specs.Numbers.{is_place}
-use Rattle.tables.specs.Account as account_table
-use Rattle.tables.specs.Content.{Content, accounts_to}
-use Rattle.tables.specs.Whole.{IsWhole}
+use Rattle.sqlcolumns.specs.Numbers.{is_place}
+use Rattle.sqltables.specs.Account as account_table
+use Rattle.sqltables.specs.Content.{Content}
+use Rattle.sqltables.specs.inner.Content.{accounts_to}
+use Rattle.sqltables.specs.inner.Whole.{IsWhole}
 use Rattle.sqlaccounts.specs.Accounts.{account_in, accounts_of, balance_in, has_right_sums, is_right, row_of}
-use Rattle.sqlaccounts.specs.Changes.{IsOpened, opened_row}
+use Rattle.sqlaccounts.specs.inner.Changes.{IsOpened, opened_row}
 use Rattle.sqlaccounts.proofs.AccountLemmas.{accounts-put, get-accounts_of, kept_accounts, row_here, row_there, sums-put}
 use Rattle.sqlaccounts.proofs.FindingLemmas.{equal}
 use Rattle.sqlaccounts.proofs.WholeLemmas.{lines-of-none, queue-of-none}

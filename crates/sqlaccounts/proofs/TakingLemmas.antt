@@ -10,17 +10,17 @@ use Rattle.accounts.specs.Lines.{amount, balance, in_order}
 use Rattle.accounts.proofs.LineLaws.{balance-add, lines_in_order}
 use Rattle.basis.specs.Bag.{add, bag_of, same, taken}
 use Rattle.basis.proofs.BagLaws.{any-bag_of, taken-absent, taken-add}
-use Rattle.columns.specs.Lines.{line_in}
-use Rattle.columns.specs.Numbers.{is_place}
-use Rattle.tables.specs.Account as account_table
-use Rattle.tables.specs.Content.{Content}
-use Rattle.tables.specs.Line as table
-use Rattle.tables.specs.Line.{line_with_account}
-use Rattle.tables.specs.Whole.{IsWhole}
-use Rattle.columns.proofs.ReadLemmas.{same_some}
+use Rattle.sqlcolumns.specs.Lines.{line_in}
+use Rattle.sqlcolumns.specs.Numbers.{is_place}
+use Rattle.sqltables.specs.Account as account_table
+use Rattle.sqltables.specs.Content.{Content}
+use Rattle.sqltables.specs.Line as table
+use Rattle.sqltables.specs.Line.{line_with_account}
+use Rattle.sqltables.specs.inner.Whole.{IsWhole}
+use Rattle.sqlcolumns.proofs.ReadLemmas.{same_some}
 use Rattle.sqlaccounts.specs.Accounts.{account_in, balance_in, lines_of, row_of}
-use Rattle.sqlaccounts.specs.Changes.{IsChange, IsPaid, without_line}
-use Rattle.sqlaccounts.specs.Finding.{IsDomainRoid, is_row_about, reads_as}
+use Rattle.sqlaccounts.specs.inner.Changes.{IsChange, IsPaid, without_line}
+use Rattle.sqlaccounts.specs.inner.Finding.{IsDomainRoid, is_row_about, reads_as}
 use Rattle.sqlaccounts.proofs.AccountLemmas.{unchanged}
 use Rattle.sqlaccounts.proofs.FindingLemmas.{equal, found, none-there, own-row, parts, reads}
 use Rattle.sqlaccounts.proofs.LineLemmas.{both-less, filter-without, lines-with, repaid}

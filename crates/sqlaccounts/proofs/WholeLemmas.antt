@@ -7,13 +7,13 @@ use Rattle.sqlite_keyed.proofs.ListLemmas.{filter_none}
 use Rattle.sqlite_rules.specs.Lists.{Has}
 use Rattle.accounts.specs.Lines.{in_order}
 use Rattle.basis.specs.Bag.{bag_of}
-use Rattle.columns.specs.Lines.{line_in}
-use Rattle.columns.specs.Messages.{message_in}
-use Rattle.tables.specs.Account as account_table
-use Rattle.tables.specs.Content.{Content}
-use Rattle.tables.specs.Line.{Line}
-use Rattle.tables.specs.Message.{Message}
-use Rattle.tables.specs.Whole.{IsWhole, LeadsTo}
+use Rattle.sqlcolumns.specs.Lines.{line_in}
+use Rattle.sqlcolumns.specs.Messages.{message_in}
+use Rattle.sqltables.specs.Account as account_table
+use Rattle.sqltables.specs.Content.{Content}
+use Rattle.sqltables.specs.Line.{Line}
+use Rattle.sqltables.specs.Message.{Message}
+use Rattle.sqltables.specs.inner.Whole.{IsWhole, LeadsTo}
 use Rattle.sqlaccounts.specs.Accounts.{lines_of, put_all, queue_of, row_of}
 use Rattle.sqlaccounts.proofs.BagLemmas.{bag-nil}
 use Rattle.sqlaccounts.proofs.FindingLemmas.{equal}

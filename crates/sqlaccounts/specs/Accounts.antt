@@ -13,13 +13,13 @@ use Rattle.accounts.specs.Account.{empty_account}
 use Rattle.accounts.specs.Lines.{balance, in_order}
 use Rattle.accounts.specs.Queue.{put}
 use Rattle.basis.specs.Bag.{bag_of}
-use Rattle.columns.specs.Lines.{line_in}
-use Rattle.columns.specs.Messages.{message_in}
-use Rattle.columns.specs.Numbers.{counter_in, registrar_in}
-use Rattle.tables.specs.Account as account_table
-use Rattle.tables.specs.Content.{Content}
-use Rattle.tables.specs.Line.{line_with_account}
-use Rattle.tables.specs.Message.{message_with_account}
+use Rattle.sqlcolumns.specs.Lines.{line_in}
+use Rattle.sqlcolumns.specs.Messages.{message_in}
+use Rattle.sqlcolumns.specs.Numbers.{counter_in, registrar_in}
+use Rattle.sqltables.specs.Account as account_table
+use Rattle.sqltables.specs.Content.{Content}
+use Rattle.sqltables.specs.Line.{line_with_account}
+use Rattle.sqltables.specs.Message.{message_with_account}
 
 -- the lines under an account's number, of the rows that read
 abbrev pub lines_of : Content → ℤ → List Line

@@ -1,3 +1,2 @@
 pub mod Accounts
-pub mod Changes
-pub mod Finding
+pub mod inner

@@ -1,15 +1,14 @@
 //! The row of an account.
 ghost use Rattle.std.specs.Prelude.{◌≡◌, true, Some, IfOk};
-ghost use Rattle.columns.specs.Numbers.{is_place, registrar_column};
+ghost use Rattle.sqlcolumns.specs.Numbers.{is_place, registrar_column};
 ghost use Rattle.sqlaccounts.specs.Accounts.{row_of};
-ghost use Rattle.transactions.specs.States.{Finds, Meets};
+ghost use Rattle.transactions.specs.States.{Finds, FindsSome};
 
 use basis::registrar::RegistrarNo;
-use columns::registrar_column;
-use meanings::only;
-use rows::Number;
+use sqlcolumns::registrar_column;
 use sqlite::Alter;
-use tables::{AccountRow, RowStore};
+use sqlrows::{Number, only};
+use sqltables::{AccountRow, RowStore};
 use transactions::BookFault;
 
 /// The number of a registrar's row; no registrar has the place 0.
@@ -42,7 +41,7 @@ pub fn found_row<S: Alter>(
     store: &mut RowStore<S>,
     registrar: RegistrarNo,
 ) -> Result<AccountRow, BookFault>
-    ensures row { Meets result (λ row. Some row
+    ensures row { FindsSome result (λ row. Some row
         ≡ row_of store.old.content (registrar_column registrar)) store.old store.new }
     ensures place { IfOk result (λ row. is_place registrar ≡ true) }
 {

@@ -1,31 +1,24 @@
 //! What an account counts.
 ghost use Rattle.std.specs.Prelude.{◌≡◌, true};
 ghost use Rattle.sqlaccounts.specs.Accounts.{account_of, sums_are_right};
-ghost use Rattle.sqlaccounts.specs.Changes.{IsChange, IsCounted, counters_in, counters_of, with_counters};
-ghost use Rattle.meanings.specs.Calls.{Tells, Turns};
+ghost use Rattle.sqlaccounts.specs.inner.Changes.{IsChange, IsCounted, counters_in};
+ghost use Rattle.accounts.specs.Counters.{counters_of, with_counters};
+ghost use Rattle.sqlrows.specs.Meanings.{FindsIfRight, Changes};
 
 use crate::account::{found_row, maybe_row};
+use accounts::Counters;
 use basis::registrar::RegistrarNo;
-use columns::{counter_column, counter_of_column};
+use sqlcolumns::{counter_column, counter_of_column};
 use sqlite::Alter;
-use tables::{AccountRow, RowStore};
+use sqltables::{AccountRow, RowStore};
 use transactions::BookFault;
-
-/// What an account counts: commands that were answered, messages that commands brought, and objects
-/// that the registrar created.
-#[derive(Clone, Copy, Debug, PartialEq, Eq, Drop)]
-pub struct Counters {
-    pub commands: u64,
-    pub messages: u64,
-    pub serial: u64,
-}
 
 /// What a registrar's account counts: 0 where it was never opened.
 pub fn counts<S: Alter>(
     store: &mut RowStore<S>,
     registrar: RegistrarNo,
 ) -> Result<Counters, BookFault>
-    ensures { Tells result (sums_are_right store.old.content)
+    ensures { FindsIfRight result (sums_are_right store.old.content)
         (counters_of (account_of registrar store.old.content)) store.old store.new }
 {
     let row = maybe_row(store, registrar)?;
@@ -56,7 +49,7 @@ pub fn set_counters<S: Alter>(
     counters: Counters,
 ) -> Result<(), BookFault>
     requires { store.old.is_open ≡ true }
-    ensures { Turns result (IsChange registrar (with_counters counters)) store.old store.new }
+    ensures { Changes result (IsChange registrar (with_counters counters)) store.old store.new }
 {
     let row = found_row(store, registrar)?;
     let row = with_counters(row, counters);

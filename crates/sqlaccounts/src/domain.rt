@@ -5,19 +5,19 @@ ghost use Rattle.accounts.specs.Lines as lines;
 ghost use Rattle.accounts.specs.Lines.{in_order, swapped_all};
 ghost use Rattle.accounts.specs.declared.line.LineSwap.{LineSwap};
 ghost use Rattle.basis.specs.Bag.{bag_of, remade};
-ghost use Rattle.columns.specs.Lines.{line_in};
+ghost use Rattle.sqlcolumns.specs.Lines.{line_in};
 ghost use Rattle.sqlaccounts.specs.Accounts.{account_of};
-ghost use Rattle.transactions.specs.States.{Finds, Meets};
+ghost use Rattle.transactions.specs.States.{Finds, FindsSome};
 
 use crate::finding::rows_on;
 use accounts::{LineChange, LineSwap, Lines};
 use basis::list::Seq;
 use basis::registrar::RegistrarNo;
-use columns::line_of_row;
 use objects::Roid;
+use sqlcolumns::line_of_row;
 use sqlite::Alter;
+use sqltables::{LineRow, RowStore};
 use std::alloc::Global;
-use tables::{LineRow, RowStore};
 use transactions::BookFault;
 
 /// The lines of a registrar's account on a domain: none where it was never opened. Another object than
@@ -60,7 +60,7 @@ pub fn swaps<C: LineChange, S: Alter>(
     registrar: RegistrarNo,
     change: &C,
 ) -> Result<Seq<LineSwap>, BookFault>
-    ensures { Meets result
+    ensures { FindsSome result
         (λ swaps. swapped_all swaps (account_of registrar store.old.content).lines
         ≡ remade in_order (C.changed change.now) (account_of registrar store.old.content).lines)
         store.old store.new }

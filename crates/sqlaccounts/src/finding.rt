@@ -1,9 +1,9 @@
 //! Rows of lines that are looked for.
 ghost use Rattle.std.specs.Prelude.{◌≡◌, ◌↔◌, IsTrue, true, None, find, filter, option_map, IfOk, IfSome};
 ghost use Rattle.std.specs.Option.{option_copied};
-ghost use Rattle.columns.specs.Numbers.{is_place};
-ghost use Rattle.sqlaccounts.specs.Finding.{IsDomainRoid, is_row_about, is_row_on, reads_as};
-ghost use Rattle.tables.specs.Line.{Line as Row};
+ghost use Rattle.sqlcolumns.specs.Numbers.{is_place};
+ghost use Rattle.sqlaccounts.specs.inner.Finding.{IsDomainRoid, is_row_about, is_row_on, reads_as};
+ghost use Rattle.sqltables.specs.Line.{Line as Row};
 ghost use Rattle.transactions.specs.States.{Finds};
 
 use crate::account::number_of;
@@ -11,11 +11,11 @@ use crate::writing::is_roid;
 use accounts::Line;
 use basis::list::Seq;
 use basis::registrar::RegistrarNo;
-use columns::{counter_column, line_of_row};
 use objects::{ObjectKind, Roid};
-use rows::Number;
+use sqlcolumns::{counter_column, line_of_row};
 use sqlite::Alter;
-use tables::{LineRow, RowStore};
+use sqlrows::Number;
+use sqltables::{LineRow, RowStore};
 use transactions::BookFault;
 
 /// The rows of a registrar's lines on a domain. Another object than a domain is refused.

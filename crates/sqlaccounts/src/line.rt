@@ -1,14 +1,14 @@
 //! Lines of accounts, and what they add up to.
 ghost use Rattle.std.specs.Prelude.{◌≡◌, true, pos};
 ghost use Rattle.std.specs.Option.{option_map_or};
-ghost use Rattle.tables.specs.Account.{Account};
+ghost use Rattle.sqltables.specs.Account.{Account};
 ghost use Rattle.accounts.specs.Entries.{with_lines};
 ghost use Rattle.accounts.specs.Lines as lines;
 ghost use Rattle.accounts.specs.Lines.{in_order};
 ghost use Rattle.basis.specs.Bag.{add, taken};
 ghost use Rattle.sqlaccounts.specs.Accounts.{account_of, balance_in, sums_are_right};
-ghost use Rattle.sqlaccounts.specs.Changes.{IsChange, without_line};
-ghost use Rattle.meanings.specs.Calls.{Tells, Turns};
+ghost use Rattle.sqlaccounts.specs.inner.Changes.{IsChange, without_line};
+ghost use Rattle.sqlrows.specs.Meanings.{FindsIfRight, Changes};
 ghost use Rattle.transactions.specs.States.{Makes};
 
 use crate::account::{found_row, maybe_row};
@@ -18,15 +18,15 @@ use crate::writing::written;
 use accounts::Line;
 use basis::registrar::RegistrarNo;
 use calendar::Moment;
-use columns::maybe_moment_column;
-use rows::Number;
+use sqlcolumns::maybe_moment_column;
 use sqlite::Alter;
-use tables::{AccountRow, RowStore};
+use sqlrows::Number;
+use sqltables::{AccountRow, RowStore};
 use transactions::BookFault;
 
 /// What a registrar's account has, in whole cents: 0 where it was never opened.
 pub fn balance<S: Alter>(store: &mut RowStore<S>, registrar: RegistrarNo) -> Result<i128, BookFault>
-    ensures { Tells result (sums_are_right store.old.content)
+    ensures { FindsIfRight result (sums_are_right store.old.content)
         (lines.balance (account_of registrar store.old.content).lines) store.old store.new }
 {
     let row = maybe_row(store, registrar)?;
@@ -52,7 +52,7 @@ pub fn add_line<S: Alter>(
     ends: Option<Moment>,
 ) -> Result<(), BookFault>
     requires { store.old.is_open ≡ true }
-    ensures { Turns result (IsChange registrar (with_lines (add in_order line))) store.old
+    ensures { Changes result (IsChange registrar (with_lines (add in_order line))) store.old
         store.new }
 {
     let row = found_row(store, registrar)?;
@@ -72,7 +72,7 @@ pub fn take_line<S: Alter>(
     line: Line,
 ) -> Result<(), BookFault>
     requires { store.old.is_open ≡ true }
-    ensures { Turns result (IsChange registrar (with_lines (taken in_order line))) store.old
+    ensures { Changes result (IsChange registrar (with_lines (taken in_order line))) store.old
         store.new }
 {
     let row = found_row(store, registrar)?;

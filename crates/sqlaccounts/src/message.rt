@@ -2,19 +2,19 @@
 ghost use Rattle.std.specs.Prelude.{◌≡◌, Some, pos, length};
 ghost use Rattle.std.specs.Option.{option_map_or};
 ghost use Rattle.sqlaccounts.specs.Accounts.{account_of, sums_are_right};
-ghost use Rattle.meanings.specs.Calls.{Tells};
-ghost use Rattle.tables.specs.Account.{Account};
+ghost use Rattle.sqlrows.specs.Meanings.{FindsIfRight};
+ghost use Rattle.sqltables.specs.Account.{Account};
 
 use crate::account::maybe_row;
 use basis::registrar::RegistrarNo;
-use columns::exact_of_column;
+use sqlcolumns::exact_of_column;
 use sqlite::Alter;
-use tables::{AccountRow, RowStore};
+use sqltables::{AccountRow, RowStore};
 use transactions::BookFault;
 
 /// How many messages wait for a registrar: none where its account was never opened.
 pub fn waiting<S: Alter>(store: &mut RowStore<S>, registrar: RegistrarNo) -> Result<u64, BookFault>
-    ensures { Tells result (sums_are_right store.old.content)
+    ensures { FindsIfRight result (sums_are_right store.old.content)
         (length (account_of registrar store.old.content).queue) store.old store.new }
 {
     let row = maybe_row(store, registrar)?;

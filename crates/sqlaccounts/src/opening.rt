@@ -1,14 +1,14 @@
 //! Accounts that are opened.
 ghost use Rattle.std.specs.Prelude.{◌≡◌, true, IfOk};
-ghost use Rattle.meanings.specs.Calls.{Turns};
-ghost use Rattle.sqlaccounts.specs.Changes.{IsOpened, opened_row};
+ghost use Rattle.sqlrows.specs.Meanings.{Changes};
+ghost use Rattle.sqlaccounts.specs.inner.Changes.{IsOpened, opened_row};
 
 use crate::account::maybe_row;
 use basis::registrar::RegistrarNo;
-use columns::registrar_column;
+use sqlcolumns::registrar_column;
 use sqlite::Alter;
+use sqltables::{AccountRow, RowStore, bytes_of_balance};
 use std::alloc::{AllocError, Global};
-use tables::{AccountRow, RowStore, bytes_of_balance};
 use transactions::BookFault;
 
 /// The registrar has an account. One that it has stays as it is.
@@ -18,7 +18,7 @@ pub fn open_account<S: Alter>(
     registrar: RegistrarNo,
 ) -> Result<(), BookFault>
     requires { store.old.is_open ≡ true }
-    ensures { Turns result (IsOpened registrar) store.old store.new }
+    ensures { Changes result (IsOpened registrar) store.old store.new }
 {
     let row = maybe_row(store, registrar)?;
     if row.is_some() {

@@ -3,10 +3,10 @@ ghost use Rattle.std.specs.Prelude.{◌≡◌, ◌⊎◌, ◌+ℤ◌, ◌-ℤ◌
 ghost use Rattle.std.specs.Int.{w128};
 ghost use Rattle.accounts.specs.Lines.{amount};
 ghost use Rattle.sqlaccounts.specs.Accounts.{balance_in};
-ghost use Rattle.sqlaccounts.specs.Changes.{IsPaid};
+ghost use Rattle.sqlaccounts.specs.inner.Changes.{IsPaid};
 
 use accounts::Line;
-use tables::{AccountRow, bytes_of_balance};
+use sqltables::{AccountRow, bytes_of_balance};
 use transactions::BookFault;
 
 /// The row with so many cents more.
@@ -33,7 +33,7 @@ pub(crate) fn paid_back(row: AccountRow, line: &Line) -> Result<AccountRow, Book
 }
 
 /// A balance with so many cents more, if it fits.
-#[tactic(auto, using(tables::proofs::BalanceLemmas::balance_read))]
+#[tactic(auto, using(sqltables::proofs::BalanceLemmas::balance_read))]
 fn balance_after(balance: [u8; 16], cents: i128) -> Option<[u8; 16]>
     ensures sum { IfSome result (λ after. balance_in after ≡ balance_in balance +ℤ cents) }
     ensures fits { IfNone result (¬ FitsSigned w128 (balance_in balance +ℤ cents)) }

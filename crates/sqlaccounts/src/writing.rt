@@ -1,16 +1,16 @@
 //! Lines as rows that read as these lines.
 ghost use Rattle.std.specs.Prelude.{◌↔◌, IsTrue, IfOk, IfSome};
 ghost use Rattle.calendar.specs.Moment.{IsMoment};
-ghost use Rattle.columns.specs.Lines.{IsLine};
-ghost use Rattle.columns.specs.Roids.{IsRoid};
-ghost use Rattle.sqlaccounts.specs.Changes.{IsWritten};
+ghost use Rattle.sqlcolumns.specs.inner.Lines.{IsLine};
+ghost use Rattle.sqlcolumns.specs.Roids.{IsRoid};
+ghost use Rattle.sqlaccounts.specs.inner.Changes.{IsWritten};
 
 use accounts::Line;
 use basis::registrar::RegistrarNo;
 use calendar::Moment;
-use columns::{line_row, registrar_column};
 use objects::Roid;
-use tables::LineRow;
+use sqlcolumns::{line_row, registrar_column};
+use sqltables::LineRow;
 use transactions::BookFault;
 
 /// The row of a line, which reads as that line, with the column for the end of its grace. It has no

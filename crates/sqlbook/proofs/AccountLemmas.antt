@@ -7,17 +7,17 @@ use Rattle.sqlite_keyed.specs.Keyed.{IsKeyedBy, get_by}
 use Rattle.sqlite_keyed.proofs.KeyedLemmas.{int_eq_apart, key-get_by, same_int}
 use Rattle.sqlite_rules.specs.Lists.{Has}
 use Rattle.accounts.specs.declared.account.Account.{Account}
-use Rattle.columns.proofs.ReadLemmas.{same_some}
-use Rattle.store.specs.Tables.{given_to}
-use Rattle.tables.specs.Account as table
-use Rattle.tables.specs.Content.{Content}
-use Rattle.tables.specs.Readiness.{may_be_numbered}
-use Rattle.tables.specs.Meta.{Meta}
-use Rattle.tables.specs.Whole.{IsWhole}
-use Rattle.tables.proofs.RowLemmas.{all_at}
+use Rattle.sqlcolumns.proofs.ReadLemmas.{same_some}
+use Rattle.store.specs.Tables.{posted_to}
+use Rattle.sqltables.specs.Account as table
+use Rattle.sqltables.specs.Content.{Content}
+use Rattle.sqltables.specs.Readiness.{may_be_numbered}
+use Rattle.sqltables.specs.Meta.{Meta}
+use Rattle.sqltables.specs.inner.Whole.{IsWhole}
+use Rattle.sqltables.proofs.RowLemmas.{all_at}
 use Rattle.sqlaccounts.specs.Accounts.{row_of, standing}
-use Rattle.sqlaccounts.specs.Changes.{IsChange}
-use Rattle.sqlheld.proofs.KeptLemmas.{change-kept}
+use Rattle.sqlaccounts.specs.inner.Changes.{IsChange}
+use Rattle.sqlsums.proofs.KeptLemmas.{change-kept}
 use Rattle.sqlobjects.proofs.PutLemmas.{has-get_by}
 use Rattle.sqlobjects.specs.Objects.{contacts_of, hosts_of}
 use Rattle.sqldomains.specs.Domains.{domains_of}
@@ -25,7 +25,7 @@ use Rattle.sqldomains.proofs.SponsorLemmas.{sponsors-kept}
 use Rattle.sqlterms.specs.Clock.{clock_of}
 use Rattle.sqlterms.specs.Meta.{meta_of}
 use Rattle.sqlterms.specs.Terms.{ids_behind, ids_in, is_unnamed, prices_in, reserved_in, schedule_in, terms_in, terms_made, terms_of}
-use Rattle.sqldue.specs.Dues.{dues_are_right}
+use Rattle.sqlsums.specs.Dues.{dues_are_right}
 use Rattle.sqlbook.specs.Meaning.{are_right, stored_of}
 
 abbrev pub key : table.Account → ℤ
@@ -125,7 +125,7 @@ module _ (r : ℕ) (f : Account → Account) (old new : Content) (whole : IsWhol
   right-kept = λ i. may_be_numbered (it.others.metas i) && (it.sums i && (change-kept r f old new it i && (dues-kept i && sponsors-kept old new it.others.hosts it.others.domains i)))
 
   -- what is held is the registry with that account changed
-  pub account-changed : stored_of new ≡ given_to r f (stored_of old)
+  pub account-changed : stored_of new ≡ posted_to r f (stored_of old)
   account-changed = λ i. record {
     registry = record {
       contacts = contacts_of (record new { contacts = it.others.contacts i; transfers = it.others.transfers i });

@@ -7,20 +7,20 @@ use Rattle.accounts.specs.Account.{empty_account}
 use Rattle.store.specs.Book.{Stored}
 use Rattle.store.specs.Ledgers.{changed_if_there, put}
 use Rattle.store.specs.Tables.{with_accounts}
-use Rattle.tables.specs.Content.{Content}
-use Rattle.tables.specs.Whole.{IsWhole}
+use Rattle.sqltables.specs.Content.{Content}
+use Rattle.sqltables.specs.inner.Whole.{IsWhole}
 use Rattle.transactions.specs.declared.fault.BookFault.{BookFault}
 use Rattle.transactions.specs.States.{StateOf}
-use Rattle.meanings.specs.Calls.{Turns}
+use Rattle.sqlrows.specs.Meanings.{Changes}
 use Rattle.sqlaccounts.specs.Accounts.{accounts_of}
-use Rattle.sqlaccounts.specs.Changes.{IsChange}
+use Rattle.sqlaccounts.specs.inner.Changes.{IsChange}
 use Rattle.sqlbook.specs.Meaning.{are_right, stored_of}
-use Rattle.sqlbook.specs.Seen.{Alters}
+use Rattle.sqlbook.specs.AsBook.{MakesAs}
 use Rattle.sqlbook.proofs.AccountLemmas.{account-changed, right-kept}
 
 -- where each change in a way makes this of what is held, and leaves the sums as right
-pub alters : {A : Type 0} (r : Result A BookFault) (way : Content → Content → Type 0) (held : Stored) (old new : StateOf Content) → Turns r way old new
-    → (new.is_clean ≡ true → way old.content new.content → (stored_of new.content ≡ held) × (are_right new.content ≡ are_right old.content)) → Alters r stored_of are_right held old new
+pub alters : {A : Type 0} (r : Result A BookFault) (way : Content → Content → Type 0) (held : Stored) (old new : StateOf Content) → Changes r way old new
+    → (new.is_clean ≡ true → way old.content new.content → (stored_of new.content ≡ held) × (are_right new.content ≡ are_right old.content)) → MakesAs r stored_of are_right held old new
 alters (Ok done) way held old new made is = record {
   clean = made.clean;
   before = made.before;

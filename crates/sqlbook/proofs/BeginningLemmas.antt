@@ -4,22 +4,22 @@ use Rattle.std.proofs.lemmas.Bool.{and_parts}
 use Rattle.sqlite.proofs.ListingLemmas.{empty_is_sound}
 use Rattle.sqlite_trees.specs.Objects.{catalog_tree}
 use Rattle.sqlite_trees.specs.Tree.{Trees}
-use Rattle.rows.specs.Columns.{no_schema}
+use Rattle.sqlrows.specs.Columns.{no_schema}
 use Rattle.store.specs.Book.{BookState, Stored, nothing}
 use Rattle.store.specs.Kept.{stands}
-use Rattle.tables.specs.Adoption.{IsAdopted, IsTakenAs}
-use Rattle.tables.specs.Content.{Content}
-use Rattle.tables.specs.Readiness.{IsKnownAs}
-use Rattle.tables.specs.Stored.{fresh}
-use Rattle.tables.specs.Tables.{registry}
-use Rattle.tables.proofs.AdoptedLemmas.{schema_once, some-tables}
+use Rattle.sqltables.specs.Adoption.{IsAdopted, IsTakenAs}
+use Rattle.sqltables.specs.Content.{Content}
+use Rattle.sqltables.specs.Readiness.{IsKnownAs}
+use Rattle.sqltables.specs.Stored.{fresh}
+use Rattle.sqltables.specs.Tables.{registry}
+use Rattle.sqltables.proofs.AdoptedLemmas.{schema_once, some-tables}
 use Rattle.transactions.specs.declared.readiness.Ready.{Ready}
 use Rattle.transactions.specs.declared.readiness.Ready.TheVariants.{Empty, Used, Other}
 use Rattle.transactions.specs.States.{Remains, StateOf}
 use Rattle.sqlbook.specs.Beginning.{IsAdoptedBook, IsFoundNew, IsTaken, IsTakenFrom}
 use Rattle.sqlbook.specs.Meaning.{are_right, stored_of}
-use Rattle.sqlbook.specs.Seen.{are_all_right, meant, seen}
-use Rattle.sqlbook.specs.Steady.{IsSteady}
+use Rattle.sqlbook.specs.AsBook.{are_all_right, meant, as_book}
+use Rattle.sqlbook.specs.BetweenCalls.{IsBetweenCalls}
 
 taken-as : (r : Ready) (trees : Trees) (x : Content) → IsTakenAs r trees x → IsTaken r trees (stored_of x)
 taken-as Empty trees x it = ap stored_of it
@@ -40,7 +40,7 @@ module _ (trees : Trees) (rows : StateOf Content) (adopted : IsAdopted trees row
   clean_if_right honest right = ap (λ b. b && are_right rows.before) (adopted.answers honest) ∙ ap are_right adopted.before ∙ right
 
   -- its sums are as right as they were, and so they are wherever a crash may leave them
-  pub steady_adopted : IsSteady false are_right rows
+  pub steady_adopted : IsBetweenCalls false are_right rows
   steady_adopted = record {
     sums = λ clean. sym (ap are_right adopted.before);
     idle = λ closed. adopted.before;
@@ -52,7 +52,7 @@ module _ (trees : Trees) (rows : StateOf Content) (adopted : IsAdopted trees row
   right-rows : rows.is_clean ≡ true → are_all_right are_right rows.crash_leaves ≡ true → are_right rows.content ≡ true
   right-rows clean e = (and_parts (are_right rows.content) true (subst (λ (leaves : List (Remains Content)). are_all_right are_right leaves ≡ true) (adopted.leaves clean) e)).0
 
-  pub taken_from : (refused : ℕ) → refused ≡ 0 → IsTakenFrom trees (stands (seen stored_of are_right rows) refused)
+  pub taken_from : (refused : ℕ) → refused ≡ 0 → IsTakenFrom trees (stands (as_book stored_of are_right rows) refused)
   taken_from refused none = record {
     idle = adopted.idle;
     before = ap stored_of adopted.before;

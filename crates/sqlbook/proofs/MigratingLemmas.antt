@@ -8,35 +8,37 @@ use Rattle.sqlite_keyed.specs.Keyed.{IsKeyedBy}
 use Rattle.sqlite_keyed.proofs.ListLemmas.{ascending-map}
 use Rattle.accounts.specs.Lines.{balance, in_order}
 use Rattle.basis.specs.Bag.{bag_of}
-use Rattle.columns.specs.Lines.{line_in}
-use Rattle.columns.specs.Numbers.{registrar_in}
+use Rattle.sqlcolumns.specs.Lines.{line_in}
+use Rattle.sqlcolumns.specs.Numbers.{registrar_in}
 use Rattle.policy.specs.Rules.{PolicyRules}
 use Rattle.policy.specs.declared.schedule.Schedule.{Schedule}
-use Rattle.tables.specs.Account.{Account, accounts}
-use Rattle.tables.specs.Address.{addresses}
-use Rattle.tables.specs.Contact.{contacts}
-use Rattle.tables.specs.Content.{Content, no_content}
-use Rattle.tables.specs.Day.{Day}
-use Rattle.tables.specs.Domain.{domains}
-use Rattle.tables.specs.Host.{hosts}
-use Rattle.tables.specs.Line.{line_with_account, lines}
-use Rattle.tables.specs.Line as table
-use Rattle.tables.specs.Link.{links}
-use Rattle.tables.specs.Message.{messages}
-use Rattle.tables.specs.Meta.{Meta, metas}
-use Rattle.tables.specs.Readiness.{may_be_numbered}
-use Rattle.tables.specs.Transfer.{transfers}
+use Rattle.sqltables.specs.Account.{Account, accounts}
+use Rattle.sqltables.specs.Address.{addresses}
+use Rattle.sqltables.specs.Contact.{contacts}
+use Rattle.sqltables.specs.Content.{Content, no_content}
+use Rattle.sqltables.specs.Day.{Day}
+use Rattle.sqltables.specs.inner.Domain.{domains}
+use Rattle.sqltables.specs.Host.{hosts}
+use Rattle.sqltables.specs.Line.{line_with_account, lines}
+use Rattle.sqltables.specs.Line as table
+use Rattle.sqltables.specs.Link.{links}
+use Rattle.sqltables.specs.inner.Message.{messages}
+use Rattle.sqltables.specs.Meta.{Meta, metas}
+use Rattle.sqltables.specs.Readiness.{may_be_numbered}
+use Rattle.sqltables.specs.Transfer.{transfers}
 use Rattle.transactions.specs.declared.fault.BookFault.{BookFault}
 use Rattle.transactions.specs.declared.fault.BookFault.TheVariants as faults
 use Rattle.transactions.specs.States.{Closes, Fails, Has, Keeps, LeavesSame, Reads, Remains, Starts, StateOf, Stays}
 use Rattle.transactions.proofs.LeavingLemmas.{leaves-on}
-use Rattle.oldrows.specs.Copies.{Copies, IsCopied, IsLeft, put_of_all, renumbered}
-use Rattle.oldrows.specs.Stored.{IsOldContent, IsRead, OldState}
+use Rattle.oldrows.specs.inner.Copies.{Copies, IsCopied, IsLeft, put_of_all}
+use Rattle.oldrows.specs.Copies.{renumbered}
+use Rattle.oldrows.specs.inner.Stored.{IsOldContent}
+use Rattle.oldrows.specs.Stored.{IsRead, OldState}
 use Rattle.oldrows.proofs.CopyLemmas.{put-keyed, read-on}
 use Rattle.sqlaccounts.specs.Accounts.{account_in, accounts_of, balance_in, entries_of, has_right_sums, is_right, lines_of, queue_of, row_of, sums_are_right}
 use Rattle.sqldomains.specs.Domains.{domains_of}
-use Rattle.sqldue.specs.Dues.{dues_are_right}
-use Rattle.sqlheld.specs.Held.{helds_are_right}
+use Rattle.sqlsums.specs.Dues.{dues_are_right}
+use Rattle.sqlsums.specs.Held.{helds_are_right}
 use Rattle.sqlobjects.specs.Objects.{contacts_of, hosts_of}
 use Rattle.sqlobjects.specs.Sponsors.{sponsors_are_right}
 use Rattle.sqlterms.specs.Clock.{clock_in}
@@ -45,8 +47,9 @@ use Rattle.sqlbook.specs.declared.migrating.MigrateFault.{MigrateFault}
 use Rattle.sqlbook.specs.declared.migrating.MigrateFault.TheVariants.{Policy, Schema, Memory, Store}
 use Rattle.sqlbook.specs.Graces.{with_grace_end}
 use Rattle.sqlbook.specs.Meaning.{are_right, stored_of}
-use Rattle.sqlbook.specs.Migrating.{AreAsked, EndsAs, IsMigrated, IsRefused, IsTakenOver, IsTried, IsUnsuited, Migrates, TakesOver, ended, fault_of, heads, numbered_anew, others, put_lines, redated, suits, suits_in, taken}
-use Rattle.sqlbook.specs.Seen.{Turns}
+use Rattle.sqlbook.specs.inner.Migrating.{AreAsked, EndsAs, IsRefused, IsTakenOver, TakesOver, heads, others, put_lines, taken}
+use Rattle.sqlbook.specs.Migrating.{IsMigrated, IsTried, IsUnsuited, Migrates, ended, fault_of, numbered_anew, redated, suits, suits_in}
+use Rattle.sqlbook.specs.AsBook.{HasMade}
 
 -- ---- the number of the schema says nothing of the registry
 
@@ -214,7 +217,7 @@ module _ (p : PolicyRules) (from read : OldState) (to written looked : StateOf C
   }
 
   pub taken-over : (more : OldState) (wrote dated : StateOf Content) → said ≡ true → IsCopied (λ c d. put_lines p.days c (put_of_all others c d)) read more looked wrote
-      → Turns stored_of are_right (redated p (stored_of wrote.content)) wrote dated → (dated.is_clean ≡ true → dated.content.lines ≡ wrote.content.lines) → IsTakenOver p from more to dated
+      → HasMade stored_of are_right (redated p (stored_of wrote.content)) wrote dated → (dated.is_clean ≡ true → dated.content.lines ≡ wrote.content.lines) → IsTakenOver p from more to dated
   taken-over more wrote dated so rest days kept = record {
     reads = read-on from read more copied.reads rest.reads;
     clean = λ e. copied.clean (found.0.clean (rest.clean (days.clean e)));

@@ -5,21 +5,21 @@ use Rattle.std.specs.Option.{unwrap_or}
 use Rattle.sqlite_keyed.specs.Keyed.{IsKeyedBy, get_by}
 use Rattle.sqlite_keyed.proofs.KeyedLemmas.{same_int}
 use Rattle.store.specs.Tables.{account_opened}
-use Rattle.tables.specs.Account as table
-use Rattle.tables.specs.Content.{Content}
-use Rattle.tables.specs.Readiness.{may_be_numbered}
-use Rattle.tables.specs.Meta.{Meta}
-use Rattle.tables.specs.Whole.{IsWhole}
+use Rattle.sqltables.specs.Account as table
+use Rattle.sqltables.specs.Content.{Content}
+use Rattle.sqltables.specs.Readiness.{may_be_numbered}
+use Rattle.sqltables.specs.Meta.{Meta}
+use Rattle.sqltables.specs.inner.Whole.{IsWhole}
 use Rattle.sqlaccounts.specs.Accounts.{row_of}
-use Rattle.sqlaccounts.specs.Changes.{IsOpened, opened_row}
+use Rattle.sqlaccounts.specs.inner.Changes.{IsOpened, opened_row}
 use Rattle.sqldomains.specs.Domains.{domains_of}
 use Rattle.sqldomains.proofs.SponsorLemmas.{sponsors-kept}
-use Rattle.sqlheld.proofs.KeptLemmas.{opening-kept}
+use Rattle.sqlsums.proofs.KeptLemmas.{opening-kept}
 use Rattle.sqlobjects.specs.Objects.{contacts_of, hosts_of}
 use Rattle.sqlterms.specs.Clock.{clock_of}
 use Rattle.sqlterms.specs.Meta.{meta_of}
 use Rattle.sqlterms.specs.Terms.{ids_behind, ids_in, is_unnamed, prices_in, reserved_in, schedule_in, terms_in, terms_made, terms_of}
-use Rattle.sqldue.specs.Dues.{dues_are_right}
+use Rattle.sqlsums.specs.Dues.{dues_are_right}
 use Rattle.sqlbook.specs.Meaning.{are_right, stored_of}
 use Rattle.sqlbook.proofs.AccountLemmas.{ident_in, key, not-there, same-ids}
 

@@ -3,7 +3,7 @@ use Rattle.std.proofs.Common.{◌≡◌, ℕ, true, pos, int_le, List, Some, sym
 use Rattle.std.specs.Cmp.Lexicographic.{nat_list_cmp_total, slice_cmp}
 use Rattle.std.specs.FinMap.{FinMap, get, nat_cmp-IsAntisymmetric, slice_cmp-IsAntisymmetric}
 use Rattle.std.specs.Ordering.{nat_cmp}
-use Rattle.columns.specs.Numbers.{moment_column}
+use Rattle.sqlcolumns.specs.Numbers.{moment_column}
 use Rattle.lifecycle.specs.Lapse.{due_at}
 use Rattle.lifecycle.specs.Periods.{rules_with}
 use Rattle.objects.specs.declared.domain.Domain.{Domain}
@@ -11,11 +11,11 @@ use Rattle.policy.specs.declared.schedule.Schedule.{Schedule}
 use Rattle.store.specs.Ledgers.{put}
 use Rattle.store.specs.Tables.{with_domains}
 use Rattle.store.proofs.PutLemmas.{put-back, put-put}
-use Rattle.tables.specs.Content.{Content}
+use Rattle.sqltables.specs.Content.{Content}
 use Rattle.sqldomains.specs.Domains.{domains_of}
 use Rattle.sqlbook.specs.Meaning.{stored_of}
-use Rattle.sqlbook.specs.Replacing.{IsReplaced}
-use Rattle.sqlbook.specs.Suiting.{MeansSame}
+use Rattle.sqlbook.specs.inner.Replacing.{IsReplaced}
+use Rattle.sqlbook.specs.inner.Suiting.{MeansSame}
 use Rattle.sqlbook.proofs.ReplacingLemmas.{early-of, replaced, replaced-days, replaced-lines, replaced-right}
 
 -- what is put where it stands

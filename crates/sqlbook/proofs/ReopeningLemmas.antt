@@ -13,13 +13,13 @@ use Rattle.sqlite.proofs.Theorems.{opens_again}
 use Rattle.std.specs.Bool.{IsTrue}
 use Rattle.policy.specs.declared.terms.Terms.{Terms}
 use Rattle.store.specs.Kept.{stands}
-use Rattle.tables.specs.Adoption.{IsAdopted}
-use Rattle.tables.specs.Content.{Content}
-use Rattle.tables.specs.Meta.{Meta}
-use Rattle.tables.specs.Readiness.{is_numbered, may_be_numbered}
-use Rattle.tables.specs.Reopening as rows
-use Rattle.tables.specs.Stored.{Covers}
-use Rattle.tables.proofs.ReopeningLemmas.{reopened}
+use Rattle.sqltables.specs.Adoption.{IsAdopted}
+use Rattle.sqltables.specs.Content.{Content}
+use Rattle.sqltables.specs.Meta.{Meta}
+use Rattle.sqltables.specs.Readiness.{is_numbered, may_be_numbered}
+use Rattle.sqltables.specs.inner.Reopening as rows
+use Rattle.sqltables.specs.Stored.{Covers}
+use Rattle.sqltables.proofs.ReopeningLemmas.{reopened}
 use Rattle.transactions.specs.declared.readiness.Ready.{Ready}
 use Rattle.transactions.specs.declared.readiness.Ready.TheVariants.{Empty, Used, Other}
 use Rattle.transactions.specs.States.{Has, Remains, StateOf}
@@ -27,7 +27,7 @@ use Rattle.sqlterms.specs.Terms.{terms_of}
 use Rattle.sqlbook.specs.Files.{IsFoundIn}
 use Rattle.sqlbook.specs.Meaning.{are_right, stored_of}
 use Rattle.store.specs.Reopening.{IsFoundAgain, IsReopened}
-use Rattle.sqlbook.specs.Seen.{are_all_right, meant, seen}
+use Rattle.sqlbook.specs.AsBook.{are_all_right, meant, as_book}
 
 one-right : (leaves : List (Remains Content)) (left : Remains Content) → Has leaves left → are_all_right are_right leaves ≡ true → are_right left.content ≡ true
 one-right [] left h e = absurd h
@@ -45,13 +45,13 @@ numbered-if xs terms [] is e some = absurd (let never : ◌≡◌ {A = Option Te
 numbered-if xs terms (meta ∷ more) is e some = e
 
 found-again : (new : StateOf Content) (refused : ℕ) (left : Remains Content) → are_right left.content ≡ true → new.is_clean ≡ true → new.before ≡ new.content
-    → rows.IsFoundAgain left.readiness left.content new.readiness new.content → IsFoundAgain left.readiness (stored_of left.content) (stands (seen stored_of are_right new) refused)
+    → rows.IsFoundAgain left.readiness left.content new.readiness new.content → IsFoundAgain left.readiness (stored_of left.content) (stands (as_book stored_of are_right new) refused)
 found-again new refused left right clean home found = go left.readiness found
   where
     whole : new.content ≡ left.content → (new.is_clean && are_right new.before) ≡ true
     whole same = ap (λ b. b && are_right new.before) clean ∙ ap are_right (home ∙ same) ∙ right
 
-    go : (r : Ready) → rows.IsFoundAgain r left.content new.readiness new.content → IsFoundAgain r (stored_of left.content) (stands (seen stored_of are_right new) refused)
+    go : (r : Ready) → rows.IsFoundAgain r left.content new.readiness new.content → IsFoundAgain r (stored_of left.content) (stands (as_book stored_of are_right new) refused)
     go Empty it = record { ready = it.0; content = ap stored_of it.1; clean = whole it.1 }
     go Used it = λ terms some.
         let same = it (numbered-if left.content terms left.content.metas refl (and_parts (may_be_numbered left.content.metas) _ right).0 some) in
@@ -60,9 +60,9 @@ found-again new refused left right clean home found = go left.readiness found
 
 -- From one run to the next: what a crash might have left of a book is found, where the database that is
 -- adopted is one that the connection of the other allowed.
-pub book-reopened : (old : StateOf Content) (may_leave : Trees → Type 0) (refused again : ℕ) → Covers old.crash_leaves may_leave → (seen stored_of are_right old).is_honest ≡ true
+pub book-reopened : (old : StateOf Content) (may_leave : Trees → Type 0) (refused again : ℕ) → Covers old.crash_leaves may_leave → (as_book stored_of are_right old).is_honest ≡ true
     → (trees : Trees) → may_leave trees → (new : StateOf Content) → IsAdopted trees new → new.is_clean ≡ true
-    → IsReopened (stands (seen stored_of are_right old) refused) (stands (seen stored_of are_right new) again)
+    → IsReopened (stands (as_book stored_of are_right old) refused) (stands (as_book stored_of are_right new) again)
 book-reopened old may_leave refused again covers honest trees may new adopted sure =
     let it = reopened old.crash_leaves may_leave trees new covers may adopted sure in
     let right = one-right old.crash_leaves it.0 it.1 (and_parts old.is_honest (are_all_right are_right old.crash_leaves) honest).1 in
@@ -70,8 +70,8 @@ book-reopened old may_leave refused again covers honest trees may new adopted su
 
 -- The same of files: where they hold what a crash could leave, and were opened, and adopted.
 pub file-reopened : {D : Type 0} {g : Ghosts D} (it : FileStore D g) → IsTrue (view it).is_numbered → AreDatabases (recovers it)
-    → (old : StateOf Content) (refused again : ℕ) → Covers old.crash_leaves (recovers it) → (seen stored_of are_right old).is_honest ≡ true
+    → (old : StateOf Content) (refused again : ℕ) → Covers old.crash_leaves (recovers it) → (as_book stored_of are_right old).is_honest ≡ true
     → (image : Image) → (files.state it).may_leave image → (trees : Trees) → IsFoundIn image trees → (new : StateOf Content) → IsAdopted trees new → new.is_clean ≡ true
-    → ∥ IsReopened (stands (seen stored_of are_right old) refused) (stands (seen stored_of are_right new) again) ∥₁
+    → ∥ IsReopened (stands (as_book stored_of are_right old) refused) (stands (as_book stored_of are_right new) again) ∥₁
 file-reopened it numbered sound old refused again covers honest image may trees found new adopted sure =
     ∥∥₁_map (opens_again it numbered sound image may) (λ db. book-reopened old (recovers it) refused again covers honest trees (subst (recovers it) (sym (found db.0 db.2)) db.1) new adopted sure)

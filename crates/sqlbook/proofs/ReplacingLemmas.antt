@@ -7,36 +7,37 @@ use Rattle.std.specs.Option.{option_map_or}
 use Rattle.std.specs.Ordering.{eq_by_cmp, nat_cmp}
 use Rattle.std.specs.Prelude.{int_le, pos}
 use Rattle.sqlite_rules.specs.Lists.{Has}
-use Rattle.columns.specs.Numbers.{moment_column}
-use Rattle.columns.proofs.ReadLemmas.{same_some}
+use Rattle.sqlcolumns.specs.Numbers.{moment_column}
+use Rattle.sqlcolumns.proofs.ReadLemmas.{same_some}
 use Rattle.lifecycle.specs.Lapse.{due_at}
 use Rattle.lifecycle.specs.Periods.{rules_with}
 use Rattle.objects.specs.declared.domain.Domain.{Domain}
 use Rattle.policy.specs.declared.schedule.Schedule.{Schedule}
 use Rattle.store.specs.Tables.{domain_put}
-use Rattle.tables.specs.Content.{Content}
-use Rattle.tables.specs.Readiness.{may_be_numbered}
-use Rattle.tables.specs.Domain as table
-use Rattle.tables.specs.Host as host_table
-use Rattle.tables.specs.Whole.{IsWhole}
-use Rattle.meanings.specs.Read.{first_read, or_else}
+use Rattle.sqltables.specs.Content.{Content}
+use Rattle.sqltables.specs.Readiness.{may_be_numbered}
+use Rattle.sqltables.specs.Domain as table
+use Rattle.sqltables.specs.inner.Domain as inner_table
+use Rattle.sqltables.specs.Host as host_table
+use Rattle.sqltables.specs.inner.Whole.{IsWhole}
+use Rattle.sqlrows.specs.Read.{first_read, or_else}
 use Rattle.sqldomains.specs.Domains.{domain_of, domains_of}
-use Rattle.sqldomains.specs.Changes.{IsDomainPut, sponsor_in}
+use Rattle.sqldomains.specs.inner.Changes.{IsDomainPut, sponsor_in}
 use Rattle.sqldomains.proofs.FoundLemmas.{domain-named}
 use Rattle.sqldomains.proofs.FrameLemmas.{follow-leaves-domains, follow-leaves-reading}
 use Rattle.sqldomains.proofs.SponsorLemmas.{domain-sponsors}
 use Rattle.sqlaccounts.specs.Accounts.{accounts_of, sums_are_right}
-use Rattle.sqlheld.specs.Held.{helds_are_right}
-use Rattle.sqlheld.proofs.KeptLemmas.{accounts-kept}
+use Rattle.sqlsums.specs.Held.{helds_are_right}
+use Rattle.sqlsums.proofs.KeptLemmas.{accounts-kept}
 use Rattle.sqlobjects.proofs.PutLemmas.{only_named}
-use Rattle.sqlobjects.specs.Changes.{put}
+use Rattle.sqlobjects.specs.inner.Changes.{put}
 use Rattle.sqlobjects.specs.Objects.{contacts_of}
 use Rattle.sqlobjects.specs.Sponsors.{sponsors_are_right}
 use Rattle.sqlterms.specs.Clock.{clock_of}
-use Rattle.sqldue.specs.Dues.{dues_are_right, is_due_right}
+use Rattle.sqlsums.specs.Dues.{dues_are_right, is_due_right}
 use Rattle.sqlterms.specs.Terms.{days_of, terms_of}
 use Rattle.sqlbook.specs.Meaning.{are_right, stored_of}
-use Rattle.sqlbook.specs.Replacing.{IsExchangedThere, IsReplaced, due_with}
+use Rattle.sqlbook.specs.inner.Replacing.{IsExchangedThere, IsReplaced, due_with}
 use Rattle.sqlbook.proofs.DomainLemmas.{domain-changed, domain-right}
 use Rattle.sqlbook.proofs.ObjectLemmas.{dues-where}
 
@@ -49,7 +50,7 @@ days-are (Some d) days these is e = sym (same_some d days e) ∙ is
 
 reading-is : (xs : Content) (row : table.Domain) → IsWhole xs → Has xs.domains row → domain_of xs row ≡ get (domains_of xs) row.name
 reading-is xs row whole there =
-    let alone = only_named table.domains.key (λ (r : table.Domain). r.name) xs.domains row whole.keyed.domains whole.named.domains there in
+    let alone = only_named inner_table.domains.key (λ (r : table.Domain). r.name) xs.domains row whole.keyed.domains whole.named.domains there in
     sym (alone-read (domain_of xs row)) ∙ sym (ap (first_read (domain_of xs)) alone) ∙ domain-named xs row.name
   where
     alone-read : (o : Option Domain) → or_else o None ≡ o

@@ -4,8 +4,8 @@ use Rattle.std.proofs.lemmas.Bool.{and_parts}
 use Rattle.transactions.specs.declared.fault.BookFault.{BookFault}
 use Rattle.transactions.specs.States.{Closes, Ends, Fails, Has, IsIdle, Keeps, Notes, Remains, StateOf, holding}
 use Rattle.transactions.proofs.LeavingLemmas.{has-alone, has-either}
-use Rattle.sqlbook.specs.Seen.{are_all_right, meant, seen}
-use Rattle.sqlbook.specs.Steady.{GoesOn, IsSteady}
+use Rattle.sqlbook.specs.AsBook.{are_all_right, meant, as_book}
+use Rattle.sqlbook.specs.BetweenCalls.{UndoneIfFault, IsBetweenCalls}
 
 both-true : (a b : Bool) → a ≡ true → b ≡ true → (a && b) ≡ true
 both-true a b x y = ap (λ c. c && b) x ∙ y
@@ -31,7 +31,7 @@ meant-more : {C X : Type 0} (means : C → X) (leaves : List (Remains C)) (left 
 meant-more means [] left = refl
 meant-more means (one ∷ leaves) left = ap (λ l. meant means one ∷ l) (meant-more means leaves left)
 
-module _ {C X : Type 0} (means : C → X) (right : C → Bool) (is_made : Bool) (old : StateOf C) (steady : IsSteady is_made right old) where
+module _ {C X : Type 0} (means : C → X) (right : C → Bool) (is_made : Bool) (old : StateOf C) (steady : IsBetweenCalls is_made right old) where
   -- ---- what was held is kept
   module _ (new : StateOf C) (keeps : Keeps old new) (noted : new.crash_leaves ≡ holding old.content ∷ []) (idle : IsIdle new) where
     kept-home : new.is_clean ≡ true → new.before ≡ old.content
@@ -43,7 +43,7 @@ module _ {C X : Type 0} (means : C → X) (right : C → Bool) (is_made : Bool) 
     pub leaves-kept : new.is_clean ≡ true → are_all_right right new.crash_leaves ≡ right new.before
     leaves-kept e = right-kept ∙ ap right (sym (kept-home e))
 
-    pub keeps-seen : Keeps (seen means right old) (seen means right new)
+    pub keeps-seen : Keeps (as_book means right old) (as_book means right new)
     keeps-seen = record {
       clean = λ e.
           let p = and_parts new.is_clean (right new.before) e in
@@ -90,7 +90,7 @@ module _ {C X : Type 0} (means : C → X) (right : C → Bool) (is_made : Bool) 
               ∙ twice (are_all_right right old.crash_leaves) (right old.content) (right old.before) (steady.leaves was) (steady.sums was) ∙ ap right (sym (failed-home e))
         ]
 
-    pub fails-seen : Fails (seen means right old) (seen means right new)
+    pub fails-seen : Fails (as_book means right old) (as_book means right new)
     fails-seen = record {
       clean = λ e.
           let p = and_parts new.is_clean (right new.before) e in
@@ -113,11 +113,11 @@ module _ {C X : Type 0} (means : C → X) (right : C → Bool) (is_made : Bool) 
 
   -- ---- either
 
-  pub ends-seen : {A : Type 0} (r : Result A BookFault) (mid new : StateOf C) → Ends r old mid → Notes r old mid → GoesOn r mid new → IsIdle new → Ends r (seen means right old) (seen means right new)
+  pub ends-seen : {A : Type 0} (r : Result A BookFault) (mid new : StateOf C) → Ends r old mid → Notes r old mid → UndoneIfFault r mid new → IsIdle new → Ends r (as_book means right old) (as_book means right new)
   ends-seen (Ok done) mid new ends noted same idle = keeps-seen new (subst (Keeps old) (sym same) ends) (ap (λ (s : StateOf C). s.crash_leaves) same ∙ noted) idle
   ends-seen (Err fault) mid new ends noted closes idle = fails-seen mid new ends noted closes idle
 
-  pub steady-ended : {A : Type 0} (r : Result A BookFault) (mid new : StateOf C) → Ends r old mid → Notes r old mid → GoesOn r mid new → IsIdle new → (is_made ≡ true → new.is_clean ≡ true) → IsSteady is_made right new
+  pub steady-ended : {A : Type 0} (r : Result A BookFault) (mid new : StateOf C) → Ends r old mid → Notes r old mid → UndoneIfFault r mid new → IsIdle new → (is_made ≡ true → new.is_clean ≡ true) → IsBetweenCalls is_made right new
   steady-ended (Ok done) mid new ends noted same idle clean =
       let keeps = subst (Keeps old) (sym same) ends in
       let alone = ap (λ (s : StateOf C). s.crash_leaves) same ∙ noted in

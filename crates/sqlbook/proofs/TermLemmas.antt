@@ -7,27 +7,28 @@ use Rattle.policy.specs.declared.schedule.Schedule.{Schedule}
 use Rattle.policy.specs.declared.terms.Terms.{Terms}
 use Rattle.store.specs.Book.{with_terms}
 use Rattle.store.specs.Tables.{clock_set}
-use Rattle.tables.specs.Account as table
-use Rattle.tables.specs.Content.{Content}
+use Rattle.sqltables.specs.Account as table
+use Rattle.sqltables.specs.Content.{Content}
 use Rattle.sqlaccounts.specs.Accounts.{accounts_of, sums_are_right}
 use Rattle.sqldomains.specs.Domains.{domains_of}
-use Rattle.sqlheld.specs.Held.{helds_are_right}
-use Rattle.sqlheld.proofs.KeptLemmas.{columns-kept}
+use Rattle.sqlsums.specs.Held.{helds_are_right}
+use Rattle.sqlsums.proofs.KeptLemmas.{columns-kept}
 use Rattle.sqlobjects.specs.Objects.{contacts_of, hosts_of}
 use Rattle.sqlobjects.specs.Sponsors.{sponsors_are_right}
-use Rattle.sqlterms.specs.Changes.{IsClockSet, IsTermsSet, nameless}
+use Rattle.sqlterms.specs.inner.Changes.{IsClockSet, IsTermsSet, nameless}
 use Rattle.sqlterms.specs.Terms.{days_of}
-use Rattle.sqldue.specs.Dues.{dues_are_right, is_due_right}
+use Rattle.sqlsums.specs.Dues.{dues_are_right, is_due_right}
 use Rattle.sqlbook.specs.Meaning.{are_right, stored_of}
-use Rattle.sqldue.proofs.RedateLemmas.{dues-by-both}
-use Rattle.sqldue.specs.Redates.{ends_are, ends_are_right}
+use Rattle.sqlsums.proofs.RedateLemmas.{dues-by-both}
+use Rattle.sqlsums.specs.Redates.{ends_are, ends_are_right}
 use Rattle.sqlobjects.proofs.StepLemmas.{asked-then, asked-turns}
-use Rattle.meanings.specs.Calls.{Became, Turns}
-use Rattle.meanings.proofs.StateLemmas.{reads-on}
+use Rattle.sqlrows.specs.Meanings.{HasChanged, Changes}
+use Rattle.sqlrows.proofs.StateLemmas.{reads-on}
 use Rattle.transactions.specs.declared.fault.BookFault.{BookFault}
 use Rattle.transactions.specs.States.{Reads, StateOf}
 use Rattle.transactions.proofs.LeavingLemmas.{leaves-on}
-use Rattle.sqlbook.specs.Suiting.{AreRedated, IsSetDown, IsSetOver, MeansSame, SuitDomains}
+use Rattle.sqlbook.specs.Suiting.{AreRedated}
+use Rattle.sqlbook.specs.inner.Suiting.{IsSetDown, IsSetOver, MeansSame, SuitDomains}
 use Rattle.sqlbook.proofs.AccountLemmas.{key}
 
 -- ---- another clock
@@ -121,8 +122,8 @@ set-between value a b c d before it after = record {
 }
 
 -- each deleted domain is put again before and after, and then looked at
-pub others-set : (before : Schedule) (value : Terms) (a b c d e : StateOf Content) → Became MeansSame a b → Became (λ x y. days_of x ≡ Some before → IsSetDown value x y) b c → Became MeansSame c d
-    → Reads d e → (e.is_clean ≡ true → ends_are value.days d.content ≡ true) → Became (λ x y. days_of x ≡ Some before → IsSetOver (Some before) value x y) a e
+pub others-set : (before : Schedule) (value : Terms) (a b c d e : StateOf Content) → HasChanged MeansSame a b → HasChanged (λ x y. days_of x ≡ Some before → IsSetDown value x y) b c → HasChanged MeansSame c d
+    → Reads d e → (e.is_clean ≡ true → ends_are value.days d.content ≡ true) → HasChanged (λ x y. days_of x ≡ Some before → IsSetOver (Some before) value x y) a e
 others-set before value a b c d e one two three reads are = record {
   clean = λ t. one.clean (two.clean (three.clean (reads.clean t)));
   before = λ t. let w = reads.clean t in reads.before t ∙ three.before w ∙ two.before (three.clean w) ∙ one.before (two.clean (three.clean w));
@@ -141,7 +142,7 @@ others-set before value a b c d e one two three reads are = record {
 
 -- the columns of deleted domains are looked at twice, and then terms are put down
 pub suited-set : (before : Schedule) (value : Terms) (a b c d : StateOf Content) → Reads a b × (b.is_clean ≡ true → ends_are_right before a.content ≡ true)
-    → Reads b c × (c.is_clean ≡ true → ends_are_right value.days b.content ≡ true) → Became (IsTermsSet value) c d → Became (λ x y. days_of x ≡ Some before → IsSetDown value x y) a d
+    → Reads b c × (c.is_clean ≡ true → ends_are_right value.days b.content ≡ true) → HasChanged (IsTermsSet value) c d → HasChanged (λ x y. days_of x ≡ Some before → IsSetDown value x y) a d
 suited-set before value a b c d first second made =
     asked-then (IsTermsSet value) (λ x y. days_of x ≡ Some before → IsSetDown value x y) a c d (reads-on a b c first.0 second.0) made
     (λ t it were.
@@ -151,7 +152,7 @@ suited-set before value a b c d first second made =
 
 -- ---- one way of a change is another
 
-pub turned : {A C : Type 0} (r : Result A BookFault) (one two : C → C → Type 0) (a b : StateOf C) → Turns r one a b → (b.is_clean ≡ true → one a.content b.content → two a.content b.content) → Turns r two a b
+pub turned : {A C : Type 0} (r : Result A BookFault) (one two : C → C → Type 0) (a b : StateOf C) → Changes r one a b → (b.is_clean ≡ true → one a.content b.content → two a.content b.content) → Changes r two a b
 turned (Ok done) one two a b made so = record { clean = made.clean; before = made.before; opened = made.opened; content = λ e. so e (made.content e); answers = made.answers; leaves = made.leaves }
 turned (Err fault) one two a b stays so = stays
 
@@ -160,13 +161,13 @@ module _ (value : Terms) (before : Option Schedule) (old mid new : StateOf Conte
   abbrev pub Over : Content → Content → Type 0
   Over a b = days_of a ≡ before → IsSetOver before value a b
 
-  pub set-over : {A : Type 0} (r : Result A BookFault) → Turns r Over mid new → Turns r (IsSetOver before value) old new
+  pub set-over : {A : Type 0} (r : Result A BookFault) → Changes r Over mid new → Changes r (IsSetOver before value) old new
   set-over r made = asked-turns r Over (IsSetOver before value) old mid new asked.0 made (λ w it. it (sym (asked.1 w)))
 
-  pub over-lines : {A : Type 0} (r : Result A BookFault) → Turns r Over mid new → IfOk r (λ done. new.is_clean ≡ true → new.content.lines ≡ old.content.lines)
+  pub over-lines : {A : Type 0} (r : Result A BookFault) → Changes r Over mid new → IfOk r (λ done. new.is_clean ≡ true → new.content.lines ≡ old.content.lines)
   over-lines (Ok done) made = λ t. ((set-over (Ok done) made).content t).set.lines
   over-lines (Err fault) made = tt
 
-  pub over-ends : {A : Type 0} (r : Result A BookFault) → Turns r Over mid new → IfOk r (λ done. new.is_clean ≡ true → AreRedated (days_of old.content) value.days new.content)
+  pub over-ends : {A : Type 0} (r : Result A BookFault) → Changes r Over mid new → IfOk r (λ done. new.is_clean ≡ true → AreRedated (days_of old.content) value.days new.content)
   over-ends (Ok done) made = λ t. subst (λ o. AreRedated o value.days new.content) (asked.1 (made.clean t)) ((set-over (Ok done) made).content t).ends
   over-ends (Err fault) made = tt

@@ -4,15 +4,15 @@ use Rattle.sqlite_trees.specs.Objects.{catalog_tree}
 use Rattle.sqlite_trees.specs.Tree.{Trees}
 use Rattle.store.specs.Book.{BookState, Stored, nothing}
 use Rattle.store.specs.Kept.{stands}
-use Rattle.tables.specs.Adoption.{IsAdopted}
-use Rattle.tables.specs.Content.{Content}
-use Rattle.tables.specs.Decoding.{contents}
-use Rattle.tables.specs.Readiness.{IsKnownAs}
+use Rattle.sqltables.specs.Adoption.{IsAdopted}
+use Rattle.sqltables.specs.Content.{Content}
+use Rattle.sqltables.specs.Decoding.{contents}
+use Rattle.sqltables.specs.Readiness.{IsKnownAs}
 use Rattle.transactions.specs.declared.readiness.Ready.{Ready}
 use Rattle.transactions.specs.declared.readiness.Ready.TheVariants.{Empty, Used, Other}
 use Rattle.transactions.specs.States.{StateOf}
 use Rattle.sqlbook.specs.Meaning.{are_right, stored_of}
-use Rattle.sqlbook.specs.Seen.{seen}
+use Rattle.sqlbook.specs.AsBook.{as_book}
 
 -- nothing is in it, it was never opened, and nothing wrong was taken
 pub record IsUnused (s : BookState) : Type 0 where
@@ -50,9 +50,9 @@ IsFoundNew trees s =
 -- A book over rows that were taken up of these trees, which are a registry's of this program or nothing's yet: what
 -- the book is and what the rows are; and it answers where its disk told the truth and the stored sums are right.
 pub record IsAdoptedBook (trees : Trees) (rows : StateOf Content) (refused : ℕ) : Type 0 where
-  pub book : IsTakenFrom trees (stands (seen stored_of are_right rows) refused)
+  pub book : IsTakenFrom trees (stands (as_book stored_of are_right rows) refused)
   pub adopted : IsAdopted trees rows
   pub ours : rows.readiness ≢ Other
   pub answers : rows.is_honest ≡ true → are_right rows.content ≡ true
-      → (stands (seen stored_of are_right rows) refused).is_clean ≡ true
-  pub fresh : IsFoundNew trees (stands (seen stored_of are_right rows) refused)
+      → (stands (as_book stored_of are_right rows) refused).is_clean ≡ true
+  pub fresh : IsFoundNew trees (stands (as_book stored_of are_right rows) refused)

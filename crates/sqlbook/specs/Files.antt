@@ -9,14 +9,14 @@ use Rattle.sqlite_trees.specs.Tree.{Trees}
 use Rattle.sqlite.specs.Files.{AreFoundIn, HoldsDatabase}
 use Rattle.store.specs.Book.{BookState}
 use Rattle.store.specs.Kept.{stands}
-use Rattle.tables.specs.Adoption.{IsAdopted}
-use Rattle.tables.specs.Content.{Content}
-use Rattle.tables.specs.Stored.{fresh}
+use Rattle.sqltables.specs.Adoption.{IsAdopted}
+use Rattle.sqltables.specs.Content.{Content}
+use Rattle.sqltables.specs.Stored.{fresh}
 use Rattle.transactions.specs.declared.readiness.Ready.TheVariants.{Empty}
 use Rattle.transactions.specs.States.{StateOf}
 use Rattle.sqlbook.specs.Meaning.{are_right, stored_of}
 use Rattle.store.specs.Reopening.{IsReopened}
-use Rattle.sqlbook.specs.Seen.{seen}
+use Rattle.sqlbook.specs.AsBook.{as_book}
 
 -- what an opening finds that finds the database which the files hold, if they hold one
 abbrev pub IsFoundIn : Image → Trees → Type 0
@@ -27,7 +27,7 @@ abbrev pub IsLeftIn : {D : Type 0} → Ghosts D → Files D → BookState → Ty
 IsLeftIn g files old =
     (image : Image) → outcomes g files.log files.db image → (trees : Trees) → IsFoundIn image trees
     → (new : StateOf Content) (again : ℕ) → IsAdopted trees new → new.is_clean ≡ true
-    → ∥ IsReopened old (stands (seen stored_of are_right new) again) ∥₁
+    → ∥ IsReopened old (stands (as_book stored_of are_right new) again) ∥₁
 
 -- Rows that were adopted from files which hold this: a database that was found, or nothing, of which nothing is seen.
 pub record AreTakenIn (image : Image) (s : StateOf Content) : Type 0 where

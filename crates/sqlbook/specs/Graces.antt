@@ -2,13 +2,13 @@
 use Rattle.std.specs.Prelude.{ℕ, Option, Some, None, option_and_then}
 use Rattle.calendar.specs.Moment.{capped}
 use Rattle.accounts.specs.declared.line.Line.{Line}
-use Rattle.columns.specs.Lines.{line_in}
-use Rattle.columns.specs.Numbers.{maybe_moment_column}
+use Rattle.sqlcolumns.specs.Lines.{line_in}
+use Rattle.sqlcolumns.specs.Numbers.{maybe_moment_column}
 use Rattle.lifecycle.specs.Graces.{period_of}
 use Rattle.lifecycle.specs.Periods.{end, rules_with}
 use Rattle.policy.specs.declared.days.Period.{Period}
 use Rattle.policy.specs.declared.schedule.Schedule.{Schedule}
-use Rattle.tables.specs.Line as table
+use Rattle.sqltables.specs.Line as table
 
 abbrev pub end_from : Schedule → Option Period → Option ℕ → Option ℕ
 end_from days None start = None

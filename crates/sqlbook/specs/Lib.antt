@@ -1,10 +1,9 @@
 pub mod Beginning
-pub mod Counting
-pub mod Seen
 pub mod Meaning
 pub mod Graces
 pub mod Migrating
-pub mod Replacing
-pub mod Steady
 pub mod Suiting
 pub mod Files
+pub mod BetweenCalls
+pub mod AsBook
+pub mod inner

@@ -1,44 +1,10 @@
 -- Which days may be put down, and what is then.
-use Rattle.std.specs.Prelude.{◌≡◌, ◌⊎◌, ⊤, true, [], Option, Some, None}
+use Rattle.std.specs.Prelude.{◌≡◌, ◌⊎◌, ⊤, true, Option, Some, None}
 use Rattle.policy.specs.declared.schedule.Schedule.{Schedule}
-use Rattle.policy.specs.declared.terms.Terms.{Terms}
-use Rattle.store.specs.Book.{with_terms}
-use Rattle.tables.specs.Content.{Content}
-use Rattle.sqldue.specs.Redates.{ends_are, ends_are_right}
-use Rattle.sqlterms.specs.Terms.{days_of}
-use Rattle.sqlbook.specs.Meaning.{are_right, stored_of}
-
--- others, where the columns of deleted domains are right under both
-pub record AreOthers (days : Schedule) (xs : Content) : Type 0 where
-  pub before : Schedule
-  pub were : days_of xs ≡ Some before
-  pub right_before : ends_are_right before xs ≡ true
-  pub right_after : ends_are_right days xs ≡ true
-
--- those that were, or any where no domain is there, or others that suit
-abbrev pub SuitDomains : Schedule → Content → Type 0
-SuitDomains days xs = (days_of xs ≡ Some days) ⊎ ((xs.domains ≡ []) ⊎ AreOthers days xs)
+use Rattle.sqltables.specs.Content.{Content}
+use Rattle.sqlsums.specs.Redates.{ends_are}
 
 -- where other days are put down than were, each deleted domain's row says when it is purged by these
 abbrev pub AreRedated : Option Schedule → Schedule → Content → Type 0
 AreRedated None days new = ⊤
 AreRedated (Some before) days new = (before ≡ days) ⊎ (ends_are days new ≡ true)
-
--- rows mean the same, and their sums are as right
-pub record MeansSame (old new : Content) : Type 0 where
-  pub stored : stored_of new ≡ stored_of old
-  pub sums : are_right new ≡ are_right old
-  pub days : days_of new ≡ days_of old
-  pub lines : new.lines ≡ old.lines
-
--- terms were put down
-pub record IsSetDown (value : Terms) (old new : Content) : Type 0 where
-  pub stored : stored_of new ≡ with_terms value (stored_of old)
-  pub sums : are_right new ≡ are_right old
-  pub days : days_of new ≡ Some value.days
-  pub lines : new.lines ≡ old.lines
-
--- the same, with what was put down before
-pub record IsSetOver (before : Option Schedule) (value : Terms) (old new : Content) : Type 0 where
-  pub set : IsSetDown value old new
-  pub ends : AreRedated before value.days new

@@ -5,38 +5,38 @@ ghost use Rattle.store.specs.Kept.{stands};
 ghost use Rattle.sqlite.specs.State.{HasCleanDisk};
 ghost use Rattle.sqlite_trees.specs.Tree.{Trees};
 ghost use Rattle.sqlite_trees.specs.View.{IsClean};
-ghost use Rattle.tables.specs.Adoption.{IsAdopted, IsFound, LeavesAsFound, LeavesAsItWas};
-ghost use Rattle.tables.specs.Readiness.{IsKnownAs};
-ghost use Rattle.tables.specs.Stored.{Covers};
+ghost use Rattle.sqltables.specs.Adoption.{IsAdopted, IsFound, LeavesAsFound, LeavesAsItWas};
+ghost use Rattle.sqltables.specs.Readiness.{IsKnownAs};
+ghost use Rattle.sqltables.specs.Stored.{Covers};
 ghost use Rattle.sqlbook.specs.Beginning.{IsAdoptedBook, IsUnused};
 ghost use Rattle.sqlbook.specs.Meaning.{are_right, stored_of};
-ghost use Rattle.sqlbook.specs.Seen.{seen};
+ghost use Rattle.sqlbook.specs.AsBook.{as_book};
 
-use crate::origin::{Found, Made, Origin};
+use crate::provenance::{InMemory, OnDisk, Provenance};
 use crate::records::SqlRecords;
 use sqlite::{Alter, Connection, MemStore};
+use sqltables::{RowStore, Unadopted};
 use std::alloc::Global;
 use store::{Book, Kept};
-use tables::{RowStore, Unadopted};
 use transactions::{BookFault, Ready};
 
 /// A book in the tables of a database.
 pub type SqlBook<S, O> = Kept<SqlRecords<S, O>>;
 
 /// A book in memory.
-pub type MemoryBook = SqlBook<MemStore, Made>;
+pub type MemoryBook = SqlBook<MemStore, InMemory>;
 
 /// A book in memory, with nothing in it, which was never opened. What it may refuse is want of memory
 /// or room.
-pub fn in_memory(alloc: Global) -> Result<SqlBook<MemStore, Made>, BookFault>
-    ensures { IfOk result (λ book. IsUnused (stands (seen stored_of are_right book.records.store)
+pub fn in_memory(alloc: Global) -> Result<SqlBook<MemStore, InMemory>, BookFault>
+    ensures { IfOk result (λ book. IsUnused (stands (as_book stored_of are_right book.records.store)
         book.refused)) }
 {
     let store = RowStore::in_memory(alloc)?;
     Ok(Kept::over(SqlRecords {
         store,
         alloc,
-        origin: Made,
+        origin: InMemory,
     }))
 }
 
@@ -46,7 +46,7 @@ pub fn stays_clean(book: &MemoryBook)
 {}
 
 /// The book of rows that were taken up.
-fn over_rows<S: Alter>(store: RowStore<S>, alloc: Global) -> SqlBook<S, Found>
+fn over_rows<S: Alter>(store: RowStore<S>, alloc: Global) -> SqlBook<S, OnDisk>
     requires { (trees : Trees) × IsAdopted trees store }
     ensures rows { result.records.store ≡ store }
     ensures refused { result.refused ≡ 0 }
@@ -57,7 +57,7 @@ fn over_rows<S: Alter>(store: RowStore<S>, alloc: Global) -> SqlBook<S, Found>
     Kept::over(SqlRecords {
         store,
         alloc,
-        origin: Found,
+        origin: OnDisk,
     })
 }
 
@@ -67,7 +67,7 @@ fn over_rows<S: Alter>(store: RowStore<S>, alloc: Global) -> SqlBook<S, Found>
 pub fn taken<S: Alter + Drop>(
     conn: Connection<S>,
     alloc: Global,
-) -> Result<SqlBook<S, Found>, (Unadopted, S)>
+) -> Result<SqlBook<S, OnDisk>, (Unadopted, S)>
     requires { IsFound (state S.Store conn) }
     ensures book { IfOk result (λ book.
         IsAdoptedBook (state S.Store conn).committed.trees book.records.store book.refused) }
@@ -91,7 +91,7 @@ pub fn taken<S: Alter + Drop>(
 pub fn adopt<S: Alter + Drop>(
     conn: Connection<S>,
     alloc: Global,
-) -> Result<SqlBook<S, Found>, (Unadopted, S)>
+) -> Result<SqlBook<S, OnDisk>, (Unadopted, S)>
     ensures book { IfOk result (λ book.
         IsAdoptedBook (state S.Store conn).committed.trees book.records.store book.refused) }
     ensures clean { IfOk result (λ book.
@@ -107,7 +107,7 @@ pub fn adopt<S: Alter + Drop>(
 
 /// Gives the connection under a book back, as it is. Whatever a crash may leave of its database is one of
 /// what the book told.
-pub fn into_connection<S: Alter, O: Origin<S> + Drop>(book: SqlBook<S, O>) -> Connection<S>
+pub fn into_connection<S: Alter, O: Provenance<S> + Drop>(book: SqlBook<S, O>) -> Connection<S>
     ensures honest { (state S.Store result).is_clean ≡ book.records.store.is_honest }
     ensures covers { HasCleanDisk (state S.Store result)
         → Covers book.records.store.crash_leaves (state S.Store result).may_leave }

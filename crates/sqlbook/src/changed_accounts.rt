@@ -1,18 +1,15 @@
 //! Accounts, changed in a book over rows. One that has no row is refused.
 ghost use Rattle.std.specs.Prelude.{◌≡◌, true};
 ghost use Rattle.store.specs.Tables as tables;
-ghost use Rattle.sqlbook.specs.Counting.{counts_of};
 ghost use Rattle.sqlbook.specs.Meaning.{are_right, stored_of};
-ghost use Rattle.sqlbook.specs.Seen.{Alters};
+ghost use Rattle.sqlbook.specs.AsBook.{MakesAs};
 
 use crate::graces::maybe_grace_end;
-use accounts::{Line, Message};
+use accounts::{Counters, Line, Message};
 use basis::registrar::RegistrarNo;
-use sqlaccounts::Counters as Counts;
 use sqlite::Alter;
+use sqltables::RowStore;
 use std::alloc::Global;
-use store::Counters;
-use tables::RowStore;
 use transactions::BookFault;
 
 /// The registrar has an account. One that it has stays as it is.
@@ -22,7 +19,7 @@ pub fn open_account<S: Alter>(
     registrar: RegistrarNo,
 ) -> Result<(), BookFault>
     requires { store.old.is_open ≡ true }
-    ensures { Alters result stored_of are_right (tables.account_opened registrar
+    ensures { MakesAs result stored_of are_right (tables.account_opened registrar
         (stored_of store.old.content)) store.old store.new }
 {
     store.whole();
@@ -38,23 +35,13 @@ pub fn set_counters<S: Alter>(
     counters: Counters,
 ) -> Result<(), BookFault>
     requires { store.old.is_open ≡ true }
-    ensures { Alters result stored_of are_right (tables.counters_set registrar counters
+    ensures { MakesAs result stored_of are_right (tables.counters_set registrar counters
         (stored_of store.old.content)) store.old store.new }
 {
     store.whole();
-    sqlaccounts::set_counters(store, registrar, counts_of(counters))?;
+    sqlaccounts::set_counters(store, registrar, counters)?;
     store.whole();
     Ok(())
-}
-
-fn counts_of(counters: Counters) -> Counts
-    ensures { result ≡ counts_of counters }
-{
-    Counts {
-        commands: counters.commands,
-        messages: counters.messages,
-        serial: counters.serial,
-    }
 }
 
 /// Adds a line to a registrar's account, and beside it when its grace ends by the days of the book.
@@ -65,7 +52,7 @@ pub fn add_line<S: Alter>(
     line: Line,
 ) -> Result<(), BookFault>
     requires { store.old.is_open ≡ true }
-    ensures { Alters result stored_of are_right (tables.line_added registrar line
+    ensures { MakesAs result stored_of are_right (tables.line_added registrar line
         (stored_of store.old.content)) store.old store.new }
 {
     store.whole();
@@ -83,7 +70,7 @@ pub fn take_line<S: Alter>(
     line: Line,
 ) -> Result<(), BookFault>
     requires { store.old.is_open ≡ true }
-    ensures { Alters result stored_of are_right (tables.line_taken registrar line
+    ensures { MakesAs result stored_of are_right (tables.line_taken registrar line
         (stored_of store.old.content)) store.old store.new }
 {
     store.whole();
@@ -100,11 +87,11 @@ pub fn put_message<S: Alter>(
     message: Message,
 ) -> Result<(), BookFault>
     requires { store.old.is_open ≡ true }
-    ensures { Alters result stored_of are_right (tables.message_put registrar message
+    ensures { MakesAs result stored_of are_right (tables.message_put registrar message
         (stored_of store.old.content)) store.old store.new }
 {
     store.whole();
-    sqlmessages::put_message(store, alloc, registrar, message)?;
+    sqlaccounts::put_message(store, alloc, registrar, message)?;
     store.whole();
     Ok(())
 }
@@ -117,11 +104,11 @@ pub fn take_message<S: Alter>(
     message: Message,
 ) -> Result<(), BookFault>
     requires { store.old.is_open ≡ true }
-    ensures { Alters result stored_of are_right (tables.message_taken registrar message
+    ensures { MakesAs result stored_of are_right (tables.message_taken registrar message
         (stored_of store.old.content)) store.old store.new }
 {
     store.whole();
-    sqlmessages::take_message(store, alloc, registrar, message)?;
+    sqlaccounts::take_message(store, alloc, registrar, message)?;
     store.whole();
     Ok(())
 }

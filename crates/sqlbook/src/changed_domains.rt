@@ -1,25 +1,24 @@
 //! Domains, put and dropped in a book over rows.
 ghost use Rattle.std.specs.Prelude.{◌≡◌, true, Some, None};
 ghost use Rattle.store.specs.Tables as tables;
-ghost use Rattle.meanings.specs.Calls.{Turns};
-ghost use Rattle.transactions.specs.States.{Meets};
+ghost use Rattle.sqlrows.specs.Meanings.{Changes};
+ghost use Rattle.transactions.specs.States.{FindsSome};
 ghost use Rattle.sqlbook.specs.Meaning.{are_right, stored_of};
-ghost use Rattle.sqlbook.specs.Replacing.{IsExchanged, IsExchangedThere, IsReplaced, IsStanding, due_with, with_renamed};
-ghost use Rattle.sqlbook.specs.Seen.{Alters};
-ghost use Rattle.sqldomains.specs.Changes.{IsDomainPut, sponsor_in};
+ghost use Rattle.sqlbook.specs.inner.Replacing.{IsExchanged, IsExchangedThere, IsReplaced, IsStanding, due_with, with_renamed};
+ghost use Rattle.sqlbook.specs.AsBook.{MakesAs};
+ghost use Rattle.sqldomains.specs.inner.Changes.{IsDomainPut, sponsor_in};
 
 use basis::registrar::RegistrarNo;
 use basis::text::Text;
 use calendar::Moment;
 use objects::Domain;
 use policy::Policy;
-use sqldue::{due_of_domain, same_days, standing};
-use sqlheld::recount;
 use sqlite::Alter;
 use sqlobjects::follow;
+use sqlsums::{due_of_domain, recount, same_days, standing};
+use sqltables::RowStore;
 use std::alloc::Global;
 use store::with_host_renamed;
-use tables::RowStore;
 use transactions::BookFault;
 
 /// The domain stands under this name, which has to be its own. Refused is a policy with other days than
@@ -32,7 +31,7 @@ pub fn put_domain<S: Alter>(
     policy: &Policy,
 ) -> Result<(), BookFault>
     requires { store.old.is_open ≡ true }
-    ensures { Alters result stored_of are_right (tables.domain_put name (Some domain)
+    ensures { MakesAs result stored_of are_right (tables.domain_put name (Some domain)
         (stored_of store.old.content)) store.old store.new }
 {
     let due = due_of_domain(&domain, policy);
@@ -47,7 +46,7 @@ pub fn drop_domain<S: Alter>(
     policy: &Policy,
 ) -> Result<(), BookFault>
     requires { store.old.is_open ≡ true }
-    ensures { Alters result stored_of are_right
+    ensures { MakesAs result stored_of are_right
         (tables.domain_put name None (stored_of store.old.content)) store.old store.new }
 {
     replace(store, alloc, &name, &None, Moment::first(), policy)
@@ -63,7 +62,7 @@ pub fn rename_host<S: Alter>(
     policy: &Policy,
 ) -> Result<(), BookFault>
     requires { store.old.is_open ≡ true }
-    ensures { Alters result stored_of are_right (tables.host_renamed from.now to.now domain.now
+    ensures { MakesAs result stored_of are_right (tables.host_renamed from.now to.now domain.now
         (stored_of store.old.content)) store.old store.new }
 {
     let before = sqldomains::domain(store, alloc, domain)?;
@@ -83,7 +82,7 @@ fn put_renamed<S: Alter>(
     policy: &Policy,
 ) -> Result<(), BookFault>
     requires { store.old.is_open ≡ true }
-    ensures { Alters result stored_of are_right (with_renamed from.now to.now name.now before.now
+    ensures { MakesAs result stored_of are_right (with_renamed from.now to.now name.now before.now
         (stored_of store.old.content)) store.old store.new }
 {
     let Some(before) = before else {
@@ -101,7 +100,7 @@ fn found<S: Alter>(
     name: &Text,
     policy: &Policy,
 ) -> Result<Option<Domain>, BookFault>
-    ensures { Meets result (IsStanding name.now policy.now.days store.old.content) store.old
+    ensures { FindsSome result (IsStanding name.now policy.now.days store.old.content) store.old
         store.new }
 {
     same_days(store, alloc, policy.schedule())?;
@@ -118,7 +117,7 @@ fn replace<S: Alter>(
     policy: &Policy,
 ) -> Result<(), BookFault>
     requires { store.old.is_open ≡ true }
-    ensures { Turns result (IsReplaced name.now policy.now.days after.now due) store.old store.new }
+    ensures { Changes result (IsReplaced name.now policy.now.days after.now due) store.old store.new }
 {
     follow(store, name, sponsor_of(after))?;
     exchange_there(store, alloc, name, after, due, policy)?;
@@ -144,7 +143,7 @@ fn exchange_there<S: Alter>(
     policy: &Policy,
 ) -> Result<(), BookFault>
     requires { store.old.is_open ≡ true }
-    ensures { Turns result (IsExchangedThere name.now policy.now.days after.now due) store.old
+    ensures { Changes result (IsExchangedThere name.now policy.now.days after.now due) store.old
         store.new }
 {
     store.whole();
@@ -165,7 +164,7 @@ pub(crate) fn exchange<S: Alter>(
     due: Moment,
 ) -> Result<(), BookFault>
     requires { store.old.is_open ≡ true }
-    ensures { Turns result (IsExchanged name.now before.now after.now due) store.old store.new }
+    ensures { Changes result (IsExchanged name.now before.now after.now due) store.old store.new }
 {
     recount(store, before, after)?;
     put(store, alloc, name, after, due)?;
@@ -180,7 +179,7 @@ fn put<S: Alter>(
     due: Moment,
 ) -> Result<(), BookFault>
     requires { store.old.is_open ≡ true }
-    ensures { Turns result (IsDomainPut name.now domain.now (due_with domain.now due)) store.old
+    ensures { Changes result (IsDomainPut name.now domain.now (due_with domain.now due)) store.old
         store.new }
 {
     match domain {

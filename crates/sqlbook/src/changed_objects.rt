@@ -2,13 +2,13 @@
 ghost use Rattle.std.specs.Prelude.{◌≡◌, true, Some, None};
 ghost use Rattle.store.specs.Tables as tables;
 ghost use Rattle.sqlbook.specs.Meaning.{are_right, stored_of};
-ghost use Rattle.sqlbook.specs.Seen.{Alters};
+ghost use Rattle.sqlbook.specs.AsBook.{MakesAs};
 
 use basis::text::Text;
 use objects::{Contact, Host};
 use sqlite::Alter;
+use sqltables::RowStore;
 use std::alloc::Global;
-use tables::RowStore;
 use transactions::BookFault;
 
 /// The contact stands under this name, which has to be its own.
@@ -19,7 +19,7 @@ pub fn put_contact<S: Alter>(
     contact: Contact,
 ) -> Result<(), BookFault>
     requires { store.old.is_open ≡ true }
-    ensures { Alters result stored_of are_right (tables.contact_put name (Some contact)
+    ensures { MakesAs result stored_of are_right (tables.contact_put name (Some contact)
         (stored_of store.old.content)) store.old store.new }
 {
     sqlobjects::put_contact(store, alloc, name, contact)
@@ -32,7 +32,7 @@ pub fn drop_contact<S: Alter>(
     name: Text,
 ) -> Result<(), BookFault>
     requires { store.old.is_open ≡ true }
-    ensures { Alters result stored_of are_right
+    ensures { MakesAs result stored_of are_right
         (tables.contact_put name None (stored_of store.old.content)) store.old store.new }
 {
     sqlobjects::drop_contact(store, alloc, name)
@@ -45,7 +45,7 @@ pub fn put_host<S: Alter>(
     host: Host,
 ) -> Result<(), BookFault>
     requires { store.old.is_open ≡ true }
-    ensures { Alters result stored_of are_right (tables.host_put host.name (Some host)
+    ensures { MakesAs result stored_of are_right (tables.host_put host.name (Some host)
         (stored_of store.old.content)) store.old store.new }
 {
     sqlobjects::put_host(store, alloc, host)
@@ -58,7 +58,7 @@ pub fn drop_host<S: Alter>(
     name: Text,
 ) -> Result<(), BookFault>
     requires { store.old.is_open ≡ true }
-    ensures { Alters result stored_of are_right
+    ensures { MakesAs result stored_of are_right
         (tables.host_put name None (stored_of store.old.content)) store.old store.new }
 {
     sqlobjects::drop_host(store, alloc, name)

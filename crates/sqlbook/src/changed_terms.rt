@@ -2,20 +2,21 @@
 ghost use Rattle.std.specs.Prelude.{◌≡◌, true, [], IfOk, Some};
 ghost use Rattle.store.specs.Book.{with_terms};
 ghost use Rattle.store.specs.Tables as tables;
-ghost use Rattle.meanings.specs.Calls.{Turns};
-ghost use Rattle.transactions.specs.States.{Meets};
+ghost use Rattle.sqlrows.specs.Meanings.{Changes};
+ghost use Rattle.transactions.specs.States.{FindsSome};
 ghost use Rattle.sqlbook.specs.Meaning.{are_right, stored_of};
-ghost use Rattle.sqlbook.specs.Seen.{Alters};
-ghost use Rattle.sqlbook.specs.Suiting.{AreRedated, IsSetDown, IsSetOver};
+ghost use Rattle.sqlbook.specs.AsBook.{MakesAs};
+ghost use Rattle.sqlbook.specs.Suiting.{AreRedated};
+ghost use Rattle.sqlbook.specs.inner.Suiting.{IsSetDown, IsSetOver};
 ghost use Rattle.sqlterms.specs.Terms.{days_of};
 
 use crate::redating::redate;
 use calendar::Moment;
 use policy::{Schedule, Terms};
-use sqldue::{ends_are, ends_come};
 use sqlite::Alter;
+use sqlsums::{ends_are, ends_come};
+use sqltables::RowStore;
 use std::alloc::Global;
-use tables::RowStore;
 use transactions::BookFault;
 
 pub fn set_clock<S: Alter>(
@@ -24,7 +25,7 @@ pub fn set_clock<S: Alter>(
     moment: Moment,
 ) -> Result<(), BookFault>
     requires { store.old.is_open ≡ true }
-    ensures { Alters result stored_of are_right
+    ensures { MakesAs result stored_of are_right
         (tables.clock_set moment (stored_of store.old.content)) store.old store.new }
 {
     sqlterms::set_clock(store, alloc, moment)
@@ -38,7 +39,7 @@ pub fn set_terms<S: Alter>(
     terms: Terms,
 ) -> Result<(), BookFault>
     requires { store.old.is_open ≡ true }
-    ensures held { Alters result stored_of are_right
+    ensures held { MakesAs result stored_of are_right
         (with_terms terms (stored_of store.old.content)) store.old store.new }
     ensures lines { IfOk result (λ done. store.new.is_clean ≡ true
         → store.new.content.lines ≡ store.old.content.lines) }
@@ -59,7 +60,7 @@ fn set_over<S: Alter>(
     terms: &Terms,
 ) -> Result<(), BookFault>
     requires { store.old.is_open ≡ true }
-    ensures { Turns result (λ old new. days_of old ≡ before.now
+    ensures { Changes result (λ old new. days_of old ≡ before.now
         → IsSetOver before.now terms.now old new) store.old store.new }
 {
     match before {
@@ -75,7 +76,7 @@ fn set_first<S: Alter>(
     terms: &Terms,
 ) -> Result<(), BookFault>
     requires { store.old.is_open ≡ true }
-    ensures { Turns result (IsSetDown terms.now) store.old store.new }
+    ensures { Changes result (IsSetDown terms.now) store.old store.new }
 {
     no_domains(store)?;
     sqlterms::set_terms(store, alloc, terms)?;
@@ -83,7 +84,7 @@ fn set_first<S: Alter>(
 }
 
 fn no_domains<S: Alter>(store: &mut RowStore<S>) -> Result<(), BookFault>
-    ensures { Meets result (λ done. store.old.content.domains ≡ []) store.old store.new }
+    ensures { FindsSome result (λ done. store.old.content.domains ≡ []) store.old store.new }
 {
     let domains = store.all_domains()?;
     if domains.as_slice().is_empty() {
@@ -101,7 +102,7 @@ fn set_again<S: Alter>(
     terms: &Terms,
 ) -> Result<(), BookFault>
     requires { store.old.is_open ≡ true }
-    ensures { Turns result (λ old new. days_of old ≡ Some before.now
+    ensures { Changes result (λ old new. days_of old ≡ Some before.now
         → IsSetOver (Some before.now) terms.now old new) store.old store.new }
 {
     if before.is_same(&terms.days) {
@@ -118,7 +119,7 @@ fn set_same<S: Alter>(
     terms: &Terms,
 ) -> Result<(), BookFault>
     requires { store.old.is_open ≡ true }
-    ensures { Turns result (λ old new. days_of old ≡ Some terms.now.days
+    ensures { Changes result (λ old new. days_of old ≡ Some terms.now.days
         → IsSetDown terms.now old new) store.old store.new }
 {
     sqlterms::set_terms(store, alloc, terms)?;
@@ -134,7 +135,7 @@ fn set_others<S: Alter>(
     terms: &Terms,
 ) -> Result<(), BookFault>
     requires { store.old.is_open ≡ true }
-    ensures { Turns result (λ old new. days_of old ≡ Some before.now
+    ensures { Changes result (λ old new. days_of old ≡ Some before.now
         → IsSetOver (Some before.now) terms.now old new) store.old store.new }
 {
     redate(store, alloc, before, &terms.days)?;
@@ -152,7 +153,7 @@ fn set_suited<S: Alter>(
     terms: &Terms,
 ) -> Result<(), BookFault>
     requires { store.old.is_open ≡ true }
-    ensures { Turns result (λ old new. days_of old ≡ Some before.now
+    ensures { Changes result (λ old new. days_of old ≡ Some before.now
         → IsSetDown terms.now old new) store.old store.new }
 {
     ends_come(store, before)?;

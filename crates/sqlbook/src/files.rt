@@ -4,21 +4,21 @@ ghost use Rattle.sqlite_wal.specs.Reads.{AreClean};
 ghost use Rattle.store.specs.Kept.{stands};
 ghost use Rattle.sqlbook.specs.Meaning.{are_right, stored_of};
 ghost use Rattle.sqlbook.specs.Files.{IsLeftIn};
-ghost use Rattle.sqlbook.specs.Seen.{seen};
+ghost use Rattle.sqlbook.specs.AsBook.{as_book};
 
 use crate::book::{SqlBook, into_connection};
-use crate::origin::Origin;
+use crate::provenance::Provenance;
 use sqlite_disk::{Disk, Files};
 use sqlite_store::FileStore;
 
 /// Gives the files under a book back; a transaction that is open is undone. Whatever a crash may leave
 /// of them is, once it is opened and adopted, one of what the book told.
-pub fn into_files<D: Disk + Drop, O: Origin<FileStore<D>> + Drop>(
+pub fn into_files<D: Disk + Drop, O: Provenance<FileStore<D>> + Drop>(
     book: SqlBook<FileStore<D>, O>,
 ) -> Files<D>
     ensures { AreClean D.Disk result.log result.db
-        → (seen stored_of are_right book.records.store).is_honest ≡ true
-        → IsLeftIn D.Disk result (stands (seen stored_of are_right book.records.store)
+        → (as_book stored_of are_right book.records.store).is_honest ≡ true
+        → IsLeftIn D.Disk result (stands (as_book stored_of are_right book.records.store)
         book.refused) }
 {
     into_connection(book).into_store().close()

@@ -1,16 +1,16 @@
 //! When the graces that lines begin end (RFC 3915, 3.1).
 ghost use Rattle.std.specs.Prelude.{◌≡◌, map, option_and_then, IfOk};
-ghost use Rattle.columns.specs.Lines.{line_in};
+ghost use Rattle.sqlcolumns.specs.Lines.{line_in};
 ghost use Rattle.sqlbook.specs.Graces as spec;
 
 use accounts::Line;
 use basis::list::Seq;
 use calendar::Moment;
-use columns::{line_of_row, maybe_moment_column};
 use lifecycle::{end_under, period_of};
 use policy::Schedule;
+use sqlcolumns::{line_of_row, maybe_moment_column};
+use sqltables::LineRow;
 use std::alloc::{AllocError, Global};
-use tables::LineRow;
 
 /// When a line's grace ends, if it begins one, or the last moment where it ends later.
 fn grace_end(line: &Line, days: &Schedule) -> Option<Moment>

@@ -2,7 +2,6 @@
 //! as they were. The book itself isn't here yet.
 #![tactic(auto)]
 
-mod asking;
 mod book;
 mod changed_accounts;
 mod changed_domains;
@@ -11,13 +10,14 @@ mod changed_terms;
 mod files;
 mod graces;
 mod migrating;
-mod origin;
+mod provenance;
+mod questions;
 mod records;
 mod redating;
 
 pub use book::{MemoryBook, SqlBook, adopt, in_memory, into_connection, stays_clean, taken};
 pub use files::into_files;
 pub use migrating::{MigrateFault, migrate};
-pub use origin::{Found, Made, Origin};
+pub use provenance::{InMemory, OnDisk, Provenance};
 pub use records::SqlRecords;
-pub use tables::Unadopted;
+pub use sqltables::Unadopted;

@@ -1,20 +1,21 @@
 //! A registry of the schema before this one, taken over.
 ghost use Rattle.std.specs.Prelude.{◌≡◌, true, false, IfOk, Ok};
-ghost use Rattle.oldrows.specs.Copies.{Copies, put_of_all};
+ghost use Rattle.oldrows.specs.inner.Copies.{Copies, put_of_all};
 ghost use Rattle.policy.specs.Terms.{terms_of};
-ghost use Rattle.tables.specs.Content.{no_content};
+ghost use Rattle.sqltables.specs.Content.{no_content};
 ghost use Rattle.transactions.specs.States.{Finds};
 ghost use Rattle.sqlbook.specs.Meaning.{are_right, stored_of};
-ghost use Rattle.sqlbook.specs.Migrating.{AreReady, EndsAs, Migrates, TakesOver, fault_of, heads, others, put_lines, redated, suits};
-ghost use Rattle.sqlbook.specs.Seen.{Alters};
+ghost use Rattle.sqlbook.specs.inner.Migrating.{AreReady, EndsAs, TakesOver, heads, others, put_lines};
+ghost use Rattle.sqlbook.specs.Migrating.{Migrates, fault_of, redated, suits};
+ghost use Rattle.sqlbook.specs.AsBook.{MakesAs};
 
 use crate::changed_terms::set_terms;
 use crate::graces::with_grace_ends;
 use oldrows::{Copied, OldRows, TableName, copy_tables, put_all};
 use policy::{Policy, Schedule, Terms};
 use sqlite::Alter;
+use sqltables::{LineRow, RowStore};
 use std::alloc::{AllocError, Global};
-use tables::{LineRow, RowStore};
 use transactions::{BookFault, Ready};
 
 /// Why a registry isn't taken over.
@@ -211,7 +212,7 @@ fn put_days<T: Alter>(
     policy: &Policy,
 ) -> Result<(), BookFault>
     requires { store.old.is_open ≡ true }
-    ensures held { Alters result stored_of are_right
+    ensures held { MakesAs result stored_of are_right
         (redated policy.now (stored_of store.old.content)) store.old store.new }
     ensures lines { IfOk result (λ done. store.new.is_clean ≡ true
         → store.new.content.lines ≡ store.old.content.lines) }

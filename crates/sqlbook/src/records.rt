@@ -2,36 +2,37 @@
 ghost use Rattle.std.specs.Prelude.{◌≡◌, true};
 ghost use Rattle.transactions.specs.States.{Closes, IsIdle};
 ghost use Rattle.sqlbook.specs.Meaning.{are_right};
-ghost use Rattle.sqlbook.specs.Steady.{GoesOn, IsSteady};
+ghost use Rattle.sqlbook.specs.BetweenCalls.{UndoneIfFault, IsBetweenCalls};
 
-use crate::origin::Origin;
-use crate::{asking, changed_accounts, changed_domains, changed_objects, changed_terms};
-use accounts::{Line, LineChange, LineSwap, Lines, Message};
+use crate::provenance::Provenance;
+use crate::{changed_accounts, changed_domains, changed_objects, changed_terms, questions};
+use accounts::{Counters, Line, LineChange, LineSwap, Lines, Message};
 use basis::list::Seq;
 use basis::registrar::RegistrarNo;
 use basis::text::Text;
 use calendar::Moment;
 use concerns::Names;
 use facts::{HOLDING_LIMIT, Superordinate};
+use lifecycle::Due;
 use objects::{Contact, Domain, Host, Roid};
 use policy::{Policy, Terms};
 use sqlite::Alter;
+use sqltables::RowStore;
 use std::alloc::Global;
-use store::{Counters, Due, Records};
-use tables::RowStore;
+use store::Records;
 use transactions::{BookFault, Ready};
 
 /// The records of a registry in the tables of a database. After a fault no transaction is open:
 /// what was begun is undone at once.
 #[derive(Drop)]
-pub struct SqlRecords<S: Alter, O: Origin<S>> {
+pub struct SqlRecords<S: Alter, O: Provenance<S>> {
     pub(crate) store: RowStore<S>,
     pub(crate) alloc: Global,
     pub(crate) origin: O,
-    ghost steady: { IsSteady O.is_made are_right store },
+    ghost steady: { IsBetweenCalls O.is_made are_right store },
 }
 
-impl<S: Alter, O: Origin<S> + Drop> SqlRecords<S, O> {
+impl<S: Alter, O: Provenance<S> + Drop> SqlRecords<S, O> {
     /// Gives the rows back, as they are.
     pub fn into_rows(self) -> RowStore<S>
         ensures { result ≡ self.store }
@@ -41,7 +42,7 @@ impl<S: Alter, O: Origin<S> + Drop> SqlRecords<S, O> {
 }
 
 /// Goes back to where the transaction began, if one is open.
-fn go_back<S: Alter, O: Origin<S>>(store: &mut RowStore<S>)
+fn rollback<S: Alter, O: Provenance<S>>(store: &mut RowStore<S>)
     ensures closes { Closes store.old.before store.old store.new }
     ensures idle { IsIdle store.new }
     ensures clean { O.is_made ≡ true → store.new.is_clean ≡ true }
@@ -52,12 +53,12 @@ fn go_back<S: Alter, O: Origin<S>>(store: &mut RowStore<S>)
 }
 
 /// What a call on rows said. After a fault the transaction is undone.
-fn or_back<S: Alter, O: Origin<S>, T>(
+fn rollback_on_fault<S: Alter, O: Provenance<S>, T>(
     store: &mut RowStore<S>,
     said: Result<T, BookFault>,
 ) -> Result<T, BookFault>
     ensures same { result ≡ said }
-    ensures on { GoesOn said store.old store.new }
+    ensures on { UndoneIfFault said store.old store.new }
     ensures idle { IsIdle store.new }
     ensures clean { O.is_made ≡ true → store.new.is_clean ≡ true }
 {
@@ -69,11 +70,11 @@ fn or_back<S: Alter, O: Origin<S>, T>(
     said
 }
 
-impl<S: Alter, O: Origin<S>> Records for SqlRecords<S, O> {
+impl<S: Alter, O: Provenance<S>> Records for SqlRecords<S, O> {
     ghost use Rattle.sqlbook.specs.Meaning.{are_right, stored_of};
-    ghost use Rattle.sqlbook.specs.Seen.{seen};
+    ghost use Rattle.sqlbook.specs.AsBook.{as_book};
 
-    ghost kept = { λ r. seen stored_of are_right r.store };
+    ghost kept = { λ r. as_book stored_of are_right r.store };
 
     ghost idle = { λ r e i. stored_of (r.steady.idle e i) };
 
@@ -90,37 +91,37 @@ impl<S: Alter, O: Origin<S>> Records for SqlRecords<S, O> {
     }
 
     fn back(&mut self) {
-        go_back::<S, O>(&mut self.store);
+        rollback::<S, O>(&mut self.store);
     }
 
     fn ready(&mut self) -> Result<Ready, BookFault> {
         let said = self.store.ready();
-        or_back::<S, O, _>(&mut self.store, said)
+        rollback_on_fault::<S, O, _>(&mut self.store, said)
     }
 
     fn clock(&mut self) -> Result<Moment, BookFault> {
         let said = sqlterms::clock(&mut self.store);
-        or_back::<S, O, _>(&mut self.store, said)
+        rollback_on_fault::<S, O, _>(&mut self.store, said)
     }
 
     fn terms(&mut self) -> Result<Option<Terms>, BookFault> {
         let said = sqlterms::terms(&mut self.store, self.alloc);
-        or_back::<S, O, _>(&mut self.store, said)
+        rollback_on_fault::<S, O, _>(&mut self.store, said)
     }
 
     fn counters(&mut self, registrar: RegistrarNo) -> Result<Counters, BookFault> {
-        let said = asking::counters(&mut self.store, registrar);
-        or_back::<S, O, _>(&mut self.store, said)
+        let said = questions::counters(&mut self.store, registrar);
+        rollback_on_fault::<S, O, _>(&mut self.store, said)
     }
 
     fn balance(&mut self, registrar: RegistrarNo) -> Result<i128, BookFault> {
         let said = sqlaccounts::balance(&mut self.store, registrar);
-        or_back::<S, O, _>(&mut self.store, said)
+        rollback_on_fault::<S, O, _>(&mut self.store, said)
     }
 
     fn lines_on(&mut self, registrar: RegistrarNo, roid: &Roid) -> Result<Lines, BookFault> {
         let said = sqlaccounts::lines_on(&mut self.store, self.alloc, registrar, roid);
-        or_back::<S, O, _>(&mut self.store, said)
+        rollback_on_fault::<S, O, _>(&mut self.store, said)
     }
 
     fn swaps<C: LineChange>(
@@ -129,87 +130,87 @@ impl<S: Alter, O: Origin<S>> Records for SqlRecords<S, O> {
         change: &C,
     ) -> Result<Seq<LineSwap>, BookFault> {
         let said = sqlaccounts::swaps(&mut self.store, self.alloc, registrar, change);
-        or_back::<S, O, _>(&mut self.store, said)
+        rollback_on_fault::<S, O, _>(&mut self.store, said)
     }
 
     fn oldest(&mut self, registrar: RegistrarNo) -> Result<Option<Message>, BookFault> {
-        let said = sqlmessages::oldest(&mut self.store, registrar);
-        or_back::<S, O, _>(&mut self.store, said)
+        let said = sqlaccounts::oldest(&mut self.store, registrar);
+        rollback_on_fault::<S, O, _>(&mut self.store, said)
     }
 
     fn waiting(&mut self, registrar: RegistrarNo) -> Result<u64, BookFault> {
         let said = sqlaccounts::waiting(&mut self.store, registrar);
-        or_back::<S, O, _>(&mut self.store, said)
+        rollback_on_fault::<S, O, _>(&mut self.store, said)
     }
 
     fn contact(&mut self, name: &Text) -> Result<Option<Contact>, BookFault> {
         let said = sqlobjects::contact(&mut self.store, self.alloc, name);
-        or_back::<S, O, _>(&mut self.store, said)
+        rollback_on_fault::<S, O, _>(&mut self.store, said)
     }
 
     fn domain(&mut self, name: &Text) -> Result<Option<Domain>, BookFault> {
         let said = sqldomains::domain(&mut self.store, self.alloc, name);
-        or_back::<S, O, _>(&mut self.store, said)
+        rollback_on_fault::<S, O, _>(&mut self.store, said)
     }
 
     fn host(&mut self, name: &Text) -> Result<Option<Host>, BookFault> {
         let said = sqlobjects::host(&mut self.store, self.alloc, name);
-        or_back::<S, O, _>(&mut self.store, said)
+        rollback_on_fault::<S, O, _>(&mut self.store, said)
     }
 
     fn has_contact(&mut self, name: &Text) -> Result<bool, BookFault> {
         let said = sqlobjects::has_contact(&mut self.store, self.alloc, name);
-        or_back::<S, O, _>(&mut self.store, said)
+        rollback_on_fault::<S, O, _>(&mut self.store, said)
     }
 
     fn has_host(&mut self, name: &Text) -> Result<bool, BookFault> {
         let said = sqlobjects::has_host(&mut self.store, self.alloc, name);
-        or_back::<S, O, _>(&mut self.store, said)
+        rollback_on_fault::<S, O, _>(&mut self.store, said)
     }
 
     fn superordinate(&mut self, domain: &Text) -> Result<Option<Superordinate>, BookFault> {
-        let said = asking::superordinate(&mut self.store, self.alloc, domain);
-        or_back::<S, O, _>(&mut self.store, said)
+        let said = questions::superordinate(&mut self.store, self.alloc, domain);
+        rollback_on_fault::<S, O, _>(&mut self.store, said)
     }
 
     fn host_addresses(&mut self, name: &Text) -> Result<Option<Seq<Text>>, BookFault> {
         let said = sqlobjects::host_addresses(&mut self.store, self.alloc, name);
-        or_back::<S, O, _>(&mut self.store, said)
+        rollback_on_fault::<S, O, _>(&mut self.store, said)
     }
 
     fn domain_names(&mut self) -> Result<Seq<Text>, BookFault> {
         let said = sqldomains::domain_names(&mut self.store, self.alloc);
-        or_back::<S, O, _>(&mut self.store, said)
+        rollback_on_fault::<S, O, _>(&mut self.store, said)
     }
 
     fn is_linked_contact(&mut self, name: &Text) -> Result<bool, BookFault> {
         let said = sqldomains::is_linked_contact(&mut self.store, self.alloc, name);
-        or_back::<S, O, _>(&mut self.store, said)
+        rollback_on_fault::<S, O, _>(&mut self.store, said)
     }
 
     fn is_linked_host(&mut self, name: &Text) -> Result<bool, BookFault> {
         let said = sqldomains::is_linked_host(&mut self.store, self.alloc, name);
-        or_back::<S, O, _>(&mut self.store, said)
+        rollback_on_fault::<S, O, _>(&mut self.store, said)
     }
 
     fn hosts_below(&mut self, domain: &Text) -> Result<Seq<Text>, BookFault> {
         let said = sqldomains::hosts_below(&mut self.store, self.alloc, domain);
-        or_back::<S, O, _>(&mut self.store, said)
+        rollback_on_fault::<S, O, _>(&mut self.store, said)
     }
 
     fn domains_naming(&mut self, host: &Text) -> Result<Seq<Text>, BookFault> {
         let said = sqldomains::domains_naming(&mut self.store, self.alloc, host);
-        or_back::<S, O, _>(&mut self.store, said)
+        rollback_on_fault::<S, O, _>(&mut self.store, said)
     }
 
-    fn holds_the_most(&mut self, registrar: RegistrarNo) -> Result<bool, BookFault> {
-        let said = sqlheld::holds_the_most(&mut self.store, registrar, HOLDING_LIMIT);
-        or_back::<S, O, _>(&mut self.store, said)
+    fn is_at_holding_limit(&mut self, registrar: RegistrarNo) -> Result<bool, BookFault> {
+        let said = sqlsums::is_at_holding_limit(&mut self.store, registrar, HOLDING_LIMIT);
+        rollback_on_fault::<S, O, _>(&mut self.store, said)
     }
 
     fn due(&mut self, moment: Moment, policy: &Policy) -> Result<Seq<Due>, BookFault> {
-        let said = sqldue::due(&mut self.store, self.alloc, moment, policy);
-        or_back::<S, O, _>(&mut self.store, said)
+        let said = sqlsums::due(&mut self.store, self.alloc, moment, policy);
+        rollback_on_fault::<S, O, _>(&mut self.store, said)
     }
 
     fn due_near(
@@ -219,23 +220,23 @@ impl<S: Alter, O: Origin<S>> Records for SqlRecords<S, O> {
         moment: Moment,
         policy: &Policy,
     ) -> Result<Seq<Due>, BookFault> {
-        let said = sqldue::due_near(&mut self.store, self.alloc, caller, names, moment, policy);
-        or_back::<S, O, _>(&mut self.store, said)
+        let said = sqlsums::due_near(&mut self.store, self.alloc, caller, names, moment, policy);
+        rollback_on_fault::<S, O, _>(&mut self.store, said)
     }
 
     fn set_clock(&mut self, moment: Moment) -> Result<(), BookFault> {
         let said = changed_terms::set_clock(&mut self.store, self.alloc, moment);
-        or_back::<S, O, _>(&mut self.store, said)
+        rollback_on_fault::<S, O, _>(&mut self.store, said)
     }
 
     fn set_terms(&mut self, terms: Terms) -> Result<(), BookFault> {
         let said = changed_terms::set_terms(&mut self.store, self.alloc, terms);
-        or_back::<S, O, _>(&mut self.store, said)
+        rollback_on_fault::<S, O, _>(&mut self.store, said)
     }
 
     fn open_account(&mut self, registrar: RegistrarNo) -> Result<(), BookFault> {
         let said = changed_accounts::open_account(&mut self.store, self.alloc, registrar);
-        or_back::<S, O, _>(&mut self.store, said)
+        rollback_on_fault::<S, O, _>(&mut self.store, said)
     }
 
     fn set_counters(
@@ -244,57 +245,57 @@ impl<S: Alter, O: Origin<S>> Records for SqlRecords<S, O> {
         counters: Counters,
     ) -> Result<(), BookFault> {
         let said = changed_accounts::set_counters(&mut self.store, registrar, counters);
-        or_back::<S, O, _>(&mut self.store, said)
+        rollback_on_fault::<S, O, _>(&mut self.store, said)
     }
 
     fn add_line(&mut self, registrar: RegistrarNo, line: Line) -> Result<(), BookFault> {
         let said = changed_accounts::add_line(&mut self.store, self.alloc, registrar, line);
-        or_back::<S, O, _>(&mut self.store, said)
+        rollback_on_fault::<S, O, _>(&mut self.store, said)
     }
 
     fn take_line(&mut self, registrar: RegistrarNo, line: Line) -> Result<(), BookFault> {
         let said = changed_accounts::take_line(&mut self.store, registrar, line);
-        or_back::<S, O, _>(&mut self.store, said)
+        rollback_on_fault::<S, O, _>(&mut self.store, said)
     }
 
     fn put_message(&mut self, registrar: RegistrarNo, message: Message) -> Result<(), BookFault> {
         let said = changed_accounts::put_message(&mut self.store, self.alloc, registrar, message);
-        or_back::<S, O, _>(&mut self.store, said)
+        rollback_on_fault::<S, O, _>(&mut self.store, said)
     }
 
     fn take_message(&mut self, registrar: RegistrarNo, message: Message) -> Result<(), BookFault> {
         let said = changed_accounts::take_message(&mut self.store, self.alloc, registrar, message);
-        or_back::<S, O, _>(&mut self.store, said)
+        rollback_on_fault::<S, O, _>(&mut self.store, said)
     }
 
     fn put_contact(&mut self, name: Text, contact: Contact) -> Result<(), BookFault> {
         let said = changed_objects::put_contact(&mut self.store, self.alloc, name, contact);
-        or_back::<S, O, _>(&mut self.store, said)
+        rollback_on_fault::<S, O, _>(&mut self.store, said)
     }
 
     fn drop_contact(&mut self, name: Text) -> Result<(), BookFault> {
         let said = changed_objects::drop_contact(&mut self.store, self.alloc, name);
-        or_back::<S, O, _>(&mut self.store, said)
+        rollback_on_fault::<S, O, _>(&mut self.store, said)
     }
 
     fn put_domain(&mut self, name: Text, domain: Domain, policy: &Policy) -> Result<(), BookFault> {
         let said = changed_domains::put_domain(&mut self.store, self.alloc, name, domain, policy);
-        or_back::<S, O, _>(&mut self.store, said)
+        rollback_on_fault::<S, O, _>(&mut self.store, said)
     }
 
     fn drop_domain(&mut self, name: Text, policy: &Policy) -> Result<(), BookFault> {
         let said = changed_domains::drop_domain(&mut self.store, self.alloc, name, policy);
-        or_back::<S, O, _>(&mut self.store, said)
+        rollback_on_fault::<S, O, _>(&mut self.store, said)
     }
 
     fn put_host(&mut self, host: Host) -> Result<(), BookFault> {
         let said = changed_objects::put_host(&mut self.store, self.alloc, host);
-        or_back::<S, O, _>(&mut self.store, said)
+        rollback_on_fault::<S, O, _>(&mut self.store, said)
     }
 
     fn drop_host(&mut self, name: Text) -> Result<(), BookFault> {
         let said = changed_objects::drop_host(&mut self.store, self.alloc, name);
-        or_back::<S, O, _>(&mut self.store, said)
+        rollback_on_fault::<S, O, _>(&mut self.store, said)
     }
 
     fn rename_host(
@@ -312,16 +313,16 @@ impl<S: Alter, O: Origin<S>> Records for SqlRecords<S, O> {
             to,
             policy,
         );
-        or_back::<S, O, _>(&mut self.store, said)
+        rollback_on_fault::<S, O, _>(&mut self.store, said)
     }
 
     fn begin(&mut self) -> Result<(), BookFault> {
         let said = self.store.begin();
-        or_back::<S, O, _>(&mut self.store, said)
+        rollback_on_fault::<S, O, _>(&mut self.store, said)
     }
 
     fn commit(&mut self) -> Result<(), BookFault> {
         let said = self.store.commit();
-        or_back::<S, O, _>(&mut self.store, said)
+        rollback_on_fault::<S, O, _>(&mut self.store, said)
     }
 }

@@ -1,23 +1,23 @@
 //! When deleted domains are due, computed anew: rows that mean the same.
 ghost use Rattle.std.specs.Prelude.{◌≡◌, true, int_le, pos, IfSome, Some};
-ghost use Rattle.columns.specs.Numbers as numbers;
+ghost use Rattle.sqlcolumns.specs.Numbers as numbers;
 ghost use Rattle.lifecycle.specs.Lapse as lapse;
 ghost use Rattle.lifecycle.specs.Periods.{rules_with};
-ghost use Rattle.meanings.specs.Calls.{Turns};
-ghost use Rattle.transactions.specs.States.{Meets};
-ghost use Rattle.sqlbook.specs.Replacing.{IsExchangedThere, IsReplaced, IsStanding};
-ghost use Rattle.sqlbook.specs.Suiting.{MeansSame};
+ghost use Rattle.sqlrows.specs.Meanings.{Changes};
+ghost use Rattle.transactions.specs.States.{FindsSome};
+ghost use Rattle.sqlbook.specs.inner.Replacing.{IsExchangedThere, IsReplaced, IsStanding};
+ghost use Rattle.sqlbook.specs.inner.Suiting.{MeansSame};
 
 use crate::changed_domains::{exchange, sponsor_of};
 use basis::text::Text;
 use calendar::Moment;
 use objects::Domain;
 use policy::Schedule;
-use sqldue::{deleted, deleted_names, end_of_deletion, same_days};
 use sqlite::Alter;
 use sqlobjects::follow;
+use sqlsums::{deleted, deleted_names, end_of_deletion, same_days};
+use sqltables::RowStore;
 use std::alloc::Global;
-use tables::RowStore;
 use transactions::BookFault;
 
 /// Gives the row of each deleted domain the moment when it is purged, by the lengths that were put down or
@@ -29,7 +29,7 @@ pub(crate) fn redate<S: Alter>(
     others: &Schedule,
 ) -> Result<(), BookFault>
     requires { store.old.is_open ≡ true }
-    ensures { Turns result MeansSame store.old store.new }
+    ensures { Changes result MeansSame store.old store.new }
 {
     let names = deleted_names(store, alloc)?;
     let redated = redate_all(store, alloc, names.as_slice(), days, others);
@@ -46,7 +46,7 @@ fn redate_all<S: Alter>(
     others: &Schedule,
 ) -> Result<(), BookFault>
     requires { store.old.is_open ≡ true }
-    ensures { Turns result MeansSame store.old store.new }
+    ensures { Changes result MeansSame store.old store.new }
 {
     for name in names {
         redate_one(store, alloc, name, days, others)?;
@@ -63,7 +63,7 @@ fn redate_one<S: Alter>(
     others: &Schedule,
 ) -> Result<(), BookFault>
     requires { store.old.is_open ≡ true }
-    ensures { Turns result MeansSame store.old store.new }
+    ensures { Changes result MeansSame store.old store.new }
 {
     let Some(domain) = sqldomains::domain(store, alloc, name)? else {
         return Err(BookFault::Store);
@@ -99,7 +99,7 @@ fn replace<S: Alter>(
     days: &Schedule,
 ) -> Result<(), BookFault>
     requires { store.old.is_open ≡ true }
-    ensures { Turns result (IsReplaced name.now days.now after.now due) store.old store.new }
+    ensures { Changes result (IsReplaced name.now days.now after.now due) store.old store.new }
 {
     follow(store, name, sponsor_of(after))?;
     exchange_there(store, alloc, name, after, due, days)?;
@@ -115,7 +115,7 @@ fn exchange_there<S: Alter>(
     days: &Schedule,
 ) -> Result<(), BookFault>
     requires { store.old.is_open ≡ true }
-    ensures { Turns result (IsExchangedThere name.now days.now after.now due) store.old store.new }
+    ensures { Changes result (IsExchangedThere name.now days.now after.now due) store.old store.new }
 {
     store.whole();
     let before = found(store, alloc, name, days)?;
@@ -132,7 +132,7 @@ fn found<S: Alter>(
     name: &Text,
     days: &Schedule,
 ) -> Result<Option<Domain>, BookFault>
-    ensures { Meets result (IsStanding name.now days.now store.old.content) store.old store.new }
+    ensures { FindsSome result (IsStanding name.now days.now store.old.content) store.old store.new }
 {
     same_days(store, alloc, days)?;
     deleted(store, alloc, name, days)

@@ -6,17 +6,18 @@ use Rattle.sqlite_keyed.specs.Keyed.{get_by}
 use Rattle.sqlite_keyed.proofs.KeyedLemmas.{key-get_by}
 use Rattle.sqlite_rules.specs.Lists.{Has}
 use Rattle.objects.specs.Links.{names_contact, names_host}
-use Rattle.tables.specs.Contact as contact_table
-use Rattle.tables.specs.Content.{Content}
-use Rattle.tables.specs.Domain as table
-use Rattle.tables.specs.Host as host_table
-use Rattle.tables.specs.Link.{link_with_contact, link_with_host}
-use Rattle.tables.specs.Whole.{IsWhole}
-use Rattle.tables.proofs.RowLemmas.{bytes_same}
-use Rattle.meanings.specs.Read.{rows_of}
+use Rattle.sqltables.specs.Contact as contact_table
+use Rattle.sqltables.specs.Content.{Content}
+use Rattle.sqltables.specs.Domain as table
+use Rattle.sqltables.specs.inner.Domain as inner_table
+use Rattle.sqltables.specs.Host as host_table
+use Rattle.sqltables.specs.Link.{link_with_contact, link_with_host}
+use Rattle.sqltables.specs.inner.Whole.{IsWhole}
+use Rattle.sqltables.proofs.RowLemmas.{bytes_same}
+use Rattle.sqlrows.specs.Read.{rows_of}
 use Rattle.sqlobjects.specs.Changes.{contact_name, host_name}
 use Rattle.sqlobjects.proofs.PutLemmas.{bytes_is, filter-has, has-filter, has-get_by}
-use Rattle.sqldomains.specs.Links.{IsNoContact, IsNumberOfContact, IsNumberOfHost, IsUseOfContact, IsUseOfHost, Passes, is_linked_contact, is_linked_host}
+use Rattle.sqldomains.specs.inner.Links.{IsNoContact, IsNumberOfContact, IsNumberOfHost, IsUseOfContact, IsUseOfHost, Passes, is_linked_contact, is_linked_host}
 use Rattle.sqldomains.proofs.LinkedLemmas.{contact-unnamed, host-unnamed, one-passes}
 
 pub equal : (a b : ℤ) → a ≡ b → int_eq a b ≡ true
@@ -79,7 +80,7 @@ module _ (xs : Content) (name : List ℕ) (whole : IsWhole xs) where
   pub contact-unused : (id : ℤ) → IsNumberOfContact xs name (Some id) → IsNoContact xs id → is_linked_contact xs name ≡ false
   contact-unused id it none =
       contact-unnamed xs name
-      (λ row there at. subst (λ l. Has l row) none.registrant (filter-has (table.domain_with_registrant id) xs.domains row there (equal row.registrant id (only-contact id it row.registrant at))))
+      (λ row there at. subst (λ l. Has l row) none.registrant (filter-has (inner_table.domain_with_registrant id) xs.domains row there (equal row.registrant id (only-contact id it row.registrant at))))
       (λ row there leads. subst (λ l. Has l row) none.links (filter-has (link_with_contact id) xs.links row there (subst (λ c. link_with_contact id (record row { contact = c }) ≡ true) (sym leads.1) (equal leads.0 id (only-contact id it leads.0 leads.2)))))
 
   pub contact-used : (row : table.Domain) → Has xs.domains row → Passes xs (λ d. names_contact name d.links) row → is_linked_contact xs name ≡ true

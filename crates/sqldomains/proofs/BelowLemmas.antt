@@ -7,19 +7,19 @@ use Rattle.std.proofs.lemmas.Slice.Eq.{bytes_eq-Decides}
 use Rattle.sqlite_rules.specs.Lists.{Has}
 use Rattle.objects.specs.declared.host.Host.{Host}
 use Rattle.objects.specs.Hosts.{is_below}
-use Rattle.columns.specs.Above.{above}
-use Rattle.columns.specs.Hosts.{columns_in, host_with}
-use Rattle.columns.specs.Steps.{◌>>=◌}
-use Rattle.columns.specs.Texts.{statuses_in}
-use Rattle.columns.proofs.AboveLemmas.{same_above}
-use Rattle.columns.proofs.ReadLemmas as reading
-use Rattle.tables.specs.Content.{Content}
-use Rattle.tables.specs.Host as table
-use Rattle.tables.proofs.RowLemmas.{bytes_same}
+use Rattle.sqlcolumns.specs.Above.{above}
+use Rattle.sqlcolumns.specs.Hosts.{columns_in, host_with}
+use Rattle.sqlcolumns.specs.Steps.{◌>>=◌}
+use Rattle.sqlcolumns.specs.Texts.{statuses_in}
+use Rattle.sqlcolumns.proofs.AboveLemmas.{same_above}
+use Rattle.sqlcolumns.proofs.ReadLemmas as reading
+use Rattle.sqltables.specs.Content.{Content}
+use Rattle.sqltables.specs.Host as table
+use Rattle.sqltables.proofs.RowLemmas.{bytes_same}
 use Rattle.sqlobjects.specs.Objects.{addresses_of, host_of, hosts_of}
 use Rattle.sqlobjects.proofs.NameLemmas.{host-named}
 use Rattle.sqlobjects.proofs.PutLemmas.{bytes_is, filter-has, has-filter}
-use Rattle.sqldomains.specs.Names.{NameSet, host_standing, hosts_below, is_dotted, rows_around, with_read}
+use Rattle.sqldomains.specs.inner.Names.{NameSet, host_standing, hosts_below, is_dotted, rows_around, with_read}
 use Rattle.sqldomains.proofs.LinkedLemmas.{first-has}
 use Rattle.sqldomains.proofs.NameOrderLemmas.{by-rows}
 

@@ -2,44 +2,48 @@
 use Rattle.std.proofs.Common.{◌≡◌, ℕ, ℤ, pos, false, List, [], ◌∷◌, ◌++◌, filter, Option, Some, None, option_map, refl, sym, ap, subst, ◌∙◌, int_eq}
 use Rattle.std.specs.FinMap.{from_entries}
 use Rattle.std.specs.List.{filter_map}
-use Rattle.rows.specs.Layouts.{appended}
+use Rattle.sqlrows.specs.inner.Layouts.{appended}
 use Rattle.sqlite_keyed.specs.Keyed.{insert_by, next_key}
 use Rattle.sqlite_keyed.specs.Lists.{delete_where}
 use Rattle.sqlite_rules.specs.Lists.{Has}
 use Rattle.sqlite_typed.specs.Tests.{bytes_eq}
 use Rattle.objects.specs.declared.domain.Domain.{Domain}
 use Rattle.objects.specs.declared.roid.ObjectKind.TheVariants as kinds
-use Rattle.columns.specs.Contacts.{contact_in}
-use Rattle.columns.specs.Domains.{IsDomain, deletion_columns, domain_in, registration_of, row_with}
-use Rattle.columns.specs.Numbers.{maybe_registrar_column, moment_column, registrar_column}
-use Rattle.columns.specs.Registrations.{columns_with, registration_columns}
-use Rattle.columns.specs.Roids.{roid_columns}
-use Rattle.columns.specs.Steps.{◌>>=◌}
-use Rattle.columns.proofs.DomainLemmas.{domain_back}
-use Rattle.columns.proofs.ReadLemmas.{passed, same_some, step}
-use Rattle.tables.specs.Contact as contact_table
-use Rattle.tables.specs.Content.{Content, domains_to}
-use Rattle.tables.specs.Domain as table
-use Rattle.tables.specs.Link.{link_with_domain}
-use Rattle.tables.specs.Transfer.{transfer_with_contact, transfer_with_domain}
-use Rattle.tables.specs.Whole.{IsWhole}
-use Rattle.tables.proofs.RowLemmas.{bytes_same}
-use Rattle.meanings.specs.Read.{named, rows_of}
-use Rattle.sqlobjects.specs.Changes.{contact_name, host_name, put}
+use Rattle.sqlcolumns.specs.Contacts.{contact_in}
+use Rattle.sqlcolumns.specs.inner.Domains.{IsDomain, deletion_columns, registration_of, row_with}
+use Rattle.sqlcolumns.specs.Domains.{domain_in}
+use Rattle.sqlcolumns.specs.Numbers.{maybe_registrar_column, moment_column, registrar_column}
+use Rattle.sqlcolumns.specs.Registrations.{columns_with, registration_columns}
+use Rattle.sqlcolumns.specs.Roids.{roid_columns}
+use Rattle.sqlcolumns.specs.Steps.{◌>>=◌}
+use Rattle.sqlcolumns.proofs.DomainLemmas.{domain_back}
+use Rattle.sqlcolumns.proofs.ReadLemmas.{passed, same_some, step}
+use Rattle.sqltables.specs.Contact as contact_table
+use Rattle.sqltables.specs.Content.{Content}
+use Rattle.sqltables.specs.inner.Content.{domains_to}
+use Rattle.sqltables.specs.Domain as table
+use Rattle.sqltables.specs.inner.Domain as inner_table
+use Rattle.sqltables.specs.Link.{link_with_domain}
+use Rattle.sqltables.specs.Transfer.{transfer_with_contact, transfer_with_domain}
+use Rattle.sqltables.specs.inner.Whole.{IsWhole}
+use Rattle.sqltables.proofs.RowLemmas.{bytes_same}
+use Rattle.sqlrows.specs.Read.{named, rows_of}
+use Rattle.sqlobjects.specs.Changes.{contact_name, host_name}
+use Rattle.sqlobjects.specs.inner.Changes.{put}
 use Rattle.sqlobjects.specs.Objects.{contact_entry, contact_of, contacts_of, hosts_of, last_transfer}
-use Rattle.sqlobjects.specs.Stages.{AreOthersKept, IsPlaced}
+use Rattle.sqlobjects.specs.inner.Stages.{AreOthersKept, IsPlaced}
 use Rattle.sqlobjects.proofs.PutLemmas.{apart, drop-stands, found-added, map_of, none-stands, others-removed, placed-added, placed-put, none-removed, put-stands, row_there, filter-has}
-use Rattle.sqldomains.specs.declared.domain_rows.Beside.{Beside}
-use Rattle.sqldomains.specs.Changes.{IsDomainPut, sponsor_in}
+use Rattle.sqldomains.specs.declared.domain_rows.DerivedColumns.{DerivedColumns}
+use Rattle.sqldomains.specs.inner.Changes.{IsDomainPut, sponsor_in}
 use Rattle.sqldomains.specs.Domains.{are_dated, dated, domain_of, domains_of, links_of, registrant_alone, with_links}
-use Rattle.sqldomains.specs.Stages.{AreLinksCleared, AreLinksPut, AreOtherPartsKept, IsDomainAdded, IsDomainDropped, IsDomainPlaced, IsDomainPlacedAt, IsDomainRemoved, IsTransferCleared, IsTransferPut, row_beside}
+use Rattle.sqldomains.specs.inner.Stages.{AreLinksCleared, AreLinksPut, AreOtherPartsKept, IsDomainAdded, IsDomainDropped, IsDomainPlaced, IsDomainPlacedAt, IsDomainRemoved, IsTransferCleared, IsTransferPut, row_beside}
 use Rattle.sqldomains.proofs.LinkRowLemmas.{links-alike}
 
 abbrev name_of : table.Domain → List ℕ
 name_of row = row.name
 
 abbrev key : table.Domain → ℤ
-key = table.domains.key
+key = inner_table.domains.key
 
 -- ---- what else is as it was
 
@@ -91,9 +95,9 @@ nobody name rows none r there is = subst (λ l. Has l r) none (filter-has (table
 
 -- ---- dropped
 
-pub removed-so : (id number : ℤ) (xs b m : Content) → number ≡ id → AreLinksCleared number xs b → IsTransferCleared number b m → IsDomainRemoved id xs (domains_to (delete_where (table.domain_with_id number)) m)
+pub removed-so : (id number : ℤ) (xs b m : Content) → number ≡ id → AreLinksCleared number xs b → IsTransferCleared number b m → IsDomainRemoved id xs (domains_to (delete_where (inner_table.domain_with_id number)) m)
 removed-so id number xs b m same links transfer =
-    subst (λ k. IsDomainRemoved k xs (domains_to (delete_where (table.domain_with_id number)) m)) same (record {
+    subst (λ k. IsDomainRemoved k xs (domains_to (delete_where (inner_table.domain_with_id number)) m)) same (record {
       kept = record {
         links = λ other e. ap (λ (x : Content). filter (link_with_domain other) x.links) transfer.others.rest ∙ links.others.domains other e;
         transfers = λ other e. transfer.others.domains other e ∙ ap (λ (x : Content). filter (transfer_with_domain other) x.transfers) links.others.rest;
@@ -103,8 +107,8 @@ removed-so id number xs b m same links transfer =
             ∙ ap (λ (x : Content). record x { domains = xs.domains; links = xs.links; transfers = xs.transfers }) links.others.rest;
       };
       domains =
-          ap (λ (x : Content). delete_where (table.domain_with_id number) x.domains) transfer.others.rest
-          ∙ ap (λ (x : Content). delete_where (table.domain_with_id number) x.domains) links.others.rest;
+          ap (λ (x : Content). delete_where (inner_table.domain_with_id number) x.domains) transfer.others.rest
+          ∙ ap (λ (x : Content). delete_where (inner_table.domain_with_id number) x.domains) links.others.rest;
       links = ap (λ (x : Content). filter (link_with_domain number) x.links) transfer.others.rest ∙ links.none;
       transfers = transfer.none;
     })
@@ -155,7 +159,7 @@ module _ (xs ys : Content) (name : List ℕ) (whole : IsWhole xs) (after : IsWho
 
 -- ---- written into a row
 
-record IsWritten (id : ℤ) (beside : Beside) (d : Domain) (row : table.Domain) : Type 0 where
+record IsWritten (id : ℤ) (beside : DerivedColumns) (d : Domain) (row : table.Domain) : Type 0 where
   number : row.id ≡ id
   name : row.name ≡ d.name
   registrant : row.registrant ≡ beside.registrant
@@ -163,7 +167,7 @@ record IsWritten (id : ℤ) (beside : Beside) (d : Domain) (row : table.Domain) 
   sponsor : row.sponsor ≡ registrar_column d.sponsor
   again : (k : ℤ) → row_beside k beside d ≡ Some (record row { id = k })
 
-written : (id : ℤ) (beside : Beside) (d : Domain) (row : table.Domain) → row_beside id beside d ≡ Some row → IsWritten id beside d row
+written : (id : ℤ) (beside : DerivedColumns) (d : Domain) (row : table.Domain) → row_beside id beside d ≡ Some row → IsWritten id beside d row
 written id beside d row e =
     let columns = step (registration_columns kinds.Domain (registration_of d)) (λ x. Some (row_with id beside.registrant beside.due d x (deletion_columns d.deletion))) row e in
     let roid = step (roid_columns kinds.Domain d.roid) (λ x. Some (columns_with (registration_of d) x)) columns.given columns.is in
@@ -179,8 +183,8 @@ written id beside d row e =
     }
 
 -- into the row of its name
-pub put-placed : (xs : Content) (beside : Beside) (d : Domain) (found row : table.Domain) → row_beside found.id beside d ≡ Some row
-    → IsDomainPlacedAt (Some found) d beside row xs (domains_to (λ rows. insert_by table.domains.key rows row) xs)
+pub put-placed : (xs : Content) (beside : DerivedColumns) (d : Domain) (found row : table.Domain) → row_beside found.id beside d ≡ Some row
+    → IsDomainPlacedAt (Some found) d beside row xs (domains_to (λ rows. insert_by inner_table.domains.key rows row) xs)
 put-placed xs beside d found row e whole there =
     let w = written found.id beside d row e in
     record {
@@ -190,12 +194,12 @@ put-placed xs beside d found row e whole there =
     }
 
 -- under a number of its own, after the others
-pub added : (xs : Content) (beside : Beside) (d : Domain) (row : table.Domain) → row_beside (pos 0) beside d ≡ Some row → IsDomainAdded d beside xs (domains_to (appended table.domains (λ id. record row { id = id })) xs)
+pub added : (xs : Content) (beside : DerivedColumns) (d : Domain) (row : table.Domain) → row_beside (pos 0) beside d ≡ Some row → IsDomainAdded d beside xs (domains_to (appended inner_table.domains (λ id. record row { id = id })) xs)
 added xs beside d row e =
-    let k = next_key table.domains.key xs.domains in
+    let k = next_key inner_table.domains.key xs.domains in
     record { row = record row { id = k }; is = (written (pos 0) beside d row e).again k; content = refl }
 
-pub added-placed : (xs m : Content) (beside : Beside) (d : Domain) (row : table.Domain) → IsDomainAdded d beside xs m → filter (table.domain_with_name d.name) m.domains ≡ row ∷ [] → IsDomainPlacedAt None d beside row xs m
+pub added-placed : (xs m : Content) (beside : DerivedColumns) (d : Domain) (row : table.Domain) → IsDomainAdded d beside xs m → filter (table.domain_with_name d.name) m.domains ≡ row ∷ [] → IsDomainPlacedAt None d beside row xs m
 added-placed xs m beside d row add found whole none =
     let name = (written add.row.id beside d add.row add.is).name in
     let rows : m.domains ≡ xs.domains ++ add.row ∷ [] = ap (λ (x : Content). x.domains) add.content in
@@ -208,7 +212,7 @@ added-placed xs m beside d row add found whole none =
 
 -- ---- put
 
-module _ (xs m b ys : Content) (beside : Beside) (d : Domain) (row : table.Domain) (whole : IsWhole xs) (after : IsWhole ys) (is : IsDomain d) (registrant : contact_name xs beside.registrant ≡ Some d.links.registrant)
+module _ (xs m b ys : Content) (beside : DerivedColumns) (d : Domain) (row : table.Domain) (whole : IsWhole xs) (after : IsWhole ys) (is : IsDomain d) (registrant : contact_name xs beside.registrant ≡ Some d.links.registrant)
     (placed : IsDomainPlaced d beside row xs m) (named_by : AreLinksPut row.id row.due d.links m b) (with : IsTransferPut row.id d.transfer b ys) where
   rows_now : IsPlaced name_of d.name row xs.domains ys.domains
   rows_now = subst (IsPlaced name_of d.name row xs.domains) (sym (ap (λ (x : Content). x.domains) with.others.rest ∙ ap (λ (x : Content). x.domains) named_by.others.rest)) placed.rows

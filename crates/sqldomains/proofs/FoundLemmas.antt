@@ -3,13 +3,13 @@ use Rattle.std.proofs.Common.{◌≡◌, ℕ, List, Option, Result, Ok, ap, ◌�
 use Rattle.std.specs.Prelude.{filter}
 use Rattle.std.specs.FinMap.{get}
 use Rattle.objects.specs.declared.domain.Domain.{Domain}
-use Rattle.tables.specs.Content.{Content}
-use Rattle.tables.specs.Domain as table
+use Rattle.sqltables.specs.Content.{Content}
+use Rattle.sqltables.specs.Domain as table
 use Rattle.transactions.specs.declared.fault.BookFault.{BookFault}
 use Rattle.transactions.specs.States.{Finds, StateOf}
-use Rattle.meanings.specs.Read.{first_read}
-use Rattle.meanings.proofs.NameLemmas.{stands}
-use Rattle.meanings.proofs.StateLemmas.{finds-on}
+use Rattle.sqlrows.specs.Read.{first_read}
+use Rattle.sqlrows.proofs.NameLemmas.{stands}
+use Rattle.sqlrows.proofs.StateLemmas.{finds-on}
 use Rattle.sqldomains.specs.Domains.{domain_of, domains_of}
 
 pub domain-named : (xs : Content) (name : List ℕ) → first_read (domain_of xs) (filter (table.domain_with_name name) xs.domains) ≡ get (domains_of xs) name

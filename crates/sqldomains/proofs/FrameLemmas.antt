@@ -8,22 +8,23 @@ use Rattle.sqlite_rules.specs.Lists.{Has}
 use Rattle.objects.specs.declared.contact.Contact.{Contact}
 use Rattle.objects.specs.declared.domain.Links.{Links}
 use Rattle.objects.specs.declared.host.Host.{Host}
-use Rattle.columns.specs.declared.code.Role.{Role}
-use Rattle.columns.specs.declared.code.Role.TheVariants as roles
-use Rattle.columns.specs.Codes.{role_in}
-use Rattle.columns.specs.Domains.{domain_in}
-use Rattle.columns.specs.Numbers.{maybe_registrar_column}
-use Rattle.columns.specs.Steps.{◌>>=◌}
-use Rattle.columns.specs.Transfers.{is_same}
-use Rattle.tables.specs.Contact as contact_table
-use Rattle.tables.specs.Content.{Content}
-use Rattle.tables.specs.Domain as table
-use Rattle.tables.specs.Host as host_table
-use Rattle.tables.specs.Link.{Link, link_with_domain}
-use Rattle.tables.specs.Transfer.{transfer_with_domain}
-use Rattle.tables.specs.Whole.{IsWhole, LeadsTo}
-use Rattle.meanings.specs.Read.{named}
-use Rattle.sqlobjects.specs.Changes.{IsContactPut, IsHostPut, contact_name, host_name}
+use Rattle.sqlcolumns.specs.declared.code.Role.{Role}
+use Rattle.sqlcolumns.specs.declared.code.Role.TheVariants as roles
+use Rattle.sqlcolumns.specs.Codes.{role_in}
+use Rattle.sqlcolumns.specs.Domains.{domain_in}
+use Rattle.sqlcolumns.specs.Numbers.{maybe_registrar_column}
+use Rattle.sqlcolumns.specs.Steps.{◌>>=◌}
+use Rattle.sqlcolumns.specs.Transfers.{is_same}
+use Rattle.sqltables.specs.Contact as contact_table
+use Rattle.sqltables.specs.Content.{Content}
+use Rattle.sqltables.specs.Domain as table
+use Rattle.sqltables.specs.Host as host_table
+use Rattle.sqltables.specs.Link.{Link, link_with_domain}
+use Rattle.sqltables.specs.Transfer.{transfer_with_domain}
+use Rattle.sqltables.specs.inner.Whole.{IsWhole, LeadsTo}
+use Rattle.sqlrows.specs.Read.{named}
+use Rattle.sqlobjects.specs.inner.Changes.{IsContactPut, IsHostPut}
+use Rattle.sqlobjects.specs.Changes.{contact_name, host_name}
 use Rattle.sqlobjects.specs.Objects.{last_transfer}
 use Rattle.sqlobjects.specs.Sponsors.{IsFollowed, domain_sponsor, follows, with_sponsor}
 use Rattle.sqlobjects.proofs.PutLemmas.{has-filter}

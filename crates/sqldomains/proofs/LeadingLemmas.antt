@@ -9,12 +9,12 @@ use Rattle.std.specs.Ordering.{int_eq}
 use Rattle.objects.specs.declared.domain.Domain.{Domain}
 use Rattle.objects.specs.declared.domain.Links.{Links}
 use Rattle.objects.specs.Links.{has_name, names_contact, names_host}
-use Rattle.columns.specs.declared.code.Role.{Role}
-use Rattle.tables.specs.Contact as contact_table
-use Rattle.tables.specs.Content.{Content}
-use Rattle.tables.specs.Domain as table
-use Rattle.tables.specs.Host as host_table
-use Rattle.tables.specs.Link.{Link, link_with_domain}
+use Rattle.sqlcolumns.specs.declared.code.Role.{Role}
+use Rattle.sqltables.specs.Contact as contact_table
+use Rattle.sqltables.specs.Content.{Content}
+use Rattle.sqltables.specs.Domain as table
+use Rattle.sqltables.specs.Host as host_table
+use Rattle.sqltables.specs.Link.{Link, link_with_domain}
 use Rattle.sqlobjects.specs.Changes.{contact_name}
 use Rattle.sqlobjects.proofs.PutLemmas.{has-filter}
 use Rattle.sqldomains.specs.Domains.{domain_of, linked_name, registrant_alone, with_name}

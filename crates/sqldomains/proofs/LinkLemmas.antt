@@ -1,9 +1,9 @@
 -- What rows of links lead to, one after another.
 use Rattle.std.proofs.Common.{◌≡◌, List, ◌∷◌, Option, Some, sym, ap, ◌∙◌}
 use Rattle.objects.specs.declared.domain.Links.{Links}
-use Rattle.columns.specs.Steps.{◌>>=◌}
-use Rattle.tables.specs.Content.{Content}
-use Rattle.tables.specs.Link.{Link}
+use Rattle.sqlcolumns.specs.Steps.{◌>>=◌}
+use Rattle.sqltables.specs.Content.{Content}
+use Rattle.sqltables.specs.Link.{Link}
 use Rattle.sqldomains.specs.Domains.{with_link, with_links}
 
 -- with the first of the rows that are left

@@ -3,29 +3,30 @@ use Rattle.std.proofs.Common.{◌≡◌, inl, inr, ◌+◌, ◌<◌, ◌<ℤ◌,
 use Rattle.std.proofs.lemmas.Bool.Decides.{Decides-int_eq}
 use Rattle.std.proofs.lemmas.Int.{ints}
 use Rattle.std.proofs.lemmas.List.{append-nil, take_more}
-use Rattle.rows.specs.Layouts.{appended}
+use Rattle.sqlrows.specs.inner.Layouts.{appended}
 use Rattle.sqlite_keyed.specs.Keyed.{IsKeyedBy, get_by, next_key}
 use Rattle.sqlite_keyed.specs.Lists.{delete_where}
 use Rattle.sqlite_keyed.proofs.KeyedLemmas.{int_eq_apart, same_int}
 use Rattle.sqlite_rules.specs.Lists.{Has}
 use Rattle.objects.specs.declared.domain.Links.{Links}
-use Rattle.columns.specs.declared.code.Role.{Role}
-use Rattle.columns.specs.declared.code.Role.TheVariants as roles
-use Rattle.columns.specs.Codes.{role_in}
-use Rattle.columns.specs.Steps.{◌>>=◌}
-use Rattle.columns.proofs.CodeLemmas.{role_back}
-use Rattle.tables.specs.Contact as contact_table
-use Rattle.tables.specs.Content.{Content, links_to}
-use Rattle.tables.specs.Host as host_table
-use Rattle.tables.specs.Link as table
-use Rattle.tables.specs.Link.{Link, link_with_domain}
-use Rattle.tables.specs.Whole.{IsWhole}
-use Rattle.tables.proofs.RowLemmas.{all_at}
+use Rattle.sqlcolumns.specs.declared.code.Role.{Role}
+use Rattle.sqlcolumns.specs.declared.code.Role.TheVariants as roles
+use Rattle.sqlcolumns.specs.Codes.{role_in}
+use Rattle.sqlcolumns.specs.Steps.{◌>>=◌}
+use Rattle.sqlcolumns.proofs.CodeLemmas.{role_back}
+use Rattle.sqltables.specs.Contact as contact_table
+use Rattle.sqltables.specs.Content.{Content}
+use Rattle.sqltables.specs.inner.Content.{links_to}
+use Rattle.sqltables.specs.Host as host_table
+use Rattle.sqltables.specs.Link as table
+use Rattle.sqltables.specs.Link.{Link, link_with_domain}
+use Rattle.sqltables.specs.inner.Whole.{IsWhole}
+use Rattle.sqltables.proofs.RowLemmas.{all_at}
 use Rattle.sqlobjects.specs.Changes.{contact_name, host_name}
 use Rattle.sqlobjects.proofs.PutLemmas.{filter-append, filter-append_pass, filter-delete, filter-deleted}
 use Rattle.sqldomains.specs.Domains.{are_dated, linked_name, registrant_alone, with_link, with_links, with_name}
-use Rattle.sqldomains.specs.Links.{IsNumberOfContact, IsNumberOfHost}
-use Rattle.sqldomains.specs.Stages.{AreLinksCleared, AreLinksPut, AreNamesAdded, AreOtherLinksKept, IsLinkTo, Names, with_names}
+use Rattle.sqldomains.specs.inner.Links.{IsNumberOfContact, IsNumberOfHost}
+use Rattle.sqldomains.specs.inner.Stages.{AreLinksCleared, AreLinksPut, AreNamesAdded, AreOtherLinksKept, IsLinkTo, Names, with_names}
 use Rattle.sqldomains.proofs.LinkedLemmas.{registrant-more}
 
 -- ---- rows read where names are alike

@@ -12,22 +12,23 @@ use Rattle.basis.proofs.EntryLaws.{Each, among_values, each_entry}
 use Rattle.objects.specs.declared.domain.Domain.{Domain}
 use Rattle.objects.specs.declared.domain.Links.{Links}
 use Rattle.objects.specs.Links.{has_name, names_contact, names_host}
-use Rattle.columns.specs.declared.code.Role.{Role}
-use Rattle.columns.specs.declared.code.Role.TheVariants as roles
-use Rattle.columns.specs.Codes.{role_in}
-use Rattle.columns.specs.Domains.{columns_of, deletion_in, domain_in}
-use Rattle.columns.specs.Numbers.{years_in}
-use Rattle.columns.specs.Registrations.{registration_in}
-use Rattle.columns.specs.Steps.{◌>>=◌}
-use Rattle.columns.specs.Texts.{statuses_in}
-use Rattle.columns.proofs.ReadLemmas.{kept, same_some, step}
+use Rattle.sqlcolumns.specs.declared.code.Role.{Role}
+use Rattle.sqlcolumns.specs.declared.code.Role.TheVariants as roles
+use Rattle.sqlcolumns.specs.Codes.{role_in}
+use Rattle.sqlcolumns.specs.Domains.{columns_of, deletion_in, domain_in}
+use Rattle.sqlcolumns.specs.Numbers.{years_in}
+use Rattle.sqlcolumns.specs.Registrations.{registration_in}
+use Rattle.sqlcolumns.specs.Steps.{◌>>=◌}
+use Rattle.sqlcolumns.specs.Texts.{statuses_in}
+use Rattle.sqlcolumns.proofs.ReadLemmas.{kept, same_some, step}
 use Rattle.objects.specs.declared.roid.ObjectKind.TheVariants as kinds
-use Rattle.tables.specs.Content.{Content}
-use Rattle.tables.specs.Domain as table
-use Rattle.tables.specs.Link.{Link, link_with_domain}
-use Rattle.tables.specs.Transfer.{transfer_with_domain}
-use Rattle.tables.specs.Whole.{IsWhole}
-use Rattle.meanings.specs.Read.{first_read, or_else}
+use Rattle.sqltables.specs.Content.{Content}
+use Rattle.sqltables.specs.Domain as table
+use Rattle.sqltables.specs.inner.Domain as inner_table
+use Rattle.sqltables.specs.Link.{Link, link_with_domain}
+use Rattle.sqltables.specs.Transfer.{transfer_with_domain}
+use Rattle.sqltables.specs.inner.Whole.{IsWhole}
+use Rattle.sqlrows.specs.Read.{first_read, or_else}
 use Rattle.sqlobjects.specs.Changes.{contact_name, host_name}
 use Rattle.sqlobjects.specs.Objects.{last_transfer}
 use Rattle.sqlobjects.proofs.PutLemmas.{has-filter, only_named}
@@ -60,7 +61,7 @@ module _ (xs : Content) (test : Domain → Bool) where
   -- where the domain of a row passes, one does
   pub one-passes : IsWhole xs → (row : table.Domain) (d : Domain) → Has xs.domains row → domain_of xs row ≡ Some d → test d ≡ true → list_any test (values (domains_of xs)) ≡ true
   one-passes whole row d there reads passes =
-      let alone = only_named table.domains.key (λ (r : table.Domain). r.name) xs.domains row whole.keyed.domains whole.named.domains there in
+      let alone = only_named inner_table.domains.key (λ (r : table.Domain). r.name) xs.domains row whole.keyed.domains whole.named.domains there in
       let found : get (domains_of xs) row.name ≡ Some d = sym (domain-named xs row.name) ∙ ap (first_read (domain_of xs)) alone ∙ ap (λ o. or_else o None) reads in
       among_values (slice_cmp nat_cmp) test (domains_of xs) row.name d passes found
 

@@ -15,24 +15,25 @@ use Rattle.basis.proofs.MapLemmas.{entries-from_entries, entries-map_values, get
 use Rattle.basis.proofs.SweepLaws.{entries-kept}
 use Rattle.objects.specs.declared.domain.Domain.{Domain}
 use Rattle.objects.specs.Links.{names_host}
-use Rattle.columns.specs.Domains.{columns_of, deletion_in}
-use Rattle.columns.specs.Numbers.{years_in}
-use Rattle.columns.specs.Registrations.{registration_in}
-use Rattle.columns.specs.Steps.{◌>>=◌}
-use Rattle.columns.specs.Texts.{statuses_in}
-use Rattle.columns.proofs.ReadLemmas.{same_some, step}
+use Rattle.sqlcolumns.specs.Domains.{columns_of, deletion_in}
+use Rattle.sqlcolumns.specs.Numbers.{years_in}
+use Rattle.sqlcolumns.specs.Registrations.{registration_in}
+use Rattle.sqlcolumns.specs.Steps.{◌>>=◌}
+use Rattle.sqlcolumns.specs.Texts.{statuses_in}
+use Rattle.sqlcolumns.proofs.ReadLemmas.{same_some, step}
 use Rattle.objects.specs.declared.roid.ObjectKind.TheVariants as kinds
-use Rattle.tables.specs.Content.{Content}
-use Rattle.tables.specs.Domain as table
-use Rattle.tables.specs.Link.{Link, link_with_domain, link_with_host}
-use Rattle.tables.specs.Transfer.{transfer_with_domain}
-use Rattle.tables.specs.Whole.{IsWhole}
-use Rattle.meanings.specs.Read.{first_read, or_else}
+use Rattle.sqltables.specs.Content.{Content}
+use Rattle.sqltables.specs.Domain as table
+use Rattle.sqltables.specs.inner.Domain as inner_table
+use Rattle.sqltables.specs.Link.{Link, link_with_domain, link_with_host}
+use Rattle.sqltables.specs.Transfer.{transfer_with_domain}
+use Rattle.sqltables.specs.inner.Whole.{IsWhole}
+use Rattle.sqlrows.specs.Read.{first_read, or_else}
 use Rattle.sqlobjects.specs.Objects.{last_transfer}
 use Rattle.sqlobjects.proofs.PutLemmas.{bytes_is, filter-has, has-filter, has-get_by, only_named}
 use Rattle.sqldomains.specs.Domains.{domain_of, domains_of, links_of}
-use Rattle.sqldomains.specs.Links.{IsNumberOfHost}
-use Rattle.sqldomains.specs.Names.{NameSet, domain_names, domains_naming, if_named, name_in, name_naming, with_one, with_read}
+use Rattle.sqldomains.specs.inner.Links.{IsNumberOfHost}
+use Rattle.sqldomains.specs.inner.Names.{NameSet, domain_names, domains_naming, if_named, name_in, name_naming, with_one, with_read}
 use Rattle.sqldomains.proofs.AnswerLemmas.{equal, nowhere-host, only-host}
 use Rattle.sqldomains.proofs.FoundLemmas.{domain-named}
 use Rattle.sqldomains.proofs.LinkedLemmas.{LeadsToHost, Naming, all-rows, first-has, host-more, naming}
@@ -180,7 +181,7 @@ name-read xs row d e =
 
 pub stands-there : (xs : Content) (row : table.Domain) (d : Domain) → IsWhole xs → Has xs.domains row → domain_of xs row ≡ Some d → get (domains_of xs) row.name ≡ Some d
 stands-there xs row d whole there reads =
-    sym (domain-named xs row.name) ∙ ap (first_read (domain_of xs)) (only_named table.domains.key (λ (r : table.Domain). r.name) xs.domains row whole.keyed.domains whole.named.domains there) ∙ ap (λ o. or_else o None) reads
+    sym (domain-named xs row.name) ∙ ap (first_read (domain_of xs)) (only_named inner_table.domains.key (λ (r : table.Domain). r.name) xs.domains row whole.keyed.domains whole.named.domains there) ∙ ap (λ o. or_else o None) reads
 
 -- the row under a name
 pub row-under : (xs : Content) (n : List ℕ) (d : Domain) → get (domains_of xs) n ≡ Some d → (row : table.Domain) × Has xs.domains row × (domain_of xs row ≡ Some d) × (row.name ≡ n)
@@ -220,7 +221,7 @@ no-keys = ap (map (λ (e : List ℕ × Unit {0}). e.0)) (entries-from_entries (s
 
 record Naming-it (host : List ℕ) (xs : Content) (link : Link) (n : List ℕ) : Type 0 where
   row : table.Domain
-  row_is : get_by table.domains.key xs.domains link.domain ≡ Some row
+  row_is : get_by inner_table.domains.key xs.domains link.domain ≡ Some row
   domain : Domain
   reads : domain_of xs row ≡ Some domain
   names_it : names_host host domain.links ≡ true
@@ -235,7 +236,7 @@ if-named host d n e = go (names_host host d.links) refl e
 
 naming-it : (host : List ℕ) (xs : Content) (link : Link) (n : List ℕ) → name_naming host xs link ≡ Some n → Naming-it host xs link n
 naming-it host xs link n e =
-    let row = step (get_by table.domains.key xs.domains link.domain) (λ r. domain_of xs r >>= (λ d. if_named host d)) n e in
+    let row = step (get_by inner_table.domains.key xs.domains link.domain) (λ r. domain_of xs r >>= (λ d. if_named host d)) n e in
     let domain = step (domain_of xs row.given) (λ d. if_named host d) n row.rest in
     let both = if-named host domain.given n domain.rest in
     record { row = row.given; row_is = row.is; domain = domain.given; reads = domain.is; names_it = both.0; name_is = both.1 }
@@ -245,7 +246,7 @@ module _ (host : List ℕ) (xs : Content) (whole : IsWhole xs) where
   link-stands : (link : Link) (n : List ℕ) → name_naming host xs link ≡ Some n → (d : Domain) × (get (domains_of xs) n ≡ Some d) × (names_host host d.links ≡ true)
   link-stands link n e =
       let it = naming-it host xs link n e in
-      let there = has-get_by table.domains.key xs.domains link.domain it.row it.row_is in
+      let there = has-get_by inner_table.domains.key xs.domains link.domain it.row it.row_is in
       (it.domain, ap (get (domains_of xs)) (sym it.name_is ∙ name-read xs it.row it.domain it.reads) ∙ stands-there xs it.row it.domain whole there it.reads, it.names_it)
 
   -- the link by which a domain names the host
@@ -267,7 +268,7 @@ module _ (host : List ℕ) (xs : Content) (whole : IsWhole xs) where
             found.2,
             λ k reads.
                 let it = naming-it host xs found.0 k reads in
-                let same : row.0 ≡ it.row = same_some row.0 it.row (sym (get_by-has table.domains.key xs.domains row.0 whole.keyed.domains row.1) ∙ ap (get_by table.domains.key xs.domains) (sym (same_int found.0.domain row.0.id link.1)) ∙ it.row_is) in
+                let same : row.0 ≡ it.row = same_some row.0 it.row (sym (get_by-has inner_table.domains.key xs.domains row.0 whole.keyed.domains row.1) ∙ ap (get_by inner_table.domains.key xs.domains) (sym (same_int found.0.domain row.0.id link.1)) ∙ it.row_is) in
                 sym it.name_is ∙ name-read xs it.row it.domain it.reads ∙ sym (ap (λ (r : table.Domain). r.name) same) ∙ row.3,
           )
 

@@ -10,27 +10,27 @@ use Rattle.objects.specs.declared.contact.Contact.{Contact}
 use Rattle.objects.specs.declared.domain.Domain.{Domain}
 use Rattle.objects.specs.declared.host.Host.{Host}
 use Rattle.objects.specs.declared.roid.ObjectKind.TheVariants as kinds
-use Rattle.columns.specs.Domains.{columns_of, deletion_in}
-use Rattle.columns.specs.Numbers.{maybe_moment_in, maybe_registrar_column, moment_in, registrar_column, registrar_in, years_in}
-use Rattle.columns.specs.Registrations.{registration_in}
-use Rattle.columns.specs.Roids.{roid_in}
-use Rattle.columns.specs.Texts.{statuses_in}
-use Rattle.columns.specs.Transfers.{is_same}
-use Rattle.columns.proofs.NumberLemmas.{registrar_written}
-use Rattle.columns.proofs.ReadLemmas.{same_some, step}
-use Rattle.tables.specs.Content.{Content}
-use Rattle.tables.specs.Domain as table
-use Rattle.tables.specs.Host as host_table
-use Rattle.tables.specs.Transfer.{transfer_with_domain}
-use Rattle.tables.proofs.RowLemmas.{bytes_same}
-use Rattle.meanings.specs.Read.{first_read, or_else}
-use Rattle.sqlobjects.specs.Changes.{IsContactPut, IsHostPut, put}
+use Rattle.sqlcolumns.specs.Domains.{columns_of, deletion_in}
+use Rattle.sqlcolumns.specs.Numbers.{maybe_moment_in, maybe_registrar_column, moment_in, registrar_column, registrar_in, years_in}
+use Rattle.sqlcolumns.specs.Registrations.{registration_in}
+use Rattle.sqlcolumns.specs.Roids.{roid_in}
+use Rattle.sqlcolumns.specs.Texts.{statuses_in}
+use Rattle.sqlcolumns.specs.Transfers.{is_same}
+use Rattle.sqlcolumns.proofs.NumberLemmas.{registrar_written}
+use Rattle.sqlcolumns.proofs.ReadLemmas.{same_some, step}
+use Rattle.sqltables.specs.Content.{Content}
+use Rattle.sqltables.specs.Domain as table
+use Rattle.sqltables.specs.Host as host_table
+use Rattle.sqltables.specs.Transfer.{transfer_with_domain}
+use Rattle.sqltables.proofs.RowLemmas.{bytes_same}
+use Rattle.sqlrows.specs.Read.{first_read, or_else}
+use Rattle.sqlobjects.specs.inner.Changes.{IsContactPut, IsHostPut, put}
 use Rattle.sqlobjects.specs.Objects.{last_transfer}
 use Rattle.sqlobjects.specs.Sponsors.{AreMoved, IsFollowed, domain_sponsor, first_sponsor, follows, is_sponsor_right, sponsors_are_right, with_sponsor}
-use Rattle.sqlobjects.specs.Stages.{AreOthersKept}
+use Rattle.sqlobjects.specs.inner.Stages.{AreOthersKept}
 use Rattle.sqlobjects.proofs.PutLemmas.{bytes_is, filter-has, has-filter}
 use Rattle.sqlobjects.proofs.SponsorLemmas.{same-from, same-is, sponsor-kept}
-use Rattle.sqldomains.specs.Changes.{IsDomainPut, sponsor_in}
+use Rattle.sqldomains.specs.inner.Changes.{IsDomainPut, sponsor_in}
 use Rattle.sqldomains.specs.Domains.{domain_of, domains_of, links_of}
 use Rattle.sqldomains.proofs.FoundLemmas.{domain-named}
 

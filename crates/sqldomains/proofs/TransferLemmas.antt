@@ -9,14 +9,15 @@ use Rattle.sqlite_keyed.proofs.KeyedLemmas.{same_int}
 use Rattle.sqlite_keyed.proofs.ListLemmas.{none_from_any}
 use Rattle.sqlite_rules.specs.Lists.{Has}
 use Rattle.objects.specs.declared.transfer.Transfer as object
-use Rattle.columns.specs.Transfers.{IsTransfer, transfer_row}
-use Rattle.columns.proofs.TransferLemmas.{transfer_back}
-use Rattle.tables.specs.Content.{Content, transfers_to}
-use Rattle.tables.specs.Transfer.{Transfer, transfer_with_domain, transfer_with_contact, transfers}
-use Rattle.tables.proofs.RowLemmas.{all_at}
+use Rattle.sqlcolumns.specs.Transfers.{IsTransfer, transfer_row}
+use Rattle.sqlcolumns.proofs.TransferLemmas.{transfer_back}
+use Rattle.sqltables.specs.Content.{Content}
+use Rattle.sqltables.specs.inner.Content.{transfers_to}
+use Rattle.sqltables.specs.Transfer.{Transfer, transfer_with_domain, transfer_with_contact, transfers}
+use Rattle.sqltables.proofs.RowLemmas.{all_at}
 use Rattle.sqlobjects.specs.Objects.{last_transfer}
-use Rattle.sqlobjects.specs.Stages.{with_added}
-use Rattle.sqldomains.specs.Stages.{IsTransferCleared, IsTransferPut, transfer_row_of}
+use Rattle.sqlobjects.specs.inner.Stages.{with_added}
+use Rattle.sqldomains.specs.inner.Stages.{IsTransferCleared, IsTransferPut, transfer_row_of}
 use Rattle.sqlobjects.proofs.PutLemmas.{filter-append, filter-append_pass, filter-delete, filter-deleted, filter-has}
 
 -- ---- removed

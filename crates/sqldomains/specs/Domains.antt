@@ -6,16 +6,16 @@ use Rattle.std.specs.List.{filter_map, list_all}
 use Rattle.std.specs.Ordering.{int_eq, nat_cmp}
 use Rattle.objects.specs.declared.domain.Domain.{Domain}
 use Rattle.objects.specs.declared.domain.Links.{Links}
-use Rattle.columns.specs.declared.code.Role.{Role}
-use Rattle.columns.specs.declared.code.Role.TheVariants as roles
-use Rattle.columns.specs.Codes.{role_in}
-use Rattle.columns.specs.Domains.{domain_in}
-use Rattle.columns.specs.Steps.{◌>>=◌}
-use Rattle.tables.specs.Content.{Content}
-use Rattle.tables.specs.Domain as domain_table
-use Rattle.tables.specs.Link.{Link, link_with_domain}
-use Rattle.tables.specs.Transfer.{transfer_with_domain}
-use Rattle.meanings.specs.Read.{named}
+use Rattle.sqlcolumns.specs.declared.code.Role.{Role}
+use Rattle.sqlcolumns.specs.declared.code.Role.TheVariants as roles
+use Rattle.sqlcolumns.specs.Codes.{role_in}
+use Rattle.sqlcolumns.specs.Domains.{domain_in}
+use Rattle.sqlcolumns.specs.Steps.{◌>>=◌}
+use Rattle.sqltables.specs.Content.{Content}
+use Rattle.sqltables.specs.Domain as domain_table
+use Rattle.sqltables.specs.Link.{Link, link_with_domain}
+use Rattle.sqltables.specs.Transfer.{transfer_with_domain}
+use Rattle.sqlrows.specs.Read.{named}
 use Rattle.sqlobjects.specs.Changes.{contact_name, host_name}
 use Rattle.sqlobjects.specs.Objects.{last_transfer}
 

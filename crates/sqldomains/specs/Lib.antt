@@ -1,5 +1,2 @@
 pub mod Domains
-pub mod Links
-pub mod Stages
-pub mod Changes
-pub mod Names
+pub mod inner

@@ -2,20 +2,20 @@
 ghost use Rattle.std.specs.Prelude.{◌≡◌, Some, IfOk, filter, map};
 ghost use Rattle.std.specs.FinMap.{empty};
 ghost use Rattle.objects.specs.Hosts as hosts;
-ghost use Rattle.tables.specs.Host.{Host};
-ghost use Rattle.transactions.specs.States.{Finds, Meets};
-ghost use Rattle.sqldomains.specs.Names as spec;
+ghost use Rattle.sqltables.specs.Host.{Host};
+ghost use Rattle.transactions.specs.States.{Finds, FindsSome};
+ghost use Rattle.sqldomains.specs.inner.Names as spec;
 
 use crate::names_in_order::{listed, with_name};
 use basis::list::Seq;
 use basis::maps::NameMap;
 use basis::text::Text;
-use columns::above_column;
 use objects::is_below;
+use sqlcolumns::above_column;
 use sqlite::Alter;
 use sqlobjects::has_host;
+use sqltables::{HostRow, RowStore};
 use std::alloc::{AllocError, Global};
-use tables::{HostRow, RowStore};
 use transactions::BookFault;
 
 /// The names of the hosts below a domain, in the order of their bytes.
@@ -81,7 +81,7 @@ fn with_hosts<S: Alter>(
     alloc: Global,
     found: Seq<Text>,
 ) -> Result<NameMap<()>, BookFault>
-    ensures { Meets result (λ all. spec.with_read (spec.host_standing store.old.content) empty found
+    ensures { FindsSome result (λ all. spec.with_read (spec.host_standing store.old.content) empty found
         ≡ Some all) store.old store.new }
 {
     let mut names = NameMap::new(alloc);
@@ -97,7 +97,7 @@ fn with_host<S: Alter>(
     names: NameMap<()>,
     name: Text,
 ) -> Result<NameMap<()>, BookFault>
-    ensures { Meets result (λ more. spec.with_one names (spec.host_standing store.old.content name)
+    ensures { FindsSome result (λ more. spec.with_one names (spec.host_standing store.old.content name)
         ≡ Some more) store.old store.new }
 {
     let is_there = has_host(store, alloc, &name)?;

@@ -1,19 +1,19 @@
 //! Domains put under their names and dropped.
 ghost use Rattle.std.specs.Prelude.{◌≡◌, true, Some, None};
-ghost use Rattle.meanings.specs.Calls.{Turns};
+ghost use Rattle.sqlrows.specs.Meanings.{Changes};
 ghost use Rattle.sqlobjects.specs.Changes.{contact_name};
-ghost use Rattle.sqldomains.specs.Changes.{IsDomainPut};
+ghost use Rattle.sqldomains.specs.inner.Changes.{IsDomainPut};
 
-use crate::domain_rows::{Beside, place, remove_found, row_named};
+use crate::domain_rows::{DerivedColumns, place, remove_found, row_named};
 use crate::link_rows::{contact_number, put_links};
 use crate::transfers::put_transfer;
 use basis::text::Text;
 use calendar::Moment;
-use columns::is_domain;
 use objects::Domain;
+use sqlcolumns::is_domain;
 use sqlite::Alter;
+use sqltables::RowStore;
 use std::alloc::Global;
-use tables::RowStore;
 use transactions::BookFault;
 
 /// The domain stands under this name, which has to be its own, and its row is due at this moment. What
@@ -26,7 +26,7 @@ pub fn put_domain<S: Alter>(
     due: Moment,
 ) -> Result<(), BookFault>
     requires { store.old.is_open ≡ true }
-    ensures { Turns result (IsDomainPut name.now (Some domain.now) (Some due)) store.old store.new }
+    ensures { Changes result (IsDomainPut name.now (Some domain.now) (Some due)) store.old store.new }
 {
     if domain.name.as_str() != name.as_str() {
         return Err(BookFault::Store);
@@ -42,11 +42,11 @@ fn put<S: Alter>(
     due: Moment,
 ) -> Result<(), BookFault>
     requires { store.old.is_open ≡ true }
-    ensures { Turns result (IsDomainPut domain.now.name (Some domain.now) (Some due)) store.old
+    ensures { Changes result (IsDomainPut domain.now.name (Some domain.now) (Some due)) store.old
         store.new }
 {
     let registrant = contact_number(store, &domain.links.registrant)?;
-    let beside = Beside { registrant, due };
+    let beside = DerivedColumns { registrant, due };
     put_beside(store, alloc, &beside, domain)
 }
 
@@ -54,11 +54,11 @@ fn put<S: Alter>(
 fn put_beside<S: Alter>(
     store: &mut RowStore<S>,
     alloc: Global,
-    beside: &Beside,
+    beside: &DerivedColumns,
     domain: &Domain,
 ) -> Result<(), BookFault>
     requires { store.old.is_open ≡ true }
-    ensures { Turns result (λ old new. contact_name old beside.now.registrant
+    ensures { Changes result (λ old new. contact_name old beside.now.registrant
         ≡ Some domain.now.links.registrant
         → IsDomainPut domain.now.name (Some domain.now) (Some beside.now.due) old new) store.old
         store.new }
@@ -77,7 +77,7 @@ fn put_beside<S: Alter>(
 /// No domain stands under this name.
 pub fn drop_domain<S: Alter>(store: &mut RowStore<S>, name: &Text) -> Result<(), BookFault>
     requires { store.old.is_open ≡ true }
-    ensures { Turns result (IsDomainPut name.now None None) store.old store.new }
+    ensures { Changes result (IsDomainPut name.now None None) store.old store.new }
 {
     store.whole();
     let row = row_named(store, name)?;

@@ -1,29 +1,29 @@
 //! Rows of domains: found by name, put, added, and removed with their transfers.
 ghost use Rattle.std.specs.Prelude.{◌≡◌, true, [], ◌∷◌, filter, Some, None, IfOk};
-ghost use Rattle.tables.specs.Domain.{domain_with_name};
-ghost use Rattle.tables.specs.Whole.{IsWhole};
-ghost use Rattle.transactions.specs.States.{Meets};
-ghost use Rattle.meanings.specs.Calls.{Turns};
-ghost use Rattle.meanings.specs.Read.{rows_of};
-ghost use Rattle.sqlobjects.specs.Stages.{Brings};
-ghost use Rattle.sqldomains.specs.Stages.{IsDomainAdded, IsDomainDropped, IsDomainPlaced, IsDomainPlacedAt, IsDomainRemoved, row_beside};
+ghost use Rattle.sqltables.specs.Domain.{domain_with_name};
+ghost use Rattle.sqltables.specs.inner.Whole.{IsWhole};
+ghost use Rattle.transactions.specs.States.{FindsSome};
+ghost use Rattle.sqlrows.specs.Meanings.{Changes};
+ghost use Rattle.sqlrows.specs.Read.{rows_of};
+ghost use Rattle.sqlobjects.specs.inner.Stages.{ChangesGiving};
+ghost use Rattle.sqldomains.specs.inner.Stages.{IsDomainAdded, IsDomainDropped, IsDomainPlaced, IsDomainPlacedAt, IsDomainRemoved, row_beside};
 
 use crate::link_rows::clear_links;
 use crate::links::number_of;
 use crate::transfers::clear_transfer;
 use basis::text::Text;
 use calendar::Moment;
-use columns::domain_row;
-use meanings::{only, or_fault};
 use objects::Domain;
+use sqlcolumns::domain_row;
 use sqlite::Alter;
+use sqlrows::{only, or_fault};
+use sqltables::{DomainRow, RowStore};
 use std::alloc::Global;
-use tables::{DomainRow, RowStore};
 use transactions::BookFault;
 
 /// What a domain's row has that the domain hasn't: the number of its registrant, and when it is due.
 #[derive(Clone, Copy, Drop)]
-pub(crate) struct Beside {
+pub(crate) struct DerivedColumns {
     pub registrant: i64,
     pub due: Moment,
 }
@@ -33,7 +33,7 @@ pub(crate) fn row_named<S: Alter>(
     store: &mut RowStore<S>,
     name: &Text,
 ) -> Result<Option<DomainRow>, BookFault>
-    ensures { Meets result (λ row. filter (domain_with_name name.now) store.old.content.domains
+    ensures { FindsSome result (λ row. filter (domain_with_name name.now) store.old.content.domains
         ≡ rows_of row) store.old store.new }
 {
     let rows = store.domains_by_name(name.as_str())?;
@@ -46,7 +46,7 @@ pub(crate) fn remove_row<S: Alter>(
     row: &DomainRow,
 ) -> Result<(), BookFault>
     requires { store.old.is_open ≡ true }
-    ensures { Turns result (IsDomainRemoved row.now.id) store.old store.new }
+    ensures { Changes result (IsDomainRemoved row.now.id) store.old store.new }
 {
     let number = number_of(row);
     clear_links(store, number)?;
@@ -61,7 +61,7 @@ pub(crate) fn remove_found<S: Alter>(
     row: Option<DomainRow>,
 ) -> Result<(), BookFault>
     requires { store.old.is_open ≡ true }
-    ensures { Turns result (IsDomainDropped row) store.old store.new }
+    ensures { Changes result (IsDomainDropped row) store.old store.new }
 {
     match row {
         None => Ok(()),
@@ -74,11 +74,11 @@ pub(crate) fn remove_found<S: Alter>(
 pub(crate) fn place<S: Alter>(
     store: &mut RowStore<S>,
     alloc: Global,
-    beside: &Beside,
+    beside: &DerivedColumns,
     domain: &Domain,
 ) -> Result<DomainRow, BookFault>
     requires { store.old.is_open ≡ true }
-    ensures { Brings result (λ row old new. IsWhole old
+    ensures { ChangesGiving result (λ row old new. IsWhole old
         → IsDomainPlaced domain.now beside.now row old new) store.old store.new }
 {
     let found = row_named(store, &domain.name)?;
@@ -90,11 +90,11 @@ fn place_at<S: Alter>(
     store: &mut RowStore<S>,
     alloc: Global,
     found: Option<DomainRow>,
-    beside: &Beside,
+    beside: &DerivedColumns,
     domain: &Domain,
 ) -> Result<DomainRow, BookFault>
     requires { store.old.is_open ≡ true }
-    ensures { Brings result (λ row old new. IsDomainPlacedAt found domain.now beside.now row old
+    ensures { ChangesGiving result (λ row old new. IsDomainPlacedAt found domain.now beside.now row old
         new) store.old store.new }
 {
     match found {
@@ -108,11 +108,11 @@ fn put_row<S: Alter>(
     store: &mut RowStore<S>,
     alloc: Global,
     found: &DomainRow,
-    beside: &Beside,
+    beside: &DerivedColumns,
     domain: &Domain,
 ) -> Result<DomainRow, BookFault>
     requires { store.old.is_open ≡ true }
-    ensures { Brings result (λ row old new. IsDomainPlacedAt (Some found.now) domain.now beside.now
+    ensures { ChangesGiving result (λ row old new. IsDomainPlacedAt (Some found.now) domain.now beside.now
         row old new) store.old store.new }
 {
     let row = row_again(alloc, found, beside, domain)?;
@@ -124,11 +124,11 @@ fn put_row<S: Alter>(
 fn add_row<S: Alter>(
     store: &mut RowStore<S>,
     alloc: Global,
-    beside: &Beside,
+    beside: &DerivedColumns,
     domain: &Domain,
 ) -> Result<DomainRow, BookFault>
     requires { store.old.is_open ≡ true }
-    ensures { Brings result (λ row old new. IsDomainPlacedAt None domain.now beside.now row old new)
+    ensures { ChangesGiving result (λ row old new. IsDomainPlacedAt None domain.now beside.now row old new)
         store.old store.new }
 {
     append(store, alloc, beside, domain)?;
@@ -139,11 +139,11 @@ fn add_row<S: Alter>(
 fn append<S: Alter>(
     store: &mut RowStore<S>,
     alloc: Global,
-    beside: &Beside,
+    beside: &DerivedColumns,
     domain: &Domain,
 ) -> Result<(), BookFault>
     requires { store.old.is_open ≡ true }
-    ensures { Turns result (IsDomainAdded domain.now beside.now) store.old store.new }
+    ensures { Changes result (IsDomainAdded domain.now beside.now) store.old store.new }
 {
     let row = row_of(alloc, 0, beside, domain)?;
     store.append_domain(&row)?;
@@ -151,7 +151,12 @@ fn append<S: Alter>(
 }
 
 /// A domain's row under this number, but for its links and its transfer. One that can't be written is refused.
-fn row_of(alloc: Global, id: i64, beside: &Beside, domain: &Domain) -> Result<DomainRow, BookFault>
+fn row_of(
+    alloc: Global,
+    id: i64,
+    beside: &DerivedColumns,
+    domain: &Domain,
+) -> Result<DomainRow, BookFault>
     ensures { IfOk result (λ row. row_beside id beside.now domain.now ≡ Some row) }
 {
     or_fault(domain_row(alloc, id, beside.registrant, beside.due, domain)?)
@@ -161,7 +166,7 @@ fn row_of(alloc: Global, id: i64, beside: &Beside, domain: &Domain) -> Result<Do
 fn row_again(
     alloc: Global,
     found: &DomainRow,
-    beside: &Beside,
+    beside: &DerivedColumns,
     domain: &Domain,
 ) -> Result<DomainRow, BookFault>
     ensures { IfOk result (λ row. row_beside found.now.id beside.now domain.now ≡ Some row) }
@@ -171,7 +176,7 @@ fn row_again(
 
 /// The row of the domain of this name.
 fn row_there<S: Alter>(store: &mut RowStore<S>, name: &Text) -> Result<DomainRow, BookFault>
-    ensures { Meets result (λ row. filter (domain_with_name name.now) store.old.content.domains
+    ensures { FindsSome result (λ row. filter (domain_with_name name.now) store.old.content.domains
         ≡ row ∷ []) store.old store.new }
 {
     match row_named(store, name)? {

@@ -1,23 +1,23 @@
 //! Domains, by name.
 ghost use Rattle.std.specs.Prelude.{◌≡◌, true, IfOk, Some, filter};
 ghost use Rattle.std.specs.FinMap.{get};
-ghost use Rattle.columns.specs.Domains.{domain_in};
-ghost use Rattle.meanings.specs.Read.{IsRead, first_read};
+ghost use Rattle.sqlcolumns.specs.Domains.{domain_in};
+ghost use Rattle.sqlrows.specs.Read.{IsRead, first_read};
 ghost use Rattle.sqldomains.specs.Domains as spec;
 ghost use Rattle.sqlobjects.specs.Objects as objects_spec;
-ghost use Rattle.tables.specs.Domain.{domain_with_name};
-ghost use Rattle.tables.specs.Transfer.{transfer_with_domain};
-ghost use Rattle.transactions.specs.States.{Finds, Meets};
+ghost use Rattle.sqltables.specs.Domain.{domain_with_name};
+ghost use Rattle.sqltables.specs.Transfer.{transfer_with_domain};
+ghost use Rattle.transactions.specs.States.{Finds, FindsSome};
 
 use crate::links::{links_of, number_of};
 use basis::list::Seq;
 use basis::text::Text;
-use columns::{domain_of_row, transfer_of_row};
-use meanings::{only, or_fault};
 use objects::{Domain, Links, Transfer};
+use sqlcolumns::{domain_of_row, transfer_of_row};
 use sqlite::Alter;
+use sqlrows::{only, or_fault};
+use sqltables::{DomainRow, RowStore, TransferRow};
 use std::alloc::Global;
-use tables::{DomainRow, RowStore, TransferRow};
 use transactions::BookFault;
 
 /// The domain of this name.
@@ -57,7 +57,7 @@ pub fn domain_of<S: Alter>(
     alloc: Global,
     row: DomainRow,
 ) -> Result<Domain, BookFault>
-    ensures { Meets result (λ domain. spec.domain_of store.old.content row ≡ Some domain) store.old
+    ensures { FindsSome result (λ domain. spec.domain_of store.old.content row ≡ Some domain) store.old
         store.new }
 {
     let links = links_of(store, alloc, &row)?;
@@ -70,7 +70,7 @@ fn transfer_of<S: Alter>(
     store: &mut RowStore<S>,
     row: &DomainRow,
 ) -> Result<Option<Transfer>, BookFault>
-    ensures { Meets result (λ transfer. objects_spec.last_transfer
+    ensures { FindsSome result (λ transfer. objects_spec.last_transfer
         (filter (transfer_with_domain row.now.id) store.old.content.transfers) ≡ Some transfer)
         store.old store.new }
 {

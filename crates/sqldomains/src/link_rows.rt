@@ -1,18 +1,18 @@
 //! The rows that lead from a domain to what it names.
 ghost use Rattle.std.specs.Prelude.{◌≡◌, true, ◌∷◌, [], Some};
-ghost use Rattle.transactions.specs.States.{Meets};
-ghost use Rattle.meanings.specs.Calls.{Turns};
+ghost use Rattle.transactions.specs.States.{FindsSome};
+ghost use Rattle.sqlrows.specs.Meanings.{Changes};
 ghost use Rattle.sqlobjects.specs.Changes as changes;
-ghost use Rattle.sqldomains.specs.Stages.{AreLinksCleared, AreLinksPut, AreNamesAdded, IsContactLinkTo, IsHostLinkTo, IsLinkTo};
+ghost use Rattle.sqldomains.specs.inner.Stages.{AreLinksCleared, AreLinksPut, AreNamesAdded, IsContactLinkTo, IsHostLinkTo, IsLinkTo};
 
 use crate::linked::{number_of_contact, number_of_host};
 use crate::links::number_of;
 use basis::text::Text;
-use columns::{Role, role_column};
 use objects::Links;
-use rows::Number;
+use sqlcolumns::{Role, role_column};
 use sqlite::Alter;
-use tables::{DomainRow, LinkRow, RowStore};
+use sqlrows::Number;
+use sqltables::{DomainRow, LinkRow, RowStore};
 use transactions::BookFault;
 
 /// The domain that lies in this row names this, in place of what it named. Its registrant is in its row.
@@ -22,7 +22,7 @@ pub(crate) fn put_links<S: Alter>(
     links: &Links,
 ) -> Result<(), BookFault>
     requires { store.old.is_open ≡ true }
-    ensures { Turns result (AreLinksPut domain.now.id domain.now.due links.now) store.old
+    ensures { Changes result (AreLinksPut domain.now.id domain.now.due links.now) store.old
         store.new }
 {
     let number = number_of(domain);
@@ -39,7 +39,7 @@ pub(crate) fn clear_links<S: Alter>(
     domain: Number,
 ) -> Result<(), BookFault>
     requires { store.old.is_open ≡ true }
-    ensures { Turns result (AreLinksCleared domain) store.old store.new }
+    ensures { Changes result (AreLinksCleared domain) store.old store.new }
 {
     store.remove_links_by_domain(domain)?;
     Ok(())
@@ -53,7 +53,7 @@ fn add_names<S: Alter>(
     names: &[Text],
 ) -> Result<(), BookFault>
     requires { store.old.is_open ≡ true }
-    ensures { Turns result (AreNamesAdded domain.now.id domain.now.due role names.now) store.old
+    ensures { Changes result (AreNamesAdded domain.now.id domain.now.due role names.now) store.old
         store.new }
 {
     for name in names {
@@ -70,7 +70,7 @@ fn add_name<S: Alter>(
     name: &Text,
 ) -> Result<(), BookFault>
     requires { store.old.is_open ≡ true }
-    ensures { Turns result (AreNamesAdded domain.now.id domain.now.due role (name.now ∷ []))
+    ensures { Changes result (AreNamesAdded domain.now.id domain.now.due role (name.now ∷ []))
         store.old store.new }
 {
     let row = row_to(store, domain, role, name)?;
@@ -85,7 +85,7 @@ fn row_to<S: Alter>(
     role: Role,
     name: &Text,
 ) -> Result<LinkRow, BookFault>
-    ensures { Meets result (IsLinkTo store.old.content domain.now.id domain.now.due role name.now)
+    ensures { FindsSome result (IsLinkTo store.old.content domain.now.id domain.now.due role name.now)
         store.old store.new }
 {
     match role {
@@ -99,7 +99,7 @@ fn row_to_host<S: Alter>(
     domain: &DomainRow,
     name: &Text,
 ) -> Result<LinkRow, BookFault>
-    ensures { Meets result (IsHostLinkTo store.old.content domain.now.id domain.now.due name.now)
+    ensures { FindsSome result (IsHostLinkTo store.old.content domain.now.id domain.now.due name.now)
         store.old store.new }
 {
     let id = host_number(store, name)?;
@@ -119,7 +119,7 @@ fn row_to_contact<S: Alter>(
     role: Role,
     name: &Text,
 ) -> Result<LinkRow, BookFault>
-    ensures { Meets result (IsContactLinkTo store.old.content domain.now.id domain.now.due role
+    ensures { FindsSome result (IsContactLinkTo store.old.content domain.now.id domain.now.due role
         name.now) store.old store.new }
 {
     let id = contact_number(store, name)?;
@@ -138,7 +138,7 @@ pub(crate) fn contact_number<S: Alter>(
     store: &mut RowStore<S>,
     name: &Text,
 ) -> Result<i64, BookFault>
-    ensures { Meets result (λ id. changes.contact_name store.old.content id ≡ Some name.now)
+    ensures { FindsSome result (λ id. changes.contact_name store.old.content id ≡ Some name.now)
         store.old store.new }
 {
     store.whole();
@@ -150,7 +150,7 @@ pub(crate) fn contact_number<S: Alter>(
 
 /// The number of the host of this name, which has to be there.
 fn host_number<S: Alter>(store: &mut RowStore<S>, name: &Text) -> Result<i64, BookFault>
-    ensures { Meets result (λ id. changes.host_name store.old.content id ≡ Some name.now) store.old
+    ensures { FindsSome result (λ id. changes.host_name store.old.content id ≡ Some name.now) store.old
         store.new }
 {
     store.whole();

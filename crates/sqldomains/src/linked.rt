@@ -1,22 +1,22 @@
 //! Whether domains name a contact or a host.
 ghost use Rattle.std.specs.Prelude.{◌≡◌, filter, option_map, take};
-ghost use Rattle.meanings.specs.Read.{rows_of};
+ghost use Rattle.sqlrows.specs.Read.{rows_of};
 ghost use Rattle.sqlite_rules.specs.Lists.{Has};
-ghost use Rattle.tables.specs.Contact.{Contact};
-ghost use Rattle.tables.specs.Domain.{domain_with_registrant};
-ghost use Rattle.tables.specs.Host.{Host};
-ghost use Rattle.tables.specs.Link.{link_with_contact, link_with_host};
-ghost use Rattle.transactions.specs.States.{Finds, Meets};
+ghost use Rattle.sqltables.specs.Contact.{Contact};
+ghost use Rattle.sqltables.specs.inner.Domain.{domain_with_registrant};
+ghost use Rattle.sqltables.specs.Host.{Host};
+ghost use Rattle.sqltables.specs.Link.{link_with_contact, link_with_host};
+ghost use Rattle.transactions.specs.States.{Finds, FindsSome};
 ghost use Rattle.objects.specs.Links as links;
-ghost use Rattle.sqldomains.specs.Links as spec;
+ghost use Rattle.sqldomains.specs.inner.Links as spec;
 
 use crate::domains::domain_of;
 use crate::names::number;
 use basis::text::Text;
-use meanings::only;
 use sqlite::Alter;
+use sqlrows::only;
+use sqltables::{ContactRow, DomainRow, HostRow, LinkRow, RowStore};
 use std::alloc::Global;
-use tables::{ContactRow, DomainRow, HostRow, LinkRow, RowStore};
 use transactions::BookFault;
 
 /// Whether a domain names the contact of this name.
@@ -43,7 +43,7 @@ pub(crate) fn number_of_contact<S: Alter>(
     store: &mut RowStore<S>,
     name: &Text,
 ) -> Result<Option<i64>, BookFault>
-    ensures { Meets result (spec.IsNumberOfContact store.old.content name.now) store.old store.new }
+    ensures { FindsSome result (spec.IsNumberOfContact store.old.content name.now) store.old store.new }
 {
     let rows = store.contacts_by_name(name.as_str())?;
     let row = only(rows)?;
@@ -64,7 +64,7 @@ fn use_of_contact<S: Alter>(
     store: &mut RowStore<S>,
     id: i64,
 ) -> Result<Option<DomainRow>, BookFault>
-    ensures { Meets result (spec.IsUseOfContact store.old.content id) store.old store.new }
+    ensures { FindsSome result (spec.IsUseOfContact store.old.content id) store.old store.new }
 {
     if let Some(row) = registered_by(store, id)? {
         return Ok(Some(row));
@@ -77,7 +77,7 @@ fn use_of_contact<S: Alter>(
 
 /// The first domain's row that has the contact with this number as its registrant.
 fn registered_by<S: Alter>(store: &mut RowStore<S>, id: i64) -> Result<Option<DomainRow>, BookFault>
-    ensures { Meets result
+    ensures { FindsSome result
         (λ row. take 1 (filter (domain_with_registrant id) store.old.content.domains) ≡ rows_of row)
         store.old store.new }
 {
@@ -88,7 +88,7 @@ fn registered_by<S: Alter>(store: &mut RowStore<S>, id: i64) -> Result<Option<Do
 
 /// The first link to the contact with this number.
 fn link_to_contact<S: Alter>(store: &mut RowStore<S>, id: i64) -> Result<Option<LinkRow>, BookFault>
-    ensures { Meets result (λ row. take 1 (filter (link_with_contact id) store.old.content.links)
+    ensures { FindsSome result (λ row. take 1 (filter (link_with_contact id) store.old.content.links)
         ≡ rows_of row) store.old store.new }
 {
     let number = number(id);
@@ -98,7 +98,7 @@ fn link_to_contact<S: Alter>(store: &mut RowStore<S>, id: i64) -> Result<Option<
 
 /// The domain's row with this number, to which a link belongs.
 fn domain_at<S: Alter>(store: &mut RowStore<S>, id: i64) -> Result<DomainRow, BookFault>
-    ensures { Meets result (λ row. Has store.old.content.domains row) store.old store.new }
+    ensures { FindsSome result (λ row. Has store.old.content.domains row) store.old store.new }
 {
     let number = number(id);
     let rows = store.domains_by_id(number)?;
@@ -115,7 +115,7 @@ fn naming_contact<S: Alter>(
     row: DomainRow,
     name: &Text,
 ) -> Result<(), BookFault>
-    ensures { Meets result (λ done. spec.Passes store.old.content (λ d. links.names_contact name.now
+    ensures { FindsSome result (λ done. spec.Passes store.old.content (λ d. links.names_contact name.now
         d.links) row) store.old store.new }
 {
     let domain = domain_of(store, alloc, row)?;
@@ -151,7 +151,7 @@ pub(crate) fn number_of_host<S: Alter>(
     store: &mut RowStore<S>,
     name: &Text,
 ) -> Result<Option<i64>, BookFault>
-    ensures { Meets result (spec.IsNumberOfHost store.old.content name.now) store.old store.new }
+    ensures { FindsSome result (spec.IsNumberOfHost store.old.content name.now) store.old store.new }
 {
     let rows = store.hosts_by_name(name.as_str())?;
     let row = only(rows)?;
@@ -169,7 +169,7 @@ fn id_of_host(row: Option<HostRow>) -> Option<i64>
 
 /// A domain's row, if any row refers to the host with this number.
 fn use_of_host<S: Alter>(store: &mut RowStore<S>, id: i64) -> Result<Option<DomainRow>, BookFault>
-    ensures { Meets result (spec.IsUseOfHost store.old.content id) store.old store.new }
+    ensures { FindsSome result (spec.IsUseOfHost store.old.content id) store.old store.new }
 {
     let Some(link) = link_to_host(store, id)? else {
         return Ok(None);
@@ -179,7 +179,7 @@ fn use_of_host<S: Alter>(store: &mut RowStore<S>, id: i64) -> Result<Option<Doma
 
 /// The first link to the host with this number.
 fn link_to_host<S: Alter>(store: &mut RowStore<S>, id: i64) -> Result<Option<LinkRow>, BookFault>
-    ensures { Meets result (λ row. take 1 (filter (link_with_host id) store.old.content.links)
+    ensures { FindsSome result (λ row. take 1 (filter (link_with_host id) store.old.content.links)
         ≡ rows_of row) store.old store.new }
 {
     let number = number(id);
@@ -194,7 +194,7 @@ fn naming_host<S: Alter>(
     row: DomainRow,
     name: &Text,
 ) -> Result<(), BookFault>
-    ensures { Meets result (λ done. spec.Passes store.old.content
+    ensures { FindsSome result (λ done. spec.Passes store.old.content
         (λ d. links.names_host name.now d.links) row) store.old store.new }
 {
     let domain = domain_of(store, alloc, row)?;

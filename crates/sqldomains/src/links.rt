@@ -1,18 +1,17 @@
 //! What domains name.
 ghost use Rattle.std.specs.Prelude.{◌≡◌, Some, IfOk};
-ghost use Rattle.transactions.specs.States.{Meets};
+ghost use Rattle.transactions.specs.States.{FindsSome};
 ghost use Rattle.sqldomains.specs.Domains as spec;
 
 use crate::names::{contact_name, host_name};
 use basis::list::Seq;
 use basis::text::Text;
-use columns::{Role, role_of_column};
-use meanings::or_fault;
 use objects::Links;
-use rows::Number;
+use sqlcolumns::{Role, role_of_column};
 use sqlite::Alter;
+use sqlrows::{Number, or_fault};
+use sqltables::{DomainRow, LinkRow, RowStore};
 use std::alloc::{AllocError, Global};
-use tables::{DomainRow, LinkRow, RowStore};
 use transactions::BookFault;
 
 /// What the domain of a row names.
@@ -21,7 +20,7 @@ pub(crate) fn links_of<S: Alter>(
     alloc: Global,
     row: &DomainRow,
 ) -> Result<Links, BookFault>
-    ensures { Meets result (λ links. spec.links_of store.old.content row.now ≡ Some links) store.old
+    ensures { FindsSome result (λ links. spec.links_of store.old.content row.now ≡ Some links) store.old
         store.new }
 {
     let registrant = contact_name(store, row.registrant)?;
@@ -70,7 +69,7 @@ fn with_links<S: Alter>(
     links: Links,
     rows: Seq<LinkRow>,
 ) -> Result<Links, BookFault>
-    ensures { Meets result (λ all. spec.with_links store.old.content links rows ≡ Some all)
+    ensures { FindsSome result (λ all. spec.with_links store.old.content links rows ≡ Some all)
         store.old store.new }
 {
     let mut links = links;
@@ -86,7 +85,7 @@ fn with_link<S: Alter>(
     links: Links,
     row: LinkRow,
 ) -> Result<Links, BookFault>
-    ensures { Meets result (λ more. spec.with_link store.old.content links row ≡ Some more)
+    ensures { FindsSome result (λ more. spec.with_link store.old.content links row ≡ Some more)
         store.old store.new }
 {
     let role = or_fault(role_of_column(row.role))?;
@@ -101,7 +100,7 @@ fn linked_name<S: Alter>(
     contact: Option<i64>,
     host: Option<i64>,
 ) -> Result<Text, BookFault>
-    ensures { Meets result (λ name. spec.linked_name store.old.content role contact host
+    ensures { FindsSome result (λ name. spec.linked_name store.old.content role contact host
         ≡ Some name) store.old store.new }
 {
     match (role, contact, host) {

@@ -1,21 +1,20 @@
 //! Names of contacts and hosts, by the numbers of their rows.
 ghost use Rattle.std.specs.Prelude.{◌≡◌, Some, IfOk, option_map};
-ghost use Rattle.transactions.specs.States.{Finds, Meets};
+ghost use Rattle.transactions.specs.States.{Finds, FindsSome};
 ghost use Rattle.sqlite_keyed.specs.Keyed.{get_by};
-ghost use Rattle.tables.specs.Contact.{Contact, contacts};
-ghost use Rattle.tables.specs.Host.{Host, hosts};
+ghost use Rattle.sqltables.specs.Contact.{Contact, contacts};
+ghost use Rattle.sqltables.specs.Host.{Host, hosts};
 ghost use Rattle.sqlobjects.specs.Changes as changes;
 
 use basis::text::Text;
-use meanings::only;
-use rows::Number;
 use sqlite::Alter;
-use tables::{ContactRow, HostRow, RowStore};
+use sqlrows::{Number, only};
+use sqltables::{ContactRow, HostRow, RowStore};
 use transactions::BookFault;
 
 /// The name of the contact with this number, to which something leads.
 pub(crate) fn contact_name<S: Alter>(store: &mut RowStore<S>, id: i64) -> Result<Text, BookFault>
-    ensures { Meets result (λ name. changes.contact_name store.old.content id ≡ Some name) store.old
+    ensures { FindsSome result (λ name. changes.contact_name store.old.content id ≡ Some name) store.old
         store.new }
 {
     let row = contact_row(store, id)?;
@@ -41,7 +40,7 @@ fn name_of_contact(row: Option<ContactRow>) -> Result<Text, BookFault>
 
 /// The name of the host with this number, to which something leads.
 pub(crate) fn host_name<S: Alter>(store: &mut RowStore<S>, id: i64) -> Result<Text, BookFault>
-    ensures { Meets result (λ name. changes.host_name store.old.content id ≡ Some name) store.old
+    ensures { FindsSome result (λ name. changes.host_name store.old.content id ≡ Some name) store.old
         store.new }
 {
     let row = host_row(store, id)?;

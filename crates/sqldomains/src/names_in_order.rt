@@ -2,10 +2,10 @@
 ghost use Rattle.std.specs.Prelude.{◌≡◌, Some, IfOk, filter};
 ghost use Rattle.std.specs.FinMap.{empty, insert, keys};
 ghost use Rattle.sqlite_keyed.specs.Keyed.{get_by};
-ghost use Rattle.tables.specs.Domain.{domains};
-ghost use Rattle.tables.specs.Link.{link_with_host};
-ghost use Rattle.transactions.specs.States.{Finds, Meets};
-ghost use Rattle.sqldomains.specs.Names as spec;
+ghost use Rattle.sqltables.specs.inner.Domain.{domains};
+ghost use Rattle.sqltables.specs.Link.{link_with_host};
+ghost use Rattle.transactions.specs.States.{Finds, FindsSome};
+ghost use Rattle.sqldomains.specs.inner.Names as spec;
 
 use crate::domains::domain_of;
 use crate::linked::number_of_host;
@@ -13,11 +13,11 @@ use crate::names::number;
 use basis::list::Seq;
 use basis::maps::NameMap;
 use basis::text::Text;
-use meanings::only;
 use objects::Domain;
 use sqlite::Alter;
+use sqlrows::only;
+use sqltables::{DomainRow, LinkRow, RowStore};
 use std::alloc::{AllocError, Global};
-use tables::{DomainRow, LinkRow, RowStore};
 use transactions::BookFault;
 
 /// The names of all domains. Each is read for it, so this is for a zone and not for a command.
@@ -39,7 +39,7 @@ fn with_domains<S: Alter>(
     alloc: Global,
     rows: Seq<DomainRow>,
 ) -> Result<NameMap<()>, BookFault>
-    ensures { Meets result (λ all. spec.with_read (spec.name_in store.old.content) empty rows
+    ensures { FindsSome result (λ all. spec.with_read (spec.name_in store.old.content) empty rows
         ≡ Some all) store.old store.new }
 {
     let mut names = NameMap::new(alloc);
@@ -55,7 +55,7 @@ fn with_domain<S: Alter>(
     names: NameMap<()>,
     row: DomainRow,
 ) -> Result<NameMap<()>, BookFault>
-    ensures { Meets result (λ more. spec.with_one names (spec.name_in store.old.content row)
+    ensures { FindsSome result (λ more. spec.with_one names (spec.name_in store.old.content row)
         ≡ Some more) store.old store.new }
 {
     let domain = domain_of(store, alloc, row)?;
@@ -114,7 +114,7 @@ fn with_links<S: Alter>(
     host: &Text,
     rows: Seq<LinkRow>,
 ) -> Result<NameMap<()>, BookFault>
-    ensures { Meets result (λ all. spec.with_read (spec.name_naming host.now store.old.content)
+    ensures { FindsSome result (λ all. spec.with_read (spec.name_naming host.now store.old.content)
         empty rows ≡ Some all) store.old store.new }
 {
     let mut names = NameMap::new(alloc);
@@ -131,7 +131,7 @@ fn with_link<S: Alter>(
     names: NameMap<()>,
     row: LinkRow,
 ) -> Result<NameMap<()>, BookFault>
-    ensures { Meets result (λ more. spec.with_one names (spec.name_naming host.now store.old.content
+    ensures { FindsSome result (λ more. spec.with_one names (spec.name_naming host.now store.old.content
         row) ≡ Some more) store.old store.new }
 {
     let name = name_naming(store, alloc, host, row)?;
@@ -145,7 +145,7 @@ fn name_naming<S: Alter>(
     host: &Text,
     row: LinkRow,
 ) -> Result<Text, BookFault>
-    ensures { Meets result (λ name. spec.name_naming host.now store.old.content row ≡ Some name)
+    ensures { FindsSome result (λ name. spec.name_naming host.now store.old.content row ≡ Some name)
         store.old store.new }
 {
     let row = domain_row(store, &row)?;
@@ -155,7 +155,7 @@ fn name_naming<S: Alter>(
 
 /// The row of the domain to which a link belongs.
 fn domain_row<S: Alter>(store: &mut RowStore<S>, link: &LinkRow) -> Result<DomainRow, BookFault>
-    ensures { Meets result (λ row. get_by domains.key store.old.content.domains link.now.domain
+    ensures { FindsSome result (λ row. get_by domains.key store.old.content.domains link.now.domain
         ≡ Some row) store.old store.new }
 {
     match maybe_row(store, link.domain)? {

@@ -1,20 +1,20 @@
 //! The transfer of a domain.
 ghost use Rattle.std.specs.Prelude.{◌≡◌, true, is_some, IfOk, IfSome};
 ghost use Rattle.std.specs.List.{list_any};
-ghost use Rattle.columns.specs.Transfers.{IsTransfer};
+ghost use Rattle.sqlcolumns.specs.Transfers.{IsTransfer};
 ghost use Rattle.transactions.specs.States.{Makes};
-ghost use Rattle.meanings.specs.Calls.{Turns};
-ghost use Rattle.tables.specs.Content.{transfers_to};
-ghost use Rattle.tables.specs.Transfer as table;
-ghost use Rattle.sqldomains.specs.Stages.{IsTransferCleared, IsTransferPut, transfer_row_of};
-ghost use Rattle.sqlobjects.specs.Stages.{with_added};
+ghost use Rattle.sqlrows.specs.Meanings.{Changes};
+ghost use Rattle.sqltables.specs.inner.Content.{transfers_to};
+ghost use Rattle.sqltables.specs.Transfer as table;
+ghost use Rattle.sqldomains.specs.inner.Stages.{IsTransferCleared, IsTransferPut, transfer_row_of};
+ghost use Rattle.sqlobjects.specs.inner.Stages.{with_added};
 
 use crate::links::number_of;
-use columns::{is_transfer, transfer_row};
 use objects::Transfer;
-use rows::Number;
+use sqlcolumns::{is_transfer, transfer_row};
 use sqlite::Alter;
-use tables::{DomainRow, RowStore, TransferRow};
+use sqlrows::Number;
+use sqltables::{DomainRow, RowStore, TransferRow};
 use transactions::BookFault;
 
 /// Removes the transfers of the domain with this number. One that is a contact's too is refused.
@@ -23,7 +23,7 @@ pub(crate) fn clear_transfer<S: Alter>(
     domain: Number,
 ) -> Result<(), BookFault>
     requires { store.old.is_open ≡ true }
-    ensures { Turns result (IsTransferCleared domain) store.old store.new }
+    ensures { Changes result (IsTransferCleared domain) store.old store.new }
 {
     let rows = store.transfers_by_domain(domain)?;
     if rows.is_empty() {
@@ -43,7 +43,7 @@ pub(crate) fn put_transfer<S: Alter>(
     transfer: &Option<Transfer>,
 ) -> Result<(), BookFault>
     requires { store.old.is_open ≡ true }
-    ensures { Turns result (IsTransferPut domain.now.id transfer.now) store.old store.new }
+    ensures { Changes result (IsTransferPut domain.now.id transfer.now) store.old store.new }
 {
     let row = row_of(domain, transfer)?;
     let number = number_of(domain);

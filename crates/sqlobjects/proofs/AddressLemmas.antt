@@ -3,14 +3,15 @@ use Rattle.std.proofs.Common.{◌≡◌, ◌+◌, ◌<◌, length, get_or, take,
 use Rattle.std.proofs.lemmas.Bool.Decides.{Decides-int_eq}
 use Rattle.std.proofs.lemmas.List.{append-nil, map-append, take_more}
 use Rattle.std.specs.Prelude.{filter}
-use Rattle.rows.specs.Layouts.{appended}
+use Rattle.sqlrows.specs.inner.Layouts.{appended}
 use Rattle.sqlite_keyed.specs.Keyed.{next_key}
 use Rattle.sqlite_keyed.specs.Lists.{delete_where}
 use Rattle.sqlite_keyed.proofs.KeyedLemmas.{same_int}
-use Rattle.tables.specs.Address.{Address, address_with_host, addresses}
-use Rattle.tables.specs.Content.{Content, addresses_to}
+use Rattle.sqltables.specs.Address.{Address, address_with_host, addresses}
+use Rattle.sqltables.specs.Content.{Content}
+use Rattle.sqltables.specs.inner.Content.{addresses_to}
 use Rattle.sqlobjects.specs.Objects.{addresses_of, texts_of}
-use Rattle.sqlobjects.specs.Stages.{AreAddressesAdded, AreAddressesPut}
+use Rattle.sqlobjects.specs.inner.Stages.{AreAddressesAdded, AreAddressesPut}
 use Rattle.sqlobjects.proofs.PutLemmas.{filter-append, filter-append_pass, filter-delete, filter-deleted}
 
 pub cleared : (id : ℤ) (xs : Content) → AreAddressesPut id [] xs (addresses_to (delete_where (address_with_host id)) xs)

@@ -1,24 +1,26 @@
 -- What rows of contacts mean after a change.
 use Rattle.std.proofs.Common.{◌≡◌, ℕ, ℤ, pos, false, List, [], ◌∷◌, ◌++◌, filter, Option, Some, None, refl, sym, ap, subst, ◌∙◌, int_eq}
-use Rattle.rows.specs.Layouts.{appended}
+use Rattle.sqlrows.specs.inner.Layouts.{appended}
 use Rattle.sqlite_keyed.specs.Keyed.{insert_by, next_key}
 use Rattle.sqlite_keyed.specs.Lists.{delete_where}
 use Rattle.objects.specs.declared.contact.Contact.{Contact}
 use Rattle.objects.specs.declared.roid.ObjectKind.TheVariants as kinds
 use Rattle.objects.specs.declared.transfer.Transfer.{Transfer}
-use Rattle.columns.specs.Contacts.{IsContact, contact_in, contact_row, postal_row, registration_of, row_with}
-use Rattle.columns.specs.Registrations.{registration_columns}
-use Rattle.columns.specs.Steps.{◌>>=◌}
-use Rattle.columns.proofs.ContactLemmas.{contact_back}
-use Rattle.columns.proofs.ReadLemmas.{same_some, step}
-use Rattle.tables.specs.Contact as contact_table
-use Rattle.tables.specs.Content.{Content, contacts_to}
-use Rattle.tables.specs.Transfer.{transfer_with_contact, transfer_with_domain}
-use Rattle.tables.specs.Whole.{IsWhole}
-use Rattle.meanings.specs.Read.{rows_of}
-use Rattle.sqlobjects.specs.Changes.{IsContactPut, put}
+use Rattle.sqlcolumns.specs.inner.Contacts.{IsContact, contact_row, postal_row, registration_of, row_with}
+use Rattle.sqlcolumns.specs.Contacts.{contact_in}
+use Rattle.sqlcolumns.specs.Registrations.{registration_columns}
+use Rattle.sqlcolumns.specs.Steps.{◌>>=◌}
+use Rattle.sqlcolumns.proofs.ContactLemmas.{contact_back}
+use Rattle.sqlcolumns.proofs.ReadLemmas.{same_some, step}
+use Rattle.sqltables.specs.Contact as contact_table
+use Rattle.sqltables.specs.Content.{Content}
+use Rattle.sqltables.specs.inner.Content.{contacts_to}
+use Rattle.sqltables.specs.Transfer.{transfer_with_contact, transfer_with_domain}
+use Rattle.sqltables.specs.inner.Whole.{IsWhole}
+use Rattle.sqlrows.specs.Read.{rows_of}
+use Rattle.sqlobjects.specs.inner.Changes.{IsContactPut, put}
 use Rattle.sqlobjects.specs.Objects.{contact_of, contacts_of, hosts_of, last_transfer}
-use Rattle.sqlobjects.specs.Stages.{AreOtherTransfersKept, AreOthersKept, IsContactAdded, IsContactDropped, IsContactPlaced, IsContactPlacedAt, IsContactRemoved, IsPlaced, IsTransferCleared, IsTransferPut}
+use Rattle.sqlobjects.specs.inner.Stages.{AreOtherTransfersKept, AreOthersKept, IsContactAdded, IsContactDropped, IsContactPlaced, IsContactPlacedAt, IsContactRemoved, IsPlaced, IsTransferCleared, IsTransferPut}
 use Rattle.sqlobjects.proofs.PutLemmas.{drop-stands, found-added, map_of, names_kept, none-stands, others-removed, placed-added, placed-put, put-stands}
 
 abbrev name_of : contact_table.Contact → List ℕ

@@ -7,18 +7,18 @@ use Rattle.std.specs.Ordering.{match_ordering}
 use Rattle.sqlite_keyed.specs.Keyed.{IsKeyedBy, insert_by}
 use Rattle.sqlite_keyed.proofs.KeyedLemmas.{Less-from_lt}
 use Rattle.sqlite_rules.specs.Lists.{Has}
-use Rattle.columns.specs.Numbers.{maybe_registrar_column}
-use Rattle.columns.specs.Steps.{◌>>=◌}
-use Rattle.columns.specs.Transfers.{is_same}
-use Rattle.columns.proofs.ReadLemmas.{same_some}
-use Rattle.tables.specs.Content.{Content}
-use Rattle.tables.specs.Host as table
-use Rattle.tables.specs.Whole.{IsWhole}
-use Rattle.tables.proofs.RowLemmas.{all_at}
+use Rattle.sqlcolumns.specs.Numbers.{maybe_registrar_column}
+use Rattle.sqlcolumns.specs.Steps.{◌>>=◌}
+use Rattle.sqlcolumns.specs.Transfers.{is_same}
+use Rattle.sqlcolumns.proofs.ReadLemmas.{same_some}
+use Rattle.sqltables.specs.Content.{Content}
+use Rattle.sqltables.specs.Host as table
+use Rattle.sqltables.specs.inner.Whole.{IsWhole}
+use Rattle.sqltables.proofs.RowLemmas.{all_at}
 use Rattle.sqlobjects.specs.declared.following.Sponsors.{Sponsors}
 use Rattle.sqlobjects.specs.Objects.{host_entry, hosts_of}
 use Rattle.sqlobjects.specs.Sponsors.{AreMoved, IsFollowed, domain_sponsor, follows, with_sponsor}
-use Rattle.sqlobjects.specs.Stages.{AreHostsMoved, AreWritten, with_all_moved}
+use Rattle.sqlobjects.specs.inner.Stages.{AreHostsMoved, AreWritten, with_all_moved}
 use Rattle.sqlobjects.proofs.PutLemmas.{has-filter}
 
 abbrev key : table.Host → ℤ

@@ -4,17 +4,17 @@ use Rattle.std.specs.Prelude.{filter}
 use Rattle.std.specs.FinMap.{get}
 use Rattle.objects.specs.declared.contact.Contact.{Contact}
 use Rattle.objects.specs.declared.host.Host.{Host}
-use Rattle.columns.specs.Hosts.{host_in}
-use Rattle.tables.specs.Address as address_table
-use Rattle.tables.specs.Contact as contact_table
-use Rattle.tables.specs.Content.{Content}
-use Rattle.tables.specs.Host as host_table
+use Rattle.sqlcolumns.specs.Hosts.{host_in}
+use Rattle.sqltables.specs.Address as address_table
+use Rattle.sqltables.specs.Contact as contact_table
+use Rattle.sqltables.specs.Content.{Content}
+use Rattle.sqltables.specs.Host as host_table
 use Rattle.transactions.specs.declared.fault.BookFault.{BookFault}
-use Rattle.transactions.specs.States.{Finds, Meets, StateOf}
+use Rattle.transactions.specs.States.{Finds, FindsSome, StateOf}
 use Rattle.sqlobjects.specs.Objects.{contact_of, contacts_of, host_of, hosts_of, texts_of}
-use Rattle.meanings.specs.Read.{first_read}
+use Rattle.sqlrows.specs.Read.{first_read}
 use Rattle.sqlobjects.proofs.NameLemmas.{contact-named, host-named}
-use Rattle.meanings.proofs.StateLemmas.{finds-on}
+use Rattle.sqlrows.proofs.StateLemmas.{finds-on}
 
 module _ (s m t : StateOf Content) (given name : List ℕ) (same : given ≡ name) where
   pub contact-found : (r : Result (Option Contact) BookFault) (rows : List contact_table.Contact) → Finds {A = List contact_table.Contact} (Ok rows) (filter (contact_table.contact_with_name given) s.content.contacts) s m
@@ -34,7 +34,7 @@ module _ (s m t : StateOf Content) (given name : List ℕ) (same : given ≡ nam
 -- a host is read from its row and the addresses with its number
 pub host-read : (s m : StateOf Content) (row : host_table.Host) (id : ℤ) (rows : List address_table.Address) (texts : List (List ℕ)) (r : Result Host BookFault)
     → Finds {A = List address_table.Address} (Ok rows) (filter (address_table.address_with_host id) s.content.addresses) s m → id ≡ row.id → texts ≡ texts_of rows
-    → IfOk r (λ h. host_in row texts ≡ Some h) → Meets r (λ h. host_of s.content row ≡ Some h) s m
+    → IfOk r (λ h. host_in row texts ≡ Some h) → FindsSome r (λ h. host_of s.content row ≡ Some h) s m
 host-read s m row id rows texts (Ok h) asked same all is = (
   asked.0,
   λ e. sym (ap (host_in row) (all ∙ ap texts_of (asked.1 e ∙ ap (λ (n : ℤ). filter (address_table.address_with_host n) s.content.addresses) same))) ∙ is,

@@ -1,24 +1,26 @@
 -- What rows of hosts mean after a change.
 use Rattle.std.proofs.Common.{◌≡◌, ℕ, ℤ, pos, true, false, List, [], ◌∷◌, ◌++◌, filter, Option, Some, None, refl, sym, ap, subst, ◌∙◌, int_eq}
-use Rattle.rows.specs.Layouts.{appended}
+use Rattle.sqlrows.specs.inner.Layouts.{appended}
 use Rattle.sqlite_keyed.specs.Keyed.{insert_by, next_key}
 use Rattle.sqlite_keyed.specs.Lists.{delete_where}
 use Rattle.sqlite_rules.specs.Lists.{Has}
 use Rattle.objects.specs.declared.host.Host.{Host}
 use Rattle.objects.specs.declared.roid.ObjectKind.TheVariants as kinds
-use Rattle.columns.specs.Hosts.{IsHost, host_in, row_with}
-use Rattle.columns.specs.Roids.{roid_columns}
-use Rattle.columns.specs.Steps.{◌>>=◌}
-use Rattle.columns.proofs.HostLemmas.{host_back}
-use Rattle.columns.proofs.ReadLemmas.{same_some, step}
-use Rattle.tables.specs.Content.{Content, hosts_to}
-use Rattle.tables.specs.Host as host_table
-use Rattle.tables.specs.Whole.{IsWhole}
-use Rattle.meanings.specs.Read.{rows_of}
-use Rattle.sqlobjects.specs.Changes.{IsHostPut, put}
+use Rattle.sqlcolumns.specs.inner.Hosts.{IsHost, row_with}
+use Rattle.sqlcolumns.specs.Hosts.{host_in}
+use Rattle.sqlcolumns.specs.Roids.{roid_columns}
+use Rattle.sqlcolumns.specs.Steps.{◌>>=◌}
+use Rattle.sqlcolumns.proofs.HostLemmas.{host_back}
+use Rattle.sqlcolumns.proofs.ReadLemmas.{same_some, step}
+use Rattle.sqltables.specs.Content.{Content}
+use Rattle.sqltables.specs.inner.Content.{hosts_to}
+use Rattle.sqltables.specs.Host as host_table
+use Rattle.sqltables.specs.inner.Whole.{IsWhole}
+use Rattle.sqlrows.specs.Read.{rows_of}
+use Rattle.sqlobjects.specs.inner.Changes.{IsHostPut, put}
 use Rattle.sqlobjects.specs.Objects.{addresses_of, contacts_of, host_of, hosts_of}
 use Rattle.sqlobjects.specs.Sponsors.{is_sponsor_right, sponsor_of}
-use Rattle.sqlobjects.specs.Stages.{AreAddressesPut, AreOtherAddressesKept, AreOthersKept, IsHostAdded, IsHostDropped, IsHostPlaced, IsHostPlacedAt, IsHostRemoved, IsHostRow, IsPlaced}
+use Rattle.sqlobjects.specs.inner.Stages.{AreAddressesPut, AreOtherAddressesKept, AreOthersKept, IsHostAdded, IsHostDropped, IsHostPlaced, IsHostPlacedAt, IsHostRemoved, IsHostRow, IsPlaced}
 use Rattle.sqlobjects.proofs.SponsorLemmas.{nobody, same-from, sponsor-kept}
 use Rattle.sqlobjects.proofs.PutLemmas.{drop-stands, found-added, map_of, names_kept, none-removed, none-stands, others-removed, placed-added, placed-put, put-stands}
 

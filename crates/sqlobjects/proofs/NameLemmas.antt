@@ -2,11 +2,11 @@
 use Rattle.std.proofs.Common.{◌≡◌, ℕ, List}
 use Rattle.std.specs.Prelude.{filter}
 use Rattle.std.specs.FinMap.{get}
-use Rattle.tables.specs.Contact as contact_table
-use Rattle.tables.specs.Content.{Content}
-use Rattle.tables.specs.Host as host_table
-use Rattle.meanings.specs.Read.{first_read}
-use Rattle.meanings.proofs.NameLemmas.{stands}
+use Rattle.sqltables.specs.Contact as contact_table
+use Rattle.sqltables.specs.Content.{Content}
+use Rattle.sqltables.specs.Host as host_table
+use Rattle.sqlrows.specs.Read.{first_read}
+use Rattle.sqlrows.proofs.NameLemmas.{stands}
 use Rattle.sqlobjects.specs.Objects.{contact_of, contacts_of, host_of, hosts_of}
 
 pub contact-named : (xs : Content) (name : List ℕ) → first_read (contact_of xs) (filter (contact_table.contact_with_name name) xs.contacts) ≡ get (contacts_of xs) name

@@ -13,12 +13,12 @@ use Rattle.sqlite_keyed.proofs.KeyedLemmas.{int_eq_apart, key-get_by, same_int}
 use Rattle.sqlite_keyed.proofs.ListLemmas.{filter_none}
 use Rattle.sqlite_rules.specs.Lists.{Has}
 use Rattle.sqlite_typed.specs.Tests.{bytes_eq}
-use Rattle.tables.specs.Whole.{IsNamedBy}
-use Rattle.tables.proofs.RowLemmas.{all_at, bytes_same, same_by_key}
-use Rattle.meanings.specs.Read.{first_read, or_else}
-use Rattle.meanings.proofs.NameLemmas.{entries_of, stands}
-use Rattle.sqlobjects.specs.Changes.{put}
-use Rattle.sqlobjects.specs.Stages.{AreOthersKept, IsPlaced}
+use Rattle.sqltables.specs.inner.Whole.{IsNamedBy}
+use Rattle.sqltables.proofs.RowLemmas.{all_at, bytes_same, same_by_key}
+use Rattle.sqlrows.specs.Read.{first_read, or_else}
+use Rattle.sqlrows.proofs.NameLemmas.{entries_of, stands}
+use Rattle.sqlobjects.specs.inner.Changes.{put}
+use Rattle.sqlobjects.specs.inner.Stages.{AreOthersKept, IsPlaced}
 
 -- ---- names
 

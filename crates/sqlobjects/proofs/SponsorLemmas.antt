@@ -3,14 +3,14 @@ use Rattle.std.proofs.Common.{◌≡◌, inl, inr, ℕ, ℤ, true, List, [], fil
 use Rattle.std.proofs.lemmas.Bool.Decides.{Decides-int_eq}
 use Rattle.sqlite_keyed.proofs.KeyedLemmas.{same_int}
 use Rattle.sqlite_rules.specs.Lists.{Has}
-use Rattle.columns.specs.Transfers.{is_same}
-use Rattle.tables.specs.Content.{Content}
-use Rattle.tables.specs.Domain.{domain_with_name}
-use Rattle.tables.specs.Host as table
-use Rattle.tables.proofs.RowLemmas.{bytes_same}
-use Rattle.meanings.specs.Read.{or_else, rows_of}
+use Rattle.sqlcolumns.specs.Transfers.{is_same}
+use Rattle.sqltables.specs.Content.{Content}
+use Rattle.sqltables.specs.Domain.{domain_with_name}
+use Rattle.sqltables.specs.Host as table
+use Rattle.sqltables.proofs.RowLemmas.{bytes_same}
+use Rattle.sqlrows.specs.Read.{or_else, rows_of}
 use Rattle.sqlobjects.specs.Sponsors.{first_sponsor, is_sponsor_right, sponsor_of}
-use Rattle.sqlobjects.specs.Stages.{HasRightSponsor, IsHostFound}
+use Rattle.sqlobjects.specs.inner.Stages.{HasRightSponsor, IsHostFound}
 use Rattle.sqlobjects.proofs.PutLemmas.{filter-has}
 
 pub itself : (a : Option ℤ) → is_same a a ≡ true

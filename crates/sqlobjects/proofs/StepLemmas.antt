@@ -1,12 +1,12 @@
 -- One step of a change after another.
 use Rattle.std.proofs.Common.{◌≡◌, true, Result, Ok, Err, refl, sym, subst, ◌∙◌}
 use Rattle.transactions.specs.declared.fault.BookFault.{BookFault}
-use Rattle.transactions.specs.States.{Meets, Reads, StateOf, Writes}
+use Rattle.transactions.specs.States.{FindsSome, Reads, StateOf, Writes}
 use Rattle.transactions.proofs.LeavingLemmas.{leaves-on, leaves-refl}
-use Rattle.meanings.specs.Calls.{Became, Turns}
-use Rattle.sqlobjects.specs.Stages.{Brings}
+use Rattle.sqlrows.specs.Meanings.{HasChanged, Changes}
+use Rattle.sqlobjects.specs.inner.Stages.{ChangesGiving}
 
-pub asked-then : {C : Type 0} (step way : C → C → Type 0) (a b c : StateOf C) → Reads a b → Became step b c → (c.is_clean ≡ true → step a.content c.content → way a.content c.content) → Became way a c
+pub asked-then : {C : Type 0} (step way : C → C → Type 0) (a b c : StateOf C) → Reads a b → HasChanged step b c → (c.is_clean ≡ true → step a.content c.content → way a.content c.content) → HasChanged way a c
 asked-then step way a b c asked made is = record {
   clean = λ e. asked.clean (made.clean e);
   before = λ e. made.before e ∙ asked.before (made.clean e);
@@ -17,12 +17,12 @@ asked-then step way a b c asked made is = record {
 }
 
 -- a write alone
-pub made : {C : Type 0} (way : C → C → Type 0) (h : C → C) (a b : StateOf C) → Writes (h a.content) a b → way a.content (h a.content) → Became way a b
+pub made : {C : Type 0} (way : C → C → Type 0) (h : C → C) (a b : StateOf C) → Writes (h a.content) a b → way a.content (h a.content) → HasChanged way a b
 made way h a b write is = record { clean = write.clean; before = write.before; opened = write.opened; content = λ e. subst (way a.content) (sym (write.content e)) is; answers = write.answers; leaves = write.leaves }
 
 -- one more write
-pub became-made : {C : Type 0} (step way : C → C → Type 0) (h : C → C) (a b c : StateOf C) → Became step a b → Writes (h b.content) b c
-    → (b.is_clean ≡ true → step a.content b.content → way a.content (h b.content)) → Became way a c
+pub became-made : {C : Type 0} (step way : C → C → Type 0) (h : C → C) (a b c : StateOf C) → HasChanged step a b → Writes (h b.content) b c
+    → (b.is_clean ≡ true → step a.content b.content → way a.content (h b.content)) → HasChanged way a c
 became-made step way h a b c made write is = record {
   clean = λ e. made.clean (write.clean e);
   before = λ e. write.before e ∙ made.before (write.clean e);
@@ -33,8 +33,8 @@ became-made step way h a b c made write is = record {
 }
 
 -- a question after it, whose answer is the change's
-pub became-met : {A C : Type 0} (r : Result A BookFault) (step : C → C → Type 0) (is : A → Type 0) (way : A → C → C → Type 0) (a b c : StateOf C) → Became step a b → Meets r is b c
-    → ((it : A) → step a.content b.content → is it → way it a.content b.content) → Brings r way a c
+pub became-met : {A C : Type 0} (r : Result A BookFault) (step : C → C → Type 0) (is : A → Type 0) (way : A → C → C → Type 0) (a b c : StateOf C) → HasChanged step a b → FindsSome r is b c
+    → ((it : A) → step a.content b.content → is it → way it a.content b.content) → ChangesGiving r way a c
 became-met (Ok it) step is way a b c made met then = record {
   clean = λ e. made.clean (met.0.clean e);
   before = λ e. met.0.before e ∙ made.before (met.0.clean e);
@@ -46,21 +46,21 @@ became-met (Ok it) step is way a b c made met then = record {
 became-met (Err fault) step is way a b c made met then = record { clean = λ e. made.clean (met.clean e); before = λ e. met.before e ∙ made.before (met.clean e); leaves = leaves-on a b c made.leaves met.leaves }
 
 -- a change after a question, which answers for both
-pub asked-brings : {A C : Type 0} (r : Result A BookFault) (step way : A → C → C → Type 0) (a b c : StateOf C) → Reads a b → Brings r step b c
-    → ((it : A) → b.is_clean ≡ true → step it a.content c.content → way it a.content c.content) → Brings r way a c
+pub asked-brings : {A C : Type 0} (r : Result A BookFault) (step way : A → C → C → Type 0) (a b c : StateOf C) → Reads a b → ChangesGiving r step b c
+    → ((it : A) → b.is_clean ≡ true → step it a.content c.content → way it a.content c.content) → ChangesGiving r way a c
 asked-brings (Ok it) step way a b c asked made is = asked-then (step it) (way it) a b c asked made (λ e. is it (made.clean e))
 asked-brings (Err fault) step way a b c asked made is = record { clean = λ e. asked.clean (made.clean e); before = λ e. made.before e ∙ asked.before (made.clean e); leaves = leaves-on a b c asked.leaves made.leaves }
 
 -- the same where nothing is answered
-pub asked-turns : {A C : Type 0} (r : Result A BookFault) (step way : C → C → Type 0) (a b c : StateOf C) → Reads a b → Turns r step b c
-    → (b.is_clean ≡ true → step a.content c.content → way a.content c.content) → Turns r way a c
+pub asked-turns : {A C : Type 0} (r : Result A BookFault) (step way : C → C → Type 0) (a b c : StateOf C) → Reads a b → Changes r step b c
+    → (b.is_clean ≡ true → step a.content c.content → way a.content c.content) → Changes r way a c
 asked-turns (Ok done) step way a b c asked made is = asked-then step way a b c asked made (λ e. is (made.clean e))
 asked-turns (Err fault) step way a b c asked made is = record { clean = λ e. asked.clean (made.clean e); before = λ e. made.before e ∙ asked.before (made.clean e); leaves = leaves-on a b c asked.leaves made.leaves }
 
 -- one change after another, where something always holds before and after
-pub became-whole : {C : Type 0} (first second way : C → C → Type 0) (always : C → Type 0) (a b c : StateOf C) → Became first a b → Became second b c
+pub became-whole : {C : Type 0} (first second way : C → C → Type 0) (always : C → Type 0) (a b c : StateOf C) → HasChanged first a b → HasChanged second b c
     → (a.is_clean ≡ true → always a.content) → (c.is_clean ≡ true → always c.content)
-    → (always a.content → always c.content → first a.content b.content → second b.content c.content → way a.content c.content) → Became way a c
+    → (always a.content → always c.content → first a.content b.content → second b.content c.content → way a.content c.content) → HasChanged way a c
 became-whole first second way always a b c one two before after is = record {
   clean = λ e. one.clean (two.clean e);
   before = λ e. two.before e ∙ one.before (two.clean e);
@@ -71,5 +71,5 @@ became-whole first second way always a b c one two before after is = record {
 }
 
 -- nothing yet
-pub stood : {C : Type 0} (way : C → C → Type 0) (a : StateOf C) → a.is_open ≡ true → way a.content a.content → Became way a a
+pub stood : {C : Type 0} (way : C → C → Type 0) (a : StateOf C) → a.is_open ≡ true → way a.content a.content → HasChanged way a a
 stood way a begun is = record { clean = λ e. e; before = λ e. refl; opened = begun; content = λ e. is; answers = λ was. was; leaves = leaves-refl a }

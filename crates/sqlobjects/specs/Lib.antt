@@ -1,4 +1,4 @@
 pub mod Objects
 pub mod Sponsors
 pub mod Changes
-pub mod Stages
+pub mod inner

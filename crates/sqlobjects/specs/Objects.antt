@@ -7,18 +7,18 @@ use Rattle.std.specs.Ordering.{nat_cmp}
 use Rattle.objects.specs.declared.contact.Contact.{Contact}
 use Rattle.objects.specs.declared.host.Host.{Host}
 use Rattle.objects.specs.declared.transfer.Transfer.{Transfer}
-use Rattle.columns.specs.Contacts.{contact_in}
-use Rattle.columns.specs.Hosts.{host_in}
-use Rattle.columns.specs.Steps.{◌>>=◌}
-use Rattle.columns.specs.Transfers.{transfer_in}
-use Rattle.tables.specs.Address.{address_with_host}
-use Rattle.tables.specs.Address as address_table
-use Rattle.tables.specs.Contact as contact_table
-use Rattle.tables.specs.Content.{Content}
-use Rattle.tables.specs.Host as host_table
-use Rattle.tables.specs.Transfer.{transfer_with_contact}
-use Rattle.tables.specs.Transfer as transfer_table
-use Rattle.meanings.specs.Read.{named}
+use Rattle.sqlcolumns.specs.Contacts.{contact_in}
+use Rattle.sqlcolumns.specs.Hosts.{host_in}
+use Rattle.sqlcolumns.specs.Steps.{◌>>=◌}
+use Rattle.sqlcolumns.specs.Transfers.{transfer_in}
+use Rattle.sqltables.specs.Address.{address_with_host}
+use Rattle.sqltables.specs.Address as address_table
+use Rattle.sqltables.specs.Contact as contact_table
+use Rattle.sqltables.specs.Content.{Content}
+use Rattle.sqltables.specs.Host as host_table
+use Rattle.sqltables.specs.Transfer.{transfer_with_contact}
+use Rattle.sqltables.specs.Transfer as transfer_table
+use Rattle.sqlrows.specs.Read.{named}
 
 -- ---- contacts
 

@@ -2,14 +2,14 @@
 use Rattle.std.specs.Prelude.{◌≡◌, ℕ, ℤ, Bool, true, false, not, ◌&&◌, List, [], ◌∷◌, filter, map, Option, Some, None, is_some, if◌then◌else◌}
 use Rattle.std.specs.List.{list_all}
 use Rattle.sqlite_rules.specs.Lists.{Has}
-use Rattle.columns.specs.Numbers.{maybe_registrar_column}
-use Rattle.columns.specs.Transfers.{is_same}
-use Rattle.tables.specs.Content.{Content}
-use Rattle.tables.specs.Domain.{domain_with_name}
-use Rattle.tables.specs.Domain as domain_table
-use Rattle.tables.specs.Host.{Host, host_with_above}
-use Rattle.tables.specs.Whole.{IsWhole}
-use Rattle.meanings.specs.Read.{or_else}
+use Rattle.sqlcolumns.specs.Numbers.{maybe_registrar_column}
+use Rattle.sqlcolumns.specs.Transfers.{is_same}
+use Rattle.sqltables.specs.Content.{Content}
+use Rattle.sqltables.specs.Domain.{domain_with_name}
+use Rattle.sqltables.specs.Domain as domain_table
+use Rattle.sqltables.specs.Host.{Host, host_with_above}
+use Rattle.sqltables.specs.inner.Whole.{IsWhole}
+use Rattle.sqlrows.specs.Read.{or_else}
 use Rattle.sqlobjects.specs.Objects.{hosts_of}
 
 abbrev pub first_sponsor : List domain_table.Domain → Option ℤ

@@ -1,14 +1,14 @@
 //! The addresses of a host, in their order.
 ghost use Rattle.std.specs.Prelude.{◌≡◌, true, [], ◌∷◌, IfOk};
-ghost use Rattle.meanings.specs.Calls.{Turns};
-ghost use Rattle.sqlobjects.specs.Stages.{AreAddressesAdded, AreAddressesPut};
+ghost use Rattle.sqlrows.specs.Meanings.{Changes};
+ghost use Rattle.sqlobjects.specs.inner.Stages.{AreAddressesAdded, AreAddressesPut};
 
 use crate::hosts::number_of;
 use basis::text::Text;
-use rows::Number;
 use sqlite::Alter;
+use sqlrows::Number;
+use sqltables::{AddressRow, HostRow, RowStore};
 use std::alloc::{AllocError, Global};
-use tables::{AddressRow, HostRow, RowStore};
 use transactions::BookFault;
 
 /// Removes the addresses of the host with this number.
@@ -17,7 +17,7 @@ pub(crate) fn clear_addresses<S: Alter>(
     host: Number,
 ) -> Result<(), BookFault>
     requires { store.old.is_open ≡ true }
-    ensures { Turns result (AreAddressesPut host []) store.old store.new }
+    ensures { Changes result (AreAddressesPut host []) store.old store.new }
 {
     store.remove_addresses_by_host(host)?;
     Ok(())
@@ -31,7 +31,7 @@ pub(crate) fn put_addresses<S: Alter>(
     addresses: &[Text],
 ) -> Result<(), BookFault>
     requires { store.old.is_open ≡ true }
-    ensures { Turns result (AreAddressesPut host.now.id addresses.now) store.old store.new }
+    ensures { Changes result (AreAddressesPut host.now.id addresses.now) store.old store.new }
 {
     let number = number_of(host);
     clear_addresses(store, number)?;
@@ -47,7 +47,7 @@ fn add_addresses<S: Alter>(
     addresses: &[Text],
 ) -> Result<(), BookFault>
     requires { store.old.is_open ≡ true }
-    ensures { Turns result (AreAddressesAdded host.now.id addresses.now) store.old store.new }
+    ensures { Changes result (AreAddressesAdded host.now.id addresses.now) store.old store.new }
 {
     for address in addresses {
         add_address(store, alloc, host, address)?;
@@ -63,7 +63,7 @@ fn add_address<S: Alter>(
     address: &Text,
 ) -> Result<(), BookFault>
     requires { store.old.is_open ≡ true }
-    ensures { Turns result (AreAddressesAdded host.now.id (address.now ∷ [])) store.old store.new }
+    ensures { Changes result (AreAddressesAdded host.now.id (address.now ∷ [])) store.old store.new }
 {
     let row = row_of(alloc, host, address)?;
     store.append_address(&row)?;

@@ -1,16 +1,16 @@
 //! Contacts put under their names and dropped.
 ghost use Rattle.std.specs.Prelude.{◌≡◌, true, Some, None};
-ghost use Rattle.meanings.specs.Calls.{Turns};
-ghost use Rattle.sqlobjects.specs.Changes.{IsContactPut};
+ghost use Rattle.sqlrows.specs.Meanings.{Changes};
+ghost use Rattle.sqlobjects.specs.inner.Changes.{IsContactPut};
 
 use crate::contact_rows::{place, remove_found, row_named};
 use crate::transfers::put_transfer;
 use basis::text::Text;
-use columns::is_contact;
 use objects::Contact;
+use sqlcolumns::is_contact;
 use sqlite::Alter;
+use sqltables::RowStore;
 use std::alloc::Global;
-use tables::RowStore;
 use transactions::BookFault;
 
 /// The contact stands under this name, which has to be its own.
@@ -21,7 +21,7 @@ pub fn put_contact<S: Alter>(
     contact: Contact,
 ) -> Result<(), BookFault>
     requires { store.old.is_open ≡ true }
-    ensures { Turns result (IsContactPut name (Some contact)) store.old store.new }
+    ensures { Changes result (IsContactPut name (Some contact)) store.old store.new }
 {
     put_named(store, alloc, &name, &contact)
 }
@@ -33,7 +33,7 @@ fn put_named<S: Alter>(
     contact: &Contact,
 ) -> Result<(), BookFault>
     requires { store.old.is_open ≡ true }
-    ensures { Turns result (IsContactPut name.now (Some contact.now)) store.old store.new }
+    ensures { Changes result (IsContactPut name.now (Some contact.now)) store.old store.new }
 {
     if contact.name.as_str() != name.as_str() {
         return Err(BookFault::Store);
@@ -44,7 +44,7 @@ fn put_named<S: Alter>(
 /// The contact stands under its name. One that wouldn't be read back is refused.
 fn put<S: Alter>(store: &mut RowStore<S>, alloc: Global, contact: &Contact) -> Result<(), BookFault>
     requires { store.old.is_open ≡ true }
-    ensures { Turns result (IsContactPut contact.now.name (Some contact.now)) store.old store.new }
+    ensures { Changes result (IsContactPut contact.now.name (Some contact.now)) store.old store.new }
 {
     if !is_contact(contact) {
         return Err(BookFault::Store);
@@ -63,7 +63,7 @@ pub fn drop_contact<S: Alter>(
     name: Text,
 ) -> Result<(), BookFault>
     requires { store.old.is_open ≡ true }
-    ensures { Turns result (IsContactPut name None) store.old store.new }
+    ensures { Changes result (IsContactPut name None) store.old store.new }
 {
     store.whole();
     let row = row_named(store, &name)?;

@@ -1,22 +1,21 @@
 //! Rows of contacts: found by name, put, added, and removed with their transfers.
 ghost use Rattle.std.specs.Prelude.{◌≡◌, true, [], ◌∷◌, filter, Some, None, IfOk};
-ghost use Rattle.columns.specs.Contacts.{contact_row};
-ghost use Rattle.tables.specs.Contact.{contact_with_name};
-ghost use Rattle.tables.specs.Whole.{IsWhole};
-ghost use Rattle.transactions.specs.States.{Meets};
-ghost use Rattle.meanings.specs.Calls.{Turns};
-ghost use Rattle.meanings.specs.Read.{rows_of};
-ghost use Rattle.sqlobjects.specs.Stages.{Brings, IsContactAdded, IsContactDropped, IsContactPlaced, IsContactPlacedAt, IsContactRemoved};
+ghost use Rattle.sqlcolumns.specs.inner.Contacts.{contact_row};
+ghost use Rattle.sqltables.specs.Contact.{contact_with_name};
+ghost use Rattle.sqltables.specs.inner.Whole.{IsWhole};
+ghost use Rattle.transactions.specs.States.{FindsSome};
+ghost use Rattle.sqlrows.specs.Meanings.{Changes};
+ghost use Rattle.sqlrows.specs.Read.{rows_of};
+ghost use Rattle.sqlobjects.specs.inner.Stages.{ChangesGiving, IsContactAdded, IsContactDropped, IsContactPlaced, IsContactPlacedAt, IsContactRemoved};
 
 use crate::transfers::clear_transfer;
 use basis::text::Text;
-use columns::contact_row;
-use meanings::{only, or_fault};
 use objects::Contact;
-use rows::Number;
+use sqlcolumns::contact_row;
 use sqlite::Alter;
+use sqlrows::{Number, only, or_fault};
+use sqltables::{ContactRow, RowStore};
 use std::alloc::Global;
-use tables::{ContactRow, RowStore};
 use transactions::BookFault;
 
 /// The row of the contact of this name, if there is one.
@@ -24,7 +23,7 @@ pub(crate) fn row_named<S: Alter>(
     store: &mut RowStore<S>,
     name: &Text,
 ) -> Result<Option<ContactRow>, BookFault>
-    ensures { Meets result (λ row. filter (contact_with_name name.now) store.old.content.contacts
+    ensures { FindsSome result (λ row. filter (contact_with_name name.now) store.old.content.contacts
         ≡ rows_of row) store.old store.new }
 {
     let rows = store.contacts_by_name(name.as_str())?;
@@ -43,7 +42,7 @@ pub(crate) fn remove_row<S: Alter>(
     row: &ContactRow,
 ) -> Result<(), BookFault>
     requires { store.old.is_open ≡ true }
-    ensures { Turns result (IsContactRemoved row.now.id) store.old store.new }
+    ensures { Changes result (IsContactRemoved row.now.id) store.old store.new }
 {
     let number = number_of(row);
     clear_transfer(store, number)?;
@@ -57,7 +56,7 @@ pub(crate) fn remove_found<S: Alter>(
     row: Option<ContactRow>,
 ) -> Result<(), BookFault>
     requires { store.old.is_open ≡ true }
-    ensures { Turns result (IsContactDropped row) store.old store.new }
+    ensures { Changes result (IsContactDropped row) store.old store.new }
 {
     match row {
         None => Ok(()),
@@ -73,7 +72,7 @@ pub(crate) fn place<S: Alter>(
     contact: &Contact,
 ) -> Result<ContactRow, BookFault>
     requires { store.old.is_open ≡ true }
-    ensures { Brings result (λ row old new. IsWhole old
+    ensures { ChangesGiving result (λ row old new. IsWhole old
         → IsContactPlaced contact.now row old new) store.old store.new }
 {
     let found = row_named(store, &contact.name)?;
@@ -88,7 +87,7 @@ fn place_at<S: Alter>(
     contact: &Contact,
 ) -> Result<ContactRow, BookFault>
     requires { store.old.is_open ≡ true }
-    ensures { Brings result (λ row old new. IsContactPlacedAt found contact.now row old new)
+    ensures { ChangesGiving result (λ row old new. IsContactPlacedAt found contact.now row old new)
         store.old store.new }
 {
     match found {
@@ -105,7 +104,7 @@ fn put_row<S: Alter>(
     contact: &Contact,
 ) -> Result<ContactRow, BookFault>
     requires { store.old.is_open ≡ true }
-    ensures { Brings result (λ row old new. IsContactPlacedAt (Some found.now) contact.now row old
+    ensures { ChangesGiving result (λ row old new. IsContactPlacedAt (Some found.now) contact.now row old
         new) store.old store.new }
 {
     let row = row_again(alloc, found, contact)?;
@@ -120,7 +119,7 @@ fn add_row<S: Alter>(
     contact: &Contact,
 ) -> Result<ContactRow, BookFault>
     requires { store.old.is_open ≡ true }
-    ensures { Brings result (λ row old new. IsContactPlacedAt None contact.now row old new)
+    ensures { ChangesGiving result (λ row old new. IsContactPlacedAt None contact.now row old new)
         store.old store.new }
 {
     append(store, alloc, contact)?;
@@ -134,7 +133,7 @@ fn append<S: Alter>(
     contact: &Contact,
 ) -> Result<(), BookFault>
     requires { store.old.is_open ≡ true }
-    ensures { Turns result (IsContactAdded contact.now) store.old store.new }
+    ensures { Changes result (IsContactAdded contact.now) store.old store.new }
 {
     let row = row_of(alloc, 0, contact)?;
     let appended = store.append_contact(&row);
@@ -159,7 +158,7 @@ fn row_again(alloc: Global, found: &ContactRow, contact: &Contact) -> Result<Con
 
 /// The row of the contact of this name.
 fn row_there<S: Alter>(store: &mut RowStore<S>, name: &Text) -> Result<ContactRow, BookFault>
-    ensures { Meets result (λ row. filter (contact_with_name name.now) store.old.content.contacts
+    ensures { FindsSome result (λ row. filter (contact_with_name name.now) store.old.content.contacts
         ≡ row ∷ []) store.old store.new }
 {
     match row_named(store, name)? {

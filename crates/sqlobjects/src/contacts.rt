@@ -1,22 +1,21 @@
 //! Contacts, by name.
 ghost use Rattle.std.specs.Prelude.{◌≡◌, true, IfOk, Some, filter, is_some};
 ghost use Rattle.std.specs.FinMap.{get};
-ghost use Rattle.columns.specs.Contacts.{contact_in};
-ghost use Rattle.tables.specs.Contact.{contact_with_name};
-ghost use Rattle.tables.specs.Transfer.{transfer_with_contact};
-ghost use Rattle.transactions.specs.States.{Finds, Meets};
+ghost use Rattle.sqlcolumns.specs.Contacts.{contact_in};
+ghost use Rattle.sqltables.specs.Contact.{contact_with_name};
+ghost use Rattle.sqltables.specs.Transfer.{transfer_with_contact};
+ghost use Rattle.transactions.specs.States.{Finds, FindsSome};
 ghost use Rattle.sqlobjects.specs.Objects as spec;
-ghost use Rattle.meanings.specs.Read.{IsRead, first_read};
+ghost use Rattle.sqlrows.specs.Read.{IsRead, first_read};
 
 use basis::list::Seq;
 use basis::text::Text;
-use columns::{contact_of_row, transfer_of_row};
-use meanings::{only, or_fault};
 use objects::{Contact, Transfer};
-use rows::Number;
+use sqlcolumns::{contact_of_row, transfer_of_row};
 use sqlite::Alter;
+use sqlrows::{Number, only, or_fault};
+use sqltables::{ContactRow, RowStore, TransferRow};
 use std::alloc::Global;
-use tables::{ContactRow, RowStore, TransferRow};
 use transactions::BookFault;
 
 /// The contact of this name.
@@ -56,7 +55,7 @@ pub fn contact_of<S: Alter>(
     alloc: Global,
     row: ContactRow,
 ) -> Result<Contact, BookFault>
-    ensures { Meets result (λ contact. spec.contact_of store.old.content row ≡ Some contact)
+    ensures { FindsSome result (λ contact. spec.contact_of store.old.content row ≡ Some contact)
         store.old store.new }
 {
     match transfer_of(store, &row) {
@@ -73,7 +72,7 @@ fn transfer_of<S: Alter>(
     store: &mut RowStore<S>,
     row: &ContactRow,
 ) -> Result<Option<Transfer>, BookFault>
-    ensures { Meets result
+    ensures { FindsSome result
         (λ transfer. spec.last_transfer (filter (transfer_with_contact row.now.id)
         store.old.content.transfers) ≡ Some transfer) store.old store.new }
 {

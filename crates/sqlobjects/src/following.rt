@@ -1,17 +1,17 @@
 //! Hosts that follow the domain that they lie below: whoever sponsors it sponsors them.
 ghost use Rattle.std.specs.Prelude.{◌≡◌, true, IfOk};
-ghost use Rattle.columns.specs.Transfers as columns;
-ghost use Rattle.meanings.specs.Calls.{Turns};
+ghost use Rattle.sqlcolumns.specs.Transfers as columns;
+ghost use Rattle.sqlrows.specs.Meanings.{Changes};
 ghost use Rattle.sqlobjects.specs.Sponsors.{IsFollowed};
-ghost use Rattle.sqlobjects.specs.Stages.{AreHostsMoved, AreWritten, IsMoved, with_all_moved, with_moved};
+ghost use Rattle.sqlobjects.specs.inner.Stages.{AreHostsMoved, AreWritten, IsMoved, with_all_moved, with_moved};
 
 use crate::sponsors::domain_sponsor;
 use basis::list::Seq;
 use basis::registrar::RegistrarNo;
 use basis::text::Text;
-use columns::{is_same, maybe_registrar_column};
+use sqlcolumns::{is_same, maybe_registrar_column};
 use sqlite::Alter;
-use tables::{HostRow, RowStore};
+use sqltables::{HostRow, RowStore};
 use transactions::BookFault;
 
 /// The accounts that sponsor hosts before and after, if there are such.
@@ -30,7 +30,7 @@ pub fn follow<S: Alter>(
     after: Option<RegistrarNo>,
 ) -> Result<(), BookFault>
     requires { store.old.is_open ≡ true }
-    ensures { Turns result (IsFollowed above.now after) store.old store.new }
+    ensures { Changes result (IsFollowed above.now after) store.old store.new }
 {
     store.whole();
     let before = domain_sponsor(store, above.as_str())?;
@@ -61,7 +61,7 @@ fn move_hosts<S: Alter>(
     sponsors: &Sponsors,
 ) -> Result<(), BookFault>
     requires { store.old.is_open ≡ true }
-    ensures { Turns result (AreHostsMoved above.now sponsors.now) store.old store.new }
+    ensures { Changes result (AreHostsMoved above.now sponsors.now) store.old store.new }
 {
     store.whole();
     let rows = store.hosts_by_above(above.as_str())?;
@@ -75,7 +75,7 @@ fn move_all<S: Alter>(
     sponsors: &Sponsors,
 ) -> Result<(), BookFault>
     requires { store.old.is_open ≡ true }
-    ensures { Turns result (AreWritten (λ xs. with_all_moved sponsors.now xs rows)) store.old
+    ensures { Changes result (AreWritten (λ xs. with_all_moved sponsors.now xs rows)) store.old
         store.new }
 {
     for row in rows.into_vec() {
@@ -91,7 +91,7 @@ fn move_one<S: Alter>(
     sponsors: &Sponsors,
 ) -> Result<(), BookFault>
     requires { store.old.is_open ≡ true }
-    ensures { Turns result (AreWritten (λ xs. with_moved sponsors.now xs row)) store.old store.new }
+    ensures { Changes result (AreWritten (λ xs. with_moved sponsors.now xs row)) store.old store.new }
 {
     if row.external_sponsor.is_some() {
         return Ok(());

@@ -1,16 +1,16 @@
 //! Hosts put under their names and dropped.
 ghost use Rattle.std.specs.Prelude.{◌≡◌, true, Some, None};
-ghost use Rattle.meanings.specs.Calls.{Turns};
-ghost use Rattle.sqlobjects.specs.Changes.{IsHostPut};
+ghost use Rattle.sqlrows.specs.Meanings.{Changes};
+ghost use Rattle.sqlobjects.specs.inner.Changes.{IsHostPut};
 
 use crate::addresses::put_addresses;
 use crate::host_rows::{place, remove_found, row_to_change};
 use basis::text::Text;
-use columns::is_host;
 use objects::Host;
+use sqlcolumns::is_host;
 use sqlite::Alter;
+use sqltables::RowStore;
 use std::alloc::Global;
-use tables::RowStore;
 use transactions::BookFault;
 
 /// The host stands under its name. Refused is what replaces a row with a wrong sponsor.
@@ -20,7 +20,7 @@ pub fn put_host<S: Alter>(
     host: Host,
 ) -> Result<(), BookFault>
     requires { store.old.is_open ≡ true }
-    ensures { Turns result (IsHostPut host.name (Some host)) store.old store.new }
+    ensures { Changes result (IsHostPut host.name (Some host)) store.old store.new }
 {
     put(store, alloc, &host)
 }
@@ -28,7 +28,7 @@ pub fn put_host<S: Alter>(
 /// The same of a host that is kept. One that wouldn't be read back is refused.
 fn put<S: Alter>(store: &mut RowStore<S>, alloc: Global, host: &Host) -> Result<(), BookFault>
     requires { store.old.is_open ≡ true }
-    ensures { Turns result (IsHostPut host.now.name (Some host.now)) store.old store.new }
+    ensures { Changes result (IsHostPut host.now.name (Some host.now)) store.old store.new }
 {
     if !is_host(host) {
         return Err(BookFault::Store);
@@ -47,7 +47,7 @@ pub fn drop_host<S: Alter>(
     name: Text,
 ) -> Result<(), BookFault>
     requires { store.old.is_open ≡ true }
-    ensures { Turns result (IsHostPut name None) store.old store.new }
+    ensures { Changes result (IsHostPut name None) store.old store.new }
 {
     store.whole();
     let row = row_to_change(store, &name)?;

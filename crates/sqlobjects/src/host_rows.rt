@@ -1,22 +1,23 @@
 //! Rows of hosts: found by name, put, added, and removed with their addresses.
 ghost use Rattle.std.specs.Prelude.{◌≡◌, true, [], ◌∷◌, filter, Some, None, IfOk};
-ghost use Rattle.columns.specs.Hosts as hosts;
-ghost use Rattle.tables.specs.Host.{host_with_name};
-ghost use Rattle.transactions.specs.States.{Meets};
-ghost use Rattle.meanings.specs.Calls.{Turns};
-ghost use Rattle.meanings.specs.Read.{rows_of};
-ghost use Rattle.sqlobjects.specs.Stages.{Brings, IsHostAdded, IsHostDropped, IsHostFound, IsHostPlacedAt, IsHostPlacedRight, IsHostRemoved, IsHostRow};
+ghost use Rattle.sqlcolumns.specs.Hosts as hosts;
+ghost use Rattle.sqlcolumns.specs.inner.Hosts as inner_hosts;
+ghost use Rattle.sqltables.specs.Host.{host_with_name};
+ghost use Rattle.transactions.specs.States.{FindsSome};
+ghost use Rattle.sqlrows.specs.Meanings.{Changes};
+ghost use Rattle.sqlrows.specs.Read.{rows_of};
+ghost use Rattle.sqlobjects.specs.inner.Stages.{ChangesGiving, IsHostAdded, IsHostDropped, IsHostFound, IsHostPlacedAt, IsHostPlacedRight, IsHostRemoved, IsHostRow};
 
 use crate::addresses::clear_addresses;
 use crate::hosts::number_of;
 use crate::sponsors::{check_sponsor, with_sponsor};
 use basis::text::Text;
-use columns::host_row;
-use meanings::{only, or_fault};
 use objects::Host;
+use sqlcolumns::host_row;
 use sqlite::Alter;
+use sqlrows::{only, or_fault};
+use sqltables::{HostRow, RowStore};
 use std::alloc::Global;
-use tables::{HostRow, RowStore};
 use transactions::BookFault;
 
 /// The row of the host of this name, if there is one.
@@ -24,7 +25,7 @@ pub(crate) fn row_named<S: Alter>(
     store: &mut RowStore<S>,
     name: &Text,
 ) -> Result<Option<HostRow>, BookFault>
-    ensures { Meets result (λ row. filter (host_with_name name.now) store.old.content.hosts
+    ensures { FindsSome result (λ row. filter (host_with_name name.now) store.old.content.hosts
         ≡ rows_of row) store.old store.new }
 {
     let rows = store.hosts_by_name(name.as_str())?;
@@ -37,7 +38,7 @@ pub(crate) fn row_to_change<S: Alter>(
     store: &mut RowStore<S>,
     name: &Text,
 ) -> Result<Option<HostRow>, BookFault>
-    ensures { Meets result (IsHostFound store.old.content name.now) store.old store.new }
+    ensures { FindsSome result (IsHostFound store.old.content name.now) store.old store.new }
 {
     let row = row_named(store, name)?;
     check_sponsor(store, &row)?;
@@ -47,7 +48,7 @@ pub(crate) fn row_to_change<S: Alter>(
 /// Removes a host's row, and its addresses before.
 fn remove_row<S: Alter>(store: &mut RowStore<S>, row: &HostRow) -> Result<(), BookFault>
     requires { store.old.is_open ≡ true }
-    ensures { Turns result (IsHostRemoved row.now.id) store.old store.new }
+    ensures { Changes result (IsHostRemoved row.now.id) store.old store.new }
 {
     let number = number_of(row);
     clear_addresses(store, number)?;
@@ -61,7 +62,7 @@ pub(crate) fn remove_found<S: Alter>(
     row: Option<HostRow>,
 ) -> Result<(), BookFault>
     requires { store.old.is_open ≡ true }
-    ensures { Turns result (IsHostDropped row) store.old store.new }
+    ensures { Changes result (IsHostDropped row) store.old store.new }
 {
     match row {
         None => Ok(()),
@@ -77,7 +78,7 @@ pub(crate) fn place<S: Alter>(
     host: &Host,
 ) -> Result<HostRow, BookFault>
     requires { store.old.is_open ≡ true }
-    ensures { Brings result (λ row old new. IsHostPlacedRight host.now row old new) store.old
+    ensures { ChangesGiving result (λ row old new. IsHostPlacedRight host.now row old new) store.old
         store.new }
 {
     let found = row_to_change(store, &host.name)?;
@@ -92,7 +93,7 @@ fn place_at<S: Alter>(
     host: &Host,
 ) -> Result<HostRow, BookFault>
     requires { store.old.is_open ≡ true }
-    ensures { Brings result (λ row old new. IsHostPlacedAt found host.now row old new) store.old
+    ensures { ChangesGiving result (λ row old new. IsHostPlacedAt found host.now row old new) store.old
         store.new }
 {
     match found {
@@ -109,7 +110,7 @@ fn put_row<S: Alter>(
     host: &Host,
 ) -> Result<HostRow, BookFault>
     requires { store.old.is_open ≡ true }
-    ensures { Brings result (λ row old new. IsHostPlacedAt (Some found.now) host.now row old new)
+    ensures { ChangesGiving result (λ row old new. IsHostPlacedAt (Some found.now) host.now row old new)
         store.old store.new }
 {
     let row = row_again(store, alloc, found, host)?;
@@ -124,7 +125,7 @@ fn add_row<S: Alter>(
     host: &Host,
 ) -> Result<HostRow, BookFault>
     requires { store.old.is_open ≡ true }
-    ensures { Brings result (λ row old new. IsHostPlacedAt None host.now row old new) store.old
+    ensures { ChangesGiving result (λ row old new. IsHostPlacedAt None host.now row old new) store.old
         store.new }
 {
     append(store, alloc, host)?;
@@ -134,7 +135,7 @@ fn add_row<S: Alter>(
 /// Adds a host's row after the others.
 fn append<S: Alter>(store: &mut RowStore<S>, alloc: Global, host: &Host) -> Result<(), BookFault>
     requires { store.old.is_open ≡ true }
-    ensures { Turns result (IsHostAdded host.now) store.old store.new }
+    ensures { Changes result (IsHostAdded host.now) store.old store.new }
 {
     let row = row_of(store, alloc, 0, host)?;
     store.append_host(&row)?;
@@ -148,7 +149,7 @@ fn row_of<S: Alter>(
     id: i64,
     host: &Host,
 ) -> Result<HostRow, BookFault>
-    ensures { Meets result (λ row. IsHostRow store.old.content id host.now row) store.old
+    ensures { FindsSome result (λ row. IsHostRow store.old.content id host.now row) store.old
         store.new }
 {
     let row = row_without(alloc, id, host)?;
@@ -157,7 +158,7 @@ fn row_of<S: Alter>(
 
 /// The same without a sponsor.
 fn row_without(alloc: Global, id: i64, host: &Host) -> Result<HostRow, BookFault>
-    ensures { IfOk result (λ row. hosts.host_row id None host.now ≡ Some row) }
+    ensures { IfOk result (λ row. inner_hosts.host_row id None host.now ≡ Some row) }
 {
     or_fault(host_row(alloc, id, None, host)?)
 }
@@ -169,7 +170,7 @@ fn row_again<S: Alter>(
     found: &HostRow,
     host: &Host,
 ) -> Result<HostRow, BookFault>
-    ensures { Meets result (λ row. IsHostRow store.old.content found.now.id host.now row) store.old
+    ensures { FindsSome result (λ row. IsHostRow store.old.content found.now.id host.now row) store.old
         store.new }
 {
     row_of(store, alloc, found.id, host)
@@ -177,7 +178,7 @@ fn row_again<S: Alter>(
 
 /// The row of the host of this name.
 fn row_there<S: Alter>(store: &mut RowStore<S>, name: &Text) -> Result<HostRow, BookFault>
-    ensures { Meets result (λ row. filter (host_with_name name.now) store.old.content.hosts ≡ row
+    ensures { FindsSome result (λ row. filter (host_with_name name.now) store.old.content.hosts ≡ row
         ∷ []) store.old store.new }
 {
     match row_named(store, name)? {

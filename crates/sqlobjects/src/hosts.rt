@@ -1,21 +1,20 @@
 //! Hosts, by name.
 ghost use Rattle.std.specs.Prelude.{◌≡◌, true, filter, IfOk, Some, is_some, option_map};
 ghost use Rattle.std.specs.FinMap.{get};
-ghost use Rattle.columns.specs.Hosts.{host_in};
-ghost use Rattle.tables.specs.Host.{host_with_name};
-ghost use Rattle.transactions.specs.States.{Finds, Meets};
+ghost use Rattle.sqlcolumns.specs.Hosts.{host_in};
+ghost use Rattle.sqltables.specs.Host.{host_with_name};
+ghost use Rattle.transactions.specs.States.{Finds, FindsSome};
 ghost use Rattle.sqlobjects.specs.Objects as spec;
-ghost use Rattle.meanings.specs.Read.{IsRead, first_read};
+ghost use Rattle.sqlrows.specs.Read.{IsRead, first_read};
 
 use basis::list::Seq;
 use basis::text::Text;
-use columns::host_of_row;
-use meanings::{only, or_fault};
 use objects::Host;
-use rows::Number;
+use sqlcolumns::host_of_row;
 use sqlite::Alter;
+use sqlrows::{Number, only, or_fault};
+use sqltables::{AddressRow, HostRow, RowStore};
 use std::alloc::{AllocError, Global};
-use tables::{AddressRow, HostRow, RowStore};
 use transactions::BookFault;
 
 /// The host of this name.
@@ -54,7 +53,7 @@ fn host_of<S: Alter>(
     alloc: Global,
     row: HostRow,
 ) -> Result<Host, BookFault>
-    ensures { Meets result (λ host. spec.host_of store.old.content row ≡ Some host) store.old
+    ensures { FindsSome result (λ host. spec.host_of store.old.content row ≡ Some host) store.old
         store.new }
 {
     let number = number_of(&row);

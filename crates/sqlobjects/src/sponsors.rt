@@ -1,14 +1,14 @@
 //! Who sponsors a host, as its row has it.
 ghost use Rattle.std.specs.Prelude.{◌≡◌, IfSome};
-ghost use Rattle.meanings.specs.Read.{rows_of};
+ghost use Rattle.sqlrows.specs.Read.{rows_of};
 ghost use Rattle.sqlobjects.specs.Sponsors as spec;
-ghost use Rattle.sqlobjects.specs.Stages.{HasRightSponsor};
-ghost use Rattle.transactions.specs.States.{Meets};
+ghost use Rattle.sqlobjects.specs.inner.Stages.{HasRightSponsor};
+ghost use Rattle.transactions.specs.States.{FindsSome};
 
-use columns::is_same;
-use meanings::only;
+use sqlcolumns::is_same;
 use sqlite::Alter;
-use tables::{DomainRow, HostRow, RowStore};
+use sqlrows::only;
+use sqltables::{DomainRow, HostRow, RowStore};
 use transactions::BookFault;
 
 /// The account that sponsors the domain of this name, if there is one.
@@ -16,7 +16,7 @@ pub(crate) fn domain_sponsor<S: Alter>(
     store: &mut RowStore<S>,
     name: &str,
 ) -> Result<Option<i64>, BookFault>
-    ensures { Meets result (λ sponsor. sponsor ≡ spec.domain_sponsor store.old.content name.now)
+    ensures { FindsSome result (λ sponsor. sponsor ≡ spec.domain_sponsor store.old.content name.now)
         store.old store.new }
 {
     let rows = store.domains_by_name(name)?;
@@ -36,7 +36,7 @@ fn first_sponsor(domain: Option<DomainRow>) -> Option<i64>
 /// The account that sponsors the host of a row: outside the zone its own sponsor, or else that of the
 /// domain that it lies below, if there is one.
 fn sponsor_of<S: Alter>(store: &mut RowStore<S>, row: &HostRow) -> Result<Option<i64>, BookFault>
-    ensures { Meets result (λ sponsor. sponsor ≡ spec.sponsor_of store.old.content row.now)
+    ensures { FindsSome result (λ sponsor. sponsor ≡ spec.sponsor_of store.old.content row.now)
         store.old store.new }
 {
     if let Some(sponsor) = row.external_sponsor {
@@ -50,7 +50,7 @@ pub(crate) fn with_sponsor<S: Alter>(
     store: &mut RowStore<S>,
     row: HostRow,
 ) -> Result<HostRow, BookFault>
-    ensures { Meets result (λ right. right
+    ensures { FindsSome result (λ right. right
         ≡ record row { sponsor = spec.sponsor_of store.old.content row }) store.old store.new }
 {
     let sponsor = sponsor_of(store, &row)?;
@@ -64,7 +64,7 @@ pub(crate) fn check_sponsor<S: Alter>(
     store: &mut RowStore<S>,
     row: &Option<HostRow>,
 ) -> Result<(), BookFault>
-    ensures { Meets result (λ done. IfSome row.now (HasRightSponsor store.old.content)) store.old
+    ensures { FindsSome result (λ done. IfSome row.now (HasRightSponsor store.old.content)) store.old
         store.new }
 {
     match row {
@@ -74,7 +74,7 @@ pub(crate) fn check_sponsor<S: Alter>(
 }
 
 fn check_row<S: Alter>(store: &mut RowStore<S>, row: &HostRow) -> Result<(), BookFault>
-    ensures { Meets result (λ done. HasRightSponsor store.old.content row.now) store.old store.new }
+    ensures { FindsSome result (λ done. HasRightSponsor store.old.content row.now) store.old store.new }
 {
     let sponsor = sponsor_of(store, row)?;
     if !is_same(row.sponsor, sponsor) {

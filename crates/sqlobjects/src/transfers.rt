@@ -1,19 +1,19 @@
 //! The transfer of a contact.
 ghost use Rattle.std.specs.Prelude.{◌≡◌, true, is_some, IfOk, IfSome};
 ghost use Rattle.std.specs.List.{list_any};
-ghost use Rattle.columns.specs.Transfers.{IsTransfer};
+ghost use Rattle.sqlcolumns.specs.Transfers.{IsTransfer};
 ghost use Rattle.transactions.specs.States.{Makes};
-ghost use Rattle.meanings.specs.Calls.{Turns};
-ghost use Rattle.tables.specs.Content.{transfers_to};
-ghost use Rattle.tables.specs.Transfer as table;
-ghost use Rattle.sqlobjects.specs.Stages.{IsTransferCleared, IsTransferPut, transfer_row_of, with_added};
+ghost use Rattle.sqlrows.specs.Meanings.{Changes};
+ghost use Rattle.sqltables.specs.inner.Content.{transfers_to};
+ghost use Rattle.sqltables.specs.Transfer as table;
+ghost use Rattle.sqlobjects.specs.inner.Stages.{IsTransferCleared, IsTransferPut, transfer_row_of, with_added};
 
 use crate::contact_rows::number_of;
-use columns::{is_transfer, transfer_row};
 use objects::Transfer;
-use rows::Number;
+use sqlcolumns::{is_transfer, transfer_row};
 use sqlite::Alter;
-use tables::{ContactRow, RowStore, TransferRow};
+use sqlrows::Number;
+use sqltables::{ContactRow, RowStore, TransferRow};
 use transactions::BookFault;
 
 /// Removes the transfers of the contact with this number. One that is a domain's too is refused.
@@ -22,7 +22,7 @@ pub(crate) fn clear_transfer<S: Alter>(
     contact: Number,
 ) -> Result<(), BookFault>
     requires { store.old.is_open ≡ true }
-    ensures { Turns result (IsTransferCleared contact) store.old store.new }
+    ensures { Changes result (IsTransferCleared contact) store.old store.new }
 {
     let rows = store.transfers_by_contact(contact)?;
     if rows.is_empty() {
@@ -42,7 +42,7 @@ pub(crate) fn put_transfer<S: Alter>(
     transfer: &Option<Transfer>,
 ) -> Result<(), BookFault>
     requires { store.old.is_open ≡ true }
-    ensures { Turns result (IsTransferPut contact.now.id transfer.now) store.old store.new }
+    ensures { Changes result (IsTransferPut contact.now.id transfer.now) store.old store.new }
 {
     let row = row_of(contact, transfer)?;
     let number = number_of(contact);

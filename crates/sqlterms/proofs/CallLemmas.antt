@@ -2,11 +2,11 @@
 use Rattle.std.proofs.Common.{◌≡◌, true, sym, ap, subst, ◌∙◌}
 use Rattle.transactions.specs.States.{Reads, StateOf, Writes}
 use Rattle.transactions.proofs.LeavingLemmas.{leaves-on}
-use Rattle.meanings.specs.Calls.{Became}
+use Rattle.sqlrows.specs.Meanings.{HasChanged}
 
 -- what was looked at is changed in two ways, and looked at again
 pub became-through : {X : Type 0} (mid way : X → X → Type 0) (h : X → X) (a b c d e : StateOf X)
-    → Reads a b → Writes (h b.content) b c → Became mid c d → Reads d e → (e.is_clean ≡ true → mid (h a.content) d.content → way a.content d.content) → Became way a e
+    → Reads a b → Writes (h b.content) b c → HasChanged mid c d → Reads d e → (e.is_clean ≡ true → mid (h a.content) d.content → way a.content d.content) → HasChanged way a e
 became-through mid way h a b c d e reads makes turns looks is = record {
   clean = λ t. reads.clean (makes.clean (turns.clean (looks.clean t)));
   before = λ t. looks.before t ∙ turns.before (looks.clean t) ∙ makes.before (turns.clean (looks.clean t)) ∙ reads.before (makes.clean (turns.clean (looks.clean t)));

@@ -8,20 +8,21 @@ use Rattle.std.specs.Ordering.{match_ordering}
 use Rattle.std.specs.declared.cmp.Ordering.{Ordering}
 use Rattle.sqlite_keyed.specs.Keyed.{insert_by}
 use Rattle.calendar.specs.Moment.{IsMoment}
-use Rattle.columns.specs.Numbers.{moment_in}
-use Rattle.columns.proofs.NumberLemmas.{moment_back}
-use Rattle.meanings.specs.Read.{rows_of}
+use Rattle.sqlcolumns.specs.Numbers.{moment_in}
+use Rattle.sqlcolumns.proofs.NumberLemmas.{moment_back}
+use Rattle.sqlrows.specs.Read.{rows_of}
 use Rattle.model.specs.Registry.{blank}
 use Rattle.policy.specs.declared.terms.Terms.{Terms}
-use Rattle.tables.specs.Account.{Account}
-use Rattle.tables.specs.Content.{Content, metas_to}
-use Rattle.tables.specs.Day.{Day}
-use Rattle.tables.specs.Meta.{Meta, metas}
-use Rattle.tables.specs.Readiness.{may_be_numbered}
-use Rattle.tables.specs.Tables.{schema_number}
-use Rattle.sqlterms.specs.Changes.{IsClockSet}
+use Rattle.sqltables.specs.Account.{Account}
+use Rattle.sqltables.specs.Content.{Content}
+use Rattle.sqltables.specs.inner.Content.{metas_to}
+use Rattle.sqltables.specs.Day.{Day}
+use Rattle.sqltables.specs.Meta.{Meta, metas}
+use Rattle.sqltables.specs.Readiness.{may_be_numbered}
+use Rattle.sqltables.specs.Tables.{schema_number}
+use Rattle.sqlterms.specs.inner.Changes.{IsClockSet}
 use Rattle.sqlterms.specs.Clock.{clock_in, clock_of}
-use Rattle.sqlterms.specs.Meta.{IsAt, meta_or_new, with_clock, with_terms}
+use Rattle.sqlterms.specs.inner.Meta.{IsAt, meta_or_new, with_clock, with_terms}
 use Rattle.sqlterms.specs.Terms.{days_at, terms_at, terms_in}
 
 -- the first moment is one

@@ -11,15 +11,16 @@ use Rattle.sqlite_keyed.proofs.KeyedLemmas.{Less-from_lt}
 use Rattle.sqlite_rules.proofs.ListLemmas.{all_has, has_found}
 use Rattle.basis.specs.Bag.{bag_of}
 use Rattle.accounts.specs.Lines.{in_order}
-use Rattle.columns.specs.Lines.{line_in}
-use Rattle.columns.specs.Messages.{message_in}
-use Rattle.columns.specs.Numbers.{counter_in, registrar_in}
-use Rattle.tables.specs.Account.{Account, accounts}
-use Rattle.tables.specs.Content.{Content, accounts_to}
-use Rattle.tables.specs.Line.{line_with_account}
-use Rattle.tables.specs.Message.{message_with_account}
+use Rattle.sqlcolumns.specs.Lines.{line_in}
+use Rattle.sqlcolumns.specs.Messages.{message_in}
+use Rattle.sqlcolumns.specs.Numbers.{counter_in, registrar_in}
+use Rattle.sqltables.specs.Account.{Account, accounts}
+use Rattle.sqltables.specs.Content.{Content}
+use Rattle.sqltables.specs.inner.Content.{accounts_to}
+use Rattle.sqltables.specs.Line.{line_with_account}
+use Rattle.sqltables.specs.Message.{message_with_account}
 use Rattle.sqlaccounts.specs.Accounts.{account_in, accounts_of, entries_of, has_right_sums, is_right, put_all, sums_are_right}
-use Rattle.sqlterms.specs.Changes.{IsRenaming, nameless}
+use Rattle.sqlterms.specs.inner.Changes.{IsRenaming, nameless}
 
 abbrev key : Account → ℤ
 key = accounts.key

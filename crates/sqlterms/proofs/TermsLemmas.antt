@@ -4,22 +4,23 @@ use Rattle.std.specs.Prelude.{option_and_then, slice_get}
 use Rattle.basis.specs.Sets.{Names}
 use Rattle.policy.specs.declared.prices.Prices.{Prices}
 use Rattle.policy.specs.declared.schedule.Schedule.{Schedule}
-use Rattle.tables.specs.Account.{Account}
+use Rattle.sqltables.specs.Account.{Account}
 use Rattle.sqlterms.specs.Meta.{meta_of}
 use Rattle.sqlterms.specs.Terms.{days_at, ids_in, prices_in, reserved_in, schedule_in, terms_in, terms_made}
 use Rattle.sqlite_keyed.specs.Keyed.{insert_by}
 use Rattle.calendar.specs.Moment.{IsMoment}
-use Rattle.meanings.specs.Read.{rows_of}
+use Rattle.sqlrows.specs.Read.{rows_of}
 use Rattle.model.specs.Registry.{blank}
 use Rattle.policy.specs.declared.terms.Terms.{Terms}
-use Rattle.tables.specs.Content.{Content, metas_to}
-use Rattle.tables.specs.Day.{Day}
-use Rattle.tables.specs.Meta.{Meta, metas}
-use Rattle.sqlterms.specs.Changes.{ArePutBeside, IsTermsSet}
+use Rattle.sqltables.specs.Content.{Content}
+use Rattle.sqltables.specs.inner.Content.{metas_to}
+use Rattle.sqltables.specs.Day.{Day}
+use Rattle.sqltables.specs.Meta.{Meta, metas}
+use Rattle.sqlterms.specs.inner.Changes.{ArePutBeside, IsTermsSet}
 use Rattle.sqlterms.specs.Clock.{clock_in}
-use Rattle.sqlterms.specs.Meta.{meta_or_new, with_terms}
+use Rattle.sqlterms.specs.inner.Meta.{meta_or_new, with_terms}
 use Rattle.sqlterms.specs.Terms.{terms_of}
-use Rattle.tables.specs.Readiness.{may_be_numbered}
+use Rattle.sqltables.specs.Readiness.{may_be_numbered}
 use Rattle.sqlterms.proofs.MetaLemmas.{same_clock_of, same_number}
 use Rattle.sqlterms.proofs.NameLemmas.{same_accounts, same_sums}
 

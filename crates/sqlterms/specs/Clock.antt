@@ -1,10 +1,10 @@
 -- The registry's clock.
 use Rattle.std.specs.Prelude.{ℕ, Option, Some, None}
 use Rattle.std.specs.Option.{unwrap_or}
-use Rattle.columns.specs.Numbers.{moment_in}
+use Rattle.sqlcolumns.specs.Numbers.{moment_in}
 use Rattle.model.specs.Registry.{blank}
-use Rattle.tables.specs.Content.{Content}
-use Rattle.tables.specs.Meta.{Meta}
+use Rattle.sqltables.specs.Content.{Content}
+use Rattle.sqltables.specs.Meta.{Meta}
 use Rattle.sqlterms.specs.Meta.{meta_of}
 
 -- that of the row, and that of a registry that was never opened where there is none

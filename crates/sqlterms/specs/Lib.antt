@@ -1,4 +1,4 @@
 pub mod Clock
 pub mod Meta
 pub mod Terms
-pub mod Changes
+pub mod inner

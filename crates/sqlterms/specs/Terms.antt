@@ -4,18 +4,18 @@ use Rattle.std.specs.FinSet.{from_list}
 use Rattle.std.specs.Option.{option_map_or}
 use Rattle.std.specs.Ordering.{int_eq}
 use Rattle.basis.specs.Sets.{Names}
-use Rattle.columns.specs.Numbers.{moment_in, natural_in}
-use Rattle.columns.specs.Steps.{◌>>=◌}
-use Rattle.columns.specs.Texts.{street_column, street_in}
+use Rattle.sqlcolumns.specs.Numbers.{moment_in, natural_in}
+use Rattle.sqlcolumns.specs.Steps.{◌>>=◌}
+use Rattle.sqlcolumns.specs.Texts.{street_column, street_in}
 use Rattle.policy.specs.declared.days.Days.{Days}
 use Rattle.policy.specs.declared.prices.Prices.{Prices}
 use Rattle.policy.specs.declared.schedule.DatedDays.{DatedDays}
 use Rattle.policy.specs.declared.schedule.Schedule.{Schedule}
 use Rattle.policy.specs.declared.terms.Terms.{Terms}
-use Rattle.tables.specs.Account.{Account}
-use Rattle.tables.specs.Content.{Content}
-use Rattle.tables.specs.Day.{Day}
-use Rattle.tables.specs.Meta.{Meta}
+use Rattle.sqltables.specs.Account.{Account}
+use Rattle.sqltables.specs.Content.{Content}
+use Rattle.sqltables.specs.Day.{Day}
+use Rattle.sqltables.specs.Meta.{Meta}
 use Rattle.sqlterms.specs.Meta.{meta_of}
 
 -- ---- the columns of meta

@@ -2,9 +2,9 @@
 ghost use Rattle.std.specs.Prelude.{◌≡◌};
 ghost use Rattle.sqlterms.specs.Terms as spec;
 
-use columns::years_of_column;
 use policy::{Days, Prices};
-use tables::MetaRow;
+use sqlcolumns::years_of_column;
+use sqltables::MetaRow;
 
 /// The number of a column, if it's one below 2^32.
 pub(crate) fn count_of_column(column: i64) -> Option<u32>

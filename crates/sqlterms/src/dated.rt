@@ -1,17 +1,17 @@
 //! Tables of lengths of periods as rows.
 ghost use Rattle.std.specs.Prelude.{◌≡◌, true, IfOk};
-ghost use Rattle.meanings.specs.Calls.{Turns};
-ghost use Rattle.sqlterms.specs.Changes.{AreDated};
+ghost use Rattle.sqlrows.specs.Meanings.{Changes};
+ghost use Rattle.sqlterms.specs.inner.Changes.{AreDated};
 ghost use Rattle.sqlterms.specs.Terms as spec;
 
 use crate::counts::{count_of_column, days_made};
 use basis::list::Seq;
 use calendar::Moment;
-use columns::{moment_column, moment_of_column};
 use policy::{DatedDays, Days};
+use sqlcolumns::{moment_column, moment_of_column};
 use sqlite::Alter;
+use sqltables::{DayRow, RowStore};
 use std::alloc::{AllocError, Global};
-use tables::{DayRow, RowStore};
 use transactions::BookFault;
 
 /// The days of a row, if each column is a count.
@@ -88,7 +88,7 @@ pub(crate) fn put_tables<S: Alter>(
     tables: &[DatedDays],
 ) -> Result<(), BookFault>
     requires { store.old.is_open ≡ true }
-    ensures { Turns result AreDated store.old store.new }
+    ensures { Changes result AreDated store.old store.new }
 {
     let there = store.all_days()?;
     let known = there.as_slice().len();
@@ -101,7 +101,7 @@ pub(crate) fn put_tables<S: Alter>(
 
 fn append_tables<S: Alter>(store: &mut RowStore<S>, tables: &[DatedDays]) -> Result<(), BookFault>
     requires { store.old.is_open ≡ true }
-    ensures { Turns result AreDated store.old store.new }
+    ensures { Changes result AreDated store.old store.new }
 {
     for table in tables {
         store.append_day(&row_of(table))?;

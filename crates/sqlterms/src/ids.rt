@@ -4,8 +4,8 @@ ghost use Rattle.sqlterms.specs.Terms as spec;
 
 use basis::list::Seq;
 use basis::text::Text;
+use sqltables::AccountRow;
 use std::alloc::Global;
-use tables::AccountRow;
 use transactions::BookFault;
 
 /// Whether it is the ident of an account that has no id; no id begins with #.

@@ -5,7 +5,7 @@ ghost use Rattle.sqlterms.specs.Terms as spec;
 
 use basis::sets::NameSet;
 use basis::text::Text;
-use columns::{street_column, street_of_column};
+use sqlcolumns::{street_column, street_of_column};
 use std::alloc::{AllocError, Global};
 
 /// The labels with a line feed between them; none where one has a line feed.

@@ -1,21 +1,22 @@
 //! The one row of `meta`.
 ghost use Rattle.std.specs.Prelude.{◌≡◌, true, IfOk, string_bytes};
 ghost use Rattle.calendar.specs.Moment.{IsMoment};
-ghost use Rattle.meanings.specs.Read.{rows_of};
+ghost use Rattle.sqlrows.specs.Read.{rows_of};
 ghost use Rattle.sqlterms.specs.Meta as spec;
-ghost use Rattle.transactions.specs.States.{Meets};
+ghost use Rattle.sqlterms.specs.inner.Meta as inner_spec;
+ghost use Rattle.transactions.specs.States.{FindsSome};
 
 use calendar::Moment;
-use meanings::only;
 use policy::Terms;
 use sqlite::Alter;
+use sqlrows::only;
+use sqltables::{MetaRow, RowStore};
 use std::alloc::{AllocError, Global};
-use tables::{MetaRow, RowStore};
 use transactions::BookFault;
 
 /// The row, if there is one; more are refused.
 pub(crate) fn maybe_meta<S: Alter>(store: &mut RowStore<S>) -> Result<Option<MetaRow>, BookFault>
-    ensures { Meets result (λ row. store.old.content.metas ≡ rows_of row) store.old store.new }
+    ensures { FindsSome result (λ row. store.old.content.metas ≡ rows_of row) store.old store.new }
 {
     let rows = store.all_metas()?;
     only(rows)
@@ -23,7 +24,7 @@ pub(crate) fn maybe_meta<S: Alter>(store: &mut RowStore<S>) -> Result<Option<Met
 
 /// The row of a registry without terms, at the first moment.
 fn new_meta(alloc: Global) -> MetaRow
-    ensures { result ≡ spec.new_meta }
+    ensures { result ≡ inner_spec.new_meta }
 {
     MetaRow {
         id: 1,
@@ -47,7 +48,7 @@ fn new_meta(alloc: Global) -> MetaRow
 }
 
 pub(crate) fn meta_or_new(alloc: Global, meta: Option<MetaRow>) -> MetaRow
-    ensures { result ≡ spec.meta_or_new meta }
+    ensures { result ≡ inner_spec.meta_or_new meta }
 {
     match meta {
         None => new_meta(alloc),
@@ -57,7 +58,7 @@ pub(crate) fn meta_or_new(alloc: Global, meta: Option<MetaRow>) -> MetaRow
 
 /// Whether the row says that it is this moment.
 pub(crate) fn is_at(meta: &Option<MetaRow>, moment: Moment) -> bool
-    ensures { result ≡ true → spec.IsAt moment meta.now }
+    ensures { result ≡ true → inner_spec.IsAt moment meta.now }
 {
     let secs = moment.secs();
     match meta {
@@ -67,7 +68,7 @@ pub(crate) fn is_at(meta: &Option<MetaRow>, moment: Moment) -> bool
 }
 
 pub(crate) fn with_clock(row: MetaRow, moment: Moment) -> MetaRow
-    ensures value { result ≡ spec.with_clock moment row }
+    ensures value { result ≡ inner_spec.with_clock moment row }
     ensures range { IsMoment moment }
 {
     let mut row = row;
@@ -83,7 +84,7 @@ pub(crate) fn with_terms(
     terms: &Terms,
     labels: String,
 ) -> Result<MetaRow, AllocError>
-    ensures { IfOk result (λ changed. changed ≡ spec.with_terms terms.now (string_bytes labels)
+    ensures { IfOk result (λ changed. changed ≡ inner_spec.with_terms terms.now (string_bytes labels)
         row) }
 {
     let days = &terms.days.first;

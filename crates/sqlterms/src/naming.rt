@@ -1,14 +1,13 @@
 //! Ids given to accounts.
 ghost use Rattle.std.specs.Prelude.{◌≡◌, true, IfOk};
-ghost use Rattle.meanings.specs.Calls.{Turns};
-ghost use Rattle.sqlterms.specs.Changes.{IsRenaming};
+ghost use Rattle.sqlrows.specs.Meanings.{Changes};
+ghost use Rattle.sqlterms.specs.inner.Changes.{IsRenaming};
 
 use basis::text::Text;
-use meanings::only;
-use rows::Number;
 use sqlite::Alter;
+use sqlrows::{Number, only};
+use sqltables::{AccountRow, RowStore};
 use std::alloc::{AllocError, Global};
-use tables::{AccountRow, RowStore};
 use transactions::BookFault;
 
 /// Gives the accounts with the numbers from 1 on these ids. An account that isn't there is refused.
@@ -18,7 +17,7 @@ pub(crate) fn name_accounts<S: Alter>(
     ids: &[Text],
 ) -> Result<(), BookFault>
     requires { store.old.is_open ≡ true }
-    ensures { Turns result IsRenaming store.old store.new }
+    ensures { Changes result IsRenaming store.old store.new }
 {
     let mut place: u32 = 0;
     for id in ids {
@@ -39,7 +38,7 @@ fn name_account<S: Alter>(
     id: &Text,
 ) -> Result<(), BookFault>
     requires { store.old.is_open ≡ true }
-    ensures { Turns result IsRenaming store.old store.new }
+    ensures { Changes result IsRenaming store.old store.new }
 {
     let rows = store.accounts_by_id(number)?;
     store.whole();

@@ -2,7 +2,7 @@
 ghost use Rattle.std.specs.Prelude.{◌≡◌, true, is_some, Some, IfOk};
 ghost use Rattle.sqlterms.specs.Clock.{clock_of};
 ghost use Rattle.sqlterms.specs.Terms as spec;
-ghost use Rattle.transactions.specs.States.{Finds, Meets};
+ghost use Rattle.transactions.specs.States.{Finds, FindsSome};
 
 use crate::counts::{days_of, prices_of};
 use crate::dated::all_dated;
@@ -13,12 +13,12 @@ use basis::list::Seq;
 use basis::sets::NameSet;
 use basis::text::Text;
 use calendar::Moment;
-use columns::moment_of_column;
-use meanings::or_fault;
 use policy::{DatedDays, Days, Prices, Schedule, Terms};
+use sqlcolumns::moment_of_column;
 use sqlite::Alter;
+use sqlrows::or_fault;
+use sqltables::{DayRow, MetaRow, RowStore};
 use std::alloc::{AllocError, Global};
-use tables::{DayRow, MetaRow, RowStore};
 use transactions::BookFault;
 
 /// The latest moment that was seen; the first moment in a registry that was never opened.
@@ -103,7 +103,7 @@ fn terms_at<S: Alter>(
     alloc: Global,
     row: &MetaRow,
 ) -> Result<Terms, BookFault>
-    ensures { Meets result (λ terms. spec.terms_made row.now.zone
+    ensures { FindsSome result (λ terms. spec.terms_made row.now.zone
         (spec.reserved_in row.now.reserved) (spec.schedule_in row.now store.old.content.days)
         (spec.prices_in row.now) (spec.ids_in store.old.content.accounts) ≡ Some terms) store.old
         store.new }
@@ -115,7 +115,7 @@ fn terms_at<S: Alter>(
 
 /// The ids of all accounts.
 fn ids_at<S: Alter>(store: &mut RowStore<S>, alloc: Global) -> Result<Seq<Text>, BookFault>
-    ensures { Meets result (λ ids. spec.ids_in store.old.content.accounts ≡ Some ids) store.old
+    ensures { FindsSome result (λ ids. spec.ids_in store.old.content.accounts ≡ Some ids) store.old
         store.new }
 {
     let accounts = store.all_accounts()?;

@@ -1,7 +1,7 @@
 //! Another clock, and other terms.
 ghost use Rattle.std.specs.Prelude.{◌≡◌, ◌↔◌, true, IsTrue, Some};
-ghost use Rattle.meanings.specs.Calls.{Turns};
-ghost use Rattle.sqlterms.specs.Changes.{ArePutBeside, IsClockSet, IsTermsSet};
+ghost use Rattle.sqlrows.specs.Meanings.{Changes};
+ghost use Rattle.sqlterms.specs.inner.Changes.{ArePutBeside, IsClockSet, IsTermsSet};
 
 use crate::dated::put_tables;
 use crate::labels::labels_column;
@@ -9,11 +9,11 @@ use crate::meta::{is_at, maybe_meta, meta_or_new, with_clock, with_terms};
 use crate::naming::name_accounts;
 use crate::reading::terms;
 use calendar::Moment;
-use meanings::or_fault;
 use policy::Terms;
 use sqlite::Alter;
+use sqlrows::or_fault;
+use sqltables::RowStore;
 use std::alloc::Global;
-use tables::RowStore;
 use transactions::BookFault;
 
 /// Sets the clock. Nothing is written where it stands there already.
@@ -23,7 +23,7 @@ pub fn set_clock<S: Alter>(
     moment: Moment,
 ) -> Result<(), BookFault>
     requires { store.old.is_open ≡ true }
-    ensures { Turns result (IsClockSet moment) store.old store.new }
+    ensures { Changes result (IsClockSet moment) store.old store.new }
 {
     let meta = maybe_meta(store)?;
     if is_at(&meta, moment) {
@@ -45,7 +45,7 @@ pub fn set_terms<S: Alter>(
     value: &Terms,
 ) -> Result<(), BookFault>
     requires { store.old.is_open ≡ true }
-    ensures { Turns result (IsTermsSet value.now) store.old store.new }
+    ensures { Changes result (IsTermsSet value.now) store.old store.new }
 {
     let labels = or_fault(labels_column(alloc, value.reserved.names())?)?;
     let meta = maybe_meta(store)?;
@@ -69,7 +69,7 @@ fn put_beside<S: Alter>(
     value: &Terms,
 ) -> Result<(), BookFault>
     requires { store.old.is_open ≡ true }
-    ensures { Turns result ArePutBeside store.old store.new }
+    ensures { Changes result ArePutBeside store.old store.new }
 {
     put_tables(store, value.days.later.as_slice())?;
     name_accounts(store, alloc, value.ids.as_slice())?;

@@ -1,13 +1,8 @@
 pub mod PutLemmas
-pub mod LedgerLemmas
-pub mod EditLemmas
-pub mod HeldLemmas
-pub mod QuietLemmas
 pub mod RecordsLemmas
 pub mod FoundLemmas
 pub mod LinesOnLemmas
-pub mod GivingLemmas
 pub mod RenameLemmas
-pub mod PlainLemmas
 pub mod OnceLemmas
 pub mod KeptLemmas
+pub mod PostingLemmas

@@ -5,7 +5,7 @@ use Rattle.std.proofs.lemmas.Bool.Decides.{nat_tests}
 use Rattle.transactions.specs.declared.fault.BookFault.{BookFault}
 use Rattle.transactions.specs.declared.fault.BookFault.TheVariants.{Memory, Store}
 use Rattle.transactions.specs.States.{Has, Remains, holding}
-use Rattle.store.specs.Book.{Answers, Begins, BookState, Commits, FaultLeaves, Follows, HasRefused, IsBack, IsSame, LeavesHeld, LeavesSame, Moves, NoRefusal, StillAnswers, Stored}
+use Rattle.store.specs.Book.{Answers, BookStarts, BookState, BookKeeps, FaultLeaves, Follows, HasRefused, IsBack, BookReads, LeavesHeld, LeavesSame, BookWrites, NoRefusal, StillAnswers, Stored}
 use Rattle.store.specs.Once.{RefusesOnce, with_refusals}
 
 abbrev most : ℕ
@@ -32,7 +32,7 @@ module _ (g : ℕ) (old new : BookState) where
   pub silent-too : NoRefusal old new → NoRefusal was is
   silent-too same = ap (λ (n : ℕ). min (n + g) most) same
 
-  pub same-too : IsSame old new → IsSame was is
+  pub same-too : BookReads old new → BookReads was is
   same-too it = record { counted = silent-too it.counted; opened = it.opened; content = it.content; before = it.before }
 
   pub back-too : IsBack old new → IsBack was is
@@ -53,13 +53,13 @@ module _ (g : ℕ) (old new : BookState) where
       let both = and_parts new.is_honest (nat_eq g 0) e in
       still (λ h. before (and_from old.is_honest (nat_eq g 0) h both.1)) both.0
 
-  pub begins-too : Begins old new → Begins was is
+  pub begins-too : BookStarts old new → BookStarts was is
   begins-too it = record { counted = silent-too it.counted; opened = it.opened; content = it.content; before = it.before }
 
-  pub moves-too : (held : Stored) → Moves old new held → Moves was is held
+  pub moves-too : (held : Stored) → BookWrites old new held → BookWrites was is held
   moves-too held it = record { counted = silent-too it.counted; opened = it.opened; content = it.content; before = it.before }
 
-  pub commits-too : Commits old new → Commits was is
+  pub commits-too : BookKeeps old new → BookKeeps was is
   commits-too it = record { counted = silent-too it.counted; closed = it.closed; content = it.content }
 
   pub fault-too : {A : Type 0} (result : Result A BookFault) → FaultLeaves result old new → FaultLeaves result was is

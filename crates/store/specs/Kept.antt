@@ -32,7 +32,7 @@ pub none_refused : (refuses : Bool) (refused : ℕ) → refuses ≡ false
 none_refused refuses refused e = ap (λ (b : Bool). refusals_of b refused) e
 
 -- it went back, whatever was done in the transaction
-pub record GoesBack (old new : BookState) : Type 0 where
+pub record HasRolledBack (old new : BookState) : Type 0 where
   pub clean : new.is_clean ≡ true → old.is_clean ≡ true
   pub counted : old.refused ≤ new.refused
   pub closed : new.is_open ≡ false
@@ -40,5 +40,5 @@ pub record GoesBack (old new : BookState) : Type 0 where
   pub leaves : LeavesSame old new
 
 abbrev pub GaveUp : BookFault → BookState → BookState → Type 0
-GaveUp Memory old new = GoesBack old new × NoRefusal old new
-GaveUp Store old new = GoesBack old new × HasRefused old new
+GaveUp Memory old new = HasRolledBack old new × NoRefusal old new
+GaveUp Store old new = HasRolledBack old new × HasRefused old new

@@ -1,4 +1,4 @@
--- The accounts of a book in memory.
+-- The accounts of a book in ordered maps.
 use Rattle.std.specs.Prelude.{ℕ, Bool, false, not, List, Option, Some, None, option_map, unwrap_or}
 use Rattle.std.specs.declared.cmp.Ordering.{Ordering}
 use Rattle.std.specs.FinMap.{FinMap, get, insert, remove}
@@ -6,24 +6,19 @@ use Rattle.std.specs.Ordering.{nat_cmp}
 use Rattle.accounts.specs.declared.account.Account.{Account}
 use Rattle.accounts.specs.declared.line.Line.{Line}
 use Rattle.accounts.specs.declared.message.Message.{Message}
-use Rattle.accounts.specs.Account.{empty_account, saturating_next}
+use Rattle.accounts.specs.Account.{empty_account}
+use Rattle.accounts.specs.Counters.{with_counters}
 use Rattle.accounts.specs.Entries.{with_lines, with_queue}
 use Rattle.accounts.specs.Lines.{in_order}
 use Rattle.accounts.specs.Queue as queue
 use Rattle.basis.specs.Bag.{add, taken}
 use Rattle.basis.specs.Maps.{map_values}
-use Rattle.store.specs.declared.ledgers.Counters.{Counters}
+use Rattle.accounts.specs.declared.counters.Counters.{Counters}
 
 -- the key has this value, or none
 abbrev pub put : {K X : Type 0} {R : K → K → Ordering} → FinMap R X → K → Option X → FinMap R X
 put m k None = remove m k
 put m k (Some x) = insert m k x
-
-abbrev pub counters_of : Account → Counters
-counters_of a = record { commands = a.commands; messages = a.messages; serial = a.serial }
-
-abbrev pub with_counters : Counters → Account → Account
-with_counters x a = record a { commands = x.commands; messages = x.messages; serial = x.serial }
 
 -- an account, which may have other counters by now
 abbrev pub counted : Option Counters → Account → Account
@@ -39,16 +34,6 @@ lines_of account = (unwrap_or account empty_account).lines
 
 abbrev pub queue_of : Option Account → List Message
 queue_of account = (unwrap_or account empty_account).queue
-
--- one command, one message and one object more
-abbrev pub next_command : Counters → Counters
-next_command x = record x { commands = saturating_next x.commands }
-
-abbrev pub next_message : Counters → Counters
-next_message x = record x { messages = saturating_next x.messages }
-
-abbrev pub next_serial : Counters → Counters
-next_serial x = record x { serial = saturating_next x.serial }
 
 -- the accounts, where a registrar's has these counters
 abbrev pub with_counted : FinMap nat_cmp Account → ℕ → Counters → FinMap nat_cmp Account

@@ -1,14 +1,8 @@
 pub mod Book
 pub mod Reopening
-pub mod Due
-pub mod DueOrder
 pub mod Ledgers
-pub mod Edits
 pub mod Lookups
 pub mod Faces
-pub mod Contents
-pub mod Plain
-pub mod Quiet
 pub mod Records
 pub mod Tables
 pub mod Kept

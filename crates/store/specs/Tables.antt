@@ -14,7 +14,7 @@ use Rattle.objects.specs.declared.domain.Domain.{Domain}
 use Rattle.objects.specs.declared.host.Host.{Host}
 use Rattle.objects.specs.Links.{names_host}
 use Rattle.rules.specs.Changes.{itself, with_account, with_host_renamed}
-use Rattle.store.specs.declared.ledgers.Counters.{Counters}
+use Rattle.accounts.specs.declared.counters.Counters.{Counters}
 use Rattle.store.specs.Book.{Stored}
 use Rattle.store.specs.Ledgers.{put, with_counted, with_line, with_notice, without_line, without_notice}
 use Rattle.model.specs.Lapse.{put_or_drop}
@@ -29,12 +29,12 @@ abbrev pub with_accounts : FinMap nat_cmp Account → Stored → Stored
 with_accounts accounts s = record s { registry = record s.registry { accounts = accounts } }
 
 -- a registrar's account is changed; what was never opened is opened
-abbrev pub given_to : ℕ → (Account → Account) → Stored → Stored
-given_to r f s = record s { registry = with_account r f s.registry }
+abbrev pub posted_to : ℕ → (Account → Account) → Stored → Stored
+posted_to r f s = record s { registry = with_account r f s.registry }
 
 -- a registrar has an account
 abbrev pub account_opened : ℕ → Stored → Stored
-account_opened r s = given_to r itself s
+account_opened r s = posted_to r itself s
 
 abbrev pub counters_set : ℕ → Counters → Stored → Stored
 counters_set r x s = with_accounts (with_counted s.registry.accounts r x) s

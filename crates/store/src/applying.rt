@@ -5,7 +5,7 @@ ghost use Rattle.store.specs.Book.{with_changes};
 ghost use Rattle.transactions.specs.States.{Makes};
 ghost use Rattle.store.specs.Tables.{clock_set, contact_left, contact_put, domain_left, domain_put, host_renamed_in};
 
-use crate::giving::give;
+use crate::posting::post;
 use crate::records::Records;
 use basis::list::Seq;
 use basis::text::Text;
@@ -40,7 +40,7 @@ fn make<R: Records>(records: &mut R, change: Change, policy: &Policy) -> Result<
     match change {
         Change::MoveClock(moment) => move_clock(records, moment),
         Change::OpenAccount(registrar) => records.open_account(registrar),
-        Change::Give(registrar, what) => give(records, registrar, what, policy),
+        Change::Post(registrar, what) => post(records, registrar, what, policy),
         Change::PutContact(contact) => put_contact(records, contact),
         Change::DropContact(name) => records.drop_contact(name),
         Change::PutDomain(domain) => put_domain(records, domain, policy),

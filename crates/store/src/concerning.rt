@@ -6,16 +6,16 @@ ghost use Rattle.concerns.specs.Names as names;
 ghost use Rattle.objects.specs.Links.{has_name};
 ghost use Rattle.protocol.specs.Requests.{holds_of};
 ghost use Rattle.std.specs.List.{filter};
-ghost use Rattle.store.specs.Due as dues;
+ghost use Rattle.concerns.specs.DueFor as dues;
 ghost use Rattle.transactions.specs.States.{Finds};
 
-use crate::due::Due;
 use crate::records::Records;
 use basis::list::Seq;
 use basis::registrar::RegistrarNo;
 use basis::text::Text;
 use calendar::Moment;
 use concerns::{Meant, Names, is_about};
+use lifecycle::Due;
 use objects::{Contact, Domain, ObjectKind, Roid, has_name};
 use policy::Policy;
 use protocol::Command;

@@ -655,7 +655,7 @@ fn holding_limit_reached<R: Records>(
     if !command.adds_a_held_domain() {
         return Ok(false);
     }
-    records.holds_the_most(caller)
+    records.is_at_holding_limit(caller)
 }
 
 // ---- the object of an order

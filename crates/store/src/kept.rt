@@ -5,14 +5,14 @@ ghost use Rattle.store.specs.Kept as spec;
 ghost use Rattle.store.specs.Kept.{GaveUp, stands, state_of};
 
 use crate::book::Book;
-use crate::due::Due;
 use crate::records::Records;
-use crate::{applying, concerning, finding, seeing};
+use crate::{applying, concerning, faces, finding};
 use basis::list::Seq;
 use basis::registrar::RegistrarNo;
 use basis::text::Text;
 use calendar::Moment;
 use facts::Facts;
+use lifecycle::Due;
 use model::Object;
 use objects::{ContactFace, DomainFace, HostFace, ObjectKind};
 use policy::{Policy, Terms};
@@ -61,7 +61,7 @@ impl<R: Records> Kept<R> {
     /// Goes back because of a fault, and counts a refusal. What can't refuse gives up for want of memory,
     /// whatever it says. Gives what is to be answered.
     #[tactic(auto, using(crate::proofs::KeptLemmas::counts))]
-    fn give_up(&mut self, fault: BookFault) -> BookFault
+    fn rollback_and_count(&mut self, fault: BookFault) -> BookFault
         ensures { GaveUp result (state_of (R.kept self.old.records) R.REFUSES self.old.refused)
             (state_of (R.kept self.new.records) R.REFUSES self.new.refused) }
     {
@@ -104,21 +104,21 @@ impl<R: Records> Book for Kept<R> {
     fn ready(&mut self) -> Result<Ready, BookFault> {
         match self.records.ready() {
             Ok(ready) => Ok(ready),
-            Err(fault) => Err(self.give_up(fault)),
+            Err(fault) => Err(self.rollback_and_count(fault)),
         }
     }
 
     fn clock(&mut self) -> Result<Moment, BookFault> {
         match self.records.clock() {
             Ok(clock) => Ok(clock),
-            Err(fault) => Err(self.give_up(fault)),
+            Err(fault) => Err(self.rollback_and_count(fault)),
         }
     }
 
     fn terms(&mut self) -> Result<Option<Terms>, BookFault> {
         match self.records.terms() {
             Ok(terms) => Ok(terms),
-            Err(fault) => Err(self.give_up(fault)),
+            Err(fault) => Err(self.rollback_and_count(fault)),
         }
     }
 
@@ -130,14 +130,14 @@ impl<R: Records> Book for Kept<R> {
     ) -> Result<Facts, BookFault> {
         match finding::facts_for(&mut self.records, caller, command, policy) {
             Ok(facts) => Ok(facts),
-            Err(fault) => Err(self.give_up(fault)),
+            Err(fault) => Err(self.rollback_and_count(fault)),
         }
     }
 
     fn object_at(&mut self, kind: ObjectKind, name: &Text) -> Result<Option<Object>, BookFault> {
         match finding::object_at(&mut self.records, kind, name) {
             Ok(object) => Ok(object),
-            Err(fault) => Err(self.give_up(fault)),
+            Err(fault) => Err(self.rollback_and_count(fault)),
         }
     }
 
@@ -146,44 +146,44 @@ impl<R: Records> Book for Kept<R> {
         name: &Text,
         policy: &Policy,
     ) -> Result<Option<DomainFace>, BookFault> {
-        match seeing::domain_face(&mut self.records, name, policy) {
+        match faces::domain_face(&mut self.records, name, policy) {
             Ok(face) => Ok(face),
-            Err(fault) => Err(self.give_up(fault)),
+            Err(fault) => Err(self.rollback_and_count(fault)),
         }
     }
 
     fn host_face(&mut self, name: &Text, policy: &Policy) -> Result<Option<HostFace>, BookFault> {
-        match seeing::host_face(&mut self.records, name, policy) {
+        match faces::host_face(&mut self.records, name, policy) {
             Ok(face) => Ok(face),
-            Err(fault) => Err(self.give_up(fault)),
+            Err(fault) => Err(self.rollback_and_count(fault)),
         }
     }
 
     fn contact_face(&mut self, name: &Text) -> Result<Option<ContactFace>, BookFault> {
-        match seeing::contact_face(&mut self.records, name) {
+        match faces::contact_face(&mut self.records, name) {
             Ok(face) => Ok(face),
-            Err(fault) => Err(self.give_up(fault)),
+            Err(fault) => Err(self.rollback_and_count(fault)),
         }
     }
 
     fn domain_names(&mut self) -> Result<Seq<Text>, BookFault> {
         match self.records.domain_names() {
             Ok(names) => Ok(names),
-            Err(fault) => Err(self.give_up(fault)),
+            Err(fault) => Err(self.rollback_and_count(fault)),
         }
     }
 
     fn host_addresses(&mut self, name: &Text) -> Result<Option<Seq<Text>>, BookFault> {
         match self.records.host_addresses(name) {
             Ok(addresses) => Ok(addresses),
-            Err(fault) => Err(self.give_up(fault)),
+            Err(fault) => Err(self.rollback_and_count(fault)),
         }
     }
 
     fn due(&mut self, moment: Moment, policy: &Policy) -> Result<Seq<Due>, BookFault> {
         match self.records.due(moment, policy) {
             Ok(due) => Ok(due),
-            Err(fault) => Err(self.give_up(fault)),
+            Err(fault) => Err(self.rollback_and_count(fault)),
         }
     }
 
@@ -196,7 +196,7 @@ impl<R: Records> Book for Kept<R> {
     ) -> Result<Seq<Due>, BookFault> {
         match concerning::due_for(&mut self.records, caller, command, moment, policy) {
             Ok(due) => Ok(due),
-            Err(fault) => Err(self.give_up(fault)),
+            Err(fault) => Err(self.rollback_and_count(fault)),
         }
     }
 
@@ -209,35 +209,35 @@ impl<R: Records> Book for Kept<R> {
     ) -> Result<Seq<Due>, BookFault> {
         match concerning::due_at(&mut self.records, kind, name, moment, policy) {
             Ok(due) => Ok(due),
-            Err(fault) => Err(self.give_up(fault)),
+            Err(fault) => Err(self.rollback_and_count(fault)),
         }
     }
 
     fn begin(&mut self) -> Result<(), BookFault> {
         match self.records.begin() {
             Ok(()) => Ok(()),
-            Err(fault) => Err(self.give_up(fault)),
+            Err(fault) => Err(self.rollback_and_count(fault)),
         }
     }
 
     fn apply(&mut self, changes: Seq<Change>, policy: &Policy) -> Result<(), BookFault> {
         match applying::apply(&mut self.records, changes, policy) {
             Ok(()) => Ok(()),
-            Err(fault) => Err(self.give_up(fault)),
+            Err(fault) => Err(self.rollback_and_count(fault)),
         }
     }
 
     fn keep_terms(&mut self, terms: Terms) -> Result<(), BookFault> {
         match self.records.set_terms(terms) {
             Ok(()) => Ok(()),
-            Err(fault) => Err(self.give_up(fault)),
+            Err(fault) => Err(self.rollback_and_count(fault)),
         }
     }
 
     fn commit(&mut self) -> Result<(), BookFault> {
         match self.records.commit() {
             Ok(()) => Ok(()),
-            Err(fault) => Err(self.give_up(fault)),
+            Err(fault) => Err(self.rollback_and_count(fault)),
         }
     }
 

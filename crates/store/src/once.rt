@@ -3,12 +3,12 @@ ghost use Rattle.std.specs.Prelude.{◌≡◌, ◌≢◌, ◌↔◌, ◌+◌, �
 ghost use Rattle.store.specs.Once.{RefusesOnce, with_refusals};
 
 use crate::book::Book;
-use crate::due::Due;
 use basis::list::Seq;
 use basis::registrar::RegistrarNo;
 use basis::text::Text;
 use calendar::Moment;
 use facts::Facts;
+use lifecycle::Due;
 use model::Object;
 use objects::{ContactFace, DomainFace, HostFace, ObjectKind};
 use policy::{Policy, Terms};
@@ -81,7 +81,7 @@ impl<B> OnceBook<B> {
 
 impl<B: Book> OnceBook<B> {
     /// Goes back, and counts a refusal.
-    fn give_up<T>(&mut self) -> Result<T, BookFault>
+    fn rollback_and_count<T>(&mut self) -> Result<T, BookFault>
         ensures fault { result ≡ Err BookFault.Store }
         ensures back { RefusesOnce (with_refusals self.old.refused (B.state self.old.inner))
             (with_refusals self.new.refused (B.state self.new.inner)) }
@@ -115,21 +115,21 @@ impl<B: Book> Book for OnceBook<B> {
 
     fn ready(&mut self) -> Result<Ready, BookFault> {
         if self.is_next() {
-            return self.give_up();
+            return self.rollback_and_count();
         }
         self.inner.ready()
     }
 
     fn clock(&mut self) -> Result<Moment, BookFault> {
         if self.is_next() {
-            return self.give_up();
+            return self.rollback_and_count();
         }
         self.inner.clock()
     }
 
     fn terms(&mut self) -> Result<Option<Terms>, BookFault> {
         if self.is_next() {
-            return self.give_up();
+            return self.rollback_and_count();
         }
         self.inner.terms()
     }
@@ -141,14 +141,14 @@ impl<B: Book> Book for OnceBook<B> {
         policy: &Policy,
     ) -> Result<Facts, BookFault> {
         if self.is_next() {
-            return self.give_up();
+            return self.rollback_and_count();
         }
         self.inner.facts_for(caller, command, policy)
     }
 
     fn object_at(&mut self, kind: ObjectKind, name: &Text) -> Result<Option<Object>, BookFault> {
         if self.is_next() {
-            return self.give_up();
+            return self.rollback_and_count();
         }
         self.inner.object_at(kind, name)
     }
@@ -159,42 +159,42 @@ impl<B: Book> Book for OnceBook<B> {
         policy: &Policy,
     ) -> Result<Option<DomainFace>, BookFault> {
         if self.is_next() {
-            return self.give_up();
+            return self.rollback_and_count();
         }
         self.inner.domain_face(name, policy)
     }
 
     fn host_face(&mut self, name: &Text, policy: &Policy) -> Result<Option<HostFace>, BookFault> {
         if self.is_next() {
-            return self.give_up();
+            return self.rollback_and_count();
         }
         self.inner.host_face(name, policy)
     }
 
     fn contact_face(&mut self, name: &Text) -> Result<Option<ContactFace>, BookFault> {
         if self.is_next() {
-            return self.give_up();
+            return self.rollback_and_count();
         }
         self.inner.contact_face(name)
     }
 
     fn domain_names(&mut self) -> Result<Seq<Text>, BookFault> {
         if self.is_next() {
-            return self.give_up();
+            return self.rollback_and_count();
         }
         self.inner.domain_names()
     }
 
     fn host_addresses(&mut self, name: &Text) -> Result<Option<Seq<Text>>, BookFault> {
         if self.is_next() {
-            return self.give_up();
+            return self.rollback_and_count();
         }
         self.inner.host_addresses(name)
     }
 
     fn due(&mut self, moment: Moment, policy: &Policy) -> Result<Seq<Due>, BookFault> {
         if self.is_next() {
-            return self.give_up();
+            return self.rollback_and_count();
         }
         self.inner.due(moment, policy)
     }
@@ -207,7 +207,7 @@ impl<B: Book> Book for OnceBook<B> {
         policy: &Policy,
     ) -> Result<Seq<Due>, BookFault> {
         if self.is_next() {
-            return self.give_up();
+            return self.rollback_and_count();
         }
         self.inner.due_for(caller, command, moment, policy)
     }
@@ -220,35 +220,35 @@ impl<B: Book> Book for OnceBook<B> {
         policy: &Policy,
     ) -> Result<Seq<Due>, BookFault> {
         if self.is_next() {
-            return self.give_up();
+            return self.rollback_and_count();
         }
         self.inner.due_at(kind, name, moment, policy)
     }
 
     fn begin(&mut self) -> Result<(), BookFault> {
         if self.is_next() {
-            return self.give_up();
+            return self.rollback_and_count();
         }
         self.inner.begin()
     }
 
     fn apply(&mut self, changes: Seq<Change>, policy: &Policy) -> Result<(), BookFault> {
         if self.is_next() {
-            return self.give_up();
+            return self.rollback_and_count();
         }
         self.inner.apply(changes, policy)
     }
 
     fn keep_terms(&mut self, terms: Terms) -> Result<(), BookFault> {
         if self.is_next() {
-            return self.give_up();
+            return self.rollback_and_count();
         }
         self.inner.keep_terms(terms)
     }
 
     fn commit(&mut self) -> Result<(), BookFault> {
         if self.is_next() {
-            return self.give_up();
+            return self.rollback_and_count();
         }
         self.inner.commit()
     }

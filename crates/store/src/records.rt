@@ -9,22 +9,22 @@ ghost use Rattle.facts.specs.Facts as facts;
 ghost use Rattle.model.specs.Registry.{account_of};
 ghost use Rattle.store.specs.Book.{with_terms};
 ghost use Rattle.concerns.specs.Concerns.{concerned};
-ghost use Rattle.store.specs.Due.{due_by, due_for, is_picked};
+ghost use Rattle.model.specs.DueBy.{due_by};
+ghost use Rattle.concerns.specs.DueFor.{due_for, is_picked};
 ghost use Rattle.store.specs.Faces.{domain_names, host_addresses_at};
-ghost use Rattle.store.specs.Ledgers.{counters_of};
+ghost use Rattle.accounts.specs.Counters.{counters_of};
 ghost use Rattle.store.specs.Lookups.{has_contact, has_host};
-ghost use Rattle.transactions.specs.States.{Begins, Closes, Ends, Finds, Makes, Meets};
+ghost use Rattle.transactions.specs.States.{Begins, Closes, Ends, Finds, Makes, FindsSome};
 ghost use Rattle.store.specs.Tables as tables;
 
-use crate::due::Due;
-use crate::ledgers::Counters;
-use accounts::{Line, LineChange, LineSwap, Lines, Message};
+use accounts::{Counters, Line, LineChange, LineSwap, Lines, Message};
 use basis::list::Seq;
 use basis::registrar::RegistrarNo;
 use basis::text::Text;
 use calendar::Moment;
 use concerns::Names;
 use facts::{HOLDING_LIMIT, Superordinate};
+use lifecycle::Due;
 use objects::{Contact, Domain, Host, Roid};
 use policy::{Policy, Terms};
 use std::alloc::Global;
@@ -85,7 +85,7 @@ pub trait Records {
         registrar: RegistrarNo,
         change: &C,
     ) -> Result<Seq<LineSwap>, BookFault>
-        ensures { Meets result (λ swaps. swapped_all swaps (account_of registrar (kept self.old).content.registry).lines ≡ remade in_order (C.changed change.now) (account_of registrar (kept self.old).content.registry).lines) (kept self.old) (kept self.new) };
+        ensures { FindsSome result (λ swaps. swapped_all swaps (account_of registrar (kept self.old).content.registry).lines ≡ remade in_order (C.changed change.now) (account_of registrar (kept self.old).content.registry).lines) (kept self.old) (kept self.new) };
 
     /// The message that has waited longest for a registrar.
     fn oldest(&mut self, registrar: RegistrarNo) -> Result<Option<Message>, BookFault>
@@ -141,7 +141,7 @@ pub trait Records {
         ensures { Finds result (tables.domains_naming host.now (kept self.old).content.registry) (kept self.old) (kept self.new) };
 
     /// Whether the registrar holds as many domains as it may.
-    fn holds_the_most(&mut self, registrar: RegistrarNo) -> Result<bool, BookFault>
+    fn is_at_holding_limit(&mut self, registrar: RegistrarNo) -> Result<bool, BookFault>
         ensures { Finds result (nat_le HOLDING_LIMIT (facts.held registrar (kept self.old).content.registry)) (kept self.old) (kept self.new) };
 
     /// The objects that time changes or removes up to a moment, by the moment of the first change, then
@@ -158,7 +158,7 @@ pub trait Records {
         moment: Moment,
         policy: &Policy,
     ) -> Result<Seq<Due>, BookFault>
-        ensures { Meets result (λ due. filter (is_picked (concerned caller names.now (kept self.old).content.registry)) due ≡ due_for policy.now caller names.now moment (kept self.old).content.registry) (kept self.old) (kept self.new) };
+        ensures { FindsSome result (λ due. filter (is_picked (concerned caller names.now (kept self.old).content.registry)) due ≡ due_for policy.now caller names.now moment (kept self.old).content.registry) (kept self.old) (kept self.new) };
 
     // ---- changes
 

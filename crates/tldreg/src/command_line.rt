@@ -1,7 +1,7 @@
 //! The command line.
 ghost use Rattle.std.specs.Prelude.{◌≡◌, ◌⊎◌, ◌∷◌, IfErr, codes, drop};
 ghost use Rattle.script.specs.declared.exit.Exit.TheVariants as exits;
-ghost use Rattle.tldreg.specs.Words as spec;
+ghost use Rattle.tldreg.specs.inner.Words as spec;
 
 use calendar::Moment;
 use script::Exit;

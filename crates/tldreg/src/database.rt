@@ -1,6 +1,6 @@
 //! The database of a command line, and the policy that it is opened under.
 ghost use Rattle.std.specs.Prelude.{◌≡◌, false, IfOk, bytes_eq, codes};
-ghost use Rattle.tldreg.specs.Ends as spec;
+ghost use Rattle.tldreg.specs.inner.Ends as spec;
 
 use policy::Policy;
 use registry::{OpenFault, Registry};

@@ -2,7 +2,7 @@
 #![tactic(auto)]
 
 ghost use Rattle.std.specs.Prelude.{◌≡◌, false, IfOk};
-ghost use Rattle.tldreg.specs.Ends as spec;
+ghost use Rattle.tldreg.specs.inner.Ends as spec;
 
 mod command_line;
 mod database;
@@ -14,7 +14,7 @@ use policy::Policy;
 use protocol::Code;
 use registry::{OpenFault, Registry};
 use script::{Exit, deposit_on, migrate_on, order_on, run_script};
-use server::{HandOverFault, MachineClock, serve_each, zone_on};
+use server::{MachineClock, ZoneExportFault, serve_each, zone_on};
 use sqlite::{Alter, Connection, Unknown};
 use std::net::{Ipv4Addr, TcpListener};
 use std::process::ExitCode;
@@ -106,9 +106,9 @@ fn zone<B: Book + Drop>(
     drop(registry);
     match told {
         Ok(()) => Ok(()),
-        Err(HandOverFault::Registry(fault)) => Err(Exit::Registry(fault)),
-        Err(HandOverFault::Zone(ZoneFault::Memory)) => Err(Exit::Memory),
-        Err(HandOverFault::Zone(ZoneFault::Write)) => Err(Exit::File),
+        Err(ZoneExportFault::Registry(fault)) => Err(Exit::Registry(fault)),
+        Err(ZoneExportFault::Zone(ZoneFault::Memory)) => Err(Exit::Memory),
+        Err(ZoneExportFault::Zone(ZoneFault::Write)) => Err(Exit::File),
     }
 }
 

@@ -70,9 +70,9 @@ Finds (Ok it) value old new = Reads old new × (new.is_clean ≡ true → it ≡
 Finds (Err fault) value old new = Stays old new
 
 -- a question of which this is true of the answer, and nothing is changed
-abbrev pub Meets : {A X : Type 0} → Result A BookFault → (A → Type 0) → StateOf X → StateOf X → Type 0
-Meets (Ok it) is old new = Reads old new × (new.is_clean ≡ true → is it)
-Meets (Err fault) is old new = Stays old new
+abbrev pub FindsSome : {A X : Type 0} → Result A BookFault → (A → Type 0) → StateOf X → StateOf X → Type 0
+FindsSome (Ok it) is old new = Reads old new × (new.is_clean ≡ true → is it)
+FindsSome (Err fault) is old new = Stays old new
 
 -- a change: this is held afterwards
 abbrev pub Makes : {A X : Type 0} → Result A BookFault → X → StateOf X → StateOf X → Type 0

@@ -6,12 +6,13 @@ ghost use Rattle.transcripts.specs.declared.transcript.TheConstants.{LINE_FEED};
 use crate::chapter::{Chapter, run_chapters};
 use crate::line::{Line, Mark};
 use anyhow::{Context, Result, bail};
+use mapbook::PlainBook;
 use registry::OpenFault;
 use script::{Exit, run_script};
 use sqlbook::in_memory;
 use std::alloc::Global;
 use std::str;
-use store::{BookFault, PlainBook};
+use store::BookFault;
 
 const LINE_FEED: u8 = b'\n';
 
@@ -218,7 +219,7 @@ impl<'a> Run<'a> {
         let exit = run_over_rows(alloc, &chapters, &mut printed);
         let over_rows = self.judge(alloc, &printed, exit, differences)?;
         let mut printed = Vec::new(alloc);
-        let exit = run_chapters(alloc, PlainBook::new(alloc), &chapters, &mut printed);
+        let exit = run_chapters(alloc, mapbook::new_book(alloc), &chapters, &mut printed);
         let over_maps = self.judge(alloc, &printed, exit, differences)?;
         Ok(over_rows.min(over_maps))
     }

@@ -15,7 +15,7 @@ use Rattle.protocol.specs.declared.command.Request.{Request}
 use Rattle.protocol.specs.declared.command.Request.TheVariants.{CheckContact, CheckDomain, CheckHost, InfoDomain, InfoHost, CreateContact, CreateDomain, CreateHost, DeleteDomain, DeleteHost, UpdateContact, UpdateDomain, UpdateHost, RenewDomain, RequestRestore, ReportRestore, TransferContact, TransferDomain}
 use Rattle.protocol.specs.declared.transfer.TransferOp.TheVariants as ops
 use Rattle.protocol.specs.Requests.{asks_of}
-use Rattle.verdict.specs.declared.rules.Condition.TheVariants.{NameIsRefused, ListRepeats, ReferenceIsMissing, NewNameIsTaken, SuperordinateIsMissing, SuperordinateIsAnothers, SuperordinateIsDeleted, Shows, AddsWhatIsThere, RemovesWhatIsNot, LeavesTooMany, LeavesAddressesOutside, HoldsTheMost, PassesTenYears, ExpiresOtherwise}
+use Rattle.verdict.specs.declared.rules.Condition.TheVariants.{NameIsRefused, ListRepeats, ReferenceIsMissing, NewNameIsTaken, SuperordinateIsMissing, SuperordinateIsAnothers, SuperordinateIsDeleted, Shows, AddsWhatIsThere, RemovesWhatIsNot, LeavesTooMany, LeavesAddressesOutside, IsAtHoldingLimit, PassesTenYears, ExpiresOtherwise}
 use Rattle.verdict.specs.Conditions.{adds_known, expires_otherwise, leaves_addresses_outside, leaves_too_many, list_repeats, name_is_refused, passes_ten_years, removes_unknown}
 use Rattle.verdict.specs.Laws.{IsLawfulHostName, NothingPends, PutsLawfully}
 use Rattle.verdict.specs.Rules.{refusal_of}
@@ -156,11 +156,11 @@ module _ (p : PolicyRules) (r t : ℕ) (f : Facts) where
   expires-law _ taken is = absurd (cc)
 
   holds-more-law : (q : Request) → refusal_of p r t q f ≡ None → (new : NewDomain) → q ≡ CreateDomain new → f.holding_limit_reached ≡ false
-  holds-more-law (CreateDomain new) taken other is = unrefused p r t (CreateDomain new) f taken HoldsTheMost (search (inl, inr) depth 20)
+  holds-more-law (CreateDomain new) taken other is = unrefused p r t (CreateDomain new) f taken IsAtHoldingLimit (search (inl, inr) depth 20)
   holds-more-law _ taken other is = absurd (cc)
 
   takes-more-law : (q : Request) → refusal_of p r t q f ≡ None → (name : GivenName) (secret : Option (List ℕ)) → q ≡ TransferDomain name ops.Request secret → f.holding_limit_reached ≡ false
-  takes-more-law (TransferDomain name ops.Request secret) taken other_name other is = unrefused p r t (TransferDomain name ops.Request secret) f taken HoldsTheMost (search (inl, inr) depth 20)
+  takes-more-law (TransferDomain name ops.Request secret) taken other_name other is = unrefused p r t (TransferDomain name ops.Request secret) f taken IsAtHoldingLimit (search (inl, inr) depth 20)
   takes-more-law _ taken other_name other is = absurd (cc)
 
   pub puts-lawfully : (q : Request) → refusal_of p r t q f ≡ None → PutsLawfully p r t q f

@@ -6,7 +6,7 @@ use Rattle.protocol.specs.declared.code.Code.{Code}
 use Rattle.protocol.specs.declared.command.Request.{Request}
 use Rattle.facts.specs.declared.facts.Facts.{Facts}
 use Rattle.verdict.specs.declared.refusal.Cause.{Cause}
-use Rattle.verdict.specs.declared.refusal.Cause.TheVariants.{BadNames}
+use Rattle.verdict.specs.declared.refusal.Cause.TheVariants.{NamesRefused}
 use Rattle.verdict.specs.declared.rules.Condition.{Condition}
 use Rattle.protocol.specs.Codes.{is_accepted}
 use Rattle.verdict.specs.Causes.{cause_of}
@@ -39,7 +39,7 @@ unfolding first_refusal
 unrefused p r t q f none condition stands = unfound (holds p r t q f) (table_of q) (unmapped (λ (condition : Condition). code_of (cause_of condition)) _ none) condition stands
 
 never-accepted : (cause : Cause) → is_accepted (code_of cause) ≡ false
-never-accepted BadNames = refl
+never-accepted NamesRefused = refl
 never-accepted _ = refl
 
 -- no cause answers that a command was carried out

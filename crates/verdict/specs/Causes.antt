@@ -2,14 +2,14 @@
 use Rattle.verdict.specs.declared.order.OrderCondition.{OrderCondition}
 use Rattle.verdict.specs.declared.order.OrderCondition.TheVariants as orders
 use Rattle.verdict.specs.declared.refusal.Cause.{Cause}
-use Rattle.verdict.specs.declared.refusal.Cause.TheVariants.{BadNames, Exists, Missing, NotSponsor, WrongSecret, TransferPends, NoTransferPends, StatusProhibits, AssociationProhibits, NotRenewable, NotTransferable, DoesNotFit, LimitReached, NoMoney}
+use Rattle.verdict.specs.declared.refusal.Cause.TheVariants.{NamesRefused, Exists, Missing, NotSponsor, WrongSecret, TransferPends, NoTransferPends, StatusProhibits, AssociationProhibits, NotRenewable, NotTransferable, ParametersRefused, LimitReached, BillingFailure}
 use Rattle.verdict.specs.declared.rules.Condition.{Condition}
-use Rattle.verdict.specs.declared.rules.Condition.TheVariants.{NameIsRefused, ListRepeats, IsThere, IsMissing, ReferenceIsMissing, NewNameIsTaken, SuperordinateIsMissing, IsAnothers, SuperordinateIsAnothers, SecretIsWrong, Shows, StillShows, SuperordinateIsDeleted, IsLinked, HasSubordinates, AddsWhatIsThere, RemovesWhatIsNot, LeavesTooMany, LeavesAddressesOutside, HoldsTheMost, PassesTenYears, ExpiresOtherwise, IsNotIn, ReportDiffers, IsNotOldest, LacksMoney, SecretIsNotRight, IsStranger, StrangersSecretIsWrong, IsNotRequester, HasNoTransfer, IsPending, IsNotPending, IsOwn, IsLocked}
+use Rattle.verdict.specs.declared.rules.Condition.TheVariants.{NameIsRefused, ListRepeats, IsThere, IsMissing, ReferenceIsMissing, NewNameIsTaken, SuperordinateIsMissing, IsAnothers, SuperordinateIsAnothers, SecretIsWrong, Shows, StillShows, SuperordinateIsDeleted, IsLinked, HasSubordinates, AddsWhatIsThere, RemovesWhatIsNot, LeavesTooMany, LeavesAddressesOutside, IsAtHoldingLimit, PassesTenYears, ExpiresOtherwise, IsNotIn, ReportDiffers, IsNotOldest, LacksMoney, SecretIsNotRight, IsStranger, StrangersSecretIsWrong, IsNotRequester, HasNoTransfer, IsPending, IsNotPending, IsOwn, IsLocked}
 
 -- of a registrar's command
 abbrev pub cause_of : Condition → Cause
-cause_of NameIsRefused = BadNames
-cause_of ListRepeats = BadNames
+cause_of NameIsRefused = NamesRefused
+cause_of ListRepeats = NamesRefused
 cause_of IsThere = Exists
 cause_of NewNameIsTaken = Exists
 cause_of IsMissing = Missing
@@ -35,21 +35,21 @@ cause_of HasSubordinates = AssociationProhibits
 cause_of PassesTenYears = NotRenewable
 cause_of IsOwn = NotTransferable
 cause_of IsLocked = NotTransferable
-cause_of AddsWhatIsThere = DoesNotFit
-cause_of RemovesWhatIsNot = DoesNotFit
-cause_of LeavesTooMany = DoesNotFit
-cause_of LeavesAddressesOutside = DoesNotFit
-cause_of ExpiresOtherwise = DoesNotFit
-cause_of ReportDiffers = DoesNotFit
-cause_of HoldsTheMost = LimitReached
-cause_of LacksMoney = NoMoney
+cause_of AddsWhatIsThere = ParametersRefused
+cause_of RemovesWhatIsNot = ParametersRefused
+cause_of LeavesTooMany = ParametersRefused
+cause_of LeavesAddressesOutside = ParametersRefused
+cause_of ExpiresOtherwise = ParametersRefused
+cause_of ReportDiffers = ParametersRefused
+cause_of IsAtHoldingLimit = LimitReached
+cause_of LacksMoney = BillingFailure
 
 -- of an order of the operator's
 abbrev pub cause_of_order : OrderCondition → Cause
 cause_of_order orders.IsMissing = Missing
 cause_of_order orders.ContradictsPendingState = StatusProhibits
-cause_of_order orders.HasUnknownStatus = DoesNotFit
-cause_of_order orders.HasAnothersStatus = DoesNotFit
-cause_of_order orders.ListRepeats = DoesNotFit
-cause_of_order orders.AddsWhatIsSet = DoesNotFit
-cause_of_order orders.RemovesWhatIsUnset = DoesNotFit
+cause_of_order orders.HasUnknownStatus = ParametersRefused
+cause_of_order orders.HasAnothersStatus = ParametersRefused
+cause_of_order orders.ListRepeats = ParametersRefused
+cause_of_order orders.AddsWhatIsSet = ParametersRefused
+cause_of_order orders.RemovesWhatIsUnset = ParametersRefused

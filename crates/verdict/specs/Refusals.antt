@@ -3,10 +3,10 @@ use Rattle.std.specs.Prelude.{ℕ, Bool, true, nat_le, ◌&&◌, List, [], ◌�
 use Rattle.protocol.specs.declared.code.Code.{Code}
 use Rattle.protocol.specs.declared.code.Code.TheVariants as codes
 use Rattle.verdict.specs.declared.refusal.Cause.{Cause}
-use Rattle.verdict.specs.declared.refusal.Cause.TheVariants.{BadNames, Exists, Missing, NotSponsor, WrongSecret, TransferPends, NoTransferPends, StatusProhibits, AssociationProhibits, NotRenewable, NotTransferable, DoesNotFit, LimitReached, NoMoney}
+use Rattle.verdict.specs.declared.refusal.Cause.TheVariants.{NamesRefused, Exists, Missing, NotSponsor, WrongSecret, TransferPends, NoTransferPends, StatusProhibits, AssociationProhibits, NotRenewable, NotTransferable, ParametersRefused, LimitReached, BillingFailure}
 
 abbrev pub code_of : Cause → Code
-code_of BadNames = codes.ParameterPolicy
+code_of NamesRefused = codes.ParameterPolicy
 code_of Exists = codes.ObjectExists
 code_of Missing = codes.ObjectMissing
 code_of NotSponsor = codes.AuthorizationError
@@ -17,14 +17,14 @@ code_of StatusProhibits = codes.StatusProhibits
 code_of AssociationProhibits = codes.AssociationProhibits
 code_of NotRenewable = codes.NotEligibleForRenewal
 code_of NotTransferable = codes.NotEligibleForTransfer
-code_of DoesNotFit = codes.ParameterPolicy
+code_of ParametersRefused = codes.ParameterPolicy
 code_of LimitReached = codes.DataManagementPolicy
-code_of NoMoney = codes.BillingFailure
+code_of BillingFailure = codes.BillingFailure
 
 -- a cause's place in the order in which they answer; the session and the form of a command stand
 -- first and second
 abbrev pub place_of : Cause → ℕ
-place_of BadNames = 3
+place_of NamesRefused = 3
 place_of Exists = 4
 place_of Missing = 5
 place_of NotSponsor = 6
@@ -35,9 +35,9 @@ place_of StatusProhibits = 10
 place_of AssociationProhibits = 11
 place_of NotRenewable = 12
 place_of NotTransferable = 13
-place_of DoesNotFit = 14
+place_of ParametersRefused = 14
 place_of LimitReached = 15
-place_of NoMoney = 16
+place_of BillingFailure = 16
 
 -- the conditions of a table stand in the order of their causes, from one place on
 abbrev pub in_order_from : {C : Type 0} → (C → Cause) → ℕ → List C → Bool

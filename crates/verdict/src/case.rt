@@ -368,7 +368,7 @@ impl Case<'_> {
             Condition::RemovesWhatIsNot => self.removes_unknown(),
             Condition::LeavesTooMany => self.leaves_too_many(),
             Condition::LeavesAddressesOutside => self.leaves_addresses_outside(),
-            Condition::HoldsTheMost => self.facts.holding_limit_reached,
+            Condition::IsAtHoldingLimit => self.facts.holding_limit_reached,
             Condition::PassesTenYears => self.passes_ten_years(),
             Condition::ExpiresOtherwise => self.expires_otherwise(),
             Condition::IsNotIn(phase) => !is_in(phase, self.domain()),

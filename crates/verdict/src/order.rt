@@ -49,7 +49,7 @@ impl OrderCondition {
             | OrderCondition::HasAnothersStatus
             | OrderCondition::ListRepeats
             | OrderCondition::AddsWhatIsSet
-            | OrderCondition::RemovesWhatIsUnset => Cause::DoesNotFit,
+            | OrderCondition::RemovesWhatIsUnset => Cause::ParametersRefused,
         }
     }
 }

@@ -10,7 +10,7 @@ use protocol::Code;
 #[derive(Clone, Copy, Drop)]
 pub enum Cause {
     /// 2306: the zone refuses a name, or a list names one thing twice.
-    BadNames,
+    NamesRefused,
     /// 2302
     Exists,
     /// 2303
@@ -32,11 +32,11 @@ pub enum Cause {
     /// 2106
     NotTransferable,
     /// 2306: what is asked doesn't fit what is there.
-    DoesNotFit,
+    ParametersRefused,
     /// 2308
     LimitReached,
     /// 2104
-    NoMoney,
+    BillingFailure,
 }
 
 impl Cause {
@@ -45,7 +45,7 @@ impl Cause {
         ensures { result ≡ spec.code_of self }
     {
         match self {
-            Cause::BadNames | Cause::DoesNotFit => Code::ParameterPolicy,
+            Cause::NamesRefused | Cause::ParametersRefused => Code::ParameterPolicy,
             Cause::Exists => Code::ObjectExists,
             Cause::Missing => Code::ObjectMissing,
             Cause::NotSponsor => Code::AuthorizationError,
@@ -57,7 +57,7 @@ impl Cause {
             Cause::NotRenewable => Code::NotEligibleForRenewal,
             Cause::NotTransferable => Code::NotEligibleForTransfer,
             Cause::LimitReached => Code::DataManagementPolicy,
-            Cause::NoMoney => Code::BillingFailure,
+            Cause::BillingFailure => Code::BillingFailure,
         }
     }
 }

@@ -8,12 +8,13 @@ ghost use Rattle.verdict.specs.Rules as spec;
 
 use crate::refusal::Cause;
 use Condition::{
-    AddsWhatIsThere, ExpiresOtherwise, HasNoTransfer, HasSubordinates, HoldsTheMost, IsAnothers,
-    IsLinked, IsLocked, IsMissing, IsNotIn, IsNotOldest, IsNotPending, IsNotRequester, IsOwn,
-    IsPending, IsStranger, IsThere, LacksMoney, LeavesAddressesOutside, LeavesTooMany, ListRepeats,
-    NameIsRefused, NewNameIsTaken, PassesTenYears, ReferenceIsMissing, RemovesWhatIsNot,
-    ReportDiffers, SecretIsNotRight, SecretIsWrong, Shows, StillShows, StrangersSecretIsWrong,
-    SuperordinateIsAnothers, SuperordinateIsDeleted, SuperordinateIsMissing,
+    AddsWhatIsThere, ExpiresOtherwise, HasNoTransfer, HasSubordinates, IsAnothers,
+    IsAtHoldingLimit, IsLinked, IsLocked, IsMissing, IsNotIn, IsNotOldest, IsNotPending,
+    IsNotRequester, IsOwn, IsPending, IsStranger, IsThere, LacksMoney, LeavesAddressesOutside,
+    LeavesTooMany, ListRepeats, NameIsRefused, NewNameIsTaken, PassesTenYears, ReferenceIsMissing,
+    RemovesWhatIsNot, ReportDiffers, SecretIsNotRight, SecretIsWrong, Shows, StillShows,
+    StrangersSecretIsWrong, SuperordinateIsAnothers, SuperordinateIsDeleted,
+    SuperordinateIsMissing,
 };
 use objects::Phase::{self, Redemption, Restoring};
 use objects::Status::{
@@ -65,7 +66,7 @@ pub enum Condition {
     /// A host outside the zone has addresses afterwards.
     LeavesAddressesOutside,
     /// The registrar holds as many domains as it may.
-    HoldsTheMost,
+    IsAtHoldingLimit,
     /// The domain would be registered for more than ten years from now on.
     PassesTenYears,
     /// The domain is shown to expire on another date than the renewal names.
@@ -107,7 +108,7 @@ impl Condition {
         ensures { result ≡ cause_of self }
     {
         match self {
-            Condition::NameIsRefused | Condition::ListRepeats => Cause::BadNames,
+            Condition::NameIsRefused | Condition::ListRepeats => Cause::NamesRefused,
             Condition::IsThere | Condition::NewNameIsTaken => Cause::Exists,
             Condition::IsMissing
             | Condition::ReferenceIsMissing
@@ -134,9 +135,9 @@ impl Condition {
             | Condition::LeavesTooMany
             | Condition::LeavesAddressesOutside
             | Condition::ExpiresOtherwise
-            | Condition::ReportDiffers => Cause::DoesNotFit,
-            Condition::HoldsTheMost => Cause::LimitReached,
-            Condition::LacksMoney => Cause::NoMoney,
+            | Condition::ReportDiffers => Cause::ParametersRefused,
+            Condition::IsAtHoldingLimit => Cause::LimitReached,
+            Condition::LacksMoney => Cause::BillingFailure,
         }
     }
 }
@@ -167,7 +168,7 @@ pub const DOMAIN_CREATION: &[Condition] = &[
     IsThere,
     ReferenceIsMissing, // RFC 5731, 3.2.1
     LeavesTooMany, // RFC 5731, 3.2.1
-    HoldsTheMost,
+    IsAtHoldingLimit,
     LacksMoney,
 ];
 
@@ -316,7 +317,7 @@ pub const DOMAIN_TRANSFER_REQUEST: &[Condition] = &[
     Shows(ServerTransferProhibited), // RFC 5731, 2.3
     IsOwn,
     IsLocked,
-    HoldsTheMost,
+    IsAtHoldingLimit,
     LacksMoney,
 ];
 

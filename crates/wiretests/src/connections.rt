@@ -1,13 +1,12 @@
 //! Sessions with a registry: the replies to the bytes of a connection, for what no contract says, that
 //! they succeed where memory is ample.
 
-use crate::frames::whole;
+use crate::pieces::whole;
 use calendar::Moment;
-use eppframes::ListClock;
-use eppsessions::Connection;
+use eppwire::Connection;
 use fixtures::registry_of;
+use frames::{ListClock, SessionEnd, serve_session};
 use registry::Registry;
-use sessions::{SessionEnd, serve_session};
 use std::alloc::Global;
 use std::collections::VecDeque;
 use std::io::Read;

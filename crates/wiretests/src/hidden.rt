@@ -2,10 +2,10 @@
 //! out to it.
 
 use crate::connections::framed;
-use crate::frames::whole;
 use crate::http::{
     CONTACT, CREATED, LOGIN, Line, PAID, START, clock_of, ended, filled, frames_of, served,
 };
+use crate::pieces::whole;
 use fixtures::registry_of;
 use registry::Registry;
 use std::alloc::Global;

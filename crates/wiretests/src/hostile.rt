@@ -2,14 +2,13 @@
 //! cut off at each byte, by the client or by a read or a write that fails.
 
 use crate::connections::{ASKED, TOLD, framed};
-use crate::frames::{Narrow, whole};
 use crate::http::LOGIN;
-use eppframes::{ListClock, write_frame};
+use crate::pieces::{Narrow, whole};
 use fixtures::registry_of;
+use frames::{ListClock, SessionEnd, write_frame};
 use rdap::Routes;
 use registry::Registry;
 use server::{ConnectionEnd, HttpEnd, serve_one};
-use sessions::SessionEnd;
 use std::alloc::Global;
 use std::collections::VecDeque;
 use std::io::{Read, Write};

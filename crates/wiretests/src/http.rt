@@ -2,16 +2,15 @@
 //! asked for.
 
 use crate::connections::framed;
-use crate::frames::whole;
+use crate::pieces::whole;
 use basis::text::Text;
 use calendar::Moment;
-use eppframes::ListClock;
 use fixtures::registry_of;
+use frames::{ListClock, SessionEnd};
 use protocol::Order;
 use rdap::{Outcome, Routes, answer_without_object, response};
 use registry::Registry;
 use server::{ConnectionEnd, HttpEnd, Served, serve_one, zone_on};
-use sessions::SessionEnd;
 use std::alloc::{AllocError, Global};
 use std::collections::VecDeque;
 use std::io::Read;

@@ -7,8 +7,6 @@ mod behind_the_end;
 #[cfg(test)]
 mod connections;
 #[cfg(test)]
-mod frames;
-#[cfg(test)]
 mod hidden;
 #[cfg(test)]
 mod hostile;
@@ -16,6 +14,8 @@ mod hostile;
 mod http;
 #[cfg(test)]
 mod long_replies;
+#[cfg(test)]
+mod pieces;
 #[cfg(test)]
 mod serving;
 #[cfg(test)]

@@ -1,10 +1,10 @@
 //! A reply that is longer than a frame of a client may be: the info of a domain with many hosts below it.
 
 use crate::connections::framed;
-use crate::frames::whole;
 use crate::http::{CONTACT, CREATED, LOGIN, Line, PAID, ended, filled, served};
-use eppframes::ListClock;
+use crate::pieces::whole;
 use fixtures::registry_of;
+use frames::ListClock;
 use registry::Registry;
 use std::alloc::Global;
 use std::collections::VecDeque;

@@ -2,15 +2,14 @@
 //! that go out, and that what one of them did is there in the next.
 
 use crate::connections::framed;
-use crate::frames::{Interrupted, whole};
+use crate::pieces::{Interrupted, whole};
 use crate::silent::Standing;
 use calendar::Moment;
-use eppframes::ListClock;
 use fixtures::registry_of;
+use frames::{ListClock, SessionEnd};
 use rdap::Routes;
 use registry::Registry;
 use server::{ConnectionEnd, HttpEnd, MachineClock, serve_each, serve_one};
-use sessions::SessionEnd;
 use std::alloc::Global;
 use std::collections::VecDeque;
 use std::io::{self, Read, Write};
@@ -320,7 +319,7 @@ fn clients_of_a_listener(rt: HostRuntime) -> Result<(), Fail> {
 /// The machine's clock tells a moment between 2026 and the last one.
 #[test]
 fn machine(rt: HostRuntime) -> Result<(), Fail> {
-    let told = eppframes::Clock::moment(&mut MachineClock::new(&rt)).secs();
+    let told = frames::Clock::moment(&mut MachineClock::new(&rt)).secs();
     assert!(rt; told > 1_767_225_600 && told < 7_258_118_399);
     Ok(())
 }

@@ -1,10 +1,9 @@
 //! Sessions in every cut and with every fault, for what no contract says: that a session succeeds
 //! where memory is ample, and that a fault is answered only where a read or a write failed.
 
-use crate::frames::{Narrow, Pieces, whole};
+use crate::pieces::{Narrow, Pieces, whole};
 use calendar::Moment;
-use eppframes::ListClock;
-use sessions::{Answer, Peer, SessionEnd, serve_session};
+use frames::{Answer, ListClock, Peer, SessionEnd, serve_session};
 use std::alloc::Global;
 use std::collections::VecDeque;
 use std::io::Read;

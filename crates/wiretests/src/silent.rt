@@ -1,7 +1,7 @@
 //! Peers that stand still, that are gone, or that send no more, before others that wait for their turn.
 
 use crate::connections::{ASKED, TOLD};
-use crate::frames::Narrow;
+use crate::pieces::Narrow;
 use crate::serving::{client_of, is_told};
 use fixtures::registry_of;
 use server::{Impatient, MachineClock, serve_each_within};

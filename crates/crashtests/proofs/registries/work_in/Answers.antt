@@ -1,6 +1,6 @@
 use Rattle.std.proofs.Common.{Result, Ok, Err, IfOk}
 use Rattle.sqlite.specs.Files.{file_state, image_of}
-use Rattle.tables.proofs.FoundLemmas.{found_in_files}
+use Rattle.sqltables.proofs.FoundLemmas.{found_in_files}
 use Rattle.crashtests.proofs.registries.work_in.Goals as goal
 
 -- what two clauses say of a value together

@@ -1,5 +1,5 @@
 use Rattle.std.proofs.Common.{drop}
-use Rattle.oldrows.specs.Copies.{IsOnItsWay, put_of_all}
+use Rattle.oldrows.specs.inner.Copies.{IsOnItsWay, put_of_all}
 use Rattle.oldrows.proofs.copying.copy_tables.Given as goal
 
 abbrev pub invariant-loop-table : goal.invariant-loop-table

@@ -3,7 +3,7 @@ use Rattle.std.specs.Int.{w64}
 use Rattle.std.proofs.lemmas.Int.{ints}
 use Rattle.registry.proofs.PassingSteps.{orders-paid}
 use Rattle.rules.specs.Orders.{deposit_decision}
-use Rattle.store.specs.Book.{Moves, with_changes}
+use Rattle.store.specs.Book.{BookWrites, with_changes}
 use Rattle.registry.proofs.order.deposit_at.Goals as goal
 
 pub returns-clause-step : goal.returns-clause-step
@@ -13,4 +13,4 @@ returns-clause-step g c =
     (g.B.Book.state c.args.book.now) (g.B.Book.state c.pass_alone.new.book) (g.B.Book.state c.deposit.new.book)
     c.in_ok-now.ensures.moved c.in_ok-now.ensures.clock c.deposit.ensures.follows
     (subst (λ (cents : ℤ). IfOk c.deposit.result (λ code. code ≡ (deposit_decision c.args.policy.now c.in_ok-now.now c.args.registrar.now cents).code)) paid c.deposit.ensures.code)
-    (subst (λ (cents : ℤ). OnOk c.deposit.result (Moves (g.B.Book.state c.pass_alone.new.book) (g.B.Book.state c.deposit.new.book) (with_changes c.args.policy.now (deposit_decision c.args.policy.now c.in_ok-now.now c.args.registrar.now cents).changes (g.B.Book.state c.pass_alone.new.book).content))) paid c.deposit.ensures.made)
+    (subst (λ (cents : ℤ). OnOk c.deposit.result (BookWrites (g.B.Book.state c.pass_alone.new.book) (g.B.Book.state c.deposit.new.book) (with_changes c.args.policy.now (deposit_decision c.args.policy.now c.in_ok-now.now c.args.registrar.now cents).changes (g.B.Book.state c.pass_alone.new.book).content))) paid c.deposit.ensures.made)

@@ -2,7 +2,7 @@ use Rattle.std.proofs.Common.{true, false, sym, subst}
 use Rattle.sqlite.specs.Files.{file_state}
 use Rattle.sqlite_std_file.specs.File.{IsFresh}
 use Rattle.sqlite_wal.specs.Files.{image_at}
-use Rattle.tables.proofs.FoundLemmas.{found_in_files}
+use Rattle.sqltables.proofs.FoundLemmas.{found_in_files}
 use Rattle.restarts.specs.Unopened.{AreLeft, GivesBack, never_for}
 use Rattle.restarts.proofs.UnopenedLemmas.{some-weaker, unconnected-left}
 use Rattle.restarts.proofs.connection.connect.Goals as goal

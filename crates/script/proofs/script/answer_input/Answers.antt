@@ -2,7 +2,7 @@ use Rattle.std.proofs.Common.{ap, inr, ◌∙◌}
 use Rattle.std.proofs.lemmas.Result.{err_from_is_err_and}
 use Rattle.script.proofs.BeginLemmas.{fault_by, never_begun}
 use Rattle.script.proofs.EndLemmas.{Ends-buffered, Ends-unflushed, Ends-unwritten}
-use Rattle.script.specs.Runs.{end_of}
+use Rattle.script.specs.inner.Runs.{end_of}
 use Rattle.script.proofs.script.answer_input.Goals as goal
 
 pub returns-in_err-reader-clause-ends : goal.returns-in_err-reader-clause-ends

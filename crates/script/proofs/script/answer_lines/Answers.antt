@@ -1,7 +1,8 @@
 use Rattle.std.proofs.Common.{◌≡◌, ◌∙◌, ◌<◌, ◌++◌, ◌∷◌, [], inl, ap, refl, length, length-append, IfSome, arith}
 use Rattle.std.proofs.lemmas.Result.{err_from_is_err_and}
 use Rattle.std.specs.Io.BufRead.{strip_last, take_through}
-use Rattle.script.specs.Runs.{end_of, kept}
+use Rattle.script.specs.inner.Runs.{end_of}
+use Rattle.script.specs.Runs.{kept}
 use Rattle.std.proofs.KnownBytes.{Appends-nil, Appends-trans}
 use Rattle.script.proofs.BeginLemmas.{Ends-between, fault_by}
 use Rattle.script.proofs.HaltLemmas.{Ends-halted}

@@ -1,6 +1,6 @@
 use Rattle.std.proofs.Common.{ℕ, List, subst}
 use Rattle.std.specs.Prelude.{OnErr}
-use Rattle.script.specs.Runs.{AppendsFront}
+use Rattle.script.specs.inner.Runs.{AppendsFront}
 use Rattle.script.proofs.BeginLemmas.{write_front}
 use Rattle.script.proofs.script.write_pending.Goals as goal
 

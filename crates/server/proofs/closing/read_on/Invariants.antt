@@ -1,5 +1,5 @@
 use Rattle.std.proofs.Common.{◌≡◌, ◌*◌, length}
-use Rattle.server.specs.Closing.{TakesUpTo, most_piece}
+use Rattle.server.specs.inner.Closing.{TakesUpTo, most_piece}
 use Rattle.server.proofs.closing.read_on.Given as goal
 
 abbrev pub invariant-reads : goal.invariant-reads

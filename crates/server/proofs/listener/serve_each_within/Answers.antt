@@ -1,5 +1,5 @@
 use Rattle.std.proofs.Common.{◌∙◌}
-use Rattle.eppsessions.proofs.FollowLemmas.{follows_on}
+use Rattle.eppwire.proofs.FollowLemmas.{follows_on}
 use Rattle.policy.specs.Rules.{PolicyRules}
 use Rattle.store.specs.Book.{BookState}
 use Rattle.server.proofs.ListeningLemmas.{one_more}

@@ -1,8 +1,8 @@
 use Rattle.std.proofs.Common.{subst, filter, Ok}
-use Rattle.columns.specs.Numbers.{registrar_column}
-use Rattle.tables.specs.Account.{account_with_id}
+use Rattle.sqlcolumns.specs.Numbers.{registrar_column}
+use Rattle.sqltables.specs.Account.{account_with_id}
 use Rattle.transactions.specs.States.{Finds}
-use Rattle.meanings.proofs.StateLemmas.{one-asked}
+use Rattle.sqlrows.proofs.StateLemmas.{one-asked}
 use Rattle.sqlaccounts.proofs.account.maybe_row.Goals as goal
 
 pub returns-clause-row : goal.returns-clause-row

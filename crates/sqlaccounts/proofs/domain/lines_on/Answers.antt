@@ -2,8 +2,8 @@ use Rattle.std.proofs.Common.{ap, subst, ◌∙◌}
 use Rattle.std.specs.List.{filter_map}
 use Rattle.accounts.specs.Lines.{in_order}
 use Rattle.basis.specs.Bag.{bag_of}
-use Rattle.columns.specs.Lines.{line_in}
-use Rattle.tables.specs.Whole.{IsWhole}
+use Rattle.sqlcolumns.specs.Lines.{line_in}
+use Rattle.sqltables.specs.inner.Whole.{IsWhole}
 use Rattle.sqlaccounts.proofs.LinesOnLemmas.{lines-read}
 use Rattle.sqlaccounts.proofs.domain.lines_on.Goals as goal
 

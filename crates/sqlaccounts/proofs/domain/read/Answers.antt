@@ -3,8 +3,8 @@ use Rattle.std.proofs.lemmas.List.{take_more}
 use Rattle.std.specs.List.{filter_map}
 use Rattle.accounts.specs.Lines.{in_order}
 use Rattle.basis.specs.Bag.{add, bag_of}
-use Rattle.columns.specs.Lines.{line_in}
-use Rattle.tables.specs.Line.{Line}
+use Rattle.sqlcolumns.specs.Lines.{line_in}
+use Rattle.sqltables.specs.Line.{Line}
 use Rattle.sqlaccounts.proofs.LinesOnLemmas.{read-more}
 use Rattle.sqlaccounts.proofs.domain.read.Goals as goal
 

@@ -2,7 +2,7 @@ use Rattle.std.proofs.Common.{◌≡◌, take}
 use Rattle.std.specs.List.{filter_map}
 use Rattle.accounts.specs.Lines.{in_order}
 use Rattle.basis.specs.Bag.{bag_of}
-use Rattle.columns.specs.Lines.{line_in}
+use Rattle.sqlcolumns.specs.Lines.{line_in}
 use Rattle.sqlaccounts.proofs.domain.read.Given as goal
 
 abbrev pub invariant-loop-row : goal.invariant-loop-row

@@ -1,11 +1,11 @@
 use Rattle.std.proofs.Common.{rules, subst, ◌∙◌, FitsSigned, to_z-of_z}
 use Rattle.std.specs.Int.{w128}
-use Rattle.rows.specs.Layouts.{appended}
+use Rattle.sqlrows.specs.inner.Layouts.{appended}
 use Rattle.sqlite_keyed.specs.Keyed.{insert_by}
-use Rattle.tables.specs.Account.{accounts}
-use Rattle.tables.specs.Content.{accounts_to, lines_to}
-use Rattle.tables.specs.Line.{lines}
-use Rattle.sqlaccounts.specs.Changes.{IsPaid}
+use Rattle.sqltables.specs.Account.{accounts}
+use Rattle.sqltables.specs.inner.Content.{accounts_to, lines_to}
+use Rattle.sqltables.specs.Line.{lines}
+use Rattle.sqlaccounts.specs.inner.Changes.{IsPaid}
 use Rattle.sqlaccounts.proofs.LineLemmas.{added}
 use Rattle.sqlaccounts.proofs.CallLemmas.{then-twice}
 use Rattle.sqlaccounts.proofs.line.add_line.Goals as goal

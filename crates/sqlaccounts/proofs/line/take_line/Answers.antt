@@ -1,10 +1,10 @@
 use Rattle.std.proofs.Common.{◌≡◌, filter, subst, ap, sym, ◌∙◌, true}
-use Rattle.meanings.proofs.StateLemmas.{reads-on, then-made}
-use Rattle.tables.specs.Content.{Content}
-use Rattle.tables.specs.Whole.{IsWhole}
+use Rattle.sqlrows.proofs.StateLemmas.{reads-on, then-made}
+use Rattle.sqltables.specs.Content.{Content}
+use Rattle.sqltables.specs.inner.Whole.{IsWhole}
 use Rattle.transactions.specs.States.{Reads}
-use Rattle.sqlaccounts.specs.Changes.{without_line}
-use Rattle.sqlaccounts.specs.Finding.{is_row_about}
+use Rattle.sqlaccounts.specs.inner.Changes.{without_line}
+use Rattle.sqlaccounts.specs.inner.Finding.{is_row_about}
 use Rattle.sqlaccounts.proofs.TakingLemmas.{left-there, taken-out}
 use Rattle.sqlaccounts.proofs.CallLemmas.{then-kept}
 use Rattle.sqlaccounts.proofs.line.take_line.Goals as goal

@@ -1,5 +1,5 @@
 use Rattle.std.proofs.Common.{rules, ap, sym, ◌∙◌, FitsSigned, w64, to_z-of_z}
-use Rattle.columns.specs.Numbers.{exact_in}
+use Rattle.sqlcolumns.specs.Numbers.{exact_in}
 use Rattle.sqlaccounts.proofs.AccountLemmas.{waiting-found}
 use Rattle.sqlaccounts.proofs.message.waiting.Goals as goal
 

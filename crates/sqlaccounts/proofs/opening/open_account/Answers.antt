@@ -1,6 +1,6 @@
 use Rattle.std.proofs.Common.{sym, subst}
-use Rattle.tables.specs.Whole.{IsWhole}
-use Rattle.sqlaccounts.specs.Changes.{opened_row}
+use Rattle.sqltables.specs.inner.Whole.{IsWhole}
+use Rattle.sqlaccounts.specs.inner.Changes.{opened_row}
 use Rattle.sqlaccounts.proofs.CallLemmas.{then-kept, then-put}
 use Rattle.sqlaccounts.proofs.OpeningLemmas.{opened-now, still-open}
 use Rattle.sqlaccounts.proofs.opening.open_account.Goals as goal

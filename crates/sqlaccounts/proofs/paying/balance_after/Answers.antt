@@ -1,7 +1,7 @@
 use Rattle.std.proofs.Common.{rules, ◌∙◌, FitsSigned, ◌+ℤ◌, subst, sym, ap, to_z-of_z}
 use Rattle.std.specs.Int.{w128}
-use Rattle.tables.specs.Balance.{balance_bytes}
-use Rattle.tables.proofs.BalanceLemmas.{balance_read}
+use Rattle.sqltables.specs.inner.Balance.{balance_bytes}
+use Rattle.sqltables.proofs.BalanceLemmas.{balance_read}
 use Rattle.sqlaccounts.proofs.paying.balance_after.Goals as goal
 
 pub returns-clause-sum : goal.returns-clause-sum

@@ -1,5 +1,5 @@
 use Rattle.std.proofs.Common.{rules, refl, sym, ◌∙◌, FitsSigned, to_z-of_z, w64}
-use Rattle.columns.proofs.LineLemmas.{line_back}
+use Rattle.sqlcolumns.proofs.LineLemmas.{line_back}
 use Rattle.sqlaccounts.proofs.LineLemmas.{account_written}
 use Rattle.sqlaccounts.proofs.writing.written.Goals as goal
 

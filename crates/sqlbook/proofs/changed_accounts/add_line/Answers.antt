@@ -3,7 +3,7 @@ use Rattle.accounts.specs.Entries.{with_lines}
 use Rattle.accounts.specs.Lines.{in_order}
 use Rattle.basis.specs.Bag.{add}
 use Rattle.sqlobjects.proofs.StepLemmas.{asked-then}
-use Rattle.sqlaccounts.specs.Changes.{IsChange}
+use Rattle.sqlaccounts.specs.inner.Changes.{IsChange}
 use Rattle.sqlbook.proofs.AccountLemmas.{account-changed, right-kept}
 use Rattle.sqlbook.proofs.AlteringLemmas.{alters}
 use Rattle.sqlbook.proofs.changed_accounts.add_line.Goals as goal

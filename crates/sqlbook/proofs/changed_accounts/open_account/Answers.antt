@@ -1,5 +1,5 @@
 use Rattle.std.proofs.Common.{Ok}
-use Rattle.sqlaccounts.specs.Changes.{IsOpened}
+use Rattle.sqlaccounts.specs.inner.Changes.{IsOpened}
 use Rattle.sqlbook.proofs.OpeningLemmas.{opening-changed, opening-right}
 use Rattle.sqlbook.proofs.AlteringLemmas.{alters}
 use Rattle.sqlbook.proofs.changed_accounts.open_account.Goals as goal

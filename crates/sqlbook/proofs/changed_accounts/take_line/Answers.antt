@@ -2,7 +2,7 @@ use Rattle.std.proofs.Common.{Ok}
 use Rattle.accounts.specs.Entries.{with_lines}
 use Rattle.accounts.specs.Lines.{in_order}
 use Rattle.basis.specs.Bag.{taken}
-use Rattle.sqlaccounts.specs.Changes.{IsChange}
+use Rattle.sqlaccounts.specs.inner.Changes.{IsChange}
 use Rattle.sqlbook.proofs.AlteringLemmas.{alters, changed-there}
 use Rattle.sqlbook.proofs.changed_accounts.take_line.Goals as goal
 

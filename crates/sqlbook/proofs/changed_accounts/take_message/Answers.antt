@@ -1,7 +1,7 @@
 use Rattle.std.proofs.Common.{Ok}
 use Rattle.accounts.specs.Entries.{with_queue}
 use Rattle.accounts.specs.Queue as queue
-use Rattle.sqlaccounts.specs.Changes.{IsChange}
+use Rattle.sqlaccounts.specs.inner.Changes.{IsChange}
 use Rattle.sqlbook.proofs.AlteringLemmas.{alters, changed-there}
 use Rattle.sqlbook.proofs.changed_accounts.take_message.Goals as goal
 

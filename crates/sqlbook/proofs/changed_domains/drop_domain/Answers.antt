@@ -1,5 +1,5 @@
 use Rattle.std.proofs.Common.{None}
-use Rattle.sqlbook.specs.Replacing.{IsReplaced}
+use Rattle.sqlbook.specs.inner.Replacing.{IsReplaced}
 use Rattle.sqlbook.proofs.AlteringLemmas.{alters}
 use Rattle.sqlbook.proofs.ReplacingLemmas.{none-early, replaced, replaced-right}
 use Rattle.sqlbook.proofs.changed_domains.drop_domain.Goals as goal

@@ -1,7 +1,7 @@
-use Rattle.meanings.proofs.StateLemmas.{then-became}
-use Rattle.sqldomains.specs.Changes.{IsDomainPut}
-use Rattle.sqlheld.specs.Recounts.{IsRecounted}
-use Rattle.sqlbook.specs.Replacing.{IsExchanged, due_with}
+use Rattle.sqlrows.proofs.StateLemmas.{then-became}
+use Rattle.sqldomains.specs.inner.Changes.{IsDomainPut}
+use Rattle.sqlsums.specs.inner.Recounts.{IsRecounted}
+use Rattle.sqlbook.specs.inner.Replacing.{IsExchanged, due_with}
 use Rattle.sqlbook.proofs.changed_domains.exchange.Goals as goal
 
 pub returns : goal.returns

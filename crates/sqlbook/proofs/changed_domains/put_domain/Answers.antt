@@ -1,5 +1,5 @@
 use Rattle.std.proofs.Common.{Some}
-use Rattle.sqlbook.specs.Replacing.{IsReplaced}
+use Rattle.sqlbook.specs.inner.Replacing.{IsReplaced}
 use Rattle.sqlbook.proofs.AlteringLemmas.{alters}
 use Rattle.sqlbook.proofs.ReplacingLemmas.{early-of, replaced, replaced-right}
 use Rattle.sqlbook.proofs.changed_domains.put_domain.Goals as goal

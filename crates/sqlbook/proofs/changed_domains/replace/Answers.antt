@@ -1,7 +1,7 @@
 use Rattle.std.proofs.Common.{subst}
-use Rattle.meanings.proofs.StateLemmas.{then-became}
+use Rattle.sqlrows.proofs.StateLemmas.{then-became}
 use Rattle.sqlobjects.specs.Sponsors.{IsFollowed}
-use Rattle.sqlbook.specs.Replacing.{IsExchangedThere, IsReplaced}
+use Rattle.sqlbook.specs.inner.Replacing.{IsExchangedThere, IsReplaced}
 use Rattle.sqlbook.proofs.changed_domains.replace.Goals as goal
 
 pub returns : goal.returns

@@ -1,5 +1,5 @@
 use Rattle.std.proofs.Common.{None}
-use Rattle.sqlobjects.specs.Changes.{IsContactPut}
+use Rattle.sqlobjects.specs.inner.Changes.{IsContactPut}
 use Rattle.sqlbook.proofs.AlteringLemmas.{alters}
 use Rattle.sqlbook.proofs.ObjectLemmas.{contact-changed, contact-right}
 use Rattle.sqlbook.proofs.changed_objects.drop_contact.Goals as goal

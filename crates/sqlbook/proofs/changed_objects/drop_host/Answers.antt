@@ -1,5 +1,5 @@
 use Rattle.std.proofs.Common.{None}
-use Rattle.sqlobjects.specs.Changes.{IsHostPut}
+use Rattle.sqlobjects.specs.inner.Changes.{IsHostPut}
 use Rattle.sqlbook.proofs.AlteringLemmas.{alters}
 use Rattle.sqlbook.proofs.ObjectLemmas.{host-changed, host-right}
 use Rattle.sqlbook.proofs.changed_objects.drop_host.Goals as goal

@@ -1,8 +1,8 @@
 use Rattle.std.proofs.Common.{◌≡◌, Some, inl, ap, ◌∙◌}
 use Rattle.policy.specs.declared.schedule.Schedule.{Schedule}
-use Rattle.tables.specs.Content.{Content}
+use Rattle.sqltables.specs.Content.{Content}
 use Rattle.sqlterms.specs.Terms.{days_of}
-use Rattle.sqlbook.specs.Suiting.{IsSetDown}
+use Rattle.sqlbook.specs.inner.Suiting.{IsSetDown}
 use Rattle.sqlbook.proofs.TermLemmas.{turned}
 use Rattle.sqlbook.proofs.changed_terms.set_again.Goals as goal
 

@@ -1,4 +1,4 @@
-use Rattle.sqlterms.specs.Changes.{IsClockSet}
+use Rattle.sqlterms.specs.inner.Changes.{IsClockSet}
 use Rattle.sqlbook.proofs.AlteringLemmas.{alters}
 use Rattle.sqlbook.proofs.TermLemmas.{clock-changed, clock-right}
 use Rattle.sqlbook.proofs.changed_terms.set_clock.Goals as goal

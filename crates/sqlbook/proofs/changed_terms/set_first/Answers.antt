@@ -1,7 +1,7 @@
 use Rattle.std.proofs.Common.{inl, inr}
 use Rattle.sqlobjects.proofs.StepLemmas.{asked-then}
-use Rattle.sqlterms.specs.Changes.{IsTermsSet}
-use Rattle.sqlbook.specs.Suiting.{IsSetDown}
+use Rattle.sqlterms.specs.inner.Changes.{IsTermsSet}
+use Rattle.sqlbook.specs.inner.Suiting.{IsSetDown}
 use Rattle.sqlbook.proofs.TermLemmas.{set-down}
 use Rattle.sqlbook.proofs.changed_terms.set_first.Goals as goal
 

@@ -1,5 +1,5 @@
 use Rattle.std.proofs.Common.{Ok, inl}
-use Rattle.sqlterms.specs.Changes.{IsTermsSet}
+use Rattle.sqlterms.specs.inner.Changes.{IsTermsSet}
 use Rattle.sqlbook.proofs.TermLemmas.{set-down, turned}
 use Rattle.sqlbook.proofs.changed_terms.set_same.Goals as goal
 

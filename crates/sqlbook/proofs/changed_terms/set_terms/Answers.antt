@@ -1,4 +1,4 @@
-use Rattle.sqlbook.specs.Suiting.{IsSetOver}
+use Rattle.sqlbook.specs.inner.Suiting.{IsSetOver}
 use Rattle.sqlbook.proofs.AlteringLemmas.{alters}
 use Rattle.sqlbook.proofs.TermLemmas.{over-ends, over-lines, set-over}
 use Rattle.sqlbook.proofs.changed_terms.set_terms.Goals as goal

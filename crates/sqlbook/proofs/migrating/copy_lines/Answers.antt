@@ -1,8 +1,9 @@
 use Rattle.std.proofs.Common.{ap, ◌∙◌}
 use Rattle.oldrows.proofs.CopyLemmas.{copied-so}
-use Rattle.oldrows.specs.Copies.{put_all}
-use Rattle.tables.specs.Content.{Content, lines_to}
-use Rattle.tables.specs.Line.{lines}
+use Rattle.oldrows.specs.inner.Copies.{put_all}
+use Rattle.sqltables.specs.Content.{Content}
+use Rattle.sqltables.specs.inner.Content.{lines_to}
+use Rattle.sqltables.specs.Line.{lines}
 use Rattle.sqlbook.specs.Migrating.{ended}
 use Rattle.sqlbook.proofs.migrating.copy_lines.Goals as goal
 

@@ -1,5 +1,5 @@
-use Rattle.oldrows.specs.Copies.{put_of_all}
-use Rattle.sqlbook.specs.Migrating.{others, put_lines}
+use Rattle.oldrows.specs.inner.Copies.{put_of_all}
+use Rattle.sqlbook.specs.inner.Migrating.{others, put_lines}
 use Rattle.sqlbook.proofs.MigratingLemmas.{copied-after}
 use Rattle.sqlbook.proofs.migrating.copy_rest.Goals as goal
 

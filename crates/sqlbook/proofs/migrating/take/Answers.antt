@@ -1,8 +1,8 @@
 use Rattle.std.proofs.Common.{subst}
-use Rattle.oldrows.specs.Copies.{IsCopied, put_of_all}
+use Rattle.oldrows.specs.inner.Copies.{IsCopied, put_of_all}
 use Rattle.policy.specs.declared.schedule.Schedule.{Schedule}
-use Rattle.tables.specs.Content.{Content}
-use Rattle.sqlbook.specs.Migrating.{others, put_lines}
+use Rattle.sqltables.specs.Content.{Content}
+use Rattle.sqlbook.specs.inner.Migrating.{others, put_lines}
 use Rattle.sqlbook.proofs.MigratingLemmas.{refused, taken-over}
 use Rattle.sqlbook.proofs.migrating.take.Goals as goal
 

@@ -1,5 +1,5 @@
 use Rattle.sqlobjects.proofs.StepLemmas.{asked-then}
-use Rattle.sqlbook.specs.Replacing.{IsExchanged, IsExchangedThere}
+use Rattle.sqlbook.specs.inner.Replacing.{IsExchanged, IsExchangedThere}
 use Rattle.sqlbook.proofs.redating.exchange_there.Goals as goal
 
 pub returns : goal.returns

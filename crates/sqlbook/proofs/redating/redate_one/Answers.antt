@@ -1,7 +1,7 @@
 use Rattle.std.proofs.Common.{Some, sym, ◌∙◌}
 use Rattle.sqlobjects.proofs.StepLemmas.{asked-then}
-use Rattle.sqlbook.specs.Replacing.{IsReplaced}
-use Rattle.sqlbook.specs.Suiting.{MeansSame}
+use Rattle.sqlbook.specs.inner.Replacing.{IsReplaced}
+use Rattle.sqlbook.specs.inner.Suiting.{MeansSame}
 use Rattle.sqlbook.proofs.RedatingLemmas.{put-again}
 use Rattle.sqlbook.proofs.redating.redate_one.Goals as goal
 

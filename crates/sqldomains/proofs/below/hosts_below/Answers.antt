@@ -1,9 +1,9 @@
 use Rattle.std.proofs.Common.{◌≡◌, Some, ap, subst, ◌∙◌, filter, map}
 use Rattle.std.specs.FinMap.{empty}
 use Rattle.objects.specs.Hosts.{is_below}
-use Rattle.tables.specs.Host.{Host}
-use Rattle.meanings.proofs.StateLemmas.{reads-on}
-use Rattle.sqldomains.specs.Names.{host_standing, with_read}
+use Rattle.sqltables.specs.Host.{Host}
+use Rattle.sqlrows.proofs.StateLemmas.{reads-on}
+use Rattle.sqldomains.specs.inner.Names.{host_standing, with_read}
 use Rattle.sqldomains.proofs.BelowLemmas.{below-listed}
 use Rattle.sqldomains.proofs.below.hosts_below.Goals as goal
 

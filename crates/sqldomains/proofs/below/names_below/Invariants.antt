@@ -1,6 +1,6 @@
 use Rattle.std.proofs.Common.{◌≡◌, ◌++◌, filter, map}
 use Rattle.objects.specs.Hosts.{is_below}
-use Rattle.tables.specs.Host.{Host}
+use Rattle.sqltables.specs.Host.{Host}
 use Rattle.sqldomains.proofs.below.names_below.Given as goal
 
 -- the names so far and those of the rows that are left

@@ -1,7 +1,7 @@
 use Rattle.std.proofs.Common.{◌≡◌, true}
 use Rattle.std.specs.FinMap.{empty}
 use Rattle.transactions.specs.States.{Reads}
-use Rattle.sqldomains.specs.Names as spec
+use Rattle.sqldomains.specs.inner.Names as spec
 use Rattle.sqldomains.proofs.below.with_hosts.Given as goal
 
 -- nothing was changed, and the rows that are left give what all of them do

@@ -1,7 +1,7 @@
 use Rattle.std.proofs.Common.{None}
 use Rattle.sqlobjects.proofs.StepLemmas.{asked-then}
-use Rattle.sqldomains.specs.Changes.{IsDomainPut}
-use Rattle.sqldomains.specs.Stages.{IsDomainDropped}
+use Rattle.sqldomains.specs.inner.Changes.{IsDomainPut}
+use Rattle.sqldomains.specs.inner.Stages.{IsDomainDropped}
 use Rattle.sqldomains.proofs.DomainLemmas.{dropped}
 use Rattle.sqldomains.proofs.domain_changes.drop_domain.Goals as goal
 

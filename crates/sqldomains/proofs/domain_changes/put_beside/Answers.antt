@@ -1,11 +1,11 @@
 use Rattle.std.proofs.Common.{◌≡◌, Some}
-use Rattle.tables.specs.Content.{Content}
-use Rattle.tables.specs.Whole.{IsWhole}
-use Rattle.meanings.proofs.StateLemmas.{then-became}
+use Rattle.sqltables.specs.Content.{Content}
+use Rattle.sqltables.specs.inner.Whole.{IsWhole}
+use Rattle.sqlrows.proofs.StateLemmas.{then-became}
 use Rattle.sqlobjects.specs.Changes.{contact_name}
 use Rattle.sqlobjects.proofs.StepLemmas.{became-whole}
-use Rattle.sqldomains.specs.Changes.{IsDomainPut}
-use Rattle.sqldomains.specs.Stages.{AreLinksPut, IsDomainPlaced, IsTransferPut}
+use Rattle.sqldomains.specs.inner.Changes.{IsDomainPut}
+use Rattle.sqldomains.specs.inner.Stages.{AreLinksPut, IsDomainPlaced, IsTransferPut}
 use Rattle.sqldomains.proofs.DomainLemmas.{domain-put}
 use Rattle.sqldomains.proofs.domain_changes.put_beside.Goals as goal
 

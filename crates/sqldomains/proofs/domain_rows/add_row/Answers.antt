@@ -1,6 +1,6 @@
 use Rattle.std.proofs.Common.{[], ◌∷◌, ◌≡◌, None, filter}
-use Rattle.tables.specs.Domain.{Domain, domain_with_name}
-use Rattle.sqldomains.specs.Stages.{IsDomainAdded, IsDomainPlacedAt}
+use Rattle.sqltables.specs.Domain.{Domain, domain_with_name}
+use Rattle.sqldomains.specs.inner.Stages.{IsDomainAdded, IsDomainPlacedAt}
 use Rattle.sqldomains.proofs.DomainLemmas.{added-placed}
 use Rattle.sqlobjects.proofs.StepLemmas.{became-met}
 use Rattle.sqldomains.proofs.domain_rows.add_row.Goals as goal

@@ -1,7 +1,7 @@
-use Rattle.rows.specs.Layouts.{appended}
-use Rattle.tables.specs.Domain.{domains}
-use Rattle.tables.specs.Content.{domains_to}
-use Rattle.sqldomains.specs.Stages.{IsDomainAdded}
+use Rattle.sqlrows.specs.inner.Layouts.{appended}
+use Rattle.sqltables.specs.inner.Domain.{domains}
+use Rattle.sqltables.specs.inner.Content.{domains_to}
+use Rattle.sqldomains.specs.inner.Stages.{IsDomainAdded}
 use Rattle.sqldomains.proofs.DomainLemmas.{added}
 use Rattle.sqlobjects.proofs.StepLemmas.{made}
 use Rattle.sqldomains.proofs.domain_rows.append.Goals as goal

@@ -1,5 +1,5 @@
-use Rattle.tables.specs.Whole.{IsWhole}
-use Rattle.sqldomains.specs.Stages.{IsDomainPlaced, IsDomainPlacedAt}
+use Rattle.sqltables.specs.inner.Whole.{IsWhole}
+use Rattle.sqldomains.specs.inner.Stages.{IsDomainPlaced, IsDomainPlacedAt}
 use Rattle.sqlobjects.proofs.StepLemmas.{asked-brings}
 use Rattle.sqldomains.proofs.domain_rows.place.Goals as goal
 

@@ -1,8 +1,8 @@
 use Rattle.std.proofs.Common.{Some}
 use Rattle.sqlite_keyed.specs.Keyed.{insert_by}
-use Rattle.tables.specs.Domain.{domains}
-use Rattle.tables.specs.Content.{domains_to}
-use Rattle.sqldomains.specs.Stages.{IsDomainPlacedAt}
+use Rattle.sqltables.specs.inner.Domain.{domains}
+use Rattle.sqltables.specs.inner.Content.{domains_to}
+use Rattle.sqldomains.specs.inner.Stages.{IsDomainPlacedAt}
 use Rattle.sqldomains.proofs.DomainLemmas.{put-placed}
 use Rattle.sqlobjects.proofs.StepLemmas.{made}
 use Rattle.sqldomains.proofs.domain_rows.put_row.Goals as goal

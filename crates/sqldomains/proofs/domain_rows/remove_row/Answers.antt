@@ -1,9 +1,10 @@
 use Rattle.sqlite_keyed.specs.Lists.{delete_where}
-use Rattle.tables.specs.Content.{Content, domains_to}
-use Rattle.tables.specs.Domain.{domain_with_id}
-use Rattle.meanings.proofs.StateLemmas.{then-became}
+use Rattle.sqltables.specs.Content.{Content}
+use Rattle.sqltables.specs.inner.Content.{domains_to}
+use Rattle.sqltables.specs.inner.Domain.{domain_with_id}
+use Rattle.sqlrows.proofs.StateLemmas.{then-became}
 use Rattle.sqlobjects.proofs.StepLemmas.{became-made}
-use Rattle.sqldomains.specs.Stages.{AreLinksCleared, IsDomainRemoved, IsTransferCleared}
+use Rattle.sqldomains.specs.inner.Stages.{AreLinksCleared, IsDomainRemoved, IsTransferCleared}
 use Rattle.sqldomains.proofs.DomainLemmas.{removed-so}
 use Rattle.sqldomains.proofs.domain_rows.remove_row.Goals as goal
 

@@ -1,9 +1,9 @@
 use Rattle.std.proofs.Common.{[], ◌∷◌}
-use Rattle.rows.specs.Layouts.{appended}
-use Rattle.tables.specs.Content.{links_to}
-use Rattle.tables.specs.Link.{links}
-use Rattle.meanings.proofs.StateLemmas.{then-made}
-use Rattle.sqldomains.specs.Stages.{AreNamesAdded}
+use Rattle.sqlrows.specs.inner.Layouts.{appended}
+use Rattle.sqltables.specs.inner.Content.{links_to}
+use Rattle.sqltables.specs.Link.{links}
+use Rattle.sqlrows.proofs.StateLemmas.{then-made}
+use Rattle.sqldomains.specs.inner.Stages.{AreNamesAdded}
 use Rattle.sqldomains.proofs.LinkRowLemmas.{name-added}
 use Rattle.sqldomains.proofs.link_rows.add_name.Goals as goal
 

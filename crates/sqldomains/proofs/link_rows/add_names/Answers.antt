@@ -1,9 +1,9 @@
 use Rattle.std.proofs.Common.{◌+◌, [], ◌∷◌, subst, take}
 use Rattle.std.proofs.lemmas.List.{take_all}
-use Rattle.meanings.specs.Calls.{Became}
-use Rattle.meanings.proofs.StateLemmas.{then-became}
+use Rattle.sqlrows.specs.Meanings.{HasChanged}
+use Rattle.sqlrows.proofs.StateLemmas.{then-became}
 use Rattle.sqlobjects.proofs.StepLemmas.{stood}
-use Rattle.sqldomains.specs.Stages.{AreNamesAdded}
+use Rattle.sqldomains.specs.inner.Stages.{AreNamesAdded}
 use Rattle.sqldomains.proofs.LinkRowLemmas.{next-named, none-named}
 use Rattle.sqldomains.proofs.link_rows.add_names.Goals as goal
 
@@ -27,4 +27,4 @@ loop-name-preserved g c =
 
 pub returns : goal.returns
 returns g c =
-    subst (λ names. Became (AreNamesAdded c.args.domain.now.id c.args.domain.now.due c.args.role names) c.args.store.now c.loop-name.store) (take_all c.loop-name.name-index c.args.names.now c.loop-name-test.false) c.loop-name.invariant
+    subst (λ names. HasChanged (AreNamesAdded c.args.domain.now.id c.args.domain.now.due c.args.role names) c.args.store.now c.loop-name.store) (take_all c.loop-name.name-index c.args.names.now c.loop-name-test.false) c.loop-name.invariant

@@ -1,8 +1,8 @@
 use Rattle.std.proofs.Common.{take}
-use Rattle.meanings.specs.Calls.{Became}
-use Rattle.sqldomains.specs.Stages.{AreNamesAdded}
+use Rattle.sqlrows.specs.Meanings.{HasChanged}
+use Rattle.sqldomains.specs.inner.Stages.{AreNamesAdded}
 use Rattle.sqldomains.proofs.link_rows.add_names.Given as goal
 
 -- those so far were added
 abbrev pub invariant-loop-name : goal.invariant-loop-name
-invariant-loop-name g l = Became (AreNamesAdded l.domain.id l.domain.due l.role (take l.name-index l.names)) l.fn.store l.store
+invariant-loop-name g l = HasChanged (AreNamesAdded l.domain.id l.domain.due l.role (take l.name-index l.names)) l.fn.store l.store

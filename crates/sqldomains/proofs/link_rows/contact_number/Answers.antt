@@ -1,6 +1,6 @@
 use Rattle.std.proofs.Common.{rules, ap, subst, ◌∙◌, FitsSigned, w64, to_z-of_z}
 use Rattle.sqlobjects.specs.Changes.{contact_name}
-use Rattle.sqldomains.specs.Links.{IsNumberOfContact}
+use Rattle.sqldomains.specs.inner.Links.{IsNumberOfContact}
 use Rattle.sqldomains.proofs.LinkRowLemmas.{contact-of-number}
 use Rattle.sqldomains.proofs.link_rows.contact_number.Goals as goal
 

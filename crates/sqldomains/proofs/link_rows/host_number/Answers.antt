@@ -1,6 +1,6 @@
 use Rattle.std.proofs.Common.{rules, ap, subst, ◌∙◌, FitsSigned, w64, to_z-of_z}
 use Rattle.sqlobjects.specs.Changes.{host_name}
-use Rattle.sqldomains.specs.Links.{IsNumberOfHost}
+use Rattle.sqldomains.specs.inner.Links.{IsNumberOfHost}
 use Rattle.sqldomains.proofs.LinkRowLemmas.{host-of-number}
 use Rattle.sqldomains.proofs.link_rows.host_number.Goals as goal
 

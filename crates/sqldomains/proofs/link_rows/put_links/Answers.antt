@@ -1,9 +1,9 @@
 use Rattle.std.proofs.Common.{subst}
-use Rattle.columns.specs.declared.code.Role.TheVariants as roles
-use Rattle.tables.specs.Content.{Content}
-use Rattle.meanings.specs.Calls.{Became}
-use Rattle.meanings.proofs.StateLemmas.{then-became}
-use Rattle.sqldomains.specs.Stages.{AreLinksCleared, AreLinksPut, AreNamesAdded}
+use Rattle.sqlcolumns.specs.declared.code.Role.TheVariants as roles
+use Rattle.sqltables.specs.Content.{Content}
+use Rattle.sqlrows.specs.Meanings.{HasChanged}
+use Rattle.sqlrows.proofs.StateLemmas.{then-became}
+use Rattle.sqldomains.specs.inner.Stages.{AreLinksCleared, AreLinksPut, AreNamesAdded}
 use Rattle.sqldomains.proofs.LinkRowLemmas.{links-put}
 use Rattle.sqldomains.proofs.link_rows.put_links.Goals as goal
 
@@ -18,9 +18,9 @@ returns g c =
     let first = c.add_names.new.store in
     let second = c.add_names-2.new.store in
     let new = c.add_names-3.new.store in
-    let admin = subst (λ names. Became (AreNamesAdded id due roles.Admin names) cleared first) c.as_slice.ensures (c.in_ok-add_names.ensures {u = tt}) in
-    let tech = subst (λ names. Became (AreNamesAdded id due roles.Tech names) first second) c.as_slice-2.ensures (c.in_ok-add_names-2.ensures {u = tt}) in
-    let host = subst (λ names. Became (AreNamesAdded id due roles.Host names) second new) c.as_slice-3.ensures (c.in_ok-add_names-3.ensures {u = tt}) in
+    let admin = subst (λ names. HasChanged (AreNamesAdded id due roles.Admin names) cleared first) c.as_slice.ensures (c.in_ok-add_names.ensures {u = tt}) in
+    let tech = subst (λ names. HasChanged (AreNamesAdded id due roles.Tech names) first second) c.as_slice-2.ensures (c.in_ok-add_names-2.ensures {u = tt}) in
+    let host = subst (λ names. HasChanged (AreNamesAdded id due roles.Host names) second new) c.as_slice-3.ensures (c.in_ok-add_names-3.ensures {u = tt}) in
     then-became (AreLinksCleared number) (λ b e. (a : Content) → AreLinksCleared number a b → AreLinksPut id due links a e) (AreLinksPut id due links) old cleared new
     (c.in_ok-clear_links.ensures {u = tt})
     (then-became (AreNamesAdded id due roles.Admin links.admin) (λ m e. (a b : Content) → AreLinksCleared number a b → AreNamesAdded id due roles.Admin links.admin b m → AreLinksPut id due links a e) (λ b e. (a : Content) → AreLinksCleared number a b → AreLinksPut id due links a e) cleared first new

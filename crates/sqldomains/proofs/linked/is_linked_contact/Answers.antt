@@ -1,7 +1,7 @@
 use Rattle.std.proofs.Common.{rules, sym, subst, FitsSigned, w64, to_z-of_z}
-use Rattle.meanings.proofs.StateLemmas.{reads-on}
+use Rattle.sqlrows.proofs.StateLemmas.{reads-on}
 use Rattle.objects.specs.Links.{names_contact}
-use Rattle.sqldomains.specs.Links as spec
+use Rattle.sqldomains.specs.inner.Links as spec
 use Rattle.sqldomains.proofs.AnswerLemmas.{contact-nowhere, contact-unused, contact-used, use-of-contact}
 use Rattle.sqldomains.proofs.linked.is_linked_contact.Goals as goal
 

@@ -1,7 +1,7 @@
 use Rattle.std.proofs.Common.{rules, sym, subst, FitsSigned, w64, to_z-of_z}
-use Rattle.meanings.proofs.StateLemmas.{reads-on}
+use Rattle.sqlrows.proofs.StateLemmas.{reads-on}
 use Rattle.objects.specs.Links.{names_host}
-use Rattle.sqldomains.specs.Links as spec
+use Rattle.sqldomains.specs.inner.Links as spec
 use Rattle.sqldomains.proofs.AnswerLemmas.{host-nowhere, host-unused, host-used, use-of-host}
 use Rattle.sqldomains.proofs.linked.is_linked_host.Goals as goal
 

@@ -1,5 +1,5 @@
 use Rattle.std.proofs.Common.{ap, ◌∙◌}
-use Rattle.meanings.proofs.StateLemmas.{reads-on, reads-same, refused-meets, stays-on}
+use Rattle.sqlrows.proofs.StateLemmas.{reads-on, reads-same, refused-meets, stays-on}
 use Rattle.sqldomains.specs.Domains as spec
 use Rattle.sqldomains.proofs.LinkLemmas.{one-more}
 use Rattle.sqldomains.proofs.links.with_links.Goals as goal

@@ -1,7 +1,7 @@
 use Rattle.std.proofs.Common.{◌≡◌, Some, subst, ◌∙◌}
 use Rattle.std.specs.FinMap.{empty}
-use Rattle.meanings.proofs.StateLemmas.{reads-on}
-use Rattle.sqldomains.specs.Names.{name_in, with_read}
+use Rattle.sqlrows.proofs.StateLemmas.{reads-on}
+use Rattle.sqldomains.specs.inner.Names.{name_in, with_read}
 use Rattle.sqldomains.proofs.NameOrderLemmas.{names-listed}
 use Rattle.sqldomains.proofs.names_in_order.domain_names.Goals as goal
 

@@ -1,10 +1,10 @@
 use Rattle.std.proofs.Common.{rules, ◌≡◌, Some, subst, ◌∙◌, FitsSigned, w64, to_z-of_z}
 use Rattle.std.specs.FinMap.{empty}
 use Rattle.std.specs.Prelude.{filter}
-use Rattle.tables.specs.Link.{link_with_host}
-use Rattle.meanings.proofs.StateLemmas.{reads-on}
-use Rattle.sqldomains.specs.Links.{IsNumberOfHost}
-use Rattle.sqldomains.specs.Names.{name_naming, with_read}
+use Rattle.sqltables.specs.Link.{link_with_host}
+use Rattle.sqlrows.proofs.StateLemmas.{reads-on}
+use Rattle.sqldomains.specs.inner.Links.{IsNumberOfHost}
+use Rattle.sqldomains.specs.inner.Names.{name_naming, with_read}
 use Rattle.sqldomains.proofs.NameOrderLemmas.{naming-listed, none-listed}
 use Rattle.sqldomains.proofs.names_in_order.domains_naming.Goals as goal
 

@@ -1,10 +1,10 @@
 use Rattle.std.proofs.Common.{◌∙◌, sym, ap, subst, is_some}
 use Rattle.std.specs.List.{list_any}
 use Rattle.sqlite_keyed.specs.Lists.{delete_where}
-use Rattle.tables.specs.Content.{transfers_to}
-use Rattle.tables.specs.Transfer.{Transfer, transfer_with_domain}
-use Rattle.meanings.proofs.StateLemmas.{then-made}
-use Rattle.sqldomains.specs.Stages.{IsTransferCleared}
+use Rattle.sqltables.specs.inner.Content.{transfers_to}
+use Rattle.sqltables.specs.Transfer.{Transfer, transfer_with_domain}
+use Rattle.sqlrows.proofs.StateLemmas.{then-made}
+use Rattle.sqldomains.specs.inner.Stages.{IsTransferCleared}
 use Rattle.sqldomains.proofs.TransferLemmas.{clear-already, cleared}
 use Rattle.sqldomains.proofs.transfers.clear_transfer.Goals as goal
 

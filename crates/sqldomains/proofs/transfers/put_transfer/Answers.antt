@@ -1,6 +1,6 @@
-use Rattle.tables.specs.Content.{transfers_to}
-use Rattle.sqldomains.specs.Stages.{IsTransferCleared, IsTransferPut}
-use Rattle.sqlobjects.specs.Stages.{with_added}
+use Rattle.sqltables.specs.inner.Content.{transfers_to}
+use Rattle.sqldomains.specs.inner.Stages.{IsTransferCleared, IsTransferPut}
+use Rattle.sqlobjects.specs.inner.Stages.{with_added}
 use Rattle.sqlobjects.proofs.StepLemmas.{became-made}
 use Rattle.sqldomains.proofs.TransferLemmas.{transfer-put}
 use Rattle.sqldomains.proofs.transfers.put_transfer.Goals as goal

@@ -1,8 +1,8 @@
 use Rattle.std.proofs.Common.{◌+◌, [], ◌∷◌, subst, take}
 use Rattle.std.proofs.lemmas.List.{take_all}
-use Rattle.meanings.specs.Calls.{Became}
-use Rattle.meanings.proofs.StateLemmas.{then-became}
-use Rattle.sqlobjects.specs.Stages.{AreAddressesAdded}
+use Rattle.sqlrows.specs.Meanings.{HasChanged}
+use Rattle.sqlrows.proofs.StateLemmas.{then-became}
+use Rattle.sqlobjects.specs.inner.Stages.{AreAddressesAdded}
 use Rattle.sqlobjects.proofs.AddressLemmas.{next-added, none-added}
 use Rattle.sqlobjects.proofs.StepLemmas.{stood}
 use Rattle.sqlobjects.proofs.addresses.add_addresses.Goals as goal
@@ -25,4 +25,4 @@ loop-address-preserved g c =
 
 pub returns : goal.returns
 returns g c =
-    subst (λ texts. Became (AreAddressesAdded c.args.host.now.id texts) c.args.store.now c.loop-address.store) (take_all c.loop-address.address-index c.args.addresses.now c.loop-address-test.false) c.loop-address.invariant
+    subst (λ texts. HasChanged (AreAddressesAdded c.args.host.now.id texts) c.args.store.now c.loop-address.store) (take_all c.loop-address.address-index c.args.addresses.now c.loop-address-test.false) c.loop-address.invariant

@@ -1,8 +1,8 @@
 use Rattle.std.proofs.Common.{take}
-use Rattle.meanings.specs.Calls.{Became}
-use Rattle.sqlobjects.specs.Stages.{AreAddressesAdded}
+use Rattle.sqlrows.specs.Meanings.{HasChanged}
+use Rattle.sqlobjects.specs.inner.Stages.{AreAddressesAdded}
 use Rattle.sqlobjects.proofs.addresses.add_addresses.Given as goal
 
 -- those so far were added
 abbrev pub invariant-loop-address : goal.invariant-loop-address
-invariant-loop-address g l = Became (AreAddressesAdded l.host.id (take l.address-index l.addresses)) l.fn.store l.store
+invariant-loop-address g l = HasChanged (AreAddressesAdded l.host.id (take l.address-index l.addresses)) l.fn.store l.store

@@ -1,6 +1,6 @@
 use Rattle.std.proofs.Common.{[]}
-use Rattle.meanings.proofs.StateLemmas.{then-became}
-use Rattle.sqlobjects.specs.Stages.{AreAddressesAdded, AreAddressesPut}
+use Rattle.sqlrows.proofs.StateLemmas.{then-became}
+use Rattle.sqlobjects.specs.inner.Stages.{AreAddressesAdded, AreAddressesPut}
 use Rattle.sqlobjects.proofs.AddressLemmas.{addresses-put}
 use Rattle.sqlobjects.proofs.addresses.put_addresses.Goals as goal
 

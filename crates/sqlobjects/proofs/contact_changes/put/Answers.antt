@@ -1,7 +1,7 @@
 use Rattle.std.proofs.Common.{Some}
-use Rattle.tables.specs.Whole.{IsWhole}
-use Rattle.sqlobjects.specs.Changes.{IsContactPut}
-use Rattle.sqlobjects.specs.Stages.{IsContactPlaced, IsTransferPut}
+use Rattle.sqltables.specs.inner.Whole.{IsWhole}
+use Rattle.sqlobjects.specs.inner.Changes.{IsContactPut}
+use Rattle.sqlobjects.specs.inner.Stages.{IsContactPlaced, IsTransferPut}
 use Rattle.sqlobjects.proofs.ContactLemmas.{contact-put}
 use Rattle.sqlobjects.proofs.StepLemmas.{became-whole}
 use Rattle.sqlobjects.proofs.contact_changes.put.Goals as goal

@@ -1,6 +1,6 @@
 use Rattle.std.proofs.Common.{[], ◌∷◌, ◌≡◌, None, filter}
-use Rattle.tables.specs.Contact.{Contact, contact_with_name}
-use Rattle.sqlobjects.specs.Stages.{IsContactAdded, IsContactPlacedAt}
+use Rattle.sqltables.specs.Contact.{Contact, contact_with_name}
+use Rattle.sqlobjects.specs.inner.Stages.{IsContactAdded, IsContactPlacedAt}
 use Rattle.sqlobjects.proofs.ContactLemmas.{added-placed}
 use Rattle.sqlobjects.proofs.StepLemmas.{became-met}
 use Rattle.sqlobjects.proofs.contact_rows.add_row.Goals as goal

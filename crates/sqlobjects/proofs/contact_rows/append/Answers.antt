@@ -1,7 +1,7 @@
-use Rattle.rows.specs.Layouts.{appended}
-use Rattle.tables.specs.Contact.{contacts}
-use Rattle.tables.specs.Content.{contacts_to}
-use Rattle.sqlobjects.specs.Stages.{IsContactAdded}
+use Rattle.sqlrows.specs.inner.Layouts.{appended}
+use Rattle.sqltables.specs.Contact.{contacts}
+use Rattle.sqltables.specs.inner.Content.{contacts_to}
+use Rattle.sqlobjects.specs.inner.Stages.{IsContactAdded}
 use Rattle.sqlobjects.proofs.ContactLemmas.{added}
 use Rattle.sqlobjects.proofs.StepLemmas.{made}
 use Rattle.sqlobjects.proofs.contact_rows.append.Goals as goal

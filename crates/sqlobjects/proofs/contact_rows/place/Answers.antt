@@ -1,5 +1,5 @@
-use Rattle.tables.specs.Whole.{IsWhole}
-use Rattle.sqlobjects.specs.Stages.{IsContactPlaced, IsContactPlacedAt}
+use Rattle.sqltables.specs.inner.Whole.{IsWhole}
+use Rattle.sqlobjects.specs.inner.Stages.{IsContactPlaced, IsContactPlacedAt}
 use Rattle.sqlobjects.proofs.StepLemmas.{asked-brings}
 use Rattle.sqlobjects.proofs.contact_rows.place.Goals as goal
 

@@ -1,8 +1,8 @@
 use Rattle.std.proofs.Common.{Some}
 use Rattle.sqlite_keyed.specs.Keyed.{insert_by}
-use Rattle.tables.specs.Contact.{contacts}
-use Rattle.tables.specs.Content.{contacts_to}
-use Rattle.sqlobjects.specs.Stages.{IsContactPlacedAt}
+use Rattle.sqltables.specs.Contact.{contacts}
+use Rattle.sqltables.specs.inner.Content.{contacts_to}
+use Rattle.sqlobjects.specs.inner.Stages.{IsContactPlacedAt}
 use Rattle.sqlobjects.proofs.ContactLemmas.{put-placed}
 use Rattle.sqlobjects.proofs.StepLemmas.{made}
 use Rattle.sqlobjects.proofs.contact_rows.put_row.Goals as goal

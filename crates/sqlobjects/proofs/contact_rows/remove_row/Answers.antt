@@ -1,7 +1,7 @@
 use Rattle.sqlite_keyed.specs.Lists.{delete_where}
-use Rattle.tables.specs.Contact.{contact_with_id}
-use Rattle.tables.specs.Content.{contacts_to}
-use Rattle.sqlobjects.specs.Stages.{IsContactRemoved, IsTransferCleared}
+use Rattle.sqltables.specs.Contact.{contact_with_id}
+use Rattle.sqltables.specs.inner.Content.{contacts_to}
+use Rattle.sqlobjects.specs.inner.Stages.{IsContactRemoved, IsTransferCleared}
 use Rattle.sqlobjects.proofs.ContactLemmas.{removed-so}
 use Rattle.sqlobjects.proofs.StepLemmas.{became-made}
 use Rattle.sqlobjects.proofs.contact_rows.remove_row.Goals as goal

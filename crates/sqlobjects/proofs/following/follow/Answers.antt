@@ -1,6 +1,6 @@
 use Rattle.std.proofs.Common.{sym, ◌∙◌}
 use Rattle.sqlobjects.specs.Sponsors.{IsFollowed}
-use Rattle.sqlobjects.specs.Stages.{AreHostsMoved}
+use Rattle.sqlobjects.specs.inner.Stages.{AreHostsMoved}
 use Rattle.sqlobjects.proofs.FollowLemmas.{followed}
 use Rattle.sqlobjects.proofs.StepLemmas.{asked-then}
 use Rattle.sqlobjects.proofs.following.follow.Goals as goal

@@ -1,4 +1,4 @@
-use Rattle.sqlobjects.specs.Stages.{AreHostsMoved, AreWritten, with_all_moved}
+use Rattle.sqlobjects.specs.inner.Stages.{AreHostsMoved, AreWritten, with_all_moved}
 use Rattle.sqlobjects.proofs.FollowLemmas.{hosts-moved}
 use Rattle.sqlobjects.proofs.StepLemmas.{asked-turns}
 use Rattle.sqlobjects.proofs.following.move_hosts.Goals as goal

@@ -1,6 +1,6 @@
 use Rattle.std.proofs.Common.{[], ◌∷◌, ◌≡◌, None, filter}
-use Rattle.tables.specs.Host.{Host, host_with_name}
-use Rattle.sqlobjects.specs.Stages.{IsHostAdded, IsHostPlacedAt}
+use Rattle.sqltables.specs.Host.{Host, host_with_name}
+use Rattle.sqlobjects.specs.inner.Stages.{IsHostAdded, IsHostPlacedAt}
 use Rattle.sqlobjects.proofs.HostLemmas.{added-placed}
 use Rattle.sqlobjects.proofs.StepLemmas.{became-met}
 use Rattle.sqlobjects.proofs.host_rows.add_row.Goals as goal

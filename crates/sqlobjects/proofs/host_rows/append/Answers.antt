@@ -1,8 +1,8 @@
-use Rattle.rows.specs.Layouts.{appended}
-use Rattle.tables.specs.Content.{hosts_to}
-use Rattle.tables.specs.Host.{hosts}
-use Rattle.meanings.proofs.StateLemmas.{then-made}
-use Rattle.sqlobjects.specs.Stages.{IsHostAdded}
+use Rattle.sqlrows.specs.inner.Layouts.{appended}
+use Rattle.sqltables.specs.inner.Content.{hosts_to}
+use Rattle.sqltables.specs.Host.{hosts}
+use Rattle.sqlrows.proofs.StateLemmas.{then-made}
+use Rattle.sqlobjects.specs.inner.Stages.{IsHostAdded}
 use Rattle.sqlobjects.proofs.HostLemmas.{added}
 use Rattle.sqlobjects.proofs.host_rows.append.Goals as goal
 

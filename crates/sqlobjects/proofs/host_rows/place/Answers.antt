@@ -1,4 +1,4 @@
-use Rattle.sqlobjects.specs.Stages.{IsHostPlacedAt, IsHostPlacedRight}
+use Rattle.sqlobjects.specs.inner.Stages.{IsHostPlacedAt, IsHostPlacedRight}
 use Rattle.sqlobjects.proofs.StepLemmas.{asked-brings}
 use Rattle.sqlobjects.proofs.host_rows.place.Goals as goal
 

@@ -1,9 +1,9 @@
 use Rattle.std.proofs.Common.{Some}
 use Rattle.sqlite_keyed.specs.Keyed.{insert_by}
-use Rattle.tables.specs.Content.{hosts_to}
-use Rattle.tables.specs.Host.{hosts}
-use Rattle.meanings.proofs.StateLemmas.{then-made}
-use Rattle.sqlobjects.specs.Stages.{IsHostPlacedAt}
+use Rattle.sqltables.specs.inner.Content.{hosts_to}
+use Rattle.sqltables.specs.Host.{hosts}
+use Rattle.sqlrows.proofs.StateLemmas.{then-made}
+use Rattle.sqlobjects.specs.inner.Stages.{IsHostPlacedAt}
 use Rattle.sqlobjects.proofs.HostLemmas.{put-placed}
 use Rattle.sqlobjects.proofs.host_rows.put_row.Goals as goal
 

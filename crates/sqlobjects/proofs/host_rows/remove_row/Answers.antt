@@ -1,8 +1,8 @@
 use Rattle.std.proofs.Common.{[]}
 use Rattle.sqlite_keyed.specs.Lists.{delete_where}
-use Rattle.tables.specs.Content.{hosts_to}
-use Rattle.tables.specs.Host.{host_with_id}
-use Rattle.sqlobjects.specs.Stages.{AreAddressesPut, IsHostRemoved}
+use Rattle.sqltables.specs.inner.Content.{hosts_to}
+use Rattle.sqltables.specs.Host.{host_with_id}
+use Rattle.sqlobjects.specs.inner.Stages.{AreAddressesPut, IsHostRemoved}
 use Rattle.sqlobjects.proofs.HostLemmas.{removed-so}
 use Rattle.sqlobjects.proofs.StepLemmas.{became-made}
 use Rattle.sqlobjects.proofs.host_rows.remove_row.Goals as goal

@@ -1,5 +1,5 @@
-use Rattle.tables.specs.Content.{transfers_to}
-use Rattle.sqlobjects.specs.Stages.{IsTransferCleared, IsTransferPut, with_added}
+use Rattle.sqltables.specs.inner.Content.{transfers_to}
+use Rattle.sqlobjects.specs.inner.Stages.{IsTransferCleared, IsTransferPut, with_added}
 use Rattle.sqlobjects.proofs.StepLemmas.{became-made}
 use Rattle.sqlobjects.proofs.TransferLemmas.{transfer-put}
 use Rattle.sqlobjects.proofs.transfers.put_transfer.Goals as goal

@@ -1,11 +1,12 @@
 use Rattle.std.proofs.Common.{sym, subst, ap, ◌∙◌}
 use Rattle.sqlite_keyed.specs.Keyed.{insert_by}
-use Rattle.meanings.proofs.RowLemmas.{find_one}
-use Rattle.meanings.proofs.StateLemmas.{then-made}
-use Rattle.tables.specs.Account.{account_with_id, accounts}
-use Rattle.tables.specs.Content.{Content, accounts_to}
-use Rattle.tables.specs.Whole.{IsWhole}
-use Rattle.sqlterms.specs.Changes.{nameless}
+use Rattle.sqlrows.proofs.RowLemmas.{find_one}
+use Rattle.sqlrows.proofs.StateLemmas.{then-made}
+use Rattle.sqltables.specs.Account.{account_with_id, accounts}
+use Rattle.sqltables.specs.Content.{Content}
+use Rattle.sqltables.specs.inner.Content.{accounts_to}
+use Rattle.sqltables.specs.inner.Whole.{IsWhole}
+use Rattle.sqlterms.specs.inner.Changes.{nameless}
 use Rattle.sqlterms.proofs.NameLemmas.{renamed_one}
 use Rattle.sqlterms.proofs.naming.name_account.Goals as goal
 

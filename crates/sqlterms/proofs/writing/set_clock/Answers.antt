@@ -1,10 +1,10 @@
 use Rattle.std.proofs.Common.{◌∙◌, ap, subst, sym}
 use Rattle.sqlite_keyed.specs.Keyed.{insert_by}
-use Rattle.meanings.proofs.StateLemmas.{then-made}
-use Rattle.tables.specs.Content.{metas_to}
-use Rattle.tables.specs.Meta.{metas}
-use Rattle.sqlterms.specs.Changes.{IsClockSet}
-use Rattle.sqlterms.specs.Meta.{with_clock}
+use Rattle.sqlrows.proofs.StateLemmas.{then-made}
+use Rattle.sqltables.specs.inner.Content.{metas_to}
+use Rattle.sqltables.specs.Meta.{metas}
+use Rattle.sqlterms.specs.inner.Changes.{IsClockSet}
+use Rattle.sqlterms.specs.inner.Meta.{with_clock}
 use Rattle.sqlterms.proofs.MetaLemmas.{clock_is_set, clock_is_there}
 use Rattle.sqlterms.proofs.writing.set_clock.Goals as goal
 

@@ -1,9 +1,10 @@
 use Rattle.std.proofs.Common.{string_bytes, sym, ap, ◌∙◌}
 use Rattle.sqlite_keyed.specs.Keyed.{insert_by}
-use Rattle.tables.specs.Content.{Content, metas_to}
-use Rattle.tables.specs.Meta.{metas}
-use Rattle.sqlterms.specs.Changes.{ArePutBeside}
-use Rattle.sqlterms.specs.Meta.{with_terms}
+use Rattle.sqltables.specs.Content.{Content}
+use Rattle.sqltables.specs.inner.Content.{metas_to}
+use Rattle.sqltables.specs.Meta.{metas}
+use Rattle.sqlterms.specs.inner.Changes.{ArePutBeside}
+use Rattle.sqlterms.specs.inner.Meta.{with_terms}
 use Rattle.sqlterms.proofs.CallLemmas.{became-through}
 use Rattle.sqlterms.proofs.MetaLemmas.{first_moment}
 use Rattle.sqlterms.proofs.TermsLemmas.{terms_are_set}

@@ -1,6 +1,6 @@
 use Rattle.std.proofs.Common.{◌≡◌, ◌++◌, true, filter}
 use Rattle.transactions.specs.States.{Reads}
-use Rattle.store.specs.Due.{picks_by}
+use Rattle.concerns.specs.DueFor.{picks_by}
 use Rattle.store.proofs.concerning.picked_by.Given as goal
 
 -- with those of what is left that are picked, all of them

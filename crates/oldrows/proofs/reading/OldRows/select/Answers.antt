@@ -1,6 +1,7 @@
 use Rattle.std.proofs.Common.{[], subst, ◌∙◌}
 use Rattle.sqlite.specs.Held.{state}
-use Rattle.oldrows.specs.Stored.{Finds, IsRead, OldState, stands}
+use Rattle.oldrows.specs.inner.Stored.{Finds, stands}
+use Rattle.oldrows.specs.Stored.{IsRead, OldState}
 use Rattle.oldrows.proofs.AskingLemmas.{asked, fits-left, fits-shown, reads-left}
 use Rattle.oldrows.proofs.reading.OldRows.select.Goals as goal
 

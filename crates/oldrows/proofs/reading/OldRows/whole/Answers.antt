@@ -1,6 +1,7 @@
 use Rattle.std.proofs.Common.{◌≡◌, true, subst}
 use Rattle.sqlite.specs.Held.{state}
-use Rattle.oldrows.specs.Stored.{IsOldContent, OldState}
+use Rattle.oldrows.specs.inner.Stored.{IsOldContent}
+use Rattle.oldrows.specs.Stored.{OldState}
 use Rattle.oldrows.proofs.AdoptedLemmas.{whole_of}
 use Rattle.oldrows.proofs.reading.OldRows.whole.Goals as goal
 

@@ -1,5 +1,5 @@
 use Rattle.std.proofs.Common.{refl}
-use Rattle.eppsessions.proofs.LateLemmas.{answered_in_time}
+use Rattle.eppwire.proofs.LateLemmas.{answered_in_time}
 use Rattle.server.proofs.HttpLemmas.{passes_by, shown_by}
 use Rattle.model.specs.Registry.{Registry}
 use Rattle.store.specs.Faces.{contact_face_at}

@@ -1,11 +1,11 @@
 use Rattle.std.proofs.Common.{sym, ap, ◌∙◌}
 use Rattle.sqlbook.specs.Meaning.{are_right}
-use Rattle.sqlbook.specs.Seen.{are_all_right}
+use Rattle.sqlbook.specs.AsBook.{are_all_right}
 use Rattle.sqlbook.proofs.records.SqlRecordsRecords.back.Goals as goal
 
 pub invariant_of-self : goal.invariant_of-self
 invariant_of-self g c =
-    let is = c.go_back.ensures in
+    let is = c.rollback.ensures in
     let same = is.idle is.closes.closed in
     record {
       steady = record {

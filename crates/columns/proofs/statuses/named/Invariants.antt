@@ -1,6 +1,0 @@
-use Rattle.std.proofs.Common.{◌≡◌, map}
-use Rattle.objects.specs.StatusTexts.{status_text}
-use Rattle.columns.proofs.statuses.named.Given as goal
-
-abbrev pub invariant-loop-word : goal.invariant-loop-word
-invariant-loop-word l = map status_text l.statuses.items ≡ map (λ w. w.now) l.yielded

@@ -1,5 +1,0 @@
-use Rattle.eppsessions.proofs.RunLemmas.{alike-lists-send-the-same}
-use Rattle.eppsessions.proofs.laws.alike_lists_send_the_same.Goals as goal
-
-pub returns : goal.returns
-returns c = alike-lists-send-the-same

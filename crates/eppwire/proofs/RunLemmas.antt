@@ -1,0 +1,7 @@
+-- What a registrar is sent over whole runs hangs on nothing that others hide.
+use Rattle.std.proofs.Common.{map, ap}
+use Rattle.privacy.proofs.RunLemmas.{alike-lists-tell-the-same}
+use Rattle.eppwire.specs.Isolation.{AlikeListsSendTheSame, text_of}
+
+pub alike-lists-send-the-same : AlikeListsSendTheSame
+alike-lists-send-the-same p r pairs s alike = ap (map text_of) (alike-lists-tell-the-same p s r pairs alike)

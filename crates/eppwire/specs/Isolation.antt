@@ -1,0 +1,59 @@
+-- What a registrar is sent hangs on nothing that it may not see.
+use Rattle.std.specs.Prelude.{◌≡◌, ◌⊎◌, ℕ, true, List, [], map}
+use Rattle.eppcommands.specs.Session.{in_session}
+use Rattle.frames.specs.Texts.{closing_text, failed_text}
+use Rattle.eppreplies.specs.Greeting.{greeting_text}
+use Rattle.eppreplies.specs.Reply.{reply_text}
+use Rattle.model.specs.Lapse.{lapsed}
+use Rattle.model.specs.Registry.{Registry}
+use Rattle.model.specs.View.{View, view, view_for}
+use Rattle.policy.specs.Rules.{PolicyRules}
+use Rattle.privacy.specs.Alike.{Pair, AreAlike, firsts, seconds}
+use Rattle.privacy.specs.Laws.{none}
+use Rattle.privacy.specs.Runs.{Answer, code, dated, reply, shown, told}
+use Rattle.protocol.specs.declared.session.InSession.{InSession}
+use Rattle.protocol.specs.declared.session.InSession.TheVariants.{Hello, Ordinary}
+use Rattle.rules.specs.Steps.{answer}
+use Rattle.frames.specs.Outcomes.{Outcome, sent}
+use Rattle.store.specs.Book.{BookState}
+use Rattle.eppwire.specs.Answers.{AnswersRegistrar}
+
+-- a command could not be carried out, or its reply found no memory or has no frame
+abbrev pub IsFixed : List ℕ → Type 0
+IsFixed text = (text ≡ failed_text) ⊎ (text ≡ closing_text)
+
+-- what the rules answer in a registry to what a registrar says
+abbrev pub text_told : PolicyRules → ℕ → InSession → Registry → List ℕ
+text_told p r Hello s = greeting_text s.clock
+text_told p r (Ordinary c) s = reply_text (answer p r c s)
+
+-- what the registrar sees there with it
+abbrev pub view_saying : PolicyRules → ℕ → InSession → Registry → View
+view_saying p r Hello s = view p r s
+view_saying p r (Ordinary c) s = view_for p r c s
+
+-- For each frame of a registrar that is logged in, also one that is no JSON: what is sent is what the
+-- rules answer in every registry that shows the registrar the same at that moment, or a fixed text.
+abbrev pub FramesAreIsolated : Type 0
+FramesAreIsolated =
+    (p : PolicyRules) (r : ℕ) (payload : List ℕ) (moment : ℕ) (old new : BookState) (outcome : Outcome)
+    → AnswersRegistrar p r payload moment old outcome new → new.is_clean ≡ true → (other : Registry)
+    → view_saying p r (in_session payload) (lapsed p moment other) ≡ view_saying p r (in_session payload) (lapsed p moment old.content.registry)
+    → IsFixed (sent outcome)
+    ⊎ (sent outcome ≡ text_told p r (in_session payload) (lapsed p moment other))
+
+-- ---- over whole runs
+
+-- what is sent of an answer to what a registrar may have asked
+abbrev pub text_of : Answer → List ℕ
+text_of (reply it) = reply_text it
+text_of (code it) = []
+text_of (dated moment) = greeting_text moment
+text_of (shown s) = []
+
+-- Two lists of calls that differ in nothing but what others than the registrar hide tell it the same texts,
+-- byte for byte, one after another.
+abbrev pub AlikeListsSendTheSame : Type 0
+AlikeListsSendTheSame =
+    (p : PolicyRules) (r : ℕ) (pairs : List (ℕ × Pair)) (s : Registry) → AreAlike p r none pairs s s
+    → map text_of (told p r (firsts pairs) s) ≡ map text_of (told p r (seconds pairs) s)

@@ -1,0 +1,3 @@
+pub mod FrontLemmas
+pub mod SplitLemmas
+pub mod SessionLemmas

@@ -1,0 +1,5 @@
+pub mod Frames
+pub mod Texts
+pub mod Clocks
+pub mod Outcomes
+pub mod Sessions

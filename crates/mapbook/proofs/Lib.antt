@@ -1,0 +1,5 @@
+pub mod EditLemmas
+pub mod LedgerLemmas
+pub mod QuietLemmas
+pub mod PlainLemmas
+pub mod HeldLemmas

@@ -1,0 +1,37 @@
+-- What an edit leaves of records in ordered maps.
+use Rattle.std.proofs.Common.{◌≡◌, ℕ, [], Bool, true, refl, sym, ap, ◌∙◌, if◌then◌else◌}
+use Rattle.std.specs.Prelude.{is_some}
+use Rattle.std.specs.FinMap.{get}
+use Rattle.store.specs.Book.{Stored}
+use Rattle.mapbook.specs.Plain.{readiness_of}
+use Rattle.store.specs.Records.{RecordsState}
+use Rattle.transactions.specs.States.{Writes}
+use Rattle.transactions.proofs.LeavingLemmas.{leaves-refl}
+use Rattle.store.specs.Tables.{account_opened}
+use Rattle.store.proofs.PostingLemmas.{opened-same}
+
+-- in memory: what is in the maps, where going back leads, whether a transaction is open, and whether one was kept
+abbrev pub in_memory : Stored → Stored → Bool → Bool → RecordsState
+in_memory h f b u = record {
+  content = if b then h else f;
+  before = f;
+  is_open = b;
+  is_clean = true;
+  is_honest = true;
+  readiness = readiness_of u;
+  crash_leaves = [];
+}
+
+-- nothing is to be done
+already : (change : Stored → Stored) (h f : Stored) (a u : Bool) → a ≡ true → h ≡ change h → Writes (change (in_memory h f a u).content) (in_memory h f a u) (in_memory h f a u)
+already change h f a u was same = record {
+  clean = λ c. refl;
+  before = λ c. refl;
+  opened = was;
+  content = λ c. ap (λ (x : Bool). if x then h else f) was ∙ same ∙ ap (λ (x : Bool). change (if x then h else f)) (sym was);
+  answers = λ was. was;
+  leaves = leaves-refl (in_memory h f a u);
+}
+
+pub opens-same : (r : ℕ) (h f : Stored) (a u : Bool) → a ≡ true → is_some (get h.registry.accounts r) ≡ true → Writes (account_opened r (in_memory h f a u).content) (in_memory h f a u) (in_memory h f a u)
+opens-same r h f a u was there = already (account_opened r) h f a u was (opened-same r h there)

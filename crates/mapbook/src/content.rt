@@ -1,0 +1,155 @@
+//! A registry in ordered maps.
+ghost use Rattle.std.specs.Prelude.{◌≡◌, nat_le, option_map, IfOk};
+ghost use Rattle.std.specs.FinMap as finmap;
+ghost use Rattle.facts.specs.Facts as facts;
+ghost use Rattle.rules.specs.Changes as changes;
+ghost use Rattle.store.specs.Faces as faces;
+ghost use Rattle.mapbook.specs.Plain.{registry_in};
+ghost use Rattle.store.specs.Tables.{domains_naming};
+
+use crate::ledgers::Ledgers;
+use basis::list::Seq;
+use basis::maps::NameMap;
+use basis::registrar::RegistrarNo;
+use basis::text::Text;
+use calendar::Moment;
+use facts::{HOLDING_LIMIT, Superordinate};
+use objects::{Contact, Domain, Host, is_below};
+use policy::Terms;
+use std::alloc::{AllocError, Global};
+use store::with_host_renamed;
+
+#[derive(Drop)]
+pub(crate) struct Content {
+    pub alloc: Global,
+    pub contacts: NameMap<Contact>,
+    pub hosts: NameMap<Host>,
+    pub domains: NameMap<Domain>,
+    pub accounts: Ledgers,
+    pub clock: Moment,
+    pub terms: Option<Terms>,
+}
+
+// ---- who names what
+
+impl Content {
+    /// Whether a domain names the contact.
+    pub fn is_linked_contact(&self, name: &Text) -> bool
+        ensures { result ≡ facts.is_linked_contact (registry_in self.now) name.now }
+    {
+        self.domains
+            .values()
+            .any(|domain| domain.links.names_contact(name))
+    }
+
+    /// Whether a domain names the host.
+    pub fn is_linked_host(&self, name: &Text) -> bool
+        ensures { result ≡ facts.is_linked_host (registry_in self.now) name.now }
+    {
+        self.domains
+            .values()
+            .any(|domain| domain.links.names_host(name))
+    }
+
+    /// The domains that name a host, in the order of their names.
+    pub fn domains_naming(&self, host: &Text) -> Result<Seq<Text>, AllocError>
+        ensures { IfOk result (λ names. names ≡ domains_naming host.now (registry_in self.now)) }
+    {
+        let mut names = Seq::new(self.alloc);
+        for (name, domain) in self.domains.iter() {
+            if domain.links.names_host(host) {
+                names.push(name.clone()?)?;
+            }
+        }
+        Ok(names)
+    }
+
+    /// The domain under a name, as it names a host by its new name.
+    pub fn host_renamed_at(
+        &self,
+        domain: &Text,
+        from: &Text,
+        to: &Text,
+    ) -> Result<Option<Domain>, AllocError>
+        ensures { IfOk result (λ it. it ≡ option_map (changes.with_host_renamed from.now to.now)
+            (finmap.get (registry_in self.now).domains domain.now)) }
+    {
+        match self.domains.get(domain) {
+            None => Ok(None),
+            Some(domain) => Ok(Some(with_host_renamed(self.alloc, from, to, domain)?)),
+        }
+    }
+}
+
+// ---- domains and hosts
+
+impl Content {
+    /// Of a domain, what its hosts hang on.
+    pub fn superordinate(&self, domain: &Text) -> Option<Superordinate>
+        ensures { result ≡ option_map facts.superordinate_of_domain
+            (finmap.get (registry_in self.now).domains domain.now) }
+    {
+        match self.domains.get(domain) {
+            None => None,
+            Some(domain) => Some(Superordinate {
+                sponsor: domain.sponsor,
+                is_deleted: domain.deletion.is_some(),
+            }),
+        }
+    }
+
+    /// The hosts below a domain, in the order of their names.
+    pub fn subordinate(&self, domain: &Text) -> Result<Seq<Text>, AllocError>
+        ensures { IfOk result (λ names. names ≡ facts.subordinate (registry_in self.now)
+            domain.now) }
+    {
+        let mut names = Seq::new(self.alloc);
+        for name in self.hosts.keys() {
+            if is_below(domain, name) {
+                names.push(name.clone()?)?;
+            }
+        }
+        Ok(names)
+    }
+
+    /// The names of all domains, in their order.
+    pub fn domain_names(&self) -> Result<Seq<Text>, AllocError>
+        ensures { IfOk result (λ names. names ≡ faces.domain_names (registry_in self.now)) }
+    {
+        let mut names = Seq::new(self.alloc);
+        for name in self.domains.keys() {
+            names.push(name.clone()?)?;
+        }
+        Ok(names)
+    }
+
+    pub fn host_addresses(&self, name: &Text) -> Result<Option<Seq<Text>>, AllocError>
+        ensures { IfOk result (λ addresses. addresses
+            ≡ faces.host_addresses_at (registry_in self.now) name.now) }
+    {
+        match self.hosts.get(name) {
+            None => Ok(None),
+            Some(host) => Ok(Some(host.addresses.clone()?)),
+        }
+    }
+
+    /// Whether the registrar holds as many domains as it may. Where there aren't so many at all, none
+    /// is looked at.
+    pub fn is_at_holding_limit(&self, caller: RegistrarNo) -> bool
+        ensures { result ≡ nat_le HOLDING_LIMIT (facts.held caller (registry_in self.now)) }
+    {
+        if self.domains.len() < HOLDING_LIMIT {
+            return false;
+        }
+        self.count_held(caller) >= HOLDING_LIMIT
+    }
+
+    fn count_held(&self, caller: RegistrarNo) -> usize
+        ensures { result ≡ facts.held caller (registry_in self.now) }
+    {
+        self.domains
+            .values()
+            .filter(|domain| domain.is_held_by(caller))
+            .count()
+    }
+}

@@ -1,0 +1,285 @@
+//! Records in ordered maps.
+ghost use Rattle.std.specs.Prelude.{◌≡◌, false};
+ghost use Rattle.mapbook.specs.Plain as spec;
+
+use crate::edit::{Edit, copy_contact, copy_domain, copy_host, copy_terms};
+use crate::plain::Plain;
+use accounts::{Account, Counters, Line, LineChange, LineSwap, Lines, Message};
+use basis::list::Seq;
+use basis::registrar::RegistrarNo;
+use basis::text::Text;
+use calendar::Moment;
+use concerns::Names;
+use facts::Superordinate;
+use lifecycle::Due;
+use objects::{Contact, Domain, Host, Roid};
+use policy::{Policy, Terms};
+use std::alloc::Global;
+use store::Records;
+use transactions::{BookFault, Ready};
+
+/// Records in ordered maps are a book's once a transaction was kept.
+fn readiness_of(is_used: bool) -> Ready
+    ensures { result ≡ spec.readiness_of is_used }
+{
+    if is_used { Ready::Used } else { Ready::Empty }
+}
+
+impl Records for Plain {
+    ghost use Rattle.mapbook.specs.Plain.{at_begin, plain_records};
+
+    ghost kept = { plain_records };
+
+    ghost idle = { λ b e. rw e (λ i. at_begin b) };
+
+    ghost REFUSES = { false };
+
+    const REFUSES: bool = false;
+
+    fn alloc(&self) -> Global {
+        self.content.alloc
+    }
+
+    fn is_open(&self) -> bool {
+        self.is_open
+    }
+
+    fn ready(&mut self) -> Result<Ready, BookFault> {
+        self.settle()?;
+        Ok(readiness_of(self.is_used))
+    }
+
+    fn clock(&mut self) -> Result<Moment, BookFault> {
+        self.settle()?;
+        Ok(self.content.clock)
+    }
+
+    fn terms(&mut self) -> Result<Option<Terms>, BookFault> {
+        self.settle()?;
+        Ok(copy_terms(&self.content.terms)?)
+    }
+
+    fn counters(&mut self, registrar: RegistrarNo) -> Result<Counters, BookFault> {
+        self.settle()?;
+        Ok(self.content.accounts.counters(registrar))
+    }
+
+    fn balance(&mut self, registrar: RegistrarNo) -> Result<i128, BookFault> {
+        self.settle()?;
+        Ok(self.content.accounts.balance(registrar))
+    }
+
+    fn lines_on(&mut self, registrar: RegistrarNo, roid: &Roid) -> Result<Lines, BookFault> {
+        self.settle()?;
+        let alloc = self.content.alloc;
+        Ok(self.content.accounts.lines_on(alloc, registrar, roid)?)
+    }
+
+    fn swaps<C: LineChange>(
+        &mut self,
+        registrar: RegistrarNo,
+        change: &C,
+    ) -> Result<Seq<LineSwap>, BookFault> {
+        self.settle()?;
+        let alloc = self.content.alloc;
+        let swaps = self.content.accounts.swaps(alloc, registrar, change)?;
+        Ok(Seq::from_vec(swaps))
+    }
+
+    fn oldest(&mut self, registrar: RegistrarNo) -> Result<Option<Message>, BookFault> {
+        self.settle()?;
+        Ok(self.content.accounts.oldest(registrar)?)
+    }
+
+    fn waiting(&mut self, registrar: RegistrarNo) -> Result<u64, BookFault> {
+        self.settle()?;
+        Ok(self.content.accounts.waiting(registrar))
+    }
+
+    fn contact(&mut self, name: &Text) -> Result<Option<Contact>, BookFault> {
+        self.settle()?;
+        Ok(copy_contact(self.content.contacts.get(name))?)
+    }
+
+    fn domain(&mut self, name: &Text) -> Result<Option<Domain>, BookFault> {
+        self.settle()?;
+        Ok(copy_domain(self.content.domains.get(name))?)
+    }
+
+    fn host(&mut self, name: &Text) -> Result<Option<Host>, BookFault> {
+        self.settle()?;
+        Ok(copy_host(self.content.hosts.get(name))?)
+    }
+
+    fn has_contact(&mut self, name: &Text) -> Result<bool, BookFault> {
+        self.settle()?;
+        Ok(self.content.contacts.get(name).is_some())
+    }
+
+    fn has_host(&mut self, name: &Text) -> Result<bool, BookFault> {
+        self.settle()?;
+        Ok(self.content.hosts.get(name).is_some())
+    }
+
+    fn superordinate(&mut self, domain: &Text) -> Result<Option<Superordinate>, BookFault> {
+        self.settle()?;
+        Ok(self.content.superordinate(domain))
+    }
+
+    fn host_addresses(&mut self, name: &Text) -> Result<Option<Seq<Text>>, BookFault> {
+        self.settle()?;
+        Ok(self.content.host_addresses(name)?)
+    }
+
+    fn domain_names(&mut self) -> Result<Seq<Text>, BookFault> {
+        self.settle()?;
+        Ok(self.content.domain_names()?)
+    }
+
+    fn is_linked_contact(&mut self, name: &Text) -> Result<bool, BookFault> {
+        self.settle()?;
+        Ok(self.content.is_linked_contact(name))
+    }
+
+    fn is_linked_host(&mut self, name: &Text) -> Result<bool, BookFault> {
+        self.settle()?;
+        Ok(self.content.is_linked_host(name))
+    }
+
+    fn hosts_below(&mut self, domain: &Text) -> Result<Seq<Text>, BookFault> {
+        self.settle()?;
+        Ok(self.content.subordinate(domain)?)
+    }
+
+    fn domains_naming(&mut self, host: &Text) -> Result<Seq<Text>, BookFault> {
+        self.settle()?;
+        Ok(self.content.domains_naming(host)?)
+    }
+
+    fn is_at_holding_limit(&mut self, registrar: RegistrarNo) -> Result<bool, BookFault> {
+        self.settle()?;
+        Ok(self.content.is_at_holding_limit(registrar))
+    }
+
+    fn due(&mut self, moment: Moment, policy: &Policy) -> Result<Seq<Due>, BookFault> {
+        self.settle()?;
+        if self.is_quiet(moment, policy) {
+            return Ok(Seq::new(self.content.alloc));
+        }
+        self.learn_quiet(policy);
+        Ok(self.content.due_by(moment, policy)?)
+    }
+
+    /// All that is due: each object is looked at in any case.
+    fn due_near(
+        &mut self,
+        _caller: Option<RegistrarNo>,
+        _names: &Names,
+        moment: Moment,
+        policy: &Policy,
+    ) -> Result<Seq<Due>, BookFault> {
+        self.settle()?;
+        if self.is_quiet(moment, policy) {
+            return Ok(Seq::new(self.content.alloc));
+        }
+        self.learn_quiet(policy);
+        Ok(self.content.due_by(moment, policy)?)
+    }
+
+    fn set_clock(&mut self, moment: Moment) -> Result<(), BookFault> {
+        self.set(Edit::Clock(moment))
+    }
+
+    fn set_terms(&mut self, terms: Terms) -> Result<(), BookFault> {
+        self.set(Edit::Terms(Some(terms)))
+    }
+
+    fn open_account(&mut self, registrar: RegistrarNo) -> Result<(), BookFault> {
+        if self.content.accounts.has(registrar) {
+            return Ok(());
+        }
+        let account = Account::empty(self.content.alloc);
+        self.set(Edit::Account(registrar, Some(account)))
+    }
+
+    fn set_counters(
+        &mut self,
+        registrar: RegistrarNo,
+        counters: Counters,
+    ) -> Result<(), BookFault> {
+        self.set(Edit::Counters(registrar, counters))
+    }
+
+    fn add_line(&mut self, registrar: RegistrarNo, line: Line) -> Result<(), BookFault> {
+        self.set(Edit::Line(registrar, line))
+    }
+
+    fn take_line(&mut self, registrar: RegistrarNo, line: Line) -> Result<(), BookFault> {
+        self.set(Edit::RemoveLine(registrar, line))
+    }
+
+    fn put_message(&mut self, registrar: RegistrarNo, message: Message) -> Result<(), BookFault> {
+        self.set(Edit::AddMessage(registrar, message))
+    }
+
+    fn take_message(&mut self, registrar: RegistrarNo, message: Message) -> Result<(), BookFault> {
+        self.set(Edit::RemoveMessage(registrar, message))
+    }
+
+    fn put_contact(&mut self, name: Text, contact: Contact) -> Result<(), BookFault> {
+        self.set(Edit::Contact(name, Some(contact)))
+    }
+
+    fn drop_contact(&mut self, name: Text) -> Result<(), BookFault> {
+        self.set(Edit::Contact(name, None))
+    }
+
+    fn put_domain(&mut self, name: Text, domain: Domain, policy: &Policy) -> Result<(), BookFault> {
+        self.set_domain(name, domain, policy)
+    }
+
+    fn drop_domain(&mut self, name: Text, _policy: &Policy) -> Result<(), BookFault> {
+        self.set(Edit::Domain(name, None))
+    }
+
+    fn put_host(&mut self, host: Host) -> Result<(), BookFault> {
+        let name = host.name.clone()?;
+        self.set(Edit::Host(name, Some(host)))
+    }
+
+    fn drop_host(&mut self, name: Text) -> Result<(), BookFault> {
+        self.set(Edit::Host(name, None))
+    }
+
+    fn rename_host(
+        &mut self,
+        domain: &Text,
+        from: &Text,
+        to: &Text,
+        policy: &Policy,
+    ) -> Result<(), BookFault> {
+        let name = domain.clone()?;
+        match self.content.host_renamed_at(domain, from, to)? {
+            None => Ok(()),
+            Some(renamed) => self.set_domain(name, renamed, policy),
+        }
+    }
+
+    fn begin(&mut self) -> Result<(), BookFault> {
+        self.settle()?;
+        self.is_open = true;
+        Ok(())
+    }
+
+    fn commit(&mut self) -> Result<(), BookFault> {
+        self.undo = Seq::new(self.content.alloc);
+        self.is_open = false;
+        self.is_used = true;
+        Ok(())
+    }
+
+    fn back(&mut self) {
+        self.is_open = false;
+        let _ = self.undo_all();
+    }
+}

@@ -1,0 +1,220 @@
+//! How records in ordered maps are changed, and each change taken back.
+ghost use Rattle.std.specs.Prelude.{◌≡◌, true, ◌<◌, ℕ, List, [], length, OnOk, OnErr, Some};
+ghost use Rattle.store.specs.Book.{unused};
+ghost use Rattle.mapbook.specs.Contents.{registry_in};
+ghost use Rattle.model.specs.DueBy.{due_by};
+ghost use Rattle.mapbook.specs.Edits.{edited, undone_all};
+ghost use Rattle.mapbook.specs.Plain.{IsSettled, LatestUndoes, content_of, at_begin, plain_records, plain_state, without_latest};
+ghost use Rattle.mapbook.specs.Quiet.{IsQuiet};
+ghost use Rattle.transactions.specs.States.{Makes, Stays};
+ghost use Rattle.store.specs.Tables.{domain_put};
+
+use crate::content::Content;
+use crate::edit::Edit;
+use crate::lapsing::quiet_after;
+use crate::ledgers::Ledgers;
+use crate::plain::{Plain, PlainBook};
+use crate::quiet::{covers, has_days_of, sooner};
+use basis::list::Seq;
+use basis::maps::NameMap;
+use basis::text::Text;
+use calendar::Moment;
+use lifecycle::due_by;
+use objects::Domain;
+use policy::Policy;
+use std::alloc::{AllocError, Global};
+use store::Kept;
+use transactions::BookFault;
+
+/// A book with nothing in it, which was never opened.
+pub fn new_book(alloc: Global) -> PlainBook
+    ensures { plain_state result ≡ unused }
+{
+    Kept::over(Plain {
+        content: Content {
+            alloc,
+            contacts: NameMap::new(alloc),
+            hosts: NameMap::new(alloc),
+            domains: NameMap::new(alloc),
+            accounts: Ledgers::new(alloc),
+            clock: Moment::first(),
+            terms: None,
+        },
+        undo: Seq::new(alloc),
+        is_open: false,
+        is_used: false,
+        quiet: None,
+    })
+}
+
+// ---- edits that can be undone
+
+impl Plain {
+    /// Undoes what there is to undo, the latest change first.
+    pub(crate) fn undo_all(&mut self) -> Result<(), AllocError>
+        ensures at_begin { at_begin self.new ≡ at_begin self.old }
+        ensures open { self.new.is_open ≡ self.old.is_open }
+        ensures used { self.new.is_used ≡ self.old.is_used }
+        ensures ok { OnOk result (self.new.undo ≡ []) }
+    {
+        while !self.undo.is_empty() {
+            self.undo_latest()?;
+        }
+        Ok(())
+    }
+
+    /// Undoes the latest edit.
+    fn undo_latest(&mut self) -> Result<(), AllocError>
+        requires { 0 < length self.old.undo }
+        ensures at_begin { at_begin self.new ≡ at_begin self.old }
+        ensures open { self.new.is_open ≡ self.old.is_open }
+        ensures used { self.new.is_used ≡ self.old.is_used }
+        ensures ok { OnOk result (length self.new.undo < length self.old.undo) }
+    {
+        if let Some(latest) = self.undo.as_slice().last() {
+            let copy = latest.copy()?;
+            self.quiet = None;
+            self.content.set(copy)?;
+            self.undo.drop_last();
+        }
+        Ok(())
+    }
+
+    /// Keeps what undoes an edit that is to be made.
+    fn keep_inverse(&mut self, edit: &Edit) -> Result<(), AllocError>
+        ensures content { content_of self.new.content ≡ content_of self.old.content }
+        ensures open { self.new.is_open ≡ self.old.is_open }
+        ensures used { self.new.is_used ≡ self.old.is_used }
+        ensures ok { OnOk result (LatestUndoes edit.now self.old self.new) }
+        ensures err { OnErr result (at_begin self.new ≡ at_begin self.old) }
+    {
+        let inverse = self.content.inverse(edit)?;
+        self.undo.push(inverse)?;
+        Ok(())
+    }
+
+    /// Makes an edit that the latest undoes. Where there is no memory for it, the latest is dropped.
+    fn set_kept(&mut self, edit: Edit) -> Result<(), AllocError>
+        ensures open { self.new.is_open ≡ self.old.is_open }
+        ensures used { self.new.is_used ≡ self.old.is_used }
+        ensures ok { OnOk result (content_of self.new.content
+            ≡ edited edit (content_of self.old.content)) }
+        ensures kept { OnOk result (at_begin self.new
+            ≡ undone_all self.old.undo (edited edit (content_of self.old.content))) }
+        ensures err { OnErr result (at_begin self.new ≡ undone_all (without_latest self.old.undo)
+            (content_of self.old.content)) }
+    {
+        self.quiet = None;
+        match self.content.set(edit) {
+            Ok(()) => Ok(()),
+            Err(error) => {
+                self.undo.drop_last();
+                Err(error)
+            }
+        }
+    }
+
+    /// Makes an edit that can be undone.
+    fn make(&mut self, edit: Edit) -> Result<(), AllocError>
+        ensures at_begin { at_begin self.new ≡ at_begin self.old }
+        ensures open { self.new.is_open ≡ self.old.is_open }
+        ensures used { self.new.is_used ≡ self.old.is_used }
+        ensures ok { OnOk result (content_of self.new.content
+            ≡ edited edit (content_of self.old.content)) }
+    {
+        match self.keep_inverse(&edit) {
+            Ok(()) => self.set_kept(edit),
+            Err(error) => {
+                drop(edit);
+                Err(error)
+            }
+        }
+    }
+}
+
+// ---- calls
+
+impl Plain {
+    /// Undoes what was left to undo, so that what is held is the content.
+    pub(crate) fn settle(&mut self) -> Result<(), BookFault>
+        ensures ok { OnOk result (IsSettled (plain_records self.old) self.new) }
+        ensures stays { Stays (plain_records self.old) (plain_records self.new) }
+    {
+        if self.is_open {
+            return Ok(());
+        }
+        self.undo_all()?;
+        Ok(())
+    }
+
+    /// Makes an edit in the open transaction, after which it is known until when nothing is due.
+    fn set_until(&mut self, edit: Edit, quiet: Option<Moment>) -> Result<(), BookFault>
+        requires open { self.old.is_open ≡ true }
+        requires quiet { IsQuiet quiet (edited edit (content_of self.old.content)) }
+        ensures { Makes result (edited edit (plain_records self.old).content)
+            (plain_records self.old) (plain_records self.new) }
+    {
+        self.make(edit)?;
+        self.quiet = quiet;
+        Ok(())
+    }
+
+    /// Makes an edit in the open transaction.
+    pub(crate) fn set(&mut self, edit: Edit) -> Result<(), BookFault>
+        requires { self.old.is_open ≡ true }
+        ensures { Makes result (edited edit (plain_records self.old).content)
+            (plain_records self.old) (plain_records self.new) }
+    {
+        let quiet = quiet_after(self.quiet, &edit);
+        self.set_until(edit, quiet)
+    }
+
+    /// Puts a domain in the open transaction.
+    pub(crate) fn set_domain(
+        &mut self,
+        name: Text,
+        domain: Domain,
+        policy: &Policy,
+    ) -> Result<(), BookFault>
+        requires { self.old.is_open ≡ true }
+        ensures { Makes result (domain_put name (Some domain) (plain_records self.old).content)
+            (plain_records self.old) (plain_records self.new) }
+    {
+        let quiet = self.quiet_put(&domain, policy);
+        self.set_until(Edit::Domain(name, Some(domain)), quiet)
+    }
+
+    /// Until when nothing is due once a domain is put, where that is known.
+    fn quiet_put(&self, domain: &Domain, policy: &Policy) -> Option<Moment>
+        ensures { (name : List ℕ)
+            → IsQuiet result (domain_put name (Some domain.now) (content_of self.now.content)) }
+    {
+        let until = self.quiet?;
+        if !has_days_of(&self.content.terms, policy) {
+            return None;
+        }
+        Some(sooner(until, due_by(domain, until, policy)))
+    }
+
+    /// Learns until when nothing is due under a policy, where that is one that the book was opened under.
+    pub(crate) fn learn_quiet(&mut self, policy: &Policy)
+        ensures same { plain_records self.new ≡ plain_records self.old }
+        ensures content { content_of self.new.content ≡ content_of self.old.content }
+    {
+        if !has_days_of(&self.content.terms, policy) {
+            return;
+        }
+        let until = self.content.quiet_from(policy);
+        self.quiet = Some(until);
+    }
+
+    /// Whether nothing is known to be due by a moment.
+    pub(crate) fn is_quiet(&self, moment: Moment, policy: &Policy) -> bool
+        ensures { result ≡ true → due_by policy.now moment (registry_in self.now.content) ≡ [] }
+    {
+        match self.quiet {
+            None => false,
+            Some(until) => covers(until, &self.content.terms, moment, policy),
+        }
+    }
+}

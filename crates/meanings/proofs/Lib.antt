@@ -1,3 +1,0 @@
-pub mod RowLemmas
-pub mod NameLemmas
-pub mod StateLemmas

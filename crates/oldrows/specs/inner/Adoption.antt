@@ -1,0 +1,50 @@
+-- A database of the schema before this one, read anew.
+use Rattle.std.specs.Prelude.{◌≡◌, Bool, true, false, List, [], ◌∷◌}
+use Rattle.std.specs.Ordering.{int_eq}
+use Rattle.sqlite_catalog.specs.Listing.{IsSound}
+use Rattle.sqlite_trees.specs.Tree.{Trees}
+use Rattle.transactions.specs.declared.readiness.Ready.{Ready}
+use Rattle.transactions.specs.declared.readiness.Ready.TheVariants.{Empty, Used, Other}
+use Rattle.sqltables.specs.Content.{Content, no_content}
+use Rattle.sqltables.specs.Meta.{Meta}
+use Rattle.sqltables.specs.inner.FirstTables.{first_number, first_registry}
+use Rattle.oldrows.specs.Stored.{OldState}
+use Rattle.oldrows.specs.inner.Stored.{old_contents}
+
+-- the table `meta` has one row, and in it the number of that schema
+abbrev pub is_first : List Meta → Bool
+is_first [] = false
+is_first (meta ∷ []) = int_eq meta.version first_number
+is_first (meta ∷ other ∷ more) = false
+
+-- what is seen, by the tables alone
+abbrev pub IsSeenAs : Ready → Trees → Content → Type 0
+IsSeenAs Used trees content = content ≡ old_contents trees
+IsSeenAs Empty trees content = content ≡ no_content
+IsSeenAs Other trees content = content ≡ no_content
+
+-- whether it has these tables
+abbrev pub IsShapedAs : Ready → Trees → Type 0
+IsShapedAs Used trees = IsSound first_registry trees
+IsShapedAs Empty trees = ⊥
+IsShapedAs Other trees = IsSound first_registry trees → ⊥
+
+pub record IsSeen (trees : Trees) (s : OldState) : Type 0 where
+  pub content : s.is_clean ≡ true → IsSeenAs s.readiness trees s.content
+  pub shaped : s.is_clean ≡ true → IsShapedAs s.readiness trees
+
+-- the rows are seen where they have the number
+abbrev pub IsTakenAs : Ready → Trees → Content → Type 0
+IsTakenAs Used trees content = (content ≡ old_contents trees) × (is_first content.metas ≡ true)
+IsTakenAs Empty trees content = content ≡ no_content
+IsTakenAs Other trees content = content ≡ no_content
+
+-- Whether it is a registry of that schema, exactly: it has these tables, no other, and the number.
+abbrev pub IsKnownAs : Ready → Trees → Type 0
+IsKnownAs Used trees = IsSound first_registry trees × (is_first (old_contents trees).metas ≡ true)
+IsKnownAs Empty trees = ⊥
+IsKnownAs Other trees = IsSound first_registry trees → is_first (old_contents trees).metas ≡ false
+
+pub record IsAdopted (trees : Trees) (s : OldState) : Type 0 where
+  pub content : s.is_clean ≡ true → IsTakenAs s.readiness trees s.content
+  pub known : s.is_clean ≡ true → IsKnownAs s.readiness trees

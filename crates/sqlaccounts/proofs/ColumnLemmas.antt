@@ -1,0 +1,215 @@
+-- What a message is in the columns of its row, and the order of rows.
+use Rattle.std.proofs.Common.{◌≡◌, ℕ, ℤ, pos, Bool, true, false, cond, ◌&&◌, List, Option, Some, None, refl, sym, ap, subst, ◌∙◌, int_cmp, int_eq, nat_lt, nat_eq, arith}
+use Rattle.std.proofs.lemmas.Bool.{and_from, and_parts}
+use Rattle.std.proofs.lemmas.Bool.Decides.{Decides-int_eq, nat_tests}
+use Rattle.std.specs.declared.cmp.Ordering.{Ordering}
+use Rattle.std.specs.declared.cmp.Ordering.TheVariants.{Less, Equal, Greater}
+use Rattle.std.specs.Cmp.{Equal-is, IsTotalOrder, int_cmp_total, on_total, then_total, tied_itself}
+use Rattle.std.specs.Cmp.Lexicographic.{nat_list_cmp_total, slice_cmp}
+use Rattle.std.specs.FinMap.{nat_cmp-IsAntisymmetric, slice_cmp-IsAntisymmetric}
+use Rattle.std.specs.Ordering.{is_eq, is_gt, nat_cmp, ordering_then}
+use Rattle.sqlite_typed.specs.Tests.{bytes_eq}
+use Rattle.calendar.specs.Moment.{IsMoment}
+use Rattle.accounts.specs.declared.message.Message.{Message}
+use Rattle.accounts.specs.declared.message.Origin.{Origin}
+use Rattle.accounts.specs.declared.message.Origin.TheVariants.{Lapse, Command}
+use Rattle.accounts.specs.Messages.{class_of, message_cmp, number_of, subject_rank, tie_of}
+use Rattle.sqltables.specs.Message as table
+use Rattle.sqltables.specs.inner.Message as inner_table
+use Rattle.sqlrows.specs.inner.Layouts.{by_then_key}
+use Rattle.sqlcolumns.specs.Codes.{subject_in}
+use Rattle.sqlcolumns.specs.Messages.{command_made, command_notice_in, lapse_made, lapse_notice_in, message_in, message_row, origin_columns, origin_in}
+use Rattle.sqlcolumns.specs.Numbers.{exact_in, is_exact, moment_in}
+use Rattle.sqlcolumns.specs.Steps.{◌>>=◌}
+use Rattle.sqlcolumns.proofs.CodeLemmas.{subject_written}
+use Rattle.sqlcolumns.proofs.MessageLemmas.{command_notice_written, lapse_notice_written, message_back}
+use Rattle.sqlcolumns.proofs.NumberLemmas.{exact_written, moment_written}
+use Rattle.sqlcolumns.proofs.ReadLemmas.{kept, same_some, step}
+use Rattle.sqlaccounts.specs.inner.QueueRows.{IsWritten}
+
+-- ---- columns
+
+same_int : (a b : ℤ) → int_eq a b ≡ true → a ≡ b
+same_int a b e = (Decides-int_eq a b).0 e
+
+abbrev origin_at : table.Message → Option Origin
+origin_at row = origin_in (record { class = row.class; number = row.number; notice = row.notice })
+
+record IsOrigin (row : table.Message) (o : Origin) : Type 0 where
+  pub class : row.class ≡ pos (class_of o)
+  pub number : row.number ≡ pos (number_of o)
+  pub notice : row.notice ≡ pos (tie_of o)
+
+lapse_shown : (row : table.Message) (o : Origin) → row.class ≡ pos 0 → row.notice ≡ pos 0 → lapse_made (lapse_notice_in row.number) ≡ Some o → IsOrigin row o
+lapse_shown row o class notice e =
+    let letter = step (lapse_notice_in row.number) (λ l. Some (Lapse l)) o e in
+    let same : Lapse letter.given ≡ o = same_some _ _ letter.rest in
+    subst (IsOrigin row) same (record { class = class; number = sym (lapse_notice_written row.number letter.given letter.is); notice = notice })
+
+command_shown : (row : table.Message) (o : Origin) → row.class ≡ pos 1 → command_made (exact_in row.number) (command_notice_in row.notice) ≡ Some o → IsOrigin row o
+command_shown row o class e =
+    let number = step (exact_in row.number) (λ n. command_notice_in row.notice >>= (λ k. Some (Command n k))) o e in
+    let notice = step (command_notice_in row.notice) (λ k. Some (Command number.given k)) o number.rest in
+    let same : Command number.given notice.given ≡ o = same_some _ _ notice.rest in
+    let is : pos number.given ≡ row.number = (kept (pos number.given) row.number (is_exact number.given) (exact_written row.number number.given number.is)).1 in
+    subst (IsOrigin row) same (record { class = class; number = sym is; notice = sym (command_notice_written row.notice notice.given notice.is) })
+
+origin_shown : (row : table.Message) (o : Origin) → origin_at row ≡ Some o → IsOrigin row o
+origin_shown row o e = go (int_eq row.class (pos 0) && int_eq row.notice (pos 0)) (int_eq row.class (pos 1)) refl refl e
+  where
+    go : (a b : Bool) → (int_eq row.class (pos 0) && int_eq row.notice (pos 0)) ≡ a → int_eq row.class (pos 1) ≡ b
+        → cond a (lapse_made (lapse_notice_in row.number)) (cond b (command_made (exact_in row.number) (command_notice_in row.notice)) None) ≡ Some o → IsOrigin row o
+    go true b t f e =
+        let tests = and_parts (int_eq row.class (pos 0)) (int_eq row.notice (pos 0)) t in
+        lapse_shown row o (same_int row.class (pos 0) tests.0) (same_int row.notice (pos 0) tests.1) e
+    go false true t f e = command_shown row o (same_int row.class (pos 1) f) e
+    go false false t f e = cc
+
+-- the columns of a message's row
+pub record IsShown (row : table.Message) (m : Message) : Type 0 where
+  pub moment : row.moment ≡ pos m.moment
+  pub class : row.class ≡ pos (class_of m.origin)
+  pub number : row.number ≡ pos (number_of m.origin)
+  pub name : row.name ≡ m.name
+  pub subject : row.subject ≡ pos (subject_rank m.subject)
+  pub notice : row.notice ≡ pos (tie_of m.origin)
+
+pub shown : (row : table.Message) (m : Message) → message_in row ≡ Some m → IsShown row m
+shown row m e =
+    let moment = step (moment_in row.moment) _ m e in
+    let origin = step (origin_at row) _ m moment.rest in
+    let subject = step (subject_in row.subject) _ m origin.rest in
+    let same : ◌≡◌ {A = Message} (record { moment = moment.given; origin = origin.given; name = row.name; subject = subject.given }) m = same_some _ _ subject.rest in
+    let is = origin_shown row origin.given origin.is in
+    record {
+      moment = sym (moment_written row.moment moment.given moment.is) ∙ λ i. pos ((same i).moment);
+      class = is.class ∙ λ i. pos (class_of ((same i).origin));
+      number = is.number ∙ λ i. pos (number_of ((same i).origin));
+      name = λ i. (same i).name;
+      subject = sym (subject_written row.subject subject.given subject.is) ∙ λ i. pos (subject_rank ((same i).subject));
+      notice = is.notice ∙ λ i. pos (tie_of ((same i).origin));
+    }
+
+-- a message is read from the row that is written of it
+pub written_row : (id account : ℤ) (m : Message) (row : table.Message) → IsMoment m.moment → message_row id account m ≡ Some row → IsWritten account m row
+written_row id account m row is e =
+    let o = step (origin_columns m.origin) _ row e in
+    let same = same_some _ row o.rest in
+    record { account = λ i. (sym same i).account; reads = message_back id account m row is e }
+
+-- ---- rows with the same columns
+
+equal_int : (a b : ℤ) → a ≡ b → int_eq a b ≡ true
+equal_int a b e = (Decides-int_eq a b).1 e
+
+same_name : (a b : List ℕ) → bytes_eq a b ≡ true → a ≡ b
+same_name a b e = slice_cmp-IsAntisymmetric nat_cmp-IsAntisymmetric a b ((Equal-is (slice_cmp nat_cmp a b)).0 e)
+
+equal_name : (a b : List ℕ) → a ≡ b → bytes_eq a b ≡ true
+equal_name a b e = ap (bytes_eq a) (sym e) ∙ ap is_eq (tied_itself nat_list_cmp_total a)
+
+-- rows with the same columns read as the same message
+pub same_read : (r x : table.Message) (m : Message) → message_in r ≡ Some m → inner_table.is_same_message r x ≡ true → (message_in x ≡ Some m) × (x.account ≡ r.account)
+same_read r x m reads e =
+    let first = and_parts _ _ e in
+    let second = and_parts _ _ first.1 in
+    let third = and_parts _ _ second.1 in
+    let fourth = and_parts _ _ third.1 in
+    let fifth = and_parts _ _ fourth.1 in
+    let sixth = and_parts _ _ fifth.1 in
+    let account : x.account ≡ r.account = same_int x.account r.account first.0 in
+    let moment : x.moment ≡ r.moment = same_int x.moment r.moment second.0 in
+    let class : x.class ≡ r.class = same_int x.class r.class third.0 in
+    let number : x.number ≡ r.number = same_int x.number r.number fourth.0 in
+    let name : x.name ≡ r.name = same_name x.name r.name fifth.0 in
+    let subject : x.subject ≡ r.subject = same_int x.subject r.subject sixth.0 in
+    let notice : x.notice ≡ r.notice = same_int x.notice r.notice sixth.1 in
+    ((λ i. message_in (record x { moment = moment i; class = class i; number = number i; name = name i; subject = subject i; notice = notice i })) ∙ reads, account)
+
+-- and rows of one account that read as the same message have the same columns
+pub same_columns : (r x : table.Message) (m : Message) → x.account ≡ r.account → message_in r ≡ Some m → message_in x ≡ Some m → inner_table.is_same_message r x ≡ true
+same_columns r x m account reads also =
+    let a = shown x m also in
+    let b = shown r m reads in
+    and_from _ _ (equal_int x.account r.account account)
+    (and_from _ _ (equal_int x.moment r.moment (a.moment ∙ sym b.moment))
+    (and_from _ _ (equal_int x.class r.class (a.class ∙ sym b.class))
+    (and_from _ _ (equal_int x.number r.number (a.number ∙ sym b.number))
+    (and_from _ _ (equal_name x.name r.name (a.name ∙ sym b.name))
+    (and_from _ _ (equal_int x.subject r.subject (a.subject ∙ sym b.subject))
+    (equal_int x.notice r.notice (a.notice ∙ sym b.notice)))))))
+
+-- ---- the order of rows
+
+one_rank : (a b : ℕ) (x y z : Bool) → nat_lt a b ≡ x → nat_lt b a ≡ y → nat_eq a b ≡ z → cond x Less (cond y Greater Equal) ≡ cond x Less (cond z Equal Greater)
+one_rank a b true y z e f g = refl
+one_rank a b false true true e f g = absurd (grind (arith, nat_tests))
+one_rank a b false true false e f g = refl
+one_rank a b false false true e f g = refl
+one_rank a b false false false e f g = absurd (grind (arith, nat_tests))
+
+-- numbers are in the order of their columns
+pub number_cmp : (a b : ℕ) → int_cmp (pos a) (pos b) ≡ nat_cmp a b
+number_cmp a b = one_rank a b _ _ _ refl refl refl
+
+third : (a b c d : Ordering) → ordering_then a (ordering_then b (ordering_then c d)) ≡ ordering_then (ordering_then (ordering_then a b) c) d
+third Less b c d = refl
+third Greater b c d = refl
+third Equal Less c d = refl
+third Equal Greater c d = refl
+third Equal Equal c d = refl
+
+all_parts : (a b c d e f g : Ordering)
+    → ordering_then a (ordering_then b (ordering_then c (ordering_then d (ordering_then e (ordering_then f g)))))
+    ≡ ordering_then (ordering_then (ordering_then (ordering_then (ordering_then (ordering_then a b) c) d) e) f) g
+all_parts a b c d e f g =
+    third a b c (ordering_then d (ordering_then e (ordering_then f g)))
+    ∙ third (ordering_then (ordering_then a b) c) d e (ordering_then f g)
+    ∙ then_then (ordering_then (ordering_then (ordering_then (ordering_then a b) c) d) e) f g
+  where
+    then_then : (a b c : Ordering) → ordering_then a (ordering_then b c) ≡ ordering_then (ordering_then a b) c
+    then_then Less b c = refl
+    then_then Equal b c = refl
+    then_then Greater b c = refl
+
+abbrev pub row_cmp : table.Message → table.Message → Ordering
+row_cmp = by_then_key inner_table.messages inner_table.message_order
+
+-- rows that read are in the order of their messages, and then of their numbers
+pub row_order : (a b : table.Message) (m n : Message) → message_in a ≡ Some m → message_in b ≡ Some n → row_cmp a b ≡ ordering_then (message_cmp m n) (int_cmp a.id b.id)
+row_order a b m n e f =
+    let x = shown a m e in
+    let y = shown b n f in
+    (λ i. ordering_then (int_cmp (x.moment i) (y.moment i))
+    (ordering_then (int_cmp (x.class i) (y.class i))
+    (ordering_then (int_cmp (x.number i) (y.number i))
+    (ordering_then (slice_cmp nat_cmp (x.name i) (y.name i))
+    (ordering_then (int_cmp (x.subject i) (y.subject i))
+    (ordering_then (int_cmp (x.notice i) (y.notice i)) (int_cmp a.id b.id)))))))
+    ∙ (λ i. ordering_then (number_cmp m.moment n.moment i)
+    (ordering_then (number_cmp (class_of m.origin) (class_of n.origin) i)
+    (ordering_then (number_cmp (number_of m.origin) (number_of n.origin) i)
+    (ordering_then (slice_cmp nat_cmp m.name n.name)
+    (ordering_then (number_cmp (subject_rank m.subject) (subject_rank n.subject) i)
+    (ordering_then (number_cmp (tie_of m.origin) (tie_of n.origin) i) (int_cmp a.id b.id)))))))
+    ∙ all_parts (nat_cmp m.moment n.moment) (nat_cmp (class_of m.origin) (class_of n.origin)) (nat_cmp (number_of m.origin) (number_of n.origin)) (slice_cmp nat_cmp m.name n.name)
+    (nat_cmp (subject_rank m.subject) (subject_rank n.subject)) (nat_cmp (tie_of m.origin) (tie_of n.origin)) (int_cmp a.id b.id)
+
+pub row_cmp_total : IsTotalOrder row_cmp
+row_cmp_total =
+    then_total (on_total (λ (m : table.Message). m.moment) int_cmp_total)
+    (then_total (on_total (λ (m : table.Message). m.class) int_cmp_total)
+    (then_total (on_total (λ (m : table.Message). m.number) int_cmp_total)
+    (then_total (on_total (λ (m : table.Message). m.name) nat_list_cmp_total)
+    (then_total (on_total (λ (m : table.Message). m.subject) int_cmp_total)
+    (then_total (on_total (λ (m : table.Message). m.notice) int_cmp_total)
+    (on_total (λ (m : table.Message). m.id) int_cmp_total))))))
+
+not_past : (a b : Ordering) → is_gt (ordering_then a b) ≡ false → is_gt a ≡ false
+not_past Less b e = refl
+not_past Equal b e = refl
+not_past Greater b e = e
+
+-- the message of a row that stands before another's row isn't after the other's
+pub message_first : (a b : table.Message) (m n : Message) → message_in a ≡ Some m → message_in b ≡ Some n → is_gt (row_cmp a b) ≡ false → is_gt (message_cmp m n) ≡ false
+message_first a b m n e f first = not_past (message_cmp m n) (int_cmp a.id b.id) (sym (ap is_gt (row_order a b m n e f)) ∙ first)

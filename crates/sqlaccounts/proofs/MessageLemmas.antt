@@ -1,0 +1,377 @@
+-- What rows of messages mean for an account, and what one row more or less does.
+use Rattle.std.proofs.Common.{◌≡◌, ◌⊎◌, ℕ, ◌+◌, ℤ, pos, negsuc, ◌+ℤ◌, ◌<ℤ◌, Bool, true, false, cond, not, ◌&&◌, length, List, [], ◌∷◌, ◌++◌, filter, Option, Some, None, inl, inr, refl, sym, ap, subst, ◌∙◌, int_eq, arith, true≢false}
+use Rattle.std.proofs.lemmas.Bool.Decides.{Decides-int_eq, nat_tests}
+use Rattle.std.proofs.lemmas.Int.{ints}
+use Rattle.std.proofs.lemmas.List.Elements.{filter-append, filter_map-append}
+use Rattle.std.proofs.lemmas.Map.Made.{length-remove_key}
+use Rattle.std.specs.Prelude.{slice_get, ◌==◌}
+use Rattle.std.specs.Cmp.{Equal-is, nat_cmp_total}
+use Rattle.std.proofs.lemmas.List.{append-nil}
+use Rattle.std.specs.FinMap.{get, get-insert, same_map, nat_cmp-IsAntisymmetric}
+use Rattle.std.specs.List.{cons_option, filter_map, list_any}
+use Rattle.std.specs.Option.{option_map, unwrap_or}
+use Rattle.std.specs.Ordering.{eq_by_cmp, nat_cmp}
+use Rattle.sqlite_keyed.specs.Keyed.{IsKeyedBy, get_by, insert_by, next_key}
+use Rattle.sqlite_keyed.specs.Lists.{delete_where}
+use Rattle.sqlite_keyed.proofs.KeyedLemmas.{key-get_by}
+use Rattle.sqlite_keyed.proofs.ListLemmas.{filter-filter}
+use Rattle.sqlite_rules.specs.Lists.{Has}
+use Rattle.sqlite_rules.proofs.ListLemmas.{all_has, has_filtered, has_kept, some_from, some_has}
+use Rattle.sqlrows.specs.inner.Layouts.{appended}
+use Rattle.accounts.specs.declared.account.Account.{Account}
+use Rattle.accounts.specs.declared.message.Message.{Message}
+use Rattle.accounts.specs.Account.{empty_account}
+use Rattle.accounts.specs.Entries.{with_queue}
+use Rattle.accounts.specs.Lines.{balance}
+use Rattle.accounts.specs.Messages.{message_cmp}
+use Rattle.accounts.specs.Queue.{dropped, has, put}
+use Rattle.accounts.proofs.MessageLaws.{message_cmp_only}
+use Rattle.sqlcolumns.specs.Messages.{message_in}
+use Rattle.sqlcolumns.specs.Numbers.{is_place}
+use Rattle.sqltables.specs.Account as account_table
+use Rattle.sqltables.specs.Content.{Content}
+use Rattle.sqltables.specs.inner.Content.{accounts_to, messages_to}
+use Rattle.sqltables.specs.Message as table
+use Rattle.sqltables.specs.inner.Message as inner_table
+use Rattle.sqltables.specs.inner.Whole.{IsWhole}
+use Rattle.sqlaccounts.specs.Accounts.{account_in, accounts_of, balance_in, lines_of, put_all, queue_of, row_of, standing}
+use Rattle.sqlaccounts.specs.inner.Changes.{IsChange}
+use Rattle.sqlaccounts.proofs.AccountLemmas.{changed, get-accounts_of, get-found}
+use Rattle.sqlaccounts.specs.declared.queue.Found.{Found}
+use Rattle.sqlaccounts.specs.inner.QueueFound.{IsFound}
+use Rattle.sqlaccounts.specs.inner.QueueRows.{IsWaitingMore, IsWritten}
+use Rattle.sqlaccounts.proofs.ColumnLemmas.{message_first, row_cmp, row_cmp_total, same_columns, same_read}
+use Rattle.sqlaccounts.proofs.QueueLemmas.{dropped-lacking, first-put_all, has-put_all, length-put, put-there, put_all-push, put_all-without, tie, tied, without}
+use Rattle.sqlaccounts.proofs.SortLemmas.{IsLeast, least-sort_by}
+
+abbrev is_nil : {X : Type 0} → List X → Bool
+is_nil [] = true
+is_nil (x ∷ xs) = false
+
+-- ---- rows and their messages
+
+abbrev messages_in : List table.Message → List Message
+messages_in rows = filter_map message_in rows
+
+has_cons : (o : Option Message) (m : Message) (ms : List Message) → Has ms m → Has (cons_option o ms) m
+has_cons None m ms has = has
+has_cons (Some n) m ms has = inr has
+
+has_head : (o : Option Message) (m : Message) (ms : List Message) → o ≡ Some m → Has (cons_option o ms) m
+has_head o m ms e = subst (λ o. Has (cons_option o ms) m) (sym e) (inl refl)
+
+-- a row that reads is one of the messages
+has_read : (rows : List table.Message) (row : table.Message) (m : Message) → Has rows row → message_in row ≡ Some m → Has (messages_in rows) m
+has_read [] row m has e = absurd has
+has_read (x ∷ xs) row m (inl is) e = has_head (message_in x) m (messages_in xs) (ap message_in (sym is) ∙ e)
+has_read (x ∷ xs) row m (inr has) e = has_cons (message_in x) m (messages_in xs) (has_read xs row m has e)
+
+record IsRowOf (rows : List table.Message) (m : Message) : Type 0 where
+  pub row : table.Message
+  pub there : Has rows row
+  pub reads : message_in row ≡ Some m
+
+-- and each message is of a row
+read_from : (rows : List table.Message) (m : Message) → Has (messages_in rows) m → IsRowOf rows m
+read_from [] m has = absurd has
+read_from (x ∷ xs) m has = go (message_in x) refl has (read_from xs m)
+  where
+    later : IsRowOf xs m → IsRowOf (x ∷ xs) m
+    later it = record { row = it.row; there = inr it.there; reads = it.reads }
+
+    go : (o : Option Message) → message_in x ≡ o → Has (cons_option o (messages_in xs)) m → (Has (messages_in xs) m → IsRowOf xs m) → IsRowOf (x ∷ xs) m
+    go None e has rest = later (rest has)
+    go (Some n) e (inl is) rest = record { row = x; there = inl refl; reads = e ∙ ap Some (sym is) }
+    go (Some n) e (inr has) rest = later (rest has)
+
+abbrev of_account : ℤ → List table.Message → List table.Message
+of_account id rows = filter (table.message_with_account id) rows
+
+-- ---- the oldest message
+
+pub first_found : (xs : Content) (id : ℤ) (row : table.Message) (m : Message) → slice_get (inner_table.queue_of id xs.messages) 0 ≡ Some row → message_in row ≡ Some m → slice_get (queue_of xs id) 0 ≡ Some m
+first_found xs id row m first reads =
+    let rows : List table.Message = of_account id xs.messages in
+    let least : IsLeast row_cmp row_cmp_total (Some row) rows = subst (λ o. IsLeast row_cmp row_cmp_total o rows) first (least-sort_by row_cmp row_cmp_total rows) in
+    first-put_all m (messages_in rows) (has_read rows row m least.0 reads)
+    (λ n has. let it = read_from rows n has in message_first row it.row m n reads it.reads (least.1 it.row it.there))
+
+pub none_found : (xs : Content) (id : ℤ) → slice_get (inner_table.queue_of id xs.messages) 0 ≡ None → slice_get (queue_of xs id) 0 ≡ None
+none_found xs id none =
+    let rows : List table.Message = of_account id xs.messages in
+    let empty : rows ≡ [] = subst (λ o. IsLeast row_cmp row_cmp_total o rows) none (least-sort_by row_cmp row_cmp_total rows) in
+    ap (λ rows. slice_get (put_all (messages_in rows)) 0) empty
+
+has_no_row : (rows : List account_table.Account) (a : account_table.Account) (id : ℤ) → Has rows a → a.id ≡ id → get_by account_table.accounts.key rows id ≡ None → ⊥
+has_no_row [] a id has at none = has
+has_no_row (x ∷ xs) a id has at none = go (int_eq x.id id) refl has none (λ has none. has_no_row xs a id has at none)
+  where
+    go : (b : Bool) → int_eq x.id id ≡ b → (a ≡ x) ⊎ Has xs a → cond b (Some x) (get_by account_table.accounts.key xs id) ≡ None → (Has xs a → get_by account_table.accounts.key xs id ≡ None → ⊥) → ⊥
+    go true e has none rest = cc
+    go false e (inl is) none rest = true≢false (sym ((Decides-int_eq x.id id).1 (ap (λ (b : account_table.Account). b.id) (sym is) ∙ at)) ∙ e)
+    go false e (inr has) none rest = rest has none
+
+-- where there is no account there is no message for it
+no_messages : (xs : Content) (id : ℤ) → IsWhole xs → row_of xs id ≡ None → slice_get (queue_of xs id) 0 ≡ None
+no_messages xs id whole none = ap (λ rows. slice_get (put_all (messages_in rows)) 0) (go (of_account id xs.messages) (λ x has. has_filtered (table.message_with_account id) xs.messages x has))
+  where
+    go : (rows : List table.Message) → ((x : table.Message) → Has rows x → Has xs.messages x × (int_eq x.account id ≡ true)) → rows ≡ []
+    go [] each = refl
+    go (x ∷ rest) each =
+        let it = each x (inl refl) in
+        let parent = whole.linked.message_account x it.0 x.account refl in
+        absurd (has_no_row xs.accounts parent.0 id parent.1 (parent.2 ∙ (Decides-int_eq x.account id).0 it.1) none)
+
+pub oldest-found : (xs : Content) (q : ℕ) (it : Option Message) → is_place q ≡ true → IsWhole xs → slice_get (queue_of xs (pos q)) 0 ≡ it
+    → it ≡ slice_get (unwrap_or (get (accounts_of xs) q) empty_account).queue 0
+oldest-found xs q it place whole is =
+    go (row_of xs (pos q)) refl
+    ∙ ap (λ b. slice_get (unwrap_or (cond b (option_map (account_in xs) (row_of xs (pos q))) None) empty_account).queue 0) (sym place)
+    ∙ ap (λ a. slice_get (unwrap_or a empty_account).queue 0) (sym (get-accounts_of xs q))
+  where
+    go : (o : Option account_table.Account) → row_of xs (pos q) ≡ o → it ≡ slice_get (unwrap_or (option_map (account_in xs) (row_of xs (pos q))) empty_account).queue 0
+    go None e = sym is ∙ no_messages xs (pos q) whole e ∙ sym (ap (λ o. slice_get (unwrap_or (option_map (account_in xs) o) empty_account).queue 0) e)
+    go (Some row) e =
+        sym is ∙ ap (λ id. slice_get (queue_of xs id) 0) (sym (key-get_by account_table.accounts.key xs.accounts (pos q) row e))
+        ∙ sym (ap (λ o. slice_get (unwrap_or (option_map (account_in xs) o) empty_account).queue 0) e)
+
+-- ---- an account that stays as it is
+
+unchanged : (xs : Content) (r : ℕ) (f : Account → Account) (row : account_table.Account) → is_place r ≡ true → Some row ≡ row_of xs (pos r) → f (account_in xs row) ≡ account_in xs row → IsChange r f xs xs
+unchanged xs r f row place found same =
+    let there : get (accounts_of xs) r ≡ Some (account_in xs row) = get-found xs r row place (sym found) in
+    record {
+      there = (account_in xs row, there);
+      accounts = same_map nat_cmp_total nat_cmp-IsAntisymmetric _ _ (λ q. go there q (eq_by_cmp nat_cmp q r) refl ∙ sym (get-insert nat_cmp_total (accounts_of xs) r (f (unwrap_or (get (accounts_of xs) r) empty_account)) q));
+      sums = refl;
+      standings = λ id. refl;
+      others = record { metas = refl; days = refl; contacts = refl; domains = refl; hosts = refl; addresses = refl; links = refl; transfers = refl };
+    }
+  where
+    go : get (accounts_of xs) r ≡ Some (account_in xs row) → (q : ℕ) (b : Bool) → eq_by_cmp nat_cmp q r ≡ b
+        → get (accounts_of xs) q ≡ cond b (Some (f (unwrap_or (get (accounts_of xs) r) empty_account))) (get (accounts_of xs) q)
+    go there q true e =
+        ap (get (accounts_of xs)) (nat_cmp-IsAntisymmetric q r ((Equal-is (nat_cmp q r)).0 e)) ∙ there ∙ ap Some (sym same)
+        ∙ sym (ap (λ a. Some (f (unwrap_or a empty_account))) there)
+    go there q false e = refl
+
+-- ---- another queue, and as many more wait
+
+shifted : (a b step : ℤ) → int_eq (a +ℤ step) (b +ℤ step) ≡ int_eq a b
+shifted a b step = go (int_eq (a +ℤ step) (b +ℤ step)) (int_eq a b) refl refl
+  where
+    go : (c d : Bool) → int_eq (a +ℤ step) (b +ℤ step) ≡ c → int_eq a b ≡ d → c ≡ d
+    go true true e f = refl
+    go false false e f = refl
+    go true false e f =
+        let same : a +ℤ step ≡ b +ℤ step = (Decides-int_eq _ _).0 e in
+        let is : a ≡ b = omega (arith, ints, same) in
+        absurd (true≢false (sym ((Decides-int_eq a b).1 is) ∙ f))
+    go false true e f = absurd (true≢false (sym ((Decides-int_eq _ _).1 (ap (λ z. z +ℤ step) ((Decides-int_eq a b).0 f))) ∙ e))
+
+requeued : (xs : Content) (ms : List table.Message) (r : ℕ) (f : List Message → List Message) (row new : account_table.Account) (step : ℤ)
+    → is_place r ≡ true → Some row ≡ row_of xs (pos r) → IsWaitingMore step row new
+    → ((id : ℤ) → int_eq (pos r) id ≡ false → put_all (messages_in (of_account id ms)) ≡ queue_of xs id)
+    → put_all (messages_in (of_account (pos r) ms)) ≡ f (queue_of xs (pos r))
+    → pos (length (f (queue_of xs (pos r)))) ≡ pos (length (queue_of xs (pos r))) +ℤ step
+    → IsChange r (with_queue f) xs (accounts_to (λ rows. insert_by account_table.accounts.key rows new) (messages_to (λ _. ms) xs))
+requeued xs ms r f row new step place found more elsewhere here count =
+    let ys : Content = accounts_to (λ rows. insert_by account_table.accounts.key rows new) (messages_to (λ _. ms) xs) in
+    let at : row.id ≡ pos r = key-get_by account_table.accounts.key xs.accounts (pos r) row (sym found) in
+    let same : new.id ≡ row.id = ap (λ (a : account_table.Account). a.id) more.rest in
+    let queue : queue_of ys new.id ≡ f (queue_of xs row.id) = ap (queue_of ys) (same ∙ at) ∙ here ∙ sym (ap (λ id. f (queue_of xs id)) at) in
+    let cents : new.balance ≡ row.balance = ap (λ (a : account_table.Account). a.balance) more.rest in
+    let waiting : new.waiting ≡ row.waiting +ℤ step = ap (λ (a : account_table.Account). a.waiting) more.rest in
+    let counted : int_eq new.waiting (pos (length (queue_of ys new.id))) ≡ int_eq row.waiting (pos (length (queue_of xs row.id))) =
+    (λ i. int_eq (waiting i) (pos (length (queue i)))) ∙ ap (int_eq (row.waiting +ℤ step)) (ap (λ id. pos (length (f (queue_of xs id)))) at ∙ count ∙ sym (ap (λ id. pos (length (queue_of xs id)) +ℤ step) at))
+    ∙ shifted row.waiting (pos (length (queue_of xs row.id))) step in
+    changed xs ys r (with_queue f) row new place (sym found) refl same (ap standing more.rest) (λ id e. refl) elsewhere
+    (λ i. record { lines = lines_of xs (same i); queue = queue i; commands = (account_in xs (more.rest i)).commands; messages = (account_in xs (more.rest i)).messages; serial = (account_in xs (more.rest i)).serial })
+    (λ i. int_eq (balance_in (cents i)) (balance (lines_of xs (same i))) && counted i)
+    (record { metas = refl; days = refl; contacts = refl; domains = refl; hosts = refl; addresses = refl; links = refl; transfers = refl })
+
+-- ---- whether a message waits
+
+-- the rows of a message, under an account's number
+module _ (w : table.Message) (r : ℤ) (m : Message) (written : IsWritten r m w) where
+  said_there : (rows : List table.Message) (row : table.Message) → Has (filter (inner_table.is_same_message w) rows) row → list_any (tie m) (messages_in (of_account r rows)) ≡ true
+  said_there rows row has =
+      let it = has_filtered (inner_table.is_same_message w) rows row has in
+      let read = same_read w row m written.reads it.1 in
+      let mine : table.message_with_account r row ≡ true = (Decides-int_eq row.account r).1 (read.1 ∙ written.account) in
+      some_from (tie m) (messages_in (of_account r rows)) m (has_read (of_account r rows) row m (has_kept (table.message_with_account r) rows row it.0 mine) read.0) (tied m)
+
+  -- a row with these columns is there, so the message waits
+  said : (rows : List table.Message) (b : Bool) → b ≡ is_nil (filter (inner_table.is_same_message w) rows) → list_any (tie m) (messages_in (of_account r rows)) ≡ not b
+  said rows b is = go (filter (inner_table.is_same_message w) rows) refl b is (list_any (tie m) (messages_in (of_account r rows))) refl
+    where
+      go : (same : List table.Message) → filter (inner_table.is_same_message w) rows ≡ same → (b : Bool) → b ≡ is_nil same
+          → (c : Bool) → list_any (tie m) (messages_in (of_account r rows)) ≡ c → c ≡ not b
+      go [] none true is false e = refl
+      go [] none true is true e =
+          let some = some_has (tie m) (messages_in (of_account r rows)) e in
+          let it = read_from (of_account r rows) some.0 some.1 in
+          let mine = has_filtered (table.message_with_account r) rows it.row it.there in
+          let one : m ≡ some.0 = message_cmp_only m some.0 ((Equal-is (message_cmp m some.0)).0 some.2) in
+          let same = same_columns w it.row m ((Decides-int_eq it.row.account r).0 mine.1 ∙ sym written.account) written.reads (it.reads ∙ ap Some (sym one)) in
+          absurd (subst (λ rows. Has rows it.row) none (has_kept (inner_table.is_same_message w) rows it.row mine.0 same))
+      go [] none false is c e = absurd (true≢false (sym is))
+      go (x ∷ rest) some true is c e = absurd (true≢false is)
+      go (x ∷ rest) some false is c e = sym e ∙ said_there rows x (subst (λ rows. Has rows x) (sym some) (inl refl))
+
+nil_or : {X : Type 0} (xs : List X) (b : Bool) → (length xs == 0) ≡ b → b ≡ is_nil xs
+nil_or [] b e = sym e
+nil_or (x ∷ xs) true e = absurd (grind (arith, nat_tests))
+nil_or (x ∷ xs) false e = refl
+
+-- ---- a message is put
+
+module _ (xs : Content) (r : ℕ) (m : Message) (it : Found) (found : IsFound xs r m it) where
+  at : it.account.id ≡ pos r
+  at = key-get_by account_table.accounts.key xs.accounts (pos r) it.account (sym found.account)
+
+  waits : (b : Bool) → b ≡ is_nil it.same → list_any (tie m) (messages_in (of_account (pos r) xs.messages)) ≡ not b
+  waits b is = said it.row (pos r) m found.written xs.messages b (is ∙ ap is_nil found.same)
+
+  pub put_again : (length it.same == 0) ≡ false → IsChange r (with_queue (put m)) xs xs
+  put_again some =
+      unchanged xs r (with_queue (put m)) it.account found.place found.account
+      (λ i. record (account_in xs it.account) { queue = (ap (λ id. put m (queue_of xs id)) at ∙ put-there m (messages_in (of_account (pos r) xs.messages)) (waits false (nil_or it.same false some)) ∙ ap (queue_of xs) (sym at)) i })
+
+  pub nothing_taken : it.same ≡ [] → IsChange r (with_queue (dropped m)) xs xs
+  nothing_taken none =
+      let lacks : has m (queue_of xs (pos r)) ≡ false = has-put_all m (messages_in (of_account (pos r) xs.messages)) ∙ waits true (sym (ap is_nil none)) in
+      unchanged xs r (with_queue (dropped m)) it.account found.place found.account
+      (λ i. record (account_in xs it.account) { queue = (ap (λ id. dropped m (queue_of xs id)) at ∙ dropped-lacking m (queue_of xs (pos r)) lacks ∙ ap (queue_of xs) (sym at)) i })
+
+  -- the rows with one more
+  one : ℤ → table.Message
+  one id = record it.row { id = id }
+
+  key_now : ℤ
+  key_now = next_key inner_table.messages.key xs.messages
+
+  elsewhere : (id : ℤ) → int_eq (pos r) id ≡ false → of_account id (one key_now ∷ []) ≡ []
+  unfolding one
+  elsewhere id apart = ap (λ b. cond b (one key_now ∷ []) []) (ap (λ a. int_eq a id) found.written.account ∙ apart)
+
+  here : of_account (pos r) (one key_now ∷ []) ≡ one key_now ∷ []
+  unfolding one
+  here = ap (λ b. cond b (one key_now ∷ []) []) ((Decides-int_eq it.row.account (pos r)).1 found.written.account)
+
+  pub put_in : (new : account_table.Account) → (length it.same == 0) ≡ true → IsWaitingMore (pos 1) it.account new
+      → IsChange r (with_queue (put m)) xs (accounts_to (λ rows. insert_by account_table.accounts.key rows new) (messages_to (appended inner_table.messages (λ id. record it.row { id = id })) xs))
+  unfolding one key_now
+  put_in new none more =
+      let ms : List table.Message = xs.messages ++ one key_now ∷ [] in
+      let before : List Message = messages_in (of_account (pos r) xs.messages) in
+      let lacks : has m (queue_of xs (pos r)) ≡ false = has-put_all m before ∙ waits true (nil_or it.same true none) in
+      requeued xs ms r (put m) it.account new (pos 1) found.place found.account more
+      (λ id apart.
+      ap (λ rows. put_all (messages_in rows)) (filter-append (table.message_with_account id) xs.messages (one key_now ∷ []) ∙ ap (λ rows. of_account id xs.messages ++ rows) (elsewhere id apart))
+      ∙ ap (λ rows. put_all (messages_in rows)) (append-nil (of_account id xs.messages)))
+      (ap (λ rows. put_all (messages_in rows)) (filter-append (table.message_with_account (pos r)) xs.messages (one key_now ∷ []) ∙ ap (λ rows. of_account (pos r) xs.messages ++ rows) here)
+      ∙ ap put_all (filter_map-append message_in (of_account (pos r) xs.messages) (one key_now ∷ []) ∙ ap (λ o. before ++ cons_option o []) found.written.reads)
+      ∙ put_all-push before m)
+      (ap pos (length-put m (queue_of xs (pos r)) lacks))
+
+-- ---- a message is taken
+
+not_below : (a b : ℤ) → a ≡ b → a <ℤ b → ⊥
+not_below a b e below = grind (arith, ints)
+
+one_key : (xs : List table.Message) (y f : table.Message) → IsKeyedBy inner_table.messages.key xs → Has xs y → Has xs f → y.id ≡ f.id → y ≡ f
+one_key [] y f keyed has also same = absurd has
+one_key (x ∷ xs) y f keyed (inl e) (inl g) same = e ∙ sym g
+one_key (x ∷ xs) y f keyed (inl e) (inr also) same =
+    let below : x.id <ℤ f.id = all_has (λ (z : table.Message). x.id <ℤ z.id) xs f keyed.0 also in
+    absurd (not_below y.id f.id same (subst (λ (z : table.Message). z.id <ℤ f.id) (sym e) below))
+one_key (x ∷ xs) y f keyed (inr has) (inl g) same =
+    let below : x.id <ℤ y.id = all_has (λ (z : table.Message). x.id <ℤ z.id) xs y keyed.0 has in
+    absurd (not_below f.id y.id (sym same) (subst (λ (z : table.Message). z.id <ℤ y.id) (sym g) below))
+one_key (x ∷ xs) y f keyed (inr has) (inr also) same = one_key xs y f keyed.1 has also same
+
+filter_alike : {X : Type 0} (p q : X → Bool) (xs : List X) → ((x : X) → Has xs x → p x ≡ q x) → filter p xs ≡ filter q xs
+filter_alike p q [] alike = refl
+filter_alike p q (x ∷ xs) alike =
+    ap (λ b. cond b (x ∷ filter p xs) (filter p xs)) (alike x (inl refl))
+    ∙ ap (λ rest. cond (q x) (x ∷ rest) rest) (filter_alike p q xs (λ y has. alike y (inr has)))
+
+one_test : (a b : Bool) → (a ≡ true → b ≡ true) → (b ≡ true → a ≡ true) → a ≡ b
+one_test true true f g = refl
+one_test false false f g = refl
+one_test true false f g = sym (f refl)
+one_test false true f g = g refl
+
+module _ (xs : Content) (r : ℕ) (m : Message) (it : Found) (found : IsFound xs r m it) (whole : IsWhole xs) (f : table.Message) (only_one : it.same ≡ f ∷ []) where
+  abbrev is_it : table.Message → Bool
+  is_it y = inner_table.is_same_message it.row y
+
+  all_of_it : filter is_it xs.messages ≡ f ∷ []
+  all_of_it = sym found.same ∙ only_one
+
+  f_there : Has xs.messages f × (is_it f ≡ true)
+  f_there = has_filtered is_it xs.messages f (subst (λ rows. Has rows f) (sym all_of_it) (inl refl))
+
+  only_f : (y : table.Message) → (y ≡ f) ⊎ ⊥ → y ≡ f
+  only_f y (inl e) = e
+  only_f y (inr e) = absurd e
+
+  -- the row with its number is the one with its columns
+  same_removed : delete_where (inner_table.message_with_id f.id) xs.messages ≡ delete_where is_it xs.messages
+  same_removed = filter_alike (λ y. not (inner_table.message_with_id f.id y)) (λ y. not (is_it y)) xs.messages (λ y has. ap not (one_test (inner_table.message_with_id f.id y) (is_it y)
+      (λ e. ap is_it (one_key xs.messages y f whole.keyed.messages has f_there.0 ((Decides-int_eq y.id f.id).0 e)) ∙ f_there.1)
+      (λ e. (Decides-int_eq y.id f.id).1 (ap (λ (z : table.Message). z.id) (only_f y (subst (λ rows. Has rows y) all_of_it (has_kept is_it xs.messages y has e)))))))
+
+  apart : (id : ℤ) (y : table.Message) → int_eq (pos r) id ≡ false → table.message_with_account id y ≡ true → not (is_it y) ≡ true
+  apart id y e mine = go (is_it y) refl
+    where
+      go : (b : Bool) → is_it y ≡ b → not b ≡ true
+      go false is = refl
+      go true is = absurd (true≢false (sym (ap (λ a. int_eq a id) (sym ((same_read it.row y m found.written.reads is).1 ∙ found.written.account)) ∙ mine) ∙ e))
+
+  -- others' messages stay, and one's own but this
+  kept_elsewhere : (id : ℤ) → int_eq (pos r) id ≡ false → of_account id (delete_where is_it xs.messages) ≡ of_account id xs.messages
+  kept_elsewhere id e = filter-filter (table.message_with_account id) (λ y. not (is_it y)) (λ y mine. apart id y e mine) xs.messages
+
+  left : (rows : List table.Message) → messages_in (of_account (pos r) (delete_where is_it rows)) ≡ without m (messages_in (of_account (pos r) rows))
+  left [] = refl
+  left (y ∷ ys) = go (table.message_with_account (pos r) y) (is_it y) (message_in y) refl refl refl (left ys)
+    where
+      go : (mine same : Bool) (o : Option Message) → table.message_with_account (pos r) y ≡ mine → is_it y ≡ same → message_in y ≡ o
+          → messages_in (of_account (pos r) (delete_where is_it ys)) ≡ without m (messages_in (of_account (pos r) ys))
+          → messages_in (of_account (pos r) (cond (not same) (y ∷ delete_where is_it ys) (delete_where is_it ys))) ≡ without m (messages_in (cond mine (y ∷ of_account (pos r) ys) (of_account (pos r) ys)))
+      go false true o a b e more = more
+      go false false o a b e more = ap (λ t. messages_in (cond t (y ∷ of_account (pos r) (delete_where is_it ys)) (of_account (pos r) (delete_where is_it ys)))) a ∙ more
+      go true true o a b e more =
+          more ∙ sym (ap (λ n. without m (cons_option n (messages_in (of_account (pos r) ys)))) (same_read it.row y m found.written.reads b).0 ∙ ap (λ t. cond (not t) (m ∷ without m (messages_in (of_account (pos r) ys))) (without m (messages_in (of_account (pos r) ys)))) (tied m))
+      go true false None a b e more =
+          ap (λ t. messages_in (cond t (y ∷ of_account (pos r) (delete_where is_it ys)) (of_account (pos r) (delete_where is_it ys)))) a
+          ∙ ap (λ n. cons_option n (messages_in (of_account (pos r) (delete_where is_it ys)))) e ∙ more
+          ∙ sym (ap (λ n. without m (cons_option n (messages_in (of_account (pos r) ys)))) e)
+      go true false (Some n) a b e more =
+          ap (λ t. messages_in (cond t (y ∷ of_account (pos r) (delete_where is_it ys)) (of_account (pos r) (delete_where is_it ys)))) a
+          ∙ ap (λ n. cons_option n (messages_in (of_account (pos r) (delete_where is_it ys)))) e ∙ ap (λ ms. n ∷ ms) more
+          ∙ sym (ap (λ n. without m (cons_option n (messages_in (of_account (pos r) ys)))) e
+          ∙ ap (λ t. cond (not t) (n ∷ without m (messages_in (of_account (pos r) ys))) (without m (messages_in (of_account (pos r) ys)))) (untied (tie m n) refl))
+        where
+          untied : (t : Bool) → tie m n ≡ t → tie m n ≡ false
+          untied false is = is
+          untied true is =
+              let one : m ≡ n = message_cmp_only m n ((Equal-is (message_cmp m n)).0 is) in
+              let columns : is_it y ≡ true = same_columns it.row y m ((Decides-int_eq y.account (pos r)).0 a ∙ sym found.written.account) found.written.reads (e ∙ ap Some (sym one)) in
+              absurd (true≢false (sym columns ∙ b))
+
+  fewer : (q : ℕ) (n : ℕ) → q + 1 ≡ n → pos q ≡ pos n +ℤ negsuc 0
+  fewer q n e = omega (arith, ints, e)
+
+  pub taken : (new : account_table.Account) → IsWaitingMore (negsuc 0) it.account new
+      → IsChange r (with_queue (dropped m)) xs (accounts_to (λ rows. insert_by account_table.accounts.key rows new) (messages_to (delete_where (inner_table.message_with_id f.id)) xs))
+  taken new more =
+      let ms : List table.Message = delete_where (inner_table.message_with_id f.id) xs.messages in
+      let before : List Message = messages_in (of_account (pos r) xs.messages) in
+      let there : list_any (tie m) before ≡ true = said it.row (pos r) m found.written xs.messages false (sym (ap is_nil all_of_it)) in
+      requeued xs ms r (dropped m) it.account new (negsuc 0) found.place found.account more
+      (λ id e. ap (λ rows. put_all (messages_in (of_account id rows))) same_removed ∙ ap (λ rows. put_all (messages_in rows)) (kept_elsewhere id e))
+      (ap (λ rows. put_all (messages_in (of_account (pos r) rows))) same_removed ∙ ap put_all (left xs.messages) ∙ put_all-without m before)
+      (fewer (length (dropped m (queue_of xs (pos r)))) (length (queue_of xs (pos r))) (length-remove_key (tie m) (queue_of xs (pos r)) (has-put_all m before ∙ there)))

@@ -1,0 +1,94 @@
+-- A registry of the schema before this one, taken over.
+use Rattle.std.specs.Prelude.{◌≡◌, Bool, true, false, List, [], ◌∷◌, map, Result, Ok, Err}
+use Rattle.oldrows.specs.declared.copying.TableName.{TableName}
+use Rattle.oldrows.specs.declared.copying.TableName.TheVariants.{Metas, Accounts, Contacts, Domains, Hosts, Addresses, Links, Messages, Transfers}
+use Rattle.oldrows.specs.inner.Copies.{IsLeft, put_all}
+use Rattle.oldrows.specs.Copies.{renumbered}
+use Rattle.oldrows.specs.Stored.{IsRead, OldState}
+use Rattle.policy.specs.declared.schedule.Schedule.{Schedule}
+use Rattle.policy.specs.Rules.{PolicyRules}
+use Rattle.sqltables.specs.Content.{Content}
+use Rattle.sqltables.specs.inner.Content.{lines_to}
+use Rattle.sqltables.specs.Line.{lines}
+use Rattle.transactions.specs.declared.fault.BookFault.{BookFault}
+use Rattle.transactions.specs.declared.readiness.Ready.TheVariants.{Empty, Used}
+use Rattle.transactions.specs.States.{Closes, Fails, Keeps, LeavesSame, Reads, StateOf}
+use Rattle.sqlbook.specs.declared.migrating.MigrateFault.{MigrateFault}
+use Rattle.sqlbook.specs.declared.migrating.MigrateFault.TheVariants.{Policy, Schema, Memory, Store}
+use Rattle.sqlbook.specs.Meaning.{are_right, stored_of}
+use Rattle.sqlbook.specs.Migrating.{fault_of, numbered_anew, ended, suits, redated}
+
+-- the same rows as today's tables have them
+abbrev pub taken : Schedule → Content → Content
+taken days xs = record xs { metas = map renumbered xs.metas; lines = ended days xs.lines }
+
+-- the tables with the clock and the terms, and the others but for that of lines
+abbrev pub heads : List TableName
+heads = Metas ∷ Accounts ∷ []
+
+abbrev pub others : List TableName
+others = Contacts ∷ Domains ∷ Hosts ∷ Addresses ∷ Links ∷ Messages ∷ Transfers ∷ []
+
+-- lines, put beside those of another database with the ends of their graces
+abbrev pub put_lines : Schedule → Content → Content → Content
+put_lines days from = lines_to (put_all lines.key (ended days from.lines))
+
+-- in the open transaction a registry was taken over
+pub record IsTakenOver (p : PolicyRules) (from read : OldState) (to written : StateOf Content) : Type 0 where
+  pub reads : IsRead from read
+  pub clean : written.is_clean ≡ true → to.is_clean ≡ true
+  pub before : written.is_clean ≡ true → written.before ≡ to.before
+  pub opened : written.is_open ≡ true
+  pub leaves : LeavesSame to written
+  pub fits : read.is_clean ≡ true → written.is_clean ≡ true
+      → suits p (stored_of from.content) ≡ true
+  pub stored : read.is_clean ≡ true → written.is_clean ≡ true
+      → stored_of written.content ≡ redated p (stored_of from.content)
+  pub sums : read.is_clean ≡ true → written.is_clean ≡ true
+      → are_right written.content ≡ are_right (numbered_anew from.content)
+  pub lines_are : read.is_clean ≡ true → written.is_clean ≡ true
+      → written.content.lines ≡ ended p.days from.content.lines
+
+-- in the open transaction it was seen that the policy doesn't suit
+pub record IsRefused (p : PolicyRules) (from read : OldState) (to written : StateOf Content) : Type 0 where
+  pub reads : IsRead from read
+  pub clean : written.is_clean ≡ true → to.is_clean ≡ true
+  pub before : written.is_clean ≡ true → written.before ≡ to.before
+  pub leaves : LeavesSame to written
+  pub differs : read.is_clean ≡ true → written.is_clean ≡ true
+      → suits p (stored_of from.content) ≡ false
+
+abbrev pub TakesOver : Result Bool BookFault → PolicyRules → OldState → OldState → StateOf Content
+    → StateOf Content → Type 0
+TakesOver (Ok true) p from read to written = IsTakenOver p from read to written
+TakesOver (Ok false) p from read to written = IsRefused p from read to written
+TakesOver (Err fault) p from read to written = IsLeft from read to written
+
+-- ---- how the transaction ends
+
+-- What was taken over is kept, or a commit of it failed; else all is undone.
+abbrev pub EndsAs : {A : Type 0} → Result A MigrateFault → Result Bool BookFault → StateOf Content
+    → StateOf Content → Type 0
+EndsAs (Ok done) (Ok true) old new = Keeps old new
+EndsAs (Err Memory) (Ok true) old new = Fails old new
+EndsAs (Err Store) (Ok true) old new = Fails old new
+EndsAs (Err Policy) (Ok true) old new = ⊥
+EndsAs (Err Schema) (Ok true) old new = ⊥
+EndsAs (Ok done) (Ok false) old new = ⊥
+EndsAs (Err fault) (Ok false) old new = (fault ≡ Policy) × Closes old.before old new
+EndsAs (Ok done) (Err why) old new = ⊥
+EndsAs (Err fault) (Err why) old new = (fault ≡ fault_of why) × Closes old.before old new
+
+-- ---- what is said of the whole
+
+-- whether there is something to take, and a place to put it
+pub record AreAsked (said : Bool) (from read : OldState) (to written : StateOf Content) : Type 0 where
+  pub reads : IsRead from read
+  pub back : Reads to written
+  pub other : said ≡ false → read.is_clean ≡ true → written.is_clean ≡ true
+      → ((from.readiness ≡ Used) × (to.readiness ≡ Empty)) → ⊥
+
+abbrev pub AreReady : Result Bool BookFault → OldState → OldState → StateOf Content
+    → StateOf Content → Type 0
+AreReady (Ok said) from read to written = AreAsked said from read to written
+AreReady (Err fault) from read to written = IsLeft from read to written

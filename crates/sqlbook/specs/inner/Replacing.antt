@@ -1,0 +1,54 @@
+-- One domain in the place of another, over rows.
+use Rattle.std.specs.Prelude.{◌≡◌, ℕ, true, IfSome, List, Option, Some, None}
+use Rattle.std.specs.FinMap.{get}
+use Rattle.sqlite_rules.specs.Lists.{Has}
+use Rattle.objects.specs.declared.domain.Domain.{Domain}
+use Rattle.policy.specs.declared.schedule.Schedule.{Schedule}
+use Rattle.rules.specs.Changes.{with_host_renamed}
+use Rattle.store.specs.Book.{Stored}
+use Rattle.store.specs.Tables.{amended, with_domains}
+use Rattle.sqltables.specs.Content.{Content}
+use Rattle.sqltables.specs.Domain as table
+use Rattle.sqltables.specs.inner.Whole.{IsWhole}
+use Rattle.sqldomains.specs.inner.Changes.{IsDomainPut, sponsor_in}
+use Rattle.sqldomains.specs.Domains.{domains_of}
+use Rattle.sqlsums.specs.Dues.{is_due_right}
+use Rattle.sqlsums.specs.inner.Recounts.{IsRecounted}
+use Rattle.sqlobjects.specs.Sponsors.{IsFollowed}
+use Rattle.sqlterms.specs.Terms.{days_of}
+
+-- this domain, or none, stands under a name, its row's column is right, and no other days were put down
+pub record IsStanding (name : List ℕ) (days : Schedule) (xs : Content) (domain : Option Domain) : Type 0 where
+  pub days_are : IfSome (days_of xs) (λ d. d ≡ days)
+  pub domain_is : get (domains_of xs) name ≡ domain
+  pub due : (row : table.Domain) → Has xs.domains row → row.name ≡ name
+      → is_due_right days xs row ≡ true
+
+-- the moment goes with a domain
+abbrev pub due_with : Option Domain → ℕ → Option ℕ
+due_with None due = None
+due_with (Some domain) due = Some due
+
+-- what stands under a name, a domain or none, names the host of the one name by the other
+abbrev pub with_renamed : List ℕ → List ℕ → List ℕ → Option Domain → Stored → Stored
+with_renamed from to name before s =
+    with_domains (amended (with_host_renamed from to) s.registry.domains name before) s
+
+-- the registrars' domains are counted anew, and then the one is put in the place of the other
+pub record IsExchanged (name : List ℕ) (before after : Option Domain) (due : ℕ) (old new : Content) : Type 0 where
+  pub mid : Content
+  pub counted : IsRecounted before after old mid
+  pub put : IsDomainPut name after (due_with after due) mid new
+
+-- the same with that which stands under the name
+pub record IsExchangedThere (name : List ℕ) (days : Schedule) (after : Option Domain) (due : ℕ) (old new : Content) : Type 0 where
+  pub before : Option Domain
+  pub whole : IsWhole old
+  pub standing : IsStanding name days old before
+  pub exchanged : IsExchanged name before after due old new
+
+-- the hosts below follow before
+pub record IsReplaced (name : List ℕ) (days : Schedule) (after : Option Domain) (due : ℕ) (old new : Content) : Type 0 where
+  pub moved : Content
+  pub followed : IsFollowed name (sponsor_in after) old moved
+  pub exchanged : IsExchangedThere name days after due moved new

@@ -1,0 +1,56 @@
+//! Questions to a book over rows that no crate below answers as a book asks them.
+ghost use Rattle.std.specs.Prelude.{◌≡◌, option_map};
+ghost use Rattle.std.specs.FinMap.{get};
+ghost use Rattle.facts.specs.Facts.{superordinate_of_domain};
+ghost use Rattle.sqlrows.specs.Meanings.{FindsIfRight};
+ghost use Rattle.model.specs.Registry.{account_of};
+ghost use Rattle.accounts.specs.Counters.{counters_of};
+ghost use Rattle.transactions.specs.States.{Finds};
+ghost use Rattle.sqlaccounts.specs.Accounts.{sums_are_right};
+ghost use Rattle.sqlbook.specs.Meaning.{registry_of};
+
+use accounts::Counters;
+use basis::registrar::RegistrarNo;
+use basis::text::Text;
+use facts::Superordinate;
+use objects::Domain;
+use sqlite::Alter;
+use sqltables::RowStore;
+use std::alloc::Global;
+use transactions::BookFault;
+
+/// What a registrar's account counts: 0 where it was never opened.
+pub fn counters<S: Alter>(
+    store: &mut RowStore<S>,
+    registrar: RegistrarNo,
+) -> Result<Counters, BookFault>
+    ensures { FindsIfRight result (sums_are_right store.old.content)
+        (counters_of (account_of registrar (registry_of store.old.content))) store.old store.new }
+{
+    sqlaccounts::counts(store, registrar)
+}
+
+/// Of a domain, what its hosts hang on.
+pub fn superordinate<S: Alter>(
+    store: &mut RowStore<S>,
+    alloc: Global,
+    name: &Text,
+) -> Result<Option<Superordinate>, BookFault>
+    ensures { Finds result (option_map superordinate_of_domain
+        (get (registry_of store.old.content).domains name.now)) store.old store.new }
+{
+    let domain = sqldomains::domain(store, alloc, name)?;
+    Ok(superordinate_of(domain))
+}
+
+fn superordinate_of(domain: Option<Domain>) -> Option<Superordinate>
+    ensures { result ≡ option_map superordinate_of_domain domain }
+{
+    match domain {
+        None => None,
+        Some(domain) => Some(Superordinate {
+            sponsor: domain.sponsor,
+            is_deleted: domain.deletion.is_some(),
+        }),
+    }
+}

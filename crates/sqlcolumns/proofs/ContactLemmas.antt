@@ -1,0 +1,69 @@
+-- A contact is read from its row and its transfer, and from no others.
+use Rattle.std.proofs.Common.{◌≡◌, ℤ, cond, Option, Some, None, sym, ap, ◌∙◌}
+use Rattle.objects.specs.declared.contact.Contact.{Contact}
+use Rattle.objects.specs.declared.roid.ObjectKind.TheVariants as kinds
+use Rattle.objects.specs.declared.transfer.Transfer.{Transfer}
+use Rattle.sqltables.specs.Contact as table
+use Rattle.sqlcolumns.specs.inner.Contacts.{IsContact, contact_row, postal_row, postal_with, registration_of, row_with}
+use Rattle.sqlcolumns.specs.Contacts.{columns_of, contact_in, contact_with, postal_in}
+use Rattle.sqlcolumns.specs.Registrations.{registration_columns, registration_in}
+use Rattle.sqlcolumns.specs.Steps.{◌>>=◌}
+use Rattle.sqlcolumns.specs.Texts.{statuses_in, street_column, street_in}
+use Rattle.sqlcolumns.specs.Transfers.{is_same, maybe_due_column}
+use Rattle.sqlcolumns.proofs.ReadLemmas.{kept, passed, same_some, step}
+use Rattle.sqlcolumns.proofs.RegistrationLemmas.{registration_back, registration_is, registration_written}
+use Rattle.sqlcolumns.proofs.TextLemmas.{statuses_back, statuses_written, street_back, street_written}
+use Rattle.sqlcolumns.proofs.TransferLemmas.{same_as_itself, same_is_equal}
+
+-- what was written is read back
+pub contact_back : (id : ℤ) (c : Contact) (row : table.Contact) → IsContact c → contact_row id c ≡ Some row → contact_in row c.transfer ≡ Some c
+contact_back id c row is e =
+    let columns = step (registration_columns kinds.Contact (registration_of c)) (λ x. postal_row c.postal >>= (λ p. Some (row_with id c x p))) row e in
+    let postal = step (postal_row c.postal) (λ p. Some (row_with id c columns.given p)) row columns.rest in
+    let street = step (street_column c.postal.street) (λ s. Some (postal_with c.postal s)) postal.given postal.is in
+    let written : table.Contact = row_with id c columns.given (postal_with c.postal street.given) in
+    let same : written ≡ row = ap (row_with id c columns.given) (same_some (postal_with c.postal street.given) postal.given street.rest) ∙ same_some (row_with id c columns.given postal.given) row postal.rest in
+    let due = maybe_due_column c.transfer in
+    sym (ap (λ (x : table.Contact). contact_in x c.transfer) same)
+    ∙ (λ i. registration_back kinds.Contact (registration_of c) columns.given is columns.is i >>= (λ r.
+    statuses_back c.statuses i >>= (λ s.
+    cond (is_same due due) (Some (contact_with written r s (street_back c.postal.street street.given street.is i) c.transfer)) None)))
+    ∙ passed c (is_same due due) (same_as_itself due)
+
+record IsRead (row : table.Contact) (transfer : Option Transfer) (c : Contact) : Type 0 where
+  pub registration : registration_in kinds.Contact (columns_of row) ≡ Some (registration_of c)
+  pub statuses : statuses_in row.statuses ≡ Some c.statuses
+  pub due : maybe_due_column transfer ≡ row.due
+  pub made : contact_with row (registration_of c) c.statuses (street_in row.postal.street) transfer ≡ c
+
+is_read : (row : table.Contact) (transfer : Option Transfer) (c : Contact) → contact_in row transfer ≡ Some c → IsRead row transfer c
+is_read row transfer c e =
+    let r = step (registration_in kinds.Contact (columns_of row)) _ c e in
+    let s = step (statuses_in row.statuses) _ c r.rest in
+    let due = kept (contact_with row r.given s.given (street_in row.postal.street) transfer) c (is_same (maybe_due_column transfer) row.due) s.rest in
+    record {
+      registration = r.is ∙ λ i. Some (registration_of (due.1 i));
+      statuses = s.is ∙ λ i. Some ((due.1 i).statuses);
+      due = same_is_equal (maybe_due_column transfer) row.due due.0;
+      made = sym (λ i. contact_with row (registration_of (due.1 i)) ((due.1 i).statuses) (street_in row.postal.street) transfer) ∙ due.1;
+    }
+
+-- what is read was written so
+pub contact_written : (row : table.Contact) (transfer : Option Transfer) (c : Contact) → contact_in row transfer ≡ Some c → contact_row row.id c ≡ Some row
+contact_written row transfer c e =
+    let read = is_read row transfer c e in
+    let street = street_in row.postal.street in
+    let made : Contact = contact_with row (registration_of c) c.statuses street transfer in
+    sym (ap (contact_row row.id) read.made)
+    ∙ (λ i. registration_written kinds.Contact (columns_of row) (registration_of c) read.registration i >>= (λ x.
+    (street_written row.postal.street i >>= (λ s. Some (postal_with (postal_in row.postal street) s))) >>= (λ p.
+    Some (row_with row.id made x p))))
+    ∙ (λ i. Some (record row { statuses = statuses_written row.statuses c.statuses read.statuses i; due = read.due i }))
+
+-- with this transfer
+pub contact_transfer : (row : table.Contact) (transfer : Option Transfer) (c : Contact) → contact_in row transfer ≡ Some c → c.transfer ≡ transfer
+contact_transfer row transfer c e = sym (ap (λ (x : Contact). x.transfer) (is_read row transfer c e).made)
+
+-- and is a contact's
+pub contact_is : (row : table.Contact) (transfer : Option Transfer) (c : Contact) → contact_in row transfer ≡ Some c → IsContact c
+contact_is row transfer c e = registration_is kinds.Contact (columns_of row) (registration_of c) (is_read row transfer c e).registration

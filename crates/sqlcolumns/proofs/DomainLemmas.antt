@@ -1,0 +1,142 @@
+-- A domain is read from its row, its links and its transfer, and from no others.
+use Rattle.std.proofs.Common.{◌≡◌, ℕ, ℤ, Option, Some, None, IfSome, refl, sym, ap, ◌∙◌}
+use Rattle.objects.specs.declared.domain.Deletion.{Deletion}
+use Rattle.objects.specs.declared.domain.Domain.{Domain}
+use Rattle.objects.specs.declared.domain.Links.{Links}
+use Rattle.objects.specs.declared.roid.ObjectKind.TheVariants as kinds
+use Rattle.objects.specs.declared.transfer.Transfer.{Transfer}
+use Rattle.sqltables.specs.Domain as table
+use Rattle.sqlcolumns.specs.declared.domain.DeletionColumns.{DeletionColumns}
+use Rattle.sqlcolumns.specs.inner.Domains.{IsDeletion, IsDomain, deletion_columns, domain_row, registration_of, row_with}
+use Rattle.sqlcolumns.specs.Domains.{columns_of, deletion_in, domain_in, domain_with, some_deletion_in}
+use Rattle.sqlcolumns.specs.Numbers.{maybe_moment_in, moment_column, moment_in, years_in}
+use Rattle.sqlcolumns.specs.Registrations.{registration_columns, registration_in}
+use Rattle.sqlcolumns.specs.Steps.{◌>>=◌}
+use Rattle.sqlcolumns.specs.Texts.{statuses_in}
+use Rattle.sqlcolumns.proofs.NumberLemmas.{maybe_moment_back, maybe_moment_is, maybe_moment_written, moment_back, moment_is, moment_written, years_are, years_back, years_written}
+use Rattle.sqlcolumns.proofs.ReadLemmas.{same_some, step}
+use Rattle.sqlcolumns.proofs.RegistrationLemmas.{registration_back, registration_is, registration_written}
+use Rattle.sqlcolumns.proofs.TextLemmas.{statuses_back, statuses_written}
+
+-- ---- deletions
+
+abbrev read_deletion : DeletionColumns → Option (Option Deletion)
+read_deletion columns = deletion_in columns.deleted columns.restore_requested
+
+pub deletion_back : (d : Option Deletion) → IfSome d IsDeletion → read_deletion (deletion_columns d) ≡ Some d
+deletion_back None is = refl
+deletion_back (Some d) is =
+    λ i. moment_back d.deleted is.deleted i >>= (λ m.
+    maybe_moment_back d.restore_requested is.restore_requested i >>= (λ r.
+    Some (Some (record { deleted = m; restore_requested = r }))))
+
+record DeletionRead (deleted : ℤ) (restore_requested : Option ℤ) (d : Deletion) : Type 0 where
+  pub deleted_is : moment_in deleted ≡ Some d.deleted
+  pub restore_requested_is : maybe_moment_in restore_requested ≡ Some d.restore_requested
+
+deletion_read : (deleted : ℤ) (restore_requested : Option ℤ) (d : Deletion) → some_deletion_in deleted restore_requested ≡ Some (Some d) → DeletionRead deleted restore_requested d
+deletion_read deleted restore_requested d e =
+    let m = step (moment_in deleted) _ (Some d) e in
+    let r = step (maybe_moment_in restore_requested) _ (Some d) m.rest in
+    let some : ◌≡◌ {A = Option Deletion} (Some (record { deleted = m.given; restore_requested = r.given })) (Some d) = same_some _ _ r.rest in
+    let same : ◌≡◌ {A = Deletion} (record { deleted = m.given; restore_requested = r.given }) d = same_some _ _ some in
+    record {
+      deleted_is = m.is ∙ λ i. Some ((same i).deleted);
+      restore_requested_is = r.is ∙ λ i. Some ((same i).restore_requested);
+    }
+
+pub no_deletion : (deleted : ℤ) (restore_requested : Option ℤ) → some_deletion_in deleted restore_requested ≡ Some None → ⊥
+no_deletion deleted restore_requested e =
+    let m = step (moment_in deleted) _ None e in
+    let r = step (maybe_moment_in restore_requested) _ None m.rest in
+    let some : ◌≡◌ {A = Option Deletion} (Some (record { deleted = m.given; restore_requested = r.given })) None = same_some _ _ r.rest in
+    cc
+
+pub deletion_written : (deleted restore_requested : Option ℤ) (d : Option Deletion) → deletion_in deleted restore_requested ≡ Some d → deletion_columns d ≡ record { deleted = deleted; restore_requested = restore_requested }
+deletion_written None None d e = sym (ap deletion_columns (same_some None d e))
+deletion_written None (Some r) d e = cc
+deletion_written (Some m) r None e = absurd (no_deletion m r e)
+deletion_written (Some m) r (Some d) e =
+    let read = deletion_read m r d e in
+    λ i. record { deleted = Some (moment_written m d.deleted read.deleted_is i); restore_requested = maybe_moment_written r d.restore_requested read.restore_requested_is i }
+
+pub deletion_is : (deleted restore_requested : Option ℤ) (d : Option Deletion) → deletion_in deleted restore_requested ≡ Some d → IfSome d IsDeletion
+deletion_is None None None e = tt
+deletion_is None None (Some d) e = cc
+deletion_is None (Some r) d e = cc
+deletion_is (Some m) r None e = tt
+deletion_is (Some m) r (Some d) e =
+    let read = deletion_read m r d e in
+    record { deleted = moment_is m d.deleted read.deleted_is; restore_requested = maybe_moment_is r d.restore_requested read.restore_requested_is }
+
+-- ---- domains
+
+-- what was written is read back
+pub domain_back : (id registrant : ℤ) (due : ℕ) (d : Domain) (row : table.Domain) → IsDomain d → domain_row id registrant due d ≡ Some row → domain_in row d.links d.transfer ≡ Some d
+domain_back id registrant due d row is e =
+    let columns = step (registration_columns kinds.Domain (registration_of d)) (λ x. Some (row_with id registrant due d x (deletion_columns d.deletion))) row e in
+    let written : table.Domain = row_with id registrant due d columns.given (deletion_columns d.deletion) in
+    let same = same_some written row columns.rest in
+    sym (ap (λ (x : table.Domain). domain_in x d.links d.transfer) same)
+    ∙ (λ i. registration_back kinds.Domain (registration_of d) columns.given is.registration columns.is i >>= (λ r.
+    years_back d.years is.years i >>= (λ y.
+    statuses_back d.statuses i >>= (λ s.
+    deletion_back d.deletion is.deletion i >>= (λ x.
+    Some (domain_with written r y s x d.links d.transfer))))))
+
+record IsRead (row : table.Domain) (links : Links) (transfer : Option Transfer) (d : Domain) : Type 0 where
+  pub registration : registration_in kinds.Domain (columns_of row) ≡ Some (registration_of d)
+  pub years : years_in row.years ≡ Some d.years
+  pub statuses : statuses_in row.statuses ≡ Some d.statuses
+  pub deletion : deletion_in row.deleted row.restore_requested ≡ Some d.deletion
+  pub made : domain_with row (registration_of d) d.years d.statuses d.deletion links transfer ≡ d
+
+is_read : (row : table.Domain) (links : Links) (transfer : Option Transfer) (d : Domain) → domain_in row links transfer ≡ Some d → IsRead row links transfer d
+is_read row links transfer d e =
+    let r = step (registration_in kinds.Domain (columns_of row)) _ d e in
+    let y = step (years_in row.years) _ d r.rest in
+    let s = step (statuses_in row.statuses) _ d y.rest in
+    let x = step (deletion_in row.deleted row.restore_requested) _ d s.rest in
+    let same = same_some (domain_with row r.given y.given s.given x.given links transfer) d x.rest in
+    record {
+      registration = r.is ∙ λ i. Some (registration_of (same i));
+      years = y.is ∙ λ i. Some ((same i).years);
+      statuses = s.is ∙ λ i. Some ((same i).statuses);
+      deletion = x.is ∙ λ i. Some ((same i).deletion);
+      made = sym (λ i. domain_with row (registration_of (same i)) ((same i).years) ((same i).statuses) ((same i).deletion) links transfer) ∙ same;
+    }
+
+-- what is read was written so
+pub domain_written : (row : table.Domain) (links : Links) (transfer : Option Transfer) (d : Domain) (due : ℕ) → moment_column due ≡ row.due → domain_in row links transfer ≡ Some d → domain_row row.id row.registrant due d ≡ Some row
+domain_written row links transfer d due due_is e =
+    let read = is_read row links transfer d e in
+    let made : Domain = domain_with row (registration_of d) d.years d.statuses d.deletion links transfer in
+    sym (ap (domain_row row.id row.registrant due) read.made)
+    ∙ (λ i. registration_written kinds.Domain (columns_of row) (registration_of d) read.registration i >>= (λ x.
+    Some (row_with row.id row.registrant due made x (deletion_written row.deleted row.restore_requested d.deletion read.deletion i))))
+    ∙ (λ i. Some (record row {
+      years = years_written row.years d.years read.years i;
+      statuses = statuses_written row.statuses d.statuses read.statuses i;
+      due = due_is i;
+    }))
+
+-- with these links and this transfer
+pub domain_links : (row : table.Domain) (links : Links) (transfer : Option Transfer) (d : Domain) → domain_in row links transfer ≡ Some d → d.links ≡ links
+domain_links row links transfer d e = sym (ap (λ (x : Domain). x.links) (is_read row links transfer d e).made)
+
+pub domain_transfer : (row : table.Domain) (links : Links) (transfer : Option Transfer) (d : Domain) → domain_in row links transfer ≡ Some d → d.transfer ≡ transfer
+domain_transfer row links transfer d e = sym (ap (λ (x : Domain). x.transfer) (is_read row links transfer d e).made)
+
+-- and is a domain's
+pub domain_is : (row : table.Domain) (links : Links) (transfer : Option Transfer) (d : Domain) → domain_in row links transfer ≡ Some d → IsDomain d
+domain_is row links transfer d e =
+    let read = is_read row links transfer d e in
+    record {
+      registration = registration_is kinds.Domain (columns_of row) (registration_of d) read.registration;
+      years = years_are row.years d.years read.years;
+      deletion = deletion_is row.deleted row.restore_requested d.deletion read.deletion;
+    }
+
+-- what is read was deleted as its row says
+pub deletion_reads : (row : table.Domain) (links : Links) (transfer : Option Transfer) (d : Domain) → domain_in row links transfer ≡ Some d → deletion_in row.deleted row.restore_requested ≡ Some d.deletion
+deletion_reads row links transfer d e = (is_read row links transfer d e).deletion

@@ -1,0 +1,35 @@
+-- A host is read from its row.
+use Rattle.std.proofs.Common.{◌≡◌, ℕ, ℤ, List, true, cond, Option, Some, None, refl, sym, ap, ◌∙◌}
+use Rattle.std.specs.Str.{bytes_eq}
+use Rattle.std.proofs.lemmas.Slice.Eq.{bytes_eq-Decides}
+use Rattle.objects.specs.declared.host.Host.{Host}
+use Rattle.objects.specs.declared.roid.ObjectKind.TheVariants as kinds
+use Rattle.sqltables.specs.Host as table
+use Rattle.sqlcolumns.specs.Above.{above}
+use Rattle.sqlcolumns.specs.inner.Hosts.{IsHost, host_row, row_with}
+use Rattle.sqlcolumns.specs.Hosts.{host_in, host_with}
+use Rattle.sqlcolumns.specs.Roids.{roid_columns}
+use Rattle.sqlcolumns.specs.Steps.{◌>>=◌}
+use Rattle.sqlcolumns.proofs.NumberLemmas.{maybe_moment_back, maybe_registrar_back, moment_back}
+use Rattle.sqlcolumns.proofs.ReadLemmas.{passed, same_some, step}
+use Rattle.sqlcolumns.proofs.RoidLemmas.{roid_back}
+use Rattle.sqlcolumns.proofs.TextLemmas.{statuses_back}
+
+same_bytes : (text : List ℕ) → bytes_eq text text ≡ true
+same_bytes text = (bytes_eq-Decides text text).1 refl
+
+-- what was written is read back
+pub host_back : (id : ℤ) (sponsor : Option ℤ) (h : Host) (row : table.Host) → IsHost h → host_row id sponsor h ≡ Some row → host_in row h.addresses ≡ Some h
+host_back id sponsor h row is e =
+    let roid = step (roid_columns kinds.Host h.roid) (λ x. Some (row_with id sponsor h x)) row e in
+    let written : table.Host = row_with id sponsor h roid.given in
+    let same : written ≡ row = same_some written row roid.rest in
+    sym (ap (λ (x : table.Host). host_in x h.addresses) same)
+    ∙ (λ i. (roid_back kinds.Host h.roid roid.given is.roid roid.is i >>= (λ x.
+    maybe_registrar_back h.external_sponsor is.external_sponsor i >>= (λ s.
+    moment_back h.created is.created i >>= (λ c.
+    maybe_moment_back h.updated is.updated i >>= (λ u.
+    Some (record { roid = x; external_sponsor = s; created = c; updated = u })))))) >>= (λ columns.
+    statuses_back h.statuses i >>= (λ s.
+    cond (bytes_eq (above h.name) (above h.name)) (Some (host_with written columns s h.addresses)) None)))
+    ∙ passed h (bytes_eq (above h.name) (above h.name)) (same_bytes (above h.name))

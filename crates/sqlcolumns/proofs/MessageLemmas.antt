@@ -1,0 +1,139 @@
+-- A message is read from its row, and from no other.
+use Rattle.std.proofs.Common.{◌≡◌, ℤ, pos, Bool, true, false, cond, ◌&&◌, Option, Some, None, refl, sym, ap, ◌∙◌}
+use Rattle.std.proofs.lemmas.Bool.{and_parts}
+use Rattle.std.proofs.lemmas.Bool.Decides.{Decides-int_eq}
+use Rattle.std.specs.Ordering.{int_eq}
+use Rattle.calendar.specs.Moment.{IsMoment}
+use Rattle.accounts.specs.declared.message.CommandNotice.{CommandNotice}
+use Rattle.accounts.specs.declared.message.CommandNotice.TheVariants as commands
+use Rattle.accounts.specs.declared.message.LapseNotice.{LapseNotice}
+use Rattle.accounts.specs.declared.message.LapseNotice.TheVariants.{RenewedAutomatically, Purged, TransferApproved}
+use Rattle.accounts.specs.declared.message.Message.{Message}
+use Rattle.accounts.specs.declared.message.Origin.{Origin}
+use Rattle.accounts.specs.declared.message.Origin.TheVariants.{Lapse, Command}
+use Rattle.sqltables.specs.Message as table
+use Rattle.sqlcolumns.specs.declared.origin.OriginColumns.{OriginColumns}
+use Rattle.sqlcolumns.specs.Codes.{subject_column, subject_in, with_code}
+use Rattle.sqlcolumns.specs.Numbers.{exact_column, exact_in, moment_column, moment_in}
+use Rattle.sqlcolumns.specs.Steps.{◌>>=◌}
+use Rattle.sqlcolumns.specs.Messages.{all_command_notices, all_lapse_notices, command_made, command_notice_column, command_notice_in, lapse_made, lapse_notice_column, lapse_notice_in, message_in, message_made, message_row, origin_columns, origin_in}
+use Rattle.sqlcolumns.proofs.CodeLemmas.{code_written, has_code, subject_back, subject_written}
+use Rattle.sqlcolumns.proofs.NumberLemmas.{exact_back, exact_written, moment_back, moment_is, moment_written}
+use Rattle.sqlcolumns.proofs.ReadLemmas.{same_some, step}
+
+-- ---- codes
+
+pub lapse_notice_back : (n : LapseNotice) → lapse_notice_in (lapse_notice_column n) ≡ Some n
+lapse_notice_back RenewedAutomatically = refl
+lapse_notice_back Purged = refl
+lapse_notice_back TransferApproved = refl
+
+pub with_lapse_notice_column : (c : ℤ) (n : LapseNotice) → c ≡ lapse_notice_column n → with_code lapse_notice_column all_lapse_notices c ≡ Some n
+with_lapse_notice_column c n e = ap (with_code lapse_notice_column all_lapse_notices) e ∙ lapse_notice_back n
+
+pub lapse_notice_written : (c : ℤ) (n : LapseNotice) → lapse_notice_in c ≡ Some n → lapse_notice_column n ≡ c
+lapse_notice_written c n e = code_written lapse_notice_column all_lapse_notices c n e
+
+pub ruleset lapse_notices_by_code = (has_code, with_lapse_notice_column)
+
+pub command_notice_back : (n : CommandNotice) → command_notice_in (command_notice_column n) ≡ Some n
+command_notice_back commands.TransferRequested = refl
+command_notice_back commands.TransferApproved = refl
+command_notice_back commands.TransferRejected = refl
+command_notice_back commands.TransferCancelled = refl
+
+pub with_command_notice_column : (c : ℤ) (n : CommandNotice) → c ≡ command_notice_column n → with_code command_notice_column all_command_notices c ≡ Some n
+with_command_notice_column c n e = ap (with_code command_notice_column all_command_notices) e ∙ command_notice_back n
+
+pub command_notice_written : (c : ℤ) (n : CommandNotice) → command_notice_in c ≡ Some n → command_notice_column n ≡ c
+command_notice_written c n e = code_written command_notice_column all_command_notices c n e
+
+pub ruleset command_notices_by_code = (has_code, with_command_notice_column)
+
+-- ---- origins
+
+-- what was written is read back
+pub origin_back : (origin : Origin) (c : OriginColumns) → origin_columns origin ≡ Some c → origin_in c ≡ Some origin
+origin_back (Lapse notice) c e =
+    let same : ◌≡◌ {A = OriginColumns} (record { class = pos 0; number = lapse_notice_column notice; notice = pos 0 }) c = same_some _ _ e in
+    sym (ap origin_in same) ∙ (λ i. lapse_made (lapse_notice_back notice i))
+origin_back (Command number notice) c e =
+    let n = step (exact_column number) (λ z. Some (record { class = pos 1; number = z; notice = command_notice_column notice })) c e in
+    let same : ◌≡◌ {A = OriginColumns} (record { class = pos 1; number = n.given; notice = command_notice_column notice }) c = same_some _ _ n.rest in
+    sym (ap origin_in same) ∙ (λ i. command_made (exact_back number n.given n.is i) (command_notice_back notice i))
+
+lapse_written : (c : OriginColumns) (origin : Origin) → c.class ≡ pos 0 → c.notice ≡ pos 0 → lapse_made (lapse_notice_in c.number) ≡ Some origin → origin_columns origin ≡ Some c
+lapse_written c origin class notice e =
+    let letter = step (lapse_notice_in c.number) (λ l. Some (Lapse l)) origin e in
+    let same : Lapse letter.given ≡ origin = same_some _ _ letter.rest in
+    sym (ap origin_columns same)
+    ∙ (λ i. Some (record { class = sym class i; number = lapse_notice_written c.number letter.given letter.is i; notice = sym notice i }))
+
+command_written : (c : OriginColumns) (origin : Origin) → c.class ≡ pos 1 → command_made (exact_in c.number) (command_notice_in c.notice) ≡ Some origin → origin_columns origin ≡ Some c
+command_written c origin class e =
+    let number = step (exact_in c.number) (λ n. command_notice_in c.notice >>= (λ k. Some (Command n k))) origin e in
+    let notice = step (command_notice_in c.notice) (λ k. Some (Command number.given k)) origin number.rest in
+    let same : Command number.given notice.given ≡ origin = same_some _ _ notice.rest in
+    sym (ap origin_columns same)
+    ∙ (λ i. exact_written c.number number.given number.is i >>= (λ z. Some (record { class = sym class i; number = z; notice = command_notice_written c.notice notice.given notice.is i })))
+
+at_tests : (origin : Origin) (P : Type 0) (lapse command : Option Origin) (a b : Bool) → (a ≡ true → lapse ≡ Some origin → P) → (b ≡ true → command ≡ Some origin → P) → cond a lapse (cond b command None) ≡ Some origin → P
+at_tests origin P lapse command true b l k e = l refl e
+at_tests origin P lapse command false true l k e = k refl e
+at_tests origin P lapse command false false l k e = cc
+
+-- what is read was written so
+pub origin_written : (c : OriginColumns) (origin : Origin) → origin_in c ≡ Some origin → origin_columns origin ≡ Some c
+origin_written c origin e =
+    at_tests origin (origin_columns origin ≡ Some c) (lapse_made (lapse_notice_in c.number)) (command_made (exact_in c.number) (command_notice_in c.notice))
+    (int_eq c.class (pos 0) && int_eq c.notice (pos 0)) (int_eq c.class (pos 1))
+    (λ t. let tests = and_parts (int_eq c.class (pos 0)) (int_eq c.notice (pos 0)) t in
+    lapse_written c origin ((Decides-int_eq c.class (pos 0)).0 tests.0) ((Decides-int_eq c.notice (pos 0)).0 tests.1))
+    (λ t. command_written c origin ((Decides-int_eq c.class (pos 1)).0 t))
+    e
+
+-- ---- messages
+
+abbrev origin_of : table.Message → OriginColumns
+origin_of row = record { class = row.class; number = row.number; notice = row.notice }
+
+abbrev row_with : ℤ → ℤ → Message → OriginColumns → table.Message
+row_with id account m o = record { id = id; account = account; moment = moment_column m.moment; class = o.class; number = o.number; name = m.name; subject = subject_column m.subject; notice = o.notice }
+
+-- what was written is read back
+pub message_back : (id account : ℤ) (m : Message) (row : table.Message) → IsMoment m.moment → message_row id account m ≡ Some row → message_in row ≡ Some m
+message_back id account m row is e =
+    let o = step (origin_columns m.origin) (λ o. Some (row_with id account m o)) row e in
+    let same = same_some (row_with id account m o.given) row o.rest in
+    sym (ap message_in same)
+    ∙ (λ i. message_made (moment_back m.moment is i) (origin_back m.origin o.given o.is i) (subject_back m.subject i) m.name)
+
+record IsRead (row : table.Message) (m : Message) : Type 0 where
+  pub moment : moment_in row.moment ≡ Some m.moment
+  pub origin : origin_in (origin_of row) ≡ Some m.origin
+  pub subject : subject_in row.subject ≡ Some m.subject
+  pub name : row.name ≡ m.name
+
+is_read : (row : table.Message) (m : Message) → message_in row ≡ Some m → IsRead row m
+is_read row m e =
+    let moment = step (moment_in row.moment) _ m e in
+    let origin = step (origin_in (origin_of row)) _ m moment.rest in
+    let subject = step (subject_in row.subject) _ m origin.rest in
+    let same : ◌≡◌ {A = Message} (record { moment = moment.given; origin = origin.given; name = row.name; subject = subject.given }) m = same_some _ _ subject.rest in
+    record {
+      moment = moment.is ∙ λ i. Some ((same i).moment);
+      origin = origin.is ∙ λ i. Some ((same i).origin);
+      subject = subject.is ∙ λ i. Some ((same i).subject);
+      name = λ i. (same i).name;
+    }
+
+-- what is read was written so
+pub message_written : (row : table.Message) (m : Message) → message_in row ≡ Some m → message_row row.id row.account m ≡ Some row
+message_written row m e =
+    let read = is_read row m e in
+    (λ i. origin_written (origin_of row) m.origin read.origin i >>= (λ o. Some (row_with row.id row.account m o)))
+    ∙ (λ i. Some (record row { moment = moment_written row.moment m.moment read.moment i; name = sym read.name i; subject = subject_written row.subject m.subject read.subject i }))
+
+-- and is of a moment
+pub message_is : (row : table.Message) (m : Message) → message_in row ≡ Some m → IsMoment m.moment
+message_is row m e = moment_is row.moment m.moment (is_read row m e).moment

@@ -1,0 +1,90 @@
+-- A transfer is read from its row, and from no other.
+use Rattle.std.proofs.Common.{◌≡◌, ℤ, true, false, cond, Option, Some, None, refl, sym, ap, ◌∙◌}
+use Rattle.std.proofs.lemmas.Bool.{false≢true}
+use Rattle.std.proofs.lemmas.Bool.Decides.{Decides-int_eq}
+use Rattle.objects.specs.declared.transfer.Transfer.{Transfer}
+use Rattle.sqltables.specs.Transfer as table
+use Rattle.sqlcolumns.specs.Codes.{state_in}
+use Rattle.sqlcolumns.specs.Numbers.{moment_in, registrar_in}
+use Rattle.sqlcolumns.specs.Steps.{◌>>=◌}
+use Rattle.sqlcolumns.specs.Transfers.{IsTransfer, due_column, is_same, transfer_in, transfer_made, transfer_row, with_due}
+use Rattle.sqlcolumns.proofs.CodeLemmas.{state_back, state_written}
+use Rattle.sqlcolumns.proofs.NumberLemmas.{moment_back, moment_is, moment_written, registrar_back, registrar_is, registrar_written}
+use Rattle.sqlcolumns.proofs.ReadLemmas.{kept, passed, same_some, step}
+
+-- ---- when it is due
+
+pub same_is_equal : (a b : Option ℤ) → is_same a b ≡ true → a ≡ b
+same_is_equal None None e = refl
+same_is_equal (Some a) (Some b) e = ap Some ((Decides-int_eq a b).0 e)
+same_is_equal None (Some b) e = absurd (false≢true e)
+same_is_equal (Some a) None e = absurd (false≢true e)
+
+pub same_as_itself : (a : Option ℤ) → is_same a a ≡ true
+same_as_itself None = refl
+same_as_itself (Some a) = (Decides-int_eq a a).1 refl
+
+-- ---- transfers
+
+-- what was written is read back
+pub transfer_back : (id : ℤ) (contact domain : Option ℤ) (t : Transfer) → IsTransfer t → transfer_in (transfer_row id contact domain t) ≡ Some t
+transfer_back id contact domain t is =
+    (λ i. with_due (transfer_made
+    (registrar_back t.requester is.requester i)
+    (registrar_back t.losing_registrar is.losing_registrar i)
+    (moment_back t.requested is.requested i)
+    (moment_back t.ac_date is.ac_date i)
+    (state_back t.state i)) (due_column t))
+    ∙ passed t (is_same (due_column t) (due_column t)) (same_as_itself (due_column t))
+
+record IsRead (row : table.Transfer) (t : Transfer) : Type 0 where
+  pub requester : registrar_in row.requester ≡ Some t.requester
+  pub losing_registrar : registrar_in row.losing ≡ Some t.losing_registrar
+  pub requested : moment_in row.requested ≡ Some t.requested
+  pub ac_date : moment_in row.ac_date ≡ Some t.ac_date
+  pub state : state_in row.state ≡ Some t.state
+  pub due : due_column t ≡ row.due
+
+is_read : (row : table.Transfer) (t : Transfer) → transfer_in row ≡ Some t → IsRead row t
+is_read row t e =
+    let made : Option Transfer = transfer_made (registrar_in row.requester) (registrar_in row.losing) (moment_in row.requested) (moment_in row.ac_date) (state_in row.state) in
+    let dated = step made (λ x. cond (is_same (due_column x) row.due) (Some x) None) t e in
+    let due = kept dated.given t (is_same (due_column dated.given) row.due) dated.rest in
+    let requester = step (registrar_in row.requester) _ dated.given dated.is in
+    let losing = step (registrar_in row.losing) _ dated.given requester.rest in
+    let requested = step (moment_in row.requested) _ dated.given losing.rest in
+    let ac_date = step (moment_in row.ac_date) _ dated.given requested.rest in
+    let state = step (state_in row.state) _ dated.given ac_date.rest in
+    let same : ◌≡◌ {A = Transfer} (record { requester = requester.given; losing_registrar = losing.given; requested = requested.given; ac_date = ac_date.given; state = state.given }) t = same_some _ _ state.rest ∙ due.1 in
+    record {
+      requester = requester.is ∙ λ i. Some ((same i).requester);
+      losing_registrar = losing.is ∙ λ i. Some ((same i).losing_registrar);
+      requested = requested.is ∙ λ i. Some ((same i).requested);
+      ac_date = ac_date.is ∙ λ i. Some ((same i).ac_date);
+      state = state.is ∙ λ i. Some ((same i).state);
+      due = sym (ap due_column due.1) ∙ same_is_equal (due_column dated.given) row.due due.0;
+    }
+
+-- what is read was written so
+pub transfer_written : (row : table.Transfer) (t : Transfer) → transfer_in row ≡ Some t → transfer_row row.id row.contact row.domain t ≡ row
+transfer_written row t e =
+    let read = is_read row t e in
+    λ i. record row {
+      requester = registrar_written row.requester t.requester read.requester i;
+      losing = registrar_written row.losing t.losing_registrar read.losing_registrar i;
+      requested = moment_written row.requested t.requested read.requested i;
+      ac_date = moment_written row.ac_date t.ac_date read.ac_date i;
+      state = state_written row.state t.state read.state i;
+      due = read.due i;
+    }
+
+-- and is a transfer's
+pub transfer_is : (row : table.Transfer) (t : Transfer) → transfer_in row ≡ Some t → IsTransfer t
+transfer_is row t e =
+    let read = is_read row t e in
+    record {
+      requester = registrar_is row.requester t.requester read.requester;
+      losing_registrar = registrar_is row.losing t.losing_registrar read.losing_registrar;
+      requested = moment_is row.requested t.requested read.requested;
+      ac_date = moment_is row.ac_date t.ac_date read.ac_date;
+    }

@@ -1,0 +1,14 @@
+pub mod Steps
+pub mod Numbers
+pub mod Codes
+pub mod Roids
+pub mod Registrations
+pub mod Lines
+pub mod Messages
+pub mod Transfers
+pub mod Texts
+pub mod Above
+pub mod Contacts
+pub mod Domains
+pub mod Hosts
+pub mod inner

@@ -1,0 +1,54 @@
+-- How a contact lies in its row. Its transfer lies in a row of its own.
+use Rattle.std.specs.Prelude.{ℕ, ℤ, List, Option, Some}
+use Rattle.objects.specs.declared.contact.Contact.{Contact}
+use Rattle.objects.specs.declared.contact.Postal.{Postal}
+use Rattle.objects.specs.declared.roid.ObjectKind.TheVariants as kinds
+use Rattle.sqltables.specs.Contact as table
+use Rattle.sqlcolumns.specs.declared.registration.Registration.{Registration}
+use Rattle.sqlcolumns.specs.declared.registration.RegistrationColumns.{RegistrationColumns}
+use Rattle.sqlcolumns.specs.Registrations.{IsRegistration, registration_columns}
+use Rattle.sqlcolumns.specs.Steps.{◌>>=◌}
+use Rattle.sqlcolumns.specs.Texts.{statuses_column, street_column}
+use Rattle.sqlcolumns.specs.Transfers.{maybe_due_column}
+
+abbrev pub registration_of : Contact → Registration
+registration_of c = record { roid = c.roid; sponsor = c.sponsor; created = c.created; transferred = c.transferred; updated = c.updated }
+
+abbrev pub IsContact : Contact → Type 0
+IsContact c = IsRegistration (registration_of c)
+
+-- ---- written
+
+abbrev pub postal_with : Postal → List ℕ → table.Postal
+postal_with p street = record { name = p.name; org = p.org; street = street; city = p.city; state = p.sp; postal_code = p.pc; country = p.cc }
+
+-- the postal columns, if the street can be written
+abbrev pub postal_row : Postal → Option table.Postal
+postal_row p = do
+  street ← street_column p.street
+  Some (postal_with p street)
+
+abbrev pub row_with : ℤ → Contact → RegistrationColumns → table.Postal → table.Contact
+row_with id c columns postal = record {
+  id = id;
+  name = c.name;
+  creator = columns.creator;
+  serial = columns.serial;
+  sponsor = columns.sponsor;
+  created = columns.created;
+  transferred = columns.transferred;
+  updated = columns.updated;
+  statuses = statuses_column c.statuses;
+  secret = c.secret;
+  voice = c.voice;
+  mail = c.mail;
+  due = maybe_due_column c.transfer;
+  postal = postal;
+}
+
+-- the row of a contact, under its number
+abbrev pub contact_row : ℤ → Contact → Option table.Contact
+contact_row id c = do
+  columns ← registration_columns kinds.Contact (registration_of c)
+  postal ← postal_row c.postal
+  Some (row_with id c columns postal)

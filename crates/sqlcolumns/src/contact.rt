@@ -1,0 +1,195 @@
+//! Contacts as rows. A contact's transfer is a row of its own.
+ghost use Rattle.std.specs.Prelude.{◌≡◌, ◌↔◌, IsTrue, IfOk};
+ghost use Rattle.sqlcolumns.specs.Contacts as spec;
+ghost use Rattle.sqlcolumns.specs.inner.Contacts as inner_spec;
+ghost use Rattle.sqlcolumns.specs.Texts.{statuses_in, street_in};
+
+use crate::registration::{
+    Registration, RegistrationColumns, is_registration, registration_columns,
+    registration_of_columns,
+};
+use crate::statuses::{statuses_column, statuses_of_column};
+use crate::street::{street_column, street_of_column};
+use crate::text::{maybe_text_column, maybe_text_of_column, text_column};
+use crate::transfer::{is_same, maybe_due_column};
+use basis::list::Seq;
+use basis::text::Text;
+use objects::{Contact, ObjectKind, Postal, Status, Transfer};
+use sqltables::{ContactRow, PostalRow};
+use std::alloc::{AllocError, Global};
+
+/// The row of a contact, under its number; none where its ROID is another kind's, or its street can't
+/// be written.
+pub fn contact_row(
+    alloc: Global,
+    id: i64,
+    contact: &Contact,
+) -> Result<Option<ContactRow>, AllocError>
+    ensures { IfOk result (λ row. row ≡ inner_spec.contact_row id contact.now) }
+{
+    let Some(columns) = registration_columns(ObjectKind::Contact, registration_of(contact)) else {
+        return Ok(None);
+    };
+    let Some(postal) = postal_row(alloc, &contact.postal)? else {
+        return Ok(None);
+    };
+    Ok(Some(row_with(alloc, id, contact, columns, postal)?))
+}
+
+/// Whether a contact's registrars have places: such a contact is read back from its row.
+pub fn is_contact(contact: &Contact) -> bool
+    ensures { IsTrue result ↔ inner_spec.IsContact contact.now }
+{
+    is_registration(&registration_of(contact))
+}
+
+fn registration_of(contact: &Contact) -> Registration
+    ensures { result ≡ inner_spec.registration_of contact.now }
+{
+    Registration {
+        roid: contact.roid,
+        sponsor: contact.sponsor,
+        created: contact.created,
+        transferred: contact.transferred,
+        updated: contact.updated,
+    }
+}
+
+/// The postal columns; none where the street can't be written.
+fn postal_row(alloc: Global, postal: &Postal) -> Result<Option<PostalRow>, AllocError>
+    ensures { IfOk result (λ row. row ≡ inner_spec.postal_row postal.now) }
+{
+    let Some(street) = street_column(alloc, postal.street.as_slice())? else {
+        return Ok(None);
+    };
+    Ok(Some(PostalRow {
+        name: text_column(alloc, &postal.name)?,
+        org: maybe_text_column(alloc, &postal.org)?,
+        street,
+        city: text_column(alloc, &postal.city)?,
+        state: maybe_text_column(alloc, &postal.sp)?,
+        postal_code: maybe_text_column(alloc, &postal.pc)?,
+        country: text_column(alloc, &postal.cc)?,
+    }))
+}
+
+fn row_with(
+    alloc: Global,
+    id: i64,
+    contact: &Contact,
+    columns: RegistrationColumns,
+    postal: PostalRow,
+) -> Result<ContactRow, AllocError>
+    ensures { IfOk result (λ row. row ≡ inner_spec.row_with id contact.now columns postal) }
+{
+    Ok(ContactRow {
+        id,
+        name: text_column(alloc, &contact.name)?,
+        creator: columns.creator,
+        serial: columns.serial,
+        sponsor: columns.sponsor,
+        created: columns.created,
+        transferred: columns.transferred,
+        updated: columns.updated,
+        statuses: statuses_column(alloc, contact.statuses.as_slice())?,
+        secret: text_column(alloc, &contact.secret)?,
+        voice: maybe_text_column(alloc, &contact.voice)?,
+        mail: text_column(alloc, &contact.mail)?,
+        due: maybe_due_column(&contact.transfer),
+        postal,
+    })
+}
+
+/// The contact of a row, if it's one's, whose last transfer is this.
+pub fn contact_of_row(
+    alloc: Global,
+    row: ContactRow,
+    transfer: Option<Transfer>,
+) -> Result<Option<Contact>, AllocError>
+    ensures { IfOk result (λ contact. contact ≡ spec.contact_in row transfer) }
+{
+    let statuses = statuses_of(alloc, &row)?;
+    let street = street_of(alloc, &row)?;
+    Ok(contact_made(row, statuses, street, transfer))
+}
+
+fn statuses_of(alloc: Global, row: &ContactRow) -> Result<Option<Seq<Status>>, AllocError>
+    ensures { IfOk result (λ read. read ≡ statuses_in row.now.statuses) }
+{
+    statuses_of_column(alloc, row.statuses.as_str())
+}
+
+fn street_of(alloc: Global, row: &ContactRow) -> Result<Seq<Text>, AllocError>
+    ensures { IfOk result (λ lines. lines ≡ street_in row.now.postal.street) }
+{
+    street_of_column(alloc, row.postal.street.as_str())
+}
+
+/// The contact of these parts, if all are there.
+fn contact_made(
+    row: ContactRow,
+    statuses: Option<Seq<Status>>,
+    street: Seq<Text>,
+    transfer: Option<Transfer>,
+) -> Option<Contact>
+    ensures { result ≡ spec.contact_made row statuses street transfer }
+{
+    let registration = registration_of_columns(ObjectKind::Contact, columns_of(&row))?;
+    let statuses = statuses?;
+    if !is_same(maybe_due_column(&transfer), row.due) {
+        return None;
+    }
+    Some(contact_with(row, registration, statuses, street, transfer))
+}
+
+fn columns_of(row: &ContactRow) -> RegistrationColumns
+    ensures { result ≡ spec.columns_of row.now }
+{
+    RegistrationColumns {
+        creator: row.creator,
+        serial: row.serial,
+        sponsor: row.sponsor,
+        created: row.created,
+        transferred: row.transferred,
+        updated: row.updated,
+    }
+}
+
+fn contact_with(
+    row: ContactRow,
+    registration: Registration,
+    statuses: Seq<Status>,
+    street: Seq<Text>,
+    transfer: Option<Transfer>,
+) -> Contact
+    ensures { result ≡ spec.contact_with row registration statuses street transfer }
+{
+    Contact {
+        name: Text::from_string(row.name),
+        roid: registration.roid,
+        sponsor: registration.sponsor,
+        created: registration.created,
+        transferred: registration.transferred,
+        updated: registration.updated,
+        statuses,
+        secret: Text::from_string(row.secret),
+        postal: postal_of_row(row.postal, street),
+        voice: maybe_text_of_column(row.voice),
+        mail: Text::from_string(row.mail),
+        transfer,
+    }
+}
+
+fn postal_of_row(row: PostalRow, street: Seq<Text>) -> Postal
+    ensures { result ≡ spec.postal_in row street }
+{
+    Postal {
+        name: Text::from_string(row.name),
+        org: maybe_text_of_column(row.org),
+        street,
+        city: Text::from_string(row.city),
+        sp: maybe_text_of_column(row.state),
+        pc: maybe_text_of_column(row.postal_code),
+        cc: Text::from_string(row.country),
+    }
+}

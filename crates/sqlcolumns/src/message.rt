@@ -1,0 +1,80 @@
+//! Messages as rows.
+ghost use Rattle.std.specs.Prelude.{◌≡◌, Some, IfOk, IfSome};
+ghost use Rattle.accounts.specs.declared.message.Message.{Message};
+ghost use Rattle.calendar.specs.Moment.{IsMoment};
+ghost use Rattle.sqlcolumns.specs.Messages as spec;
+
+use crate::code::{subject_column, subject_of_column};
+use crate::moment::{moment_column, moment_of_column};
+use crate::origin::{OriginColumns, origin_columns, origin_of_columns};
+use accounts::{Message, Origin, Subject};
+use basis::text::Text;
+use calendar::Moment;
+use sqltables::MessageRow;
+use std::alloc::{AllocError, Global};
+
+/// The row of a message, under its number and its account's; none where the recipient's number of it
+/// is too great.
+pub fn message_row(
+    alloc: Global,
+    id: i64,
+    account: i64,
+    message: &Message,
+) -> Result<Option<MessageRow>, AllocError>
+    ensures { IfOk result (λ row. row ≡ spec.message_row id account message.now) }
+{
+    let name = String::from_str(alloc, message.name.as_str())?;
+    let Some(origin) = origin_columns(message.origin) else {
+        return Ok(None);
+    };
+    Ok(Some(MessageRow {
+        id,
+        account,
+        moment: moment_column(message.moment),
+        class: origin.class,
+        number: origin.number,
+        name,
+        subject: subject_column(message.subject),
+        notice: origin.notice,
+    }))
+}
+
+/// The message of a row, if it's one's.
+pub fn message_of_row(row: MessageRow) -> Option<Message>
+    ensures value { result ≡ spec.message_in row }
+    ensures found { IfSome result (λ m. spec.message_row row.id row.account m ≡ Some row) }
+    ensures only { (m : Message) → IsMoment m.moment
+        → spec.message_row row.id row.account m ≡ Some row → result ≡ Some m }
+{
+    let columns = OriginColumns {
+        class: row.class,
+        number: row.number,
+        notice: row.notice,
+    };
+    message_made(
+        moment_of_column(row.moment),
+        origin_of_columns(columns),
+        subject_of_column(row.subject),
+        Text::from_string(row.name),
+    )
+}
+
+/// The message of these parts, if all are there.
+fn message_made(
+    moment: Option<Moment>,
+    origin: Option<Origin>,
+    subject: Option<Subject>,
+    name: Text,
+) -> Option<Message>
+    ensures { result ≡ spec.message_made moment origin subject name }
+{
+    let moment = moment?;
+    let origin = origin?;
+    let subject = subject?;
+    Some(Message {
+        moment,
+        origin,
+        name,
+        subject,
+    })
+}

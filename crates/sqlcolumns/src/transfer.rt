@@ -1,0 +1,125 @@
+//! Transfers as rows.
+ghost use Rattle.std.specs.Prelude.{◌≡◌, ◌↔◌, IsTrue, Some, IfSome};
+ghost use Rattle.objects.specs.declared.transfer.Transfer.{Transfer};
+ghost use Rattle.sqlcolumns.specs.Transfers as spec;
+
+use crate::code::{state_column, state_of_column};
+use crate::moment::{moment_column, moment_of_column, show_moment};
+use crate::number::{is_place, registrar_column, registrar_of_column};
+use basis::registrar::RegistrarNo;
+use calendar::Moment;
+use objects::{Transfer, TransferState};
+use sqltables::TransferRow;
+
+/// The row of a transfer, under its number, of the contact or the domain with this one.
+pub fn transfer_row(
+    id: i64,
+    contact: Option<i64>,
+    domain: Option<i64>,
+    transfer: &Transfer,
+) -> TransferRow
+    ensures { result ≡ spec.transfer_row id contact domain transfer.now }
+{
+    TransferRow {
+        id,
+        contact,
+        domain,
+        requester: registrar_column(transfer.requester),
+        losing: registrar_column(transfer.losing_registrar),
+        requested: moment_column(transfer.requested),
+        ac_date: moment_column(transfer.ac_date),
+        state: state_column(transfer.state),
+        due: due_column(transfer),
+    }
+}
+
+/// Whether a transfer's registrars have places: such a transfer is read back from its row.
+pub fn is_transfer(transfer: &Transfer) -> bool
+    ensures { IsTrue result ↔ spec.IsTransfer transfer.now }
+{
+    show_moment(transfer.requested);
+    show_moment(transfer.ac_date);
+    is_place(transfer.requester) && is_place(transfer.losing_registrar)
+}
+
+/// When the server approves it while it is pending, else NULL.
+fn due_column(transfer: &Transfer) -> Option<i64>
+    ensures { result ≡ spec.due_column transfer.now }
+{
+    if transfer.is_pending() {
+        Some(moment_column(transfer.ac_date))
+    } else {
+        None
+    }
+}
+
+/// The same of an object whose last transfer is this.
+pub(crate) fn maybe_due_column(transfer: &Option<Transfer>) -> Option<i64>
+    ensures { result ≡ spec.maybe_due_column transfer.now }
+{
+    match transfer {
+        None => None,
+        Some(transfer) => due_column(transfer),
+    }
+}
+
+/// The transfer of a row, if it's one's.
+pub fn transfer_of_row(row: &TransferRow) -> Option<Transfer>
+    ensures value { result ≡ spec.transfer_in row.now }
+    ensures found { IfSome result (λ t. spec.transfer_row row.now.id row.now.contact row.now.domain
+        t ≡ row.now) }
+    ensures only { (t : Transfer) → spec.IsTransfer t
+        → spec.transfer_row row.now.id row.now.contact row.now.domain t ≡ row.now
+        → result ≡ Some t }
+{
+    let transfer = transfer_made(
+        registrar_of_column(row.requester),
+        registrar_of_column(row.losing),
+        moment_of_column(row.requested),
+        moment_of_column(row.ac_date),
+        state_of_column(row.state),
+    );
+    with_due(transfer, row.due)
+}
+
+/// The transfer of these parts, if all are there.
+fn transfer_made(
+    requester: Option<RegistrarNo>,
+    losing_registrar: Option<RegistrarNo>,
+    requested: Option<Moment>,
+    ac_date: Option<Moment>,
+    state: Option<TransferState>,
+) -> Option<Transfer>
+    ensures { result ≡ spec.transfer_made requester losing_registrar requested ac_date state }
+{
+    Some(Transfer {
+        requester: requester?,
+        losing_registrar: losing_registrar?,
+        requested: requested?,
+        ac_date: ac_date?,
+        state: state?,
+    })
+}
+
+/// The transfer, if this is when it's due.
+fn with_due(transfer: Option<Transfer>, due: Option<i64>) -> Option<Transfer>
+    ensures { result ≡ spec.with_due transfer due }
+{
+    let transfer = transfer?;
+    if is_same(due_column(&transfer), due) {
+        Some(transfer)
+    } else {
+        None
+    }
+}
+
+/// Two columns that may have no number are the same.
+pub fn is_same(a: Option<i64>, b: Option<i64>) -> bool
+    ensures { result ≡ spec.is_same a b }
+{
+    match (a, b) {
+        (None, None) => true,
+        (Some(a), Some(b)) => a == b,
+        _ => false,
+    }
+}

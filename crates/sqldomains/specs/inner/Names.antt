@@ -1,0 +1,73 @@
+-- Names of domains and hosts, in the order of their bytes.
+use Rattle.std.specs.Prelude.{ℕ, ◌==◌, nat_lt, Bool, count_by, List, [], ◌∷◌, map, filter, Option, Some, None, if◌then◌else◌, is_some, option_map}
+use Rattle.std.specs.Cmp.Lexicographic.{slice_cmp}
+use Rattle.std.specs.FinMap.{FinMap, entries, get, insert, keys}
+use Rattle.std.specs.Ordering.{nat_cmp}
+use Rattle.sqlite_keyed.specs.Keyed.{get_by}
+use Rattle.objects.specs.declared.domain.Domain.{Domain}
+use Rattle.objects.specs.Hosts.{is_below}
+use Rattle.objects.specs.Links.{names_host}
+use Rattle.sqlcolumns.specs.Above.{above}
+use Rattle.sqlcolumns.specs.Steps.{◌>>=◌}
+use Rattle.sqltables.specs.Content.{Content}
+use Rattle.sqltables.specs.Domain as table
+use Rattle.sqltables.specs.inner.Domain as inner_table
+use Rattle.sqltables.specs.Host.{Host, host_with_above}
+use Rattle.sqltables.specs.Link.{Link}
+use Rattle.sqlobjects.specs.Objects.{hosts_of}
+use Rattle.sqldomains.specs.Domains.{domain_of, domains_of}
+
+abbrev pub domain_names : Content → List (List ℕ)
+domain_names xs = keys (domains_of xs)
+
+-- the domains that name a host
+abbrev pub domains_naming : List ℕ → Content → List (List ℕ)
+domains_naming host xs =
+    map (λ e. e.0) (filter (λ e. names_host host e.1.links) (entries (domains_of xs)))
+
+-- ---- read row by row
+
+abbrev pub NameSet : Type 0
+NameSet = FinMap (slice_cmp nat_cmp) (Unit {0})
+
+-- with a name, if there is one
+abbrev pub with_one : NameSet → Option (List ℕ) → Option NameSet
+with_one m o = option_map (λ n. insert m n tt) o
+
+-- with the names of these rows, if each gives one
+abbrev pub with_read : {R : Type 0} → (R → Option (List ℕ)) → NameSet → List R → Option NameSet
+with_read read m [] = Some m
+with_read read m (row ∷ rows) = do
+  m ← with_one m (read row)
+  with_read read m rows
+
+-- the name of the domain of a row, if it reads
+abbrev pub name_in : Content → table.Domain → Option (List ℕ)
+name_in xs row = option_map (λ (d : Domain). d.name) (domain_of xs row)
+
+abbrev pub if_named : List ℕ → Domain → Option (List ℕ)
+if_named host d = if names_host host d.links then Some d.name else None
+
+-- the name of the domain to which a link belongs, if it reads and names the host
+abbrev pub name_naming : List ℕ → Content → Link → Option (List ℕ)
+name_naming host xs link = do
+  row ← get_by inner_table.domains.key xs.domains link.domain
+  d ← domain_of xs row
+  if_named host d
+
+-- ---- hosts
+
+-- the hosts below a domain
+abbrev pub hosts_below : List ℕ → Content → List (List ℕ)
+hosts_below domain xs = filter (is_below domain) (keys (hosts_of xs))
+
+abbrev pub is_dotted : List ℕ → Bool
+is_dotted name = nat_lt 0 (count_by (λ b. b == 46) name)
+
+-- the rows of all hosts that can be below a domain: these have its last two labels above them, if it has two
+abbrev pub rows_around : List ℕ → Content → List Host
+rows_around domain xs = if is_dotted domain then filter (host_with_above (above domain)) xs.hosts else xs.hosts
+
+-- the name, if a host stands under it
+abbrev pub host_standing : Content → List ℕ → Option (List ℕ)
+host_standing xs name = if is_some (get (hosts_of xs) name) then Some name else None

@@ -1,0 +1,155 @@
+-- What single steps of a change of a domain make.
+use Rattle.std.specs.Prelude.{◌≡◌, ℕ, ℤ, pos, true, false, List, [], ◌++◌, ◌∷◌, filter, Option, Some, None, option_map}
+use Rattle.std.specs.Ordering.{int_eq}
+use Rattle.sqlite_keyed.specs.Lists.{delete_where}
+use Rattle.objects.specs.declared.domain.Domain.{Domain}
+use Rattle.objects.specs.declared.domain.Links.{Links}
+use Rattle.objects.specs.declared.transfer.Transfer.{Transfer}
+use Rattle.sqlcolumns.specs.declared.code.Role.{Role}
+use Rattle.sqlcolumns.specs.declared.code.Role.TheVariants as roles
+use Rattle.sqlcolumns.specs.Codes.{role_column}
+use Rattle.sqlcolumns.specs.inner.Domains.{domain_row}
+use Rattle.sqlcolumns.specs.Transfers.{transfer_row}
+use Rattle.sqltables.specs.Content.{Content}
+use Rattle.sqltables.specs.inner.Content.{domains_to}
+use Rattle.sqltables.specs.Domain as table
+use Rattle.sqltables.specs.inner.Domain as inner_table
+use Rattle.sqltables.specs.Link.{Link, link_with_domain}
+use Rattle.sqltables.specs.Transfer as transfer_table
+use Rattle.sqltables.specs.Transfer.{transfer_with_contact, transfer_with_domain}
+use Rattle.sqltables.specs.inner.Whole.{IsWhole}
+use Rattle.sqlrows.specs.Read.{rows_of}
+use Rattle.sqlobjects.specs.Changes.{contact_name, host_name}
+use Rattle.sqlobjects.specs.Objects.{last_transfer}
+use Rattle.sqlobjects.specs.inner.Stages.{IsPlaced}
+use Rattle.sqldomains.specs.declared.domain_rows.DerivedColumns.{DerivedColumns}
+use Rattle.sqldomains.specs.Domains.{are_dated, linked_name, registrant_alone, with_links, with_name}
+
+-- ---- transfers
+
+-- no contact has another transfer than before, nor has a domain but the one with this number
+pub record AreOtherTransfersKept (id : ℤ) (old new : Content) : Type 0 where
+  pub domains : (other : ℤ) → int_eq id other ≡ false → filter (transfer_with_domain other) new.transfers ≡ filter (transfer_with_domain other) old.transfers
+  pub contacts : (contact : ℤ) → filter (transfer_with_contact contact) new.transfers ≡ filter (transfer_with_contact contact) old.transfers
+  pub rest : new ≡ record old { transfers = new.transfers }
+
+-- the domain with this number has no transfer
+pub record IsTransferCleared (id : ℤ) (old new : Content) : Type 0 where
+  pub none : filter (transfer_with_domain id) new.transfers ≡ []
+  pub others : AreOtherTransfersKept id old new
+
+-- the row of a domain's transfer, if there is one, but for its number
+abbrev pub transfer_row_of : ℤ → Option Transfer → Option transfer_table.Transfer
+transfer_row_of id transfer =
+    option_map (λ (t : Transfer). transfer_row (pos 0) None (Some id) t) transfer
+
+-- the domain with this number has this as its last transfer
+pub record IsTransferPut (id : ℤ) (transfer : Option Transfer) (old new : Content) : Type 0 where
+  pub last : last_transfer (filter (transfer_with_domain id) new.transfers) ≡ Some transfer
+  pub others : AreOtherTransfersKept id old new
+
+-- ---- links
+
+-- no domain but the one with this number names other things than before
+pub record AreOtherLinksKept (id : ℤ) (old new : Content) : Type 0 where
+  pub domains : (other : ℤ) → int_eq id other ≡ false
+      → filter (link_with_domain other) new.links ≡ filter (link_with_domain other) old.links
+  pub rest : new ≡ record old { links = new.links }
+
+-- the rows of the domain with this number lead to this, and say that it is due then
+pub record Names (id due : ℤ) (links : Links) (xs : Content) : Type 0 where
+  pub all : with_links xs (registrant_alone links.registrant) (filter (link_with_domain id) xs.links) ≡ Some links
+  pub dated : are_dated due (filter (link_with_domain id) xs.links) ≡ true
+
+-- with more in a role
+abbrev pub with_names : Role → Links → List (List ℕ) → Links
+with_names role links [] = links
+with_names role links (name ∷ names) = with_names role (with_name links role name) names
+
+-- no row leads from the domain with this number
+pub record AreLinksCleared (id : ℤ) (old new : Content) : Type 0 where
+  pub none : filter (link_with_domain id) new.links ≡ []
+  pub others : AreOtherLinksKept id old new
+
+-- a row that leads from a domain, which is due then, to what has this name
+pub record IsLinkTo (xs : Content) (id due : ℤ) (role : Role) (name : List ℕ) (row : Link) : Type 0 where
+  pub domain : row.domain ≡ id
+  pub due_is : row.due ≡ due
+  pub role_is : row.role ≡ role_column role
+  pub leads : linked_name xs role row.contact row.host ≡ Some name
+
+-- the same of a contact in a role, and of a host
+pub record IsContactLinkTo (xs : Content) (id due : ℤ) (role : Role) (name : List ℕ) (row : Link) : Type 0 where
+  pub domain : row.domain ≡ id
+  pub due_is : row.due ≡ due
+  pub role_is : row.role ≡ role_column role
+  pub contact : ℤ
+  pub contact_is : row.contact ≡ Some contact
+  pub host_is : row.host ≡ None
+  pub name_is : contact_name xs contact ≡ Some name
+
+pub record IsHostLinkTo (xs : Content) (id due : ℤ) (name : List ℕ) (row : Link) : Type 0 where
+  pub domain : row.domain ≡ id
+  pub due_is : row.due ≡ due
+  pub role_is : row.role ≡ role_column roles.Host
+  pub host : ℤ
+  pub contact_is : row.contact ≡ None
+  pub host_is : row.host ≡ Some host
+  pub name_is : host_name xs host ≡ Some name
+
+-- the domain with this number names these besides
+pub record AreNamesAdded (id due : ℤ) (role : Role) (names : List (List ℕ)) (old new : Content) : Type 0 where
+  pub here : (links : Links) → Names id due links old
+      → Names id due (with_names role links names) new
+  pub others : AreOtherLinksKept id old new
+
+-- the domain with this number names this
+pub record AreLinksPut (id due : ℤ) (links : Links) (old new : Content) : Type 0 where
+  pub here : Names id due links new
+  pub others : AreOtherLinksKept id old new
+
+-- ---- rows of domains
+
+-- no domain but the one with this number has other rows of links and transfers, and no contact another
+-- transfer; but for those and for domains each table is as it was
+pub record AreOtherPartsKept (id : ℤ) (old new : Content) : Type 0 where
+  pub links : (other : ℤ) → int_eq id other ≡ false
+      → filter (link_with_domain other) new.links ≡ filter (link_with_domain other) old.links
+  pub transfers : (other : ℤ) → int_eq id other ≡ false → filter (transfer_with_domain other) new.transfers ≡ filter (transfer_with_domain other) old.transfers
+  pub contacts : (contact : ℤ) → filter (transfer_with_contact contact) new.transfers ≡ filter (transfer_with_contact contact) old.transfers
+  pub rest : record new { domains = old.domains; links = old.links; transfers = old.transfers } ≡ old
+
+-- the row of a domain, with this beside it
+abbrev pub row_beside : ℤ → DerivedColumns → Domain → Option table.Domain
+row_beside id beside d = domain_row id beside.registrant beside.due d
+
+-- the domain, but for its links and its transfer, is in a row after the others
+pub record IsDomainAdded (d : Domain) (beside : DerivedColumns) (old new : Content) : Type 0 where
+  pub row : table.Domain
+  pub is : row_beside row.id beside d ≡ Some row
+  pub content : new ≡ domains_to (λ rows. rows ++ row ∷ []) old
+
+-- the domain, but for its links and its transfer, is in this row, and no other row is changed
+pub record IsDomainPlaced (d : Domain) (beside : DerivedColumns) (row : table.Domain) (old new : Content) : Type 0 where
+  pub is : row_beside row.id beside d ≡ Some row
+  pub rows : IsPlaced (λ (r : table.Domain). r.name) d.name row old.domains new.domains
+  pub rest : new ≡ record old { domains = new.domains }
+
+-- the same where it was this row, or none, that had its name
+abbrev pub IsDomainPlacedAt : Option table.Domain → Domain → DerivedColumns → table.Domain → Content
+    → Content → Type 0
+IsDomainPlacedAt found d beside row old new =
+    IsWhole old → filter (table.domain_with_name d.name) old.domains ≡ rows_of found
+    → IsDomainPlaced d beside row old new
+
+-- the domain with this number, its links and its transfer aren't there any more
+pub record IsDomainRemoved (id : ℤ) (old new : Content) : Type 0 where
+  pub kept : AreOtherPartsKept id old new
+  pub domains : new.domains ≡ delete_where (inner_table.domain_with_id id) old.domains
+  pub links : filter (link_with_domain id) new.links ≡ []
+  pub transfers : filter (transfer_with_domain id) new.transfers ≡ []
+
+-- the same of the row that was found, if there was one
+abbrev pub IsDomainDropped : Option table.Domain → Content → Content → Type 0
+IsDomainDropped None old new = new ≡ old
+IsDomainDropped (Some row) old new = IsDomainRemoved row.id old new

@@ -1,4 +1,0 @@
-pub mod Dues
-pub mod Finding
-pub mod Near
-pub mod Redates

@@ -1,0 +1,65 @@
+-- What calls make of contacts and hosts.
+use Rattle.std.specs.Prelude.{◌≡◌, ℕ, ℤ, true, List, filter, Option, Some, None}
+use Rattle.std.specs.Cmp.Lexicographic.{slice_cmp}
+use Rattle.std.specs.FinMap.{FinMap, insert, remove}
+use Rattle.std.specs.Ordering.{nat_cmp}
+use Rattle.sqlite_rules.specs.Lists.{Has}
+use Rattle.objects.specs.declared.contact.Contact.{Contact}
+use Rattle.objects.specs.declared.host.Host.{Host}
+use Rattle.sqltables.specs.Content.{Content}
+use Rattle.sqltables.specs.Host as host_table
+use Rattle.sqltables.specs.Transfer.{transfer_with_domain}
+use Rattle.sqltables.specs.inner.Whole.{IsWhole}
+use Rattle.sqlobjects.specs.Objects.{contacts_of, hosts_of}
+use Rattle.sqlobjects.specs.Sponsors.{is_sponsor_right}
+use Rattle.sqlobjects.specs.inner.Stages.{AreOthersKept}
+use Rattle.sqlobjects.specs.Changes.{contact_name, host_name}
+
+-- under a name stands this, or nothing
+abbrev pub put : {X : Type 0} → FinMap (slice_cmp nat_cmp) X → List ℕ → Option X
+    → FinMap (slice_cmp nat_cmp) X
+put m k None = remove m k
+put m k (Some x) = insert m k x
+
+-- Under a name stands this contact, or none. No other contact is changed, no host, no domain's
+-- transfer and no row of another table, and a number leads to no other name than before.
+pub record IsContactPut (name : List ℕ) (value : Option Contact) (old new : Content) : Type 0 where
+  pub contacts : contacts_of new ≡ put (contacts_of old) name value
+  pub hosts : hosts_of new ≡ hosts_of old
+  pub metas : new.metas ≡ old.metas
+  pub days : new.days ≡ old.days
+  pub accounts : new.accounts ≡ old.accounts
+  pub domains : new.domains ≡ old.domains
+  pub host_rows : new.hosts ≡ old.hosts
+  pub addresses : new.addresses ≡ old.addresses
+  pub links : new.links ≡ old.links
+  pub lines : new.lines ≡ old.lines
+  pub messages : new.messages ≡ old.messages
+  pub transfers : (id : ℤ) → filter (transfer_with_domain id) new.transfers ≡ filter (transfer_with_domain id) old.transfers
+  pub names : (id : ℤ) (n m : List ℕ) → contact_name old id ≡ Some n → contact_name new id ≡ Some m
+      → n ≡ m
+  pub whole : IsWhole old × IsWhole new
+
+-- The same of a host. No contact is changed, no other host's row, and no row of another table but those
+-- of addresses. The row of the name, if there was one, had the sponsor that it was to have, and so has
+-- that which is there now.
+pub record IsHostPut (name : List ℕ) (value : Option Host) (old new : Content) : Type 0 where
+  pub hosts : hosts_of new ≡ put (hosts_of old) name value
+  pub contacts : contacts_of new ≡ contacts_of old
+  pub metas : new.metas ≡ old.metas
+  pub days : new.days ≡ old.days
+  pub accounts : new.accounts ≡ old.accounts
+  pub contact_rows : new.contacts ≡ old.contacts
+  pub domains : new.domains ≡ old.domains
+  pub links : new.links ≡ old.links
+  pub lines : new.lines ≡ old.lines
+  pub messages : new.messages ≡ old.messages
+  pub transfers : new.transfers ≡ old.transfers
+  pub others : AreOthersKept (λ (r : host_table.Host). r.name) name old.hosts new.hosts
+  pub sponsor_was : (row : host_table.Host) → Has old.hosts row → row.name ≡ name
+      → is_sponsor_right old row ≡ true
+  pub sponsor_is : (row : host_table.Host) → Has new.hosts row → row.name ≡ name
+      → is_sponsor_right new row ≡ true
+  pub names : (id : ℤ) (n m : List ℕ) → host_name old id ≡ Some n → host_name new id ≡ Some m
+      → n ≡ m
+  pub whole : IsWhole old × IsWhole new

@@ -1,0 +1,203 @@
+-- What single steps of a change make.
+use Rattle.std.specs.Prelude.{◌≡◌, ℕ, ℤ, pos, true, false, List, [], ◌++◌, ◌∷◌, filter, Option, Some, None, IfSome, is_some, option_map, if◌then◌else◌, Result, Ok, Err}
+use Rattle.std.specs.Ordering.{int_eq}
+use Rattle.sqlite_keyed.specs.Keyed.{insert_by}
+use Rattle.sqlite_keyed.specs.Lists.{delete_where}
+use Rattle.sqlite_rules.specs.Lists.{Has}
+use Rattle.sqlite_typed.specs.Tests.{bytes_eq}
+use Rattle.objects.specs.declared.contact.Contact.{Contact}
+use Rattle.objects.specs.declared.host.Host.{Host}
+use Rattle.objects.specs.declared.transfer.Transfer.{Transfer}
+use Rattle.sqlcolumns.specs.inner.Contacts.{contact_row}
+use Rattle.sqlcolumns.specs.inner.Hosts.{host_row}
+use Rattle.sqlcolumns.specs.Steps.{◌>>=◌}
+use Rattle.sqlcolumns.specs.Transfers.{is_same, transfer_row}
+use Rattle.sqlrows.specs.inner.Layouts.{appended}
+use Rattle.sqltables.specs.Contact as contact_table
+use Rattle.sqltables.specs.Content.{Content}
+use Rattle.sqltables.specs.inner.Content.{contacts_to, hosts_to}
+use Rattle.sqltables.specs.Host as host_table
+use Rattle.sqltables.specs.Transfer as transfer_table
+use Rattle.sqltables.specs.Transfer.{transfer_with_contact, transfer_with_domain}
+use Rattle.sqltables.specs.inner.Whole.{IsWhole}
+use Rattle.transactions.specs.declared.fault.BookFault.{BookFault}
+use Rattle.transactions.specs.States.{StateOf, Stays}
+use Rattle.sqlrows.specs.Meanings.{HasChanged}
+use Rattle.sqlrows.specs.Read.{rows_of}
+use Rattle.sqlobjects.specs.declared.following.Sponsors.{Sponsors}
+use Rattle.sqlobjects.specs.Objects.{addresses_of, last_transfer}
+use Rattle.sqlobjects.specs.Sponsors.{AreMoved, sponsor_of}
+
+-- a change in a way that hangs on what is answered
+abbrev pub ChangesGiving : {A C : Type 0} → Result A BookFault → (A → C → C → Type 0) → StateOf C
+    → StateOf C → Type 0
+ChangesGiving (Ok it) way old new = HasChanged (way it) old new
+ChangesGiving (Err fault) way old new = Stays old new
+
+-- rows of other names than this are as they were
+abbrev pub AreOthersKept : {P : Type 0} → (P → List ℕ) → List ℕ → List P → List P → Type 0
+AreOthersKept name n old new =
+    (q : List ℕ) → bytes_eq q n ≡ false
+    → filter (λ r. bytes_eq (name r) q) new ≡ filter (λ r. bytes_eq (name r) q) old
+
+-- this row is there under a name, and rows of other names are as they were
+pub record IsPlaced {P : Type 0} (name : P → List ℕ) (n : List ℕ) (row : P) (old new : List P) : Type 0 where
+  pub named : name row ≡ n
+  pub there : Has new row
+  pub others : AreOthersKept name n old new
+
+-- ---- contacts
+
+-- no domain has another transfer than before, nor has a contact but the one with this number
+pub record AreOtherTransfersKept (id : ℤ) (old new : Content) : Type 0 where
+  pub contacts : (other : ℤ) → int_eq id other ≡ false → filter (transfer_with_contact other) new.transfers ≡ filter (transfer_with_contact other) old.transfers
+  pub domains : (domain : ℤ) → filter (transfer_with_domain domain) new.transfers ≡ filter (transfer_with_domain domain) old.transfers
+  pub rest : new ≡ record old { transfers = new.transfers }
+
+-- the contact with this number has no transfer
+pub record IsTransferCleared (id : ℤ) (old new : Content) : Type 0 where
+  pub none : filter (transfer_with_contact id) new.transfers ≡ []
+  pub others : AreOtherTransfersKept id old new
+
+-- the row of a contact's transfer, if there is one, but for its number
+abbrev pub transfer_row_of : ℤ → Option Transfer → Option transfer_table.Transfer
+transfer_row_of id transfer =
+    option_map (λ (t : Transfer). transfer_row (pos 0) (Some id) None t) transfer
+
+-- the rows, and after them this one, if there is one, under a number of its own
+abbrev pub with_added : Option transfer_table.Transfer → List transfer_table.Transfer
+    → List transfer_table.Transfer
+with_added None rows = rows
+with_added (Some row) rows = appended transfer_table.transfers (λ id. record row { id = id }) rows
+
+-- the contact with this number has this as its last transfer
+pub record IsTransferPut (id : ℤ) (transfer : Option Transfer) (old new : Content) : Type 0 where
+  pub last : last_transfer (filter (transfer_with_contact id) new.transfers) ≡ Some transfer
+  pub others : AreOtherTransfersKept id old new
+
+-- the contact, but for its transfer, is in a row after the others
+pub record IsContactAdded (c : Contact) (old new : Content) : Type 0 where
+  pub row : contact_table.Contact
+  pub is : contact_row row.id c ≡ Some row
+  pub content : new ≡ contacts_to (λ rows. rows ++ row ∷ []) old
+
+-- the contact, but for its transfer, is in this row, and no other row is changed
+pub record IsContactPlaced (c : Contact) (row : contact_table.Contact) (old new : Content) : Type 0 where
+  pub is : contact_row row.id c ≡ Some row
+  pub rows : IsPlaced (λ (r : contact_table.Contact). r.name) c.name row old.contacts new.contacts
+  pub rest : new ≡ record old { contacts = new.contacts }
+
+-- the same where it was this row, or none, that had its name
+abbrev pub IsContactPlacedAt : Option contact_table.Contact → Contact → contact_table.Contact
+    → Content → Content → Type 0
+IsContactPlacedAt found c row old new =
+    IsWhole old → filter (contact_table.contact_with_name c.name) old.contacts ≡ rows_of found
+    → IsContactPlaced c row old new
+
+-- the contact with this number, and its transfer, aren't there any more
+pub record IsContactRemoved (id : ℤ) (old new : Content) : Type 0 where
+  pub cleared : IsTransferCleared id old (record new { contacts = old.contacts })
+  pub contacts : new.contacts ≡ delete_where (contact_table.contact_with_id id) old.contacts
+
+-- the same of the row that was found, if there was one
+abbrev pub IsContactDropped : Option contact_table.Contact → Content → Content → Type 0
+IsContactDropped None old new = new ≡ old
+IsContactDropped (Some row) old new = IsContactRemoved row.id old new
+
+-- ---- hosts
+
+-- no host but the one with this number has other addresses than before
+pub record AreOtherAddressesKept (id : ℤ) (old new : Content) : Type 0 where
+  pub hosts : (other : ℤ) → int_eq id other ≡ false
+      → addresses_of new other ≡ addresses_of old other
+  pub rest : new ≡ record old { addresses = new.addresses }
+
+-- the host with this number has these addresses
+pub record AreAddressesPut (id : ℤ) (addresses : List (List ℕ)) (old new : Content) : Type 0 where
+  pub here : addresses_of new id ≡ addresses
+  pub others : AreOtherAddressesKept id old new
+
+-- it has these besides
+pub record AreAddressesAdded (id : ℤ) (addresses : List (List ℕ)) (old new : Content) : Type 0 where
+  pub here : addresses_of new id ≡ addresses_of old id ++ addresses
+  pub others : AreOtherAddressesKept id old new
+
+-- its column says who sponsors the host
+abbrev pub HasRightSponsor : Content → host_table.Host → Type 0
+HasRightSponsor xs row = row.sponsor ≡ sponsor_of xs row
+
+-- the row of a host under a number
+pub record IsHostRow (xs : Content) (id : ℤ) (h : Host) (row : host_table.Host) : Type 0 where
+  pub is : host_row id row.sponsor h ≡ Some row
+  pub sponsor : HasRightSponsor xs row
+
+-- this row, or none, has the name, and who sponsors it is right
+pub record IsHostFound (xs : Content) (name : List ℕ) (found : Option host_table.Host) : Type 0 where
+  pub rows : filter (host_table.host_with_name name) xs.hosts ≡ rows_of found
+  pub sponsor : IfSome found (HasRightSponsor xs)
+
+-- the host, but for its addresses, is in a row after the others
+pub record IsHostAdded (h : Host) (old new : Content) : Type 0 where
+  pub row : host_table.Host
+  pub is : IsHostRow old row.id h row
+  pub content : new ≡ hosts_to (λ rows. rows ++ row ∷ []) old
+
+-- the host, but for its addresses, is in this row, and no other row is changed
+pub record IsHostPlaced (h : Host) (row : host_table.Host) (old new : Content) : Type 0 where
+  pub is : IsHostRow old row.id h row
+  pub rows : IsPlaced (λ (r : host_table.Host). r.name) h.name row old.hosts new.hosts
+  pub rest : new ≡ record old { hosts = new.hosts }
+
+-- the same where it was this row, or none, that had its name
+abbrev pub IsHostPlacedAt : Option host_table.Host → Host → host_table.Host → Content → Content
+    → Type 0
+IsHostPlacedAt found h row old new =
+    IsWhole old → filter (host_table.host_with_name h.name) old.hosts ≡ rows_of found
+    → IsHostPlaced h row old new
+
+-- and each row that had its name had the right sponsor
+pub record IsHostPlacedRight (h : Host) (row : host_table.Host) (old new : Content) : Type 0 where
+  pub found : Option host_table.Host
+  pub was : IsHostFound old h.name found
+  pub placed : IsWhole old → IsHostPlaced h row old new
+
+-- the host with this number, and its addresses, aren't there any more
+pub record IsHostRemoved (id : ℤ) (old new : Content) : Type 0 where
+  pub cleared : AreAddressesPut id [] old (record new { hosts = old.hosts })
+  pub hosts : new.hosts ≡ delete_where (host_table.host_with_id id) old.hosts
+
+-- the same of the row that was found, if there was one
+abbrev pub IsHostDropped : Option host_table.Host → Content → Content → Type 0
+IsHostDropped None old new = new ≡ old
+IsHostDropped (Some row) old new = IsHostRemoved row.id old new
+
+-- ---- hosts that follow a domain
+
+-- a row had the sponsor before and has the one after
+pub record IsMoved (s : Sponsors) (row after : host_table.Host) : Type 0 where
+  pub had : is_same row.sponsor s.before ≡ true
+  pub has : after ≡ record row { sponsor = s.after }
+
+-- the rows, with this one written with its new sponsor, unless its host is sponsored outside the zone; none
+-- where it had another sponsor than the one before
+abbrev pub with_moved : Sponsors → List host_table.Host → host_table.Host
+    → Option (List host_table.Host)
+with_moved s xs row =
+    if is_some row.external_sponsor then Some xs
+    else (if is_same row.sponsor s.before then Some (insert_by host_table.hosts.key xs (record row { sponsor = s.after })) else None)
+
+-- the same with each of these rows, one after another
+abbrev pub with_all_moved : Sponsors → List host_table.Host → List host_table.Host
+    → Option (List host_table.Host)
+with_all_moved s xs [] = Some xs
+with_all_moved s xs (row ∷ rows) = with_moved s xs row >>= (λ ys. with_all_moved s ys rows)
+
+-- rows of hosts are these now, if there are any such, and nothing else is changed
+pub record AreWritten (made : List host_table.Host → Option (List host_table.Host)) (old new : Content) : Type 0 where
+  pub hosts : made old.hosts ≡ Some new.hosts
+  pub rest : new ≡ record old { hosts = new.hosts }
+
+-- the hosts that follow a domain have the sponsor after in place of the one before
+pub record AreHostsMoved (above : List ℕ) (s : Sponsors) (old new : Content) : Type 0 where
+  pub rows : AreMoved above s.before s.after old.hosts new.hosts
+  pub rest : new ≡ record old { hosts = new.hosts }

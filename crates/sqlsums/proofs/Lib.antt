@@ -1,0 +1,14 @@
+pub mod StandingLemmas
+pub mod OrderLemmas
+pub mod FoundLemmas
+pub mod DueLemmas
+pub mod AnswerLemmas
+pub mod NearLemmas
+pub mod RedateLemmas
+pub mod CountLemmas
+pub mod HeldLemmas
+pub mod LeavingLemmas
+pub mod RecountLemmas
+pub mod KeptLemmas
+pub mod NobodyLemmas
+pub mod HolderLemmas

@@ -1,0 +1,4 @@
+pub mod Dues
+pub mod Redates
+pub mod Held
+pub mod inner

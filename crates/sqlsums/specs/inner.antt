@@ -1,0 +1,5 @@
+-- Words that this crate's own functions are told by, and that no promise of the registry names.
+pub mod Finding
+pub mod Holders
+pub mod Near
+pub mod Recounts

@@ -1,0 +1,112 @@
+-- What a statement that writes rows makes of them, and what it leaves.
+use Rattle.std.proofs.Common.{◌≡◌, ◌&&◌, ℕ, Bool, true, List, None, Ok, Err, IsTrue, refl, sym, ap, subst, ◌∙◌, true≢false}
+use Rattle.std.proofs.lemmas.Bool.{and_parts}
+use Rattle.sqlite_value.specs.Order.{Row}
+use Rattle.sqlite_trees.specs.Tree.{Trees}
+use Rattle.sqlite_schema.specs.declared.schema.Schema.{Schema}
+use Rattle.sqlite_schema.specs.declared.command.Command.{Command}
+use Rattle.sqlite_schema.specs.declared.command.Command.TheVariants.{Insert, InsertOr, Delete, CreateTable, CreateIndex}
+use Rattle.sqlite.specs.declared.error.Error.{Error}
+use Rattle.sqlite.specs.Does.{Does, Tally}
+use Rattle.sqlite.specs.Effect.{Database}
+use Rattle.sqlite.specs.Listing.{understood}
+use Rattle.sqlite.specs.State.{CommitsBy, State, Executes, HasCleanDisk, Runs, Survives, mode_of}
+use Rattle.sqlite.proofs.Callers.{runs_as, statement_of}
+use Rattle.sqlrows.specs.inner.Calls.{Stands}
+use Rattle.sqlrows.specs.inner.Calls as calls
+use Rattle.sqlrows.specs.inner.Layouts.{command_of, writes_tables}
+use Rattle.sqlrows.proofs.SelectLemmas.{same_command}
+use Rattle.sqlrows.proofs.SoundLemmas.{executed_open}
+use Rattle.sqlrows.proofs.StandLemmas.{commits_later, stands_if_not_executed, stays_if_executed}
+use Rattle.sqltables.specs.Content.{Content}
+use Rattle.sqltables.specs.inner.Content.{IsContent}
+use Rattle.sqltables.specs.Decoding.{contents}
+use Rattle.sqltables.specs.Tables.{registry}
+use Rattle.sqltables.specs.declared.form.Form.{Form}
+use Rattle.sqltables.specs.declared.form.Form.TheVariants.{Unused, Making, Made, Other}
+use Rattle.transactions.specs.States.{Remains, Writes}
+use Rattle.sqltables.specs.inner.Statements.{Alters}
+use Rattle.sqltables.specs.inner.Stored.{Agrees, Bears, Fits, HoldsRows, has_rows, rows_in, stands, undone}
+use Rattle.sqltables.proofs.AskingLemmas.{holds-now, rows-are}
+use Rattle.sqltables.proofs.DecodingLemmas.{decoded}
+use Rattle.sqltables.proofs.StandingLemmas.{answered-open, clean-of, honest, leaves-no-more, leaves-same, was-honest}
+
+-- what a command that writes rows did
+changed-by : (old new : State) (command : Command) (text : List ℕ) (params : Row) (count : ℕ) → writes_tables command ≡ true → Runs old new None command text params count
+    → (tally : Tally) × Does old.step_limit (mode_of old) params old.now text None command (Ok (tally, new.now))
+changed-by old new (Insert at from) text params count kind w = (w.tally, w.changed)
+changed-by old new (InsertOr at way from clauses) text params count kind w = (w.tally, w.changed)
+changed-by old new (Delete at q) text params count kind w = (w.tally, w.changed)
+changed-by old new CreateTable text params count kind w = (w.tally, w.changed)
+changed-by old new (CreateIndex at) text params count kind w = (w.tally, w.changed)
+changed-by old new _ text params count kind w = absurd (true≢false (sym kind))
+
+bears-written : (form : Form) (was now committed after : Database) → has_rows form ≡ true → Bears form was committed → HoldsRows now → after ≡ committed → Bears form now after
+bears-written Unused was now committed after is it h same = absurd (true≢false (sym is))
+bears-written Making was now committed after is it h same = (h, ap (λ (db : Database). db.schema) same ∙ it.1)
+bears-written Made was now committed after is it h same = (h, subst HoldsRows (sym same) it.1)
+bears-written Other was now committed after is it h same = absurd (true≢false (sym is))
+
+module _ (sql : List ℕ) (params : Row) (form : Form) (old new : State) (P : Trees → Type 0) (survives : Survives old new P) (fits : Fits form true old) (rows : has_rows form ≡ true) (f : Content → Content) (alters : Alters sql params f) where
+  -- after an error
+  pub left-by-write : (e : Error) → (HasCleanDisk new → Executes sql params old new (Err e)) → HasCleanDisk new → IsTrue new.is_open → Stands old new × Agrees form true old
+  left-by-write e ran clean opened = (stands_if_not_executed sql params old new e (ran clean), fits (was-honest old new P survives clean) (executed_open sql params old new (Err e) (ran clean) opened))
+
+  -- a statement that writes rows commits nothing inside a transaction
+  pub none-committed : Survives old new (CommitsBy sql params old) → (HasCleanDisk new → IsTrue old.is_open) → HasCleanDisk new → (db : Trees) → new.may_leave db → old.may_leave db
+  none-committed runs opened clean =
+      let it = fits (was-honest old new P survives clean) (opened clean) in
+      let h = holds-now form old.now old.committed rows it.bears in
+      leaves-no-more old new (commits_later sql params old new (subst (λ (s : Schema). writes_tables (command_of (understood s sql)) ≡ true) (sym h.schema) alters.writes) it.mode runs) clean
+
+  -- after an error, where the connection was open
+  pub left-open : (e : Error) → (HasCleanDisk new → Executes sql params old new (Err e)) → (HasCleanDisk new → IsTrue old.is_open) → HasCleanDisk new → Stands old new × Agrees form true old
+  left-open e ran opened clean = (stands_if_not_executed sql params old new e (ran clean), fits (was-honest old new P survives clean) (opened clean))
+
+  module _ (count : ℕ) (ran : HasCleanDisk new → Executes sql params old new (Ok count)) where
+    agreed : HasCleanDisk new → IsTrue new.is_open → Agrees form true old
+    agreed clean opened = fits (was-honest old new P survives clean) (executed_open sql params old new (Ok count) (ran clean) opened)
+
+    made : HasCleanDisk new → Agrees form true old → IsContent (f (contents old.now.trees)) new.now
+    made clean it =
+        let h = holds-now form old.now old.committed rows it.bears in
+        let command = command_of (understood registry sql) in
+        let runs = runs_as sql params old new registry h.schema command (same_command (understood registry sql)) alters.plain count (ran clean) in
+        let text = statement_of sql (understood registry sql) in
+        let did = changed-by old new command text params count alters.writes runs in
+        alters.means old.step_limit text old.now.trees did.0 new.now (contents old.now.trees) (subst (λ (s : Schema). IsContent (contents old.now.trees) (record { schema = s; trees = old.now.trees })) h.schema h)
+        (subst (λ (s : Schema). Does old.step_limit (mode_of old) params (record { schema = s; trees = old.now.trees }) text None command (Ok (did.0, new.now))) h.schema did.1)
+
+    stayed : HasCleanDisk new → Agrees form true old → calls.Stays old new
+    stayed clean it =
+        let h = holds-now form old.now old.committed rows it.bears in
+        stays_if_executed sql params old new count (subst (λ (s : Schema). writes_tables (command_of (understood s sql)) ≡ true) (sym h.schema) alters.writes) it.mode (ran clean)
+
+    -- the connection was open, and is
+    pub open-after : (HasCleanDisk new → IsTrue old.is_open) → HasCleanDisk new → IsTrue new.is_open
+    open-after opened clean = (stayed clean (fits (was-honest old new P survives clean) (opened clean))).shown.is_open
+
+    pub fits-written : Fits form true new
+    fits-written clean opened =
+        let it = agreed clean opened in
+        let shown = (stayed clean it).shown in
+        let m = made clean it in
+        record {
+          mode = shown.mode;
+          bears = bears-written form old.now new.now old.committed new.committed rows it.bears (subst (λ (xs : Content). IsContent xs new.now) (sym (decoded (f (contents old.now.trees)) new.now m)) m) shown.committed_is;
+          settled = λ e. absurd (true≢false e);
+          making = λ e. absurd (true≢false e);
+        }
+
+    pub written : (leaves : List (Remains Content)) → Writes (f (rows_in form old.now.trees)) (stands form true old leaves) (stands form true new leaves)
+    written leaves = record {
+      clean = λ e. let parts = and_parts new.is_clean new.is_open e in let clean = honest new parts.0 in
+          ap (λ (b : Bool). b && old.is_open) (clean-of old (was-honest old new P survives clean)) ∙ executed_open sql params old new (Ok count) (ran clean) parts.1;
+      before = λ e. let parts = and_parts new.is_clean new.is_open e in let clean = honest new parts.0 in
+          ap (λ (db : Database). rows_in (undone form) db.trees) (stayed clean (agreed clean parts.1)).shown.committed_is;
+      opened = refl;
+      content = λ e. let parts = and_parts new.is_clean new.is_open e in let clean = honest new parts.0 in
+          rows-are form new.now.trees rows ∙ decoded (f (contents old.now.trees)) new.now (made clean (agreed clean parts.1)) ∙ ap f (sym (rows-are form old.now.trees rows));
+      answers = λ was e. ap (λ (b : Bool). b && new.is_open) e ∙ open-after (answered-open old new P survives was) (honest new e);
+      leaves = leaves-same form form true true old new P leaves survives refl;
+    }

@@ -1,0 +1,144 @@
+-- What making the tables leaves of a store of rows.
+use Rattle.std.proofs.Common.{◌≡◌, ◌⊎◌, ◌&&◌, inl, inr, Bool, true, false, List, Result, Ok, Err, IsTrue, refl, sym, ap, subst, ◌∙◌, true≢false}
+use Rattle.std.proofs.lemmas.Bool.{and_parts}
+use Rattle.sqlite_trees.specs.Tree.{Trees}
+use Rattle.sqlite.specs.Effect.{Database}
+use Rattle.sqlite.specs.State.{State, HasCleanDisk, IsRolledBack, Survives}
+use Rattle.sqlrows.specs.inner.Calls as calls
+use Rattle.sqlrows.specs.inner.Definitions.{IsUndone}
+use Rattle.sqltables.specs.Content.{Content, no_content}
+use Rattle.sqltables.specs.inner.Content.{IsContent}
+use Rattle.transactions.specs.declared.fault.BookFault.{BookFault}
+use Rattle.sqltables.specs.declared.form.Form.TheVariants.{Unused, Making}
+use Rattle.transactions.proofs.LeavingLemmas.{leaves-on}
+use Rattle.transactions.specs.States.{Begins, Makes, Remains, Starts, StateOf, Stays, Writes}
+use Rattle.sqltables.specs.inner.Stored.{Agrees, Fits, Guards, stands}
+use Rattle.sqltables.proofs.DecodingLemmas.{decoded}
+use Rattle.sqltables.proofs.StandingLemmas.{answered-open, clean-of, guards-on, honest, leaves-same, was-honest}
+
+both-clean : (old new : State) (P : Trees → Type 0) → Survives old new P → HasCleanDisk new → IsTrue old.is_open → (old.is_clean && old.is_open) ≡ true
+both-clean old new P survives clean opened = ap (λ (b : Bool). b && old.is_open) (clean-of old (was-honest old new P survives clean)) ∙ opened
+
+module _ (old mid : State) (P : Trees → Type 0) (survives : Survives old mid P) (fits : Fits Unused true old) (opens : HasCleanDisk mid → IsTrue mid.is_open → IsTrue old.is_open) (leaves : List (Remains Content)) where
+  pub agreed : HasCleanDisk mid → IsTrue mid.is_open → Agrees Unused true old
+  agreed clean opened = fits (was-honest old mid P survives clean) (opens clean opened)
+
+  -- the tables were made
+  module _ (made : HasCleanDisk mid → IsTrue old.is_open → Agrees Unused true old → IsContent no_content mid.now × calls.Stays old mid) where
+    pub fits-made : Fits Making true mid
+    fits-made clean opened =
+        let it = agreed clean opened in
+        let m = made clean (opens clean opened) it in
+        record {
+          mode = m.1.shown.mode;
+          bears = (subst (λ (xs : Content). IsContent xs mid.now) (sym (decoded no_content mid.now m.0)) m.0, ap (λ (db : Database). db.schema) m.1.shown.committed_is ∙ it.bears.1);
+          settled = λ e. absurd (true≢false e);
+          making = λ e. absurd (true≢false e);
+        }
+
+    pub makes-made : Writes no_content (stands Unused true old leaves) (stands Making true mid leaves)
+    makes-made = record {
+      clean = λ e. let p = and_parts mid.is_clean mid.is_open e in both-clean old mid P survives (honest mid p.0) (opens (honest mid p.0) p.1);
+      before = λ e. refl;
+      opened = refl;
+      content = λ e. let p = and_parts mid.is_clean mid.is_open e in let clean = honest mid p.0 in decoded no_content mid.now (made clean (opens clean p.1) (agreed clean p.1)).0;
+      answers = λ was e.
+          let clean = honest mid e in
+          let before = answered-open old mid P survives was clean in
+          ap (λ (b : Bool). b && mid.is_open) e ∙ (made clean before (fits (was-honest old mid P survives clean) before)).1.shown.is_open;
+      leaves = leaves-same Unused Making true true old mid P leaves survives refl;
+    }
+
+    pub guards-made : (HasCleanDisk mid → IsTrue old.is_open → Agrees Unused true old → (db : Trees) → mid.may_leave db → old.may_leave db ⊎ ⊥) → Guards true old leaves → Guards true mid leaves
+    guards-made crash guards =
+        guards-on true true old mid P leaves survives guards
+        (λ clean _. let was = guards.opened (was-honest old mid P survives clean) refl in (made clean was (fits (was-honest old mid P survives clean) was)).1.shown.is_open)
+        (λ clean db may. let was = guards.opened (was-honest old mid P survives clean) refl in elim (crash clean was (fits (was-honest old mid P survives clean) was) db may) [ inl before ↦ before | inr none ↦ absurd none ])
+
+  -- they weren't, and what was begun is undone
+  module _ (failed : HasCleanDisk mid → IsTrue old.is_open → Agrees Unused true old → calls.Stays old mid ⊎ IsUndone old mid) (new : State) (Q : Trees → Type 0) (later : Survives mid new Q)
+      (does : HasCleanDisk new → IsTrue new.is_open → IsTrue mid.is_open × (((new.now ≡ mid.committed) × (new.committed ≡ mid.committed) × (new.in_transaction ≡ false)) ⊎ ((new.now ≡ mid.now) × (new.committed ≡ mid.committed) × (new.in_transaction ≡ false) × (mid.in_transaction ≡ false)))) where
+    last-commit : (HasCleanDisk mid) → IsTrue mid.is_open → mid.committed ≡ old.committed
+    last-commit clean opened = elim (failed clean (opens clean opened) (agreed clean opened)) [ inl on ↦ on.shown.committed_is | inr off ↦ (off.undone opened).1 ]
+
+    idle-now : HasCleanDisk mid → IsTrue mid.is_open → mid.in_transaction ≡ false → mid.now ≡ old.committed
+    idle-now clean opened idle = elim (failed clean (opens clean opened) (agreed clean opened)) [ inl on ↦ absurd (true≢false (sym on.shown.mode ∙ idle)) | inr off ↦ (off.undone opened).0 ]
+
+    home-again : HasCleanDisk new → IsTrue new.is_open → (new.now ≡ old.committed) × (new.committed ≡ old.committed) × (new.in_transaction ≡ false)
+    home-again clean opened =
+        let was = was-honest mid new Q later clean in
+        let it = does clean opened in
+        elim it.1 [
+          | inl back ↦ (back.0 ∙ last-commit was it.0, back.1 ∙ last-commit was it.0, back.2)
+          | inr same ↦ (same.0 ∙ idle-now was it.0 same.3, same.1 ∙ last-commit was it.0, same.2)
+        ]
+
+    pub fits-unmade : Fits Unused false new
+    fits-unmade clean opened =
+        let it = home-again clean opened in
+        let was = agreed (was-honest mid new Q later clean) (does clean opened).0 in
+        let none = was.bears.1 in
+        record {
+          mode = it.2;
+          bears = (ap (λ (db : Database). db.schema) it.0 ∙ none, ap (λ (db : Database). db.schema) it.1 ∙ none);
+          settled = λ _. it.0 ∙ sym it.1;
+          making = λ _. refl;
+        }
+
+    pub stays-unmade : Stays (stands Unused true old leaves) (stands Unused false new leaves)
+    stays-unmade = record {
+      clean = λ e.
+          let p = and_parts new.is_clean new.is_open e in
+          let clean = honest new p.0 in
+          let was = was-honest mid new Q later clean in
+          both-clean old mid P survives was (opens was (does clean p.1).0);
+      before = λ e. refl;
+      leaves = record {
+        honest = λ e. clean-of old (was-honest old mid P survives (was-honest mid new Q later (honest new e)));
+        same = refl;
+        ready = refl;
+      };
+    }
+
+    pub guards-unmade : (HasCleanDisk mid → IsTrue old.is_open → Agrees Unused true old → (db : Trees) → mid.may_leave db → old.may_leave db ⊎ ⊥) → ((db : Trees) → Q db → ⊥) → Guards true old leaves → Guards false new leaves
+    guards-unmade crash none guards = record {
+      opened = λ clean e. absurd (true≢false (sym e));
+      covers = λ clean db may.
+          let mid-clean = was-honest mid new Q later clean in
+          let old-clean = was-honest old mid P survives mid-clean in
+          let was = guards.opened old-clean refl in
+          elim (later.crash clean db may) [
+            | inl in-mid ↦ elim (crash mid-clean was (fits old-clean was) db in-mid) [ inl before ↦ guards.covers old-clean db before | inr less ↦ absurd less ]
+            | inr is ↦ absurd (none db is)
+          ];
+    }
+
+-- a transaction is opened, and then something is made in it
+pub begins-then : (result : Result (Unit {0}) BookFault) (old mid new : StateOf Content) → old.before ≡ old.content → Starts old mid → Makes result mid.content mid new → Begins result old new
+begins-then (Ok done) old mid new idle starts makes = record {
+  clean = λ e. starts.clean (makes.clean e);
+  before = λ e. makes.before e ∙ starts.before (makes.clean e);
+  opened = makes.opened;
+  content = λ e. makes.content e ∙ starts.content (makes.clean e);
+  answers = λ was. makes.answers (starts.answers was);
+  leaves = leaves-on old mid new starts.leaves makes.leaves;
+}
+begins-then (Err fault) old mid new idle starts stays = record {
+  clean = λ e. starts.clean (stays.clean e);
+  before = λ e. stays.before e ∙ starts.before (stays.clean e) ∙ sym idle;
+  leaves = leaves-on old mid new starts.leaves stays.leaves;
+}
+
+-- what going back does, whether a transaction was open or not
+pub back-or-same : {C : Type 0} (state-of : C → State) (mid new : C) → (HasCleanDisk (state-of new) → IsRolledBack (state-of mid) (state-of new) ⊎ ((new ≡ mid) × ((state-of mid).in_transaction ≡ false)))
+    → HasCleanDisk (state-of new) → IsTrue (state-of new).is_open
+    → IsTrue (state-of mid).is_open
+    × ((((state-of new).now ≡ (state-of mid).committed) × ((state-of new).committed ≡ (state-of mid).committed) × ((state-of new).in_transaction ≡ false))
+    ⊎ (((state-of new).now ≡ (state-of mid).now) × ((state-of new).committed ≡ (state-of mid).committed) × ((state-of new).in_transaction ≡ false) × ((state-of mid).in_transaction ≡ false)))
+back-or-same state-of mid new does clean opened = elim (does clean) [
+  | inl back ↦ (back.was_open opened, inl ((back.undone opened).0, (back.undone opened).1, back.autocommit))
+  | inr same ↦ (
+    subst (λ c. IsTrue (state-of c).is_open) same.0 opened,
+    inr (ap (λ c. (state-of c).now) same.0, ap (λ c. (state-of c).committed) same.0, ap (λ c. (state-of c).in_transaction) same.0 ∙ same.1, same.1),
+  )
+]

@@ -1,0 +1,255 @@
+-- A sound database that lies in order holds the rows that it decodes to.
+use Rattle.std.proofs.Common.{◌≡◌, ℕ, zero, suc, ◌+◌, ◌<◌, ℤ, ◌<ℤ◌, ◌&&◌, ◌||◌, Bool, true, false, not, if◌then◌else◌, List, [], ◌∷◌, map, drop, Some, Less, IsTrue, refl, sym, ap, ap₂, subst, subst₂, ◌∙◌, arith, ◌==◌, true≢false}
+use Rattle.std.specs.List.{AllByRecursion, list_all}
+use Rattle.std.proofs.lemmas.Bool.{and_parts}
+use Rattle.std.proofs.lemmas.Bool.Decides.{nat_tests}
+use Rattle.std.proofs.lemmas.List.{drop-drop}
+use Rattle.sqlite_value.specs.declared.value.Value.{Value}
+use Rattle.sqlite_value.specs.declared.value.Value.TheVariants.{Null, Int, Real, Text, Blob}
+use Rattle.sqlite_value.specs.Order.{Row, column, value_cmp}
+use Rattle.sqlite_value.proofs.OrderLemmas.{value_cmp-Int}
+use Rattle.sqlite_trees.specs.declared.store.Shape.TheVariants as shape
+use Rattle.sqlite_trees.specs.Tree.{Trees, rowid, IsTable}
+use Rattle.sqlite_trees.specs.View.{IsShaped, is_int}
+use Rattle.sqlite_sql.specs.Ops.{is_null}
+use Rattle.sqlite_schema.specs.declared.schema.Column.{Column}
+use Rattle.sqlite_schema.specs.declared.schema.Constraint.TheVariants.{Datatype, NotNull}
+use Rattle.sqlite_schema.specs.declared.schema.Kind.{Kind}
+use Rattle.sqlite_schema.specs.declared.schema.Kind.TheVariants as kind
+use Rattle.sqlite_schema.specs.declared.schema.Schema.{Schema}
+use Rattle.sqlite_schema.specs.declared.schema.Table.{Table}
+use Rattle.sqlite_schema.specs.Rules.{are_present, are_typed, is_of}
+use Rattle.sqlite_catalog.specs.Listing.{IsSound}
+use Rattle.sqlite_keyed.specs.Keyed.{IsKeyedBy}
+use Rattle.sqlite_keyed.proofs.KeyedLemmas.{lt_from_Less}
+use Rattle.sqlite_keyed.proofs.ListLemmas.{all_both, all_map}
+use Rattle.sqlite_typed.specs.Columns.{bytes_of, int_of, or_null, unless_null}
+use Rattle.sqlite.specs.Effect.{Database, IsDatabase}
+use Rattle.sqlrows.specs.Columns.{id_column}
+use Rattle.sqlrows.specs.Layouts.{Layout}
+use Rattle.sqlrows.specs.inner.Layouts.{Holds}
+use Rattle.sqltables.specs.Tables.{registry, meta, account, contact, domain, host, address, link, line, message, transfer, days}
+use Rattle.sqltables.specs.Meta.{metas}
+use Rattle.sqltables.specs.Account.{accounts}
+use Rattle.sqltables.specs.Contact.{contacts}
+use Rattle.sqltables.specs.inner.Domain.{domains}
+use Rattle.sqltables.specs.Host.{hosts}
+use Rattle.sqltables.specs.Address.{addresses}
+use Rattle.sqltables.specs.Link.{links}
+use Rattle.sqltables.specs.Line.{lines}
+use Rattle.sqltables.specs.inner.Message.{messages}
+use Rattle.sqltables.specs.Transfer.{transfers}
+use Rattle.sqltables.specs.Day as day_table
+use Rattle.sqltables.specs.inner.Content.{IsContent}
+use Rattle.sqltables.specs.Decoding.{contents, meta_in, account_in, contact_in, domain_in, host_in, address_in, link_in, line_in, message_in, transfer_in, day_in}
+use Rattle.sqltables.specs.Adoption.{IsInOrder}
+
+-- ---- a value
+
+-- read as its column's type, and written again
+abbrev restored : Kind → Bool → Value → Value
+restored kind.Integer true v = Int (int_of v)
+restored kind.Integer false v = or_null Int (unless_null int_of v)
+restored kind.Text true v = Text (bytes_of v)
+restored kind.Text false v = or_null Text (unless_null bytes_of v)
+restored kind.Blob true v = Blob (bytes_of v)
+restored kind.Blob false v = or_null Blob (unless_null bytes_of v)
+restored kind.Real filled v = v
+restored kind.Any filled v = v
+
+int-back : (v : Value) → is_null v ≡ false → is_of kind.Integer v ≡ true → Int (int_of v) ≡ v
+int-back Null some h = absurd (true≢false some)
+int-back (Int n) some h = refl
+int-back (Real x) some h = absurd (true≢false (sym h))
+int-back (Text t) some h = absurd (true≢false (sym h))
+int-back (Blob b) some h = absurd (true≢false (sym h))
+
+text-back : (v : Value) → is_null v ≡ false → is_of kind.Text v ≡ true → Text (bytes_of v) ≡ v
+text-back Null some h = absurd (true≢false some)
+text-back (Int n) some h = absurd (true≢false (sym h))
+text-back (Real x) some h = absurd (true≢false (sym h))
+text-back (Text t) some h = refl
+text-back (Blob b) some h = absurd (true≢false (sym h))
+
+blob-back : (v : Value) → is_null v ≡ false → is_of kind.Blob v ≡ true → Blob (bytes_of v) ≡ v
+blob-back Null some h = absurd (true≢false some)
+blob-back (Int n) some h = absurd (true≢false (sym h))
+blob-back (Real x) some h = absurd (true≢false (sym h))
+blob-back (Text t) some h = absurd (true≢false (sym h))
+blob-back (Blob b) some h = refl
+
+maybe-back : {X : Type 0} (put : X → Value) (get : Value → X) (v : Value) → (is_null v ≡ false → put (get v) ≡ v) → or_null put (unless_null get v) ≡ v
+maybe-back put get Null back = refl
+maybe-back put get (Int n) back = back refl
+maybe-back put get (Real x) back = back refl
+maybe-back put get (Text t) back = back refl
+maybe-back put get (Blob b) back = back refl
+
+same_value : (k : Kind) (filled : Bool) (v : Value) → is_of k v ≡ true → (filled ≡ true → is_null v ≡ false) → restored k filled v ≡ v
+same_value kind.Integer true v h some = int-back v (some refl) h
+same_value kind.Integer false v h some = maybe-back Int int_of v (λ e. int-back v e h)
+same_value kind.Text true v h some = text-back v (some refl) h
+same_value kind.Text false v h some = maybe-back Text bytes_of v (λ e. text-back v e h)
+same_value kind.Blob true v h some = blob-back v (some refl) h
+same_value kind.Blob false v h some = maybe-back Blob bytes_of v (λ e. blob-back v e h)
+same_value kind.Real filled v h some = refl
+same_value kind.Any filled v h some = refl
+
+-- ---- the columns after the key's
+
+abbrev restored_all : List Column → ℕ → Row → Row
+restored_all [] at r = []
+restored_all (c ∷ cs) at r = restored c.kind c.not_null (column r (at + 1)) ∷ restored_all cs (at + 1) r
+
+-- the last column is NOT NULL
+abbrev ends_filled : Bool → List Column → Bool
+ends_filled last [] = last
+ends_filled last (c ∷ cs) = ends_filled c.not_null cs
+
+later-ends : (last : Bool) (cs : List Column) → ends_filled last cs ≡ true → ends_filled true cs ≡ true
+later-ends last [] h = refl
+later-ends last (c ∷ cs) h = h
+
+at_front : (r : Row) (at : ℕ) → column r at ≡ column (drop at r) 0
+at_front [] zero = refl
+at_front [] (suc at) = refl
+at_front (v ∷ r) zero = refl
+at_front (v ∷ r) (suc at) = at_front r at
+
+one_more : (r : Row) (at : ℕ) → drop (at + 1) r ≡ drop 1 (drop at r)
+one_more r at = sym (drop-drop 1 at r)
+
+step : (r vs : Row) (at : ℕ) → drop at r ≡ vs → (column r at ≡ column vs 0) × (drop (at + 1) r ≡ drop 1 vs)
+step r vs at e = (at_front r at ∙ ap (λ (ws : Row). column ws 0) e, one_more r at ∙ ap (λ (ws : Row). drop 1 ws) e)
+
+beyond_key : (at : ℕ) → 0 < at → (0 == at) ≡ false
+beyond_key at h = grind (arith, nat_tests, h)
+
+not-null-if : (key filled null : Bool) → key ≡ false → (key || not filled || not null) ≡ true → filled ≡ true → null ≡ false
+not-null-if true filled null e h is = absurd (true≢false e)
+not-null-if false true true e h is = absurd (true≢false (sym h))
+not-null-if false true false e h is = refl
+not-null-if false false null e h is = absurd (true≢false (sym is))
+
+else-if : (key a b : Bool) → key ≡ false → (if key then a else b) ≡ true → b ≡ true
+else-if true a b e h = absurd (true≢false e)
+else-if false a b e h = h
+
+then-if : (key a b : Bool) → key ≡ true → (if key then a else b) ≡ true → a ≡ true
+then-if true a b e h = h
+then-if false a b e h = absurd (true≢false (sym e))
+
+-- a row that ends before a column is NULL there
+not_short : (c : Column) (cs : List Column) (at : ℕ) (r : Row) → 0 < at → drop (at + 1) r ≡ [] → ends_filled c.not_null cs ≡ true → are_present (Some 0) at (c ∷ cs) r ≡ true → ⊥
+not_short c [] at r after e ends h =
+    let null : is_null (column r (at + 1)) ≡ true = ap is_null (step r [] (at + 1) e).0 in
+    true≢false (sym null ∙ not-null-if (0 == at) c.not_null (is_null (column r (at + 1))) (beyond_key at after) (and_parts _ _ h).0 ends)
+not_short c (d ∷ cs) at r after e ends h = not_short d cs (at + 1) r (omega (arith, after)) (step r [] (at + 1) e).1 ends (and_parts _ _ h).1
+
+same_values : (cs : List Column) (at : ℕ) (r vs : Row) → 0 < at → list_all (λ (c : Column). c.is_strict) cs ≡ true → ends_filled true cs ≡ true
+    → are_typed (Some 0) at cs vs ≡ true → are_present (Some 0) at cs r ≡ true → drop (at + 1) r ≡ vs → restored_all cs at r ≡ vs
+same_values [] at r [] after strict ends typed present e = refl
+same_values [] at r (v ∷ vs) after strict ends typed present e = absurd (true≢false (sym typed))
+same_values (c ∷ cs) at r [] after strict ends typed present e = absurd (not_short c cs at r after e ends present)
+same_values (c ∷ cs) at r (v ∷ vs) after strict ends typed present e =
+    let s = and_parts _ _ strict in
+    let t = and_parts _ _ typed in
+    let p = and_parts _ _ present in
+    let here = step r (v ∷ vs) (at + 1) e in
+    let suited = then-if c.is_strict _ _ s.0 (else-if (0 == at) _ _ (beyond_key at after) t.0) in
+    ap₂ ◌∷◌
+    (ap (restored c.kind c.not_null) here.0 ∙ same_value c.kind c.not_null v suited (λ filled. sym (ap is_null here.0) ∙ not-null-if (0 == at) c.not_null (is_null (column r (at + 1))) (beyond_key at after) p.0 filled))
+    (same_values cs (at + 1) r vs (omega (arith, after)) s.1 (later-ends c.not_null cs ends) t.1 p.1 here.1)
+
+-- ---- a row
+
+null-is : (v : Value) → is_null v ≡ true → v ≡ Null
+null-is Null h = refl
+null-is (Int n) h = absurd (true≢false (sym h))
+null-is (Real x) h = absurd (true≢false (sym h))
+null-is (Text t) h = absurd (true≢false (sym h))
+null-is (Blob b) h = absurd (true≢false (sym h))
+
+int-is : (v : Value) → IsTrue (is_int v) → Int (int_of v) ≡ v
+int-is Null h = absurd (true≢false (sym h))
+int-is (Int n) h = refl
+int-is (Real x) h = absurd (true≢false (sym h))
+int-is (Text t) h = absurd (true≢false (sym h))
+int-is (Blob b) h = absurd (true≢false (sym h))
+
+abbrev IsTyped : List Column → Row → Type 0
+IsTyped cs r = (are_typed (Some 0) 0 (id_column ∷ cs) (drop 1 r) && true) ≡ true
+
+abbrev IsPresent : List Column → Row → Type 0
+IsPresent cs r = are_present (Some 0) 0 (id_column ∷ cs) r ≡ true
+
+not_alone : (cs : List Column) (v : Value) → ends_filled false cs ≡ true → are_present (Some 0) 1 cs (v ∷ []) ≡ true → ⊥
+not_alone [] v ends h = true≢false (sym ends)
+not_alone (c ∷ cs) v ends h = not_short c cs 1 (v ∷ []) (omega (arith)) refl ends h
+
+same_row : (cs : List Column) (r : Row) → list_all (λ (c : Column). c.is_strict) cs ≡ true → ends_filled false cs ≡ true → IsTrue (is_int (rowid r)) → IsTyped cs r → IsPresent cs r
+    → (Int (int_of (column r 0)) ∷ Null ∷ restored_all cs 1 r) ≡ r
+same_row cs [] strict ends key typed present = absurd (true≢false (sym key))
+same_row cs (v ∷ []) strict ends key typed present = absurd (not_alone cs v ends present)
+same_row cs (v ∷ w ∷ vs) strict ends key typed present =
+    let t = and_parts _ _ (and_parts _ _ typed).0 in
+    ap₂ ◌∷◌ (int-is v key) (ap₂ ◌∷◌ (sym (null-is w t.0)) (same_values cs 1 (v ∷ w ∷ vs) vs (omega (arith)) strict (later-ends false cs ends) t.1 present refl))
+
+-- ---- a table
+
+below : (a b : Value) (m n : ℤ) → a ≡ Int m → b ≡ Int n → value_cmp a b ≡ Less → m <ℤ n
+below a b m n p q low = lt_from_Less m n (sym (value_cmp-Int m n) ∙ subst₂ (λ (x y : Value). value_cmp x y ≡ Less) p q low)
+
+module _ {X : Type 0} (L : Layout X) (read : Row → X) where
+  abbrev IsBack : Row → Type 0
+  IsBack r = L.to_row (read r) ≡ r
+
+  key_of : (r : Row) → IsBack r → rowid r ≡ Int (L.key (read r))
+  key_of r e = sym (ap rowid e) ∙ L.keyed (read r)
+
+  all_back : (rows : List Row) → AllByRecursion IsBack rows → rows ≡ map L.to_row (map read rows)
+  all_back [] each = refl
+  all_back (r ∷ rs) each = ap₂ ◌∷◌ (sym each.0) (all_back rs each.1)
+
+  keys_rise : (rows : List Row) → IsTable rows → AllByRecursion IsBack rows → IsKeyedBy L.key (map read rows)
+  keys_rise [] up each = tt
+  keys_rise (r ∷ rs) up each = (
+    all_map (λ x. L.key (read r) <ℤ L.key x) read rs
+        (all_both (λ s. value_cmp (rowid r) (rowid s) ≡ Less) IsBack (λ s. L.key (read r) <ℤ L.key (read s)) (λ s low e. below (rowid r) (rowid s) _ _ (key_of r each.0) (key_of s e) low) rs up.0 each.1),
+    keys_rise rs up.1 each.1,
+  )
+
+  -- the rows of a sound table whose last column is NOT NULL
+  pub holds : (cs : List Column) (db : Trees) → ((r : Row) → L.to_row (read r) ≡ (Int (int_of (column r 0)) ∷ Null ∷ restored_all cs 1 r)) → list_all (λ (c : Column). c.is_strict) cs ≡ true → ends_filled false cs ≡ true
+      → AllByRecursion (IsTyped cs) (db L.tree) → AllByRecursion (IsPresent cs) (db L.tree) → IsShaped shape.Table (db L.tree) → Holds L db (map read (db L.tree))
+  holds cs db restores strict ends typed present shaped =
+      let both = all_both (IsTyped cs) (IsPresent cs) (λ r. IsTyped cs r × IsPresent cs r) (λ r t p. (t, p)) (db L.tree) typed present in
+      let each = all_both (λ r. IsTrue (is_int (rowid r))) (λ r. IsTyped cs r × IsPresent cs r) IsBack (λ r key it. restores r ∙ same_row cs r strict ends key it.0 it.1) (db L.tree) shaped.1 both in
+      record { rows = all_back (db L.tree) each; keyed = keys_rise (db L.tree) shaped.0 each }
+
+-- ---- the eleven tables
+
+abbrev pub after_key : Table → List Column
+after_key table = drop 1 table.columns
+
+pub content_of_sound : (db : Database) → IsDatabase db → db.schema ≡ registry → IsInOrder db → IsContent (contents db.trees) db
+content_of_sound db sound is in_order =
+    let d = db.trees in
+    let obeys = (subst (λ (s : Schema). IsSound s d) is sound).obeys in
+    let t = obeys.rules Datatype in
+    let p = obeys.rules NotNull in
+    let o = subst (λ (s : Schema). AllByRecursion (λ (t : Table). IsShaped shape.Table (d t.tree)) s.tables) is in_order in
+    record {
+      schema = is;
+      metas = holds metas meta_in (after_key meta) d (λ r. refl) refl refl t.0 p.0 o.0;
+      accounts = holds accounts account_in (after_key account) d (λ r. refl) refl refl t.1.0 p.1.0 o.1.0;
+      contacts = holds contacts contact_in (after_key contact) d (λ r. refl) refl refl t.1.1.0 p.1.1.0 o.1.1.0;
+      domains = holds domains domain_in (after_key domain) d (λ r. refl) refl refl t.1.1.1.0 p.1.1.1.0 o.1.1.1.0;
+      hosts = holds hosts host_in (after_key host) d (λ r. refl) refl refl t.1.1.1.1.0 p.1.1.1.1.0 o.1.1.1.1.0;
+      addresses = holds addresses address_in (after_key address) d (λ r. refl) refl refl t.1.1.1.1.1.0 p.1.1.1.1.1.0 o.1.1.1.1.1.0;
+      links = holds links link_in (after_key link) d (λ r. refl) refl refl t.1.1.1.1.1.1.0 p.1.1.1.1.1.1.0 o.1.1.1.1.1.1.0;
+      lines = holds lines line_in (after_key line) d (λ r. refl) refl refl t.1.1.1.1.1.1.1.0 p.1.1.1.1.1.1.1.0 o.1.1.1.1.1.1.1.0;
+      messages = holds messages message_in (after_key message) d (λ r. refl) refl refl t.1.1.1.1.1.1.1.1.0 p.1.1.1.1.1.1.1.1.0 o.1.1.1.1.1.1.1.1.0;
+      transfers = holds transfers transfer_in (after_key transfer) d (λ r. refl) refl refl t.1.1.1.1.1.1.1.1.1.0 p.1.1.1.1.1.1.1.1.1.0 o.1.1.1.1.1.1.1.1.1.0;
+      days = holds day_table.days day_in (after_key days) d (λ r. refl) refl refl t.1.1.1.1.1.1.1.1.1.1.0 p.1.1.1.1.1.1.1.1.1.1.0 o.1.1.1.1.1.1.1.1.1.1.0;
+    }

@@ -1,0 +1,263 @@
+-- What beginning, committing and going back leave of a store of rows.
+use Rattle.std.proofs.Common.{◌≡◌, ◌⊎◌, ◌&&◌, inl, inr, ℕ, Bool, true, false, List, [], ◌∷◌, ◌++◌, Ok, Err, IsTrue, refl, sym, ap, subst, subst₂, ◌∙◌, true≢false}
+use Rattle.std.proofs.lemmas.Bool.{and_parts}
+use Rattle.sqlite_trees.specs.Tree.{Trees}
+use Rattle.sqlite.specs.declared.error.Error.{Error}
+use Rattle.sqlite.specs.Effect.{Database, IsDatabase}
+use Rattle.sqlite.specs.State.{State, Executes, HasCleanDisk, IsRolledBack, Shows, Survives}
+use Rattle.sqlrows.specs.inner.Transactions.{begin_text, commit_text}
+use Rattle.sqlite_catalog.specs.Listing.{IsSound}
+use Rattle.sqlite_schema.specs.declared.schema.Schema.{Schema}
+use Rattle.sqlite_schema.specs.declared.command.Command.TheVariants as command
+use Rattle.sqlite.specs.Listing.{understood}
+use Rattle.sqlite.proofs.Callers.{runs_as}
+use Rattle.sqlrows.proofs.SelectLemmas.{same_command}
+use Rattle.sqlrows.proofs.SoundLemmas.{executed_open}
+use Rattle.sqlrows.proofs.SwitchLemmas.{begin_is, commit_is}
+use Rattle.sqlrows.proofs.TransactionLemmas.{began, ended}
+use Rattle.sqltables.specs.declared.form.Form.{Form}
+use Rattle.sqltables.specs.declared.form.Form.TheVariants.{Unused, Making, Made, Other}
+use Rattle.transactions.proofs.LeavingLemmas.{has-alone, has-either, has-front, has-last}
+use Rattle.transactions.specs.States.{Closes, Fails, Keeps, Remains, Starts, Stays, holding}
+use Rattle.sqltables.specs.Content.{Content}
+use Rattle.sqltables.specs.inner.Stored.{Agrees, Bears, Fits, Guards, committed, has_rows, leaves_of, left_in, readiness_of, rows_in, stands, undone}
+use Rattle.sqltables.specs.Stored.{IsLeftAs}
+use Rattle.sqltables.proofs.StandingLemmas.{agrees-back, clean-of, guards-on, home, honest, leaves-same, undone-ready, was-honest}
+
+bears-committed : (form : Form) (now last : Database) → Bears form now last → Bears (committed form) now now
+bears-committed Unused now last it = (it.0, it.0)
+bears-committed Making now last it = (it.0, it.0)
+bears-committed Made now last it = (it.0, it.0)
+bears-committed Other now last it = tt
+
+committed-stays : (form : Form) → undone (committed form) ≡ committed form
+committed-stays Unused = refl
+committed-stays Making = refl
+committed-stays Made = refl
+committed-stays Other = refl
+
+committed-rows : (form : Form) (db : Trees) → rows_in (committed form) db ≡ rows_in form db
+committed-rows Unused db = refl
+committed-rows Making db = refl
+committed-rows Made db = refl
+committed-rows Other db = refl
+
+-- a database that is kept
+kept-as : (form : Form) (now last : Database) → has_rows form ≡ true → Bears form now last → IsDatabase now → IsLeftAs (readiness_of (committed form)) now.trees (rows_in (committed form) now.trees)
+kept-as Unused now last rows it sound = absurd (true≢false (sym rows))
+kept-as Making now last rows it sound = (subst (λ (s : Schema). IsSound s now.trees) it.0.schema sound, refl)
+kept-as Made now last rows it sound = (subst (λ (s : Schema). IsSound s now.trees) it.0.schema sound, refl)
+kept-as Other now last rows it sound = absurd (true≢false (sym rows))
+
+pub holding-it : (form : Form) (s : State) → has_rows form ≡ true → left_in (committed form) s ≡ holding (rows_in form s.now.trees)
+holding-it Unused s rows = absurd (true≢false (sym rows))
+holding-it Making s rows = refl
+holding-it Made s rows = refl
+holding-it Other s rows = absurd (true≢false (sym rows))
+
+-- ---- what was noted
+
+-- after nothing, one
+pub noted-alone : {C : Type 0} (state-of : C → State) (none notes : List (C × Form)) (conn : C) (made form : Form) → none ≡ [] → notes ≡ none ++ (conn, made) ∷ [] → made ≡ form → leaves_of state-of notes ≡ left_in form (state-of conn) ∷ []
+noted-alone state-of none notes conn made form empty is same =
+    ap (leaves_of state-of) (is ∙ ap (λ l. l ++ (conn, made) ∷ []) empty) ∙ ap (λ f. left_in f (state-of conn) ∷ []) same
+
+noted-last : {C : Type 0} (state-of : C → State) (notes : List (C × Form)) (conn : C) (form : Form) → leaves_of state-of (notes ++ (conn, form) ∷ []) ≡ leaves_of state-of notes ++ left_in form (state-of conn) ∷ []
+noted-last state-of [] conn form = refl
+noted-last state-of (note ∷ notes) conn form = ap (λ l. left_in note.1 (state-of note.0) ∷ l) (noted-last state-of notes conn form)
+
+-- after others, one more
+pub noted-more : {C : Type 0} (state-of : C → State) (before notes : List (C × Form)) (conn : C) (made form : Form) → notes ≡ before ++ (conn, made) ∷ [] → made ≡ form
+    → leaves_of state-of notes ≡ leaves_of state-of before ++ left_in form (state-of conn) ∷ []
+noted-more state-of before notes conn made form is same =
+    ap (leaves_of state-of) is ∙ noted-last state-of before conn made ∙ ap (λ f. leaves_of state-of before ++ left_in f (state-of conn) ∷ []) same
+
+-- ---- a text that went well
+
+begin-shows : (old new : State) (count : ℕ) → Executes begin_text [] old new (Ok count) → Shows old new old.now old.committed true
+begin-shows old new count ran = (runs_as begin_text [] old new old.now.schema refl command.Begin (same_command (understood old.now.schema begin_text) ∙ (begin_is old.now.schema).command_is) (begin_is old.now.schema).plain count ran).1
+
+commit-shows : (old new : State) (count : ℕ) → Executes commit_text [] old new (Ok count) → Shows old new old.now old.now false
+commit-shows old new count ran = (runs_as commit_text [] old new old.now.schema refl command.Commit (same_command (understood old.now.schema commit_text) ∙ (commit_is old.now.schema).command_is) (commit_is old.now.schema).plain count ran).1
+
+module _ (form : Form) (old new : State) (P : Trees → Type 0) (survives : Survives old new P) (leaves : List (Remains Content)) where
+  parts-of : (new.is_clean && new.is_open) ≡ true → HasCleanDisk new × IsTrue new.is_open
+  parts-of e = let parts = and_parts new.is_clean new.is_open e in (honest new parts.0, parts.1)
+
+  clean-if-open : HasCleanDisk new → IsTrue old.is_open → (old.is_clean && old.is_open) ≡ true
+  clean-if-open clean opened = ap (λ (b : Bool). b && old.is_open) (clean-of old (was-honest old new P survives clean)) ∙ opened
+
+  -- ---- BEGIN
+  module _ (fits : Fits form false old) where
+    module _ (count : ℕ) (ran : HasCleanDisk new → Executes begin_text [] old new (Ok count)) where
+      opened-before : HasCleanDisk new → IsTrue new.is_open → IsTrue old.is_open
+      opened-before clean opened = executed_open begin_text [] old new (Ok count) (ran clean) opened
+
+      agreed : HasCleanDisk new → IsTrue new.is_open → Agrees form false old
+      agreed clean opened = fits (was-honest old new P survives clean) (opened-before clean opened)
+
+      shows : HasCleanDisk new → Agrees form false old → Shows old new old.now old.committed true
+      shows clean it = began old new (Ok count) it.mode (ran clean)
+
+      pub fits-begun : Fits form true new
+      fits-begun clean opened =
+          let it = agreed clean opened in
+          let shown = shows clean it in
+          record {
+            mode = shown.mode;
+            bears = subst₂ (Bears form) (sym shown.now_is) (sym shown.committed_is) it.bears;
+            settled = λ e. absurd (true≢false e);
+            making = λ e. absurd (true≢false e);
+          }
+
+      pub guards-begun : ((db : Trees) → P db → ⊥) → Guards false old leaves → Guards true new leaves
+      guards-begun none guards =
+          guards-on false true old new P leaves survives guards (λ clean _. (begin-shows old new count (ran clean)).is_open)
+          (λ clean db may. elim (survives.crash clean db may) [ inl was ↦ was | inr is ↦ absurd (none db is) ])
+
+      pub starts : Starts (stands form false old leaves) (stands form true new leaves)
+      starts = record {
+        clean = λ e. let p = parts-of e in clean-if-open p.0 (opened-before p.0 p.1);
+        before = λ e. let p = parts-of e in let it = agreed p.0 p.1 in ap (λ (db : Database). rows_in (undone form) db.trees) (shows p.0 it).committed_is ∙ sym (home form false old leaves it);
+        opened = refl;
+        content = λ e. let p = parts-of e in ap (λ (db : Database). rows_in form db.trees) (shows p.0 (agreed p.0 p.1)).now_is;
+        answers = λ was e. ap (λ (b : Bool). b && new.is_open) e ∙ (begin-shows old new count (ran (honest new e))).is_open;
+        leaves = leaves-same form form false true old new P leaves survives refl;
+      }
+
+    module _ (e : Error) (ran : HasCleanDisk new → Executes begin_text [] old new (Err e)) where
+      was-agreed : HasCleanDisk new → IsTrue new.is_open → Agrees form false old
+      was-agreed clean opened = fits (was-honest old new P survives clean) (executed_open begin_text [] old new (Err e) (ran clean) opened)
+
+      gone : HasCleanDisk new → Agrees form false old → IsRolledBack old new
+      gone clean it = began old new (Err e) it.mode (ran clean)
+
+      pub fits-not-begun : Fits form false new
+      fits-not-begun clean opened =
+          let it = was-agreed clean opened in
+          subst (λ (f : Form). Agrees f false new) (it.making refl) (agrees-back form false old new (gone clean it) opened it)
+
+      pub stays-not-begun : Stays (stands form false old leaves) (stands form false new leaves)
+      stays-not-begun = record {
+        clean = λ c. let p = parts-of c in clean-if-open p.0 (executed_open begin_text [] old new (Err e) (ran p.0) p.1);
+        before = λ c.
+            let p = parts-of c in
+            let it = was-agreed p.0 p.1 in
+            ap (λ (db : Database). rows_in form db.trees) ((gone p.0 it).undone p.1).0 ∙ ap (λ (f : Form). rows_in f old.committed.trees) (sym (it.making refl)) ∙ sym (home form false old leaves it);
+        leaves = leaves-same form form false false old new P leaves survives refl;
+      }
+
+  -- ---- COMMIT
+  module _ (fits : Fits form true old) where
+    module _ (count : ℕ) (ran : HasCleanDisk new → Executes commit_text [] old new (Ok count)) where
+      open-before : HasCleanDisk new → IsTrue new.is_open → IsTrue old.is_open
+      open-before clean opened = executed_open commit_text [] old new (Ok count) (ran clean) opened
+
+      agreed-inside : HasCleanDisk new → IsTrue new.is_open → Agrees form true old
+      agreed-inside clean opened = fits (was-honest old new P survives clean) (open-before clean opened)
+
+      kept : HasCleanDisk new → Agrees form true old → Shows old new old.now old.now false
+      kept clean it = ended old new (Ok count) it.mode (ran clean)
+
+      pub fits-committed : Fits (committed form) false new
+      fits-committed clean opened =
+          let it = agreed-inside clean opened in
+          let shown = kept clean it in
+          record {
+            mode = shown.mode;
+            bears = subst₂ (Bears (committed form)) (sym shown.now_is) (sym shown.committed_is) (bears-committed form old.now old.committed it.bears);
+            settled = λ _. shown.now_is ∙ sym shown.committed_is;
+            making = λ _. committed-stays form;
+          }
+
+      pub keeps : has_rows form ≡ true → Keeps (stands form true old leaves) (stands (committed form) false new (left_in (committed form) old ∷ []))
+      keeps rows = record {
+        clean = λ e. let p = parts-of e in clean-if-open p.0 (open-before p.0 p.1);
+        closed = refl;
+        content = λ e. let p = parts-of e in committed-rows form new.now.trees ∙ ap (λ (db : Database). rows_in form db.trees) (kept p.0 (agreed-inside p.0 p.1)).now_is;
+        answers = λ e. ap (λ (b : Bool). b && new.is_open) e ∙ (commit-shows old new count (ran (honest new e))).is_open;
+        honest = λ e. clean-of old (was-honest old new P survives (honest new e));
+        answered = λ e. clean-if-open (honest new e) (commit-shows old new count (ran (honest new e))).was_open;
+        leaves = λ left h. has-alone (left_in (committed form) old) left h ∙ holding-it form old rows;
+        ready = ap (λ (left : Remains Content). left.readiness) (holding-it form old rows);
+      }
+
+      -- what the store of the connection keeps true while it is open
+      pub guards-committed : has_rows form ≡ true → (IsTrue old.is_open → IsDatabase old.now) → ((db : Trees) → IsTrue new.is_open → new.may_leave db → db ≡ new.committed.trees) → Guards false new (left_in (committed form) old ∷ [])
+      guards-committed rows live settled = record {
+        opened = λ clean e. absurd (true≢false (sym e));
+        covers = λ clean db may.
+            let shown = commit-shows old new count (ran clean) in
+            let it = fits (was-honest old new P survives clean) shown.was_open in
+            let is : old.now.trees ≡ db = sym (settled db shown.is_open may ∙ ap (λ (d : Database). d.trees) shown.committed_is) in
+            (left_in (committed form) old, inl refl, subst (λ (d : Trees). IsLeftAs (readiness_of (committed form)) d (rows_in (committed form) old.now.trees)) is (kept-as form old.now old.committed rows it.bears (live shown.was_open)));
+      }
+
+    module _ (e : Error) (ran : HasCleanDisk new → Executes commit_text [] old new (Err e)) where
+      was-inside : HasCleanDisk new → IsTrue new.is_open → Agrees form true old
+      was-inside clean opened = fits (was-honest old new P survives clean) (executed_open commit_text [] old new (Err e) (ran clean) opened)
+
+      undone-by : HasCleanDisk new → Agrees form true old → IsRolledBack old new
+      undone-by clean it = ended old new (Err e) it.mode (ran clean)
+
+      pub fits-not-committed : Fits (undone form) false new
+      fits-not-committed clean opened = let it = was-inside clean opened in agrees-back form true old new (undone-by clean it) opened it
+
+      pub fails : has_rows form ≡ true → Guards true old leaves → Fails (stands form true old leaves) (stands (undone form) false new (leaves ++ left_in (committed form) old ∷ []))
+      fails rows guards = record {
+        clean = λ c. let p = parts-of c in clean-if-open p.0 (executed_open commit_text [] old new (Err e) (ran p.0) p.1);
+        before = λ c. let p = parts-of c in ap (λ (db : Database). rows_in (undone form) db.trees) ((undone-by p.0 (was-inside p.0 p.1)).undone p.1).0;
+        honest = λ c. clean-of old (was-honest old new P survives (honest new c));
+        answered = λ c. let clean = honest new c in clean-if-open clean (guards.opened (was-honest old new P survives clean) refl);
+        leaves = λ left h. elim (has-either leaves (left_in (committed form) old) left h) [ inl there ↦ inl there | inr is ↦ inr (is ∙ holding-it form old rows) ];
+        ready = undone-ready form;
+      }
+
+      pub guards-failed : has_rows form ≡ true → Guards true old leaves → (IsTrue old.is_open → IsDatabase old.now) → ((db : Trees) → P db → db ≡ old.now.trees) → Guards false new (leaves ++ left_in (committed form) old ∷ [])
+      guards-failed rows guards live only = record {
+        opened = λ clean b. absurd (true≢false (sym b));
+        covers = λ clean db may.
+            let last = left_in (committed form) old in
+            let was = was-honest old new P survives clean in
+            elim (survives.crash clean db may) [
+              | inl before ↦ let it = guards.covers was db before in (it.0, has-front leaves last it.0 it.1, it.2)
+              | inr is ↦
+                  let opened = guards.opened was refl in
+                  (last, has-last leaves last, subst (λ (d : Trees). IsLeftAs (readiness_of (committed form)) d (rows_in (committed form) old.now.trees)) (sym (only db is)) (kept-as form old.now old.committed rows (fits was opened).bears (live opened)))
+            ];
+      }
+
+-- ---- ROLLBACK
+module _ {C : Type 0} (state-of : C → State) (form : Form) (begun : Bool) (old new : C) (P : Trees → Type 0) (survives : Survives (state-of old) (state-of new) P) (fits : Fits form begun (state-of old))
+    (does : HasCleanDisk (state-of new) → IsRolledBack (state-of old) (state-of new) ⊎ ((new ≡ old) × ((state-of old).in_transaction ≡ false))) (leaves : List (Remains Content)) where
+  abbrev Back : C → Type 0
+  Back c = Agrees (undone form) false (state-of c) × (rows_in (undone form) (state-of c).now.trees ≡ (stands form begun (state-of old) leaves).before)
+
+  idle-back : (state-of old).in_transaction ≡ false → Agrees form begun (state-of old) → Back old
+  idle-back none it =
+      let idle : begun ≡ false = sym it.mode ∙ none in
+      let kept : undone form ≡ form = it.making idle in
+      (subst₂ (λ (f : Form) (b : Bool). Agrees f b (state-of old)) (sym kept) idle it, ap (λ (db : Database). rows_in (undone form) db.trees) (it.settled idle) ∙ sym (home form begun (state-of old) leaves it))
+
+  turned : HasCleanDisk (state-of new) → IsTrue (state-of new).is_open → IsTrue (state-of old).is_open × Back new
+  turned clean opened = elim (does clean) [
+    | inl back ↦
+        let was = back.was_open opened in
+        let it = fits (was-honest (state-of old) (state-of new) P survives clean) was in
+        (was, (agrees-back form begun (state-of old) (state-of new) back opened it, ap (λ (db : Database). rows_in (undone form) db.trees) (back.undone opened).0 ∙ sym (home form begun (state-of old) leaves it)))
+    | inr same ↦
+        let was = subst (λ (c : C). IsTrue (state-of c).is_open) same.0 opened in
+        let it = fits (was-honest (state-of old) (state-of new) P survives clean) was in
+        (was, subst Back (sym same.0) (idle-back same.1 it))
+  ]
+
+  pub fits-back : Fits (undone form) false (state-of new)
+  fits-back clean opened = (turned clean opened).1.0
+
+  pub closes-back : Closes (stands form begun (state-of old) leaves).before (stands form begun (state-of old) leaves) (stands (undone form) false (state-of new) leaves)
+  closes-back = record {
+    clean = λ e. let p = parts-of form (state-of old) (state-of new) P survives leaves e in clean-if-open form (state-of old) (state-of new) P survives leaves p.0 (turned p.0 p.1).0;
+    closed = refl;
+    content = λ e. let p = parts-of form (state-of old) (state-of new) P survives leaves e in (turned p.0 p.1).1.1;
+    leaves = leaves-same form (undone form) begun false (state-of old) (state-of new) P leaves survives (undone-ready form);
+  }

@@ -1,0 +1,231 @@
+-- What the soundness of a database makes always true of its rows.
+use Rattle.std.proofs.Common.{◌≡◌, ℕ, ℤ, ◌&&◌, ◌||◌, Bool, true, false, not, List, [], ◌∷◌, Option, Some, sym, ◌∙◌, subst}
+use Rattle.std.specs.List.{AllByRecursion, list_all, list_any}
+use Rattle.std.proofs.lemmas.Bool.{and_parts}
+use Rattle.sqlite_value.specs.declared.value.Value.TheVariants.{Int}
+use Rattle.sqlite_value.specs.declared.keys.Collation.TheVariants.{Binary}
+use Rattle.sqlite_value.specs.Keys.{first_key, joined, plain}
+use Rattle.sqlite_value.specs.Order.{Row, column}
+use Rattle.sqlite_trees.specs.Tree.{Trees}
+use Rattle.sqlite_sql.specs.declared.ops.CompareOp.TheVariants.{Eq}
+use Rattle.sqlite_sql.specs.Ops.{is_null}
+use Rattle.sqlite_schema.specs.declared.schema.Constraint.TheVariants.{Unique, ForeignKey}
+use Rattle.sqlite_schema.specs.declared.schema.Schema.{Schema}
+use Rattle.sqlite_schema.specs.Names.{same_name}
+use Rattle.sqlite_schema.specs.declared.schema.Reference.{Reference}
+use Rattle.sqlite_schema.specs.Rules.{agree, clashes, equal, Keeps}
+use Rattle.sqlite_schema.specs.Rules.{has_parent as refers}
+use Rattle.sqlite_catalog.specs.Listing.{IsSound}
+use Rattle.sqlite_keyed.specs.Rules.{has_parent, is_apart}
+use Rattle.sqlite_keyed.proofs.ListLemmas.{all_from_test, all_unmap, all_weaker}
+use Rattle.sqlite_typed.specs.Columns.{or_null}
+use Rattle.sqlite_typed.specs.Tests.{bytes_eq}
+use Rattle.sqlite_typed.proofs.TestLemmas.{at_texts, last_term}
+use Rattle.sqlite_tied.proofs.RuleLemmas.{clash_is, parent_is}
+use Rattle.sqlite.specs.Effect.{Database, IsDatabase}
+use Rattle.sqlrows.specs.Layouts.{Layout}
+use Rattle.sqlrows.specs.inner.Layouts.{Holds}
+use Rattle.sqltables.specs.Tables.{registry, contact, domain, host, address, link, line, message, transfer}
+use Rattle.sqltables.specs.Content.{Content, no_content}
+use Rattle.sqltables.specs.inner.Content.{IsContent}
+use Rattle.sqltables.specs.Account.{accounts}
+use Rattle.sqltables.specs.Contact.{Contact, contact_row, contacts}
+use Rattle.sqltables.specs.Domain.{Domain}
+use Rattle.sqltables.specs.inner.Domain.{domain_row, domains}
+use Rattle.sqltables.specs.Host.{Host, host_row, hosts}
+use Rattle.sqltables.specs.Address.{Address, address_row, addresses}
+use Rattle.sqltables.specs.Link.{Link, link_row, links}
+use Rattle.sqltables.specs.Line.{Line, line_row, lines}
+use Rattle.sqltables.specs.Message.{Message}
+use Rattle.sqltables.specs.inner.Message.{message_row, messages}
+use Rattle.sqltables.specs.Transfer.{Transfer, transfer_row, transfers}
+use Rattle.sqltables.specs.inner.Stored.{Bears, rows_in}
+use Rattle.sqltables.specs.declared.form.Form.{Form}
+use Rattle.sqltables.specs.declared.form.Form.TheVariants.{Unused, Making, Made, Other}
+use Rattle.sqltables.specs.inner.Whole.{AreKeyed, AreLinked, AreNamed, IsNamedBy, IsWhole, LeadsTo}
+use Rattle.sqltables.proofs.RowLemmas.{leads_if_held, named_if_apart}
+
+pub keyed : (xs : Content) (db : Database) → IsContent xs db → AreKeyed xs
+keyed xs db h = record {
+  metas = h.metas.keyed;
+  accounts = h.accounts.keyed;
+  contacts = h.contacts.keyed;
+  domains = h.domains.keyed;
+  hosts = h.hosts.keyed;
+  addresses = h.addresses.keyed;
+  links = h.links.keyed;
+  lines = h.lines.keyed;
+  messages = h.messages.keyed;
+  transfers = h.transfers.keyed;
+  days = h.days.keyed;
+}
+
+-- ---- what is true of each stored row, as of each row of the type
+
+typed : {X : Type 0} (L : Layout X) (db : Trees) (xs : List X) → Holds L db xs → (P : Row → Type 0) → AllByRecursion P (db L.tree) → AllByRecursion (λ x. P (L.to_row x)) xs
+typed L db xs h P each = all_unmap P L.to_row xs (subst (AllByRecursion P) h.rows each)
+
+-- ---- names
+
+-- the test of UNIQUE on the first column after the key
+named_by : {X : Type 0} (L : Layout X) (name : X → List ℕ) (db : Trees) (xs : List X) → Holds L db xs → ((a b : X) → agree plain (2 ∷ []) (L.to_row a) (2 ∷ []) (L.to_row b) ≡ bytes_eq (name a) (name b))
+    → AllByRecursion (λ x. (not (clashes plain (2 ∷ []) (db L.tree) (L.to_row x)) && true) ≡ true) xs → IsNamedBy name xs
+named_by {X} L name db xs h same each =
+    let clash : X → X → Bool = λ a b. bytes_eq (name a) (name b) in
+    named_if_apart L.key name xs h.keyed
+    (all_weaker _ (λ x. is_apart L.key clash xs x ≡ true) (λ x t. sym (clash_is db L.tree L.to_row L.key xs h.rows L.keyed (2 ∷ []) clash same x) ∙ (and_parts (not (clashes plain (2 ∷ []) (db L.tree) (L.to_row x))) true t).0) xs each)
+
+pub named : (xs : Content) (db : Database) → IsContent xs db → Keeps Unique registry db.trees → AreNamed xs
+unfolding first_key
+named xs db h keeps = record {
+  accounts = named_by accounts (λ x. x.ident) db.trees xs.accounts h.accounts (λ a b. last_term (at_texts false Eq a.ident b.ident)) (typed accounts db.trees xs.accounts h.accounts _ keeps.1.0);
+  contacts = named_by contacts (λ x. x.name) db.trees xs.contacts h.contacts (λ a b. last_term (at_texts false Eq a.name b.name)) (typed contacts db.trees xs.contacts h.contacts _ keeps.1.1.0);
+  domains = named_by domains (λ x. x.name) db.trees xs.domains h.domains (λ a b. last_term (at_texts false Eq a.name b.name)) (typed domains db.trees xs.domains h.domains _ keeps.1.1.1.0);
+  hosts = named_by hosts (λ x. x.name) db.trees xs.hosts h.hosts (λ a b. last_term (at_texts false Eq a.name b.name)) (typed hosts db.trees xs.hosts h.hosts _ keeps.1.1.1.1.0);
+}
+
+-- ---- references
+
+-- the column is NULL, or some row of the tree has it as its number
+abbrev IsHeld : Trees → ℕ → Option ℤ → Type 0
+IsHeld db tree o = ((is_null (or_null Int o) || false) || list_any (λ parent. equal Binary (column parent 0) (or_null Int o) && true) (db tree)) ≡ true
+
+led : {X Y : Type 0} (L : Layout Y) (db : Trees) (ys : List Y) → Holds L db ys → (xs : List X) (at : X → Option ℤ) → AllByRecursion (λ x. IsHeld db L.tree (at x)) xs → LeadsTo xs at ys L.key
+led L db ys h xs at each =
+    leads_if_held xs at ys L.key (all_weaker _ (λ x. has_parent L.key ys (at x) ≡ true) (λ x t. sym (parent_is db L.tree L.to_row L.key ys h.rows L.keyed (at x)) ∙ t) xs each)
+
+-- each reference of a row has its parent
+abbrev Refers : Trees → List Reference → Row → Type 0
+Refers db references row = AllByRecursion (λ ref. refers registry.tables db row ref ≡ true) references
+
+each_refers : {X : Type 0} (L : Layout X) (db : Trees) (xs : List X) → Holds L db xs → (references : List Reference) → AllByRecursion (λ row. list_all (refers registry.tables db row) references ≡ true) (db L.tree)
+    → AllByRecursion (λ x. Refers db references (L.to_row x)) xs
+each_refers L db xs h references each =
+    all_weaker _ (λ x. Refers db references (L.to_row x)) (λ x t. all_from_test (refers registry.tables db (L.to_row x)) references t) xs
+    (typed L db xs h (λ row. list_all (refers registry.tables db row) references ≡ true) each)
+
+contact-sponsor : (db : Trees) (xs : List Contact) → AllByRecursion (λ x. Refers db contact.references (contact_row x)) xs → AllByRecursion (λ (x : Contact). IsHeld db 1 (Some x.sponsor)) xs
+unfolding same_name first_key joined
+contact-sponsor db xs each = all_weaker _ (λ (x : Contact). IsHeld db 1 (Some x.sponsor)) (λ x r. r.0) xs each
+
+domain-sponsor : (db : Trees) (xs : List Domain) → AllByRecursion (λ x. Refers db domain.references (domain_row x)) xs → AllByRecursion (λ (x : Domain). IsHeld db 1 (Some x.sponsor)) xs
+unfolding same_name first_key joined
+domain-sponsor db xs each = all_weaker _ (λ (x : Domain). IsHeld db 1 (Some x.sponsor)) (λ x r. r.0) xs each
+
+domain-registrant : (db : Trees) (xs : List Domain) → AllByRecursion (λ x. Refers db domain.references (domain_row x)) xs → AllByRecursion (λ (x : Domain). IsHeld db 3 (Some x.registrant)) xs
+unfolding same_name first_key joined
+domain-registrant db xs each = all_weaker _ (λ (x : Domain). IsHeld db 3 (Some x.registrant)) (λ x r. r.1.0) xs each
+
+host-external_sponsor : (db : Trees) (xs : List Host) → AllByRecursion (λ x. Refers db host.references (host_row x)) xs → AllByRecursion (λ (x : Host). IsHeld db 1 x.external_sponsor) xs
+unfolding same_name first_key joined
+host-external_sponsor db xs each = all_weaker _ (λ (x : Host). IsHeld db 1 x.external_sponsor) (λ x r. r.0) xs each
+
+host-sponsor : (db : Trees) (xs : List Host) → AllByRecursion (λ x. Refers db host.references (host_row x)) xs → AllByRecursion (λ (x : Host). IsHeld db 1 x.sponsor) xs
+unfolding same_name first_key joined
+host-sponsor db xs each = all_weaker _ (λ (x : Host). IsHeld db 1 x.sponsor) (λ x r. r.1.0) xs each
+
+address-host : (db : Trees) (xs : List Address) → AllByRecursion (λ x. Refers db address.references (address_row x)) xs → AllByRecursion (λ (x : Address). IsHeld db 7 (Some x.host)) xs
+unfolding same_name first_key joined
+address-host db xs each = all_weaker _ (λ (x : Address). IsHeld db 7 (Some x.host)) (λ x r. r.0) xs each
+
+link-domain : (db : Trees) (xs : List Link) → AllByRecursion (λ x. Refers db link.references (link_row x)) xs → AllByRecursion (λ (x : Link). IsHeld db 5 (Some x.domain)) xs
+unfolding same_name first_key joined
+link-domain db xs each = all_weaker _ (λ (x : Link). IsHeld db 5 (Some x.domain)) (λ x r. r.0) xs each
+
+link-contact : (db : Trees) (xs : List Link) → AllByRecursion (λ x. Refers db link.references (link_row x)) xs → AllByRecursion (λ (x : Link). IsHeld db 3 x.contact) xs
+unfolding same_name first_key joined
+link-contact db xs each = all_weaker _ (λ (x : Link). IsHeld db 3 x.contact) (λ x r. r.1.0) xs each
+
+link-host : (db : Trees) (xs : List Link) → AllByRecursion (λ x. Refers db link.references (link_row x)) xs → AllByRecursion (λ (x : Link). IsHeld db 7 x.host) xs
+unfolding same_name first_key joined
+link-host db xs each = all_weaker _ (λ (x : Link). IsHeld db 7 x.host) (λ x r. r.1.1.0) xs each
+
+line-account : (db : Trees) (xs : List Line) → AllByRecursion (λ x. Refers db line.references (line_row x)) xs → AllByRecursion (λ (x : Line). IsHeld db 1 (Some x.account)) xs
+unfolding same_name first_key joined
+line-account db xs each = all_weaker _ (λ (x : Line). IsHeld db 1 (Some x.account)) (λ x r. r.0) xs each
+
+message-account : (db : Trees) (xs : List Message) → AllByRecursion (λ x. Refers db message.references (message_row x)) xs → AllByRecursion (λ (x : Message). IsHeld db 1 (Some x.account)) xs
+unfolding same_name first_key joined
+message-account db xs each = all_weaker _ (λ (x : Message). IsHeld db 1 (Some x.account)) (λ x r. r.0) xs each
+
+transfer-contact : (db : Trees) (xs : List Transfer) → AllByRecursion (λ x. Refers db transfer.references (transfer_row x)) xs → AllByRecursion (λ (x : Transfer). IsHeld db 3 x.contact) xs
+unfolding same_name first_key joined
+transfer-contact db xs each = all_weaker _ (λ (x : Transfer). IsHeld db 3 x.contact) (λ x r. r.0) xs each
+
+transfer-domain : (db : Trees) (xs : List Transfer) → AllByRecursion (λ x. Refers db transfer.references (transfer_row x)) xs → AllByRecursion (λ (x : Transfer). IsHeld db 5 x.domain) xs
+unfolding same_name first_key joined
+transfer-domain db xs each = all_weaker _ (λ (x : Transfer). IsHeld db 5 x.domain) (λ x r. r.1.0) xs each
+
+transfer-requester : (db : Trees) (xs : List Transfer) → AllByRecursion (λ x. Refers db transfer.references (transfer_row x)) xs → AllByRecursion (λ (x : Transfer). IsHeld db 1 (Some x.requester)) xs
+unfolding same_name first_key joined
+transfer-requester db xs each = all_weaker _ (λ (x : Transfer). IsHeld db 1 (Some x.requester)) (λ x r. r.1.1.0) xs each
+
+transfer-losing : (db : Trees) (xs : List Transfer) → AllByRecursion (λ x. Refers db transfer.references (transfer_row x)) xs → AllByRecursion (λ (x : Transfer). IsHeld db 1 (Some x.losing)) xs
+unfolding same_name first_key joined
+transfer-losing db xs each = all_weaker _ (λ (x : Transfer). IsHeld db 1 (Some x.losing)) (λ x r. r.1.1.1.0) xs each
+
+pub linked : (xs : Content) (db : Database) → IsContent xs db → Keeps ForeignKey registry db.trees → AreLinked xs
+linked xs db h keeps =
+    let d = db.trees in
+    let of_contacts = each_refers contacts d xs.contacts h.contacts contact.references keeps.1.1.0 in
+    let of_domains = each_refers domains d xs.domains h.domains domain.references keeps.1.1.1.0 in
+    let of_hosts = each_refers hosts d xs.hosts h.hosts host.references keeps.1.1.1.1.0 in
+    let of_addresses = each_refers addresses d xs.addresses h.addresses address.references keeps.1.1.1.1.1.0 in
+    let of_links = each_refers links d xs.links h.links link.references keeps.1.1.1.1.1.1.0 in
+    let of_lines = each_refers lines d xs.lines h.lines line.references keeps.1.1.1.1.1.1.1.0 in
+    let of_messages = each_refers messages d xs.messages h.messages message.references keeps.1.1.1.1.1.1.1.1.0 in
+    let of_transfers = each_refers transfers d xs.transfers h.transfers transfer.references keeps.1.1.1.1.1.1.1.1.1.0 in
+    record {
+      contact_sponsor = led accounts d xs.accounts h.accounts xs.contacts (λ (x : Contact). Some x.sponsor) (contact-sponsor d xs.contacts of_contacts);
+      domain_sponsor = led accounts d xs.accounts h.accounts xs.domains (λ (x : Domain). Some x.sponsor) (domain-sponsor d xs.domains of_domains);
+      domain_registrant = led contacts d xs.contacts h.contacts xs.domains (λ (x : Domain). Some x.registrant) (domain-registrant d xs.domains of_domains);
+      host_external_sponsor = led accounts d xs.accounts h.accounts xs.hosts (λ (x : Host). x.external_sponsor) (host-external_sponsor d xs.hosts of_hosts);
+      host_sponsor = led accounts d xs.accounts h.accounts xs.hosts (λ (x : Host). x.sponsor) (host-sponsor d xs.hosts of_hosts);
+      address_host = led hosts d xs.hosts h.hosts xs.addresses (λ (x : Address). Some x.host) (address-host d xs.addresses of_addresses);
+      link_domain = led domains d xs.domains h.domains xs.links (λ (x : Link). Some x.domain) (link-domain d xs.links of_links);
+      link_contact = led contacts d xs.contacts h.contacts xs.links (λ (x : Link). x.contact) (link-contact d xs.links of_links);
+      link_host = led hosts d xs.hosts h.hosts xs.links (λ (x : Link). x.host) (link-host d xs.links of_links);
+      line_account = led accounts d xs.accounts h.accounts xs.lines (λ (x : Line). Some x.account) (line-account d xs.lines of_lines);
+      message_account = led accounts d xs.accounts h.accounts xs.messages (λ (x : Message). Some x.account) (message-account d xs.messages of_messages);
+      transfer_contact = led contacts d xs.contacts h.contacts xs.transfers (λ (x : Transfer). x.contact) (transfer-contact d xs.transfers of_transfers);
+      transfer_domain = led domains d xs.domains h.domains xs.transfers (λ (x : Transfer). x.domain) (transfer-domain d xs.transfers of_transfers);
+      transfer_requester = led accounts d xs.accounts h.accounts xs.transfers (λ (x : Transfer). Some x.requester) (transfer-requester d xs.transfers of_transfers);
+      transfer_losing = led accounts d xs.accounts h.accounts xs.transfers (λ (x : Transfer). Some x.losing) (transfer-losing d xs.transfers of_transfers);
+    }
+
+-- ---- the whole
+
+whole_of : (xs : Content) (db : Database) → IsContent xs db → IsDatabase db → IsWhole xs
+whole_of xs db h sound =
+    let it = subst (λ (s : Schema). IsSound s db.trees) h.schema sound in
+    record { keyed = keyed xs db h; named = named xs db h (it.obeys.rules Unique); linked = linked xs db h (it.obeys.rules ForeignKey) }
+
+-- of no row all of it is true
+none_whole : IsWhole no_content
+none_whole = record {
+  keyed = record { metas = tt; accounts = tt; contacts = tt; domains = tt; hosts = tt; addresses = tt; links = tt; lines = tt; messages = tt; transfers = tt; days = tt };
+  named = record { accounts = λ a b h. absurd h; contacts = λ a b h. absurd h; domains = λ a b h. absurd h; hosts = λ a b h. absurd h };
+  linked = record {
+    contact_sponsor = λ x h. absurd h;
+    domain_sponsor = λ x h. absurd h;
+    domain_registrant = λ x h. absurd h;
+    host_external_sponsor = λ x h. absurd h;
+    host_sponsor = λ x h. absurd h;
+    address_host = λ x h. absurd h;
+    link_domain = λ x h. absurd h;
+    link_contact = λ x h. absurd h;
+    link_host = λ x h. absurd h;
+    line_account = λ x h. absurd h;
+    message_account = λ x h. absurd h;
+    transfer_contact = λ x h. absurd h;
+    transfer_domain = λ x h. absurd h;
+    transfer_requester = λ x h. absurd h;
+    transfer_losing = λ x h. absurd h;
+  };
+}
+
+pub whole : (form : Form) (now committed : Database) → Bears form now committed → IsDatabase now → IsWhole (rows_in form now.trees)
+whole Unused now committed it sound = none_whole
+whole Making now committed it sound = whole_of _ now it.0 sound
+whole Made now committed it sound = whole_of _ now it.0 sound
+whole Other now committed it sound = none_whole

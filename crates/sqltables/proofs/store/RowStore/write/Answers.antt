@@ -1,0 +1,27 @@
+use Rattle.std.proofs.Common.{sym, subst, subst₂}
+use Rattle.sqltables.specs.Content.{Content}
+use Rattle.sqltables.specs.inner.Hand.{noted_of, noting, seen_with}
+use Rattle.transactions.specs.States.{Makes, StateOf}
+use Rattle.sqltables.proofs.NotedLemmas.{noted-made, noting-made}
+use Rattle.sqltables.proofs.SeenLemmas.{made-kept, made-seen}
+use Rattle.sqltables.proofs.store.RowStore.write.Goals as goal
+
+pub invariant_of-self : goal.invariant_of-self
+invariant_of-self g c =
+    let means = c.requires.means in
+    let it = c.write-made.ensures means.0 means.1 in (
+      rw c.or_forget.ensures.hand (made-kept c.write-made.result c.self.inside.hand means.0 means.2 c.self.inside.base c.write-made.new.self it c.self.invariant.0),
+      noted-made (noted_of c.self.inside.left.items) c.self.inside.base c.write-made.new.self c.write-made.result _ it c.self.invariant.1,
+    )
+
+pub returns : goal.returns
+returns g c f alters apart =
+    let hand = c.self.inside.hand in
+    let old = c.self.inside.base in
+    let new = c.write-made.new.self in
+    let was = seen_with hand old in
+    let noted = noted_of c.self.inside.left.items in
+    subst (λ (s : StateOf Content). Makes c.or_forget.result (f s.content) s (noting noted (seen_with c.or_forget.new.self new))) c.self.view_is
+    (noting-made noted was (seen_with c.or_forget.new.self new) c.or_forget.result _
+    (subst₂ (λ r h. Makes r (f was.content) was (seen_with h new)) (sym c.or_forget.ensures.same) (sym c.or_forget.ensures.hand)
+    (made-seen c.write-made.result hand f apart old new (c.write-made.ensures f alters))))

@@ -1,0 +1,16 @@
+-- Words that this crate's own functions are told by, and that no promise of the registry names.
+pub mod Adoption
+pub mod Answers
+pub mod Balance
+pub mod Content
+pub mod Domain
+pub mod Due
+pub mod Faults
+pub mod FirstTables
+pub mod Hand
+pub mod Message
+pub mod Reopening
+pub mod Statements
+pub mod Stored
+pub mod Tables
+pub mod Whole

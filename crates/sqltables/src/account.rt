@@ -1,0 +1,281 @@
+//! Registrars' accounts.
+ghost use Rattle.std.specs.Prelude.{◌≡◌, true, false, filter, IfOk};
+ghost use Rattle.sqlite_keyed.specs.Keyed.{insert_by};
+ghost use Rattle.sqltables.specs.inner.Content.{accounts_to};
+ghost use Rattle.transactions.specs.States.{Finds, Makes};
+ghost use Rattle.sqltables.specs.inner.Hand.{IsAtHand, seen_with};
+ghost use Rattle.sqltables.specs.Account.{Account, accounts, account_with_id};
+
+use crate::base::Base;
+use crate::hand::Hand;
+use crate::store::{RowStore, settle};
+use basis::list::Seq;
+use sqlite::types::{ToSql, Type, ValueRef};
+use sqlite::{Alter, Error, Row, params};
+use sqlrows::{Number, Record};
+use std::alloc::{AllocError, Global};
+use std::marker::Model;
+use transactions::BookFault;
+
+const ALL: &str =
+    "SELECT id, ident, commands, messages, serial, waiting, balance, held FROM account ORDER BY id";
+
+const BY_ID: &str =
+    "SELECT id, ident, commands, messages, serial, waiting, balance, held FROM account WHERE id = ?1 ORDER BY id";
+
+const PUT: &str =
+    "INSERT INTO account (id, ident, commands, messages, serial, waiting, balance, held) VALUES (?1, ?2, ?3, ?4, ?5, ?6, ?7, ?8) ON CONFLICT (id) DO UPDATE SET ident = excluded.ident, commands = excluded.commands, messages = excluded.messages, serial = excluded.serial, waiting = excluded.waiting, balance = excluded.balance, held = excluded.held";
+
+/// A row of the table `account`.
+#[derive(Drop)]
+pub struct AccountRow {
+    pub id: i64,
+    pub ident: String,
+    pub commands: i64,
+    pub messages: i64,
+    pub serial: i64,
+    pub waiting: i64,
+    pub balance: [u8; 16],
+    pub held: i64,
+}
+
+impl Model for AccountRow {
+    ghost use Rattle.std.specs.Prelude.{string_bytes};
+    ghost use Rattle.sqltables.specs.Account.{Account};
+
+    ghost Value = { Account };
+
+    ghost view = { λ x. record {
+      id = x.id;
+      ident = string_bytes x.ident;
+      commands = x.commands;
+      messages = x.messages;
+      serial = x.serial;
+      waiting = x.waiting;
+      balance = x.balance;
+      held = x.held;
+    } };
+}
+
+impl AccountRow {
+    ghost use Rattle.sqlite.specs.Values.{bound};
+    ghost use Rattle.sqltables.specs.Account.{account_shown};
+
+    /// Another copy.
+    pub(crate) fn copied(&self, alloc: Global) -> Result<AccountRow, AllocError>
+        ensures { IfOk result (λ row. row ≡ self.now) }
+    {
+        Ok(AccountRow {
+            id: self.id,
+            ident: String::from_str(alloc, self.ident.as_str())?,
+            commands: self.commands,
+            messages: self.messages,
+            serial: self.serial,
+            waiting: self.waiting,
+            balance: self.balance,
+            held: self.held,
+        })
+    }
+
+    /// Whether both are of one account, under one name.
+    pub(crate) fn is_of(&self, other: &AccountRow) -> bool
+        ensures { result ≡ true → (self.now.id ≡ other.now.id)
+            × (self.now.ident ≡ other.now.ident) }
+    {
+        self.id == other.id && self.ident.as_str() == other.ident.as_str()
+    }
+
+    /// Becomes the other, which is of the same account, under the same name.
+    pub(crate) fn follow(&mut self, other: &AccountRow)
+        requires { (self.old.id ≡ other.now.id) × (self.old.ident ≡ other.now.ident) }
+        ensures { self.new ≡ other.now }
+    {
+        self.commands = other.commands;
+        self.messages = other.messages;
+        self.serial = other.serial;
+        self.waiting = other.waiting;
+        self.balance = other.balance;
+        self.held = other.held;
+    }
+
+    /// The parameters of the statement that puts it.
+    fn params(&self) -> [ValueRef<'_>; 8]
+        ensures { bound result ≡ account_shown self.now }
+    {
+        [
+            self.id.to_sql(),
+            (&self.ident).to_sql(),
+            self.commands.to_sql(),
+            self.messages.to_sql(),
+            self.serial.to_sql(),
+            self.waiting.to_sql(),
+            self.balance.as_slice().to_sql(),
+            self.held.to_sql(),
+        ]
+    }
+}
+
+impl Record for AccountRow {
+    ghost use Rattle.sqltables.specs.Account.{account_shown};
+
+    ghost shown = { account_shown };
+
+    fn from_row(row: &Row) -> Result<AccountRow, Error> {
+        let bytes: Vec<u8> = row.get(6)?;
+        if bytes.len() != 16 {
+            return Err(Error::InvalidColumnType(6, Type::Blob));
+        }
+        let mut balance = [0; 16];
+        balance.copy_from_slice(&bytes);
+        Ok(AccountRow {
+            id: row.get(0)?,
+            ident: row.get(1)?,
+            commands: row.get(2)?,
+            messages: row.get(3)?,
+            serial: row.get(4)?,
+            waiting: row.get(5)?,
+            balance,
+            held: row.get(7)?,
+        })
+    }
+}
+
+impl<S: Alter> Base<S> {
+    /// All of them, by their numbers.
+    pub(crate) fn all_accounts(&mut self) -> Result<Seq<AccountRow>, BookFault>
+        ensures { Finds result self.old.content.accounts self.old self.new }
+    {
+        self.select(ALL, &[])
+    }
+
+    /// Those with this number.
+    pub(crate) fn accounts_by_id(&mut self, id: Number) -> Result<Seq<AccountRow>, BookFault>
+        ensures { Finds result (filter (account_with_id id) self.old.content.accounts) self.old
+            self.new }
+    {
+        self.select(BY_ID, params![id])
+    }
+
+    /// Puts a row in the place of the one with its number, or beside all others.
+    pub(crate) fn put_account(&mut self, account: &AccountRow) -> Result<(), BookFault>
+        requires { self.old.is_open ≡ true }
+        ensures { Makes result (accounts_to (λ xs. insert_by accounts.key xs account.now)
+            self.old.content) self.old self.new }
+    {
+        self.write(PUT, &account.params())
+    }
+}
+
+impl<S: Alter> RowStore<S> {
+    /// All of them, by their numbers.
+    pub fn all_accounts(&mut self) -> Result<Seq<AccountRow>, BookFault>
+        ensures { Finds result self.old.content.accounts self.old self.new }
+    {
+        all(&mut self.base, &mut self.hand)
+    }
+
+    /// Those with this number.
+    pub fn accounts_by_id(&mut self, id: Number) -> Result<Seq<AccountRow>, BookFault>
+        ensures { Finds result (filter (account_with_id id) self.old.content.accounts) self.old
+            self.new }
+    {
+        look_up(&mut self.base, &mut self.hand, id)
+    }
+
+    /// Puts a row in the place of the one with its number, or beside all others.
+    pub fn put_account(&mut self, account: &AccountRow) -> Result<(), BookFault>
+        requires { self.old.is_open ≡ true }
+        ensures { Makes result (accounts_to (λ xs. insert_by accounts.key xs account.now)
+            self.old.content) self.old self.new }
+    {
+        put(&mut self.base, &mut self.hand, account)
+    }
+}
+
+/// The accounts with this number.
+fn look_up<S: Alter>(
+    base: &mut Base<S>,
+    hand: &mut Hand,
+    id: Number,
+) -> Result<Seq<AccountRow>, BookFault>
+    requires { IsAtHand hand.old base.old }
+    ensures kept { IsAtHand hand.new base.new }
+    ensures found { Finds result
+        (filter (account_with_id id) (seen_with hand.old base.old).content.accounts)
+        (seen_with hand.old base.old) (seen_with hand.new base.new) }
+{
+    base.whole();
+    if hand.has_number(id) {
+        return Ok(hand.accounts(base.alloc())?);
+    }
+    settle(base, hand)?;
+    fetch(base, hand, id)
+}
+
+/// The same, asked of the database, where nothing is owed.
+fn fetch<S: Alter>(
+    base: &mut Base<S>,
+    hand: &mut Hand,
+    id: Number,
+) -> Result<Seq<AccountRow>, BookFault>
+    requires kept { IsAtHand hand.old base.old }
+    requires nothing { hand.old.owed ≡ false }
+    ensures kept { IsAtHand hand.new base.new }
+    ensures found { Finds result
+        (filter (account_with_id id) (seen_with hand.old base.old).content.accounts)
+        (seen_with hand.old base.old) (seen_with hand.new base.new) }
+{
+    let rows = base.accounts_by_id(id);
+    let rows = hand.or_forget(rows)?;
+    hand.keep_account(rows.as_slice(), base.alloc());
+    Ok(rows)
+}
+
+/// All accounts, by their numbers.
+fn all<S: Alter>(base: &mut Base<S>, hand: &mut Hand) -> Result<Seq<AccountRow>, BookFault>
+    requires { IsAtHand hand.old base.old }
+    ensures kept { IsAtHand hand.new base.new }
+    ensures found { Finds result (seen_with hand.old base.old).content.accounts
+        (seen_with hand.old base.old) (seen_with hand.new base.new) }
+{
+    settle(base, hand)?;
+    let rows = base.all_accounts();
+    hand.or_forget(rows)
+}
+
+/// Puts an account's row. One that is at hand is owed from now on.
+fn put<S: Alter>(base: &mut Base<S>, hand: &mut Hand, account: &AccountRow) -> Result<(), BookFault>
+    requires kept { IsAtHand hand.old base.old }
+    requires open { base.old.is_open ≡ true }
+    ensures kept { IsAtHand hand.new base.new }
+    ensures made { Makes result (accounts_to (λ xs. insert_by accounts.key xs account.now)
+        (seen_with hand.old base.old).content) (seen_with hand.old base.old)
+        (seen_with hand.new base.new) }
+{
+    if hand.has_row(account) {
+        hand.renew(account);
+        return Ok(());
+    }
+    settle(base, hand)?;
+    put_there(base, hand, account)
+}
+
+/// The same in the database, where nothing is owed.
+fn put_there<S: Alter>(
+    base: &mut Base<S>,
+    hand: &mut Hand,
+    account: &AccountRow,
+) -> Result<(), BookFault>
+    requires kept { IsAtHand hand.old base.old }
+    requires nothing { hand.old.owed ≡ false }
+    requires open { base.old.is_open ≡ true }
+    ensures kept { IsAtHand hand.new base.new }
+    ensures made { Makes result (accounts_to (λ xs. insert_by accounts.key xs account.now)
+        (seen_with hand.old base.old).content) (seen_with hand.old base.old)
+        (seen_with hand.new base.new) }
+{
+    let made = base.put_account(account);
+    hand.or_forget(made)?;
+    hand.keep_account(std::slice::from_ref(account), base.alloc());
+    Ok(())
+}

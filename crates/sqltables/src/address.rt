@@ -1,0 +1,114 @@
+//! Addresses of hosts.
+ghost use Rattle.std.specs.Prelude.{◌≡◌, true, filter};
+ghost use Rattle.sqlite_keyed.specs.Lists.{delete_where};
+ghost use Rattle.sqlite_keyed.specs.Keyed.{insert_by};
+ghost use Rattle.sqltables.specs.inner.Content.{addresses_to};
+ghost use Rattle.transactions.specs.States.{Finds, Makes};
+ghost use Rattle.sqlrows.specs.inner.Layouts.{appended};
+ghost use Rattle.sqltables.specs.Address.{Address, addresses, address_with_host};
+
+use crate::store::RowStore;
+use basis::list::Seq;
+use sqlite::types::{ToSql, ValueRef};
+use sqlite::{Alter, Error, Row, params};
+use sqlrows::{Number, Record};
+use std::marker::Model;
+use transactions::BookFault;
+
+const BY_HOST: &str = "SELECT id, host, address FROM address WHERE host = ?1 ORDER BY id";
+
+const PUT: &str =
+    "INSERT INTO address (id, host, address) VALUES (?1, ?2, ?3) ON CONFLICT (id) DO UPDATE SET host = excluded.host, address = excluded.address";
+
+const APPEND: &str = "INSERT INTO address (host, address) VALUES (?1, ?2)";
+
+const REMOVE_HOST: &str = "DELETE FROM address WHERE host = ?1";
+
+/// A row of the table `address`.
+#[derive(Drop)]
+pub struct AddressRow {
+    pub id: i64,
+    pub host: i64,
+    pub address: String,
+}
+
+impl Model for AddressRow {
+    ghost use Rattle.std.specs.Prelude.{string_bytes};
+    ghost use Rattle.sqltables.specs.Address.{Address};
+
+    ghost Value = { Address };
+
+    ghost view = { λ x. record {
+      id = x.id;
+      host = x.host;
+      address = string_bytes x.address;
+    } };
+}
+
+impl AddressRow {
+    ghost use Rattle.sqlite.specs.Values.{bound};
+    ghost use Rattle.sqltables.specs.Address.{address_shown};
+
+    /// Its columns as parameters, its number first.
+    fn params(&self) -> [ValueRef<'_>; 3]
+        ensures { bound result ≡ address_shown self.now }
+    {
+        [
+            self.id.to_sql(),
+            self.host.to_sql(),
+            (&self.address).to_sql(),
+        ]
+    }
+}
+
+impl Record for AddressRow {
+    ghost use Rattle.sqltables.specs.Address.{address_shown};
+
+    ghost shown = { address_shown };
+
+    fn from_row(row: &Row) -> Result<AddressRow, Error> {
+        Ok(AddressRow {
+            id: row.get(0)?,
+            host: row.get(1)?,
+            address: row.get(2)?,
+        })
+    }
+}
+
+impl<S: Alter> RowStore<S> {
+    /// Those whose `host` is this.
+    pub fn addresses_by_host(&mut self, host: Number) -> Result<Seq<AddressRow>, BookFault>
+        ensures { Finds result (filter (address_with_host host) self.old.content.addresses) self.old
+            self.new }
+    {
+        self.select(BY_HOST, params![host])
+    }
+
+    /// Puts a row in the place of the one with its number, or beside all others.
+    pub fn put_address(&mut self, address: &AddressRow) -> Result<(), BookFault>
+        requires { self.old.is_open ≡ true }
+        ensures { Makes result (addresses_to (λ xs. insert_by addresses.key xs address.now)
+            self.old.content) self.old self.new }
+    {
+        self.write(PUT, &address.params())
+    }
+
+    /// Adds a row at the end, with the number after the last one. The given row's number isn't looked at.
+    pub fn append_address(&mut self, address: &AddressRow) -> Result<(), BookFault>
+        requires { self.old.is_open ≡ true }
+        ensures { Makes result
+            (addresses_to (appended addresses (λ id. record address.now { id = id }))
+            self.old.content) self.old self.new }
+    {
+        self.write(APPEND, &address.params()[1..])
+    }
+
+    /// Removes those whose `host` is this.
+    pub fn remove_addresses_by_host(&mut self, host: Number) -> Result<(), BookFault>
+        requires { self.old.is_open ≡ true }
+        ensures { Makes result (addresses_to (delete_where (address_with_host host))
+            self.old.content) self.old self.new }
+    {
+        self.write(REMOVE_HOST, params![host])
+    }
+}

@@ -1,0 +1,157 @@
+//! Answers that are kept, so that the same question needn't be asked again.
+ghost use Rattle.std.specs.Prelude.{◌≡◌, true, map, IfOk, IfSome, List};
+ghost use Rattle.sqlite_trees.specs.Tree.{Trees};
+ghost use Rattle.sqlite_value.specs.Value.{owned};
+ghost use Rattle.sqlite.specs.Values.{bound};
+ghost use Rattle.sqltables.specs.inner.Answers.{AreRight, IsAnswered, IsOf, IsRight};
+ghost use Rattle.sqltables.specs.Content.{Content};
+ghost use Rattle.sqltables.specs.inner.Content.{IsContent};
+ghost use Rattle.sqltables.specs.inner.Statements.{Asks};
+ghost use Rattle.sqltables.specs.Tables.{registry};
+
+use crate::base::read_all;
+use basis::list::Seq;
+use sqlite::Row;
+use sqlite::types::ValueRef;
+use sqlite_value::order::is_same;
+use sqlite_value::row::Row as Values;
+use sqlrows::Record;
+use std::alloc::{AllocError, Global};
+use transactions::BookFault;
+
+/// How many answers are kept.
+const MOST_ANSWERS: usize = 32;
+
+/// How many rows an answer has that is kept.
+const MOST_ROWS: usize = 16;
+
+/// A question, as its text and its parameters, and the rows that answer it.
+#[derive(Drop)]
+pub(crate) struct Answer {
+    pub sql: Vec<u8>,
+    pub params: Values,
+    pub rows: Vec<Row>,
+}
+
+/// The last answers. They are 32 at most, of 16 rows at most, and each of these holds what its row of the
+/// database holds, and a copy of its question.
+#[derive(Drop)]
+pub(crate) struct Answers {
+    pub items: Seq<Answer>,
+    pub alloc: Global,
+}
+
+/// Whether these are the values of a row, each of its own kind.
+fn are_same(kept: &Values, given: &[ValueRef<'_>]) -> bool
+    ensures { result ≡ true → kept.now ≡ map owned given.now }
+{
+    if kept.len() != given.len() {
+        return false;
+    }
+    'values: for at in 0..kept.len() {
+        if !is_same(kept.get(at), given[at]) {
+            return false;
+        }
+    }
+    true
+}
+
+/// A copy of values.
+fn copy_of(alloc: Global, given: &[ValueRef<'_>]) -> Result<Values, AllocError>
+    ensures { IfOk result (λ copy. copy ≡ map owned given.now) }
+{
+    let mut copy = Values::new(alloc);
+    'values: for value in given {
+        copy.push(*value)?;
+    }
+    Ok(copy)
+}
+
+impl Answer {
+    /// The answer to this question.
+    fn new(
+        alloc: Global,
+        sql: &str,
+        params: &[ValueRef<'_>],
+        rows: Vec<Row>,
+    ) -> Result<Answer, AllocError>
+        ensures { IfOk result (λ it. IsOf it sql.now (bound params.now)
+            × (it.rows.items ≡ rows.items)) }
+    {
+        let sql = Vec::from_slice(alloc, sql.as_bytes())?;
+        let params = copy_of(alloc, params)?;
+        Ok(Answer { sql, params, rows })
+    }
+
+    /// Whether it answers this question.
+    fn is_of(&self, sql: &str, params: &[ValueRef<'_>]) -> bool
+        ensures { result ≡ true → IsOf self.now sql.now (bound params.now) }
+    {
+        if self.sql.len() != sql.len() || !are_same(&self.params, params) {
+            return false;
+        }
+        self.sql.as_slice() == sql.as_bytes()
+    }
+}
+
+impl Answers {
+    /// No answer.
+    pub fn none(alloc: Global) -> Answers
+        ensures { (db : Trees) → AreRight db result }
+    {
+        Answers {
+            items: Seq::new(alloc),
+            alloc,
+        }
+    }
+
+    /// Keeps none any longer.
+    pub fn forget(&mut self)
+        ensures { (db : Trees) → AreRight db self.new }
+    {
+        self.items = Seq::new(self.alloc);
+    }
+
+    /// Keeps the rows that answer a question, where they are few and memory for a copy of it is there. They
+    /// take the place of all others where those are many.
+    pub fn keep(&mut self, sql: &str, params: &[ValueRef<'_>], rows: Vec<Row>)
+        ensures { (db : Trees) → AreRight db self.old
+            → IsAnswered db sql.now (bound params.now) rows.items → AreRight db self.new }
+    {
+        if rows.len() > MOST_ROWS {
+            return;
+        }
+        if let Ok(answer) = Answer::new(self.alloc, sql, params, rows) {
+            self.add(answer);
+        }
+    }
+
+    /// Keeps one more, if memory is there.
+    fn add(&mut self, answer: Answer)
+        ensures { (db : Trees) → AreRight db self.old → IsRight db answer → AreRight db self.new }
+    {
+        if self.items.as_slice().len() >= MOST_ANSWERS {
+            self.forget();
+        }
+        let _ = self.items.push(answer);
+    }
+
+    /// The records that the rows show which answer the question, where they are kept.
+    pub fn find<R: Record>(
+        &self,
+        sql: &str,
+        params: &[ValueRef<'_>],
+    ) -> Option<Result<Seq<R>, BookFault>>
+        ensures { (f : Content → List R) (db : Trees) (xs : Content)
+            → Asks R.shown sql.now (bound params.now) f → AreRight db self.now
+            → IsContent xs (record { schema = registry; trees = db })
+            → IfSome result (λ found. IfOk found (λ records. records ≡ f xs)) }
+    {
+        'answers: for answer in self.items.as_slice() {
+            if answer.is_of(sql, params) {
+                return Some(read_all(self.alloc, &answer.rows));
+            }
+        }
+        None
+    }
+}

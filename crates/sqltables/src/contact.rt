@@ -1,0 +1,285 @@
+//! Contacts.
+ghost use Rattle.std.specs.Prelude.{◌≡◌, true, filter, take, IfOk};
+ghost use Rattle.sqlite_keyed.specs.Keyed.{insert_by};
+ghost use Rattle.sqlite_keyed.specs.Lists.{delete_where};
+ghost use Rattle.sqltables.specs.inner.Content.{contacts_to};
+ghost use Rattle.transactions.specs.States.{Finds, Makes};
+ghost use Rattle.sqlrows.specs.inner.Layouts.{appended};
+ghost use Rattle.sqltables.specs.Contact.{Contact, contact_shown, contacts, contact_with_id, contact_with_name, contact_within_due, contact_of_sponsor_within, contacts_by_due};
+
+use crate::store::RowStore;
+use basis::list::Seq;
+use sqlite::types::{ToSql, ValueRef};
+use sqlite::{Alter, Error, Row, params};
+use sqlrows::{Number, Record, maybe_number, maybe_text};
+use std::marker::Model;
+use transactions::BookFault;
+
+const BY_ID: &str =
+    "SELECT id, name, creator, serial, sponsor, created, transferred, updated, statuses, secret, postal_name, org, street, city, state, postal_code, country, voice, due, mail FROM contact WHERE id = ?1 ORDER BY id";
+
+const BY_NAME: &str =
+    "SELECT id, name, creator, serial, sponsor, created, transferred, updated, statuses, secret, postal_name, org, street, city, state, postal_code, country, voice, due, mail FROM contact WHERE name = ?1 ORDER BY id";
+
+const UNTIL_DUE: &str =
+    "SELECT id, name, creator, serial, sponsor, created, transferred, updated, statuses, secret, postal_name, org, street, city, state, postal_code, country, voice, due, mail FROM contact WHERE due >= 0 AND due <= ?1 ORDER BY due, id";
+
+const FIRST_UNTIL_DUE: &str =
+    "SELECT id, name, creator, serial, sponsor, created, transferred, updated, statuses, secret, postal_name, org, street, city, state, postal_code, country, voice, due, mail FROM contact WHERE due >= 0 AND due <= ?1 ORDER BY due, id LIMIT 1";
+
+const BY_SPONSOR_UNTIL_DUE: &str =
+    "SELECT id, name, creator, serial, sponsor, created, transferred, updated, statuses, secret, postal_name, org, street, city, state, postal_code, country, voice, due, mail FROM contact WHERE sponsor = ?1 AND due >= 0 AND due <= ?2 ORDER BY id";
+
+const PUT: &str =
+    "INSERT INTO contact (id, name, creator, serial, sponsor, created, transferred, updated, statuses, secret, postal_name, org, street, city, state, postal_code, country, voice, due, mail) VALUES (?1, ?2, ?3, ?4, ?5, ?6, ?7, ?8, ?9, ?10, ?11, ?12, ?13, ?14, ?15, ?16, ?17, ?18, ?19, ?20) ON CONFLICT (id) DO UPDATE SET name = excluded.name, creator = excluded.creator, serial = excluded.serial, sponsor = excluded.sponsor, created = excluded.created, transferred = excluded.transferred, updated = excluded.updated, statuses = excluded.statuses, secret = excluded.secret, postal_name = excluded.postal_name, org = excluded.org, street = excluded.street, city = excluded.city, state = excluded.state, postal_code = excluded.postal_code, country = excluded.country, voice = excluded.voice, due = excluded.due, mail = excluded.mail";
+
+const APPEND: &str =
+    "INSERT INTO contact (name, creator, serial, sponsor, created, transferred, updated, statuses, secret, postal_name, org, street, city, state, postal_code, country, voice, due, mail) VALUES (?1, ?2, ?3, ?4, ?5, ?6, ?7, ?8, ?9, ?10, ?11, ?12, ?13, ?14, ?15, ?16, ?17, ?18, ?19)";
+
+const REMOVE_ID: &str = "DELETE FROM contact WHERE id = ?1";
+
+/// The postal columns of a row.
+#[derive(Drop)]
+pub struct PostalRow {
+    pub name: String,
+    pub org: Option<String>,
+    pub street: String,
+    pub city: String,
+    pub state: Option<String>,
+    pub postal_code: Option<String>,
+    pub country: String,
+}
+
+impl Model for PostalRow {
+    ghost use Rattle.std.specs.Prelude.{option_map, string_bytes};
+    ghost use Rattle.sqltables.specs.Contact.{Postal};
+
+    ghost Value = { Postal };
+
+    ghost view = { λ x. record {
+      name = string_bytes x.name;
+      org = option_map string_bytes x.org;
+      street = string_bytes x.street;
+      city = string_bytes x.city;
+      state = option_map string_bytes x.state;
+      postal_code = option_map string_bytes x.postal_code;
+      country = string_bytes x.country;
+    } };
+}
+
+/// The postal columns of a contact's row.
+fn postal_of(row: &Row) -> Result<PostalRow, Error>
+    ensures { (x : Contact) → row.now ≡ contact_shown x → IfOk result (λ r. r ≡ x.postal) }
+{
+    Ok(PostalRow {
+        name: row.get(10)?,
+        org: row.get(11)?,
+        street: row.get(12)?,
+        city: row.get(13)?,
+        state: row.get(14)?,
+        postal_code: row.get(15)?,
+        country: row.get(16)?,
+    })
+}
+
+/// A row of the table `contact`.
+#[derive(Drop)]
+pub struct ContactRow {
+    pub id: i64,
+    pub name: String,
+    pub creator: i64,
+    pub serial: i64,
+    pub sponsor: i64,
+    pub created: i64,
+    pub transferred: Option<i64>,
+    pub updated: Option<i64>,
+    pub statuses: String,
+    pub secret: String,
+    pub voice: Option<String>,
+    pub due: Option<i64>,
+    pub mail: String,
+    pub postal: PostalRow,
+}
+
+impl Model for ContactRow {
+    ghost use Rattle.std.specs.Prelude.{option_map, string_bytes};
+    ghost use Rattle.sqltables.specs.Contact.{Contact};
+
+    ghost Value = { Contact };
+
+    ghost view = { λ x. record {
+      id = x.id;
+      name = string_bytes x.name;
+      creator = x.creator;
+      serial = x.serial;
+      sponsor = x.sponsor;
+      created = x.created;
+      transferred = x.transferred;
+      updated = x.updated;
+      statuses = string_bytes x.statuses;
+      secret = string_bytes x.secret;
+      voice = option_map string_bytes x.voice;
+      due = x.due;
+      mail = string_bytes x.mail;
+      postal = x.postal;
+    } };
+}
+
+impl ContactRow {
+    ghost use Rattle.sqlite.specs.Values.{bound};
+    ghost use Rattle.sqltables.specs.Contact.{contact_shown};
+
+    /// Its columns as parameters, its number first.
+    fn params(&self) -> [ValueRef<'_>; 20]
+        ensures { bound result ≡ contact_shown self.now }
+    {
+        [
+            self.id.to_sql(),
+            (&self.name).to_sql(),
+            self.creator.to_sql(),
+            self.serial.to_sql(),
+            self.sponsor.to_sql(),
+            self.created.to_sql(),
+            maybe_number(self.transferred),
+            maybe_number(self.updated),
+            (&self.statuses).to_sql(),
+            (&self.secret).to_sql(),
+            (&self.postal.name).to_sql(),
+            maybe_text(&self.postal.org),
+            (&self.postal.street).to_sql(),
+            (&self.postal.city).to_sql(),
+            maybe_text(&self.postal.state),
+            maybe_text(&self.postal.postal_code),
+            (&self.postal.country).to_sql(),
+            maybe_text(&self.voice),
+            maybe_number(self.due),
+            (&self.mail).to_sql(),
+        ]
+    }
+}
+
+/// The moments in a contact's row, in seconds since 1970.
+#[derive(Clone, Copy, Drop)]
+struct ContactDates {
+    created: i64,
+    transferred: Option<i64>,
+    updated: Option<i64>,
+    due: Option<i64>,
+}
+
+fn dates_of(row: &Row) -> Result<ContactDates, Error>
+    ensures { (x : Contact) → row.now ≡ contact_shown x
+        → IfOk result (λ dates. (dates.created ≡ x.created) × (dates.transferred ≡ x.transferred)
+        × (dates.updated ≡ x.updated) × (dates.due ≡ x.due)) }
+{
+    Ok(ContactDates {
+        created: row.get(5)?,
+        transferred: row.get(6)?,
+        updated: row.get(7)?,
+        due: row.get(18)?,
+    })
+}
+
+impl Record for ContactRow {
+    ghost use Rattle.sqltables.specs.Contact.{contact_shown};
+
+    ghost shown = { contact_shown };
+
+    fn from_row(row: &Row) -> Result<ContactRow, Error> {
+        let dates = dates_of(row)?;
+        Ok(ContactRow {
+            id: row.get(0)?,
+            name: row.get(1)?,
+            creator: row.get(2)?,
+            serial: row.get(3)?,
+            sponsor: row.get(4)?,
+            created: dates.created,
+            transferred: dates.transferred,
+            updated: dates.updated,
+            statuses: row.get(8)?,
+            secret: row.get(9)?,
+            voice: row.get(17)?,
+            due: dates.due,
+            mail: row.get(19)?,
+            postal: postal_of(row)?,
+        })
+    }
+}
+
+impl<S: Alter> RowStore<S> {
+    /// Those with this number.
+    pub fn contacts_by_id(&mut self, id: Number) -> Result<Seq<ContactRow>, BookFault>
+        ensures { Finds result (filter (contact_with_id id) self.old.content.contacts) self.old
+            self.new }
+    {
+        self.select(BY_ID, params![id])
+    }
+
+    /// Those whose `name` is this.
+    pub fn contacts_by_name(&mut self, name: &str) -> Result<Seq<ContactRow>, BookFault>
+        ensures { Finds result (filter (contact_with_name name.now) self.old.content.contacts)
+            self.old self.new }
+    {
+        self.select(BY_NAME, params![name])
+    }
+
+    /// Those whose `due` is this moment or one before, in the order in which they are due. No moment is
+    /// before 1970.
+    pub fn contacts_until_due(&mut self, due: Number) -> Result<Seq<ContactRow>, BookFault>
+        ensures { Finds result
+            (contacts_by_due (filter (contact_within_due due) self.old.content.contacts)) self.old
+            self.new }
+    {
+        self.select(UNTIL_DUE, params![due])
+    }
+
+    /// The first of those whose `due` is this moment or one before, in the order in which they are due, if
+    /// there is any.
+    pub fn first_contacts_until_due(&mut self, due: Number) -> Result<Seq<ContactRow>, BookFault>
+        ensures { Finds result
+            (take 1 (contacts_by_due (filter (contact_within_due due) self.old.content.contacts)))
+            self.old self.new }
+    {
+        self.select(FIRST_UNTIL_DUE, params![due])
+    }
+
+    /// Those whose `sponsor` is this and whose `due` is this moment or one before.
+    pub fn contacts_by_sponsor_until_due(
+        &mut self,
+        sponsor: Number,
+        due: Number,
+    ) -> Result<Seq<ContactRow>, BookFault>
+        ensures { Finds result (filter (contact_of_sponsor_within sponsor due)
+            self.old.content.contacts) self.old self.new }
+    {
+        self.select(BY_SPONSOR_UNTIL_DUE, params![sponsor, due])
+    }
+
+    /// Puts a row in the place of the one with its number, or beside all others.
+    pub fn put_contact(&mut self, contact: &ContactRow) -> Result<(), BookFault>
+        requires { self.old.is_open ≡ true }
+        ensures { Makes result (contacts_to (λ xs. insert_by contacts.key xs contact.now)
+            self.old.content) self.old self.new }
+    {
+        self.write(PUT, &contact.params())
+    }
+
+    /// Adds a row at the end, with the number after the last one. The given row's number isn't looked at.
+    pub fn append_contact(&mut self, contact: &ContactRow) -> Result<(), BookFault>
+        requires { self.old.is_open ≡ true }
+        ensures { Makes result
+            (contacts_to (appended contacts (λ id. record contact.now { id = id }))
+            self.old.content) self.old self.new }
+    {
+        self.write(APPEND, &contact.params()[1..])
+    }
+
+    /// Removes those whose `id` is this.
+    pub fn remove_contacts_by_id(&mut self, id: Number) -> Result<(), BookFault>
+        requires { self.old.is_open ≡ true }
+        ensures { Makes result (contacts_to (delete_where (contact_with_id id)) self.old.content)
+            self.old self.new }
+    {
+        self.write(REMOVE_ID, params![id])
+    }
+}

@@ -1,0 +1,270 @@
+//! Domains.
+ghost use Rattle.std.specs.Prelude.{◌≡◌, true, filter, take};
+ghost use Rattle.sqlite_keyed.specs.Keyed.{insert_by};
+ghost use Rattle.sqlite_keyed.specs.Lists.{delete_where};
+ghost use Rattle.sqltables.specs.inner.Content.{domains_to};
+ghost use Rattle.transactions.specs.States.{Finds, Makes};
+ghost use Rattle.sqlrows.specs.inner.Layouts.{appended};
+ghost use Rattle.sqltables.specs.Domain.{Domain, domain_with_name};
+ghost use Rattle.sqltables.specs.inner.Domain.{domains, domain_with_id, domain_with_registrant, domain_within_due, domain_of_sponsor_within, domain_of_registrant_within, domain_with_roid, domains_by_due};
+
+use crate::store::RowStore;
+use basis::list::Seq;
+use sqlite::types::{ToSql, ValueRef};
+use sqlite::{Alter, Error, Row, params};
+use sqlrows::{Number, Record, maybe_number};
+use std::marker::Model;
+use transactions::BookFault;
+
+const ALL: &str =
+    "SELECT id, name, creator, serial, sponsor, created, years, transferred, updated, statuses, secret, registrant, deleted, restore_requested, due FROM domain ORDER BY id";
+
+const BY_ID: &str =
+    "SELECT id, name, creator, serial, sponsor, created, years, transferred, updated, statuses, secret, registrant, deleted, restore_requested, due FROM domain WHERE id = ?1 ORDER BY id";
+
+const BY_NAME: &str =
+    "SELECT id, name, creator, serial, sponsor, created, years, transferred, updated, statuses, secret, registrant, deleted, restore_requested, due FROM domain WHERE name = ?1 ORDER BY id";
+
+const FIRST_BY_REGISTRANT: &str =
+    "SELECT id, name, creator, serial, sponsor, created, years, transferred, updated, statuses, secret, registrant, deleted, restore_requested, due FROM domain WHERE registrant = ?1 ORDER BY id LIMIT 1";
+
+const UNTIL_DUE: &str =
+    "SELECT id, name, creator, serial, sponsor, created, years, transferred, updated, statuses, secret, registrant, deleted, restore_requested, due FROM domain WHERE due <= ?1 ORDER BY due, id";
+
+const FIRST_UNTIL_DUE: &str =
+    "SELECT id, name, creator, serial, sponsor, created, years, transferred, updated, statuses, secret, registrant, deleted, restore_requested, due FROM domain WHERE due <= ?1 ORDER BY due, id LIMIT 1";
+
+const BY_SPONSOR_UNTIL_DUE: &str =
+    "SELECT id, name, creator, serial, sponsor, created, years, transferred, updated, statuses, secret, registrant, deleted, restore_requested, due FROM domain WHERE sponsor = ?1 AND due <= ?2 ORDER BY id";
+
+const BY_REGISTRANT_UNTIL_DUE: &str =
+    "SELECT id, name, creator, serial, sponsor, created, years, transferred, updated, statuses, secret, registrant, deleted, restore_requested, due FROM domain WHERE registrant = ?1 AND due <= ?2 ORDER BY id";
+
+const BY_ROID: &str =
+    "SELECT id, name, creator, serial, sponsor, created, years, transferred, updated, statuses, secret, registrant, deleted, restore_requested, due FROM domain WHERE creator = ?1 AND serial = ?2 ORDER BY id";
+
+const PUT: &str =
+    "INSERT INTO domain (id, name, creator, serial, sponsor, created, years, transferred, updated, statuses, secret, registrant, deleted, restore_requested, due) VALUES (?1, ?2, ?3, ?4, ?5, ?6, ?7, ?8, ?9, ?10, ?11, ?12, ?13, ?14, ?15) ON CONFLICT (id) DO UPDATE SET name = excluded.name, creator = excluded.creator, serial = excluded.serial, sponsor = excluded.sponsor, created = excluded.created, years = excluded.years, transferred = excluded.transferred, updated = excluded.updated, statuses = excluded.statuses, secret = excluded.secret, registrant = excluded.registrant, deleted = excluded.deleted, restore_requested = excluded.restore_requested, due = excluded.due";
+
+const APPEND: &str =
+    "INSERT INTO domain (name, creator, serial, sponsor, created, years, transferred, updated, statuses, secret, registrant, deleted, restore_requested, due) VALUES (?1, ?2, ?3, ?4, ?5, ?6, ?7, ?8, ?9, ?10, ?11, ?12, ?13, ?14)";
+
+const REMOVE_ID: &str = "DELETE FROM domain WHERE id = ?1";
+
+/// A row of the table `domain`.
+#[derive(Drop)]
+pub struct DomainRow {
+    pub id: i64,
+    pub name: String,
+    pub creator: i64,
+    pub serial: i64,
+    pub sponsor: i64,
+    pub created: i64,
+    pub years: i64,
+    pub transferred: Option<i64>,
+    pub updated: Option<i64>,
+    pub statuses: String,
+    pub secret: String,
+    pub registrant: i64,
+    pub deleted: Option<i64>,
+    pub restore_requested: Option<i64>,
+    pub due: i64,
+}
+
+impl Model for DomainRow {
+    ghost use Rattle.std.specs.Prelude.{string_bytes};
+    ghost use Rattle.sqltables.specs.Domain.{Domain};
+
+    ghost Value = { Domain };
+
+    ghost view = { λ x. record {
+      id = x.id;
+      name = string_bytes x.name;
+      creator = x.creator;
+      serial = x.serial;
+      sponsor = x.sponsor;
+      created = x.created;
+      years = x.years;
+      transferred = x.transferred;
+      updated = x.updated;
+      statuses = string_bytes x.statuses;
+      secret = string_bytes x.secret;
+      registrant = x.registrant;
+      deleted = x.deleted;
+      restore_requested = x.restore_requested;
+      due = x.due;
+    } };
+}
+
+impl DomainRow {
+    ghost use Rattle.sqlite.specs.Values.{bound};
+    ghost use Rattle.sqltables.specs.inner.Domain.{domain_shown};
+
+    /// Its columns as parameters, its number first.
+    fn params(&self) -> [ValueRef<'_>; 15]
+        ensures { bound result ≡ domain_shown self.now }
+    {
+        [
+            self.id.to_sql(),
+            (&self.name).to_sql(),
+            self.creator.to_sql(),
+            self.serial.to_sql(),
+            self.sponsor.to_sql(),
+            self.created.to_sql(),
+            self.years.to_sql(),
+            maybe_number(self.transferred),
+            maybe_number(self.updated),
+            (&self.statuses).to_sql(),
+            (&self.secret).to_sql(),
+            self.registrant.to_sql(),
+            maybe_number(self.deleted),
+            maybe_number(self.restore_requested),
+            self.due.to_sql(),
+        ]
+    }
+}
+
+impl Record for DomainRow {
+    ghost use Rattle.sqltables.specs.inner.Domain.{domain_shown};
+
+    ghost shown = { domain_shown };
+
+    fn from_row(row: &Row) -> Result<DomainRow, Error> {
+        Ok(DomainRow {
+            id: row.get(0)?,
+            name: row.get(1)?,
+            creator: row.get(2)?,
+            serial: row.get(3)?,
+            sponsor: row.get(4)?,
+            created: row.get(5)?,
+            years: row.get(6)?,
+            transferred: row.get(7)?,
+            updated: row.get(8)?,
+            statuses: row.get(9)?,
+            secret: row.get(10)?,
+            registrant: row.get(11)?,
+            deleted: row.get(12)?,
+            restore_requested: row.get(13)?,
+            due: row.get(14)?,
+        })
+    }
+}
+
+impl<S: Alter> RowStore<S> {
+    /// All of them, by their numbers.
+    pub fn all_domains(&mut self) -> Result<Seq<DomainRow>, BookFault>
+        ensures { Finds result self.old.content.domains self.old self.new }
+    {
+        self.select(ALL, &[])
+    }
+
+    /// Those with this number.
+    pub fn domains_by_id(&mut self, id: Number) -> Result<Seq<DomainRow>, BookFault>
+        ensures { Finds result (filter (domain_with_id id) self.old.content.domains) self.old
+            self.new }
+    {
+        self.select(BY_ID, params![id])
+    }
+
+    /// Those whose `name` is this.
+    pub fn domains_by_name(&mut self, name: &str) -> Result<Seq<DomainRow>, BookFault>
+        ensures { Finds result (filter (domain_with_name name.now) self.old.content.domains)
+            self.old self.new }
+    {
+        self.select(BY_NAME, params![name])
+    }
+
+    /// The first of those whose `registrant` is this, by number, if there is any.
+    pub fn first_domains_by_registrant(
+        &mut self,
+        registrant: Number,
+    ) -> Result<Seq<DomainRow>, BookFault>
+        ensures { Finds result
+            (take 1 (filter (domain_with_registrant registrant) self.old.content.domains)) self.old
+            self.new }
+    {
+        self.select(FIRST_BY_REGISTRANT, params![registrant])
+    }
+
+    /// Those whose `due` is this moment or one before, in the order in which they are due.
+    pub fn domains_until_due(&mut self, due: Number) -> Result<Seq<DomainRow>, BookFault>
+        ensures { Finds result
+            (domains_by_due (filter (domain_within_due due) self.old.content.domains)) self.old
+            self.new }
+    {
+        self.select(UNTIL_DUE, params![due])
+    }
+
+    /// The first of those whose `due` is this moment or one before, in the order in which they are due, if
+    /// there is any.
+    pub fn first_domains_until_due(&mut self, due: Number) -> Result<Seq<DomainRow>, BookFault>
+        ensures { Finds result
+            (take 1 (domains_by_due (filter (domain_within_due due) self.old.content.domains)))
+            self.old self.new }
+    {
+        self.select(FIRST_UNTIL_DUE, params![due])
+    }
+
+    /// Those whose `sponsor` is this and whose `due` is this moment or one before.
+    pub fn domains_by_sponsor_until_due(
+        &mut self,
+        sponsor: Number,
+        due: Number,
+    ) -> Result<Seq<DomainRow>, BookFault>
+        ensures { Finds result (filter (domain_of_sponsor_within sponsor due)
+            self.old.content.domains) self.old self.new }
+    {
+        self.select(BY_SPONSOR_UNTIL_DUE, params![sponsor, due])
+    }
+
+    /// Those whose `registrant` is this and whose `due` is this moment or one before.
+    pub fn domains_by_registrant_until_due(
+        &mut self,
+        registrant: Number,
+        due: Number,
+    ) -> Result<Seq<DomainRow>, BookFault>
+        ensures { Finds result (filter (domain_of_registrant_within registrant due)
+            self.old.content.domains) self.old self.new }
+    {
+        self.select(BY_REGISTRANT_UNTIL_DUE, params![registrant, due])
+    }
+
+    /// Those that this registrar created with this number.
+    pub fn domains_by_roid(
+        &mut self,
+        creator: Number,
+        serial: Number,
+    ) -> Result<Seq<DomainRow>, BookFault>
+        ensures { Finds result (filter (domain_with_roid creator serial) self.old.content.domains)
+            self.old self.new }
+    {
+        self.select(BY_ROID, params![creator, serial])
+    }
+
+    /// Puts a row in the place of the one with its number, or beside all others.
+    pub fn put_domain(&mut self, domain: &DomainRow) -> Result<(), BookFault>
+        requires { self.old.is_open ≡ true }
+        ensures { Makes result (domains_to (λ xs. insert_by domains.key xs domain.now)
+            self.old.content) self.old self.new }
+    {
+        self.write(PUT, &domain.params())
+    }
+
+    /// Adds a row at the end, with the number after the last one. The given row's number isn't looked at.
+    pub fn append_domain(&mut self, domain: &DomainRow) -> Result<(), BookFault>
+        requires { self.old.is_open ≡ true }
+        ensures { Makes result (domains_to (appended domains (λ id. record domain.now { id = id }))
+            self.old.content) self.old self.new }
+    {
+        self.write(APPEND, &domain.params()[1..])
+    }
+
+    /// Removes those whose `id` is this.
+    pub fn remove_domains_by_id(&mut self, id: Number) -> Result<(), BookFault>
+        requires { self.old.is_open ≡ true }
+        ensures { Makes result (domains_to (delete_where (domain_with_id id)) self.old.content)
+            self.old self.new }
+    {
+        self.write(REMOVE_ID, params![id])
+    }
+}

@@ -1,0 +1,175 @@
+//! Hosts.
+ghost use Rattle.std.specs.Prelude.{◌≡◌, true, filter};
+ghost use Rattle.sqlite_keyed.specs.Keyed.{insert_by};
+ghost use Rattle.sqlite_keyed.specs.Lists.{delete_where};
+ghost use Rattle.sqltables.specs.inner.Content.{hosts_to};
+ghost use Rattle.transactions.specs.States.{Finds, Makes};
+ghost use Rattle.sqlrows.specs.inner.Layouts.{appended};
+ghost use Rattle.sqltables.specs.Host.{Host, hosts, host_with_id, host_with_name, host_with_above};
+
+use crate::store::RowStore;
+use basis::list::Seq;
+use sqlite::types::{ToSql, ValueRef};
+use sqlite::{Alter, Error, Row, params};
+use sqlrows::{Number, Record, maybe_number};
+use std::marker::Model;
+use transactions::BookFault;
+
+const ALL: &str =
+    "SELECT id, name, creator, serial, above, external_sponsor, sponsor, created, updated, statuses FROM host ORDER BY id";
+
+const BY_ID: &str =
+    "SELECT id, name, creator, serial, above, external_sponsor, sponsor, created, updated, statuses FROM host WHERE id = ?1 ORDER BY id";
+
+const BY_NAME: &str =
+    "SELECT id, name, creator, serial, above, external_sponsor, sponsor, created, updated, statuses FROM host WHERE name = ?1 ORDER BY id";
+
+const BY_ABOVE: &str =
+    "SELECT id, name, creator, serial, above, external_sponsor, sponsor, created, updated, statuses FROM host WHERE above = ?1 ORDER BY id";
+
+const PUT: &str =
+    "INSERT INTO host (id, name, creator, serial, above, external_sponsor, sponsor, created, updated, statuses) VALUES (?1, ?2, ?3, ?4, ?5, ?6, ?7, ?8, ?9, ?10) ON CONFLICT (id) DO UPDATE SET name = excluded.name, creator = excluded.creator, serial = excluded.serial, above = excluded.above, external_sponsor = excluded.external_sponsor, sponsor = excluded.sponsor, created = excluded.created, updated = excluded.updated, statuses = excluded.statuses";
+
+const APPEND: &str =
+    "INSERT INTO host (name, creator, serial, above, external_sponsor, sponsor, created, updated, statuses) VALUES (?1, ?2, ?3, ?4, ?5, ?6, ?7, ?8, ?9)";
+
+const REMOVE_ID: &str = "DELETE FROM host WHERE id = ?1";
+
+/// A row of the table `host`.
+#[derive(Drop)]
+pub struct HostRow {
+    pub id: i64,
+    pub name: String,
+    pub creator: i64,
+    pub serial: i64,
+    /// The last two labels of its name.
+    pub above: String,
+    pub external_sponsor: Option<i64>,
+    pub sponsor: Option<i64>,
+    pub created: i64,
+    pub updated: Option<i64>,
+    pub statuses: String,
+}
+
+impl Model for HostRow {
+    ghost use Rattle.std.specs.Prelude.{string_bytes};
+    ghost use Rattle.sqltables.specs.Host.{Host};
+
+    ghost Value = { Host };
+
+    ghost view = { λ x. record {
+      id = x.id;
+      name = string_bytes x.name;
+      creator = x.creator;
+      serial = x.serial;
+      above = string_bytes x.above;
+      external_sponsor = x.external_sponsor;
+      sponsor = x.sponsor;
+      created = x.created;
+      updated = x.updated;
+      statuses = string_bytes x.statuses;
+    } };
+}
+
+impl HostRow {
+    ghost use Rattle.sqlite.specs.Values.{bound};
+    ghost use Rattle.sqltables.specs.Host.{host_shown};
+
+    /// Its columns as parameters, its number first.
+    fn params(&self) -> [ValueRef<'_>; 10]
+        ensures { bound result ≡ host_shown self.now }
+    {
+        [
+            self.id.to_sql(),
+            (&self.name).to_sql(),
+            self.creator.to_sql(),
+            self.serial.to_sql(),
+            (&self.above).to_sql(),
+            maybe_number(self.external_sponsor),
+            maybe_number(self.sponsor),
+            self.created.to_sql(),
+            maybe_number(self.updated),
+            (&self.statuses).to_sql(),
+        ]
+    }
+}
+
+impl Record for HostRow {
+    ghost use Rattle.sqltables.specs.Host.{host_shown};
+
+    ghost shown = { host_shown };
+
+    fn from_row(row: &Row) -> Result<HostRow, Error> {
+        Ok(HostRow {
+            id: row.get(0)?,
+            name: row.get(1)?,
+            creator: row.get(2)?,
+            serial: row.get(3)?,
+            above: row.get(4)?,
+            external_sponsor: row.get(5)?,
+            sponsor: row.get(6)?,
+            created: row.get(7)?,
+            updated: row.get(8)?,
+            statuses: row.get(9)?,
+        })
+    }
+}
+
+impl<S: Alter> RowStore<S> {
+    /// All of them, by their numbers.
+    pub fn all_hosts(&mut self) -> Result<Seq<HostRow>, BookFault>
+        ensures { Finds result self.old.content.hosts self.old self.new }
+    {
+        self.select(ALL, &[])
+    }
+
+    /// Those with this number.
+    pub fn hosts_by_id(&mut self, id: Number) -> Result<Seq<HostRow>, BookFault>
+        ensures { Finds result (filter (host_with_id id) self.old.content.hosts) self.old self.new }
+    {
+        self.select(BY_ID, params![id])
+    }
+
+    /// Those whose `name` is this.
+    pub fn hosts_by_name(&mut self, name: &str) -> Result<Seq<HostRow>, BookFault>
+        ensures { Finds result (filter (host_with_name name.now) self.old.content.hosts) self.old
+            self.new }
+    {
+        self.select(BY_NAME, params![name])
+    }
+
+    /// Those whose `above` is this.
+    pub fn hosts_by_above(&mut self, above: &str) -> Result<Seq<HostRow>, BookFault>
+        ensures { Finds result (filter (host_with_above above.now) self.old.content.hosts) self.old
+            self.new }
+    {
+        self.select(BY_ABOVE, params![above])
+    }
+
+    /// Puts a row in the place of the one with its number, or beside all others.
+    pub fn put_host(&mut self, host: &HostRow) -> Result<(), BookFault>
+        requires { self.old.is_open ≡ true }
+        ensures { Makes result (hosts_to (λ xs. insert_by hosts.key xs host.now) self.old.content)
+            self.old self.new }
+    {
+        self.write(PUT, &host.params())
+    }
+
+    /// Adds a row at the end, with the number after the last one. The given row's number isn't looked at.
+    pub fn append_host(&mut self, host: &HostRow) -> Result<(), BookFault>
+        requires { self.old.is_open ≡ true }
+        ensures { Makes result (hosts_to (appended hosts (λ id. record host.now { id = id }))
+            self.old.content) self.old self.new }
+    {
+        self.write(APPEND, &host.params()[1..])
+    }
+
+    /// Removes those whose `id` is this.
+    pub fn remove_hosts_by_id(&mut self, id: Number) -> Result<(), BookFault>
+        requires { self.old.is_open ≡ true }
+        ensures { Makes result (hosts_to (delete_where (host_with_id id)) self.old.content) self.old
+            self.new }
+    {
+        self.write(REMOVE_ID, params![id])
+    }
+}

@@ -1,0 +1,43 @@
+//! The tables of the registry: a record for each row, and a store of rows with the statements that find,
+//! put and remove them.
+#![tactic(auto)]
+
+mod account;
+mod address;
+mod adoption;
+mod answers;
+mod balance;
+mod base;
+mod contact;
+mod day;
+mod domain;
+mod form;
+mod hand;
+mod host;
+mod line;
+mod link;
+mod message;
+mod meta;
+mod readiness;
+mod schema;
+mod store;
+mod transfer;
+
+pub use account::AccountRow;
+pub use address::AddressRow;
+pub use adoption::{Unadopted, reread};
+pub use balance::{balance_of_bytes, bytes_of_balance};
+pub use base::{fault_of, read_all};
+pub use contact::{ContactRow, PostalRow};
+pub use day::DayRow;
+pub use domain::DomainRow;
+pub use form::Form;
+pub use host::HostRow;
+pub use line::{GraceRow, LineRow};
+pub use link::LinkRow;
+pub use message::MessageRow;
+pub use meta::MetaRow;
+pub use readiness::{SCHEMA_NUMBER, form_of};
+pub use schema::{create, create_first};
+pub use store::RowStore;
+pub use transfer::TransferRow;

@@ -1,0 +1,190 @@
+//! What domains name: contacts in a role, and hosts.
+ghost use Rattle.std.specs.Prelude.{◌≡◌, true, filter, take};
+ghost use Rattle.sqlite_keyed.specs.Lists.{delete_where};
+ghost use Rattle.sqlite_keyed.specs.Keyed.{insert_by};
+ghost use Rattle.sqltables.specs.inner.Content.{links_to};
+ghost use Rattle.transactions.specs.States.{Finds, Makes};
+ghost use Rattle.sqlrows.specs.inner.Layouts.{appended};
+ghost use Rattle.sqltables.specs.Link.{Link, links, link_with_domain, link_with_contact, link_with_host, link_of_contact_within, link_of_host_within};
+
+use crate::store::RowStore;
+use basis::list::Seq;
+use sqlite::types::{ToSql, ValueRef};
+use sqlite::{Alter, Error, Row, params};
+use sqlrows::{Number, Record, maybe_number};
+use std::marker::Model;
+use transactions::BookFault;
+
+const BY_DOMAIN: &str =
+    "SELECT id, domain, contact, host, role, due FROM link WHERE domain = ?1 ORDER BY id";
+
+const BY_HOST: &str =
+    "SELECT id, domain, contact, host, role, due FROM link WHERE host = ?1 ORDER BY id";
+
+const FIRST_BY_CONTACT: &str =
+    "SELECT id, domain, contact, host, role, due FROM link WHERE contact = ?1 ORDER BY id LIMIT 1";
+
+const FIRST_BY_HOST: &str =
+    "SELECT id, domain, contact, host, role, due FROM link WHERE host = ?1 ORDER BY id LIMIT 1";
+
+const BY_CONTACT_UNTIL_DUE: &str =
+    "SELECT id, domain, contact, host, role, due FROM link WHERE contact = ?1 AND due <= ?2 ORDER BY id";
+
+const BY_HOST_UNTIL_DUE: &str =
+    "SELECT id, domain, contact, host, role, due FROM link WHERE host = ?1 AND due <= ?2 ORDER BY id";
+
+const PUT: &str =
+    "INSERT INTO link (id, domain, contact, host, role, due) VALUES (?1, ?2, ?3, ?4, ?5, ?6) ON CONFLICT (id) DO UPDATE SET domain = excluded.domain, contact = excluded.contact, host = excluded.host, role = excluded.role, due = excluded.due";
+
+const APPEND: &str =
+    "INSERT INTO link (domain, contact, host, role, due) VALUES (?1, ?2, ?3, ?4, ?5)";
+
+const REMOVE_DOMAIN: &str = "DELETE FROM link WHERE domain = ?1";
+
+/// A row of the table `link`.
+#[derive(Drop)]
+pub struct LinkRow {
+    pub id: i64,
+    pub domain: i64,
+    pub contact: Option<i64>,
+    pub host: Option<i64>,
+    pub role: i64,
+    /// That of the domain.
+    pub due: i64,
+}
+
+impl Model for LinkRow {
+    ghost use Rattle.sqltables.specs.Link.{Link};
+
+    ghost Value = { Link };
+
+    ghost view = { λ x. record {
+      id = x.id;
+      domain = x.domain;
+      contact = x.contact;
+      host = x.host;
+      role = x.role;
+      due = x.due;
+    } };
+}
+
+impl LinkRow {
+    ghost use Rattle.sqlite.specs.Values.{bound};
+    ghost use Rattle.sqltables.specs.Link.{link_shown};
+
+    /// Its columns as parameters, its number first.
+    fn params(&self) -> [ValueRef<'_>; 6]
+        ensures { bound result ≡ link_shown self.now }
+    {
+        [
+            self.id.to_sql(),
+            self.domain.to_sql(),
+            maybe_number(self.contact),
+            maybe_number(self.host),
+            self.role.to_sql(),
+            self.due.to_sql(),
+        ]
+    }
+}
+
+impl Record for LinkRow {
+    ghost use Rattle.sqltables.specs.Link.{link_shown};
+
+    ghost shown = { link_shown };
+
+    fn from_row(row: &Row) -> Result<LinkRow, Error> {
+        Ok(LinkRow {
+            id: row.get(0)?,
+            domain: row.get(1)?,
+            contact: row.get(2)?,
+            host: row.get(3)?,
+            role: row.get(4)?,
+            due: row.get(5)?,
+        })
+    }
+}
+
+impl<S: Alter> RowStore<S> {
+    /// Those whose `domain` is this.
+    pub fn links_by_domain(&mut self, domain: Number) -> Result<Seq<LinkRow>, BookFault>
+        ensures { Finds result (filter (link_with_domain domain) self.old.content.links) self.old
+            self.new }
+    {
+        self.select(BY_DOMAIN, params![domain])
+    }
+
+    /// Those whose `host` is this.
+    pub fn links_by_host(&mut self, host: Number) -> Result<Seq<LinkRow>, BookFault>
+        ensures { Finds result (filter (link_with_host host) self.old.content.links) self.old
+            self.new }
+    {
+        self.select(BY_HOST, params![host])
+    }
+
+    /// The first of those whose `contact` is this, by number, if there is any.
+    pub fn first_links_by_contact(&mut self, contact: Number) -> Result<Seq<LinkRow>, BookFault>
+        ensures { Finds result (take 1 (filter (link_with_contact contact) self.old.content.links))
+            self.old self.new }
+    {
+        self.select(FIRST_BY_CONTACT, params![contact])
+    }
+
+    /// The first of those whose `host` is this, by number, if there is any.
+    pub fn first_links_by_host(&mut self, host: Number) -> Result<Seq<LinkRow>, BookFault>
+        ensures { Finds result (take 1 (filter (link_with_host host) self.old.content.links))
+            self.old self.new }
+    {
+        self.select(FIRST_BY_HOST, params![host])
+    }
+
+    /// Those whose `contact` is this and whose `due` is this moment or one before.
+    pub fn links_by_contact_until_due(
+        &mut self,
+        contact: Number,
+        due: Number,
+    ) -> Result<Seq<LinkRow>, BookFault>
+        ensures { Finds result (filter (link_of_contact_within contact due) self.old.content.links)
+            self.old self.new }
+    {
+        self.select(BY_CONTACT_UNTIL_DUE, params![contact, due])
+    }
+
+    /// Those whose `host` is this and whose `due` is this moment or one before.
+    pub fn links_by_host_until_due(
+        &mut self,
+        host: Number,
+        due: Number,
+    ) -> Result<Seq<LinkRow>, BookFault>
+        ensures { Finds result (filter (link_of_host_within host due) self.old.content.links)
+            self.old self.new }
+    {
+        self.select(BY_HOST_UNTIL_DUE, params![host, due])
+    }
+
+    /// Puts a row in the place of the one with its number, or beside all others.
+    pub fn put_link(&mut self, link: &LinkRow) -> Result<(), BookFault>
+        requires { self.old.is_open ≡ true }
+        ensures { Makes result (links_to (λ xs. insert_by links.key xs link.now) self.old.content)
+            self.old self.new }
+    {
+        self.write(PUT, &link.params())
+    }
+
+    /// Adds a row at the end, with the number after the last one. The given row's number isn't looked at.
+    pub fn append_link(&mut self, link: &LinkRow) -> Result<(), BookFault>
+        requires { self.old.is_open ≡ true }
+        ensures { Makes result (links_to (appended links (λ id. record link.now { id = id }))
+            self.old.content) self.old self.new }
+    {
+        self.write(APPEND, &link.params()[1..])
+    }
+
+    /// Removes those whose `domain` is this.
+    pub fn remove_links_by_domain(&mut self, domain: Number) -> Result<(), BookFault>
+        requires { self.old.is_open ≡ true }
+        ensures { Makes result (links_to (delete_where (link_with_domain domain)) self.old.content)
+            self.old self.new }
+    {
+        self.write(REMOVE_DOMAIN, params![domain])
+    }
+}

@@ -1,0 +1,224 @@
+//! What holds of the whole registry, in one row.
+ghost use Rattle.std.specs.Prelude.{◌≡◌, true, IfOk};
+ghost use Rattle.sqlite_keyed.specs.Keyed.{insert_by};
+ghost use Rattle.sqltables.specs.inner.Content.{metas_to};
+ghost use Rattle.transactions.specs.States.{Finds, Makes};
+ghost use Rattle.sqltables.specs.inner.Hand.{IsAtHand, seen_with};
+ghost use Rattle.sqltables.specs.Meta.{Meta, metas};
+
+use crate::base::Base;
+use crate::hand::Hand;
+use crate::store::RowStore;
+use basis::list::Seq;
+use sqlite::types::{ToSql, ValueRef};
+use sqlite::{Alter, Error, Row};
+use sqlrows::Record;
+use std::alloc::{AllocError, Global};
+use std::marker::Model;
+use transactions::BookFault;
+
+const ALL: &str =
+    "SELECT id, version, clock, zone, reserved, days_add, days_auto_renew, days_renew, days_transfer, days_redemption, days_restore, days_pending_delete, days_answer, days_lock, price_create, price_renew, price_transfer FROM meta ORDER BY id";
+
+const PUT: &str =
+    "INSERT INTO meta (id, version, clock, zone, reserved, days_add, days_auto_renew, days_renew, days_transfer, days_redemption, days_restore, days_pending_delete, days_answer, days_lock, price_create, price_renew, price_transfer) VALUES (?1, ?2, ?3, ?4, ?5, ?6, ?7, ?8, ?9, ?10, ?11, ?12, ?13, ?14, ?15, ?16, ?17) ON CONFLICT (id) DO UPDATE SET version = excluded.version, clock = excluded.clock, zone = excluded.zone, reserved = excluded.reserved, days_add = excluded.days_add, days_auto_renew = excluded.days_auto_renew, days_renew = excluded.days_renew, days_transfer = excluded.days_transfer, days_redemption = excluded.days_redemption, days_restore = excluded.days_restore, days_pending_delete = excluded.days_pending_delete, days_answer = excluded.days_answer, days_lock = excluded.days_lock, price_create = excluded.price_create, price_renew = excluded.price_renew, price_transfer = excluded.price_transfer";
+
+/// A row of the table `meta`.
+#[derive(Drop)]
+pub struct MetaRow {
+    pub id: i64,
+    pub version: i64,
+    pub clock: i64,
+    pub zone: String,
+    pub reserved: String,
+    pub days_add: i64,
+    pub days_auto_renew: i64,
+    pub days_renew: i64,
+    pub days_transfer: i64,
+    pub days_redemption: i64,
+    pub days_restore: i64,
+    pub days_pending_delete: i64,
+    pub days_answer: i64,
+    pub days_lock: i64,
+    pub price_create: i64,
+    pub price_renew: i64,
+    pub price_transfer: i64,
+}
+
+impl Model for MetaRow {
+    ghost use Rattle.std.specs.Prelude.{string_bytes};
+    ghost use Rattle.sqltables.specs.Meta.{Meta};
+
+    ghost Value = { Meta };
+
+    ghost view = { λ x. record {
+      id = x.id;
+      version = x.version;
+      clock = x.clock;
+      zone = string_bytes x.zone;
+      reserved = string_bytes x.reserved;
+      days_add = x.days_add;
+      days_auto_renew = x.days_auto_renew;
+      days_renew = x.days_renew;
+      days_transfer = x.days_transfer;
+      days_redemption = x.days_redemption;
+      days_restore = x.days_restore;
+      days_pending_delete = x.days_pending_delete;
+      days_answer = x.days_answer;
+      days_lock = x.days_lock;
+      price_create = x.price_create;
+      price_renew = x.price_renew;
+      price_transfer = x.price_transfer;
+    } };
+}
+
+impl MetaRow {
+    ghost use Rattle.sqlite.specs.Values.{bound};
+    ghost use Rattle.sqltables.specs.Meta.{meta_shown};
+
+    /// Another copy.
+    pub(crate) fn copied(&self, alloc: Global) -> Result<MetaRow, AllocError>
+        ensures { IfOk result (λ row. row ≡ self.now) }
+    {
+        Ok(MetaRow {
+            id: self.id,
+            version: self.version,
+            clock: self.clock,
+            zone: String::from_str(alloc, self.zone.as_str())?,
+            reserved: String::from_str(alloc, self.reserved.as_str())?,
+            days_add: self.days_add,
+            days_auto_renew: self.days_auto_renew,
+            days_renew: self.days_renew,
+            days_transfer: self.days_transfer,
+            days_redemption: self.days_redemption,
+            days_restore: self.days_restore,
+            days_pending_delete: self.days_pending_delete,
+            days_answer: self.days_answer,
+            days_lock: self.days_lock,
+            price_create: self.price_create,
+            price_renew: self.price_renew,
+            price_transfer: self.price_transfer,
+        })
+    }
+
+    /// The parameters of the statement that puts it.
+    fn params(&self) -> [ValueRef<'_>; 17]
+        ensures { bound result ≡ meta_shown self.now }
+    {
+        [
+            self.id.to_sql(),
+            self.version.to_sql(),
+            self.clock.to_sql(),
+            (&self.zone).to_sql(),
+            (&self.reserved).to_sql(),
+            self.days_add.to_sql(),
+            self.days_auto_renew.to_sql(),
+            self.days_renew.to_sql(),
+            self.days_transfer.to_sql(),
+            self.days_redemption.to_sql(),
+            self.days_restore.to_sql(),
+            self.days_pending_delete.to_sql(),
+            self.days_answer.to_sql(),
+            self.days_lock.to_sql(),
+            self.price_create.to_sql(),
+            self.price_renew.to_sql(),
+            self.price_transfer.to_sql(),
+        ]
+    }
+}
+
+impl Record for MetaRow {
+    ghost use Rattle.sqltables.specs.Meta.{meta_shown};
+
+    ghost shown = { meta_shown };
+
+    fn from_row(row: &Row) -> Result<MetaRow, Error> {
+        Ok(MetaRow {
+            id: row.get(0)?,
+            version: row.get(1)?,
+            clock: row.get(2)?,
+            zone: row.get(3)?,
+            reserved: row.get(4)?,
+            days_add: row.get(5)?,
+            days_auto_renew: row.get(6)?,
+            days_renew: row.get(7)?,
+            days_transfer: row.get(8)?,
+            days_redemption: row.get(9)?,
+            days_restore: row.get(10)?,
+            days_pending_delete: row.get(11)?,
+            days_answer: row.get(12)?,
+            days_lock: row.get(13)?,
+            price_create: row.get(14)?,
+            price_renew: row.get(15)?,
+            price_transfer: row.get(16)?,
+        })
+    }
+}
+
+impl<S: Alter> Base<S> {
+    /// All of them, by their numbers.
+    pub(crate) fn all_metas(&mut self) -> Result<Seq<MetaRow>, BookFault>
+        ensures { Finds result self.old.content.metas self.old self.new }
+    {
+        self.select(ALL, &[])
+    }
+
+    /// Puts a row in the place of the one with its number, or beside all others.
+    pub(crate) fn put_meta(&mut self, meta: &MetaRow) -> Result<(), BookFault>
+        requires { self.old.is_open ≡ true }
+        ensures { Makes result (metas_to (λ xs. insert_by metas.key xs meta.now) self.old.content)
+            self.old self.new }
+    {
+        self.write(PUT, &meta.params())
+    }
+}
+
+impl<S: Alter> RowStore<S> {
+    /// All of them, by their numbers.
+    pub fn all_metas(&mut self) -> Result<Seq<MetaRow>, BookFault>
+        ensures { Finds result self.old.content.metas self.old self.new }
+    {
+        look_up(&mut self.base, &mut self.hand)
+    }
+
+    /// Puts a row in the place of the one with its number, or beside all others.
+    pub fn put_meta(&mut self, meta: &MetaRow) -> Result<(), BookFault>
+        requires { self.old.is_open ≡ true }
+        ensures { Makes result (metas_to (λ xs. insert_by metas.key xs meta.now) self.old.content)
+            self.old self.new }
+    {
+        put(&mut self.base, &mut self.hand, meta)
+    }
+}
+
+/// The rows of `meta`.
+fn look_up<S: Alter>(base: &mut Base<S>, hand: &mut Hand) -> Result<Seq<MetaRow>, BookFault>
+    requires { IsAtHand hand.old base.old }
+    ensures kept { IsAtHand hand.new base.new }
+    ensures found { Finds result (seen_with hand.old base.old).content.metas
+        (seen_with hand.old base.old) (seen_with hand.new base.new) }
+{
+    if hand.meta.is_some() {
+        return Ok(hand.metas(base.alloc())?);
+    }
+    let rows = base.all_metas();
+    let rows = hand.or_forget(rows)?;
+    hand.keep_meta(rows.as_slice(), base.alloc());
+    Ok(rows)
+}
+
+/// Puts a row of `meta`, which is kept at hand where the only one was.
+fn put<S: Alter>(base: &mut Base<S>, hand: &mut Hand, meta: &MetaRow) -> Result<(), BookFault>
+    requires kept { IsAtHand hand.old base.old }
+    requires open { base.old.is_open ≡ true }
+    ensures kept { IsAtHand hand.new base.new }
+    ensures made { Makes result (metas_to (λ xs. insert_by metas.key xs meta.now)
+        (seen_with hand.old base.old).content) (seen_with hand.old base.old)
+        (seen_with hand.new base.new) }
+{
+    let is_only = hand.has_meta(meta);
+    let made = base.put_meta(meta);
+    hand.or_forget(made)?;
+    hand.renew_meta(is_only, meta, base.alloc());
+    Ok(())
+}

@@ -1,0 +1,189 @@
+//! The last transfer of each object that had one.
+ghost use Rattle.std.specs.Prelude.{◌≡◌, true, filter};
+ghost use Rattle.sqlite_keyed.specs.Lists.{delete_where};
+ghost use Rattle.sqlite_keyed.specs.Keyed.{insert_by};
+ghost use Rattle.sqltables.specs.inner.Content.{transfers_to};
+ghost use Rattle.transactions.specs.States.{Finds, Makes};
+ghost use Rattle.sqlrows.specs.inner.Layouts.{appended};
+ghost use Rattle.sqltables.specs.Transfer.{Transfer, transfers, transfer_with_contact, transfer_with_domain, transfer_pending_by, transfer_pending_from};
+
+use crate::store::RowStore;
+use basis::list::Seq;
+use sqlite::types::{ToSql, ValueRef};
+use sqlite::{Alter, Error, Row, params};
+use sqlrows::{Number, Record, maybe_number};
+use std::marker::Model;
+use transactions::BookFault;
+
+const BY_CONTACT: &str =
+    "SELECT id, contact, domain, requester, losing, requested, ac_date, due, state FROM transfer WHERE contact = ?1 ORDER BY id";
+
+const BY_DOMAIN: &str =
+    "SELECT id, contact, domain, requester, losing, requested, ac_date, due, state FROM transfer WHERE domain = ?1 ORDER BY id";
+
+const PENDING_BY_REQUESTER: &str =
+    "SELECT id, contact, domain, requester, losing, requested, ac_date, due, state FROM transfer WHERE requester = ?1 AND due >= 0 ORDER BY id";
+
+const PENDING_BY_LOSING: &str =
+    "SELECT id, contact, domain, requester, losing, requested, ac_date, due, state FROM transfer WHERE losing = ?1 AND due >= 0 ORDER BY id";
+
+const PUT: &str =
+    "INSERT INTO transfer (id, contact, domain, requester, losing, requested, ac_date, due, state) VALUES (?1, ?2, ?3, ?4, ?5, ?6, ?7, ?8, ?9) ON CONFLICT (id) DO UPDATE SET contact = excluded.contact, domain = excluded.domain, requester = excluded.requester, losing = excluded.losing, requested = excluded.requested, ac_date = excluded.ac_date, due = excluded.due, state = excluded.state";
+
+const APPEND: &str =
+    "INSERT INTO transfer (contact, domain, requester, losing, requested, ac_date, due, state) VALUES (?1, ?2, ?3, ?4, ?5, ?6, ?7, ?8)";
+
+const REMOVE_CONTACT: &str = "DELETE FROM transfer WHERE contact = ?1";
+
+const REMOVE_DOMAIN: &str = "DELETE FROM transfer WHERE domain = ?1";
+
+/// A row of the table `transfer`.
+#[derive(Drop)]
+pub struct TransferRow {
+    pub id: i64,
+    pub contact: Option<i64>,
+    pub domain: Option<i64>,
+    pub requester: i64,
+    pub losing: i64,
+    pub requested: i64,
+    pub ac_date: i64,
+    pub due: Option<i64>,
+    pub state: i64,
+}
+
+impl Model for TransferRow {
+    ghost use Rattle.sqltables.specs.Transfer.{Transfer};
+
+    ghost Value = { Transfer };
+
+    ghost view = { λ x. record {
+      id = x.id;
+      contact = x.contact;
+      domain = x.domain;
+      requester = x.requester;
+      losing = x.losing;
+      requested = x.requested;
+      ac_date = x.ac_date;
+      due = x.due;
+      state = x.state;
+    } };
+}
+
+impl TransferRow {
+    ghost use Rattle.sqlite.specs.Values.{bound};
+    ghost use Rattle.sqltables.specs.Transfer.{transfer_shown};
+
+    /// Its columns as parameters, its number first.
+    fn params(&self) -> [ValueRef<'_>; 9]
+        ensures { bound result ≡ transfer_shown self.now }
+    {
+        [
+            self.id.to_sql(),
+            maybe_number(self.contact),
+            maybe_number(self.domain),
+            self.requester.to_sql(),
+            self.losing.to_sql(),
+            self.requested.to_sql(),
+            self.ac_date.to_sql(),
+            maybe_number(self.due),
+            self.state.to_sql(),
+        ]
+    }
+}
+
+impl Record for TransferRow {
+    ghost use Rattle.sqltables.specs.Transfer.{transfer_shown};
+
+    ghost shown = { transfer_shown };
+
+    fn from_row(row: &Row) -> Result<TransferRow, Error> {
+        Ok(TransferRow {
+            id: row.get(0)?,
+            contact: row.get(1)?,
+            domain: row.get(2)?,
+            requester: row.get(3)?,
+            losing: row.get(4)?,
+            requested: row.get(5)?,
+            ac_date: row.get(6)?,
+            due: row.get(7)?,
+            state: row.get(8)?,
+        })
+    }
+}
+
+impl<S: Alter> RowStore<S> {
+    /// Those whose `contact` is this.
+    pub fn transfers_by_contact(&mut self, contact: Number) -> Result<Seq<TransferRow>, BookFault>
+        ensures { Finds result (filter (transfer_with_contact contact) self.old.content.transfers)
+            self.old self.new }
+    {
+        self.select(BY_CONTACT, params![contact])
+    }
+
+    /// Those whose `domain` is this.
+    pub fn transfers_by_domain(&mut self, domain: Number) -> Result<Seq<TransferRow>, BookFault>
+        ensures { Finds result (filter (transfer_with_domain domain) self.old.content.transfers)
+            self.old self.new }
+    {
+        self.select(BY_DOMAIN, params![domain])
+    }
+
+    /// Those that are pending and whose `requester` is this.
+    pub fn pending_transfers_by_requester(
+        &mut self,
+        requester: Number,
+    ) -> Result<Seq<TransferRow>, BookFault>
+        ensures { Finds result (filter (transfer_pending_by requester) self.old.content.transfers)
+            self.old self.new }
+    {
+        self.select(PENDING_BY_REQUESTER, params![requester])
+    }
+
+    /// Those that are pending and whose `losing` is this.
+    pub fn pending_transfers_by_losing(
+        &mut self,
+        losing: Number,
+    ) -> Result<Seq<TransferRow>, BookFault>
+        ensures { Finds result (filter (transfer_pending_from losing) self.old.content.transfers)
+            self.old self.new }
+    {
+        self.select(PENDING_BY_LOSING, params![losing])
+    }
+
+    /// Puts a row in the place of the one with its number, or beside all others.
+    pub fn put_transfer(&mut self, transfer: &TransferRow) -> Result<(), BookFault>
+        requires { self.old.is_open ≡ true }
+        ensures { Makes result (transfers_to (λ xs. insert_by transfers.key xs transfer.now)
+            self.old.content) self.old self.new }
+    {
+        self.write(PUT, &transfer.params())
+    }
+
+    /// Adds a row at the end, with the number after the last one. The given row's number isn't looked at.
+    pub fn append_transfer(&mut self, transfer: &TransferRow) -> Result<(), BookFault>
+        requires { self.old.is_open ≡ true }
+        ensures { Makes result
+            (transfers_to (appended transfers (λ id. record transfer.now { id = id }))
+            self.old.content) self.old self.new }
+    {
+        self.write(APPEND, &transfer.params()[1..])
+    }
+
+    /// Removes those whose `contact` is this.
+    pub fn remove_transfers_by_contact(&mut self, contact: Number) -> Result<(), BookFault>
+        requires { self.old.is_open ≡ true }
+        ensures { Makes result (transfers_to (delete_where (transfer_with_contact contact))
+            self.old.content) self.old self.new }
+    {
+        self.write(REMOVE_CONTACT, params![contact])
+    }
+
+    /// Removes those whose `domain` is this.
+    pub fn remove_transfers_by_domain(&mut self, domain: Number) -> Result<(), BookFault>
+        requires { self.old.is_open ≡ true }
+        ensures { Makes result (transfers_to (delete_where (transfer_with_domain domain))
+            self.old.content) self.old self.new }
+    {
+        self.write(REMOVE_DOMAIN, params![domain])
+    }
+}

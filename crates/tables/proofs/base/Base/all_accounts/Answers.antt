@@ -1,8 +1,0 @@
-use Rattle.tables.proofs.AccountLemmas.{all_asks, all_is}
-use Rattle.tables.proofs.base.Base.all_accounts.Goals as goal
-
-pub select-requires : goal.select-requires
-select-requires g c = all_is.plain
-
-pub returns : goal.returns
-returns g c = c.select.ensures _ all_asks

@@ -1,9 +1,0 @@
-use Rattle.tables.proofs.AccountLemmas.{put_alters}
-use Rattle.tables.proofs.TableLemmas.{alters-by}
-use Rattle.tables.proofs.base.Base.put_account.Goals as goal
-
-pub write-requires-clause-means : goal.write-requires-clause-means
-write-requires-clause-means g c = (_, alters-by c.params.ensures (put_alters c.args.account.now))
-
-pub returns : goal.returns
-returns g c = c.write.ensures _ (alters-by c.params.ensures (put_alters c.args.account.now))

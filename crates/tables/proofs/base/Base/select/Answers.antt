@@ -1,5 +1,0 @@
-use Rattle.tables.proofs.FollowingLemmas.{finds-after}
-use Rattle.tables.proofs.base.Base.select.Goals as goal
-
-pub returns : goal.returns
-returns g c f asks = finds-after c.ask.result c.args.self.now c.look.new.self c.ask.new.self f c.in_ok-look.ensures.same.0 (c.ask.ensures f asks)

@@ -1,7 +1,0 @@
-use Rattle.rows.specs.Columns.{no_schema}
-use Rattle.tables.specs.FirstTables.{first_registry}
-use Rattle.tables.proofs.FirstSchemaLemmas.{first_creation_defines}
-use Rattle.tables.proofs.schema.create_first.Goals as goal
-
-pub returns : goal.returns
-returns g c none is_open inside clean = c.define.ensures.does no_schema first_registry first_creation_defines (record { is = none; empty = tt }) is_open inside clean

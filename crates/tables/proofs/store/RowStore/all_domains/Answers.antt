@@ -1,9 +1,0 @@
-use Rattle.std.proofs.Common.{refl}
-use Rattle.tables.proofs.DomainLemmas.{all_asks}
-use Rattle.tables.proofs.store.RowStore.all_domains.Goals as goal
-
-pub select-requires : goal.select-requires
-select-requires g c = (_, all_asks)
-
-pub returns : goal.returns
-returns g c = c.select.ensures _ all_asks (λ change xs. refl)
