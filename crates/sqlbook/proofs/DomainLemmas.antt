@@ -20,7 +20,7 @@ use Rattle.sqltables.specs.inner.Whole.{IsWhole}
 use Rattle.sqlaccounts.specs.Accounts.{accounts_of, row_of, sums_are_right}
 use Rattle.sqldomains.specs.inner.Changes.{IsDomainPut}
 use Rattle.sqldomains.specs.Domains.{domain_of, domains_of}
-use Rattle.sqldomains.proofs.SponsorLemmas.{same-verdict}
+use Rattle.sqlobjects.proofs.VerdictLemmas.{same-verdict}
 use Rattle.sqlsums.specs.inner.Recounts.{AreAlike, IsRecounted}
 use Rattle.sqlsums.specs.Held.{helds_are_right}
 use Rattle.sqlsums.proofs.KeptLemmas.{held-kept}

@@ -10,3 +10,5 @@ pub mod MigratingLemmas
 pub mod SteadyLemmas
 pub mod ReopeningLemmas
 pub mod BeginningLemmas
+pub mod PlacedLemmas
+pub mod RenamingLemmas

@@ -37,9 +37,9 @@ all-where : {A : Type 0} (p q : A → Bool) (rows : List A) → ((row : A) → H
 all-where p q [] same = refl
 all-where p q (row ∷ rows) same = λ i. same row (inl refl) i && all-where p q rows (λ r h. same r (inr h)) i
 
--- the columns of domains are as right as they were where the rows are the same and read as before
-pub dues-where : (old new : Content) → new.metas ≡ old.metas → new.days ≡ old.days → new.domains ≡ old.domains → ((row : table.Domain) → Has old.domains row → domain_of new row ≡ domain_of old row) → dues_are_right new ≡ dues_are_right old
-dues-where old new metas tables domains reads =
+-- the columns of domains are as right as they were where the rows are the same and each column is
+pub dues-alike : (old new : Content) → new.metas ≡ old.metas → new.days ≡ old.days → new.domains ≡ old.domains → ((days : Schedule) (row : table.Domain) → Has old.domains row → is_due_right days new row ≡ is_due_right days old row) → dues_are_right new ≡ dues_are_right old
+dues-alike old new metas tables domains alike =
     (λ i. option_map_or (λ days. list_all (is_due_right days new) new.domains) (days_of (record new { metas = metas i; days = tables i })) true)
     ∙ go (days_of old)
   where
@@ -47,7 +47,11 @@ dues-where old new metas tables domains reads =
     go None = refl
     go (Some days) =
         ap (list_all (is_due_right days new)) domains
-        ∙ all-where (is_due_right days new) (is_due_right days old) old.domains (λ row there. ap (λ d. option_map_or (λ x. int_le row.due (pos (due_at (rules_with days) x))) d true) (reads row there))
+        ∙ all-where (is_due_right days new) (is_due_right days old) old.domains (alike days)
+
+-- and where they read as before
+pub dues-where : (old new : Content) → new.metas ≡ old.metas → new.days ≡ old.days → new.domains ≡ old.domains → ((row : table.Domain) → Has old.domains row → domain_of new row ≡ domain_of old row) → dues_are_right new ≡ dues_are_right old
+dues-where old new metas tables domains reads = dues-alike old new metas tables domains (λ days row there. ap (λ d. option_map_or (λ x. int_le row.due (pos (due_at (rules_with days) x))) d true) (reads row there))
 
 module _ (name : List ℕ) (value : Option Contact) (old new : Content) (it : IsContactPut name value old new) where
   pub contact-right : are_right new ≡ are_right old

@@ -14,6 +14,7 @@ mod provenance;
 mod questions;
 mod records;
 mod redating;
+mod renaming;
 
 pub use book::{MemoryBook, SqlBook, adopt, in_memory, into_connection, stays_clean, taken};
 pub use files::into_files;

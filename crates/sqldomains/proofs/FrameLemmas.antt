@@ -27,9 +27,8 @@ use Rattle.sqlobjects.specs.inner.Changes.{IsContactPut, IsHostPut}
 use Rattle.sqlobjects.specs.Changes.{contact_name, host_name}
 use Rattle.sqlobjects.specs.Objects.{last_transfer}
 use Rattle.sqlobjects.specs.Sponsors.{IsFollowed, domain_sponsor, follows, with_sponsor}
-use Rattle.sqlobjects.proofs.PutLemmas.{has-filter}
+use Rattle.sqlobjects.proofs.PutLemmas.{get_by-has, has-filter}
 use Rattle.sqldomains.specs.Domains.{are_dated, dated, domain_entry, domain_of, domains_of, linked_name, registrant_alone, with_links, with_name}
-use Rattle.sqldomains.proofs.LinkRowLemmas.{get_by-has}
 
 -- a row whose numbers lead to the same names
 name-where : (xs ys : Content) (role : Role) (contact host : Option ℤ) → ((id : ℤ) → contact ≡ Some id → contact_name ys id ≡ contact_name xs id) → ((id : ℤ) → host ≡ Some id → host_name ys id ≡ host_name xs id)

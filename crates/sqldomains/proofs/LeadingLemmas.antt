@@ -20,7 +20,7 @@ use Rattle.sqlobjects.proofs.PutLemmas.{has-filter}
 use Rattle.sqldomains.specs.Domains.{domain_of, linked_name, registrant_alone, with_name}
 use Rattle.sqldomains.proofs.AnswerLemmas.{row-of-contact, row-of-host}
 use Rattle.sqldomains.proofs.LinkedLemmas.{LeadsToContact, LeadsToHost, Naming, admin-more, all-rows, host-more, naming, registrant-kept, tech-more}
-use Rattle.sqldomains.proofs.SponsorLemmas.{each-passes}
+use Rattle.sqlobjects.proofs.VerdictLemmas.{each-passes}
 
 -- a link of a domain's row leads to the contact, or the host, with this number, and says when the domain is due
 pub record LinksContact (xs : Content) (row : table.Domain) (id : ℤ) : Type 0 where

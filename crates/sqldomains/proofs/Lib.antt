@@ -10,3 +10,4 @@ pub mod NameOrderLemmas
 pub mod BelowLemmas
 pub mod SponsorLemmas
 pub mod LeadingLemmas
+pub mod RenamedLemmas

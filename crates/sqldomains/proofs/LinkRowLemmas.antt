@@ -1,5 +1,5 @@
 -- Rows that lead from a domain, removed and added.
-use Rattle.std.proofs.Common.{◌≡◌, inl, inr, ◌+◌, ◌<◌, ◌<ℤ◌, get_or, length, take, ℕ, ℤ, Bool, true, false, ◌&&◌, cond, List, [], ◌∷◌, ◌++◌, filter, Option, Some, None, option_map, refl, sym, ap, subst, ◌∙◌, append_assoc, arith, int_eq}
+use Rattle.std.proofs.Common.{◌≡◌, inl, inr, ◌+◌, ◌<◌, ◌<ℤ◌, get_or, length, take, ℕ, ℤ, Bool, true, false, ◌&&◌, cond, List, [], ◌∷◌, ◌++◌, filter, fold, Option, Some, None, option_map, refl, sym, ap, subst, ◌∙◌, append_assoc, arith, int_eq}
 use Rattle.std.proofs.lemmas.Bool.Decides.{Decides-int_eq}
 use Rattle.std.proofs.lemmas.Int.{ints}
 use Rattle.std.proofs.lemmas.List.{append-nil, take_more}
@@ -23,8 +23,8 @@ use Rattle.sqltables.specs.Link.{Link, link_with_domain}
 use Rattle.sqltables.specs.inner.Whole.{IsWhole}
 use Rattle.sqltables.proofs.RowLemmas.{all_at}
 use Rattle.sqlobjects.specs.Changes.{contact_name, host_name}
-use Rattle.sqlobjects.proofs.PutLemmas.{filter-append, filter-append_pass, filter-delete, filter-deleted}
-use Rattle.sqldomains.specs.Domains.{are_dated, linked_name, registrant_alone, with_link, with_links, with_name}
+use Rattle.sqlobjects.proofs.PutLemmas.{filter-append, filter-append_pass, filter-delete, filter-deleted, get_by-has}
+use Rattle.sqldomains.specs.Domains.{are_dated, in_places, linked_name, placed, registrant_alone, with_link, with_links, with_name}
 use Rattle.sqldomains.specs.inner.Links.{IsNumberOfContact, IsNumberOfHost}
 use Rattle.sqldomains.specs.inner.Stages.{AreLinksCleared, AreLinksPut, AreNamesAdded, AreOtherLinksKept, IsLinkTo, Names, with_names}
 use Rattle.sqldomains.proofs.LinkedLemmas.{registrant-more}
@@ -147,36 +147,28 @@ techs : (names : List (List ℕ)) (l : Links) → with_names roles.Tech l names 
 techs [] l = λ i. record l { tech = sym (append-nil l.tech) i }
 techs (n ∷ ns) l = techs ns (with_name l roles.Tech n) ∙ (λ i. record l { tech = append_assoc l.tech (n ∷ []) ns i })
 
-all_hosts : (names : List (List ℕ)) (l : Links) → with_names roles.Host l names ≡ record l { hosts = l.hosts ++ names }
-all_hosts [] l = λ i. record l { hosts = sym (append-nil l.hosts) i }
-all_hosts (n ∷ ns) l = all_hosts ns (with_name l roles.Host n) ∙ (λ i. record l { hosts = append_assoc l.hosts (n ∷ []) ns i })
+all_hosts : (names : List (List ℕ)) (l : Links) → with_names roles.Host l names ≡ record l { hosts = fold (λ all name. placed name all) l.hosts names }
+all_hosts [] l = refl
+all_hosts (n ∷ ns) l = all_hosts ns (with_name l roles.Host n)
 
-in-all : (l : Links) → with_names roles.Host (with_names roles.Tech (with_names roles.Admin (registrant_alone l.registrant) l.admin) l.tech) l.hosts ≡ l
-in-all l =
+in-all : (l : Links) → in_places l.hosts ≡ l.hosts → with_names roles.Host (with_names roles.Tech (with_names roles.Admin (registrant_alone l.registrant) l.admin) l.tech) l.hosts ≡ l
+in-all l so =
     ap (λ m. with_names roles.Host (with_names roles.Tech m l.tech) l.hosts) (admins l.admin (registrant_alone l.registrant))
     ∙ ap (λ m. with_names roles.Host m l.hosts) (techs l.tech (record (registrant_alone l.registrant) { admin = l.admin }))
     ∙ all_hosts l.hosts (record (registrant_alone l.registrant) { admin = l.admin; tech = l.tech })
+    ∙ (λ i. record l { hosts = so i })
 
-pub links-put : (id due number : ℤ) (l : Links) (a b c d e : Content) → number ≡ id → AreLinksCleared number a b → AreNamesAdded id due roles.Admin l.admin b c → AreNamesAdded id due roles.Tech l.tech c d → AreNamesAdded id due roles.Host l.hosts d e
+pub links-put : (id due number : ℤ) (l : Links) (a b c d e : Content) → in_places l.hosts ≡ l.hosts → number ≡ id → AreLinksCleared number a b → AreNamesAdded id due roles.Admin l.admin b c → AreNamesAdded id due roles.Tech l.tech c d → AreNamesAdded id due roles.Host l.hosts d e
     → AreLinksPut id due l a e
-links-put id due number l a b c d e same clear admin tech host =
+links-put id due number l a b c d e so same clear admin tech host =
     let cleared : AreLinksCleared id a b = subst (λ k. AreLinksCleared k a b) same clear in
     let start : Names id due (registrant_alone l.registrant) b = record { all = ap (with_links b (registrant_alone l.registrant)) cleared.none; dated = ap (are_dated due) cleared.none } in
     record {
-      here = subst (λ m. Names id due m e) (in-all l) (host.here _ (tech.here _ (admin.here _ start)));
+      here = subst (λ m. Names id due m e) (in-all l so) (host.here _ (tech.here _ (admin.here _ start)));
       others = then-kept id a b e cleared.others (then-kept id b c e admin.others (then-kept id c d e tech.others host.others));
     }
 
 -- ---- numbers of names
-
-module _ {X : Type 0} (key : X → ℤ) where
-  pub get_by-has : (xs : List X) (row : X) → IsKeyedBy key xs → Has xs row → get_by key xs (key row) ≡ Some row
-  get_by-has [] row up there = absurd there
-  get_by-has (x ∷ xs) row up (inl same) =
-      ap (λ b. cond b (Some x) (get_by key xs (key row))) ((Decides-int_eq (key x) (key row)).1 (ap key (sym same))) ∙ ap Some (sym same)
-  get_by-has (x ∷ xs) row up (inr there) =
-      let below : key x <ℤ key row = all_at (λ z. key x <ℤ key z) xs row up.0 there in
-      ap (λ b. cond b (Some x) (get_by key xs (key row))) (int_eq_apart (key x) (key row) (λ e. omega (arith, ints))) ∙ get_by-has xs row up.1 there
 
 pub contact-of-number : (xs : Content) (name : List ℕ) (id : ℤ) → IsWhole xs → IsNumberOfContact xs name (Some id) → contact_name xs id ≡ Some name
 contact-of-number xs name id whole it =

@@ -1,5 +1,5 @@
 -- Whether a domain names a contact or a host, by the rows that refer to it.
-use Rattle.std.proofs.Common.{◌≡◌, ◌⊎◌, inl, inr, ℕ, ℤ, Bool, true, false, ◌||◌, List, [], ◌∷◌, ◌++◌, map, filter, Option, Some, None, refl, sym, ap, subst, ◌∙◌, true≢false}
+use Rattle.std.proofs.Common.{◌≡◌, ◌⊎◌, inl, inr, ℕ, ℤ, Bool, true, false, ◌||◌, cond, List, [], ◌∷◌, ◌++◌, map, filter, Option, Some, None, refl, sym, ap, subst, ◌∙◌, true≢false}
 use Rattle.std.proofs.lemmas.List.Folds.{list_any-append}
 use Rattle.std.proofs.lemmas.Slice.Eq.{bytes_eq-Decides}
 use Rattle.std.specs.Cmp.Lexicographic.{nat_list_cmp_total, slice_cmp}
@@ -8,6 +8,8 @@ use Rattle.std.specs.List.{list_any}
 use Rattle.std.specs.Ordering.{nat_cmp}
 use Rattle.std.specs.Str as str
 use Rattle.sqlite_rules.specs.Lists.{Has}
+use Rattle.basis.specs.Bag.{add, precedes}
+use Rattle.basis.proofs.BagLaws.{any-add}
 use Rattle.basis.proofs.EntryLaws.{Each, among_values, each_entry}
 use Rattle.objects.specs.declared.domain.Domain.{Domain}
 use Rattle.objects.specs.declared.domain.Links.{Links}
@@ -32,7 +34,7 @@ use Rattle.sqlrows.specs.Read.{first_read, or_else}
 use Rattle.sqlobjects.specs.Changes.{contact_name, host_name}
 use Rattle.sqlobjects.specs.Objects.{last_transfer}
 use Rattle.sqlobjects.proofs.PutLemmas.{has-filter, only_named}
-use Rattle.sqldomains.specs.Domains.{are_dated, dated, domain_of, domains_of, links_of, registrant_alone, linked_name, with_link, with_links, with_name}
+use Rattle.sqldomains.specs.Domains.{are_dated, dated, domain_of, domains_of, links_of, placed, registrant_alone, linked_name, with_link, with_links, with_name}
 use Rattle.sqldomains.proofs.FoundLemmas.{domain-named}
 
 -- ---- the domains that rows mean, one by one
@@ -102,6 +104,18 @@ is_there name before new e = go (has_name before name) (str.bytes_eq new name) r
     go false true is tied e = inr ((bytes_eq-Decides new name).0 tied)
     go false false is tied e = absurd (true≢false (sym e))
 
+is_placed : (name : List ℕ) (before : List (List ℕ)) (new : List ℕ) → has_name (placed new before) name ≡ true → (has_name before name ≡ true) ⊎ (new ≡ name)
+is_placed name before new e = go (has_name before new) e
+  where
+    either : (a b : Bool) → has_name before name ≡ a → str.bytes_eq new name ≡ b → (b || a) ≡ true → (has_name before name ≡ true) ⊎ (new ≡ name)
+    either true b is tied f = inl is
+    either false true is tied f = inr ((bytes_eq-Decides new name).0 tied)
+    either false false is tied f = absurd (true≢false (sym f))
+
+    go : (c : Bool) → has_name (cond c before (add (precedes (slice_cmp nat_cmp)) new before)) name ≡ true → (has_name before name ≡ true) ⊎ (new ≡ name)
+    go true f = inl f
+    go false f = either (has_name before name) (str.bytes_eq new name) refl refl (sym (any-add (precedes (slice_cmp nat_cmp)) (λ o. str.bytes_eq o name) new before) ∙ f)
+
 not_true : (b : Bool) → (b ≡ true → ⊥) → b ≡ false
 not_true true never = absurd (never refl)
 not_true false never = refl
@@ -149,7 +163,7 @@ module _ (xs : Content) (name : List ℕ) (l : Links) (row : Link) where
   tech-more roles.Host new e has = inl has
 
   pub host-more : (role : Role) (new : List ℕ) → linked_name xs role row.contact row.host ≡ Some new → has_name (with_name l role new).hosts name ≡ true → (has_name l.hosts name ≡ true) ⊎ LeadsToHost xs name row
-  host-more roles.Host new e has = go (is_there name l.hosts new has)
+  host-more roles.Host new e has = go (is_placed name l.hosts new has)
     where
       go : (has_name l.hosts name ≡ true) ⊎ (new ≡ name) → (has_name l.hosts name ≡ true) ⊎ LeadsToHost xs name row
       go (inl before) = inl before

@@ -30,14 +30,13 @@ use Rattle.sqltables.specs.Transfer.{transfer_with_domain}
 use Rattle.sqltables.specs.inner.Whole.{IsWhole}
 use Rattle.sqlrows.specs.Read.{first_read, or_else}
 use Rattle.sqlobjects.specs.Objects.{last_transfer}
-use Rattle.sqlobjects.proofs.PutLemmas.{bytes_is, filter-has, has-filter, has-get_by, only_named}
+use Rattle.sqlobjects.proofs.PutLemmas.{bytes_is, filter-has, get_by-has, has-filter, has-get_by, only_named}
 use Rattle.sqldomains.specs.Domains.{domain_of, domains_of, links_of}
 use Rattle.sqldomains.specs.inner.Links.{IsNumberOfHost}
 use Rattle.sqldomains.specs.inner.Names.{NameSet, domain_names, domains_naming, if_named, name_in, name_naming, with_one, with_read}
 use Rattle.sqldomains.proofs.AnswerLemmas.{equal, nowhere-host, only-host}
 use Rattle.sqldomains.proofs.FoundLemmas.{domain-named}
 use Rattle.sqldomains.proofs.LinkedLemmas.{LeadsToHost, Naming, all-rows, first-has, host-more, naming}
-use Rattle.sqldomains.proofs.LinkRowLemmas.{get_by-has}
 
 firsts : {X Y : Type 0} (f : List ℕ → X → Y) (es : List (List ℕ × X)) → map (λ (e : List ℕ × Y). e.0) (map (λ (e : List ℕ × X). (e.0, f e.0 e.1)) es) ≡ map (λ (e : List ℕ × X). e.0) es
 firsts f [] = refl

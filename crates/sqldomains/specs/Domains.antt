@@ -1,11 +1,13 @@
 -- The domains that rows mean.
-use Rattle.std.specs.Prelude.{ℕ, ℤ, Bool, if◌then◌else◌, List, [], ◌∷◌, ◌++◌, filter, Option, Some, None}
+use Rattle.std.specs.Prelude.{ℕ, ℤ, Bool, if◌then◌else◌, List, [], ◌∷◌, ◌++◌, filter, fold, Option, Some, None}
 use Rattle.std.specs.Cmp.Lexicographic.{slice_cmp}
 use Rattle.std.specs.FinMap.{FinMap, from_entries}
 use Rattle.std.specs.List.{filter_map, list_all}
 use Rattle.std.specs.Ordering.{int_eq, nat_cmp}
+use Rattle.basis.specs.Bag.{add, precedes}
 use Rattle.objects.specs.declared.domain.Domain.{Domain}
 use Rattle.objects.specs.declared.domain.Links.{Links}
+use Rattle.objects.specs.Links.{has_name}
 use Rattle.sqlcolumns.specs.declared.code.Role.{Role}
 use Rattle.sqlcolumns.specs.declared.code.Role.TheVariants as roles
 use Rattle.sqlcolumns.specs.Codes.{role_in}
@@ -21,11 +23,21 @@ use Rattle.sqlobjects.specs.Objects.{last_transfer}
 
 -- ---- what a domain names (RFC 5731, 1.1 and 2.2)
 
--- with one thing more, in this role
+-- names in their order with one more in its place, unless it is there
+abbrev pub placed : List ℕ → List (List ℕ) → List (List ℕ)
+placed name names =
+    if has_name names name then names else add (precedes (slice_cmp nat_cmp)) name names
+
+-- each of these names in its place, and once
+abbrev pub in_places : List (List ℕ) → List (List ℕ)
+in_places names = fold (λ all name. placed name all) [] names
+
+-- with one thing more, in this role: a contact behind the others, and a host in the place of its name, so
+-- that a host's new name is one row's and no domain's
 abbrev pub with_name : Links → Role → List ℕ → Links
 with_name l roles.Admin name = record l { admin = l.admin ++ name ∷ [] }
 with_name l roles.Tech name = record l { tech = l.tech ++ name ∷ [] }
-with_name l roles.Host name = record l { hosts = l.hosts ++ name ∷ [] }
+with_name l roles.Host name = record l { hosts = placed name l.hosts }
 
 -- the name of what a row leads to: a host in the role of one, or else a contact
 abbrev pub linked_name : Content → Role → Option ℤ → Option ℤ → Option (List ℕ)

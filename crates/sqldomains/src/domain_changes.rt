@@ -68,7 +68,7 @@ fn put_beside<S: Alter>(
     }
     store.whole();
     let row = place(store, alloc, beside, domain)?;
-    put_links(store, &row, &domain.links)?;
+    put_links(store, alloc, &row, &domain.links)?;
     put_transfer(store, &row, &domain.transfer)?;
     store.whole();
     Ok(())

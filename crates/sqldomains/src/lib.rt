@@ -12,6 +12,7 @@ mod linked;
 mod links;
 mod names;
 mod names_in_order;
+mod placing;
 mod transfers;
 
 pub use below::hosts_below;

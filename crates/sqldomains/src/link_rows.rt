@@ -7,17 +7,21 @@ ghost use Rattle.sqldomains.specs.inner.Stages.{AreLinksCleared, AreLinksPut, Ar
 
 use crate::linked::{number_of_contact, number_of_host};
 use crate::links::number_of;
+use crate::placing::check_places;
 use basis::text::Text;
 use objects::Links;
 use sqlcolumns::{Role, role_column};
 use sqlite::Alter;
 use sqlrows::Number;
 use sqltables::{DomainRow, LinkRow, RowStore};
+use std::alloc::Global;
 use transactions::BookFault;
 
 /// The domain that lies in this row names this, in place of what it named. Its registrant is in its row.
+/// Hosts in another order than that of their names wouldn't be read back and are refused.
 pub(crate) fn put_links<S: Alter>(
     store: &mut RowStore<S>,
+    alloc: Global,
     domain: &DomainRow,
     links: &Links,
 ) -> Result<(), BookFault>
@@ -25,6 +29,7 @@ pub(crate) fn put_links<S: Alter>(
     ensures { Changes result (AreLinksPut domain.now.id domain.now.due links.now) store.old
         store.new }
 {
+    check_places(alloc, links.hosts.as_slice())?;
     let number = number_of(domain);
     clear_links(store, number)?;
     add_names(store, domain, Role::Admin, links.admin.as_slice())?;

@@ -4,6 +4,7 @@ ghost use Rattle.transactions.specs.States.{FindsSome};
 ghost use Rattle.sqldomains.specs.Domains as spec;
 
 use crate::names::{contact_name, host_name};
+use crate::placing::placed;
 use basis::list::Seq;
 use basis::text::Text;
 use objects::Links;
@@ -117,7 +118,7 @@ fn with_name(links: Links, role: Role, name: Text) -> Result<Links, AllocError>
     match role {
         Role::Admin => links.admin.push(name)?,
         Role::Tech => links.tech.push(name)?,
-        Role::Host => links.hosts.push(name)?,
+        Role::Host => links.hosts = placed(links.hosts, name)?,
     }
     Ok(links)
 }

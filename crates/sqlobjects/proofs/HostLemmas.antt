@@ -31,7 +31,7 @@ abbrev key : host_table.Host → ℤ
 key = host_table.hosts.key
 
 -- a host whose row and addresses are as they were is read as before
-reads-alike : (xs ys : Content) (id : ℤ) (r : host_table.Host) → AreOtherAddressesKept id xs (record ys { hosts = xs.hosts }) → int_eq id r.id ≡ false → host_of ys r ≡ host_of xs r
+pub reads-alike : (xs ys : Content) (id : ℤ) (r : host_table.Host) → AreOtherAddressesKept id xs (record ys { hosts = xs.hosts }) → int_eq id r.id ≡ false → host_of ys r ≡ host_of xs r
 reads-alike xs ys id r kept other = ap (host_in r) (kept.hosts r.id other)
 
 -- what else a change of hosts leaves
@@ -92,12 +92,12 @@ module _ (xs ys : Content) (name : List ℕ) (whole : IsWhole xs) (after : IsWho
 
 -- ---- written into a row
 
-record IsWritten (xs : Content) (id : ℤ) (h : Host) (row : host_table.Host) : Type 0 where
-  number : row.id ≡ id
-  name : row.name ≡ h.name
-  again : (k : ℤ) → IsHostRow xs k h (record row { id = k })
+pub record IsWritten (xs : Content) (id : ℤ) (h : Host) (row : host_table.Host) : Type 0 where
+  pub number : row.id ≡ id
+  pub name : row.name ≡ h.name
+  pub again : (k : ℤ) → IsHostRow xs k h (record row { id = k })
 
-written : (xs : Content) (id : ℤ) (h : Host) (row : host_table.Host) → IsHostRow xs id h row → IsWritten xs id h row
+pub written : (xs : Content) (id : ℤ) (h : Host) (row : host_table.Host) → IsHostRow xs id h row → IsWritten xs id h row
 written xs id h row e =
     let roid = step (roid_columns kinds.Host h.roid) (λ x. Some (row_with id row.sponsor h x)) row e.is in
     let same : row_with id row.sponsor h roid.given ≡ row = same_some (row_with id row.sponsor h roid.given) row roid.rest in

@@ -8,3 +8,5 @@ pub mod AddressLemmas
 pub mod SponsorLemmas
 pub mod HostLemmas
 pub mod FollowLemmas
+pub mod VerdictLemmas
+pub mod RowNameLemmas

@@ -128,6 +128,15 @@ module _ {P : Type 0} (key : P → ℤ) where
       go true f more = inl cc
       go false f more = inr (more f)
 
+  -- a row is found by its number
+  pub get_by-has : (xs : List P) (row : P) → IsKeyedBy key xs → Has xs row → get_by key xs (key row) ≡ Some row
+  get_by-has [] row up there = absurd there
+  get_by-has (x ∷ xs) row up (inl same) =
+      ap (λ (b : Bool). cond b (Some x) (get_by key xs (key row))) ((Decides-int_eq (key x) (key row)).1 (ap key (sym same))) ∙ ap Some (sym same)
+  get_by-has (x ∷ xs) row up (inr there) =
+      let below : key x <ℤ key row = all_at (λ z. key x <ℤ key z) xs row up.0 there in
+      ap (λ (b : Bool). cond b (Some x) (get_by key xs (key row))) (int_eq_apart (key x) (key row) (λ e. omega (arith, ints))) ∙ get_by-has xs row up.1 there
+
   module _ (name : P → List ℕ) where
     -- a row is the only one of its name
     pub only_named : (xs : List P) (p : P) → IsKeyedBy key xs → IsNamedBy name xs → Has xs p → filter (λ r. bytes_eq (name r) (name p)) xs ≡ p ∷ []
@@ -198,7 +207,7 @@ module _ {P : Type 0} (key : P → ℤ) (name : P → List ℕ) (n : List ℕ) (
 
   module _ (row : P) (found : filter named_so xs ≡ row ∷ []) (up : IsKeyedBy key xs) where
     -- each row with its number has its name
-    tied : (q : List ℕ) → bytes_eq q n ≡ false → (x : P) → Has xs x → key x ≡ key row → bytes_eq (name x) q ≡ false
+    pub tied : (q : List ℕ) → bytes_eq q n ≡ false → (x : P) → Has xs x → key x ≡ key row → bytes_eq (name x) q ≡ false
     tied q other x there e =
         let at = row_there row found in
         bytes_apart (name x) n q (ap name (same_by_key key xs x row up there at.0 e) ∙ at.1) other

@@ -164,7 +164,7 @@ fn row_without(alloc: Global, id: i64, host: &Host) -> Result<HostRow, BookFault
 }
 
 /// The same under the number of a row that is there.
-fn row_again<S: Alter>(
+pub(crate) fn row_again<S: Alter>(
     store: &mut RowStore<S>,
     alloc: Global,
     found: &HostRow,

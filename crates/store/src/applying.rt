@@ -1,9 +1,8 @@
 //! How changes are made in records.
 ghost use Rattle.std.specs.Prelude.{◌≡◌, ◌∷◌, [], true, max, Some};
-ghost use Rattle.rules.specs.declared.change.Change.TheVariants as change;
 ghost use Rattle.store.specs.Book.{with_changes};
 ghost use Rattle.transactions.specs.States.{Makes};
-ghost use Rattle.store.specs.Tables.{clock_set, contact_left, contact_put, domain_left, domain_put, host_renamed_in};
+ghost use Rattle.store.specs.Tables.{clock_set, contact_left, contact_put, domain_left, domain_put};
 
 use crate::posting::post;
 use crate::records::Records;
@@ -47,7 +46,7 @@ fn make<R: Records>(records: &mut R, change: Change, policy: &Policy) -> Result<
         Change::DropDomain(name) => records.drop_domain(name, policy),
         Change::PutHost(host) => records.put_host(host),
         Change::DropHost(name) => records.drop_host(name),
-        Change::RenameHost { from, to } => rename(records, &from, &to, policy),
+        Change::RenameHost { from, to } => records.rename_host(&from, &to, policy),
         Change::LapseContact(name, left) => leave_contact(records, name, left),
         Change::LapseDomain(name, left) => leave_domain(records, name, left, policy),
     }
@@ -114,37 +113,4 @@ fn leave_domain<R: Records>(
         None => records.drop_domain(name, policy),
         Some(domain) => records.put_domain(name, domain, policy),
     }
-}
-
-/// Every domain that names the host of the one name names that of the other in its place.
-fn rename<R: Records>(
-    records: &mut R,
-    from: &Text,
-    to: &Text,
-    policy: &Policy,
-) -> Result<(), BookFault>
-    requires { (R.kept records.old).is_open ≡ true }
-    ensures { Makes result (with_changes policy.now (change.RenameHost from.now to.now ∷ [])
-        (R.kept records.old).content) (R.kept records.old) (R.kept records.new) }
-{
-    let names = records.domains_naming(from)?;
-    rename_in(records, from, to, names.as_slice(), policy)
-}
-
-/// Each of these domains names the host of the one name by the other.
-fn rename_in<R: Records>(
-    records: &mut R,
-    from: &Text,
-    to: &Text,
-    names: &[Text],
-    policy: &Policy,
-) -> Result<(), BookFault>
-    requires { (R.kept records.old).is_open ≡ true }
-    ensures { Makes result (host_renamed_in from.now to.now names.now (R.kept records.old).content)
-        (R.kept records.old) (R.kept records.new) }
-{
-    for name in names {
-        records.rename_host(name, from, to, policy)?;
-    }
-    Ok(())
 }

@@ -1,5 +1,5 @@
 //! What a book keeps, by key.
-ghost use Rattle.std.specs.Prelude.{◌≡◌, Bool, true, false, nat_le, length, slice_get, option_map, Some, None};
+ghost use Rattle.std.specs.Prelude.{◌≡◌, ◌∷◌, [], Bool, true, false, nat_le, length, slice_get, option_map, Some, None};
 ghost use Rattle.std.specs.FinMap as finmap;
 ghost use Rattle.std.specs.List.{filter};
 ghost use Rattle.accounts.specs.Lines as lines;
@@ -7,7 +7,8 @@ ghost use Rattle.accounts.specs.Lines.{in_order, swapped_all};
 ghost use Rattle.basis.specs.Bag.{remade};
 ghost use Rattle.facts.specs.Facts as facts;
 ghost use Rattle.model.specs.Registry.{account_of};
-ghost use Rattle.store.specs.Book.{with_terms};
+ghost use Rattle.rules.specs.declared.change.Change.TheVariants as change;
+ghost use Rattle.store.specs.Book.{with_changes, with_terms};
 ghost use Rattle.concerns.specs.Concerns.{concerned};
 ghost use Rattle.model.specs.DueBy.{due_by};
 ghost use Rattle.concerns.specs.DueFor.{due_for, is_picked};
@@ -136,10 +137,6 @@ pub trait Records {
     fn hosts_below(&mut self, domain: &Text) -> Result<Seq<Text>, BookFault>
         ensures { Finds result (facts.subordinate (kept self.old).content.registry domain.now) (kept self.old) (kept self.new) };
 
-    /// The domains that name a host, in the order of their names.
-    fn domains_naming(&mut self, host: &Text) -> Result<Seq<Text>, BookFault>
-        ensures { Finds result (tables.domains_naming host.now (kept self.old).content.registry) (kept self.old) (kept self.new) };
-
     /// Whether the registrar holds as many domains as it may.
     fn is_at_holding_limit(&mut self, registrar: RegistrarNo) -> Result<bool, BookFault>
         ensures { Finds result (nat_le HOLDING_LIMIT (facts.held registrar (kept self.old).content.registry)) (kept self.old) (kept self.new) };
@@ -228,17 +225,10 @@ pub trait Records {
         requires { (kept self.old).is_open ≡ true }
         ensures { Makes result (tables.host_put name None (kept self.old).content) (kept self.old) (kept self.new) };
 
-    /// The domain that stands under a name, if there is one, names the host of the one name by the
-    /// other.
-    fn rename_host(
-        &mut self,
-        domain: &Text,
-        from: &Text,
-        to: &Text,
-        policy: &Policy,
-    ) -> Result<(), BookFault>
+    /// Every domain that names the host of the one name names that of the other in its place.
+    fn rename_host(&mut self, from: &Text, to: &Text, policy: &Policy) -> Result<(), BookFault>
         requires { (kept self.old).is_open ≡ true }
-        ensures { Makes result (tables.host_renamed from.now to.now domain.now (kept self.old).content) (kept self.old) (kept self.new) };
+        ensures { Makes result (with_changes policy.now (change.RenameHost from.now to.now ∷ []) (kept self.old).content) (kept self.old) (kept self.new) };
 
     // ---- transactions
 

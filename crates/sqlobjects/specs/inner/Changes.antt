@@ -1,8 +1,9 @@
 -- What calls make of contacts and hosts.
-use Rattle.std.specs.Prelude.{◌≡◌, ℕ, ℤ, true, List, filter, Option, Some, None}
+use Rattle.std.specs.Prelude.{◌≡◌, ℕ, ℤ, true, if◌then◌else◌, List, filter, Option, Some, None, option_map}
 use Rattle.std.specs.Cmp.Lexicographic.{slice_cmp}
 use Rattle.std.specs.FinMap.{FinMap, insert, remove}
 use Rattle.std.specs.Ordering.{nat_cmp}
+use Rattle.std.specs.Str.{bytes_eq}
 use Rattle.sqlite_rules.specs.Lists.{Has}
 use Rattle.objects.specs.declared.contact.Contact.{Contact}
 use Rattle.objects.specs.declared.host.Host.{Host}
@@ -11,7 +12,7 @@ use Rattle.sqltables.specs.Host as host_table
 use Rattle.sqltables.specs.Transfer.{transfer_with_domain}
 use Rattle.sqltables.specs.inner.Whole.{IsWhole}
 use Rattle.sqlobjects.specs.Objects.{contacts_of, hosts_of}
-use Rattle.sqlobjects.specs.Sponsors.{is_sponsor_right}
+use Rattle.sqlobjects.specs.Sponsors.{is_sponsor_right, sponsors_are_right}
 use Rattle.sqlobjects.specs.inner.Stages.{AreOthersKept}
 use Rattle.sqlobjects.specs.Changes.{contact_name, host_name}
 
@@ -62,4 +63,28 @@ pub record IsHostPut (name : List ℕ) (value : Option Host) (old new : Content)
       → is_sponsor_right new row ≡ true
   pub names : (id : ℤ) (n m : List ℕ) → host_name old id ≡ Some n → host_name new id ≡ Some m
       → n ≡ m
+  pub whole : IsWhole old × IsWhole new
+
+-- a name, or in place of the one the other
+abbrev pub new_name : List ℕ → List ℕ → List ℕ → List ℕ
+new_name from to name = if bytes_eq name from then to else name
+
+-- The row of the host of one name is that of this host, whose name no row had, under the number that it
+-- has: what leads to the one leads to the other from then on. No contact is changed, no other host, and no
+-- row of another table but those of addresses, and the sponsors of hosts are as right as they were.
+pub record IsRowRenamed (from : List ℕ) (h : Host) (old new : Content) : Type 0 where
+  pub hosts : hosts_of new ≡ put (put (hosts_of old) from None) h.name (Some h)
+  pub contacts : contacts_of new ≡ contacts_of old
+  pub metas : new.metas ≡ old.metas
+  pub days : new.days ≡ old.days
+  pub accounts : new.accounts ≡ old.accounts
+  pub contact_rows : new.contacts ≡ old.contacts
+  pub domains : new.domains ≡ old.domains
+  pub links : new.links ≡ old.links
+  pub lines : new.lines ≡ old.lines
+  pub messages : new.messages ≡ old.messages
+  pub transfers : new.transfers ≡ old.transfers
+  pub names : (id : ℤ) → host_name new id ≡ option_map (new_name from h.name) (host_name old id)
+  pub free : (id : ℤ) → host_name old id ≡ Some h.name → ⊥
+  pub sponsors : sponsors_are_right new ≡ sponsors_are_right old
   pub whole : IsWhole old × IsWhole new

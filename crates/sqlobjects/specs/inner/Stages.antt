@@ -171,6 +171,14 @@ abbrev pub IsHostDropped : Option host_table.Host → Content → Content → Ty
 IsHostDropped None old new = new ≡ old
 IsHostDropped (Some row) old new = IsHostRemoved row.id old new
 
+-- no row has the name of this host, and the row of the one name, whose sponsor was right, is its now
+pub record IsRowTaken (from : List ℕ) (h : Host) (row : host_table.Host) (old new : Content) : Type 0 where
+  pub free : filter (host_table.host_with_name h.name) old.hosts ≡ []
+  pub found : host_table.Host
+  pub was : IsHostFound old from (Some found)
+  pub is : IsHostRow old found.id h row
+  pub content : new ≡ hosts_to (λ rows. insert_by host_table.hosts.key rows row) old
+
 -- ---- hosts that follow a domain
 
 -- a row had the sponsor before and has the one after

@@ -1,0 +1,148 @@
+-- What it is to a book that two hosts' rows change names.
+use Rattle.std.proofs.Common.{◌≡◌, inl, inr, ℕ, ℤ, pos, ◌+◌, Bool, true, false, cond, ◌&&◌, length, List, [], ◌∷◌, map, filter, Option, Some, None, option_map, refl, sym, ap, subst, ◌∙◌}
+use Rattle.std.specs.Cmp.Lexicographic.{nat_list_cmp_total, slice_cmp}
+use Rattle.std.specs.FinMap.{FinMap, entries, get, get-insert, get-remove, same_map, values}
+use Rattle.std.specs.List.{list_all}
+use Rattle.std.specs.Option.{option_map_or}
+use Rattle.std.specs.Ordering.{nat_cmp}
+use Rattle.std.specs.Prelude.{int_eq, int_le}
+use Rattle.sqlite_rules.specs.Lists.{Has}
+use Rattle.sqlite_typed.specs.Tests.{bytes_eq}
+use Rattle.basis.specs.Maps.{map_values}
+use Rattle.basis.proofs.MapLemmas.{entries-map_values, get-map_values, names_apart}
+use Rattle.sqlcolumns.specs.Numbers.{registrar_in}
+use Rattle.sqlcolumns.proofs.ReadLemmas.{same_some}
+use Rattle.lifecycle.specs.Lapse.{due_at, due_of}
+use Rattle.lifecycle.specs.Periods.{rules_with}
+use Rattle.objects.specs.declared.domain.Deletion.{Deletion}
+use Rattle.objects.specs.declared.domain.Domain.{Domain}
+use Rattle.objects.specs.declared.host.Host.{Host}
+use Rattle.objects.specs.Sight.{is_party}
+use Rattle.policy.specs.declared.schedule.Schedule.{Schedule}
+use Rattle.rules.specs.Changes.{renamed, with_host_renamed}
+use Rattle.store.specs.Book.{Stored}
+use Rattle.store.specs.Ledgers as store
+use Rattle.store.specs.Tables.{host_put, with_domains}
+use Rattle.sqltables.specs.Account as account_table
+use Rattle.sqltables.specs.Content.{Content}
+use Rattle.sqltables.specs.Domain as table
+use Rattle.sqltables.specs.Readiness.{may_be_numbered}
+use Rattle.sqlaccounts.specs.Accounts.{accounts_of, row_of, sums_are_right}
+use Rattle.sqldomains.specs.Domains.{domain_of, domains_of}
+use Rattle.sqldomains.proofs.RenamedLemmas.{domains-after, reading-after}
+use Rattle.sqlsums.specs.Dues.{dues_are_right, is_due_right}
+use Rattle.sqlsums.specs.Held.{held_of, helds_are_right}
+use Rattle.sqlobjects.specs.inner.Changes.{IsHostPut, IsRowRenamed, put}
+use Rattle.sqlobjects.specs.Objects.{hosts_of}
+use Rattle.sqlobjects.proofs.PutLemmas.{bytes_is}
+use Rattle.sqlterms.specs.Clock.{clock_of}
+use Rattle.sqlterms.specs.Terms.{terms_of}
+use Rattle.sqlbook.specs.Meaning.{are_right, stored_of}
+use Rattle.sqlbook.specs.inner.Renaming.{AreHostsExchanged, AreNamesExchanged, IsHostThere, all_renamed}
+use Rattle.sqlbook.proofs.ObjectLemmas.{dues-alike, host-changed, host-right, same-put}
+use Rattle.sqlbook.proofs.PlacedLemmas.{IsInPlaces, none-placed, one-placed, renamed-placed}
+
+abbrev Hosts : Type 0
+Hosts = FinMap (slice_cmp nat_cmp) Host
+
+-- ---- the row of one host made another's
+
+module _ (from : List ℕ) (h : Host) (xs ys : Content) (it : IsRowRenamed from h xs ys) where
+  abbrev after : Domain → Domain
+  after d = with_host_renamed from h.name d
+
+  reading : (row : table.Domain) → domain_of ys row ≡ option_map after (domain_of xs row)
+  reading = reading-after from h xs ys it (renamed from h.name) (IsInPlaces h.name) (none-placed h.name) refl (λ n l before other. one-placed h.name n l before other) (λ n l before other. renamed-placed from h.name l before n other)
+
+  domains : domains_of ys ≡ map_values (λ name. after) (domains_of xs)
+  domains = same_map nat_list_cmp_total names_apart _ _ (λ q.
+      domains-after from h xs ys it (renamed from h.name) (IsInPlaces h.name) (none-placed h.name) refl (λ n l before other. one-placed h.name n l before other) (λ n l before other. renamed-placed from h.name l before n other) q
+      ∙ sym (get-map_values (slice_cmp nat_cmp) nat_list_cmp_total names_apart (λ name. after) (domains_of xs) q))
+
+  -- as many domains are a registrar's
+  held : (r : ℕ) → held_of ys r ≡ held_of xs r
+  held r =
+      ap (λ m. length (filter (λ (d : Domain). is_party r d.sponsor d.transfer) (values m))) domains
+      ∙ ap (λ es. length (filter (λ (d : Domain). is_party r d.sponsor d.transfer) (map (λ (e : List ℕ × Domain). e.1) es))) (entries-map_values (slice_cmp nat_cmp) (λ name. after) nat_list_cmp_total names_apart (domains_of xs))
+      ∙ go (entries (domains_of xs))
+    where
+      by : (b : Bool) (x y : Domain) (l m : List Domain) → length l ≡ length m → length (cond b (x ∷ l) l) ≡ length (cond b (y ∷ m) m)
+      by true x y l m e = ap (λ n. n + 1) e
+      by false x y l m e = e
+
+      go : (es : List (List ℕ × Domain))
+          → length (filter (λ (d : Domain). is_party r d.sponsor d.transfer) (map (λ (e : List ℕ × Domain). e.1) (map (λ (e : List ℕ × Domain). (e.0, after e.1)) es)))
+          ≡ length (filter (λ (d : Domain). is_party r d.sponsor d.transfer) (map (λ (e : List ℕ × Domain). e.1) es))
+      go [] = refl
+      go (e ∷ es) = by (is_party r e.1.sponsor e.1.transfer) (after e.1) e.1 _ _ (go es)
+
+  helds : helds_are_right ys ≡ helds_are_right xs
+  helds = λ i. list_all (λ (row : account_table.Account).
+      option_map_or (λ (at : account_table.Account). option_map_or (λ place. int_eq at.held (pos (held place i))) (registrar_in at.id) true) (row_of (record ys { accounts = it.accounts i }) row.id) true)
+      (it.accounts i)
+
+  -- and each is due when it was
+  dues : dues_are_right ys ≡ dues_are_right xs
+  dues = dues-alike xs ys it.metas it.days it.domains (λ days row there. ap (λ o. option_map_or (λ d. int_le row.due (pos (due_at (rules_with days) d))) o true) (reading row) ∙ go days row (domain_of xs row))
+    where
+      same : (days : Schedule) (d : Domain) (o : Option Deletion) → due_of (rules_with days) o (after d) ≡ due_of (rules_with days) o d
+      same days d None = refl
+      same days d (Some x) = refl
+
+      go : (days : Schedule) (row : table.Domain) (o : Option Domain) → option_map_or (λ d. int_le row.due (pos (due_at (rules_with days) d))) (option_map after o) true ≡ option_map_or (λ d. int_le row.due (pos (due_at (rules_with days) d))) o true
+      go days row None = refl
+      go days row (Some d) = ap (λ n. int_le row.due (pos n)) (same days d d.deletion)
+
+  pub row-right : are_right ys ≡ are_right xs
+  row-right = λ i.
+      may_be_numbered (it.metas i)
+      && (sums_are_right (record ys { accounts = it.accounts i; lines = it.lines i; messages = it.messages i }) && (helds i && (dues i && it.sponsors i)))
+
+  pub row-changed : stored_of ys ≡ with_domains (map_values (λ name. after) (domains_of xs)) (host_put h.name (Some h) (host_put from None (stored_of xs)))
+  row-changed = λ i. record {
+    registry = record {
+      contacts = it.contacts i;
+      hosts = it.hosts i;
+      domains = domains i;
+      accounts = accounts_of (record ys { accounts = it.accounts i; lines = it.lines i; messages = it.messages i });
+      clock = clock_of (record ys { metas = it.metas i });
+    };
+    terms = terms_of (record ys { metas = it.metas i; days = it.days i; accounts = it.accounts i });
+  }
+
+-- ---- the hosts stand under their names as before
+
+module _ (m : Hosts) (from to : List ℕ) (x y : Host) (first : get m from ≡ Some x) (second : get m to ≡ Some y) where
+  abbrev again : Hosts
+  again = store.put (store.put (store.put (store.put m to None) from None) to (Some y)) from (Some x)
+
+  at-each : (q : List ℕ) (b c : Bool) → bytes_eq q from ≡ b → bytes_eq q to ≡ c → cond b (Some x) (cond c (Some y) (cond b None (cond c None (get m q)))) ≡ get m q
+  at-each q true c e f = sym first ∙ ap (get m) (sym (bytes_is q from e))
+  at-each q false true e f = sym second ∙ ap (get m) (sym (bytes_is q to f))
+  at-each q false false e f = refl
+
+  restored : again ≡ m
+  restored = same_map nat_list_cmp_total names_apart _ _ (λ q.
+      get-insert nat_list_cmp_total (store.put (store.put (store.put m to None) from None) to (Some y)) from x q
+      ∙ ap (λ o. cond (bytes_eq q from) (Some x) o)
+      (get-insert nat_list_cmp_total (store.put (store.put m to None) from None) to y q
+      ∙ ap (λ o. cond (bytes_eq q to) (Some y) o)
+      (get-remove nat_list_cmp_total (store.put m to None) from q ∙ ap (λ o. cond (bytes_eq q from) None o) (get-remove nat_list_cmp_total m to q)))
+      ∙ at-each q (bytes_eq q from) (bytes_eq q to) refl refl)
+
+-- ---- the second's row goes, the first's is the second's, and the first gets a new one
+
+pub exchanged : (from to : List ℕ) (x y : Host) (a b c d : Content) → IsHostPut to None a b → IsRowRenamed from y b c → IsHostPut x.name (Some x) c d → AreHostsExchanged from to x y a d
+exchanged from to x y a b c d dropped taken back first second = record {
+  right = host-right x.name (Some x) c d back ∙ row-right from y b c taken ∙ host-right to None a b dropped;
+  stored =
+      host-changed x.name (Some x) c d back
+      ∙ ap (host_put x.name (Some x)) (row-changed from y b c taken ∙ ap (λ (s : Stored). with_domains (map_values (λ name. with_host_renamed from y.name) s.registry.domains) (host_put y.name (Some y) (host_put from None s))) (host-changed to None a b dropped))
+      ∙ (λ i. record (stored_of a) {
+        registry = record ((stored_of a).registry) {
+          hosts = store.put (store.put (store.put (store.put (hosts_of a) to None) from None) (second.named i) (Some y)) (first.named i) (Some x);
+          domains = map_values (λ name. with_host_renamed from (second.named i)) (domains_of a);
+        };
+      })
+      ∙ (λ i. record (all_renamed from to (stored_of a)) { registry = record ((all_renamed from to (stored_of a)).registry) { hosts = restored (hosts_of a) from to x y first.there second.there i } });
+}

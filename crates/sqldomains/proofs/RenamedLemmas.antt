@@ -1,0 +1,163 @@
+-- What domains name where the row of one host was made another's: each names the other in place of the one.
+use Rattle.std.proofs.Common.{◌≡◌, inl, inr, ℕ, ℤ, Bool, true, false, List, [], ◌∷◌, filter, Option, Some, None, option_map, refl, sym, ap, subst, ◌∙◌}
+use Rattle.std.specs.FinMap.{get}
+use Rattle.std.specs.Str.{bytes_eq}
+use Rattle.std.proofs.lemmas.Slice.Eq.{bytes_eq-Decides}
+use Rattle.objects.specs.declared.domain.Deletion.{Deletion}
+use Rattle.objects.specs.declared.domain.Domain.{Domain}
+use Rattle.objects.specs.declared.domain.Links.{Links}
+use Rattle.objects.specs.declared.host.Host.{Host}
+use Rattle.objects.specs.declared.roid.ObjectKind.TheVariants as kinds
+use Rattle.objects.specs.declared.status.Status.{Status}
+use Rattle.objects.specs.declared.transfer.Transfer.{Transfer}
+use Rattle.sqlcolumns.specs.declared.code.Role.{Role}
+use Rattle.sqlcolumns.specs.declared.code.Role.TheVariants as roles
+use Rattle.sqlcolumns.specs.declared.registration.Registration.{Registration}
+use Rattle.sqlcolumns.specs.Codes.{role_in}
+use Rattle.sqlcolumns.specs.Domains.{columns_of, deletion_in, domain_in, domain_with}
+use Rattle.sqlcolumns.specs.Numbers.{years_in}
+use Rattle.sqlcolumns.specs.Registrations.{registration_in}
+use Rattle.sqlcolumns.specs.inner.Steps.{◌>>=◌}
+use Rattle.sqlcolumns.specs.Texts.{statuses_in}
+use Rattle.sqlcolumns.proofs.ReadLemmas.{same_some, step}
+use Rattle.sqltables.specs.Content.{Content}
+use Rattle.sqltables.specs.Domain as table
+use Rattle.sqltables.specs.Link.{Link, link_with_domain}
+use Rattle.sqltables.specs.Transfer.{transfer_with_domain}
+use Rattle.sqlrows.specs.Read.{first_read, or_else}
+use Rattle.sqlobjects.specs.inner.Changes.{IsRowRenamed, new_name}
+use Rattle.sqlobjects.specs.Changes.{contact_name, host_name}
+use Rattle.sqlobjects.specs.Objects.{last_transfer}
+use Rattle.sqldomains.specs.Domains.{dated, domain_of, domains_of, linked_name, links_of, placed, registrant_alone, with_link, with_links, with_name}
+use Rattle.sqldomains.proofs.FoundLemmas.{domain-named}
+
+map-same : {A : Type 0} (f : A → A) → ((x : A) → f x ≡ x) → (o : Option A) → o ≡ option_map f o
+map-same f same None = refl
+map-same f same (Some x) = ap Some (sym (same x))
+
+map-or : {A B : Type 0} (f : A → B) (a b : Option A) → or_else (option_map f a) (option_map f b) ≡ option_map f (or_else a b)
+map-or f None b = refl
+map-or f (Some x) b = refl
+
+-- `after` says how a domain's hosts stand afterwards: none as none, and with one more by its name of then
+module _ (from : List ℕ) (h : Host) (xs ys : Content) (it : IsRowRenamed from h xs ys) (after : List (List ℕ) → List (List ℕ)) (Before : List (List ℕ) → Type 0) (none : Before []) (same : after [] ≡ [])
+    (more : (n : List ℕ) (l : List (List ℕ)) → Before l → bytes_eq n h.name ≡ false → Before (placed n l))
+    (each : (n : List ℕ) (l : List (List ℕ)) → Before l → bytes_eq n h.name ≡ false → after (placed n l) ≡ placed (new_name from h.name n) (after l)) where
+  abbrev links_after : Links → Links
+  links_after l = record l { hosts = after l.hosts }
+
+  abbrev domain_after : Domain → Domain
+  domain_after d = record d { links = links_after d.links }
+
+  -- ---- one row
+
+  abbrev name_after : Role → List ℕ → List ℕ
+  name_after roles.Admin n = n
+  name_after roles.Tech n = n
+  name_after roles.Host n = new_name from h.name n
+
+  contact-same : (id : ℤ) → contact_name ys id ≡ contact_name xs id
+  contact-same id = ap (λ rows. contact_name (record ys { contacts = rows }) id) it.contact_rows
+
+  name-after : (role : Role) (contact host : Option ℤ) → linked_name ys role contact host ≡ option_map (name_after role) (linked_name xs role contact host)
+  name-after roles.Host None (Some id) = it.names id
+  name-after roles.Host None None = refl
+  name-after roles.Host (Some c) host = refl
+  name-after roles.Admin (Some id) None = contact-same id ∙ map-same (name_after roles.Admin) (λ n. refl) (contact_name xs id)
+  name-after roles.Admin (Some id) (Some k) = refl
+  name-after roles.Admin None host = refl
+  name-after roles.Tech (Some id) None = contact-same id ∙ map-same (name_after roles.Tech) (λ n. refl) (contact_name xs id)
+  name-after roles.Tech (Some id) (Some k) = refl
+  name-after roles.Tech None host = refl
+
+  host-free : (contact host : Option ℤ) (n : List ℕ) → linked_name xs roles.Host contact host ≡ Some n → bytes_eq n h.name ≡ false
+  host-free None (Some id) n e = go (bytes_eq n h.name) refl
+    where
+      go : (b : Bool) → bytes_eq n h.name ≡ b → b ≡ false
+      go false f = refl
+      go true f = absurd (it.free id (e ∙ ap Some ((bytes_eq-Decides n h.name).0 f)))
+  host-free None None n e = cc
+  host-free (Some c) host n e = cc
+
+  -- with a name more, in its role
+  named-after : (role : Role) (l : Links) (contact host : Option ℤ) (n : List ℕ) → Before l.hosts → linked_name xs role contact host ≡ Some n → with_name (links_after l) role (name_after role n) ≡ links_after (with_name l role n)
+  named-after roles.Admin l contact host n before e = refl
+  named-after roles.Tech l contact host n before e = refl
+  named-after roles.Host l contact host n before e = λ i. record l { hosts = sym (each n l.hosts before (host-free contact host n e)) i }
+
+  named-before : (role : Role) (l : Links) (contact host : Option ℤ) (n : List ℕ) → Before l.hosts → linked_name xs role contact host ≡ Some n → Before (with_name l role n).hosts
+  named-before roles.Admin l contact host n before e = before
+  named-before roles.Tech l contact host n before e = before
+  named-before roles.Host l contact host n before e = more n l.hosts before (host-free contact host n e)
+
+  link-after : (l : Links) (row : Link) → Before l.hosts → with_link ys (links_after l) row ≡ option_map links_after (with_link xs l row)
+  link-after l row before = go (role_in row.role)
+    where
+      at : (role : Role) (o : Option (List ℕ)) → linked_name xs role row.contact row.host ≡ o → (option_map (name_after role) o >>= (λ n. Some (with_name (links_after l) role n))) ≡ option_map links_after (o >>= (λ n. Some (with_name l role n)))
+      at role None e = refl
+      at role (Some n) e = ap Some (named-after role l row.contact row.host n before e)
+
+      go : (o : Option Role) → (o >>= (λ role. linked_name ys role row.contact row.host >>= (λ n. Some (with_name (links_after l) role n)))) ≡ option_map links_after (o >>= (λ role. linked_name xs role row.contact row.host >>= (λ n. Some (with_name l role n))))
+      go None = refl
+      go (Some role) =
+          ap (λ o. o >>= (λ n. Some (with_name (links_after l) role n))) (name-after role row.contact row.host)
+          ∙ at role (linked_name xs role row.contact row.host) refl
+
+  link-before : (l m : Links) (row : Link) → Before l.hosts → with_link xs l row ≡ Some m → Before m.hosts
+  link-before l m row before e =
+      let role = step (role_in row.role) (λ r. linked_name xs r row.contact row.host >>= (λ n. Some (with_name l r n))) m e in
+      let name = step (linked_name xs role.given row.contact row.host) (λ n. Some (with_name l role.given n)) m role.rest in
+      subst (λ (z : Links). Before z.hosts) (same_some (with_name l role.given name.given) m name.rest) (named-before role.given l row.contact row.host name.given before name.is)
+
+  -- ---- the rows of a domain
+
+  rows-after : (rows : List Link) (l : Links) → Before l.hosts → with_links ys (links_after l) rows ≡ option_map links_after (with_links xs l rows)
+  rows-after [] l before = refl
+  rows-after (row ∷ rows) l before = ap (λ o. o >>= (λ n. with_links ys n rows)) (link-after l row before) ∙ go (with_link xs l row) refl
+    where
+      go : (o : Option Links) → with_link xs l row ≡ o → (option_map links_after o >>= (λ n. with_links ys n rows)) ≡ option_map links_after (o >>= (λ n. with_links xs n rows))
+      go None e = refl
+      go (Some m) e = rows-after rows m (link-before l m row before e)
+
+  links-after : (row : table.Domain) → links_of ys row ≡ option_map links_after (links_of xs row)
+  links-after row =
+      (λ i. contact-same row.registrant i >>= (λ a. dated row.due (filter (link_with_domain row.id) (it.links i)) >>= (λ rows. with_links ys (registrant_alone a) rows)))
+      ∙ go (contact_name xs row.registrant) (dated row.due (filter (link_with_domain row.id) xs.links))
+    where
+      go : (a : Option (List ℕ)) (rows : Option (List Link)) → (a >>= (λ r. rows >>= (λ all. with_links ys (registrant_alone r) all))) ≡ option_map links_after (a >>= (λ r. rows >>= (λ all. with_links xs (registrant_alone r) all)))
+      go None rows = refl
+      go (Some r) None = refl
+      go (Some r) (Some all) = (λ i. with_links ys (record (registrant_alone r) { hosts = sym same i }) all) ∙ rows-after all (registrant_alone r) none
+
+  -- ---- domains
+
+  columns-after : (row : table.Domain) (l : Links) (transfer : Option Transfer) → domain_in row (links_after l) transfer ≡ option_map domain_after (domain_in row l transfer)
+  columns-after row l transfer = go (registration_in kinds.Domain (columns_of row)) (years_in row.years) (statuses_in row.statuses) (deletion_in row.deleted row.restore_requested)
+    where
+      go : (a : Option Registration) (b : Option ℕ) (c : Option (List Status)) (d : Option (Option Deletion))
+          → (a >>= (λ r. b >>= (λ y. c >>= (λ s. d >>= (λ x. Some (domain_with row r y s x (links_after l) transfer))))))
+          ≡ option_map domain_after (a >>= (λ r. b >>= (λ y. c >>= (λ s. d >>= (λ x. Some (domain_with row r y s x l transfer))))))
+      go None b c d = refl
+      go (Some r) None c d = refl
+      go (Some r) (Some y) None d = refl
+      go (Some r) (Some y) (Some s) None = refl
+      go (Some r) (Some y) (Some s) (Some x) = refl
+
+  pub reading-after : (row : table.Domain) → domain_of ys row ≡ option_map domain_after (domain_of xs row)
+  reading-after row =
+      (λ i. links-after row i >>= (λ l. last_transfer (filter (transfer_with_domain row.id) (it.transfers i)) >>= (λ transfer. domain_in row l transfer)))
+      ∙ go (links_of xs row) (last_transfer (filter (transfer_with_domain row.id) xs.transfers))
+    where
+      go : (o : Option Links) (t : Option (Option Transfer)) → (option_map links_after o >>= (λ l. t >>= (λ transfer. domain_in row l transfer))) ≡ option_map domain_after (o >>= (λ l. t >>= (λ transfer. domain_in row l transfer)))
+      go None t = refl
+      go (Some l) None = refl
+      go (Some l) (Some transfer) = columns-after row l transfer
+
+  pub domains-after : (q : List ℕ) → get (domains_of ys) q ≡ option_map domain_after (get (domains_of xs) q)
+  domains-after q =
+      sym (domain-named ys q) ∙ ap (λ rows. first_read (domain_of ys) (filter (table.domain_with_name q) rows)) it.domains
+      ∙ firsts (filter (table.domain_with_name q) xs.domains) ∙ ap (option_map domain_after) (domain-named xs q)
+    where
+      firsts : (rows : List table.Domain) → first_read (domain_of ys) rows ≡ option_map domain_after (first_read (domain_of xs) rows)
+      firsts [] = refl
+      firsts (row ∷ rows) = (λ i. or_else (reading-after row i) (firsts rows i)) ∙ map-or domain_after (domain_of xs row) (first_read (domain_of xs) rows)

@@ -1,0 +1,20 @@
+use Rattle.std.proofs.Common.{subst}
+use Rattle.sqltables.specs.inner.Whole.{IsWhole}
+use Rattle.sqlrows.specs.Meanings.{HasChanged}
+use Rattle.sqlobjects.specs.inner.Changes.{IsRowRenamed}
+use Rattle.sqlobjects.specs.inner.Stages.{AreAddressesPut, IsRowTaken}
+use Rattle.sqlobjects.proofs.RowNameLemmas.{row-renamed}
+use Rattle.sqlobjects.proofs.StepLemmas.{became-whole}
+use Rattle.sqlobjects.proofs.host_names.rename_row.Goals as goal
+
+pub returns : goal.returns
+returns g c =
+    let old = c.args.store.now in
+    let middle = c.take_row.new.store in
+    let new = c.put_addresses.new.store in
+    let from = c.args.from.now in
+    let host = c.args.host.now in
+    let row = c.in_ok-row.row in
+    became-whole (IsRowTaken from host row) (AreAddressesPut row.id host.addresses) (IsRowRenamed from host) IsWhole old middle new
+    c.in_ok-row.ensures (subst (λ texts. HasChanged (AreAddressesPut row.id texts) middle new) c.as_slice.ensures (c.in_ok-put_addresses.ensures {u = tt})) c.whole.ensures c.whole-2.ensures
+    (λ whole after taken with. row-renamed from host row old.content middle.content new.content whole after (c.is_host.ensures.0 c.if-not-is_host.false) taken with)
