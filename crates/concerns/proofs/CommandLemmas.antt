@@ -8,7 +8,7 @@ use Rattle.std.proofs.lemmas.Bool.{or_left, or_right}
 use Rattle.facts.specs.declared.facts.DomainFacts.{DomainFacts}
 use Rattle.facts.specs.declared.facts.Facts.{Facts}
 use Rattle.facts.specs.Facts.{contact_facts, contact_seen, domain_at, domain_facts, domain_seen, facts, host_seen, lookups}
-use Rattle.names.specs.GivenName.{GivenName, name_of}
+use Rattle.names.specs.RequestedName.{RequestedName, name_of}
 use Rattle.objects.specs.declared.contact.Contact.{Contact}
 use Rattle.objects.specs.declared.contact.ContactFace.{ContactFace}
 use Rattle.objects.specs.declared.domain.Domain.{Domain}
@@ -186,7 +186,7 @@ module _ (p : PolicyRules) (r : ℕ) (cl_trid : Option (List ℕ)) (u : Registry
 
   -- ---- hosts
 
-  renamed : (q : Request) (old : List ℕ) (h : Host) (given : Option GivenName) → Fit q (renaming old h given)
+  renamed : (q : Request) (old : List ℕ) (h : Host) (given : Option RequestedName) → Fit q (renaming old h given)
   renamed q old h None = (tt, tt)
   renamed q old h (Some name) = (tt, (tt, (tt, tt)))
 

@@ -6,7 +6,7 @@ ghost use Rattle.protocol.specs.Requests.{asks_of, hosts_asked};
 
 use basis::list::Seq;
 use basis::text::Text;
-use names::{GivenName, last_two_labels};
+use names::{RequestedName, last_two_labels};
 use objects::ObjectKind;
 use protocol::{Command, Request};
 use std::alloc::{AllocError, Global};
@@ -134,7 +134,7 @@ fn with_texts(names: Seq<Text>, more: &[Text]) -> Result<Seq<Text>, AllocError>
     Ok(names)
 }
 
-fn with_given(names: Seq<Text>, more: &[GivenName]) -> Result<Seq<Text>, AllocError>
+fn with_given(names: Seq<Text>, more: &[RequestedName]) -> Result<Seq<Text>, AllocError>
     ensures { IfOk result (λ all. all ≡ names ++ more.now) }
 {
     let mut names = names;
@@ -154,7 +154,7 @@ fn with_one(names: Seq<Text>, one: Option<&Text>) -> Result<Seq<Text>, AllocErro
     Ok(names)
 }
 
-fn with_new(names: Seq<Text>, one: Option<&GivenName>) -> Result<Seq<Text>, AllocError>
+fn with_new(names: Seq<Text>, one: Option<&RequestedName>) -> Result<Seq<Text>, AllocError>
     ensures { IfOk result (λ all. all ≡ names ++ spec.listed (option_copied one.entry)) }
 {
     let mut names = names;

@@ -5,7 +5,13 @@
 #[cfg(test)]
 mod cases;
 #[cfg(test)]
+mod database_written;
+#[cfg(test)]
 mod disks;
+#[cfg(test)]
+mod log_left;
+#[cfg(test)]
+mod log_written_back;
 #[cfg(test)]
 mod policies;
 #[cfg(test)]

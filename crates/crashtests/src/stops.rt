@@ -1,10 +1,7 @@
 //! A file fails at each of its calls in turn, until a command passes, and what lies in the files is opened
 //! again: what was written, and what was synchronised.
 
-use crate::cases::{
-    Case, Look, Tried, acknowledgement, approval, create, first_opening, one_registrar_more,
-    other_days, rename, report, settlement, take_over,
-};
+use crate::cases::{Case, Look, Tried};
 use crate::disks::{File, Image, Limits, UNLIMITED, lose_what_was_not_synchronised};
 use crate::policies::Under;
 use crate::registries::{Left, NOT_OPENED, NOT_TAKEN_UP, Work, work_in};
@@ -23,13 +20,13 @@ const STORE_FAULT: &str = "store fault\n";
 const MANY: u64 = 2000;
 
 #[derive(Clone, Copy, Debug)]
-enum Which {
+pub enum Which {
     Log,
     Database,
 }
 
 #[derive(Clone, Copy, Debug)]
-enum How {
+pub enum How {
     /// Each call after so many fails.
     Stops,
     /// One does, and what comes then is answered or not.
@@ -38,19 +35,12 @@ enum How {
 
 /// Pages in the log at which these are written back to the database file: so many that none is here, or each
 /// at once.
-const LATER: usize = 1000;
+pub const LATER: usize = 1000;
 
-const AT_ONCE: usize = 1;
+pub const AT_ONCE: usize = 1;
 
 /// Which file fails, and how, and when the log is written back.
-type Trouble = (Which, How, usize);
-
-/// The database file is written to where the log is written back at once.
-const PLACES: [(Which, usize); 3] = [
-    (Which::Log, LATER),
-    (Which::Log, AT_ONCE),
-    (Which::Database, AT_ONCE),
-];
+pub type Trouble = (Which, How, usize);
 
 fn limits(how: How, calls: u64) -> Limits {
     match how {
@@ -294,11 +284,11 @@ fn fail_after_each(
     Err(Fail::from("never passes"))
 }
 
-/// Lets each file fail in this way, after each number of calls.
-fn leaves_all_or_nothing(
+/// Lets a file fail in this way, after each number of calls.
+pub fn leaves_all_or_nothing(
     rt: &(impl Abort + AllocGlobal),
     case: &Case,
-    how: How,
+    trouble: Trouble,
 ) -> Result<(), Fail> {
     let alloc = rt.alloc();
     let earlier = earlier_image(alloc, case)?;
@@ -307,121 +297,7 @@ fn leaves_all_or_nothing(
         written: Found::nothing(alloc),
         synchronised: Found::nothing(alloc),
     };
-    let failed = fail_in_each_place(rt, case, how, &mut findings);
+    let failed = fail_after_each(rt, case, trouble, &mut findings);
     drop(findings);
     failed
-}
-
-fn fail_in_each_place(
-    rt: &(impl Abort + AllocGlobal),
-    case: &Case,
-    how: How,
-    findings: &mut Findings,
-) -> Result<(), Fail> {
-    for (which, frames) in PLACES {
-        fail_after_each(rt, case, (which, how, frames), findings)?;
-    }
-    Ok(())
-}
-
-// A test has a minute: one for each case and each way to fail.
-
-#[test]
-fn a_create_of_a_domain(rt: HostRuntime) -> Result<(), Fail> {
-    leaves_all_or_nothing(&rt, create(), How::Stops)
-}
-
-#[test]
-fn a_create_of_a_domain_with_one_fault(rt: HostRuntime) -> Result<(), Fail> {
-    leaves_all_or_nothing(&rt, create(), How::Stumbles)
-}
-
-#[test]
-fn an_approval_of_a_transfer(rt: HostRuntime) -> Result<(), Fail> {
-    leaves_all_or_nothing(&rt, approval(), How::Stops)
-}
-
-#[test]
-fn an_approval_of_a_transfer_with_one_fault(rt: HostRuntime) -> Result<(), Fail> {
-    leaves_all_or_nothing(&rt, approval(), How::Stumbles)
-}
-
-#[test]
-fn a_new_name_of_a_host(rt: HostRuntime) -> Result<(), Fail> {
-    leaves_all_or_nothing(&rt, rename(), How::Stops)
-}
-
-#[test]
-fn a_new_name_of_a_host_with_one_fault(rt: HostRuntime) -> Result<(), Fail> {
-    leaves_all_or_nothing(&rt, rename(), How::Stumbles)
-}
-
-#[test]
-fn a_report_on_a_restoration(rt: HostRuntime) -> Result<(), Fail> {
-    leaves_all_or_nothing(&rt, report(), How::Stops)
-}
-
-#[test]
-fn a_report_on_a_restoration_with_one_fault(rt: HostRuntime) -> Result<(), Fail> {
-    leaves_all_or_nothing(&rt, report(), How::Stumbles)
-}
-
-#[test]
-fn an_acknowledgement(rt: HostRuntime) -> Result<(), Fail> {
-    leaves_all_or_nothing(&rt, acknowledgement(), How::Stops)
-}
-
-#[test]
-fn an_acknowledgement_with_one_fault(rt: HostRuntime) -> Result<(), Fail> {
-    leaves_all_or_nothing(&rt, acknowledgement(), How::Stumbles)
-}
-
-#[test]
-fn a_settlement(rt: HostRuntime) -> Result<(), Fail> {
-    leaves_all_or_nothing(&rt, settlement(), How::Stops)
-}
-
-#[test]
-fn a_settlement_with_one_fault(rt: HostRuntime) -> Result<(), Fail> {
-    leaves_all_or_nothing(&rt, settlement(), How::Stumbles)
-}
-
-#[test]
-fn a_first_opening(rt: HostRuntime) -> Result<(), Fail> {
-    leaves_all_or_nothing(&rt, first_opening(), How::Stops)
-}
-
-#[test]
-fn a_first_opening_with_one_fault(rt: HostRuntime) -> Result<(), Fail> {
-    leaves_all_or_nothing(&rt, first_opening(), How::Stumbles)
-}
-
-#[test]
-fn an_opening_with_a_registrar_more(rt: HostRuntime) -> Result<(), Fail> {
-    leaves_all_or_nothing(&rt, one_registrar_more(), How::Stops)
-}
-
-#[test]
-fn an_opening_with_a_registrar_more_with_one_fault(rt: HostRuntime) -> Result<(), Fail> {
-    leaves_all_or_nothing(&rt, one_registrar_more(), How::Stumbles)
-}
-
-#[test]
-fn an_opening_with_other_days(rt: HostRuntime) -> Result<(), Fail> {
-    leaves_all_or_nothing(&rt, other_days(), How::Stops)
-}
-
-#[test]
-fn an_opening_with_other_days_with_one_fault(rt: HostRuntime) -> Result<(), Fail> {
-    leaves_all_or_nothing(&rt, other_days(), How::Stumbles)
-}
-
-#[test]
-fn a_registry_taken_over(rt: HostRuntime) -> Result<(), Fail> {
-    leaves_all_or_nothing(&rt, take_over(), How::Stops)
-}
-
-#[test]
-fn a_registry_taken_over_with_one_fault(rt: HostRuntime) -> Result<(), Fail> {
-    leaves_all_or_nothing(&rt, take_over(), How::Stumbles)
 }

@@ -4,7 +4,7 @@ use Rattle.serde_json.specs.Data.{Data}
 use Rattle.serde_json.specs.Find.{as_str, as_array, as_number, as_u64}
 use Rattle.names.specs.declared.fault.NameFault as name_fault
 use Rattle.names.specs.declared.fault.NameFault.TheVariants as name_faults
-use Rattle.names.specs.GivenName.{GivenName}
+use Rattle.names.specs.RequestedName.{RequestedName}
 use Rattle.names.specs.Canonical.{canonical}
 use Rattle.names.specs.Addresses.{address_of}
 use Rattle.objects.specs.declared.roid.ObjectKind.{ObjectKind}
@@ -41,7 +41,7 @@ abbrev pub or_shape : {A : Type 0} → Result A name_fault.NameFault → Result 
 or_shape (Ok x) = Ok x
 or_shape (Err fault) = Err ParameterSyntax
 
-unfoldable pub name_in : Data → Result GivenName FormFault
+unfoldable pub name_in : Data → Result RequestedName FormFault
 name_in d = do
   text ← ok_or (as_str d) SyntaxError
   or_shape (canonical text)
@@ -108,13 +108,13 @@ required read o = do
 
 -- ---- a member in a section
 
-abbrev pub name_at : Section → Member → Data → Result GivenName FormFault
+abbrev pub name_at : Section → Member → Data → Result RequestedName FormFault
 name_at section m d = required (name_in) (value_at section m d)
 
-abbrev pub maybe_name_at : Section → Member → Data → Result (Option GivenName) FormFault
+abbrev pub maybe_name_at : Section → Member → Data → Result (Option RequestedName) FormFault
 maybe_name_at section m d = maybe_in (name_in) (value_at section m d)
 
-abbrev pub names_at : Section → Member → Data → Result (List GivenName) FormFault
+abbrev pub names_at : Section → Member → Data → Result (List RequestedName) FormFault
 names_at section m d = list_in (name_in) (value_at section m d)
 
 abbrev pub text_at : Section → Member → Data → Result (List ℕ) FormFault

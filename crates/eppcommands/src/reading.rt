@@ -11,7 +11,7 @@ use basis::list::Seq;
 use basis::text::Text;
 use calendar::Moment;
 use eppforms::{Member, Section, value_at};
-use names::{Address, GivenName, NameFault};
+use names::{Address, NameFault, RequestedName};
 use objects::{ObjectKind, Status};
 use protocol::{FormFault, Years};
 use serde_json::Value;
@@ -54,11 +54,11 @@ impl From<NameFault> for Fault {
 }
 
 #[tactic(auto, unfolding(crate::specs::Reading::name_in))]
-fn name_in(alloc: Global, value: &Value) -> Result<GivenName, Fault>
+fn name_in(alloc: Global, value: &Value) -> Result<RequestedName, Fault>
     ensures { spec.Gives result (spec.name_in (view value.now)) }
 {
     let text = value.as_str().ok_or(FormFault::SyntaxError)?;
-    Ok(GivenName::read(alloc, text)?)
+    Ok(RequestedName::read(alloc, text)?)
 }
 
 pub fn name_at(
@@ -66,7 +66,7 @@ pub fn name_at(
     section: Section,
     at: Member,
     value: &Value,
-) -> Result<GivenName, Fault>
+) -> Result<RequestedName, Fault>
     ensures { spec.Gives result (spec.name_at section at (view value.now)) }
 {
     let found = value_at(value, section, at).ok_or(FormFault::ParameterMissing)?;
@@ -79,7 +79,7 @@ pub fn maybe_name_at(
     section: Section,
     at: Member,
     value: &Value,
-) -> Result<Option<GivenName>, Fault>
+) -> Result<Option<RequestedName>, Fault>
     ensures { spec.Gives result (spec.maybe_name_at section at (view value.now)) }
 {
     let Some(found) = value_at(value, section, at) else {
@@ -102,7 +102,7 @@ pub fn names_at(
     section: Section,
     at: Member,
     value: &Value,
-) -> Result<Seq<GivenName>, Fault>
+) -> Result<Seq<RequestedName>, Fault>
     ensures { spec.Gives result (spec.names_at section at (view value.now)) }
 {
     let Some(found) = value_at(value, section, at) else {
@@ -112,7 +112,7 @@ pub fn names_at(
     all_names(alloc, items)
 }
 
-fn all_names(alloc: Global, items: &[Value]) -> Result<Seq<GivenName>, Fault>
+fn all_names(alloc: Global, items: &[Value]) -> Result<Seq<RequestedName>, Fault>
     ensures { spec.Gives result (spec.all_in (spec.name_in) (map view items.now)) }
 {
     let mut names = Seq::new(alloc);

@@ -9,7 +9,7 @@ use Rattle.accounts.specs.Lines.{balance}
 use Rattle.accounts.specs.Messages.{message_id}
 use Rattle.lifecycle.specs.declared.refund.GivenBack.{GivenBack}
 use Rattle.lifecycle.specs.Refunds.{given_back, nothing, refund_at}
-use Rattle.names.specs.GivenName.{name_of}
+use Rattle.names.specs.RequestedName.{name_of}
 use Rattle.names.specs.Zone.{ZoneRules, last_two_of, superordinate_of}
 use Rattle.objects.specs.declared.contact.Contact.{Contact}
 use Rattle.objects.specs.declared.contact.ContactFace.{ContactFace}

@@ -7,7 +7,7 @@ ghost use Rattle.facts.specs.Lists as spec;
 
 use basis::list::Seq;
 use basis::text::Text;
-use names::GivenName;
+use names::RequestedName;
 use objects::{Status, has_name};
 use std::alloc::{AllocError, Global};
 
@@ -32,8 +32,8 @@ impl Named for Text {
     }
 }
 
-impl Named for GivenName {
-    ghost use Rattle.names.specs.GivenName.{name_of};
+impl Named for RequestedName {
+    ghost use Rattle.names.specs.RequestedName.{name_of};
 
     ghost name = { name_of };
 

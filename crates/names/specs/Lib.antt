@@ -2,7 +2,7 @@ pub mod Labels
 pub mod Reading
 pub mod Canonical
 pub mod Zone
-pub mod GivenName
+pub mod RequestedName
 pub mod Names
 pub mod Ipv6
 pub mod Addresses

@@ -22,7 +22,7 @@ use Rattle.lifecycle.specs.Turns.{turns}
 use Rattle.model.specs.Registry.{Registry, account_of}
 use Rattle.model.specs.Standing.{standing_of}
 use Rattle.model.specs.View.{domain_sight}
-use Rattle.names.specs.GivenName.{GivenName, name_of}
+use Rattle.names.specs.RequestedName.{RequestedName, name_of}
 use Rattle.objects.specs.declared.contact.Contact.{Contact}
 use Rattle.objects.specs.declared.contact.ContactFace.{ContactFace}
 use Rattle.objects.specs.declared.domain.Domain.{Domain}
@@ -313,7 +313,7 @@ module _ (p : PolicyRules) (r q : ℕ) (other : q ≢ r) (touched : Objects) (s 
       ≡ with_secret (blank_if (is_redacted r touched d.roid d.sponsor d.transfer) [] (blank_if (is_redacted r touched d.roid d.sponsor d.transfer) [] d.secret)) x
   kept-secret d x = secret-twice (is_redacted r touched d.roid d.sponsor d.transfer) (is_redacted r touched d.roid d.sponsor d.transfer) (λ e. e) d.secret x
 
-  renew-domain : (name : GivenName) (expires : List ℕ) (years : ℕ) → let request = requests.RenewDomain name expires years in
+  renew-domain : (name : RequestedName) (expires : List ℕ) (years : ℕ) → let request = requests.RenewDomain name expires years in
       AreAlike (renewal_changes p q s.clock request (here request) (domain_seen (here request) (name_of name))) (renewal_changes p q s.clock request (there request) (domain_seen (there request) (name_of name)))
   renew-domain name expires years =
       let request : Request = requests.RenewDomain name expires years in
@@ -324,7 +324,7 @@ module _ (p : PolicyRules) (r q : ℕ) (other : q ≢ r) (touched : Objects) (s 
       (λ c d same e f. through p r touched (redacted_domain r touched) (λ x. PutDomain (renewed_domain s.clock years x) ∷ charge lines.Renew p q s.clock x.roid request (here request) ∷ []) c d same
       (put-domain-alike p r touched _ _ (kept-secret c (renewed_domain s.clock years c)), (same-change p r touched _, tt)) (put-domain-alike p r touched _ _ (kept-secret d (renewed_domain s.clock years d)), (same-change p r touched _, tt)))
 
-  restore-domain : (name : GivenName) → let request = requests.RequestRestore name in
+  restore-domain : (name : RequestedName) → let request = requests.RequestRestore name in
       AreAlike (restore_changes s.clock (domain_seen (here request) (name_of name))) (restore_changes s.clock (domain_seen (there request) (name_of name)))
   restore-domain name =
       let request : Request = requests.RequestRestore name in
@@ -359,7 +359,7 @@ module _ (p : PolicyRules) (r q : ℕ) (other : q ≢ r) (touched : Objects) (s 
     refunded = None;
   }))
 
-  report-domain : (name : GivenName) (del_time res_time : ℕ) → let request = requests.ReportRestore name del_time res_time in
+  report-domain : (name : RequestedName) (del_time res_time : ℕ) → let request = requests.ReportRestore name del_time res_time in
       AreAlike (report_changes p q s.clock request (here request) (domain_seen (here request) (name_of name))) (report_changes p q s.clock request (there request) (domain_seen (there request) (name_of name)))
   unfolding report_charge
   report-domain name del_time res_time =
@@ -376,10 +376,10 @@ module _ (p : PolicyRules) (r q : ℕ) (other : q ≢ r) (touched : Objects) (s 
 
   -- ---- deletions
 
-  abbrev known_of : Registry → GivenName → Option (Seen FullDomain DomainFace) → DomainFacts
+  abbrev known_of : Registry → RequestedName → Option (Seen FullDomain DomainFace) → DomainFacts
   known_of x name seen = domain_facts_of (lookups p q (Asked cl_trid (requests.DeleteDomain name)) x) (Asked cl_trid (requests.DeleteDomain name)) (name_of name) seen
 
-  deletion-is : (x : Registry) (name : GivenName) → let request = requests.DeleteDomain name in let c = Asked cl_trid request in
+  deletion-is : (x : Registry) (name : RequestedName) → let request = requests.DeleteDomain name in let c = Asked cl_trid request in
       deletion_at q s.clock (domain_at (facts p q c x) (name_of name)) ≡ deletion_changes q s.clock (known_of x name (option_map (domain_sight p q x None) (get x.domains (name_of name)))) (option_map (domain_sight p q x None) (get x.domains (name_of name)))
   deletion-is x name = ap (deletion_at q s.clock) (at-itself (name_of name) (domain_facts (lookups p q (Asked cl_trid (requests.DeleteDomain name)) x) (Asked cl_trid (requests.DeleteDomain name)) (name_of name)))
 
@@ -391,7 +391,7 @@ module _ (p : PolicyRules) (r q : ℕ) (other : q ≢ r) (touched : Objects) (s 
   ended-natural true name years d = same-change p r touched _
   ended-natural false name years d = put-domain-alike p r touched _ _ (kept-secret d (deleted_domain s.clock years d))
 
-  delete-domain : (name : GivenName) → let request = requests.DeleteDomain name in
+  delete-domain : (name : RequestedName) → let request = requests.DeleteDomain name in
       AreAlike (deletion_at q s.clock (domain_at (here request) (name_of name))) (deletion_at q s.clock (domain_at (there request) (name_of name)))
   delete-domain name =
       let mine : Option (Seen FullDomain DomainFace) = option_map (domain_sight p q s None) (get s.domains (name_of name)) in
@@ -514,7 +514,7 @@ module _ (p : PolicyRules) (r q : ℕ) (other : q ≢ r) (touched : Objects) (s 
 
   -- ---- transfers of domains
 
-  module _ (name : GivenName) (mine yours : Option (List ℕ)) where
+  module _ (name : RequestedName) (mine yours : Option (List ℕ)) where
     abbrev domain_asks : TransferOp → Request
     domain_asks op = requests.TransferDomain name op mine
 

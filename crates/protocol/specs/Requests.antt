@@ -3,7 +3,7 @@
 use Rattle.std.specs.Prelude.{ℕ, Bool, true, false, not, ◌||◌, List, [], ◌∷◌, Option, Some, None, if◌then◌else◌}
 use Rattle.std.specs.List.{list_any, slice_get}
 use Rattle.std.specs.Str.{bytes_eq}
-use Rattle.names.specs.GivenName.{GivenName, name_of}
+use Rattle.names.specs.RequestedName.{RequestedName, name_of}
 use Rattle.objects.specs.declared.status.Status.{Status}
 use Rattle.protocol.specs.declared.lists.Lists.{Lists}
 use Rattle.protocol.specs.declared.command.Action.{Action}
@@ -39,7 +39,7 @@ asked none ask (Asked cl_trid request) = ask request
 
 -- the lists that a command gives: what an object is to have, or to have no longer
 pub record GivenLists : Type 0 where
-  pub hosts : List GivenName
+  pub hosts : List RequestedName
   pub admin : List (List ℕ)
   pub tech : List (List ℕ)
   pub addresses : List (List ℕ)
@@ -65,9 +65,9 @@ of_host lists = record no_lists { addresses = lists.addresses; statuses = lists.
 pub record Asks : Type 0 where
   pub action : Action
   pub contacts : List (List ℕ)
-  pub domains : List GivenName
-  pub hosts : List GivenName
-  pub new_host : Option GivenName
+  pub domains : List RequestedName
+  pub hosts : List RequestedName
+  pub new_host : Option RequestedName
   pub registrant : Option (List ℕ)
   pub adds : GivenLists
   pub removes : GivenLists
@@ -192,14 +192,14 @@ asks_of (PollAck id) = record (only actions.PollAck) { reads_oldest_message = tr
 abbrev pub contacts_asked : Request → List (List ℕ)
 contacts_asked request = (asks_of request).contacts
 
-abbrev pub domains_asked : Request → List GivenName
+abbrev pub domains_asked : Request → List RequestedName
 domains_asked request = (asks_of request).domains
 
-abbrev pub hosts_asked : Request → List GivenName
+abbrev pub hosts_asked : Request → List RequestedName
 hosts_asked request = (asks_of request).hosts
 
 -- the name that a host is to have
-abbrev pub new_host_asked : Request → Option GivenName
+abbrev pub new_host_asked : Request → Option RequestedName
 new_host_asked request = (asks_of request).new_host
 
 abbrev pub reads_associations : Request → Bool
@@ -268,6 +268,6 @@ presented_contact (Asked cl_trid request) contact = contact_secret_asked request
 -- ---- updates
 
 -- the name that a host has after an update
-abbrev pub final_name : HostUpdate → Option GivenName → List ℕ
+abbrev pub final_name : HostUpdate → Option RequestedName → List ℕ
 final_name update None = name_of update.name
 final_name update (Some name) = name_of name

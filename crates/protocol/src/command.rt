@@ -9,7 +9,7 @@ use crate::years::Years;
 use basis::list::Seq;
 use basis::text::Text;
 use calendar::Moment;
-use names::GivenName;
+use names::RequestedName;
 use objects::{Postal, Status};
 use std::slice;
 
@@ -63,11 +63,11 @@ pub enum Request {
     },
     /// Which of the names could be created (RFC 5731, 3.1.1).
     CheckDomain {
-        names: Seq<GivenName>,
+        names: Seq<RequestedName>,
     },
     /// Which of the names could be created (RFC 5732, 3.1.1).
     CheckHost {
-        names: Seq<GivenName>,
+        names: Seq<RequestedName>,
     },
     /// What a contact is (RFC 5733, 3.1.2), with its secret where that is presented.
     InfoContact {
@@ -76,12 +76,12 @@ pub enum Request {
     },
     /// What a domain is (RFC 5731, 3.1.2), with its secret where that is presented.
     InfoDomain {
-        name: GivenName,
+        name: RequestedName,
         secret: Option<Text>,
     },
     /// What a host is (RFC 5732, 3.1.2).
     InfoHost {
-        name: GivenName,
+        name: RequestedName,
     },
     /// A new contact (RFC 5733, 3.2.1).
     CreateContact(NewContact),
@@ -95,11 +95,11 @@ pub enum Request {
     },
     /// A domain is to go (RFC 5731, 3.2.2).
     DeleteDomain {
-        name: GivenName,
+        name: RequestedName,
     },
     /// A host is to go (RFC 5732, 3.2.2).
     DeleteHost {
-        name: GivenName,
+        name: RequestedName,
     },
     /// A contact is to change (RFC 5733, 3.2.5).
     UpdateContact(ContactUpdate),
@@ -109,19 +109,19 @@ pub enum Request {
     UpdateHost(HostUpdate),
     /// A domain is to be registered for longer (RFC 5731, 3.2.3).
     RenewDomain {
-        name: GivenName,
+        name: RequestedName,
         /// The date on which it expires now, `YYYY-MM-DD`.
         expires: Text,
         years: Years,
     },
     /// A deleted domain is to come back (RFC 3915, 4.2.5, `request`).
     RequestRestore {
-        name: GivenName,
+        name: RequestedName,
     },
     /// The report on a domain that is to come back (RFC 3915, 4.2.5, `report`). What else it says was
     /// looked at and isn't kept.
     ReportRestore {
-        name: GivenName,
+        name: RequestedName,
         /// When the domain was deleted.
         del_time: Moment,
         /// When its restoration was asked for.
@@ -136,7 +136,7 @@ pub enum Request {
     },
     /// A transfer of a domain (RFC 5731, 3.1.3 and 3.2.4).
     TransferDomain {
-        name: GivenName,
+        name: RequestedName,
         op: TransferOp,
         /// Presented with a request, and with a query where the caller does so.
         secret: Option<Text>,
@@ -162,19 +162,19 @@ pub struct NewContact {
 /// What a new domain is to have. The lists stand as they were sent.
 #[derive(Drop)]
 pub struct NewDomain {
-    pub name: GivenName,
+    pub name: RequestedName,
     pub years: Years,
     pub registrant: Text,
     pub admin: Seq<Text>,
     pub tech: Seq<Text>,
-    pub hosts: Seq<GivenName>,
+    pub hosts: Seq<RequestedName>,
     pub secret: Text,
 }
 
 /// What a new host is to have. The addresses stand as they were sent, in canonical text.
 #[derive(Drop)]
 pub struct NewHost {
-    pub name: GivenName,
+    pub name: RequestedName,
     pub addresses: Seq<Text>,
 }
 
@@ -195,7 +195,7 @@ pub struct ContactUpdate {
 /// What of a domain is to change. What isn't given stays.
 #[derive(Drop)]
 pub struct DomainUpdate {
-    pub name: GivenName,
+    pub name: RequestedName,
     pub add: DomainLists,
     pub rem: DomainLists,
     pub registrant: Option<Text>,
@@ -205,7 +205,7 @@ pub struct DomainUpdate {
 /// What an update adds to the lists of a domain, or removes from them, as it was sent.
 #[derive(Drop)]
 pub struct DomainLists {
-    pub hosts: Seq<GivenName>,
+    pub hosts: Seq<RequestedName>,
     pub admin: Seq<Text>,
     pub tech: Seq<Text>,
     pub statuses: Seq<Status>,
@@ -214,10 +214,10 @@ pub struct DomainLists {
 /// What of a host is to change. What isn't given stays.
 #[derive(Drop)]
 pub struct HostUpdate {
-    pub name: GivenName,
+    pub name: RequestedName,
     pub add: HostLists,
     pub rem: HostLists,
-    pub new_name: Option<GivenName>,
+    pub new_name: Option<RequestedName>,
 }
 
 /// What an update adds to the lists of a host, or removes from them, as it was sent: addresses in
@@ -276,7 +276,7 @@ impl Request {
     }
 
     /// The domains that it acts on.
-    pub fn domains(&self) -> &[GivenName]
+    pub fn domains(&self) -> &[RequestedName]
         ensures { result.now ≡ spec.domains_asked self.now }
     {
         match self {
@@ -294,7 +294,7 @@ impl Request {
     }
 
     /// The hosts that it acts on.
-    pub fn hosts(&self) -> &[GivenName]
+    pub fn hosts(&self) -> &[RequestedName]
         ensures { result.now ≡ spec.hosts_asked self.now }
     {
         match self {
@@ -308,7 +308,7 @@ impl Request {
     }
 
     /// The name that a host is to have.
-    pub fn new_host(&self) -> Option<&GivenName>
+    pub fn new_host(&self) -> Option<&RequestedName>
         ensures { option_copied result ≡ spec.new_host_asked self.now }
     {
         match self {
@@ -503,7 +503,7 @@ impl Command {
     }
 
     /// The domains that it acts on.
-    pub fn domains(&self) -> &[GivenName]
+    pub fn domains(&self) -> &[RequestedName]
         ensures { result.now ≡ spec.asked [] spec.domains_asked self.now }
     {
         match self {
@@ -513,7 +513,7 @@ impl Command {
     }
 
     /// The hosts that it acts on.
-    pub fn hosts(&self) -> &[GivenName]
+    pub fn hosts(&self) -> &[RequestedName]
         ensures { result.now ≡ spec.asked [] spec.hosts_asked self.now }
     {
         match self {
@@ -523,7 +523,7 @@ impl Command {
     }
 
     /// The name that a host is to have.
-    pub fn new_host(&self) -> Option<&GivenName>
+    pub fn new_host(&self) -> Option<&RequestedName>
         ensures { option_copied result ≡ spec.asked None spec.new_host_asked self.now }
     {
         match self {

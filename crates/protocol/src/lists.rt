@@ -4,7 +4,7 @@ ghost use Rattle.protocol.specs.Requests as spec;
 
 use crate::command::{DomainLists, HostLists, Request};
 use basis::text::Text;
-use names::GivenName;
+use names::RequestedName;
 use objects::Status;
 
 /// The hosts that a domain may name.
@@ -19,7 +19,7 @@ pub const MOST_ADDRESSES: usize = 13;
 /// What an object is to have, or to have no longer: each list as it was sent.
 #[derive(Clone, Copy, Drop)]
 pub struct Lists<'a> {
-    pub hosts: &'a [GivenName],
+    pub hosts: &'a [RequestedName],
     pub admin: &'a [Text],
     pub tech: &'a [Text],
     pub addresses: &'a [Text],

@@ -3,7 +3,7 @@ use Rattle.std.proofs.Common.{◌≡◌, inl, inr, ℕ, Bool, true, false, not, 
 use Rattle.std.proofs.lemmas.Bool.{not-false, or_parts}
 use Rattle.rules.proofs.Words.{Ack, amended, Asked, Change, charge, ClientApproved, ClientCancelled, ClientRejected, Contact}
 use Rattle.rules.proofs.Words.{deleted_domain, Domain, domain_seen, domain_sight, domain_sponsor, DomainUpdate, DropContact, DropDomain}
-use Rattle.rules.proofs.Words.{DropHost, ended, Facts, facts, Full, FullDomain, get, Post, GivenName, holds_of, Host, is_empty, is_pending}
+use Rattle.rules.proofs.Words.{DropHost, ended, Facts, facts, Full, FullDomain, get, Post, RequestedName, holds_of, Host, is_empty, is_pending}
 use Rattle.rules.proofs.Words.{is_pending_state, LineKind, list_any, lookups, name_of, new_domain, NewDomain, NewHost, PolicyRules}
 use Rattle.rules.proofs.Words.{presented, Public, PutContact, PutDomain, PutHost, refund_at, RefundRunning, Registry, RenameHost}
 use Rattle.rules.proofs.Words.{renewed_domain, Request, requested, restored_domain, restoring_domain, Roid, Superordinate}
@@ -70,7 +70,7 @@ pub record IsUpdateOf (s : Registry) (u : DomainUpdate) (d : Domain) : Type 0 wh
   pub few : domain_is_over (of_domain u.rem) (of_domain u.add) d ≡ false
 
 -- so does one of a host, whose name the zone keeps afterwards
-pub record IsHostUpdateOf (p : PolicyRules) (s : Registry) (u : HostUpdate) (given : Option GivenName) (h : Host) : Type 0 where
+pub record IsHostUpdateOf (p : PolicyRules) (s : Registry) (u : HostUpdate) (given : Option RequestedName) (h : Host) : Type 0 where
   pub at : get s.hosts (name_of u.name) ≡ Some h
   pub is : u.new_name ≡ given
   pub kept : keeps_host p.zone (final_name u given) ≡ true
@@ -85,7 +85,7 @@ pub record IsPayable (p : PolicyRules) (r : ℕ) (cl_trid : Option (List ℕ)) (
   pub paid : Covers r s (charge_of p s.clock q (known p r cl_trid s q))
 
 -- a host after an update, where this new name is given
-abbrev pub host_with : PolicyRules → ℕ → ℕ → HostUpdate → Option GivenName → Host → Host
+abbrev pub host_with : PolicyRules → ℕ → ℕ → HostUpdate → Option RequestedName → Host → Host
 host_with p r t u given h = record h {
   name = final_name u given;
   external_sponsor = external_sponsor_after p.zone r given h.external_sponsor;
@@ -124,11 +124,11 @@ module _ (p : PolicyRules) (r : ℕ) (cl_trid : Option (List ℕ)) (s : Registry
         keeps_host p.zone (name_of new.name) ≡ true → AreListsFit q → IsBased p s (name_of new.name)
         → P q (PutHost (new_host p.zone r s.clock (facts_of q) new) ∷ Post r TakeSerial ∷ [])
     pub contact_dropped : (name : List ℕ) → is_linked_contact s name ≡ false → P (requests.DeleteContact name) (DropContact name ∷ [])
-    pub domain_dropped : (name : GivenName) (d : Domain) → IsDeletable r s (name_of name) d
+    pub domain_dropped : (name : RequestedName) (d : Domain) → IsDeletable r s (name_of name) d
         → P (requests.DeleteDomain name) (DropDomain (name_of name) ∷ refunded d ∷ [])
-    pub domain_deleted : (name : GivenName) (d : Domain) (years : ℕ) → IsDeletable r s (name_of name) d
+    pub domain_deleted : (name : RequestedName) (d : Domain) (years : ℕ) → IsDeletable r s (name_of name) d
         → P (requests.DeleteDomain name) (PutDomain (deleted_domain s.clock years d) ∷ refunded d ∷ [])
-    pub host_dropped : (name : GivenName) → is_linked_host s (name_of name) ≡ false
+    pub host_dropped : (name : RequestedName) → is_linked_host s (name_of name) ≡ false
         → P (requests.DeleteHost name) (DropHost (name_of name) ∷ [])
     pub contact_updated : (u : ContactUpdate) (c : Contact) → get s.contacts u.name ≡ Some c
         → P (requests.UpdateContact u) (PutContact (updated_contact s.clock u c) ∷ [])
@@ -136,15 +136,15 @@ module _ (p : PolicyRules) (r : ℕ) (cl_trid : Option (List ℕ)) (s : Registry
         → P (requests.UpdateDomain u) (PutDomain (updated_domain s.clock u d) ∷ [])
     pub host_updated : (u : HostUpdate) (h : Host) → IsHostUpdateOf p s u None h
         → P (requests.UpdateHost u) (PutHost (host_with p r s.clock u None h) ∷ [])
-    pub host_renamed : (u : HostUpdate) (name : GivenName) (h : Host) → IsHostUpdateOf p s u (Some name) h
+    pub host_renamed : (u : HostUpdate) (name : RequestedName) (h : Host) → IsHostUpdateOf p s u (Some name) h
         → is_some (get s.hosts (name_of name)) ≡ false → IsBased p s (name_of name)
         → P (requests.UpdateHost u) (PutHost (host_with p r s.clock u (Some name) h) ∷ RenameHost (name_of u.name) (name_of name) ∷ DropHost (name_of u.name) ∷ [])
-    pub renewed : (name : GivenName) (expires : List ℕ) (years : ℕ) (d : Domain) → let q : Request = requests.RenewDomain name expires years in
+    pub renewed : (name : RequestedName) (expires : List ℕ) (years : ℕ) (d : Domain) → let q : Request = requests.RenewDomain name expires years in
         IsPayable p r cl_trid s q (name_of name) d → nat_lt (plus_years s.clock 10) (renewed_expiry years d) ≡ false
         → P q (PutDomain (renewed_domain s.clock years d) ∷ charged lines.Renew q d.roid ∷ [])
-    pub restoring : (name : GivenName) (d : Domain) → get s.domains (name_of name) ≡ Some d
+    pub restoring : (name : RequestedName) (d : Domain) → get s.domains (name_of name) ≡ Some d
         → P (requests.RequestRestore name) (PutDomain (restoring_domain s.clock d) ∷ [])
-    pub restored : (name : GivenName) (del_time res_time : ℕ) (d : Domain) → let q : Request = requests.ReportRestore name del_time res_time in
+    pub restored : (name : RequestedName) (del_time res_time : ℕ) (d : Domain) → let q : Request = requests.ReportRestore name del_time res_time in
         IsPayable p r cl_trid s q (name_of name) d → P q (PutDomain (restored_domain s.clock d) ∷ charged lines.Restore q d.roid ∷ [])
     pub contact_asked : (q : Request) (name : List ℕ) (c : Contact) → get s.contacts name ≡ Some c
         → P q (contact_transferred s.clock ops.Request (requested p r c.sponsor s.clock) c)
@@ -232,12 +232,12 @@ module _ (p : PolicyRules) (r : ℕ) (cl_trid : Option (List ℕ)) (s : Registry
       cases.contact_dropped name (sym (ap (holds_of (λ (it : ContactFacts). it.linked)) (contact-at p r cl_trid s q name refl))
       ∙ (or_parts (contact_is_linked q (facts_for q)) false (free q taken conditions.IsLinked (search (inl, inr) depth 20))).0)
 
-  host-dropped : (name : GivenName) → Took (requests.DeleteHost name) → P (requests.DeleteHost name) (DropHost (name_of name) ∷ [])
+  host-dropped : (name : RequestedName) → Took (requests.DeleteHost name) → P (requests.DeleteHost name) (DropHost (name_of name) ∷ [])
   host-dropped name taken =
       let q : Request = requests.DeleteHost name in
       cases.host_dropped name (sym (ap (holds_of (λ (it : HostFacts). it.linked)) (host-at p r cl_trid s q name refl)) ∙ free q taken conditions.IsLinked (search (inl, inr) depth 20))
 
-  module _ (name : GivenName) (taken : Took (requests.DeleteDomain name)) where
+  module _ (name : RequestedName) (taken : Took (requests.DeleteDomain name)) where
     abbrev deletion : Request
     deletion = requests.DeleteDomain name
 
@@ -301,24 +301,24 @@ module _ (p : PolicyRules) (r : ℕ) (cl_trid : Option (List ℕ)) (s : Registry
     update = requests.UpdateHost u
 
     -- what is known at a new name
-    abbrev at_new : Option GivenName → Option HostFacts
-    at_new given = option_map (λ (name : GivenName). host_facts (lookups p r (Asked cl_trid update) s) (Asked cl_trid update) (name_of name)) given
+    abbrev at_new : Option RequestedName → Option HostFacts
+    at_new given = option_map (λ (name : RequestedName). host_facts (lookups p r (Asked cl_trid update) s) (Asked cl_trid update) (name_of name)) given
 
-    abbrev IsFree : Option GivenName → Type 0
+    abbrev IsFree : Option RequestedName → Type 0
     IsFree given = is_some (option_and_then (λ (it : HostFacts). it.host) (at_new given)) ≡ false
 
     seen-is : host_seen (facts_for update) (name_of u.name) ≡ get s.hosts (name_of u.name)
     seen-is = ap (option_and_then (λ (it : HostFacts). it.host)) (host-at p r cl_trid s update u.name refl)
 
-    kept-name : (given : Option GivenName) → host_is_refused p.zone u.name ≡ false → holds_of (host_is_refused p.zone) given ≡ false → keeps_host p.zone (final_name u given) ≡ true
+    kept-name : (given : Option RequestedName) → host_is_refused p.zone u.name ≡ false → holds_of (host_is_refused p.zone) given ≡ false → keeps_host p.zone (final_name u given) ≡ true
     kept-name None old new = unless-not _ old
     kept-name (Some name) old new = unless-not _ new
 
-    fits : (h : Host) → host_seen (facts_for update) (name_of u.name) ≡ Some h → (given : Option GivenName) → u.new_name ≡ given → IsHostUpdateOf p s u given h
+    fits : (h : Host) → host_seen (facts_for update) (name_of u.name) ≡ Some h → (given : Option RequestedName) → u.new_name ≡ given → IsHostUpdateOf p s u given h
     fits h e given is =
         let names = or_parts (list_any (domain_is_refused p.zone) (domains_asked update)) _ (free update taken conditions.NameIsRefused (inl refl)) in
         let hosts = or_parts (any_host_refused p.zone (hosts_asked update)) _ names.1 in
-        let new_kept : holds_of (host_is_refused p.zone) given ≡ false = subst (λ (o : Option GivenName). holds_of (host_is_refused p.zone) o ≡ false) is (or_parts (holds_of (host_is_refused p.zone) u.new_name) _ hosts.1).0 in
+        let new_kept : holds_of (host_is_refused p.zone) given ≡ false = subst (λ (o : Option RequestedName). holds_of (host_is_refused p.zone) o ≡ false) is (or_parts (holds_of (host_is_refused p.zone) u.new_name) _ hosts.1).0 in
         let many = or_parts (are_too_long (of_host u.add)) _ (free update taken conditions.LeavesTooMany (search (inl, inr) depth 20)) in
         record {
           at = sym seen-is ∙ e;
@@ -329,7 +329,7 @@ module _ (p : PolicyRules) (r : ℕ) (cl_trid : Option (List ℕ)) (s : Registry
           few = sym (ap (holds_of (host_is_over (of_host u.rem) (of_host u.add))) e) ∙ many.1;
         }
 
-    by-name : (h : Host) → host_seen (facts_for update) (name_of u.name) ≡ Some h → (given : Option GivenName) → u.new_name ≡ given → IsFree given
+    by-name : (h : Host) → host_seen (facts_for update) (name_of u.name) ≡ Some h → (given : Option RequestedName) → u.new_name ≡ given → IsFree given
         → holds_of (has_no_superordinate p.zone) (at_new given) ≡ false → holds_of (superordinate_is_deleted p.zone) (at_new given) ≡ false
         → P update (renaming (name_of u.name) (host_with p r s.clock u given h) given)
     by-name h e None is unused based alive = cases.host_updated u h (fits h e None is)
@@ -346,11 +346,11 @@ module _ (p : PolicyRules) (r : ℕ) (cl_trid : Option (List ℕ)) (s : Registry
 
   -- ---- what is charged for
 
-  payable : (q : Request) (name : GivenName) (full : FullDomain) → get s.domains (name_of name) ≡ Some full.domain → domain_seen (facts_for q) (name_of name) ≡ Some (Full full)
+  payable : (q : Request) (name : RequestedName) (full : FullDomain) → get s.domains (name_of name) ≡ Some full.domain → domain_seen (facts_for q) (name_of name) ≡ Some (Full full)
       → (b : Bool) → (is_anothers domain_sponsor r (domain_seen (facts_for q) (name_of name)) || b) ≡ false → Covers r s (charge_of p s.clock q (facts_for q)) → IsPayable p r cl_trid s q (name_of name) full.domain
   payable q name full at e b own covered = record { at = at; own = owned r (domain_seen (facts_for q) (name_of name)) full e b own; paid = covered }
 
-  renewed : (name : GivenName) (expires : List ℕ) (years : ℕ) → let q : Request = requests.RenewDomain name expires years in
+  renewed : (name : RequestedName) (expires : List ℕ) (years : ℕ) → let q : Request = requests.RenewDomain name expires years in
       Took q → P q (renewal_changes p r s.clock q (facts_for q) (domain_seen (facts_for q) (name_of name)))
   renewed name expires years taken =
       let q : Request = requests.RenewDomain name expires years in
@@ -361,7 +361,7 @@ module _ (p : PolicyRules) (r : ℕ) (cl_trid : Option (List ℕ)) (s : Registry
       (sym (ap (λ (o : DomainSight). holds_of (λ (d : Domain). nat_lt (plus_years s.clock 10) (renewed_expiry years d)) (option_and_then domain_in_full o)) e)
       ∙ free q taken conditions.PassesTenYears (search (inl, inr) depth 20)))
 
-  restored : (name : GivenName) (del_time res_time : ℕ) → let q : Request = requests.ReportRestore name del_time res_time in
+  restored : (name : RequestedName) (del_time res_time : ℕ) → let q : Request = requests.ReportRestore name del_time res_time in
       Took q → P q (report_changes p r s.clock q (facts_for q) (domain_seen (facts_for q) (name_of name)))
   restored name del_time res_time taken =
       let q : Request = requests.ReportRestore name del_time res_time in

@@ -2,7 +2,7 @@
 use Rattle.std.proofs.Common.{◌≡◌, ℕ, nat_lt, ◌==◌, Bool, true, false, cond, not, ◌&&◌, ◌||◌, List, [], ◌∷◌, map, find, Option, Some, None, option_and_then, option_map, refl, sym, ap, ◌∙◌, eqb-true, pos, int_lt}
 use Rattle.std.proofs.lemmas.Bool.{not-false, or_parts}
 use Rattle.rules.proofs.Words.{account_of, Asked, balance, bytes_decides, bytes_eq, Command, Contact, contact_as, Domain, domain_seen}
-use Rattle.rules.proofs.Words.{domain_sight, domain_sponsor, DomainFace, Facts, facts, Full, FullDomain, get, GivenName, is_party, lookups}
+use Rattle.rules.proofs.Words.{domain_sight, domain_sponsor, DomainFace, Facts, facts, Full, FullDomain, get, RequestedName, is_party, lookups}
 use Rattle.rules.proofs.Words.{name_of, PolicyRules, presented, Public, Registry, Request, Seen, standing_of, Transfer, TransferParty}
 use Rattle.facts.specs.declared.facts.ContactFacts.{ContactFacts}
 use Rattle.facts.specs.declared.facts.DomainFacts.{DomainFacts}
@@ -78,14 +78,14 @@ module _ (p : PolicyRules) (r : ℕ) (cl_trid : Option (List ℕ)) (s : Registry
       ap (λ (names : List (List ℕ)). find (λ (it : ContactFacts). bytes_eq it.name name) (map (contact_facts (lookups p r asked s) asked) names)) only
       ∙ at-itself name (contact_facts (lookups p r asked s) asked name)
 
-  pub domain-at : (name : GivenName) → domains_asked q ≡ name ∷ [] → domain_at known (name_of name) ≡ Some (domain_facts (lookups p r asked s) asked (name_of name))
+  pub domain-at : (name : RequestedName) → domains_asked q ≡ name ∷ [] → domain_at known (name_of name) ≡ Some (domain_facts (lookups p r asked s) asked (name_of name))
   domain-at name only =
-      ap (λ (names : List GivenName). find (λ (it : DomainFacts). bytes_eq it.name (name_of name)) (map (λ n. domain_facts (lookups p r asked s) asked (name_of n)) names)) only
+      ap (λ (names : List RequestedName). find (λ (it : DomainFacts). bytes_eq it.name (name_of name)) (map (λ n. domain_facts (lookups p r asked s) asked (name_of n)) names)) only
       ∙ at-itself (name_of name) (domain_facts (lookups p r asked s) asked (name_of name))
 
-  pub host-at : (name : GivenName) → hosts_asked q ≡ name ∷ [] → host_at known (name_of name) ≡ Some (host_facts (lookups p r asked s) asked (name_of name))
+  pub host-at : (name : RequestedName) → hosts_asked q ≡ name ∷ [] → host_at known (name_of name) ≡ Some (host_facts (lookups p r asked s) asked (name_of name))
   host-at name only =
-      ap (λ (names : List GivenName). find (λ (it : HostFacts). bytes_eq it.name (name_of name)) (map (λ n. host_facts (lookups p r asked s) asked (name_of n)) names)) only
+      ap (λ (names : List RequestedName). find (λ (it : HostFacts). bytes_eq it.name (name_of name)) (map (λ n. host_facts (lookups p r asked s) asked (name_of n)) names)) only
       ∙ at-itself (name_of name) (host_facts (lookups p r asked s) asked (name_of name))
 
   -- what holds of nothing seen, and of what is seen in part, and of an object that is seen in full where it stands
@@ -99,7 +99,7 @@ module _ (p : PolicyRules) (r : ℕ) (cl_trid : Option (List ℕ)) (s : Registry
       by (Some (TransferParty face x)) e = party face x
       by (Some (Public face)) e = public face
 
-  pub where-domain : (Q : DomainSight → Type 0) (name : GivenName) → domains_asked q ≡ name ∷ [] → Q None → ((face : DomainFace) (x : Transfer) → Q (Some (TransferParty face x))) → ((face : DomainFace) → Q (Some (Public face)))
+  pub where-domain : (Q : DomainSight → Type 0) (name : RequestedName) → domains_asked q ≡ name ∷ [] → Q None → ((face : DomainFace) (x : Transfer) → Q (Some (TransferParty face x))) → ((face : DomainFace) → Q (Some (Public face)))
       → ((full : FullDomain) → get s.domains (name_of name) ≡ Some full.domain → domain_seen known (name_of name) ≡ Some (Full full) → Q (Some (Full full))) → Q (domain_seen known (name_of name))
   where-domain Q name only nothing party public full = by (domain_seen known (name_of name)) refl
     where

@@ -3,7 +3,7 @@ use Rattle.std.proofs.Common.{◌≡◌, ℕ, ◌-◌, ◌<◌, ◌≤◌, max, 
 use Rattle.std.specs.Option.{IfSome}
 use Rattle.std.proofs.lemmas.Bool.{or_parts}
 use Rattle.rules.proofs.Words.{Asked, Bad, ClientApproved, ClientCancelled, ClientRejected, Command, decision, deleted_domain, Domain}
-use Rattle.rules.proofs.Words.{domain_with_transfer, DomainUpdate, effect, ended, Facts, gained, get, GivenName, handed_over, has_name}
+use Rattle.rules.proofs.Words.{domain_with_transfer, DomainUpdate, effect, ended, Facts, gained, get, RequestedName, handed_over, has_name}
 use Rattle.rules.proofs.Words.{HasObjects, Host, IsRegistry, last_clock, name_of, new_domain, NewDomain, NewHost, Order, order_decision}
 use Rattle.rules.proofs.Words.{order_effect, ordered, PolicyRules, Registry, renewed_domain, requested, restored_domain, restoring_domain}
 use Rattle.rules.proofs.Words.{updated_domain, with_account, with_command, ZoneRules}
@@ -76,17 +76,17 @@ shape-updated zone t s u d it h =
     }
 
 -- the name that a host has after an update
-named-after : (zone : ZoneRules) (u : HostUpdate) (given : Option GivenName) → IfSome (or_else given (Some u.name)) IsCanonical → keeps_host zone (final_name u given) ≡ true → IsHostName zone (final_name u given)
+named-after : (zone : ZoneRules) (u : HostUpdate) (given : Option RequestedName) → IfSome (or_else given (Some u.name)) IsCanonical → keeps_host zone (final_name u given) ≡ true → IsHostName zone (final_name u given)
 named-after zone u None canonical kept = record { canonical = canonical; kept = kept }
 named-after zone u (Some name) canonical kept = record { canonical = canonical; kept = kept }
 
-shape-host : (p : PolicyRules) (r : ℕ) (s : Registry) (u : HostUpdate) (given : Option GivenName) (h : Host) → IsAskable (requests.UpdateHost u) → IsHostUpdateOf p s u given h → IsShapedHost p.zone h
+shape-host : (p : PolicyRules) (r : ℕ) (s : Registry) (u : HostUpdate) (given : Option RequestedName) (h : Host) → IsAskable (requests.UpdateHost u) → IsHostUpdateOf p s u given h → IsShapedHost p.zone h
     → IsShapedHost p.zone (host_with p r s.clock u given h)
 shape-host p r s u given h askable it is =
     let addresses = or_parts (has_twice itself u.add.addresses) _ it.once in
     let new_addresses = or_parts (adds_what_is_there itself h.addresses u.add.addresses) _ it.new in
     record {
-      name = named-after p.zone u given (subst (λ (o : Option GivenName). IfSome (or_else o (Some u.name)) IsCanonical) it.is askable.host) it.kept;
+      name = named-after p.zone u given (subst (λ (o : Option RequestedName). IfSome (or_else o (Some u.name)) IsCanonical) it.is askable.host) it.kept;
       addresses = (
         set-amended itself h.addresses u.rem.addresses u.add.addresses addresses.0 new_addresses.0 is.addresses.0,
         within-amended itself MOST_ADDRESSES h.addresses u.rem.addresses u.add.addresses it.few,

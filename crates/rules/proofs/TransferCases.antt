@@ -3,7 +3,7 @@ use Rattle.std.proofs.Common.{◌≡◌, ◌≢◌, inl, inr, ℕ, ◌==◌, tru
 use Rattle.std.proofs.lemmas.Bool.{not-false, or_parts}
 use Rattle.std.proofs.lemmas.Bool.Decides.{nat_tests}
 use Rattle.rules.proofs.Words.{Change, ClientApproved, ClientCancelled, ClientRejected, Contact, Deletion, Domain, domain_seen}
-use Rattle.rules.proofs.Words.{domain_sponsor, ended, Full, FullDomain, get, GivenName, holds_of, is_pending, is_pending_state, name_of}
+use Rattle.rules.proofs.Words.{domain_sponsor, ended, Full, FullDomain, get, RequestedName, holds_of, is_pending, is_pending_state, name_of}
 use Rattle.rules.proofs.Words.{PolicyRules, Registry, Request, requested, Transfer, TransferOp, TransferState}
 use Rattle.facts.specs.Facts.{contact_seen}
 use Rattle.lifecycle.specs.Transfers.{is_locked}
@@ -44,7 +44,7 @@ pending-is (Some y) A pending h = h y refl pending
 
 -- ---- domains
 
-module _ (p : PolicyRules) (r : ℕ) (cl_trid : Option (List ℕ)) (s : Registry) (name : GivenName) (secret : Option (List ℕ)) where
+module _ (p : PolicyRules) (r : ℕ) (cl_trid : Option (List ℕ)) (s : Registry) (name : RequestedName) (secret : Option (List ℕ)) where
   -- the request for an operation, and what it changes where this is the transfer that it leaves
   abbrev asks : TransferOp → Request
   asks op = TransferDomain name op secret

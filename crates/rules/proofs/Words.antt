@@ -34,7 +34,7 @@ pub use Rattle.model.specs.Standards.{MeetsStandards}
 pub use Rattle.model.specs.Standing.{graces_of, standing_of}
 pub use Rattle.model.specs.View.{domain_sight, view}
 pub use Rattle.model.specs.WellFormed.{AreApart, begins_after, charges_waiting, domain_roid, HasBeen, HasLines, HasLinesOn, HasObjects, HasRoid, is_begun_after, IsContactOf, IsDeletion, IsDomainOf, IsHostOf, IsLastTransfer, IsLater, IsLineOf, IsRegistry, IsTransfer, last_clock, WasGiven}
-pub use Rattle.names.specs.GivenName.{GivenName, name_of}
+pub use Rattle.names.specs.RequestedName.{RequestedName, name_of}
 pub use Rattle.names.specs.Zone.{superordinate_of, ZoneRules}
 pub use Rattle.objects.specs.Domains.{expiry, is_empty}
 pub use Rattle.objects.specs.Hosts.{is_below}

@@ -8,7 +8,7 @@ use Rattle.lifecycle.specs.declared.change.AccountChange.TheVariants.{Ack, Charg
 use Rattle.lifecycle.specs.Graces.{period_of}
 use Rattle.lifecycle.specs.Refunds.{refund_at}
 use Rattle.lifecycle.specs.Turns.{turns}
-use Rattle.names.specs.GivenName.{GivenName, name_of}
+use Rattle.names.specs.RequestedName.{RequestedName, name_of}
 use Rattle.names.specs.Zone.{ZoneRules}
 use Rattle.objects.specs.declared.contact.Contact.{Contact}
 use Rattle.objects.specs.declared.contact.ContactFace.{ContactFace}
@@ -189,7 +189,7 @@ abbrev pub restored_domain : ℕ → Domain → Domain
 restored_domain t d = record d { years = d.years + turns d t; updated = Some t; deletion = None }
 
 -- the same after an update, which may rename the host
-abbrev pub external_sponsor_after : ZoneRules → ℕ → Option GivenName → Option ℕ → Option ℕ
+abbrev pub external_sponsor_after : ZoneRules → ℕ → Option RequestedName → Option ℕ → Option ℕ
 external_sponsor_after zone r None by = by
 external_sponsor_after zone r (Some name) by = external_sponsor_of zone r (name_of name)
 
@@ -254,7 +254,7 @@ deletion_at r t None = []
 deletion_at r t (Some known) = deletion_changes r t known known.seen
 
 -- A host gets a new name: it stands under both until the domains that named it name it anew.
-abbrev pub renaming : List ℕ → Host → Option GivenName → List Change
+abbrev pub renaming : List ℕ → Host → Option RequestedName → List Change
 renaming old h None = PutHost h ∷ []
 renaming old h (Some name) = PutHost h ∷ RenameHost old (name_of name) ∷ DropHost old ∷ []
 

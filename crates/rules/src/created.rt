@@ -1,6 +1,6 @@
 //! New objects.
 ghost use Rattle.std.specs.Prelude.{◌≡◌, IfOk, map};
-ghost use Rattle.names.specs.GivenName.{name_of};
+ghost use Rattle.names.specs.RequestedName.{name_of};
 ghost use Rattle.rules.specs.Decisions as spec;
 
 use basis::list::Seq;
@@ -8,7 +8,7 @@ use basis::registrar::RegistrarNo;
 use basis::text::{Text, copied};
 use calendar::Moment;
 use facts::Facts;
-use names::{GivenName, Zone};
+use names::{RequestedName, Zone};
 use objects::{Contact, Domain, Host, Links, ObjectKind, Roid, in_order};
 use protocol::{NewContact, NewDomain, NewHost};
 use std::alloc::{AllocError, Global};
@@ -85,7 +85,7 @@ fn new_links(alloc: Global, new: &NewDomain) -> Result<Links, AllocError>
     })
 }
 
-fn texts_of(alloc: Global, names: &[GivenName]) -> Result<Vec<Text>, AllocError>
+fn texts_of(alloc: Global, names: &[RequestedName]) -> Result<Vec<Text>, AllocError>
     ensures { IfOk result (λ texts. texts.items ≡ map name_of names.now) }
 {
     let mut texts = Vec::new(alloc);

@@ -19,7 +19,7 @@ use basis::text::Text;
 use calendar::Moment;
 use facts::{DomainFacts, Facts};
 use lifecycle::{AccountChange, RunningRefund};
-use names::{GivenName, Zone};
+use names::{RequestedName, Zone};
 use objects::{Contact, ContactFace, Domain, DomainFace, FullDomain, Host, ObjectKind, Seen};
 use policy::Policy;
 use protocol::{
@@ -462,7 +462,7 @@ fn put_host(
     alloc: Global,
     old: &Text,
     host: Host,
-    new_name: Option<&GivenName>,
+    new_name: Option<&RequestedName>,
 ) -> Result<Vec<Change>, AllocError>
     ensures { IfOk result (λ changes. changes.items
         ≡ spec.renaming old.now host (option_copied new_name.entry)) }

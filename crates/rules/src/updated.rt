@@ -10,7 +10,7 @@ use basis::text::{Text, copied};
 use calendar::Moment;
 use facts::amended_names;
 use lifecycle::years_to_outlast;
-use names::{GivenName, Zone};
+use names::{RequestedName, Zone};
 use objects::{Contact, Deletion, Domain, Host, Links, Postal, amended_statuses};
 use protocol::{ContactUpdate, DomainUpdate, HostUpdate};
 use std::alloc::{AllocError, Global};
@@ -227,7 +227,7 @@ fn copy(domain: &Domain) -> Result<Domain, AllocError>
 fn external_sponsor_after(
     zone: &Zone,
     caller: RegistrarNo,
-    new_name: Option<&GivenName>,
+    new_name: Option<&RequestedName>,
     old: Option<RegistrarNo>,
 ) -> Option<RegistrarNo>
     ensures { result ≡ spec.external_sponsor_after zone.now caller (option_copied new_name.entry)

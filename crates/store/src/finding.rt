@@ -10,7 +10,7 @@ ghost use Rattle.model.specs.Objects as objects;
 ghost use Rattle.model.specs.Registry.{account_of};
 ghost use Rattle.model.specs.Standing.{standing_of};
 ghost use Rattle.model.specs.View.{domain_sight};
-ghost use Rattle.names.specs.GivenName.{name_of};
+ghost use Rattle.names.specs.RequestedName.{name_of};
 ghost use Rattle.objects.specs.Sight.{contact_as};
 ghost use Rattle.protocol.specs.Requests as requests;
 ghost use Rattle.store.specs.Lookups as lookups;
@@ -27,7 +27,7 @@ use facts::{
 };
 use lifecycle::{GivenBack, RunningRefund, given_back, standing};
 use model::Object;
-use names::{GivenName, last_two_labels};
+use names::{RequestedName, last_two_labels};
 use objects::{Contact, ContactFace, Domain, DomainFace, FullDomain, ObjectKind, Seen, Standing};
 use policy::Policy;
 use protocol::{Command, Request};
@@ -629,7 +629,7 @@ fn lacks_host<R: Records>(records: &mut R, name: &Text) -> Result<bool, BookFaul
     Ok(!records.has_host(name)?)
 }
 
-fn lacks_hosts<R: Records>(records: &mut R, names: &[GivenName]) -> Result<bool, BookFault>
+fn lacks_hosts<R: Records>(records: &mut R, names: &[RequestedName]) -> Result<bool, BookFault>
     ensures { Finds result
         (list_any (λ name. not (lookups.has_host (R.kept records.old).content.registry
         (name_of name))) names.now) (R.kept records.old) (R.kept records.new) }

@@ -7,7 +7,7 @@ use Rattle.facts.specs.declared.facts.Facts.{Facts}
 use Rattle.facts.specs.Facts.{domain_seen}
 use Rattle.lifecycle.specs.Turns.{turns}
 use Rattle.lifecycle.proofs.TurnLaws.{AreTurns, turns-are}
-use Rattle.names.specs.GivenName.{GivenName, name_of}
+use Rattle.names.specs.RequestedName.{RequestedName, name_of}
 use Rattle.objects.specs.declared.domain.Domain.{Domain}
 use Rattle.objects.specs.declared.domain.DomainFace.{DomainFace}
 use Rattle.objects.specs.declared.domain.FullDomain.{FullDomain}
@@ -132,7 +132,7 @@ module _ (p : PolicyRules) (r t : ℕ) (f : Facts) where
   subordinates-law (TransferDomain name op secret) taken is = absurd (no-other op Delete is)
   subordinates-law _ taken is = absurd (cc)
 
-  once-law : (q : Request) → refusal_of p r t q f ≡ None → (name : GivenName) → q ≡ DeleteDomain name → shows_status PendingDelete q f ≡ false
+  once-law : (q : Request) → refusal_of p r t q f ≡ None → (name : RequestedName) → q ≡ DeleteDomain name → shows_status PendingDelete q f ≡ false
   once-law (DeleteDomain name) taken other is = unrefused p r t (DeleteDomain name) f taken (Shows PendingDelete) (search (inl, inr) depth 20)
   once-law _ taken other is = absurd (cc)
 
@@ -245,7 +245,7 @@ module _ (p : PolicyRules) (r t : ℕ) (f : Facts) where
   not-twice-law (TransferDomain name ops.Request secret) taken is = unrefused p r t (TransferDomain name ops.Request secret) f taken IsPending (search (inl, inr) depth 20)
   not-twice-law _ taken is = absurd (cc)
 
-  not-deleted-law : (q : Request) → refusal_of p r t q f ≡ None → (name : GivenName) (secret : Option (List ℕ)) → q ≡ TransferDomain name ops.Request secret → shows_status PendingDelete q f ≡ false
+  not-deleted-law : (q : Request) → refusal_of p r t q f ≡ None → (name : RequestedName) (secret : Option (List ℕ)) → q ≡ TransferDomain name ops.Request secret → shows_status PendingDelete q f ≡ false
   not-deleted-law (TransferDomain name ops.Request secret) taken other_name other is = unrefused p r t (TransferDomain name ops.Request secret) f taken (Shows PendingDelete) (search (inl, inr) depth 20)
   not-deleted-law _ taken other_name other is = absurd (cc)
 

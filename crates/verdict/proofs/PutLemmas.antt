@@ -3,7 +3,7 @@ use Rattle.std.proofs.Common.{◌≡◌, ◌≢◌, ℕ, Bool, true, false, ◌|
 use Rattle.policy.specs.Rules.{PolicyRules}
 use Rattle.facts.specs.declared.facts.Facts.{Facts}
 use Rattle.facts.specs.Facts.{new_name_seen}
-use Rattle.names.specs.GivenName.{GivenName}
+use Rattle.names.specs.RequestedName.{RequestedName}
 use Rattle.objects.specs.declared.status.Status.TheVariants.{PendingDelete, PendingTransfer}
 use Rattle.protocol.specs.declared.command.Action.TheVariants.{Check, Create, Renew, Update}
 use Rattle.protocol.specs.declared.command.ContactUpdate.{ContactUpdate}
@@ -159,7 +159,7 @@ module _ (p : PolicyRules) (r t : ℕ) (f : Facts) where
   holds-more-law (CreateDomain new) taken other is = unrefused p r t (CreateDomain new) f taken IsAtHoldingLimit (search (inl, inr) depth 20)
   holds-more-law _ taken other is = absurd (cc)
 
-  takes-more-law : (q : Request) → refusal_of p r t q f ≡ None → (name : GivenName) (secret : Option (List ℕ)) → q ≡ TransferDomain name ops.Request secret → f.holding_limit_reached ≡ false
+  takes-more-law : (q : Request) → refusal_of p r t q f ≡ None → (name : RequestedName) (secret : Option (List ℕ)) → q ≡ TransferDomain name ops.Request secret → f.holding_limit_reached ≡ false
   takes-more-law (TransferDomain name ops.Request secret) taken other_name other is = unrefused p r t (TransferDomain name ops.Request secret) f taken IsAtHoldingLimit (search (inl, inr) depth 20)
   takes-more-law _ taken other_name other is = absurd (cc)
 

@@ -5,7 +5,7 @@ use Rattle.std.specs.List.{slice_get}
 use Rattle.facts.specs.declared.facts.Facts.{Facts}
 use Rattle.facts.specs.Facts.{domain_seen}
 use Rattle.lifecycle.specs.Turns.{turns}
-use Rattle.names.specs.GivenName.{name_of}
+use Rattle.names.specs.RequestedName.{name_of}
 use Rattle.objects.specs.declared.domain.DomainFace.{DomainFace}
 use Rattle.objects.specs.declared.domain.FullDomain.{FullDomain}
 use Rattle.objects.specs.declared.sight.Seen.{Seen}

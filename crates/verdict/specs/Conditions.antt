@@ -10,7 +10,7 @@ use Rattle.facts.specs.declared.facts.DomainFacts.{DomainFacts}
 use Rattle.facts.specs.declared.facts.HostFacts.{HostFacts}
 use Rattle.facts.specs.Facts.{contact_at, contact_seen, domain_at, domain_seen, host_at, host_sponsor, is_inside, new_name_seen, or_else}
 use Rattle.facts.specs.Lists.{adds_what_is_there, has_twice, is_over, itself, kept, removes_what_is_not}
-use Rattle.names.specs.GivenName.{GivenName, name_of}
+use Rattle.names.specs.RequestedName.{RequestedName, name_of}
 use Rattle.names.specs.Zone.{ZoneRules, keeps_domain, keeps_host}
 use Rattle.objects.specs.declared.contact.Contact.{Contact}
 use Rattle.objects.specs.declared.contact.ContactFace.{ContactFace}
@@ -79,13 +79,13 @@ full_domain q f = option_and_then domain_in_full (the_domain q f)
 -- ---- the names and lists of a request
 
 -- the zone doesn't keep such domains, or such hosts
-abbrev pub domain_is_refused : ZoneRules → GivenName → Bool
+abbrev pub domain_is_refused : ZoneRules → RequestedName → Bool
 domain_is_refused zone name = not (keeps_domain zone (name_of name))
 
-abbrev pub host_is_refused : ZoneRules → GivenName → Bool
+abbrev pub host_is_refused : ZoneRules → RequestedName → Bool
 host_is_refused zone name = not (keeps_host zone (name_of name))
 
-abbrev pub any_host_refused : ZoneRules → List GivenName → Bool
+abbrev pub any_host_refused : ZoneRules → List RequestedName → Bool
 any_host_refused zone hosts = list_any (host_is_refused zone) hosts
 
 -- the zone refuses a name that is given
@@ -324,7 +324,7 @@ abbrev pub has_addresses_after : Request → Facts → Bool
 has_addresses_after q f = not (addresses_kept (asks_of q).removes.addresses (the_host q f) + length (asks_of q).adds.addresses == 0)
 
 -- the name that the host has afterwards
-abbrev pub host_name_after : Request → Option GivenName
+abbrev pub host_name_after : Request → Option RequestedName
 host_name_after q = or_else (asks_of q).new_host (slice_get (hosts_asked q) 0)
 
 -- a host outside the zone has no addresses here

@@ -2,7 +2,7 @@
 use Rattle.std.specs.Prelude.{◌≡◌, ◌≢◌, ℕ, ◌<◌, ◌≤◌, pos, ◌≤ℤ◌, ◌||◌, true, false, List, Option, Some, None, is_some}
 use Rattle.facts.specs.declared.facts.Facts.{Facts}
 use Rattle.facts.specs.Facts.{new_name_seen}
-use Rattle.names.specs.GivenName.{GivenName}
+use Rattle.names.specs.RequestedName.{RequestedName}
 use Rattle.objects.specs.declared.domain.Domain.{Domain}
 use Rattle.objects.specs.declared.grace.Phase.TheVariants.{Redemption, Restoring}
 use Rattle.objects.specs.declared.status.Status.TheVariants.{ClientDeleteProhibited, ClientRenewProhibited, ClientTransferProhibited, ClientUpdateProhibited, PendingDelete, PendingTransfer, ServerDeleteProhibited, ServerRenewProhibited, ServerTransferProhibited, ServerUpdateProhibited}
@@ -95,7 +95,7 @@ EndsTransfer PollAck = ⊥
 pub record IsLawfulTransfer (p : PolicyRules) (r t : ℕ) (q : Request) (f : Facts) : Type 0 where
   pub authorized : (asks_of q).action ≡ RequestTransfer → presents_secret q f ≡ true
   pub not_twice : (asks_of q).action ≡ RequestTransfer → shows_status PendingTransfer q f ≡ false
-  pub not_deleted : (name : GivenName) (secret : Option (List ℕ))
+  pub not_deleted : (name : RequestedName) (secret : Option (List ℕ))
       → q ≡ TransferDomain name ops.Request secret → shows_status PendingDelete q f ≡ false
   pub client : (asks_of q).action ≡ RequestTransfer
       → shows_status ClientTransferProhibited q f ≡ false
@@ -148,7 +148,7 @@ pub record PutsLawfully (p : PolicyRules) (r t : ℕ) (q : Request) (f : Facts) 
   pub ten_years : (asks_of q).action ≡ Renew → passes_ten_years t q f ≡ false
   pub expires : (asks_of q).action ≡ Renew → expires_otherwise q f ≡ false
   pub holds_more : (new : NewDomain) → q ≡ CreateDomain new → f.holding_limit_reached ≡ false
-  pub takes_more : (name : GivenName) (secret : Option (List ℕ))
+  pub takes_more : (name : RequestedName) (secret : Option (List ℕ))
       → q ≡ TransferDomain name ops.Request secret → f.holding_limit_reached ≡ false
 
 -- What a request that is carried out can't have met: an object of another's that it changes, renews,
@@ -164,7 +164,7 @@ pub record IsLawful (p : PolicyRules) (r t : ℕ) (q : Request) (f : Facts) : Ty
   pub new : (asks_of q).action ≡ Create → is_there q f ≡ false
   pub linked : (asks_of q).action ≡ Delete → is_linked q f ≡ false
   pub subordinates : (asks_of q).action ≡ Delete → has_subordinates q f ≡ false
-  pub deletes_once : (name : GivenName) → q ≡ DeleteDomain name
+  pub deletes_once : (name : RequestedName) → q ≡ DeleteDomain name
       → shows_status PendingDelete q f ≡ false
   pub client_delete : (asks_of q).action ≡ Delete → shows_status ClientDeleteProhibited q f ≡ false
   pub server_delete : (asks_of q).action ≡ Delete → shows_status ServerDeleteProhibited q f ≡ false

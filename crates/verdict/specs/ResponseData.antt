@@ -1,7 +1,7 @@
 -- What an accepted command is told (RFC 5731 to 5733, 3.1 and 3.2).
 use Rattle.std.specs.Prelude.{ℕ, Bool, List, [], map, Option, Some, None, is_some, option_map, option_and_then, unwrap_or, if◌then◌else◌, ◌==◌}
 use Rattle.calendar.specs.Moment.{plus_years, capped}
-use Rattle.names.specs.GivenName.{GivenName, name_of}
+use Rattle.names.specs.RequestedName.{RequestedName, name_of}
 use Rattle.names.specs.Zone.{ZoneRules}
 use Rattle.objects.specs.declared.contact.Contact.{Contact}
 use Rattle.objects.specs.declared.contact.ContactFace.{ContactFace}
@@ -63,13 +63,13 @@ reason_of refused taken = if refused then Some Policy else in_use taken
 abbrev pub contact_result : Facts → List ℕ → CheckResult
 contact_result f name = record { name = name; reason = in_use (is_some (contact_seen f name)) }
 
-abbrev pub domain_result : ZoneRules → Facts → GivenName → CheckResult
+abbrev pub domain_result : ZoneRules → Facts → RequestedName → CheckResult
 domain_result zone f name = record {
   name = name_of name;
   reason = reason_of (domain_is_refused zone name) (is_some (domain_seen f (name_of name)));
 }
 
-abbrev pub host_result : ZoneRules → Facts → GivenName → CheckResult
+abbrev pub host_result : ZoneRules → Facts → RequestedName → CheckResult
 host_result zone f name = record {
   name = name_of name;
   reason = reason_of (host_is_refused zone name) (is_some (host_seen f (name_of name)));
@@ -90,12 +90,12 @@ created_domain charge t new = record {
 
 -- ---- renew, and the report on a restoration
 
-abbrev pub renewed : ℕ → GivenName → ℕ → Domain → Renewed
+abbrev pub renewed : ℕ → RequestedName → ℕ → Domain → Renewed
 renewed charge name years d =
     record { name = name_of name; expires = capped (renewed_expiry years d); charge = charge }
 
 -- of a domain that is seen in full
-abbrev pub renewed_at : ℕ → GivenName → ℕ → Facts → Option Renewed
+abbrev pub renewed_at : ℕ → RequestedName → ℕ → Facts → Option Renewed
 renewed_at charge name years f = option_map (renewed charge name years) (option_and_then domain_in_full (domain_seen f (name_of name)))
 
 -- ---- info of contacts and domains: the sponsor is told all; who presents the right secret all but

@@ -11,7 +11,7 @@ use Rattle.protocol.specs.declared.command.Request.{Request}
 use Rattle.protocol.specs.declared.command.Request.TheVariants as requests
 use Rattle.verdict.specs.declared.verdict.Verdict.{Verdict}
 use Rattle.facts.specs.Facts.{domain_seen}
-use Rattle.names.specs.GivenName.{name_of}
+use Rattle.names.specs.RequestedName.{name_of}
 use Rattle.verdict.specs.Deletion.{code_of_deletion}
 use Rattle.verdict.specs.Poll.{code_of_poll}
 use Rattle.verdict.specs.Rules.{refusal_of}

@@ -7,33 +7,33 @@ ghost use Rattle.verdict.specs.Conditions as spec;
 
 use crate::conditions::{any_set, any_unset};
 use facts::{adds_what_is_there, has_status_twice, has_twice, is_over, removes_what_is_not};
-use names::{GivenName, Zone};
+use names::{RequestedName, Zone};
 use objects::{Contact, Domain, Host};
 use protocol::{Lists, MOST_ADDRESSES, MOST_CONTACTS, MOST_HOSTS};
 
 /// Whether the zone doesn't keep such domains.
-pub(crate) fn domain_is_refused(zone: &Zone, name: &GivenName) -> bool
+pub(crate) fn domain_is_refused(zone: &Zone, name: &RequestedName) -> bool
     ensures { result ≡ spec.domain_is_refused zone.now name.now }
 {
     !zone.keeps_domain(name.text().as_str())
 }
 
 /// Whether the zone doesn't keep such hosts.
-pub(crate) fn host_is_refused(zone: &Zone, name: &GivenName) -> bool
+pub(crate) fn host_is_refused(zone: &Zone, name: &RequestedName) -> bool
     ensures { result ≡ spec.host_is_refused zone.now name.now }
 {
     !zone.keeps_host(name.text().as_str())
 }
 
 /// Whether the zone refuses one of the domains.
-pub(crate) fn any_domain_refused(zone: &Zone, domains: &[GivenName]) -> bool
+pub(crate) fn any_domain_refused(zone: &Zone, domains: &[RequestedName]) -> bool
     ensures { result ≡ list_any (spec.domain_is_refused zone.now) domains.now }
 {
     domains.iter().any(|name| domain_is_refused(zone, name))
 }
 
 /// Whether the zone refuses one of the hosts.
-pub(crate) fn any_host_refused(zone: &Zone, hosts: &[GivenName]) -> bool
+pub(crate) fn any_host_refused(zone: &Zone, hosts: &[RequestedName]) -> bool
     ensures { result ≡ spec.any_host_refused zone.now hosts.now }
 {
     hosts.iter().any(|name| host_is_refused(zone, name))

@@ -23,7 +23,7 @@ use crate::rules::{Condition, table};
 use basis::registrar::RegistrarNo;
 use calendar::Moment;
 use facts::{ContactFacts, DomainFacts, Facts, HostFacts, count_kept};
-use names::GivenName;
+use names::RequestedName;
 use objects::{
     Contact, ContactFace, Domain, DomainFace, FullDomain, Host, Seen, Status, has_status,
 };
@@ -276,7 +276,7 @@ impl Case<'_> {
         !(self.addresses_kept() == 0 && self.request.added().addresses.is_empty())
     }
 
-    fn host_name_after(&self) -> Option<&GivenName>
+    fn host_name_after(&self) -> Option<&RequestedName>
         ensures { option_copied result ≡ spec.host_name_after self.now.request.now }
     {
         match self.request.new_host() {

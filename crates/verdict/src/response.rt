@@ -16,7 +16,7 @@ use basis::registrar::RegistrarNo;
 use basis::text::{Text, copied};
 use calendar::Moment;
 use facts::{ContactFacts, DomainFacts, Facts, HostFacts};
-use names::{GivenName, Zone};
+use names::{RequestedName, Zone};
 use objects::{
     Contact, ContactFace, Domain, DomainFace, FullDomain, Host, Seen, Transfer, with_linked,
 };
@@ -139,7 +139,7 @@ fn check_domains(
     alloc: Global,
     zone: &Zone,
     facts: &Facts,
-    names: &[GivenName],
+    names: &[RequestedName],
 ) -> Result<Vec<CheckResult>, AllocError>
     ensures { IfOk result (λ results. results.items ≡ map (spec.domain_result zone.now facts.now)
         names.now) }
@@ -161,7 +161,7 @@ fn check_hosts(
     alloc: Global,
     zone: &Zone,
     facts: &Facts,
-    names: &[GivenName],
+    names: &[RequestedName],
 ) -> Result<Vec<CheckResult>, AllocError>
     ensures { IfOk result (λ results. results.items ≡ map (spec.host_result zone.now facts.now)
         names.now) }
@@ -207,7 +207,7 @@ fn created_domain(charge: u64, new: &NewDomain, moment: Moment) -> Result<Create
 
 fn renewed_data(
     charge: u64,
-    name: &GivenName,
+    name: &RequestedName,
     years: u32,
     seen: Option<&Seen<FullDomain, DomainFace>>,
 ) -> Result<Option<Data>, AllocError>
@@ -223,7 +223,7 @@ fn renewed_data(
 
 fn renewed(
     charge: u64,
-    name: &GivenName,
+    name: &RequestedName,
     years: u32,
     domain: &Domain,
 ) -> Result<Renewed, AllocError>

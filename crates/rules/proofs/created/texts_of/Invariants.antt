@@ -1,5 +1,5 @@
 use Rattle.std.proofs.Common.{◌≡◌, map, take}
-use Rattle.names.specs.GivenName.{name_of}
+use Rattle.names.specs.RequestedName.{name_of}
 use Rattle.rules.proofs.created.texts_of.Given as goal
 
 abbrev pub invariant-loop-name : goal.invariant-loop-name

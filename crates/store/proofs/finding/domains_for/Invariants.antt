@@ -1,6 +1,6 @@
 use Rattle.std.proofs.Common.{◌≡◌, true, map, take}
 use Rattle.facts.specs.Facts.{domain_facts, lookups}
-use Rattle.names.specs.GivenName.{name_of}
+use Rattle.names.specs.RequestedName.{name_of}
 use Rattle.transactions.specs.States.{Reads}
 use Rattle.store.proofs.finding.domains_for.Given as goal
 

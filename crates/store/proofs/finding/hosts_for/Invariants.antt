@@ -1,5 +1,5 @@
 use Rattle.std.proofs.Common.{◌≡◌, true, map, take}
-use Rattle.names.specs.GivenName.{name_of}
+use Rattle.names.specs.RequestedName.{name_of}
 use Rattle.transactions.specs.States.{Reads}
 use Rattle.store.specs.Lookups.{host_facts_in}
 use Rattle.store.proofs.finding.hosts_for.Given as goal

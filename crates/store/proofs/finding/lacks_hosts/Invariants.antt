@@ -1,6 +1,6 @@
 use Rattle.std.proofs.Common.{◌≡◌, true, drop, not}
 use Rattle.std.specs.List.{list_any}
-use Rattle.names.specs.GivenName.{name_of}
+use Rattle.names.specs.RequestedName.{name_of}
 use Rattle.transactions.specs.States.{Reads}
 use Rattle.store.specs.Lookups.{has_host}
 use Rattle.store.proofs.finding.lacks_hosts.Given as goal

@@ -1,7 +1,7 @@
 use Rattle.std.proofs.Common.{[], map}
 use Rattle.facts.specs.Facts.{contact_facts, domain_facts, lookups}
 use Rattle.model.specs.Registry.{Registry}
-use Rattle.names.specs.GivenName.{name_of}
+use Rattle.names.specs.RequestedName.{name_of}
 use Rattle.protocol.specs.Requests.{asked, contacts_asked, domains_asked}
 use Rattle.store.proofs.FoundLemmas.{also-found}
 use Rattle.store.proofs.finding.objects_for.Goals as goal

@@ -1,7 +1,7 @@
 //! A name as a command gives it.
 ghost use Rattle.std.specs.Prelude.{◌≡◌};
 ghost use Rattle.names.specs.Canonical.{IsCanonical, canonical};
-ghost use Rattle.names.specs.GivenName as spec;
+ghost use Rattle.names.specs.RequestedName as spec;
 ghost use Rattle.names.specs.Reading.{Gives};
 
 use crate::NameFault;
@@ -13,28 +13,28 @@ use std::marker::Model;
 /// The name of a domain or a host as a command gives it, whether or not the zone keeps such names.
 /// It's made by reading alone. Contracts see its canonical text.
 #[derive(Clone, Drop)]
-pub struct GivenName {
+pub struct RequestedName {
     text: Text,
 }
 
-impl Model for GivenName {
+impl Model for RequestedName {
     ghost use Rattle.names.specs.Canonical.{IsCanonical};
-    ghost use Rattle.names.specs.GivenName as spec;
+    ghost use Rattle.names.specs.RequestedName as spec;
 
-    ghost Value = { spec.GivenName };
+    ghost Value = { spec.RequestedName };
 
     ghost view = { λ name. name.text };
 
     ghost invariant = { λ name. IsCanonical name.text };
 }
 
-impl GivenName {
+impl RequestedName {
     /// The name that a text stands for.
-    pub fn read(alloc: Global, text: &str) -> Result<GivenName, NameFault>
+    pub fn read(alloc: Global, text: &str) -> Result<RequestedName, NameFault>
         ensures { Gives (λ name. name) result (canonical text.now) }
     {
         let text = canonical_text(alloc, text)?;
-        Ok(GivenName { text })
+        Ok(RequestedName { text })
     }
 
     /// The canonical text.

@@ -1,9 +1,9 @@
 -- A name as a command gives it: its canonical text.
 use Rattle.std.specs.Prelude.{ℕ, List}
 
-abbrev pub GivenName : Type 0
-GivenName = List ℕ
+abbrev pub RequestedName : Type 0
+RequestedName = List ℕ
 
 -- its canonical text
-abbrev pub name_of : GivenName → List ℕ
+abbrev pub name_of : RequestedName → List ℕ
 name_of name = name
