@@ -15,7 +15,7 @@ use lifecycle::Due;
 use objects::{Contact, Domain, Host, Roid};
 use policy::{Policy, Terms};
 use std::alloc::Global;
-use store::{Naming, Records, rename_each};
+use store::Records;
 use transactions::{BookFault, Ready};
 
 /// Records in ordered maps are a book's once a transaction was kept.
@@ -23,29 +23,6 @@ fn readiness_of(is_used: bool) -> Ready
     ensures { result ≡ spec.readiness_of is_used }
 {
     if is_used { Ready::Used } else { Ready::Empty }
-}
-
-impl Naming for Plain {
-    ghost kept = { spec.plain_records };
-
-    fn domains_naming(&mut self, host: &Text) -> Result<Seq<Text>, BookFault> {
-        self.settle()?;
-        Ok(self.content.domains_naming(host)?)
-    }
-
-    fn rename_host_in(
-        &mut self,
-        domain: &Text,
-        from: &Text,
-        to: &Text,
-        policy: &Policy,
-    ) -> Result<(), BookFault> {
-        let name = domain.clone()?;
-        match self.content.host_renamed_at(domain, from, to)? {
-            None => Ok(()),
-            Some(renamed) => self.set_domain(name, renamed, policy),
-        }
-    }
 }
 
 impl Records for Plain {
@@ -174,6 +151,11 @@ impl Records for Plain {
         Ok(self.content.subordinate(domain)?)
     }
 
+    fn domains_naming(&mut self, host: &Text) -> Result<Seq<Text>, BookFault> {
+        self.settle()?;
+        Ok(self.content.domains_naming(host)?)
+    }
+
     fn is_at_holding_limit(&mut self, registrar: RegistrarNo) -> Result<bool, BookFault> {
         self.settle()?;
         Ok(self.content.is_at_holding_limit(registrar))
@@ -269,8 +251,22 @@ impl Records for Plain {
         self.set(Edit::Host(name, None))
     }
 
-    fn rename_host(&mut self, from: &Text, to: &Text, policy: &Policy) -> Result<(), BookFault> {
-        rename_each(self, from, to, policy)
+    fn rename_host(
+        &mut self,
+        domain: &Text,
+        from: &Text,
+        to: &Text,
+        policy: &Policy,
+    ) -> Result<(), BookFault> {
+        let name = domain.clone()?;
+        match self.content.host_renamed_at(domain, from, to)? {
+            None => Ok(()),
+            Some(renamed) => self.set_domain(name, renamed, policy),
+        }
+    }
+
+    fn move_host(&mut self, _from: &Text, _host: &Host) -> Result<bool, BookFault> {
+        Ok(false)
     }
 
     fn begin(&mut self) -> Result<(), BookFault> {

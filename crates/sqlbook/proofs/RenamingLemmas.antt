@@ -1,4 +1,4 @@
--- What it is to a book that two hosts' rows change names.
+-- What it is to a book that a host's row gets another name.
 use Rattle.std.proofs.Common.{◌≡◌, inl, inr, ℕ, ℤ, pos, ◌+◌, Bool, true, false, cond, ◌&&◌, length, List, [], ◌∷◌, map, filter, Option, Some, None, option_map, refl, sym, ap, subst, ◌∙◌}
 use Rattle.std.specs.Cmp.Lexicographic.{nat_list_cmp_total, slice_cmp}
 use Rattle.std.specs.FinMap.{FinMap, entries, get, get-insert, get-remove, same_map, values}
@@ -22,7 +22,7 @@ use Rattle.policy.specs.declared.schedule.Schedule.{Schedule}
 use Rattle.rules.specs.Changes.{renamed, with_host_renamed}
 use Rattle.store.specs.Book.{Stored}
 use Rattle.store.specs.Ledgers as store
-use Rattle.store.specs.Tables.{host_put, with_domains}
+use Rattle.store.specs.Tables.{host_moved, host_put, with_domains}
 use Rattle.sqltables.specs.Account as account_table
 use Rattle.sqltables.specs.Content.{Content}
 use Rattle.sqltables.specs.Domain as table
@@ -32,14 +32,13 @@ use Rattle.sqldomains.specs.Domains.{domain_of, domains_of}
 use Rattle.sqldomains.proofs.RenamedLemmas.{domains-after, reading-after}
 use Rattle.sqlsums.specs.Dues.{dues_are_right, is_due_right}
 use Rattle.sqlsums.specs.Held.{held_of, helds_are_right}
-use Rattle.sqlobjects.specs.inner.Changes.{IsHostPut, IsRowRenamed, put}
+use Rattle.sqlobjects.specs.inner.Changes.{IsRowRenamed}
 use Rattle.sqlobjects.specs.Objects.{hosts_of}
 use Rattle.sqlobjects.proofs.PutLemmas.{bytes_is}
 use Rattle.sqlterms.specs.Clock.{clock_of}
 use Rattle.sqlterms.specs.Terms.{terms_of}
 use Rattle.sqlbook.specs.Meaning.{are_right, stored_of}
-use Rattle.sqlbook.specs.inner.Renaming.{AreHostsExchanged, AreNamesExchanged, IsHostThere, all_renamed}
-use Rattle.sqlbook.proofs.ObjectLemmas.{dues-alike, host-changed, host-right, same-put}
+use Rattle.sqlbook.proofs.ObjectLemmas.{dues-alike}
 use Rattle.sqlbook.proofs.PlacedLemmas.{IsInPlaces, none-placed, one-placed, renamed-placed}
 
 abbrev Hosts : Type 0
@@ -110,39 +109,23 @@ module _ (from : List ℕ) (h : Host) (xs ys : Content) (it : IsRowRenamed from 
     terms = terms_of (record ys { metas = it.metas i; days = it.days i; accounts = it.accounts i });
   }
 
--- ---- the hosts stand under their names as before
+-- ---- the host leaves its old name before or after it gets the new one
 
-module _ (m : Hosts) (from to : List ℕ) (x y : Host) (first : get m from ≡ Some x) (second : get m to ≡ Some y) where
-  abbrev again : Hosts
-  again = store.put (store.put (store.put (store.put m to None) from None) to (Some y)) from (Some x)
-
-  at-each : (q : List ℕ) (b c : Bool) → bytes_eq q from ≡ b → bytes_eq q to ≡ c → cond b (Some x) (cond c (Some y) (cond b None (cond c None (get m q)))) ≡ get m q
-  at-each q true c e f = sym first ∙ ap (get m) (sym (bytes_is q from e))
-  at-each q false true e f = sym second ∙ ap (get m) (sym (bytes_is q to f))
+module _ (m : Hosts) (from to : List ℕ) (x : Host) (apart : from ≡ to → ⊥) where
+  at-each : (q : List ℕ) (b c : Bool) → bytes_eq q from ≡ b → bytes_eq q to ≡ c → cond c (Some x) (cond b None (get m q)) ≡ cond b None (cond c (Some x) (get m q))
+  at-each q true true e f = absurd (apart (sym (bytes_is q from e) ∙ bytes_is q to f))
+  at-each q true false e f = refl
+  at-each q false true e f = refl
   at-each q false false e f = refl
 
-  restored : again ≡ m
-  restored = same_map nat_list_cmp_total names_apart _ _ (λ q.
-      get-insert nat_list_cmp_total (store.put (store.put (store.put m to None) from None) to (Some y)) from x q
-      ∙ ap (λ o. cond (bytes_eq q from) (Some x) o)
-      (get-insert nat_list_cmp_total (store.put (store.put m to None) from None) to y q
-      ∙ ap (λ o. cond (bytes_eq q to) (Some y) o)
-      (get-remove nat_list_cmp_total (store.put m to None) from q ∙ ap (λ o. cond (bytes_eq q from) None o) (get-remove nat_list_cmp_total m to q)))
-      ∙ at-each q (bytes_eq q from) (bytes_eq q to) refl refl)
+  swapped : store.put (store.put m from None) to (Some x) ≡ store.put (store.put m to (Some x)) from None
+  swapped = same_map nat_list_cmp_total names_apart _ _ (λ q.
+      get-insert nat_list_cmp_total (store.put m from None) to x q
+      ∙ ap (λ o. cond (bytes_eq q to) (Some x) o) (get-remove nat_list_cmp_total m from q)
+      ∙ at-each q (bytes_eq q from) (bytes_eq q to) refl refl
+      ∙ sym (get-remove nat_list_cmp_total (store.put m to (Some x)) from q ∙ ap (λ o. cond (bytes_eq q from) None o) (get-insert nat_list_cmp_total m to x q)))
 
--- ---- the second's row goes, the first's is the second's, and the first gets a new one
-
-pub exchanged : (from to : List ℕ) (x y : Host) (a b c d : Content) → IsHostPut to None a b → IsRowRenamed from y b c → IsHostPut x.name (Some x) c d → AreHostsExchanged from to x y a d
-exchanged from to x y a b c d dropped taken back first second = record {
-  right = host-right x.name (Some x) c d back ∙ row-right from y b c taken ∙ host-right to None a b dropped;
-  stored =
-      host-changed x.name (Some x) c d back
-      ∙ ap (host_put x.name (Some x)) (row-changed from y b c taken ∙ ap (λ (s : Stored). with_domains (map_values (λ name. with_host_renamed from y.name) s.registry.domains) (host_put y.name (Some y) (host_put from None s))) (host-changed to None a b dropped))
-      ∙ (λ i. record (stored_of a) {
-        registry = record ((stored_of a).registry) {
-          hosts = store.put (store.put (store.put (store.put (hosts_of a) to None) from None) (second.named i) (Some y)) (first.named i) (Some x);
-          domains = map_values (λ name. with_host_renamed from (second.named i)) (domains_of a);
-        };
-      })
-      ∙ (λ i. record (all_renamed from to (stored_of a)) { registry = record ((all_renamed from to (stored_of a)).registry) { hosts = restored (hosts_of a) from to x y first.there second.there i } });
-}
+pub row-moved : (from : List ℕ) (h : Host) (xs ys : Content) → IsRowRenamed from h xs ys → stored_of ys ≡ host_moved from h (stored_of xs)
+row-moved from h xs ys it =
+    row-changed from h xs ys it
+    ∙ (λ i. record (host_moved from h (stored_of xs)) { registry = record ((host_moved from h (stored_of xs)).registry) { hosts = swapped (hosts_of xs) from h.name h it.apart i } })

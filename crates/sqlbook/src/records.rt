@@ -1,9 +1,7 @@
 //! The records of a registry in the rows of a database.
 ghost use Rattle.std.specs.Prelude.{◌≡◌, true};
-ghost use Rattle.transactions.specs.States.{Closes, Finds, IsIdle, Makes};
-ghost use Rattle.sqlbook.specs.Meaning.{are_right, stored_of};
-ghost use Rattle.sqlbook.specs.inner.Renaming.{all_renamed, can_exchange};
-ghost use Rattle.sqlbook.specs.AsBook.{as_book};
+ghost use Rattle.transactions.specs.States.{Closes, IsIdle};
+ghost use Rattle.sqlbook.specs.Meaning.{are_right};
 ghost use Rattle.sqlbook.specs.BetweenCalls.{UndoneIfFault, IsBetweenCalls};
 
 use crate::provenance::Provenance;
@@ -23,7 +21,7 @@ use policy::{Policy, Terms};
 use sqlite::Alter;
 use sqltables::RowStore;
 use std::alloc::Global;
-use store::{Naming, Records, rename_each};
+use store::Records;
 use transactions::{BookFault, Ready};
 
 /// The records of a registry in the tables of a database. After a fault no transaction is open:
@@ -74,58 +72,10 @@ fn rollback_on_fault<S: Alter, O: Provenance<S>, T>(
     said
 }
 
-impl<S: Alter, O: Provenance<S>> SqlRecords<S, O> {
-    /// Whether the rows of two hosts can change names.
-    fn can_exchange(&mut self, from: &Text, to: &Text) -> Result<bool, BookFault>
-        ensures { Finds result (can_exchange from.now to.now
-            (as_book stored_of are_right self.old.store).content.registry)
-            (as_book stored_of are_right self.old.store) (as_book stored_of are_right self.new.store) }
-    {
-        let said = renaming::can_exchange(&mut self.store, self.alloc, from, to);
-        rollback_on_fault::<S, O, _>(&mut self.store, said)
-    }
-
-    /// Every domain that names the host of the one name names that of the other in its place: the rows
-    /// of the two change names.
-    fn exchange_hosts(&mut self, from: &Text, to: &Text) -> Result<(), BookFault>
-        requires { self.old.store.is_open ≡ true }
-        ensures { Makes result (all_renamed from.now to.now
-            (as_book stored_of are_right self.old.store).content)
-            (as_book stored_of are_right self.old.store) (as_book stored_of are_right self.new.store) }
-    {
-        let said = renaming::exchange_hosts(&mut self.store, self.alloc, from, to);
-        rollback_on_fault::<S, O, _>(&mut self.store, said)
-    }
-}
-
-impl<S: Alter, O: Provenance<S>> Naming for SqlRecords<S, O> {
-    ghost kept = { λ r. as_book stored_of are_right r.store };
-
-    fn domains_naming(&mut self, host: &Text) -> Result<Seq<Text>, BookFault> {
-        let said = sqldomains::domains_naming(&mut self.store, self.alloc, host);
-        rollback_on_fault::<S, O, _>(&mut self.store, said)
-    }
-
-    fn rename_host_in(
-        &mut self,
-        domain: &Text,
-        from: &Text,
-        to: &Text,
-        policy: &Policy,
-    ) -> Result<(), BookFault> {
-        let said = changed_domains::rename_host(
-            &mut self.store,
-            self.alloc,
-            domain,
-            from,
-            to,
-            policy,
-        );
-        rollback_on_fault::<S, O, _>(&mut self.store, said)
-    }
-}
-
 impl<S: Alter, O: Provenance<S>> Records for SqlRecords<S, O> {
+    ghost use Rattle.sqlbook.specs.Meaning.{are_right, stored_of};
+    ghost use Rattle.sqlbook.specs.AsBook.{as_book};
+
     ghost kept = { λ r. as_book stored_of are_right r.store };
 
     ghost idle = { λ r e i. stored_of (r.steady.idle e i) };
@@ -250,6 +200,11 @@ impl<S: Alter, O: Provenance<S>> Records for SqlRecords<S, O> {
         rollback_on_fault::<S, O, _>(&mut self.store, said)
     }
 
+    fn domains_naming(&mut self, host: &Text) -> Result<Seq<Text>, BookFault> {
+        let said = sqldomains::domains_naming(&mut self.store, self.alloc, host);
+        rollback_on_fault::<S, O, _>(&mut self.store, said)
+    }
+
     fn is_at_holding_limit(&mut self, registrar: RegistrarNo) -> Result<bool, BookFault> {
         let said = sqlsums::is_at_holding_limit(&mut self.store, registrar, HOLDING_LIMIT);
         rollback_on_fault::<S, O, _>(&mut self.store, said)
@@ -345,11 +300,27 @@ impl<S: Alter, O: Provenance<S>> Records for SqlRecords<S, O> {
         rollback_on_fault::<S, O, _>(&mut self.store, said)
     }
 
-    fn rename_host(&mut self, from: &Text, to: &Text, policy: &Policy) -> Result<(), BookFault> {
-        if self.can_exchange(from, to)? {
-            return self.exchange_hosts(from, to);
-        }
-        rename_each(self, from, to, policy)
+    fn rename_host(
+        &mut self,
+        domain: &Text,
+        from: &Text,
+        to: &Text,
+        policy: &Policy,
+    ) -> Result<(), BookFault> {
+        let said = changed_domains::rename_host(
+            &mut self.store,
+            self.alloc,
+            domain,
+            from,
+            to,
+            policy,
+        );
+        rollback_on_fault::<S, O, _>(&mut self.store, said)
+    }
+
+    fn move_host(&mut self, from: &Text, host: &Host) -> Result<bool, BookFault> {
+        let said = renaming::move_host(&mut self.store, self.alloc, from, host);
+        rollback_on_fault::<S, O, _>(&mut self.store, said)
     }
 
     fn begin(&mut self) -> Result<(), BookFault> {

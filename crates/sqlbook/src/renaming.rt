@@ -1,12 +1,12 @@
-//! A host's new name, over rows. What a domain names is a number of a row, so the rows of the two hosts
-//! change names, and no row of a domain is written, however many name the host.
-ghost use Rattle.std.specs.Prelude.{◌≡◌, true, Some, IfOk};
-ghost use Rattle.std.specs.FinMap.{get};
-ghost use Rattle.sqlrows.specs.Meanings.{Changes};
-ghost use Rattle.transactions.specs.States.{Finds, FindsSome};
+//! A host's new name, over rows. What a domain names is a number of a row, so the host's row gets the name,
+//! and no row of a domain is written, however many name the host.
+ghost use Rattle.std.specs.Prelude.{◌≡◌, ◌&&◌, true, not};
+ghost use Rattle.store.specs.Lookups.{has_host};
+ghost use Rattle.store.specs.Tables.{host_moved};
+ghost use Rattle.transactions.specs.States.{Finds};
 ghost use Rattle.sqlbook.specs.Meaning.{are_right, stored_of};
-ghost use Rattle.sqlbook.specs.inner.Renaming as spec;
 ghost use Rattle.sqlbook.specs.AsBook.{MakesAs};
+ghost use Rattle.sqlbook.specs.inner.Renaming.{MayMakeAs};
 
 use basis::text::Text;
 use objects::Host;
@@ -15,87 +15,52 @@ use sqltables::RowStore;
 use std::alloc::Global;
 use transactions::BookFault;
 
-/// Whether the rows of two hosts can change names: both are there, and no domain names the second.
-pub(crate) fn can_exchange<S: Alter>(
+/// A host goes to its new name, and each domain that named it names it by that: whether its row got the
+/// name. It doesn't where there is no such row, or one of the new name.
+pub(crate) fn move_host<S: Alter>(
+    store: &mut RowStore<S>,
+    alloc: Global,
+    from: &Text,
+    host: &Host,
+) -> Result<bool, BookFault>
+    requires { store.old.is_open ≡ true }
+    ensures { MayMakeAs result stored_of are_right (host_moved from.now host.now
+        (stored_of store.old.content)) store.old store.new }
+{
+    if !is_movable(store, alloc, from, &host.name)? {
+        return Ok(false);
+    }
+    move_row(store, alloc, from, host)?;
+    Ok(true)
+}
+
+/// Whether a host stands under the one name and none under the other.
+fn is_movable<S: Alter>(
     store: &mut RowStore<S>,
     alloc: Global,
     from: &Text,
     to: &Text,
 ) -> Result<bool, BookFault>
-    ensures { Finds result (spec.can_exchange from.now to.now (stored_of store.old.content).registry)
-        store.old store.new }
+    ensures { Finds result (has_host (stored_of store.old.content).registry from.now
+        && not (has_host (stored_of store.old.content).registry to.now)) store.old store.new }
 {
-    if *from == *to || !sqlobjects::has_host(store, alloc, from)? {
+    if !sqlobjects::has_host(store, alloc, from)? {
         return Ok(false);
     }
-    if !sqlobjects::has_host(store, alloc, to)? {
-        return Ok(false);
-    }
-    let is_linked = sqldomains::is_linked_host(store, alloc, to)?;
-    Ok(!is_linked)
+    let is_taken = sqlobjects::has_host(store, alloc, to)?;
+    Ok(!is_taken)
 }
 
-/// Every domain that names the host of the one name names that of the other in its place. Refused are
-/// names under which no hosts stand, and a second host that a domain names.
-pub(crate) fn exchange_hosts<S: Alter>(
+/// The row of the host of this name becomes that of this host, and keeps its number.
+fn move_row<S: Alter>(
     store: &mut RowStore<S>,
     alloc: Global,
     from: &Text,
-    to: &Text,
+    host: &Host,
 ) -> Result<(), BookFault>
     requires { store.old.is_open ≡ true }
-    ensures { MakesAs result stored_of are_right (spec.all_renamed from.now to.now
+    ensures { MakesAs result stored_of are_right (host_moved from.now host.now
         (stored_of store.old.content)) store.old store.new }
 {
-    let second = host_there(store, alloc, to)?;
-    let first = host_there(store, alloc, from)?;
-    let exchanged = exchange(store, alloc, from, to, first, &second);
-    drop(second);
-    exchanged
-}
-
-/// The host of this name, which has to be there.
-fn host_there<S: Alter>(
-    store: &mut RowStore<S>,
-    alloc: Global,
-    name: &Text,
-) -> Result<Host, BookFault>
-    ensures { FindsSome result (λ host. spec.IsHostThere store.old.content name.now host) store.old
-        store.new }
-{
-    let Some(host) = sqlobjects::host(store, alloc, name)? else {
-        return Err(BookFault::Store);
-    };
-    check_name(&host, name)?;
-    Ok(host)
-}
-
-fn check_name(host: &Host, name: &Text) -> Result<(), BookFault>
-    ensures { IfOk result (λ done. host.now.name ≡ name.now) }
-{
-    if host.name != *name {
-        return Err(BookFault::Store);
-    }
-    Ok(())
-}
-
-/// The same of these hosts: the second's row goes, the first's is the second's, under its number, and the
-/// first gets a new one.
-fn exchange<S: Alter>(
-    store: &mut RowStore<S>,
-    alloc: Global,
-    from: &Text,
-    to: &Text,
-    first: Host,
-    second: &Host,
-) -> Result<(), BookFault>
-    requires { store.old.is_open ≡ true }
-    ensures { Changes result (spec.AreHostsExchanged from.now to.now first second.now) store.old
-        store.new }
-{
-    let name = to.clone()?;
-    sqlobjects::drop_host(store, alloc, name)?;
-    sqlobjects::rename_row(store, alloc, from, second)?;
-    sqlobjects::put_host(store, alloc, first)?;
-    Ok(())
+    sqlobjects::rename_row(store, alloc, from, host)
 }

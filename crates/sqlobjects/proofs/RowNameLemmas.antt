@@ -217,6 +217,7 @@ module _ (from : List ℕ) (h : Host) (row : host_table.Host) (xs m ys : Content
     messages = ap (λ (x : Content). x.messages) kept-now.rest;
     transfers = ap (λ (x : Content). x.transfers) kept-now.rest;
     names = names-now;
+    apart = λ e. free found was.0 (was.1 ∙ e);
     free = free-before;
     sponsors = sponsors-now;
     whole = (whole, after);

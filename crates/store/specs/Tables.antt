@@ -9,6 +9,7 @@ use Rattle.accounts.specs.declared.line.Line.{Line}
 use Rattle.accounts.specs.declared.line.LineSwap.{LineSwap}
 use Rattle.accounts.specs.declared.message.Message.{Message}
 use Rattle.accounts.specs.Messages.{message_id}
+use Rattle.basis.specs.Maps.{map_values}
 use Rattle.objects.specs.declared.contact.Contact.{Contact}
 use Rattle.objects.specs.declared.domain.Domain.{Domain}
 use Rattle.objects.specs.declared.host.Host.{Host}
@@ -102,3 +103,8 @@ host_renamed old new name s = with_domains (amended (with_host_renamed old new) 
 -- domains name a host by its new name, one after another
 abbrev pub host_renamed_in : List ℕ → List ℕ → List (List ℕ) → Stored → Stored
 host_renamed_in old new names s = fold (λ s name. host_renamed old new name s) s names
+
+-- a host goes to its new name, and each domain that named it names it by that: what `renaming` of the rules makes
+abbrev pub host_moved : List ℕ → Host → Stored → Stored
+host_moved from host s =
+    host_put from None (with_domains (map_values (λ name. with_host_renamed from host.name) s.registry.domains) (host_put host.name (Some host) s))

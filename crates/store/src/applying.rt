@@ -1,8 +1,10 @@
 //! How changes are made in records.
 ghost use Rattle.std.specs.Prelude.{◌≡◌, ◌∷◌, [], true, max, Some};
+ghost use Rattle.rules.specs.declared.change.Change.TheVariants as change;
 ghost use Rattle.store.specs.Book.{with_changes};
+ghost use Rattle.store.specs.Records.{MayMake};
 ghost use Rattle.transactions.specs.States.{Makes};
-ghost use Rattle.store.specs.Tables.{clock_set, contact_left, contact_put, domain_left, domain_put};
+ghost use Rattle.store.specs.Tables.{clock_set, contact_left, contact_put, domain_left, domain_put, host_renamed_in};
 
 use crate::posting::post;
 use crate::records::Records;
@@ -14,8 +16,44 @@ use policy::Policy;
 use rules::Change;
 use transactions::BookFault;
 
-/// Makes changes, one after another.
+/// Makes changes, one after another, but for a host's new name, which records may make at once.
 pub(crate) fn apply<R: Records>(
+    records: &mut R,
+    changes: Seq<Change>,
+    policy: &Policy,
+) -> Result<(), BookFault>
+    requires { (R.kept records.old).is_open ≡ true }
+    ensures { Makes result (with_changes policy.now changes (R.kept records.old).content)
+        (R.kept records.old) (R.kept records.new) }
+{
+    if apply_at_once(records, changes.as_slice(), policy)? {
+        return Ok(());
+    }
+    apply_each(records, changes, policy)
+}
+
+/// A host's new name, which is three changes, where the records make it at once: whether they did.
+fn apply_at_once<R: Records>(
+    records: &mut R,
+    changes: &[Change],
+    policy: &Policy,
+) -> Result<bool, BookFault>
+    requires { (R.kept records.old).is_open ≡ true }
+    ensures { MayMake result (with_changes policy.now changes.now (R.kept records.old).content)
+        (R.kept records.old) (R.kept records.new) }
+{
+    match changes {
+        [
+            Change::PutHost(host),
+            Change::RenameHost { from, to },
+            Change::DropHost(gone),
+        ] if host.name == *to && from == gone => records.move_host(from, host),
+        _ => Ok(false),
+    }
+}
+
+/// Makes changes, one after another.
+fn apply_each<R: Records>(
     records: &mut R,
     changes: Seq<Change>,
     policy: &Policy,
@@ -46,7 +84,7 @@ fn make<R: Records>(records: &mut R, change: Change, policy: &Policy) -> Result<
         Change::DropDomain(name) => records.drop_domain(name, policy),
         Change::PutHost(host) => records.put_host(host),
         Change::DropHost(name) => records.drop_host(name),
-        Change::RenameHost { from, to } => records.rename_host(&from, &to, policy),
+        Change::RenameHost { from, to } => rename(records, &from, &to, policy),
         Change::LapseContact(name, left) => leave_contact(records, name, left),
         Change::LapseDomain(name, left) => leave_domain(records, name, left, policy),
     }
@@ -113,4 +151,37 @@ fn leave_domain<R: Records>(
         None => records.drop_domain(name, policy),
         Some(domain) => records.put_domain(name, domain, policy),
     }
+}
+
+/// Every domain that names the host of the one name names that of the other in its place.
+fn rename<R: Records>(
+    records: &mut R,
+    from: &Text,
+    to: &Text,
+    policy: &Policy,
+) -> Result<(), BookFault>
+    requires { (R.kept records.old).is_open ≡ true }
+    ensures { Makes result (with_changes policy.now (change.RenameHost from.now to.now ∷ [])
+        (R.kept records.old).content) (R.kept records.old) (R.kept records.new) }
+{
+    let names = records.domains_naming(from)?;
+    rename_in(records, from, to, names.as_slice(), policy)
+}
+
+/// Each of these domains names the host of the one name by the other.
+fn rename_in<R: Records>(
+    records: &mut R,
+    from: &Text,
+    to: &Text,
+    names: &[Text],
+    policy: &Policy,
+) -> Result<(), BookFault>
+    requires { (R.kept records.old).is_open ≡ true }
+    ensures { Makes result (host_renamed_in from.now to.now names.now (R.kept records.old).content)
+        (R.kept records.old) (R.kept records.new) }
+{
+    for name in names {
+        records.rename_host(name, from, to, policy)?;
+    }
+    Ok(())
 }

@@ -8,7 +8,6 @@ mod concerning;
 mod faces;
 mod finding;
 mod kept;
-mod naming;
 mod once;
 mod posting;
 mod records;
@@ -16,7 +15,6 @@ mod renamed;
 
 pub use book::Book;
 pub use kept::Kept;
-pub use naming::{Naming, rename_each};
 pub use once::OnceBook;
 pub use records::Records;
 pub use renamed::with_host_renamed;

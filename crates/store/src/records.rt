@@ -1,5 +1,5 @@
 //! What a book keeps, by key.
-ghost use Rattle.std.specs.Prelude.{◌≡◌, ◌∷◌, [], Bool, true, false, nat_le, length, slice_get, option_map, Some, None};
+ghost use Rattle.std.specs.Prelude.{◌≡◌, Bool, true, false, nat_le, length, slice_get, option_map, Some, None};
 ghost use Rattle.std.specs.FinMap as finmap;
 ghost use Rattle.std.specs.List.{filter};
 ghost use Rattle.accounts.specs.Lines as lines;
@@ -7,8 +7,7 @@ ghost use Rattle.accounts.specs.Lines.{in_order, swapped_all};
 ghost use Rattle.basis.specs.Bag.{remade};
 ghost use Rattle.facts.specs.Facts as facts;
 ghost use Rattle.model.specs.Registry.{account_of};
-ghost use Rattle.rules.specs.declared.change.Change.TheVariants as change;
-ghost use Rattle.store.specs.Book.{with_changes, with_terms};
+ghost use Rattle.store.specs.Book.{with_terms};
 ghost use Rattle.concerns.specs.Concerns.{concerned};
 ghost use Rattle.model.specs.DueBy.{due_by};
 ghost use Rattle.concerns.specs.DueFor.{due_for, is_picked};
@@ -35,7 +34,7 @@ use transactions::{BookFault, Ready};
 /// content but where `back` leads. Each question is answered by a key or an index, and each change is
 /// one row put or dropped, but where its text says that all records are gone through.
 pub trait Records {
-    ghost use Rattle.store.specs.Records.{RecordsState};
+    ghost use Rattle.store.specs.Records.{MayMake, RecordsState};
     ghost use Rattle.transactions.specs.States.{IsIdle};
 
     /// How they stand.
@@ -137,6 +136,10 @@ pub trait Records {
     fn hosts_below(&mut self, domain: &Text) -> Result<Seq<Text>, BookFault>
         ensures { Finds result (facts.subordinate (kept self.old).content.registry domain.now) (kept self.old) (kept self.new) };
 
+    /// The domains that name a host, in the order of their names.
+    fn domains_naming(&mut self, host: &Text) -> Result<Seq<Text>, BookFault>
+        ensures { Finds result (tables.domains_naming host.now (kept self.old).content.registry) (kept self.old) (kept self.new) };
+
     /// Whether the registrar holds as many domains as it may.
     fn is_at_holding_limit(&mut self, registrar: RegistrarNo) -> Result<bool, BookFault>
         ensures { Finds result (nat_le HOLDING_LIMIT (facts.held registrar (kept self.old).content.registry)) (kept self.old) (kept self.new) };
@@ -225,10 +228,23 @@ pub trait Records {
         requires { (kept self.old).is_open ≡ true }
         ensures { Makes result (tables.host_put name None (kept self.old).content) (kept self.old) (kept self.new) };
 
-    /// Every domain that names the host of the one name names that of the other in its place.
-    fn rename_host(&mut self, from: &Text, to: &Text, policy: &Policy) -> Result<(), BookFault>
+    /// The domain that stands under a name, if there is one, names the host of the one name by the
+    /// other.
+    fn rename_host(
+        &mut self,
+        domain: &Text,
+        from: &Text,
+        to: &Text,
+        policy: &Policy,
+    ) -> Result<(), BookFault>
         requires { (kept self.old).is_open ≡ true }
-        ensures { Makes result (with_changes policy.now (change.RenameHost from.now to.now ∷ []) (kept self.old).content) (kept self.old) (kept self.new) };
+        ensures { Makes result (tables.host_renamed from.now to.now domain.now (kept self.old).content) (kept self.old) (kept self.new) };
+
+    /// A host goes to its new name, and each domain that named it names it by that, where the records can
+    /// make it at once: whether they did. What they don't is made by the calls above, one after another.
+    fn move_host(&mut self, from: &Text, host: &Host) -> Result<bool, BookFault>
+        requires { (kept self.old).is_open ≡ true }
+        ensures { MayMake result (tables.host_moved from.now host.now (kept self.old).content) (kept self.old) (kept self.new) };
 
     // ---- transactions
 

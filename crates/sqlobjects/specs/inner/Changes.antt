@@ -85,6 +85,7 @@ pub record IsRowRenamed (from : List ℕ) (h : Host) (old new : Content) : Type 
   pub messages : new.messages ≡ old.messages
   pub transfers : new.transfers ≡ old.transfers
   pub names : (id : ℤ) → host_name new id ≡ option_map (new_name from h.name) (host_name old id)
+  pub apart : from ≡ h.name → ⊥
   pub free : (id : ℤ) → host_name old id ≡ Some h.name → ⊥
   pub sponsors : sponsors_are_right new ≡ sponsors_are_right old
   pub whole : IsWhole old × IsWhole new

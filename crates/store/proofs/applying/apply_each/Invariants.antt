@@ -1,7 +1,7 @@
 use Rattle.std.proofs.Common.{◌≡◌, true}
 use Rattle.store.specs.Book.{with_changes}
 use Rattle.transactions.specs.States.{Answers, Stays}
-use Rattle.store.proofs.applying.apply.Given as goal
+use Rattle.store.proofs.applying.apply_each.Given as goal
 
 -- the changes that are left lead to where all of them do
 abbrev pub invariant-loop-change : goal.invariant-loop-change
