@@ -17,7 +17,7 @@ use Rattle.sqlcolumns.specs.Codes.{role_in}
 use Rattle.sqlcolumns.specs.Domains.{columns_of, deletion_in, domain_in, domain_with}
 use Rattle.sqlcolumns.specs.Numbers.{years_in}
 use Rattle.sqlcolumns.specs.Registrations.{registration_in}
-use Rattle.sqlcolumns.specs.inner.Steps.{◌>>=◌}
+use Rattle.sqlcolumns.specs.Steps.{◌>>=◌}
 use Rattle.sqlcolumns.specs.Texts.{statuses_in}
 use Rattle.sqlcolumns.proofs.ReadLemmas.{same_some, step}
 use Rattle.sqltables.specs.Content.{Content}
