@@ -20,7 +20,7 @@ use Rattle.rules.proofs.LineEntryLemmas.{AsksFor, test-elsewhere}
 use Rattle.rules.proofs.ViewLemmas.{KeepsGraces, Meets, account_of-with_account, lines-kept, own, same_number}
 use Rattle.rules.proofs.PutLemmas.{eq-self, kept-at, put-by}
 
--- ---- graces that a posting leaves
+-- ---- graces that a posting_change leaves
 
 none-of : (o : Option ℕ) → not (is_some o) ≡ true → o ≡ None
 none-of None e = refl
