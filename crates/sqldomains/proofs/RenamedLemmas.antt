@@ -12,7 +12,6 @@ use Rattle.objects.specs.declared.status.Status.{Status}
 use Rattle.objects.specs.declared.transfer.Transfer.{Transfer}
 use Rattle.sqlcolumns.specs.declared.code.Role.{Role}
 use Rattle.sqlcolumns.specs.declared.code.Role.TheVariants as roles
-use Rattle.sqlcolumns.specs.declared.registration.Registration.{Registration}
 use Rattle.sqlcolumns.specs.Codes.{role_in}
 use Rattle.sqlcolumns.specs.Domains.{columns_of, deletion_in, domain_in, domain_with}
 use Rattle.sqlcolumns.specs.Numbers.{years_in}
@@ -113,11 +112,12 @@ module _ (from : List ℕ) (h : Host) (xs ys : Content) (it : IsRowRenamed from 
 
   rows-after : (rows : List Link) (l : Links) → Before l.hosts → with_links ys (links_after l) rows ≡ option_map links_after (with_links xs l rows)
   rows-after [] l before = refl
-  rows-after (row ∷ rows) l before = ap (λ o. o >>= (λ n. with_links ys n rows)) (link-after l row before) ∙ go (with_link xs l row) refl
+  rows-after (row ∷ rows) l before = ap (λ o. o >>= (λ n. with_links ys n rows)) (link-after l row before) ∙ go (with_link xs l row) refl (rows-after rows)
     where
-      go : (o : Option Links) → with_link xs l row ≡ o → (option_map links_after o >>= (λ n. with_links ys n rows)) ≡ option_map links_after (o >>= (λ n. with_links xs n rows))
-      go None e = refl
-      go (Some m) e = rows-after rows m (link-before l m row before e)
+      go : (o : Option Links) → with_link xs l row ≡ o → ((m : Links) → Before m.hosts → with_links ys (links_after m) rows ≡ option_map links_after (with_links xs m rows))
+          → (option_map links_after o >>= (λ n. with_links ys n rows)) ≡ option_map links_after (o >>= (λ n. with_links xs n rows))
+      go None e later = refl
+      go (Some m) e later = later m (link-before l m row before e)
 
   links-after : (row : table.Domain) → links_of ys row ≡ option_map links_after (links_of xs row)
   links-after row =
@@ -132,16 +132,19 @@ module _ (from : List ℕ) (h : Host) (xs ys : Content) (it : IsRowRenamed from 
   -- ---- domains
 
   columns-after : (row : table.Domain) (l : Links) (transfer : Option Transfer) → domain_in row (links_after l) transfer ≡ option_map domain_after (domain_in row l transfer)
-  columns-after row l transfer = go (registration_in kinds.Domain (columns_of row)) (years_in row.years) (statuses_in row.statuses) (deletion_in row.deleted row.restore_requested)
+  columns-after row l transfer =
+      go (λ r y s x links. domain_with row r y s x links transfer) (λ r y s x. refl)
+      (registration_in kinds.Domain (columns_of row)) (years_in row.years) (statuses_in row.statuses) (deletion_in row.deleted row.restore_requested)
     where
-      go : (a : Option Registration) (b : Option ℕ) (c : Option (List Status)) (d : Option (Option Deletion))
-          → (a >>= (λ r. b >>= (λ y. c >>= (λ s. d >>= (λ x. Some (domain_with row r y s x (links_after l) transfer))))))
-          ≡ option_map domain_after (a >>= (λ r. b >>= (λ y. c >>= (λ s. d >>= (λ x. Some (domain_with row r y s x l transfer))))))
-      go None b c d = refl
-      go (Some r) None c d = refl
-      go (Some r) (Some y) None d = refl
-      go (Some r) (Some y) (Some s) None = refl
-      go (Some r) (Some y) (Some s) (Some x) = refl
+      go : {R : Type 0} (made : R → ℕ → List Status → Option Deletion → Links → Domain) → ((r : R) (y : ℕ) (s : List Status) (x : Option Deletion) → made r y s x (links_after l) ≡ domain_after (made r y s x l))
+          → (a : Option R) (b : Option ℕ) (c : Option (List Status)) (d : Option (Option Deletion))
+          → (a >>= (λ r. b >>= (λ y. c >>= (λ s. d >>= (λ x. Some (made r y s x (links_after l)))))))
+          ≡ option_map domain_after (a >>= (λ r. b >>= (λ y. c >>= (λ s. d >>= (λ x. Some (made r y s x l))))))
+      go made alike None b c d = refl
+      go made alike (Some r) None c d = refl
+      go made alike (Some r) (Some y) None d = refl
+      go made alike (Some r) (Some y) (Some s) None = refl
+      go made alike (Some r) (Some y) (Some s) (Some x) = ap Some (alike r y s x)
 
   pub reading-after : (row : table.Domain) → domain_of ys row ≡ option_map domain_after (domain_of xs row)
   reading-after row =
