@@ -1,54 +1,37 @@
 -- A message is read from its row, and from no other.
-use Rattle.std.proofs.Common.{◌≡◌, ℤ, pos, Bool, true, false, cond, ◌&&◌, Option, Some, None, refl, sym, ap, ◌∙◌}
+use Rattle.std.proofs.Common.{rules, ◌≡◌, ℤ, pos, Bool, true, false, cond, ◌&&◌, Option, Some, None, refl, sym, ap, ◌∙◌}
 use Rattle.std.proofs.lemmas.Bool.{and_parts}
 use Rattle.std.proofs.lemmas.Bool.Decides.{Decides-int_eq}
 use Rattle.std.specs.Ordering.{int_eq}
 use Rattle.calendar.specs.Moment.{IsMoment}
 use Rattle.accounts.specs.declared.message.CommandNotice.{CommandNotice}
-use Rattle.accounts.specs.declared.message.CommandNotice.TheVariants as commands
 use Rattle.accounts.specs.declared.message.LapseNotice.{LapseNotice}
-use Rattle.accounts.specs.declared.message.LapseNotice.TheVariants.{RenewedAutomatically, Purged, TransferApproved}
 use Rattle.accounts.specs.declared.message.Message.{Message}
 use Rattle.accounts.specs.declared.message.Origin.{Origin}
 use Rattle.accounts.specs.declared.message.Origin.TheVariants.{Lapse, Command}
 use Rattle.sqltables.specs.Message as table
 use Rattle.sqlcolumns.specs.declared.origin.OriginColumns.{OriginColumns}
-use Rattle.sqlcolumns.specs.Codes.{subject_column, subject_in, with_code}
+use Rattle.sqlcolumns.specs.Codes.{subject_column, subject_in}
 use Rattle.sqlcolumns.specs.Numbers.{exact_column, exact_in, moment_column, moment_in}
 use Rattle.sqlcolumns.specs.Steps.{◌>>=◌}
 use Rattle.sqlcolumns.specs.Messages.{all_command_notices, all_lapse_notices, command_made, command_notice_column, command_notice_in, lapse_made, lapse_notice_column, lapse_notice_in, message_in, message_made, message_row, origin_columns, origin_in}
-use Rattle.sqlcolumns.proofs.CodeLemmas.{code_written, has_code, subject_back, subject_written}
+use Rattle.sqlcolumns.proofs.CodeLemmas.{code_written, subject_back, subject_written}
 use Rattle.sqlcolumns.proofs.NumberLemmas.{exact_back, exact_written, moment_back, moment_is, moment_written}
 use Rattle.sqlcolumns.proofs.ReadLemmas.{same_some, step}
 
 -- ---- codes
 
 pub lapse_notice_back : (n : LapseNotice) → lapse_notice_in (lapse_notice_column n) ≡ Some n
-lapse_notice_back RenewedAutomatically = refl
-lapse_notice_back Purged = refl
-lapse_notice_back TransferApproved = refl
-
-pub with_lapse_notice_column : (c : ℤ) (n : LapseNotice) → c ≡ lapse_notice_column n → with_code lapse_notice_column all_lapse_notices c ≡ Some n
-with_lapse_notice_column c n e = ap (with_code lapse_notice_column all_lapse_notices) e ∙ lapse_notice_back n
+lapse_notice_back n = search rules
 
 pub lapse_notice_written : (c : ℤ) (n : LapseNotice) → lapse_notice_in c ≡ Some n → lapse_notice_column n ≡ c
 lapse_notice_written c n e = code_written lapse_notice_column all_lapse_notices c n e
 
-pub ruleset lapse_notices_by_code = (has_code, with_lapse_notice_column)
-
 pub command_notice_back : (n : CommandNotice) → command_notice_in (command_notice_column n) ≡ Some n
-command_notice_back commands.TransferRequested = refl
-command_notice_back commands.TransferApproved = refl
-command_notice_back commands.TransferRejected = refl
-command_notice_back commands.TransferCancelled = refl
-
-pub with_command_notice_column : (c : ℤ) (n : CommandNotice) → c ≡ command_notice_column n → with_code command_notice_column all_command_notices c ≡ Some n
-with_command_notice_column c n e = ap (with_code command_notice_column all_command_notices) e ∙ command_notice_back n
+command_notice_back n = search rules
 
 pub command_notice_written : (c : ℤ) (n : CommandNotice) → command_notice_in c ≡ Some n → command_notice_column n ≡ c
 command_notice_written c n e = code_written command_notice_column all_command_notices c n e
-
-pub ruleset command_notices_by_code = (has_code, with_command_notice_column)
 
 -- ---- origins
 

@@ -1,12 +1,11 @@
 -- A transfer is read from its row, and from no other.
-use Rattle.std.proofs.Common.{◌≡◌, ℤ, true, false, cond, Option, Some, None, refl, sym, ap, ◌∙◌}
+use Rattle.std.proofs.Common.{◌≡◌, ℤ, true, cond, Option, Some, None, refl, sym, ap, ◌∙◌}
 use Rattle.std.proofs.lemmas.Bool.{false≢true}
 use Rattle.std.proofs.lemmas.Bool.Decides.{Decides-int_eq}
 use Rattle.objects.specs.declared.transfer.Transfer.{Transfer}
 use Rattle.sqltables.specs.Transfer as table
 use Rattle.sqlcolumns.specs.Codes.{state_in}
 use Rattle.sqlcolumns.specs.Numbers.{moment_in, registrar_in}
-use Rattle.sqlcolumns.specs.Steps.{◌>>=◌}
 use Rattle.sqlcolumns.specs.Transfers.{IsTransfer, due_column, is_same, transfer_in, transfer_made, transfer_row, with_due}
 use Rattle.sqlcolumns.proofs.CodeLemmas.{state_back, state_written}
 use Rattle.sqlcolumns.proofs.NumberLemmas.{moment_back, moment_is, moment_written, registrar_back, registrar_is, registrar_written}

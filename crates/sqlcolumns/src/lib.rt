@@ -22,10 +22,7 @@ mod text;
 mod transfer;
 
 pub use above::above_column;
-pub use code::{
-    Role, kind_column, kind_of_column, role_column, role_of_column, state_column, state_of_column,
-    subject_column, subject_of_column,
-};
+pub use code::{Coded, Role};
 pub use contact::{contact_of_row, contact_row, is_contact};
 pub use domain::{deletion_of_row, domain_of_row, domain_row, is_domain};
 pub use host::{host_of_row, host_row, is_host};
@@ -36,9 +33,6 @@ pub use number::{
     counter_column, counter_of_column, exact_column, exact_of_column, maybe_registrar_column,
     maybe_registrar_of_column, registrar_column, registrar_of_column, years_column,
     years_of_column,
-};
-pub use origin::{
-    command_notice_column, command_notice_of_column, lapse_notice_column, lapse_notice_of_column,
 };
 pub use statuses::{statuses_column, statuses_of_column};
 pub use street::{street_column, street_of_column};

@@ -5,7 +5,7 @@ ghost use Rattle.sqlcolumns.specs.Lines as spec;
 ghost use Rattle.sqlcolumns.specs.inner.Lines as inner_spec;
 ghost use Rattle.sqlcolumns.specs.Numbers as numbers;
 
-use crate::code::{kind_column, kind_of_column};
+use crate::code::Coded;
 use crate::moment::{maybe_moment_column, maybe_moment_of_column, moment_column, moment_of_column};
 use crate::number::{exact_column, exact_of_column, years_column, years_of_column};
 use crate::roid::{roid_columns, roid_of_columns};
@@ -31,7 +31,7 @@ pub fn line_row(id: i64, account: i64, line: &Line, ends: Option<i64>) -> Option
     Some(LineRow {
         id,
         account,
-        kind: kind_column(line.kind),
+        kind: line.kind.column(),
         creator: domain.creator,
         serial: domain.serial,
         recorded: moment_column(line.recorded),
@@ -55,7 +55,7 @@ pub fn line_of_row(row: &LineRow) -> Option<Line>
         → result ≡ Some line }
 {
     line_made(
-        kind_of_column(row.kind),
+        LineKind::of_column(row.kind),
         domain_of_columns(row.creator, row.serial),
         moment_of_column(row.recorded),
         years_of_column(row.years),

@@ -4,7 +4,7 @@ ghost use Rattle.accounts.specs.declared.message.Message.{Message};
 ghost use Rattle.calendar.specs.Moment.{IsMoment};
 ghost use Rattle.sqlcolumns.specs.Messages as spec;
 
-use crate::code::{subject_column, subject_of_column};
+use crate::code::Coded;
 use crate::moment::{moment_column, moment_of_column};
 use crate::origin::{OriginColumns, origin_columns, origin_of_columns};
 use accounts::{Message, Origin, Subject};
@@ -34,7 +34,7 @@ pub fn message_row(
         class: origin.class,
         number: origin.number,
         name,
-        subject: subject_column(message.subject),
+        subject: message.subject.column(),
         notice: origin.notice,
     }))
 }
@@ -54,7 +54,7 @@ pub fn message_of_row(row: MessageRow) -> Option<Message>
     message_made(
         moment_of_column(row.moment),
         origin_of_columns(columns),
-        subject_of_column(row.subject),
+        Subject::of_column(row.subject),
         Text::from_string(row.name),
     )
 }

@@ -1,11 +1,12 @@
 //! Where messages come from, as columns that order them as a queue does.
 ghost use Rattle.std.specs.Prelude.{◌≡◌, Some, IfSome};
+ghost use Rattle.std.proofs.Common.{rules};
 ghost use Rattle.accounts.specs.declared.message.CommandNotice.{CommandNotice};
 ghost use Rattle.accounts.specs.declared.message.LapseNotice.{LapseNotice};
 ghost use Rattle.accounts.specs.declared.message.Origin.{Origin};
-ghost use Rattle.sqlcolumns.specs.Codes.{with_code};
 ghost use Rattle.sqlcolumns.specs.Messages as spec;
 
+use crate::code::Coded;
 use crate::number::{exact_column, exact_of_column};
 use accounts::{CommandNotice, LapseNotice, Origin};
 
@@ -17,80 +18,55 @@ pub(crate) struct OriginColumns {
     pub notice: i64,
 }
 
-const LAPSE_NOTICES: [LapseNotice; 3] = [
-    LapseNotice::RenewedAutomatically,
-    LapseNotice::Purged,
-    LapseNotice::TransferApproved,
-];
+/// In the order of its letters.
+impl Coded for LapseNotice {
+    ghost code = { spec.lapse_notice_column };
 
-const COMMAND_NOTICES: [CommandNotice; 4] = [
-    CommandNotice::TransferRequested,
-    CommandNotice::TransferApproved,
-    CommandNotice::TransferRejected,
-    CommandNotice::TransferCancelled,
-];
+    ghost all = { spec.all_lapse_notices };
 
-/// The code of what time brought, in the order of its letters.
-pub fn lapse_notice_column(notice: LapseNotice) -> i64
-    ensures { result ≡ spec.lapse_notice_column notice }
-{
-    match notice {
-        LapseNotice::RenewedAutomatically => 0,
-        LapseNotice::Purged => 1,
-        LapseNotice::TransferApproved => 2,
+    ghost back = { Prim.search rules };
+
+    fn all() -> &'static [LapseNotice] {
+        &[
+            LapseNotice::RenewedAutomatically,
+            LapseNotice::Purged,
+            LapseNotice::TransferApproved,
+        ]
+    }
+
+    fn column(self) -> i64 {
+        match self {
+            LapseNotice::RenewedAutomatically => 0,
+            LapseNotice::Purged => 1,
+            LapseNotice::TransferApproved => 2,
+        }
     }
 }
 
-/// What time brought, by its code.
-#[tactic(auto, using(crate::proofs::MessageLemmas::lapse_notices_by_code))]
-pub fn lapse_notice_of_column(column: i64) -> Option<LapseNotice>
-    ensures value { result ≡ spec.lapse_notice_in column }
-    ensures found { IfSome result (λ notice. column ≡ spec.lapse_notice_column notice) }
-    ensures only { (notice : LapseNotice) → column ≡ spec.lapse_notice_column notice
-        → result ≡ Some notice }
-{
-    lapse_notice_with(column)
-}
+impl Coded for CommandNotice {
+    ghost code = { spec.command_notice_column };
 
-fn lapse_notice_with(column: i64) -> Option<LapseNotice>
-    ensures { result ≡ with_code spec.lapse_notice_column spec.all_lapse_notices column }
-{
-    LAPSE_NOTICES
-        .iter()
-        .copied()
-        .find(|notice| lapse_notice_column(*notice) == column)
-}
+    ghost all = { spec.all_command_notices };
 
-/// The code of what a command brought.
-pub fn command_notice_column(notice: CommandNotice) -> i64
-    ensures { result ≡ spec.command_notice_column notice }
-{
-    match notice {
-        CommandNotice::TransferRequested => 0,
-        CommandNotice::TransferApproved => 1,
-        CommandNotice::TransferRejected => 2,
-        CommandNotice::TransferCancelled => 3,
+    ghost back = { Prim.search rules };
+
+    fn all() -> &'static [CommandNotice] {
+        &[
+            CommandNotice::TransferRequested,
+            CommandNotice::TransferApproved,
+            CommandNotice::TransferRejected,
+            CommandNotice::TransferCancelled,
+        ]
     }
-}
 
-/// What a command brought, by its code.
-#[tactic(auto, using(crate::proofs::MessageLemmas::command_notices_by_code))]
-pub fn command_notice_of_column(column: i64) -> Option<CommandNotice>
-    ensures value { result ≡ spec.command_notice_in column }
-    ensures found { IfSome result (λ notice. column ≡ spec.command_notice_column notice) }
-    ensures only { (notice : CommandNotice) → column ≡ spec.command_notice_column notice
-        → result ≡ Some notice }
-{
-    command_notice_with(column)
-}
-
-fn command_notice_with(column: i64) -> Option<CommandNotice>
-    ensures { result ≡ with_code spec.command_notice_column spec.all_command_notices column }
-{
-    COMMAND_NOTICES
-        .iter()
-        .copied()
-        .find(|notice| command_notice_column(*notice) == column)
+    fn column(self) -> i64 {
+        match self {
+            CommandNotice::TransferRequested => 0,
+            CommandNotice::TransferApproved => 1,
+            CommandNotice::TransferRejected => 2,
+            CommandNotice::TransferCancelled => 3,
+        }
+    }
 }
 
 /// The columns of an origin; none where a command's number is too great.
@@ -100,7 +76,7 @@ pub(crate) fn origin_columns(origin: Origin) -> Option<OriginColumns>
     match origin {
         Origin::Lapse(notice) => Some(OriginColumns {
             class: 0,
-            number: lapse_notice_column(notice),
+            number: notice.column(),
             notice: 0,
         }),
         Origin::Command(number, notice) => command_columns(number, notice),
@@ -114,7 +90,7 @@ fn command_columns(number: u64, notice: CommandNotice) -> Option<OriginColumns>
     Some(OriginColumns {
         class: 1,
         number,
-        notice: command_notice_column(notice),
+        notice: notice.column(),
     })
 }
 
@@ -127,9 +103,9 @@ pub(crate) fn origin_of_columns(columns: OriginColumns) -> Option<Origin>
 {
     origin_made(
         columns,
-        lapse_notice_of_column(columns.number),
+        LapseNotice::of_column(columns.number),
         exact_of_column(columns.number),
-        command_notice_of_column(columns.notice),
+        CommandNotice::of_column(columns.notice),
     )
 }
 

@@ -3,7 +3,7 @@ ghost use Rattle.std.specs.Prelude.{◌≡◌, ◌↔◌, IsTrue, Some, IfSome};
 ghost use Rattle.objects.specs.declared.transfer.Transfer.{Transfer};
 ghost use Rattle.sqlcolumns.specs.Transfers as spec;
 
-use crate::code::{state_column, state_of_column};
+use crate::code::Coded;
 use crate::moment::{moment_column, moment_of_column, show_moment};
 use crate::number::{is_place, registrar_column, registrar_of_column};
 use basis::registrar::RegistrarNo;
@@ -28,7 +28,7 @@ pub fn transfer_row(
         losing: registrar_column(transfer.losing_registrar),
         requested: moment_column(transfer.requested),
         ac_date: moment_column(transfer.ac_date),
-        state: state_column(transfer.state),
+        state: transfer.state.column(),
         due: due_column(transfer),
     }
 }
@@ -77,7 +77,7 @@ pub fn transfer_of_row(row: &TransferRow) -> Option<Transfer>
         registrar_of_column(row.losing),
         moment_of_column(row.requested),
         moment_of_column(row.ac_date),
-        state_of_column(row.state),
+        TransferState::of_column(row.state),
     );
     with_due(transfer, row.due)
 }

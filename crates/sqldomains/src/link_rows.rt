@@ -10,7 +10,7 @@ use crate::links::number_of;
 use crate::placing::check_places;
 use basis::text::Text;
 use objects::Links;
-use sqlcolumns::{Role, role_column};
+use sqlcolumns::{Coded, Role};
 use sqlite::Alter;
 use sqlrows::Number;
 use sqltables::{DomainRow, LinkRow, RowStore};
@@ -113,7 +113,7 @@ fn row_to_host<S: Alter>(
         domain: domain.id,
         contact: None,
         host: Some(id),
-        role: role_column(Role::Host),
+        role: Role::Host.column(),
         due: domain.due,
     })
 }
@@ -133,7 +133,7 @@ fn row_to_contact<S: Alter>(
         domain: domain.id,
         contact: Some(id),
         host: None,
-        role: role_column(role),
+        role: role.column(),
         due: domain.due,
     })
 }

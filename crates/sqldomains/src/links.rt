@@ -8,7 +8,7 @@ use crate::placing::placed;
 use basis::list::Seq;
 use basis::text::Text;
 use objects::Links;
-use sqlcolumns::{Role, role_of_column};
+use sqlcolumns::{Coded, Role};
 use sqlite::Alter;
 use sqlrows::{Number, or_fault};
 use sqltables::{DomainRow, LinkRow, RowStore};
@@ -89,7 +89,7 @@ fn with_link<S: Alter>(
     ensures { FindsSome result (λ more. spec.with_link store.old.content links row ≡ Some more)
         store.old store.new }
 {
-    let role = or_fault(role_of_column(row.role))?;
+    let role = or_fault(Role::of_column(row.role))?;
     let name = linked_name(store, role, row.contact, row.host)?;
     Ok(with_name(links, role, name)?)
 }

@@ -18,7 +18,7 @@ returns-clause-value c =
     let start = c.start_of.ensures ∙ ap (λ (x : table.Line). maybe_moment_in x.grace.started) (sym c.row.view_is) in
     c.line_made.ensures
     ∙ (λ i. line_made
-    ((c.kind_of_column.ensures.value ∙ ap kind_in (to_z-of_z kind)) i)
+    ((c.of_column.ensures.value ∙ ap kind_in (to_z-of_z kind)) i)
     (c.domain_of_columns.ensures i)
     ((c.moment_of_column.ensures.value ∙ ap moment_in (to_z-of_z recorded)) i)
     ((c.years_of_column.ensures.value ∙ ap years_in (to_z-of_z years)) i)

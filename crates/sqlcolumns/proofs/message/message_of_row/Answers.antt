@@ -1,5 +1,4 @@
 use Rattle.std.proofs.Common.{rules, ◌≡◌, Some, FitsSigned, w64, to_z, of_z, to_z-of_z, sym, ap, ◌∙◌}
-use Rattle.sqltables.specs.Message as table
 use Rattle.sqlcolumns.specs.declared.origin.OriginColumns.{OriginColumns}
 use Rattle.sqlcolumns.specs.Codes.{subject_in}
 use Rattle.sqlcolumns.specs.Messages.{message_in, message_made, message_row, origin_in}
@@ -21,7 +20,7 @@ returns-clause-value c =
     ∙ (λ i. message_made
     ((c.moment_of_column.ensures.value ∙ ap moment_in (to_z-of_z moment)) i)
     ((c.origin_of_columns.ensures.value ∙ ap origin_in same_origin) i)
-    ((c.subject_of_column.ensures.value ∙ ap subject_in (to_z-of_z subject)) i)
+    ((c.of_column.ensures.value ∙ ap subject_in (to_z-of_z subject)) i)
     (c.from_string.ensures i))
     ∙ ap message_in c.row.view_is
 

@@ -12,9 +12,9 @@ returns-clause-value c =
     let notice : FitsSigned w64 x.notice = search rules in
     c.origin_made.ensures
     ∙ (λ i. origin_made x
-    ((c.lapse_notice_of_column.ensures.value ∙ ap lapse_notice_in (to_z-of_z number)) i)
+    ((c.of_column.ensures.value ∙ ap lapse_notice_in (to_z-of_z number)) i)
     ((c.exact_of_column.ensures.value ∙ ap exact_in (to_z-of_z number)) i)
-    ((c.command_notice_of_column.ensures.value ∙ ap command_notice_in (to_z-of_z notice)) i))
+    ((c.of_column-2.ensures.value ∙ ap command_notice_in (to_z-of_z notice)) i))
 
 pub returns-clause-found : goal.returns-clause-found
 returns-clause-found c = all_read (λ o. origin_columns o ≡ Some c.args.columns) c.origin_made.result (λ o is. origin_written c.args.columns o (sym (returns-clause-value c) ∙ is))

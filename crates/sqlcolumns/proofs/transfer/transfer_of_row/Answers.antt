@@ -22,7 +22,7 @@ returns-clause-value c =
     ((c.registrar_of_column-2.ensures.value ∙ ap registrar_in (to_z-of_z losing)) i)
     ((c.moment_of_column.ensures.value ∙ ap moment_in (to_z-of_z requested)) i)
     ((c.moment_of_column-2.ensures.value ∙ ap moment_in (to_z-of_z ac_date)) i)
-    ((c.state_of_column.ensures.value ∙ ap state_in (to_z-of_z state)) i)))
+    ((c.of_column.ensures.value ∙ ap state_in (to_z-of_z state)) i)))
     ∙ ap transfer_in c.row.view_is
 
 pub returns-clause-found : goal.returns-clause-found
