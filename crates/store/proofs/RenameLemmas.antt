@@ -1,10 +1,11 @@
 -- To give a host its new name in the domains that name it, one after another, is to give it in all.
-use Rattle.std.proofs.Common.{◌≡◌, ℕ, Bool, true, false, cond, not, ◌&&◌, T, map, filter, List, [], ◌∷◌, Option, Some, None, Result, refl, sym, ap, ◌∙◌}
+use Rattle.std.proofs.Common.{◌≡◌, ℕ, Bool, true, false, cond, not, ◌&&◌, T, map, filter, List, [], ◌∷◌, Option, Some, None, Result, refl, sym, ap, subst, ◌∙◌}
 use Rattle.std.specs.Prelude.{option_map}
 use Rattle.std.specs.Ordering.{is_lt}
 use Rattle.std.specs.Str.{bytes_eq}
 use Rattle.std.specs.declared.cmp.Ordering.{Ordering}
 use Rattle.std.specs.declared.cmp.Ordering.TheVariants.{Less, Equal, Greater}
+use Rattle.std.proofs.lemmas.Slice.Eq.{bytes_eq-Decides}
 use Rattle.std.specs.Cmp.{Equal-is, eq_by_cmp_equiv}
 use Rattle.std.specs.Cmp.Lexicographic.{slice_cmp, nat_list_cmp_total}
 use Rattle.std.specs.FinMap.{FinMap, entries, entries_sorted, find, get, get-entries, insert, is_sorted, get-insert, same_map}
@@ -14,15 +15,17 @@ use Rattle.basis.specs.Bag.{add, precedes}
 use Rattle.basis.specs.Maps.{map_values}
 use Rattle.basis.proofs.MapLemmas.{names_apart, get-map_values}
 use Rattle.objects.specs.declared.domain.Domain.{Domain}
+use Rattle.objects.specs.declared.host.Host.{Host}
 use Rattle.objects.specs.Links.{names_host}
 use Rattle.policy.specs.Rules.{PolicyRules}
 use Rattle.rules.specs.Changes.{with_host_renamed}
-use Rattle.rules.specs.declared.change.Change.TheVariants.{RenameHost}
+use Rattle.rules.specs.declared.change.Change.{Change}
+use Rattle.rules.specs.declared.change.Change.TheVariants.{DropHost, PutHost, RenameHost}
 use Rattle.transactions.specs.declared.fault.BookFault.{BookFault}
 use Rattle.store.specs.Book.{Stored, with_changes}
-use Rattle.store.specs.Records.{RecordsState}
+use Rattle.store.specs.Records.{MayMake, RecordsState}
 use Rattle.transactions.specs.States.{Makes, Reads}
-use Rattle.store.specs.Tables.{amended, domains_naming, host_renamed, host_renamed_in, with_domains}
+use Rattle.store.specs.Tables.{amended, domains_naming, host_moved, host_renamed, host_renamed_in, with_domains}
 use Rattle.store.proofs.RecordsLemmas.{makes-on}
 
 -- ---- entries in order
@@ -148,3 +151,13 @@ renames-found result p old new names s m t read made =
     (λ e.
     ap (λ (ns : List (List ℕ)). host_renamed_in old new ns m.content) (read.1 e) ∙ ap (host_renamed_in old new (domains_naming old s.content.registry)) (read.0.content e)
     ∙ all-renamed p old new s.content) made
+
+-- ---- at once
+
+pub moved-at-once : (result : Result Bool BookFault) (p : PolicyRules) (put renamed dropped : Change) (host : Host) (old new gone : List ℕ) (held : Stored) (s t : RecordsState)
+    → put ≡ PutHost host → renamed ≡ RenameHost old new → dropped ≡ DropHost gone → bytes_eq host.name new ≡ true → bytes_eq old gone ≡ true
+    → MayMake result (host_moved old host held) s t → MayMake result (with_changes p (put ∷ renamed ∷ dropped ∷ []) held) s t
+moved-at-once result p put renamed dropped host old new gone held s t one two three named same =
+    let second : RenameHost old host.name ≡ renamed = ap (RenameHost old) ((bytes_eq-Decides host.name new).0 named) ∙ sym two in
+    let third : DropHost old ≡ dropped = ap DropHost ((bytes_eq-Decides old gone).0 same) ∙ sym three in
+    subst (λ (after : Stored). MayMake result after s t) (λ i. with_changes p (sym one i ∷ second i ∷ third i ∷ []) held)

@@ -43,11 +43,26 @@ fn apply_at_once<R: Records>(
         (R.kept records.old) (R.kept records.new) }
 {
     match changes {
-        [
-            Change::PutHost(host),
-            Change::RenameHost { from, to },
-            Change::DropHost(gone),
-        ] if host.name == *to && from == gone => records.move_host(from, host),
+        [put, renamed, dropped] => move_at_once(records, put, renamed, dropped, policy),
+        _ => Ok(false),
+    }
+}
+
+/// The same, told the three.
+fn move_at_once<R: Records>(
+    records: &mut R,
+    put: &Change,
+    renamed: &Change,
+    dropped: &Change,
+    policy: &Policy,
+) -> Result<bool, BookFault>
+    requires { (R.kept records.old).is_open ≡ true }
+    ensures { MayMake result (with_changes policy.now (put.now ∷ renamed.now ∷ dropped.now ∷ [])
+        (R.kept records.old).content) (R.kept records.old) (R.kept records.new) }
+{
+    match (put, renamed, dropped) {
+        (Change::PutHost(host), Change::RenameHost { from, to }, Change::DropHost(gone))
+            if host.name == *to && from == gone => { records.move_host(from, host) }
         _ => Ok(false),
     }
 }
