@@ -32,11 +32,13 @@ use Rattle.sqlobjects.specs.Changes.{contact_name, host_name}
 use Rattle.sqlobjects.specs.inner.Changes.{put}
 use Rattle.sqlobjects.specs.Objects.{contact_entry, contact_of, contacts_of, hosts_of, last_transfer}
 use Rattle.sqlobjects.specs.inner.Stages.{AreOthersKept, IsPlaced}
+use Rattle.sqlobjects.specs.declared.transfers.Transferable.TheVariants as transferable
+use Rattle.sqlobjects.specs.inner.Transfers.{IsTransferCleared, IsTransferPut}
 use Rattle.sqlobjects.proofs.PutLemmas.{apart, drop-stands, found-added, map_of, none-stands, others-removed, placed-added, placed-put, none-removed, put-stands, row_there, filter-has}
 use Rattle.sqldomains.specs.declared.domain_rows.DerivedColumns.{DerivedColumns}
 use Rattle.sqldomains.specs.inner.Changes.{IsDomainPut, sponsor_in}
 use Rattle.sqldomains.specs.Domains.{are_dated, dated, domain_of, domains_of, links_of, registrant_alone, with_links}
-use Rattle.sqldomains.specs.inner.Stages.{AreLinksCleared, AreLinksPut, AreOtherPartsKept, IsDomainAdded, IsDomainDropped, IsDomainPlaced, IsDomainPlacedAt, IsDomainRemoved, IsTransferCleared, IsTransferPut, row_beside}
+use Rattle.sqldomains.specs.inner.Stages.{AreLinksCleared, AreLinksPut, AreOtherPartsKept, IsDomainAdded, IsDomainDropped, IsDomainPlaced, IsDomainPlacedAt, IsDomainRemoved, row_beside}
 use Rattle.sqldomains.proofs.LinkRowLemmas.{links-alike}
 
 abbrev name_of : table.Domain → List ℕ
@@ -95,21 +97,21 @@ nobody name rows none r there is = subst (λ l. Has l r) none (filter-has (table
 
 -- ---- dropped
 
-pub removed-so : (id number : ℤ) (xs b m : Content) → number ≡ id → AreLinksCleared number xs b → IsTransferCleared number b m → IsDomainRemoved id xs (domains_to (delete_where (inner_table.domain_with_id number)) m)
-removed-so id number xs b m same links transfer =
-    subst (λ k. IsDomainRemoved k xs (domains_to (delete_where (inner_table.domain_with_id number)) m)) same (record {
+pub removed-so : (id number : ℤ) (xs b m : Content) → number ≡ id → AreLinksCleared number xs b → IsTransferCleared (transferable.Domain id) b m → IsDomainRemoved id xs (domains_to (delete_where (inner_table.domain_with_id number)) m)
+removed-so id number xs b m same links =
+    subst (λ k. IsTransferCleared (transferable.Domain k) b m → IsDomainRemoved k xs (domains_to (delete_where (inner_table.domain_with_id number)) m)) same (λ transfer. record {
       kept = record {
-        links = λ other e. ap (λ (x : Content). filter (link_with_domain other) x.links) transfer.others.rest ∙ links.others.domains other e;
-        transfers = λ other e. transfer.others.domains other e ∙ ap (λ (x : Content). filter (transfer_with_domain other) x.transfers) links.others.rest;
-        contacts = λ contact. transfer.others.contacts contact ∙ ap (λ (x : Content). filter (transfer_with_contact contact) x.transfers) links.others.rest;
+        links = λ other e. ap (λ (x : Content). filter (link_with_domain other) x.links) transfer.kept.rest ∙ links.others.domains other e;
+        transfers = λ other e. transfer.kept.others (transferable.Domain other) e ∙ ap (λ (x : Content). filter (transfer_with_domain other) x.transfers) links.others.rest;
+        contacts = λ contact. transfer.kept.others (transferable.Contact contact) refl ∙ ap (λ (x : Content). filter (transfer_with_contact contact) x.transfers) links.others.rest;
         rest =
-            ap (λ (x : Content). record x { domains = xs.domains; links = xs.links; transfers = xs.transfers }) transfer.others.rest
+            ap (λ (x : Content). record x { domains = xs.domains; links = xs.links; transfers = xs.transfers }) transfer.kept.rest
             ∙ ap (λ (x : Content). record x { domains = xs.domains; links = xs.links; transfers = xs.transfers }) links.others.rest;
       };
       domains =
-          ap (λ (x : Content). delete_where (inner_table.domain_with_id number) x.domains) transfer.others.rest
+          ap (λ (x : Content). delete_where (inner_table.domain_with_id number) x.domains) transfer.kept.rest
           ∙ ap (λ (x : Content). delete_where (inner_table.domain_with_id number) x.domains) links.others.rest;
-      links = ap (λ (x : Content). filter (link_with_domain number) x.links) transfer.others.rest ∙ links.none;
+      links = ap (λ (x : Content). filter (link_with_domain number) x.links) transfer.kept.rest ∙ links.none;
       transfers = transfer.none;
     })
 
@@ -213,26 +215,26 @@ added-placed xs m beside d row add found whole none =
 -- ---- put
 
 module _ (xs m b ys : Content) (beside : DerivedColumns) (d : Domain) (row : table.Domain) (whole : IsWhole xs) (after : IsWhole ys) (is : IsDomain d) (registrant : contact_name xs beside.registrant ≡ Some d.links.registrant)
-    (placed : IsDomainPlaced d beside row xs m) (named_by : AreLinksPut row.id row.due d.links m b) (with : IsTransferPut row.id d.transfer b ys) where
+    (placed : IsDomainPlaced d beside row xs m) (named_by : AreLinksPut row.id row.due d.links m b) (with : IsTransferPut (transferable.Domain row.id) d.transfer b ys) where
   rows_now : IsPlaced name_of d.name row xs.domains ys.domains
-  rows_now = subst (IsPlaced name_of d.name row xs.domains) (sym (ap (λ (x : Content). x.domains) with.others.rest ∙ ap (λ (x : Content). x.domains) named_by.others.rest)) placed.rows
+  rows_now = subst (IsPlaced name_of d.name row xs.domains) (sym (ap (λ (x : Content). x.domains) with.kept.rest ∙ ap (λ (x : Content). x.domains) named_by.others.rest)) placed.rows
 
   -- names are as they were
   contact_now : (k : ℤ) → contact_name ys k ≡ contact_name xs k
-  contact_now k = ap (λ (x : Content). contact_name x k) with.others.rest ∙ ap (λ (x : Content). contact_name x k) named_by.others.rest ∙ ap (λ (x : Content). contact_name x k) placed.rest
+  contact_now k = ap (λ (x : Content). contact_name x k) with.kept.rest ∙ ap (λ (x : Content). contact_name x k) named_by.others.rest ∙ ap (λ (x : Content). contact_name x k) placed.rest
 
   registrant_now : contact_name ys row.registrant ≡ Some d.links.registrant
   registrant_now = ap (contact_name ys) (written row.id beside d row placed.is).registrant ∙ contact_now beside.registrant ∙ registrant
 
   links_now : with_links ys (registrant_alone d.links.registrant) (filter (link_with_domain row.id) ys.links) ≡ Some d.links
   links_now =
-      ap (λ (x : Content). with_links ys (registrant_alone d.links.registrant) (filter (link_with_domain row.id) x.links)) with.others.rest
-      ∙ links-alike b ys (λ k. ap (λ (x : Content). contact_name x k) with.others.rest) (λ k. ap (λ (x : Content). host_name x k) with.others.rest) (filter (link_with_domain row.id) b.links) (registrant_alone d.links.registrant)
+      ap (λ (x : Content). with_links ys (registrant_alone d.links.registrant) (filter (link_with_domain row.id) x.links)) with.kept.rest
+      ∙ links-alike b ys (λ k. ap (λ (x : Content). contact_name x k) with.kept.rest) (λ k. ap (λ (x : Content). host_name x k) with.kept.rest) (filter (link_with_domain row.id) b.links) (registrant_alone d.links.registrant)
       ∙ named_by.here.all
 
   dated_now : dated row.due (filter (link_with_domain row.id) ys.links) ≡ Some (filter (link_with_domain row.id) ys.links)
   dated_now = passed (filter (link_with_domain row.id) ys.links) (are_dated row.due (filter (link_with_domain row.id) ys.links))
-      (ap (λ (x : Content). are_dated row.due (filter (link_with_domain row.id) x.links)) with.others.rest ∙ named_by.here.dated)
+      (ap (λ (x : Content). are_dated row.due (filter (link_with_domain row.id) x.links)) with.kept.rest ∙ named_by.here.dated)
 
   reads_now : domain_of ys row ≡ Some d
   reads_now =
@@ -244,13 +246,13 @@ module _ (xs m b ys : Content) (beside : DerivedColumns) (d : Domain) (row : tab
   kept_now : AreOtherPartsKept row.id xs ys
   kept_now = record {
     links = λ other e.
-        ap (λ (x : Content). filter (link_with_domain other) x.links) with.others.rest ∙ named_by.others.domains other e ∙ ap (λ (x : Content). filter (link_with_domain other) x.links) placed.rest;
+        ap (λ (x : Content). filter (link_with_domain other) x.links) with.kept.rest ∙ named_by.others.domains other e ∙ ap (λ (x : Content). filter (link_with_domain other) x.links) placed.rest;
     transfers = λ other e.
-        with.others.domains other e ∙ ap (λ (x : Content). filter (transfer_with_domain other) x.transfers) named_by.others.rest ∙ ap (λ (x : Content). filter (transfer_with_domain other) x.transfers) placed.rest;
+        with.kept.others (transferable.Domain other) e ∙ ap (λ (x : Content). filter (transfer_with_domain other) x.transfers) named_by.others.rest ∙ ap (λ (x : Content). filter (transfer_with_domain other) x.transfers) placed.rest;
     contacts = λ contact.
-        with.others.contacts contact ∙ ap (λ (x : Content). filter (transfer_with_contact contact) x.transfers) named_by.others.rest ∙ ap (λ (x : Content). filter (transfer_with_contact contact) x.transfers) placed.rest;
+        with.kept.others (transferable.Contact contact) refl ∙ ap (λ (x : Content). filter (transfer_with_contact contact) x.transfers) named_by.others.rest ∙ ap (λ (x : Content). filter (transfer_with_contact contact) x.transfers) placed.rest;
     rest =
-        ap (λ (x : Content). record x { domains = xs.domains; links = xs.links; transfers = xs.transfers }) with.others.rest
+        ap (λ (x : Content). record x { domains = xs.domains; links = xs.links; transfers = xs.transfers }) with.kept.rest
         ∙ ap (λ (x : Content). record x { domains = xs.domains; links = xs.links; transfers = xs.transfers }) named_by.others.rest
         ∙ ap (λ (x : Content). record x { domains = xs.domains; links = xs.links; transfers = xs.transfers }) placed.rest;
   }

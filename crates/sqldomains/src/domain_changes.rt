@@ -6,12 +6,12 @@ ghost use Rattle.sqldomains.specs.inner.Changes.{IsDomainPut};
 
 use crate::domain_rows::{DerivedColumns, place, remove_found, row_named};
 use crate::link_rows::{contact_number, put_links};
-use crate::transfers::put_transfer;
 use basis::text::Text;
 use calendar::Moment;
 use objects::Domain;
 use sqlcolumns::is_domain;
 use sqlite::Alter;
+use sqlobjects::{Transferable, put_transfer};
 use sqltables::RowStore;
 use std::alloc::Global;
 use transactions::BookFault;
@@ -69,7 +69,7 @@ fn put_beside<S: Alter>(
     store.whole();
     let row = place(store, alloc, beside, domain)?;
     put_links(store, alloc, &row, &domain.links)?;
-    put_transfer(store, &row, &domain.transfer)?;
+    put_transfer(store, Transferable::of_domain(&row), &domain.transfer)?;
     store.whole();
     Ok(())
 }

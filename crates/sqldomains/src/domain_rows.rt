@@ -10,12 +10,12 @@ ghost use Rattle.sqldomains.specs.inner.Stages.{IsDomainAdded, IsDomainDropped, 
 
 use crate::link_rows::clear_links;
 use crate::links::number_of;
-use crate::transfers::clear_transfer;
 use basis::text::Text;
 use calendar::Moment;
 use objects::Domain;
 use sqlcolumns::domain_row;
 use sqlite::Alter;
+use sqlobjects::{Transferable, clear_transfer};
 use sqlrows::{only, or_fault};
 use sqltables::{DomainRow, RowStore};
 use std::alloc::Global;
@@ -50,7 +50,7 @@ pub(crate) fn remove_row<S: Alter>(
 {
     let number = number_of(row);
     clear_links(store, number)?;
-    clear_transfer(store, number)?;
+    clear_transfer(store, Transferable::of_domain(row))?;
     store.remove_domains_by_id(number)?;
     Ok(())
 }

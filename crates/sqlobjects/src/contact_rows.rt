@@ -8,7 +8,7 @@ ghost use Rattle.sqlrows.specs.Meanings.{Changes};
 ghost use Rattle.sqlrows.specs.Read.{rows_of};
 ghost use Rattle.sqlobjects.specs.inner.Stages.{ChangesGiving, IsContactAdded, IsContactDropped, IsContactPlaced, IsContactPlacedAt, IsContactRemoved};
 
-use crate::transfers::clear_transfer;
+use crate::transfers::{Transferable, clear_transfer};
 use basis::text::Text;
 use objects::Contact;
 use sqlcolumns::contact_row;
@@ -45,7 +45,7 @@ pub(crate) fn remove_row<S: Alter>(
     ensures { Changes result (IsContactRemoved row.now.id) store.old store.new }
 {
     let number = number_of(row);
-    clear_transfer(store, number)?;
+    clear_transfer(store, Transferable::of_contact(row))?;
     store.remove_contacts_by_id(number)?;
     Ok(())
 }

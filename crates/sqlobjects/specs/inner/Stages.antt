@@ -7,26 +7,24 @@ use Rattle.sqlite_rules.specs.Lists.{Has}
 use Rattle.sqlite_typed.specs.Tests.{bytes_eq}
 use Rattle.objects.specs.declared.contact.Contact.{Contact}
 use Rattle.objects.specs.declared.host.Host.{Host}
-use Rattle.objects.specs.declared.transfer.Transfer.{Transfer}
 use Rattle.sqlcolumns.specs.inner.Contacts.{contact_row}
 use Rattle.sqlcolumns.specs.inner.Hosts.{host_row}
 use Rattle.sqlcolumns.specs.Steps.{◌>>=◌}
-use Rattle.sqlcolumns.specs.Transfers.{is_same, transfer_row}
-use Rattle.sqlrows.specs.inner.Layouts.{appended}
+use Rattle.sqlcolumns.specs.Transfers.{is_same}
 use Rattle.sqltables.specs.Contact as contact_table
 use Rattle.sqltables.specs.Content.{Content}
 use Rattle.sqltables.specs.inner.Content.{contacts_to, hosts_to}
 use Rattle.sqltables.specs.Host as host_table
-use Rattle.sqltables.specs.Transfer as transfer_table
-use Rattle.sqltables.specs.Transfer.{transfer_with_contact, transfer_with_domain}
 use Rattle.sqltables.specs.inner.Whole.{IsWhole}
 use Rattle.transactions.specs.declared.fault.BookFault.{BookFault}
 use Rattle.transactions.specs.States.{StateOf, Stays}
 use Rattle.sqlrows.specs.Meanings.{HasChanged}
 use Rattle.sqlrows.specs.Read.{rows_of}
 use Rattle.sqlobjects.specs.declared.following.Sponsors.{Sponsors}
-use Rattle.sqlobjects.specs.Objects.{addresses_of, last_transfer}
+use Rattle.sqlobjects.specs.declared.transfers.Transferable.TheVariants as transferable
+use Rattle.sqlobjects.specs.Objects.{addresses_of}
 use Rattle.sqlobjects.specs.Sponsors.{AreMoved, sponsor_of}
+use Rattle.sqlobjects.specs.inner.Transfers.{IsTransferCleared}
 
 -- a change in a way that hangs on what is answered
 abbrev pub ChangesGiving : {A C : Type 0} → Result A BookFault → (A → C → C → Type 0) → StateOf C
@@ -47,33 +45,6 @@ pub record IsPlaced {P : Type 0} (name : P → List ℕ) (n : List ℕ) (row : P
   pub others : AreOthersKept name n old new
 
 -- ---- contacts
-
--- no domain has another transfer than before, nor has a contact but the one with this number
-pub record AreOtherTransfersKept (id : ℤ) (old new : Content) : Type 0 where
-  pub contacts : (other : ℤ) → int_eq id other ≡ false → filter (transfer_with_contact other) new.transfers ≡ filter (transfer_with_contact other) old.transfers
-  pub domains : (domain : ℤ) → filter (transfer_with_domain domain) new.transfers ≡ filter (transfer_with_domain domain) old.transfers
-  pub rest : new ≡ record old { transfers = new.transfers }
-
--- the contact with this number has no transfer
-pub record IsTransferCleared (id : ℤ) (old new : Content) : Type 0 where
-  pub none : filter (transfer_with_contact id) new.transfers ≡ []
-  pub others : AreOtherTransfersKept id old new
-
--- the row of a contact's transfer, if there is one, but for its number
-abbrev pub transfer_row_of : ℤ → Option Transfer → Option transfer_table.Transfer
-transfer_row_of id transfer =
-    option_map (λ (t : Transfer). transfer_row (pos 0) (Some id) None t) transfer
-
--- the rows, and after them this one, if there is one, under a number of its own
-abbrev pub with_added : Option transfer_table.Transfer → List transfer_table.Transfer
-    → List transfer_table.Transfer
-with_added None rows = rows
-with_added (Some row) rows = appended transfer_table.transfers (λ id. record row { id = id }) rows
-
--- the contact with this number has this as its last transfer
-pub record IsTransferPut (id : ℤ) (transfer : Option Transfer) (old new : Content) : Type 0 where
-  pub last : last_transfer (filter (transfer_with_contact id) new.transfers) ≡ Some transfer
-  pub others : AreOtherTransfersKept id old new
 
 -- the contact, but for its transfer, is in a row after the others
 pub record IsContactAdded (c : Contact) (old new : Content) : Type 0 where
@@ -96,7 +67,7 @@ IsContactPlacedAt found c row old new =
 
 -- the contact with this number, and its transfer, aren't there any more
 pub record IsContactRemoved (id : ℤ) (old new : Content) : Type 0 where
-  pub cleared : IsTransferCleared id old (record new { contacts = old.contacts })
+  pub cleared : IsTransferCleared (transferable.Contact id) old (record new { contacts = old.contacts })
   pub contacts : new.contacts ≡ delete_where (contact_table.contact_with_id id) old.contacts
 
 -- the same of the row that was found, if there was one
