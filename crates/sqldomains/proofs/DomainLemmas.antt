@@ -1,9 +1,7 @@
 -- What rows of domains mean after a change.
-use Rattle.std.proofs.Common.{◌≡◌, ℕ, ℤ, pos, false, List, [], ◌∷◌, ◌++◌, filter, Option, Some, None, option_map, refl, sym, ap, subst, ◌∙◌, int_eq}
+use Rattle.std.proofs.Common.{◌≡◌, ℕ, ℤ, pos, false, List, [], ◌∷◌, filter, Option, Some, None, option_map, refl, sym, ap, subst, ◌∙◌, int_eq}
 use Rattle.std.specs.FinMap.{from_entries}
 use Rattle.std.specs.List.{filter_map}
-use Rattle.sqlrows.specs.inner.Layouts.{appended}
-use Rattle.sqlite_keyed.specs.Keyed.{insert_by, next_key}
 use Rattle.sqlite_keyed.specs.Lists.{delete_where}
 use Rattle.sqlite_rules.specs.Lists.{Has}
 use Rattle.sqlite_typed.specs.Tests.{bytes_eq}
@@ -34,11 +32,11 @@ use Rattle.sqlobjects.specs.Objects.{contact_entry, contact_of, contacts_of, hos
 use Rattle.sqlobjects.specs.inner.Stages.{AreOthersKept, IsPlaced}
 use Rattle.sqlobjects.specs.declared.transfers.Transferable.TheVariants as transferable
 use Rattle.sqlobjects.specs.inner.Transfers.{IsTransferCleared, IsTransferPut}
-use Rattle.sqlobjects.proofs.PutLemmas.{apart, drop-stands, found-added, map_of, none-stands, others-removed, placed-added, placed-put, none-removed, put-stands, row_there, filter-has}
+use Rattle.sqlobjects.proofs.PutLemmas.{apart, drop-stands, map_of, none-stands, others-removed, none-removed, put-stands, row_there, filter-has}
 use Rattle.sqldomains.specs.declared.domain_rows.DerivedColumns.{DerivedColumns}
 use Rattle.sqldomains.specs.inner.Changes.{IsDomainPut, sponsor_in}
 use Rattle.sqldomains.specs.Domains.{are_dated, dated, domain_of, domains_of, links_of, registrant_alone, with_links}
-use Rattle.sqldomains.specs.inner.Stages.{AreLinksCleared, AreLinksPut, AreOtherPartsKept, IsDomainAdded, IsDomainDropped, IsDomainPlaced, IsDomainPlacedAt, IsDomainRemoved, row_beside}
+use Rattle.sqldomains.specs.inner.Stages.{AreLinksCleared, AreLinksPut, AreOtherPartsKept, IsDomainDropped, IsDomainPlaced, IsDomainRemoved, row_beside}
 use Rattle.sqldomains.proofs.LinkRowLemmas.{links-alike}
 
 abbrev name_of : table.Domain → List ℕ
@@ -161,56 +159,26 @@ module _ (xs ys : Content) (name : List ℕ) (whole : IsWhole xs) (after : IsWho
 
 -- ---- written into a row
 
-record IsWritten (id : ℤ) (beside : DerivedColumns) (d : Domain) (row : table.Domain) : Type 0 where
-  number : row.id ≡ id
-  name : row.name ≡ d.name
-  registrant : row.registrant ≡ beside.registrant
-  due : row.due ≡ moment_column beside.due
-  sponsor : row.sponsor ≡ registrar_column d.sponsor
-  again : (k : ℤ) → row_beside k beside d ≡ Some (record row { id = k })
+pub record IsWritten (beside : DerivedColumns) (d : Domain) (row : table.Domain) : Type 0 where
+  pub name : row.name ≡ d.name
+  pub registrant : row.registrant ≡ beside.registrant
+  pub due : row.due ≡ moment_column beside.due
+  pub sponsor : row.sponsor ≡ registrar_column d.sponsor
+  pub again : (k : ℤ) → row_beside k beside d ≡ Some (record row { id = k })
 
-written : (id : ℤ) (beside : DerivedColumns) (d : Domain) (row : table.Domain) → row_beside id beside d ≡ Some row → IsWritten id beside d row
+pub written : (id : ℤ) (beside : DerivedColumns) (d : Domain) (row : table.Domain) → row_beside id beside d ≡ Some row → IsWritten beside d row
 written id beside d row e =
     let columns = step (registration_columns kinds.Domain (registration_of d)) (λ x. Some (row_with id beside.registrant beside.due d x (deletion_columns d.deletion))) row e in
     let roid = step (roid_columns kinds.Domain d.roid) (λ x. Some (columns_with (registration_of d) x)) columns.given columns.is in
     let registered : columns_with (registration_of d) roid.given ≡ columns.given = same_some (columns_with (registration_of d) roid.given) columns.given roid.rest in
     let same : row_with id beside.registrant beside.due d columns.given (deletion_columns d.deletion) ≡ row = same_some _ row columns.rest in
     record {
-      number = sym (ap (λ (r : table.Domain). r.id) same);
       name = sym (ap (λ (r : table.Domain). r.name) same);
       registrant = sym (ap (λ (r : table.Domain). r.registrant) same);
       due = sym (ap (λ (r : table.Domain). r.due) same);
       sponsor = sym ((λ i. (registered i).sponsor) ∙ ap (λ (r : table.Domain). r.sponsor) same);
       again = λ k. (λ i. columns.is i >>= (λ x. Some (row_with k beside.registrant beside.due d x (deletion_columns d.deletion)))) ∙ ap (λ (r : table.Domain). Some (record r { id = k })) same;
     }
-
--- into the row of its name
-pub put-placed : (xs : Content) (beside : DerivedColumns) (d : Domain) (found row : table.Domain) → row_beside found.id beside d ≡ Some row
-    → IsDomainPlacedAt (Some found) d beside row xs (domains_to (λ rows. insert_by inner_table.domains.key rows row) xs)
-put-placed xs beside d found row e whole there =
-    let w = written found.id beside d row e in
-    record {
-      is = ap (λ k. row_beside k beside d) w.number ∙ e;
-      rows = placed-put key name_of d.name xs.domains found there whole.keyed.domains row w.number w.name;
-      rest = refl;
-    }
-
--- under a number of its own, after the others
-pub added : (xs : Content) (beside : DerivedColumns) (d : Domain) (row : table.Domain) → row_beside (pos 0) beside d ≡ Some row → IsDomainAdded d beside xs (domains_to (appended inner_table.domains (λ id. record row { id = id })) xs)
-added xs beside d row e =
-    let k = next_key inner_table.domains.key xs.domains in
-    record { row = record row { id = k }; is = (written (pos 0) beside d row e).again k; content = refl }
-
-pub added-placed : (xs m : Content) (beside : DerivedColumns) (d : Domain) (row : table.Domain) → IsDomainAdded d beside xs m → filter (table.domain_with_name d.name) m.domains ≡ row ∷ [] → IsDomainPlacedAt None d beside row xs m
-added-placed xs m beside d row add found whole none =
-    let name = (written add.row.id beside d add.row add.is).name in
-    let rows : m.domains ≡ xs.domains ++ add.row ∷ [] = ap (λ (x : Content). x.domains) add.content in
-    let same : add.row ≡ row = found-added key name_of d.name xs.domains add.row row name none (sym (ap (filter (table.domain_with_name d.name)) rows) ∙ found) in
-    subst (λ r. IsDomainPlaced d beside r xs m) same (record {
-      is = add.is;
-      rows = subst (IsPlaced name_of d.name add.row xs.domains) (sym rows) (placed-added key name_of d.name xs.domains add.row name);
-      rest = add.content ∙ ap (λ l. record xs { domains = l }) (sym rows);
-    })
 
 -- ---- put
 

@@ -4,14 +4,14 @@ ghost use Rattle.sqlrows.specs.Meanings.{Changes};
 ghost use Rattle.sqlobjects.specs.Changes.{contact_name};
 ghost use Rattle.sqldomains.specs.inner.Changes.{IsDomainPut};
 
-use crate::domain_rows::{DerivedColumns, place, remove_found, row_named};
+use crate::domain_rows::{DerivedColumns, place, remove_found};
 use crate::link_rows::{contact_number, put_links};
 use basis::text::Text;
 use calendar::Moment;
 use objects::Domain;
 use sqlcolumns::is_domain;
 use sqlite::Alter;
-use sqlobjects::{Transferable, put_transfer};
+use sqlobjects::{Transferable, put_transfer, row_named};
 use sqltables::RowStore;
 use std::alloc::Global;
 use transactions::BookFault;

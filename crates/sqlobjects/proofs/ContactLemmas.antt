@@ -1,7 +1,5 @@
 -- What rows of contacts mean after a change.
-use Rattle.std.proofs.Common.{◌≡◌, ℕ, ℤ, pos, false, List, [], ◌∷◌, ◌++◌, filter, Option, Some, None, refl, sym, ap, subst, ◌∙◌, int_eq}
-use Rattle.sqlrows.specs.inner.Layouts.{appended}
-use Rattle.sqlite_keyed.specs.Keyed.{insert_by, next_key}
+use Rattle.std.proofs.Common.{◌≡◌, ℕ, ℤ, pos, false, List, [], ◌∷◌, filter, Option, Some, None, refl, sym, ap, subst, ◌∙◌, int_eq}
 use Rattle.sqlite_keyed.specs.Lists.{delete_where}
 use Rattle.objects.specs.declared.contact.Contact.{Contact}
 use Rattle.objects.specs.declared.roid.ObjectKind.TheVariants as kinds
@@ -19,10 +17,10 @@ use Rattle.sqltables.specs.inner.Whole.{IsWhole}
 use Rattle.sqlrows.specs.Read.{rows_of}
 use Rattle.sqlobjects.specs.inner.Changes.{IsContactPut, put}
 use Rattle.sqlobjects.specs.Objects.{contact_of, contacts_of, hosts_of, last_transfer}
-use Rattle.sqlobjects.specs.inner.Stages.{AreOthersKept, IsContactAdded, IsContactDropped, IsContactPlaced, IsContactPlacedAt, IsContactRemoved, IsPlaced}
+use Rattle.sqlobjects.specs.inner.Stages.{AreOthersKept, IsContactDropped, IsContactPlaced, IsContactRemoved, IsPlaced}
 use Rattle.sqlobjects.specs.declared.transfers.Transferable.TheVariants as transferable
 use Rattle.sqlobjects.specs.inner.Transfers.{AreOtherTransfersKept, IsTransferCleared, IsTransferPut, is_of}
-use Rattle.sqlobjects.proofs.PutLemmas.{drop-stands, found-added, map_of, names_kept, none-stands, others-removed, placed-added, placed-put, put-stands}
+use Rattle.sqlobjects.proofs.PutLemmas.{drop-stands, map_of, names_kept, none-stands, others-removed, put-stands}
 
 abbrev name_of : contact_table.Contact → List ℕ
 name_of row = row.name
@@ -89,49 +87,19 @@ module _ (xs ys : Content) (name : List ℕ) (whole : IsWhole xs) (after : IsWho
 
 -- ---- written into a row
 
-record IsWritten (id : ℤ) (c : Contact) (row : contact_table.Contact) : Type 0 where
-  number : row.id ≡ id
-  name : row.name ≡ c.name
-  again : (k : ℤ) → contact_row k c ≡ Some (record row { id = k })
+pub record IsWritten (c : Contact) (row : contact_table.Contact) : Type 0 where
+  pub name : row.name ≡ c.name
+  pub again : (k : ℤ) → contact_row k c ≡ Some (record row { id = k })
 
-written : (id : ℤ) (c : Contact) (row : contact_table.Contact) → contact_row id c ≡ Some row → IsWritten id c row
+pub written : (id : ℤ) (c : Contact) (row : contact_table.Contact) → contact_row id c ≡ Some row → IsWritten c row
 written id c row e =
     let columns = step (registration_columns kinds.Contact (registration_of c)) (λ x. postal_row c.postal >>= (λ p. Some (row_with id c x p))) row e in
     let postal = step (postal_row c.postal) (λ p. Some (row_with id c columns.given p)) row columns.rest in
     let same : row_with id c columns.given postal.given ≡ row = same_some (row_with id c columns.given postal.given) row postal.rest in
     record {
-      number = sym (ap (λ (r : contact_table.Contact). r.id) same);
       name = sym (ap (λ (r : contact_table.Contact). r.name) same);
       again = λ k. (λ i. columns.is i >>= (λ x. postal.is i >>= (λ p. Some (row_with k c x p)))) ∙ ap (λ (r : contact_table.Contact). Some (record r { id = k })) same;
     }
-
--- into the row of its name
-pub put-placed : (xs : Content) (c : Contact) (found row : contact_table.Contact) → contact_row found.id c ≡ Some row
-    → IsContactPlacedAt (Some found) c row xs (contacts_to (λ rows. insert_by contact_table.contacts.key rows row) xs)
-put-placed xs c found row e whole there =
-    let w = written found.id c row e in
-    record {
-      is = ap (λ k. contact_row k c) w.number ∙ e;
-      rows = placed-put key name_of c.name xs.contacts found there whole.keyed.contacts row w.number w.name;
-      rest = refl;
-    }
-
--- under a number of its own, after the others
-pub added : (xs : Content) (c : Contact) (row : contact_table.Contact) → contact_row (pos 0) c ≡ Some row → IsContactAdded c xs (contacts_to (appended contact_table.contacts (λ id. record row { id = id })) xs)
-added xs c row e =
-    let k = next_key contact_table.contacts.key xs.contacts in
-    record { row = record row { id = k }; is = (written (pos 0) c row e).again k; content = refl }
-
-pub added-placed : (xs m : Content) (c : Contact) (row : contact_table.Contact) → IsContactAdded c xs m → filter (contact_table.contact_with_name c.name) m.contacts ≡ row ∷ [] → IsContactPlacedAt None c row xs m
-added-placed xs m c row add found whole none =
-    let name = (written add.row.id c add.row add.is).name in
-    let rows : m.contacts ≡ xs.contacts ++ add.row ∷ [] = ap (λ (x : Content). x.contacts) add.content in
-    let same : add.row ≡ row = found-added key name_of c.name xs.contacts add.row row name none (sym (ap (filter (contact_table.contact_with_name c.name)) rows) ∙ found) in
-    subst (λ r. IsContactPlaced c r xs m) same (record {
-      is = add.is;
-      rows = subst (IsPlaced name_of c.name add.row xs.contacts) (sym rows) (placed-added key name_of c.name xs.contacts add.row name);
-      rest = add.content ∙ ap (λ l. record xs { contacts = l }) (sym rows);
-    })
 
 -- ---- put
 

@@ -3,7 +3,8 @@ ghost use Rattle.std.specs.Prelude.{◌≡◌, true, Some, None};
 ghost use Rattle.sqlrows.specs.Meanings.{Changes};
 ghost use Rattle.sqlobjects.specs.inner.Changes.{IsContactPut};
 
-use crate::contact_rows::{place, remove_found, row_named};
+use crate::contact_rows::{place, remove_found};
+use crate::named_rows::row_named;
 use crate::transfers::{Transferable, put_transfer};
 use basis::text::Text;
 use objects::Contact;
