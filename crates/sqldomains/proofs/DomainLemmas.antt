@@ -1,9 +1,7 @@
 -- What rows of domains mean after a change.
-use Rattle.std.proofs.Common.{◌≡◌, ℕ, ℤ, pos, false, List, [], ◌∷◌, ◌++◌, filter, Option, Some, None, option_map, refl, sym, ap, subst, ◌∙◌, int_eq}
+use Rattle.std.proofs.Common.{◌≡◌, ℕ, ℤ, pos, false, List, [], ◌∷◌, filter, Option, Some, None, option_map, refl, sym, ap, subst, ◌∙◌, int_eq}
 use Rattle.std.specs.FinMap.{from_entries}
 use Rattle.std.specs.List.{filter_map}
-use Rattle.sqlrows.specs.inner.Layouts.{appended}
-use Rattle.sqlite_keyed.specs.Keyed.{insert_by, next_key}
 use Rattle.sqlite_keyed.specs.Lists.{delete_where}
 use Rattle.sqlite_rules.specs.Lists.{Has}
 use Rattle.sqlite_typed.specs.Tests.{bytes_eq}
@@ -32,11 +30,13 @@ use Rattle.sqlobjects.specs.Changes.{contact_name, host_name}
 use Rattle.sqlobjects.specs.inner.Changes.{put}
 use Rattle.sqlobjects.specs.Objects.{contact_entry, contact_of, contacts_of, hosts_of, last_transfer}
 use Rattle.sqlobjects.specs.inner.Stages.{AreOthersKept, IsPlaced}
-use Rattle.sqlobjects.proofs.PutLemmas.{apart, drop-stands, found-added, map_of, none-stands, others-removed, placed-added, placed-put, none-removed, put-stands, row_there, filter-has}
+use Rattle.sqlobjects.specs.declared.transfers.Transferable.TheVariants as transferable
+use Rattle.sqlobjects.specs.inner.Transfers.{IsTransferCleared, IsTransferPut}
+use Rattle.sqlobjects.proofs.PutLemmas.{apart, drop-stands, map_of, none-stands, others-removed, none-removed, put-stands, row_there, filter-has}
 use Rattle.sqldomains.specs.declared.domain_rows.DerivedColumns.{DerivedColumns}
 use Rattle.sqldomains.specs.inner.Changes.{IsDomainPut, sponsor_in}
 use Rattle.sqldomains.specs.Domains.{are_dated, dated, domain_of, domains_of, links_of, registrant_alone, with_links}
-use Rattle.sqldomains.specs.inner.Stages.{AreLinksCleared, AreLinksPut, AreOtherPartsKept, IsDomainAdded, IsDomainDropped, IsDomainPlaced, IsDomainPlacedAt, IsDomainRemoved, IsTransferCleared, IsTransferPut, row_beside}
+use Rattle.sqldomains.specs.inner.Stages.{AreLinksCleared, AreLinksPut, AreOtherPartsKept, IsDomainDropped, IsDomainPlaced, IsDomainRemoved, row_beside}
 use Rattle.sqldomains.proofs.LinkRowLemmas.{links-alike}
 
 abbrev name_of : table.Domain → List ℕ
@@ -95,21 +95,21 @@ nobody name rows none r there is = subst (λ l. Has l r) none (filter-has (table
 
 -- ---- dropped
 
-pub removed-so : (id number : ℤ) (xs b m : Content) → number ≡ id → AreLinksCleared number xs b → IsTransferCleared number b m → IsDomainRemoved id xs (domains_to (delete_where (inner_table.domain_with_id number)) m)
-removed-so id number xs b m same links transfer =
-    subst (λ k. IsDomainRemoved k xs (domains_to (delete_where (inner_table.domain_with_id number)) m)) same (record {
+pub removed-so : (id number : ℤ) (xs b m : Content) → number ≡ id → AreLinksCleared number xs b → IsTransferCleared (transferable.Domain id) b m → IsDomainRemoved id xs (domains_to (delete_where (inner_table.domain_with_id number)) m)
+removed-so id number xs b m same links =
+    subst (λ k. IsTransferCleared (transferable.Domain k) b m → IsDomainRemoved k xs (domains_to (delete_where (inner_table.domain_with_id number)) m)) same (λ transfer. record {
       kept = record {
-        links = λ other e. ap (λ (x : Content). filter (link_with_domain other) x.links) transfer.others.rest ∙ links.others.domains other e;
-        transfers = λ other e. transfer.others.domains other e ∙ ap (λ (x : Content). filter (transfer_with_domain other) x.transfers) links.others.rest;
-        contacts = λ contact. transfer.others.contacts contact ∙ ap (λ (x : Content). filter (transfer_with_contact contact) x.transfers) links.others.rest;
+        links = λ other e. ap (λ (x : Content). filter (link_with_domain other) x.links) transfer.kept.rest ∙ links.others.domains other e;
+        transfers = λ other e. transfer.kept.others (transferable.Domain other) e ∙ ap (λ (x : Content). filter (transfer_with_domain other) x.transfers) links.others.rest;
+        contacts = λ contact. transfer.kept.others (transferable.Contact contact) refl ∙ ap (λ (x : Content). filter (transfer_with_contact contact) x.transfers) links.others.rest;
         rest =
-            ap (λ (x : Content). record x { domains = xs.domains; links = xs.links; transfers = xs.transfers }) transfer.others.rest
+            ap (λ (x : Content). record x { domains = xs.domains; links = xs.links; transfers = xs.transfers }) transfer.kept.rest
             ∙ ap (λ (x : Content). record x { domains = xs.domains; links = xs.links; transfers = xs.transfers }) links.others.rest;
       };
       domains =
-          ap (λ (x : Content). delete_where (inner_table.domain_with_id number) x.domains) transfer.others.rest
+          ap (λ (x : Content). delete_where (inner_table.domain_with_id number) x.domains) transfer.kept.rest
           ∙ ap (λ (x : Content). delete_where (inner_table.domain_with_id number) x.domains) links.others.rest;
-      links = ap (λ (x : Content). filter (link_with_domain number) x.links) transfer.others.rest ∙ links.none;
+      links = ap (λ (x : Content). filter (link_with_domain number) x.links) transfer.kept.rest ∙ links.none;
       transfers = transfer.none;
     })
 
@@ -159,22 +159,20 @@ module _ (xs ys : Content) (name : List ℕ) (whole : IsWhole xs) (after : IsWho
 
 -- ---- written into a row
 
-record IsWritten (id : ℤ) (beside : DerivedColumns) (d : Domain) (row : table.Domain) : Type 0 where
-  number : row.id ≡ id
-  name : row.name ≡ d.name
-  registrant : row.registrant ≡ beside.registrant
-  due : row.due ≡ moment_column beside.due
-  sponsor : row.sponsor ≡ registrar_column d.sponsor
-  again : (k : ℤ) → row_beside k beside d ≡ Some (record row { id = k })
+pub record IsWritten (beside : DerivedColumns) (d : Domain) (row : table.Domain) : Type 0 where
+  pub name : row.name ≡ d.name
+  pub registrant : row.registrant ≡ beside.registrant
+  pub due : row.due ≡ moment_column beside.due
+  pub sponsor : row.sponsor ≡ registrar_column d.sponsor
+  pub again : (k : ℤ) → row_beside k beside d ≡ Some (record row { id = k })
 
-written : (id : ℤ) (beside : DerivedColumns) (d : Domain) (row : table.Domain) → row_beside id beside d ≡ Some row → IsWritten id beside d row
+pub written : (id : ℤ) (beside : DerivedColumns) (d : Domain) (row : table.Domain) → row_beside id beside d ≡ Some row → IsWritten beside d row
 written id beside d row e =
     let columns = step (registration_columns kinds.Domain (registration_of d)) (λ x. Some (row_with id beside.registrant beside.due d x (deletion_columns d.deletion))) row e in
     let roid = step (roid_columns kinds.Domain d.roid) (λ x. Some (columns_with (registration_of d) x)) columns.given columns.is in
     let registered : columns_with (registration_of d) roid.given ≡ columns.given = same_some (columns_with (registration_of d) roid.given) columns.given roid.rest in
     let same : row_with id beside.registrant beside.due d columns.given (deletion_columns d.deletion) ≡ row = same_some _ row columns.rest in
     record {
-      number = sym (ap (λ (r : table.Domain). r.id) same);
       name = sym (ap (λ (r : table.Domain). r.name) same);
       registrant = sym (ap (λ (r : table.Domain). r.registrant) same);
       due = sym (ap (λ (r : table.Domain). r.due) same);
@@ -182,57 +180,29 @@ written id beside d row e =
       again = λ k. (λ i. columns.is i >>= (λ x. Some (row_with k beside.registrant beside.due d x (deletion_columns d.deletion)))) ∙ ap (λ (r : table.Domain). Some (record r { id = k })) same;
     }
 
--- into the row of its name
-pub put-placed : (xs : Content) (beside : DerivedColumns) (d : Domain) (found row : table.Domain) → row_beside found.id beside d ≡ Some row
-    → IsDomainPlacedAt (Some found) d beside row xs (domains_to (λ rows. insert_by inner_table.domains.key rows row) xs)
-put-placed xs beside d found row e whole there =
-    let w = written found.id beside d row e in
-    record {
-      is = ap (λ k. row_beside k beside d) w.number ∙ e;
-      rows = placed-put key name_of d.name xs.domains found there whole.keyed.domains row w.number w.name;
-      rest = refl;
-    }
-
--- under a number of its own, after the others
-pub added : (xs : Content) (beside : DerivedColumns) (d : Domain) (row : table.Domain) → row_beside (pos 0) beside d ≡ Some row → IsDomainAdded d beside xs (domains_to (appended inner_table.domains (λ id. record row { id = id })) xs)
-added xs beside d row e =
-    let k = next_key inner_table.domains.key xs.domains in
-    record { row = record row { id = k }; is = (written (pos 0) beside d row e).again k; content = refl }
-
-pub added-placed : (xs m : Content) (beside : DerivedColumns) (d : Domain) (row : table.Domain) → IsDomainAdded d beside xs m → filter (table.domain_with_name d.name) m.domains ≡ row ∷ [] → IsDomainPlacedAt None d beside row xs m
-added-placed xs m beside d row add found whole none =
-    let name = (written add.row.id beside d add.row add.is).name in
-    let rows : m.domains ≡ xs.domains ++ add.row ∷ [] = ap (λ (x : Content). x.domains) add.content in
-    let same : add.row ≡ row = found-added key name_of d.name xs.domains add.row row name none (sym (ap (filter (table.domain_with_name d.name)) rows) ∙ found) in
-    subst (λ r. IsDomainPlaced d beside r xs m) same (record {
-      is = add.is;
-      rows = subst (IsPlaced name_of d.name add.row xs.domains) (sym rows) (placed-added key name_of d.name xs.domains add.row name);
-      rest = add.content ∙ ap (λ l. record xs { domains = l }) (sym rows);
-    })
-
 -- ---- put
 
 module _ (xs m b ys : Content) (beside : DerivedColumns) (d : Domain) (row : table.Domain) (whole : IsWhole xs) (after : IsWhole ys) (is : IsDomain d) (registrant : contact_name xs beside.registrant ≡ Some d.links.registrant)
-    (placed : IsDomainPlaced d beside row xs m) (named_by : AreLinksPut row.id row.due d.links m b) (with : IsTransferPut row.id d.transfer b ys) where
+    (placed : IsDomainPlaced d beside row xs m) (named_by : AreLinksPut row.id row.due d.links m b) (with : IsTransferPut (transferable.Domain row.id) d.transfer b ys) where
   rows_now : IsPlaced name_of d.name row xs.domains ys.domains
-  rows_now = subst (IsPlaced name_of d.name row xs.domains) (sym (ap (λ (x : Content). x.domains) with.others.rest ∙ ap (λ (x : Content). x.domains) named_by.others.rest)) placed.rows
+  rows_now = subst (IsPlaced name_of d.name row xs.domains) (sym (ap (λ (x : Content). x.domains) with.kept.rest ∙ ap (λ (x : Content). x.domains) named_by.others.rest)) placed.rows
 
   -- names are as they were
   contact_now : (k : ℤ) → contact_name ys k ≡ contact_name xs k
-  contact_now k = ap (λ (x : Content). contact_name x k) with.others.rest ∙ ap (λ (x : Content). contact_name x k) named_by.others.rest ∙ ap (λ (x : Content). contact_name x k) placed.rest
+  contact_now k = ap (λ (x : Content). contact_name x k) with.kept.rest ∙ ap (λ (x : Content). contact_name x k) named_by.others.rest ∙ ap (λ (x : Content). contact_name x k) placed.rest
 
   registrant_now : contact_name ys row.registrant ≡ Some d.links.registrant
   registrant_now = ap (contact_name ys) (written row.id beside d row placed.is).registrant ∙ contact_now beside.registrant ∙ registrant
 
   links_now : with_links ys (registrant_alone d.links.registrant) (filter (link_with_domain row.id) ys.links) ≡ Some d.links
   links_now =
-      ap (λ (x : Content). with_links ys (registrant_alone d.links.registrant) (filter (link_with_domain row.id) x.links)) with.others.rest
-      ∙ links-alike b ys (λ k. ap (λ (x : Content). contact_name x k) with.others.rest) (λ k. ap (λ (x : Content). host_name x k) with.others.rest) (filter (link_with_domain row.id) b.links) (registrant_alone d.links.registrant)
+      ap (λ (x : Content). with_links ys (registrant_alone d.links.registrant) (filter (link_with_domain row.id) x.links)) with.kept.rest
+      ∙ links-alike b ys (λ k. ap (λ (x : Content). contact_name x k) with.kept.rest) (λ k. ap (λ (x : Content). host_name x k) with.kept.rest) (filter (link_with_domain row.id) b.links) (registrant_alone d.links.registrant)
       ∙ named_by.here.all
 
   dated_now : dated row.due (filter (link_with_domain row.id) ys.links) ≡ Some (filter (link_with_domain row.id) ys.links)
   dated_now = passed (filter (link_with_domain row.id) ys.links) (are_dated row.due (filter (link_with_domain row.id) ys.links))
-      (ap (λ (x : Content). are_dated row.due (filter (link_with_domain row.id) x.links)) with.others.rest ∙ named_by.here.dated)
+      (ap (λ (x : Content). are_dated row.due (filter (link_with_domain row.id) x.links)) with.kept.rest ∙ named_by.here.dated)
 
   reads_now : domain_of ys row ≡ Some d
   reads_now =
@@ -244,13 +214,13 @@ module _ (xs m b ys : Content) (beside : DerivedColumns) (d : Domain) (row : tab
   kept_now : AreOtherPartsKept row.id xs ys
   kept_now = record {
     links = λ other e.
-        ap (λ (x : Content). filter (link_with_domain other) x.links) with.others.rest ∙ named_by.others.domains other e ∙ ap (λ (x : Content). filter (link_with_domain other) x.links) placed.rest;
+        ap (λ (x : Content). filter (link_with_domain other) x.links) with.kept.rest ∙ named_by.others.domains other e ∙ ap (λ (x : Content). filter (link_with_domain other) x.links) placed.rest;
     transfers = λ other e.
-        with.others.domains other e ∙ ap (λ (x : Content). filter (transfer_with_domain other) x.transfers) named_by.others.rest ∙ ap (λ (x : Content). filter (transfer_with_domain other) x.transfers) placed.rest;
+        with.kept.others (transferable.Domain other) e ∙ ap (λ (x : Content). filter (transfer_with_domain other) x.transfers) named_by.others.rest ∙ ap (λ (x : Content). filter (transfer_with_domain other) x.transfers) placed.rest;
     contacts = λ contact.
-        with.others.contacts contact ∙ ap (λ (x : Content). filter (transfer_with_contact contact) x.transfers) named_by.others.rest ∙ ap (λ (x : Content). filter (transfer_with_contact contact) x.transfers) placed.rest;
+        with.kept.others (transferable.Contact contact) refl ∙ ap (λ (x : Content). filter (transfer_with_contact contact) x.transfers) named_by.others.rest ∙ ap (λ (x : Content). filter (transfer_with_contact contact) x.transfers) placed.rest;
     rest =
-        ap (λ (x : Content). record x { domains = xs.domains; links = xs.links; transfers = xs.transfers }) with.others.rest
+        ap (λ (x : Content). record x { domains = xs.domains; links = xs.links; transfers = xs.transfers }) with.kept.rest
         ∙ ap (λ (x : Content). record x { domains = xs.domains; links = xs.links; transfers = xs.transfers }) named_by.others.rest
         ∙ ap (λ (x : Content). record x { domains = xs.domains; links = xs.links; transfers = xs.transfers }) placed.rest;
   }

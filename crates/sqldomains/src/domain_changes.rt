@@ -4,14 +4,14 @@ ghost use Rattle.sqlrows.specs.Meanings.{Changes};
 ghost use Rattle.sqlobjects.specs.Changes.{contact_name};
 ghost use Rattle.sqldomains.specs.inner.Changes.{IsDomainPut};
 
-use crate::domain_rows::{DerivedColumns, place, remove_found, row_named};
+use crate::domain_rows::{DerivedColumns, place, remove_found};
 use crate::link_rows::{contact_number, put_links};
-use crate::transfers::put_transfer;
 use basis::text::Text;
 use calendar::Moment;
 use objects::Domain;
 use sqlcolumns::is_domain;
 use sqlite::Alter;
+use sqlobjects::{Transferable, put_transfer, row_named};
 use sqltables::RowStore;
 use std::alloc::Global;
 use transactions::BookFault;
@@ -69,7 +69,7 @@ fn put_beside<S: Alter>(
     store.whole();
     let row = place(store, alloc, beside, domain)?;
     put_links(store, alloc, &row, &domain.links)?;
-    put_transfer(store, &row, &domain.transfer)?;
+    put_transfer(store, Transferable::of_domain(&row), &domain.transfer)?;
     store.whole();
     Ok(())
 }

@@ -13,7 +13,6 @@ mod links;
 mod names;
 mod names_in_order;
 mod placing;
-mod transfers;
 
 pub use below::hosts_below;
 pub use domain_changes::{drop_domain, put_domain};

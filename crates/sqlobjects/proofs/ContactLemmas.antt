@@ -1,7 +1,5 @@
 -- What rows of contacts mean after a change.
-use Rattle.std.proofs.Common.{◌≡◌, ℕ, ℤ, pos, false, List, [], ◌∷◌, ◌++◌, filter, Option, Some, None, refl, sym, ap, subst, ◌∙◌, int_eq}
-use Rattle.sqlrows.specs.inner.Layouts.{appended}
-use Rattle.sqlite_keyed.specs.Keyed.{insert_by, next_key}
+use Rattle.std.proofs.Common.{◌≡◌, ℕ, ℤ, pos, false, List, [], ◌∷◌, filter, Option, Some, None, refl, sym, ap, subst, ◌∙◌, int_eq}
 use Rattle.sqlite_keyed.specs.Lists.{delete_where}
 use Rattle.objects.specs.declared.contact.Contact.{Contact}
 use Rattle.objects.specs.declared.roid.ObjectKind.TheVariants as kinds
@@ -15,13 +13,14 @@ use Rattle.sqlcolumns.proofs.ReadLemmas.{same_some, step}
 use Rattle.sqltables.specs.Contact as contact_table
 use Rattle.sqltables.specs.Content.{Content}
 use Rattle.sqltables.specs.inner.Content.{contacts_to}
-use Rattle.sqltables.specs.Transfer.{transfer_with_contact, transfer_with_domain}
 use Rattle.sqltables.specs.inner.Whole.{IsWhole}
 use Rattle.sqlrows.specs.Read.{rows_of}
 use Rattle.sqlobjects.specs.inner.Changes.{IsContactPut, put}
 use Rattle.sqlobjects.specs.Objects.{contact_of, contacts_of, hosts_of, last_transfer}
-use Rattle.sqlobjects.specs.inner.Stages.{AreOtherTransfersKept, AreOthersKept, IsContactAdded, IsContactDropped, IsContactPlaced, IsContactPlacedAt, IsContactRemoved, IsPlaced, IsTransferCleared, IsTransferPut}
-use Rattle.sqlobjects.proofs.PutLemmas.{drop-stands, found-added, map_of, names_kept, none-stands, others-removed, placed-added, placed-put, put-stands}
+use Rattle.sqlobjects.specs.inner.Stages.{AreOthersKept, IsContactDropped, IsContactPlaced, IsContactRemoved, IsPlaced}
+use Rattle.sqlobjects.specs.declared.transfers.Transferable.TheVariants as transferable
+use Rattle.sqlobjects.specs.inner.Transfers.{AreOtherTransfersKept, IsTransferCleared, IsTransferPut, is_of}
+use Rattle.sqlobjects.proofs.PutLemmas.{drop-stands, map_of, names_kept, none-stands, others-removed, put-stands}
 
 abbrev name_of : contact_table.Contact → List ℕ
 name_of row = row.name
@@ -30,12 +29,12 @@ abbrev key : contact_table.Contact → ℤ
 key = contact_table.contacts.key
 
 -- a contact whose row and transfer are as they were is read as before
-reads-alike : (xs ys : Content) (id : ℤ) (r : contact_table.Contact) → AreOtherTransfersKept id xs (record ys { contacts = xs.contacts }) → int_eq id r.id ≡ false → contact_of ys r ≡ contact_of xs r
-reads-alike xs ys id r kept other = λ i. last_transfer (kept.contacts r.id other i) >>= (λ transfer. contact_in r transfer)
+reads-alike : (xs ys : Content) (id : ℤ) (r : contact_table.Contact) → AreOtherTransfersKept (transferable.Contact id) xs (record ys { contacts = xs.contacts }) → int_eq id r.id ≡ false → contact_of ys r ≡ contact_of xs r
+reads-alike xs ys id r kept other = λ i. last_transfer (kept.others (transferable.Contact r.id) other i) >>= (λ transfer. contact_in r transfer)
 
 -- what else a change of contacts leaves
 assembled : (xs ys : Content) (name : List ℕ) (value : Option Contact) (id : ℤ) → contacts_of ys ≡ put (contacts_of xs) name value → AreOthersKept name_of name xs.contacts ys.contacts
-    → AreOtherTransfersKept id xs (record ys { contacts = xs.contacts }) → IsWhole xs → IsWhole ys → IsContactPut name value xs ys
+    → AreOtherTransfersKept (transferable.Contact id) xs (record ys { contacts = xs.contacts }) → IsWhole xs → IsWhole ys → IsContactPut name value xs ys
 assembled xs ys name value id stands others kept whole after = record {
   contacts = stands;
   hosts = ap hosts_of kept.rest;
@@ -48,40 +47,38 @@ assembled xs ys name value id stands others kept whole after = record {
   links = ap (λ (x : Content). x.links) kept.rest;
   lines = ap (λ (x : Content). x.lines) kept.rest;
   messages = ap (λ (x : Content). x.messages) kept.rest;
-  transfers = kept.domains;
+  transfers = λ domain. kept.others (transferable.Domain domain) refl;
   names = names_kept key name_of name xs.contacts ys.contacts whole.keyed.contacts after.keyed.contacts others;
   whole = (whole, after);
 }
 
 -- ---- dropped
 
-pub removed-so : (id number : ℤ) (xs m : Content) → number ≡ id → IsTransferCleared number xs m → IsContactRemoved id xs (contacts_to (delete_where (contact_table.contact_with_id number)) m)
-removed-so id number xs m same clear =
-    subst (λ k. IsContactRemoved k xs (contacts_to (delete_where (contact_table.contact_with_id number)) m)) same (record {
-      cleared = record {
-        none = clear.none;
-        others = record {
-          contacts = clear.others.contacts;
-          domains = clear.others.domains;
-          rest = ap (λ (x : Content). record x { contacts = xs.contacts }) clear.others.rest;
-        };
-      };
-      contacts = ap (λ (x : Content). delete_where (contact_table.contact_with_id number) x.contacts) clear.others.rest;
-    })
+pub removed-so : (id number : ℤ) (xs m : Content) → number ≡ id → IsTransferCleared (transferable.Contact id) xs m → IsContactRemoved id xs (contacts_to (delete_where (contact_table.contact_with_id number)) m)
+removed-so id number xs m same clear = record {
+  cleared = record {
+    none = clear.none;
+    kept = record {
+      others = clear.kept.others;
+      rest = ap (λ (x : Content). record x { contacts = xs.contacts }) clear.kept.rest;
+    };
+  };
+  contacts = ap (λ k. delete_where (contact_table.contact_with_id k) m.contacts) same ∙ ap (λ (x : Content). delete_where (contact_table.contact_with_id id) x.contacts) clear.kept.rest;
+}
 
 module _ (xs ys : Content) (name : List ℕ) (whole : IsWhole xs) (after : IsWhole ys) where
   none_there : filter (contact_table.contact_with_name name) xs.contacts ≡ [] → ys ≡ xs → IsContactPut name None xs ys
   none_there none same =
-      let as_it_is : AreOtherTransfersKept (pos 0) xs xs = record { contacts = λ other e. refl; domains = λ domain. refl; rest = refl } in
+      let as_it_is : AreOtherTransfersKept (transferable.Contact (pos 0)) xs xs = record { others = λ other e. refl; rest = refl } in
       subst (λ z. IsWhole z → IsContactPut name None xs z) (sym same)
       (λ still. assembled xs xs name None (pos 0) (none-stands name_of (contact_of xs) name xs.contacts none) (λ q e. refl) as_it_is whole still) after
 
   removed : (row : contact_table.Contact) → filter (contact_table.contact_with_name name) xs.contacts ≡ row ∷ [] → IsContactRemoved row.id xs ys → IsContactPut name None xs ys
   removed row found gone = assembled xs ys name None row.id
       (ap (map_of name_of (contact_of ys)) gone.contacts
-      ∙ drop-stands key name_of (contact_of xs) (contact_of ys) name row xs.contacts found whole.keyed.contacts whole.named.contacts (λ r was e. reads-alike xs ys row.id r gone.cleared.others e))
+      ∙ drop-stands key name_of (contact_of xs) (contact_of ys) name row xs.contacts found whole.keyed.contacts whole.named.contacts (λ r was e. reads-alike xs ys row.id r gone.cleared.kept e))
       (λ q e. ap (filter (contact_table.contact_with_name q)) gone.contacts ∙ others-removed key name_of name xs.contacts row found whole.keyed.contacts q e)
-      gone.cleared.others
+      gone.cleared.kept
       whole after
 
   pub dropped : (row : Option contact_table.Contact) → filter (contact_table.contact_with_name name) xs.contacts ≡ rows_of row → IsContactDropped row xs ys → IsContactPut name None xs ys
@@ -90,65 +87,34 @@ module _ (xs ys : Content) (name : List ℕ) (whole : IsWhole xs) (after : IsWho
 
 -- ---- written into a row
 
-record IsWritten (id : ℤ) (c : Contact) (row : contact_table.Contact) : Type 0 where
-  number : row.id ≡ id
-  name : row.name ≡ c.name
-  again : (k : ℤ) → contact_row k c ≡ Some (record row { id = k })
+pub record IsWritten (c : Contact) (row : contact_table.Contact) : Type 0 where
+  pub name : row.name ≡ c.name
+  pub again : (k : ℤ) → contact_row k c ≡ Some (record row { id = k })
 
-written : (id : ℤ) (c : Contact) (row : contact_table.Contact) → contact_row id c ≡ Some row → IsWritten id c row
+pub written : (id : ℤ) (c : Contact) (row : contact_table.Contact) → contact_row id c ≡ Some row → IsWritten c row
 written id c row e =
     let columns = step (registration_columns kinds.Contact (registration_of c)) (λ x. postal_row c.postal >>= (λ p. Some (row_with id c x p))) row e in
     let postal = step (postal_row c.postal) (λ p. Some (row_with id c columns.given p)) row columns.rest in
     let same : row_with id c columns.given postal.given ≡ row = same_some (row_with id c columns.given postal.given) row postal.rest in
     record {
-      number = sym (ap (λ (r : contact_table.Contact). r.id) same);
       name = sym (ap (λ (r : contact_table.Contact). r.name) same);
       again = λ k. (λ i. columns.is i >>= (λ x. postal.is i >>= (λ p. Some (row_with k c x p)))) ∙ ap (λ (r : contact_table.Contact). Some (record r { id = k })) same;
     }
 
--- into the row of its name
-pub put-placed : (xs : Content) (c : Contact) (found row : contact_table.Contact) → contact_row found.id c ≡ Some row
-    → IsContactPlacedAt (Some found) c row xs (contacts_to (λ rows. insert_by contact_table.contacts.key rows row) xs)
-put-placed xs c found row e whole there =
-    let w = written found.id c row e in
-    record {
-      is = ap (λ k. contact_row k c) w.number ∙ e;
-      rows = placed-put key name_of c.name xs.contacts found there whole.keyed.contacts row w.number w.name;
-      rest = refl;
-    }
-
--- under a number of its own, after the others
-pub added : (xs : Content) (c : Contact) (row : contact_table.Contact) → contact_row (pos 0) c ≡ Some row → IsContactAdded c xs (contacts_to (appended contact_table.contacts (λ id. record row { id = id })) xs)
-added xs c row e =
-    let k = next_key contact_table.contacts.key xs.contacts in
-    record { row = record row { id = k }; is = (written (pos 0) c row e).again k; content = refl }
-
-pub added-placed : (xs m : Content) (c : Contact) (row : contact_table.Contact) → IsContactAdded c xs m → filter (contact_table.contact_with_name c.name) m.contacts ≡ row ∷ [] → IsContactPlacedAt None c row xs m
-added-placed xs m c row add found whole none =
-    let name = (written add.row.id c add.row add.is).name in
-    let rows : m.contacts ≡ xs.contacts ++ add.row ∷ [] = ap (λ (x : Content). x.contacts) add.content in
-    let same : add.row ≡ row = found-added key name_of c.name xs.contacts add.row row name none (sym (ap (filter (contact_table.contact_with_name c.name)) rows) ∙ found) in
-    subst (λ r. IsContactPlaced c r xs m) same (record {
-      is = add.is;
-      rows = subst (IsPlaced name_of c.name add.row xs.contacts) (sym rows) (placed-added key name_of c.name xs.contacts add.row name);
-      rest = add.content ∙ ap (λ l. record xs { contacts = l }) (sym rows);
-    })
-
 -- ---- put
 
 module _ (xs m ys : Content) (c : Contact) (row : contact_table.Contact) (whole : IsWhole xs) (after : IsWhole ys) (is : IsContact c)
-    (placed : IsContactPlaced c row xs m) (with : IsTransferPut row.id c.transfer m ys) where
+    (placed : IsContactPlaced c row xs m) (with : IsTransferPut (transferable.Contact row.id) c.transfer m ys) where
   rows_now : IsPlaced name_of c.name row xs.contacts ys.contacts
-  rows_now = subst (IsPlaced name_of c.name row xs.contacts) (sym (ap (λ (x : Content). x.contacts) with.others.rest)) placed.rows
+  rows_now = subst (IsPlaced name_of c.name row xs.contacts) (sym (ap (λ (x : Content). x.contacts) with.kept.rest)) placed.rows
 
   reads_now : contact_of ys row ≡ Some c
   reads_now = ap (λ (t : Option (Option Transfer)). t >>= (λ transfer. contact_in row transfer)) with.last ∙ contact_back row.id c row is placed.is
 
-  kept_now : AreOtherTransfersKept row.id xs (record ys { contacts = xs.contacts })
+  kept_now : AreOtherTransfersKept (transferable.Contact row.id) xs (record ys { contacts = xs.contacts })
   kept_now = record {
-    contacts = λ other e. with.others.contacts other e ∙ ap (λ (x : Content). filter (transfer_with_contact other) x.transfers) placed.rest;
-    domains = λ domain. with.others.domains domain ∙ ap (λ (x : Content). filter (transfer_with_domain domain) x.transfers) placed.rest;
-    rest = ap (λ (x : Content). record x { contacts = xs.contacts }) with.others.rest ∙ ap (λ (x : Content). record x { contacts = xs.contacts; transfers = ys.transfers }) placed.rest;
+    others = λ other e. with.kept.others other e ∙ ap (λ (x : Content). filter (is_of other) x.transfers) placed.rest;
+    rest = ap (λ (x : Content). record x { contacts = xs.contacts }) with.kept.rest ∙ ap (λ (x : Content). record x { contacts = xs.contacts; transfers = ys.transfers }) placed.rest;
   }
 
   pub contact-put : IsContactPut c.name (Some c) xs ys

@@ -1,7 +1,5 @@
 -- What rows of hosts mean after a change.
-use Rattle.std.proofs.Common.{◌≡◌, ℕ, ℤ, pos, true, false, List, [], ◌∷◌, ◌++◌, filter, Option, Some, None, refl, sym, ap, subst, ◌∙◌, int_eq}
-use Rattle.sqlrows.specs.inner.Layouts.{appended}
-use Rattle.sqlite_keyed.specs.Keyed.{insert_by, next_key}
+use Rattle.std.proofs.Common.{◌≡◌, ℕ, ℤ, pos, true, false, List, [], ◌∷◌, filter, Option, Some, None, refl, sym, ap, subst, ◌∙◌, int_eq}
 use Rattle.sqlite_keyed.specs.Lists.{delete_where}
 use Rattle.sqlite_rules.specs.Lists.{Has}
 use Rattle.objects.specs.declared.host.Host.{Host}
@@ -20,9 +18,9 @@ use Rattle.sqlrows.specs.Read.{rows_of}
 use Rattle.sqlobjects.specs.inner.Changes.{IsHostPut, put}
 use Rattle.sqlobjects.specs.Objects.{addresses_of, contacts_of, host_of, hosts_of}
 use Rattle.sqlobjects.specs.Sponsors.{is_sponsor_right, sponsor_of}
-use Rattle.sqlobjects.specs.inner.Stages.{AreAddressesPut, AreOtherAddressesKept, AreOthersKept, IsHostAdded, IsHostDropped, IsHostPlaced, IsHostPlacedAt, IsHostRemoved, IsHostRow, IsPlaced}
+use Rattle.sqlobjects.specs.inner.Stages.{AreAddressesPut, AreOtherAddressesKept, AreOthersKept, IsHostDropped, IsHostPlaced, IsHostRemoved, IsHostRow, IsPlaced}
 use Rattle.sqlobjects.proofs.SponsorLemmas.{nobody, same-from, sponsor-kept}
-use Rattle.sqlobjects.proofs.PutLemmas.{drop-stands, found-added, map_of, names_kept, none-removed, none-stands, others-removed, placed-added, placed-put, put-stands}
+use Rattle.sqlobjects.proofs.PutLemmas.{drop-stands, map_of, names_kept, none-removed, none-stands, others-removed, put-stands}
 
 abbrev name_of : host_table.Host → List ℕ
 name_of row = row.name
@@ -109,34 +107,6 @@ written xs id h row e =
         sponsor = e.sponsor;
       };
     }
-
--- into the row of its name
-pub put-placed : (xs : Content) (h : Host) (found row : host_table.Host) → IsHostRow xs found.id h row
-    → IsHostPlacedAt (Some found) h row xs (hosts_to (λ rows. insert_by host_table.hosts.key rows row) xs)
-put-placed xs h found row e whole there =
-    let w = written xs found.id h row e in
-    record {
-      is = subst (λ k. IsHostRow xs k h row) (sym w.number) e;
-      rows = placed-put key name_of h.name xs.hosts found there whole.keyed.hosts row w.number w.name;
-      rest = refl;
-    }
-
--- under a number of its own, after the others
-pub added : (xs : Content) (h : Host) (row : host_table.Host) → IsHostRow xs (pos 0) h row → IsHostAdded h xs (hosts_to (appended host_table.hosts (λ id. record row { id = id })) xs)
-added xs h row e =
-    let k = next_key host_table.hosts.key xs.hosts in
-    record { row = record row { id = k }; is = (written xs (pos 0) h row e).again k; content = refl }
-
-pub added-placed : (xs m : Content) (h : Host) (row : host_table.Host) → IsHostAdded h xs m → filter (host_table.host_with_name h.name) m.hosts ≡ row ∷ [] → IsHostPlacedAt None h row xs m
-added-placed xs m h row add found whole none =
-    let name = (written xs add.row.id h add.row add.is).name in
-    let rows : m.hosts ≡ xs.hosts ++ add.row ∷ [] = ap (λ (x : Content). x.hosts) add.content in
-    let same : add.row ≡ row = found-added key name_of h.name xs.hosts add.row row name none (sym (ap (filter (host_table.host_with_name h.name)) rows) ∙ found) in
-    subst (λ r. IsHostPlaced h r xs m) same (record {
-      is = add.is;
-      rows = subst (IsPlaced name_of h.name add.row xs.hosts) (sym rows) (placed-added key name_of h.name xs.hosts add.row name);
-      rest = add.content ∙ ap (λ l. record xs { hosts = l }) (sym rows);
-    })
 
 -- ---- put
 

@@ -2,6 +2,7 @@ pub mod NameLemmas
 pub mod FoundLemmas
 pub mod PutLemmas
 pub mod StepLemmas
+pub mod NamedRowLemmas
 pub mod TransferLemmas
 pub mod ContactLemmas
 pub mod AddressLemmas

@@ -3,8 +3,9 @@ ghost use Rattle.std.specs.Prelude.{◌≡◌, true, Some, None};
 ghost use Rattle.sqlrows.specs.Meanings.{Changes};
 ghost use Rattle.sqlobjects.specs.inner.Changes.{IsContactPut};
 
-use crate::contact_rows::{place, remove_found, row_named};
-use crate::transfers::put_transfer;
+use crate::contact_rows::{place, remove_found};
+use crate::named_rows::row_named;
+use crate::transfers::{Transferable, put_transfer};
 use basis::text::Text;
 use objects::Contact;
 use sqlcolumns::is_contact;
@@ -51,7 +52,7 @@ fn put<S: Alter>(store: &mut RowStore<S>, alloc: Global, contact: &Contact) -> R
     }
     store.whole();
     let row = place(store, alloc, contact)?;
-    put_transfer(store, &row, &contact.transfer)?;
+    put_transfer(store, Transferable::of_contact(&row), &contact.transfer)?;
     store.whole();
     Ok(())
 }

@@ -7,7 +7,8 @@ ghost use Rattle.sqlobjects.specs.inner.Changes.{IsRowRenamed};
 ghost use Rattle.sqlobjects.specs.inner.Stages.{ChangesGiving, IsHostFound, IsRowTaken};
 
 use crate::addresses::put_addresses;
-use crate::host_rows::{row_again, row_named, row_to_change};
+use crate::host_rows::{row_again, row_to_change};
+use crate::named_rows::row_named;
 use basis::text::Text;
 use objects::Host;
 use sqlcolumns::is_host;
@@ -61,7 +62,7 @@ fn check_free<S: Alter>(store: &mut RowStore<S>, name: &Text) -> Result<(), Book
     ensures { FindsSome result (λ done. filter (host_with_name name.now) store.old.content.hosts ≡ [])
         store.old store.new }
 {
-    match row_named(store, name)? {
+    match row_named::<HostRow, S>(store, name)? {
         None => Ok(()),
         Some(_) => Err(BookFault::Store),
     }

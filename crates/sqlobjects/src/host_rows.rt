@@ -1,39 +1,25 @@
-//! Rows of hosts: found by name, put, added, and removed with their addresses.
-ghost use Rattle.std.specs.Prelude.{◌≡◌, true, [], ◌∷◌, filter, Some, None, IfOk};
-ghost use Rattle.sqlcolumns.specs.Hosts as hosts;
+//! Rows of hosts: written, and removed with their addresses.
+ghost use Rattle.std.specs.Prelude.{◌≡◌, true, Some, None, IfOk};
 ghost use Rattle.sqlcolumns.specs.inner.Hosts as inner_hosts;
-ghost use Rattle.sqltables.specs.Host.{host_with_name};
 ghost use Rattle.transactions.specs.States.{FindsSome};
 ghost use Rattle.sqlrows.specs.Meanings.{Changes};
-ghost use Rattle.sqlrows.specs.Read.{rows_of};
-ghost use Rattle.sqlobjects.specs.inner.Stages.{ChangesGiving, IsHostAdded, IsHostDropped, IsHostFound, IsHostPlacedAt, IsHostPlacedRight, IsHostRemoved, IsHostRow};
+ghost use Rattle.sqlobjects.specs.inner.Stages.{ChangesGiving, IsHostDropped, IsHostFound, IsHostPlacedRight, IsHostRemoved, IsHostRow};
 
 use crate::addresses::clear_addresses;
 use crate::hosts::number_of;
+use crate::named_rows::{place_row, row_named};
 use crate::sponsors::{check_sponsor, with_sponsor};
 use basis::text::Text;
 use objects::Host;
 use sqlcolumns::host_row;
 use sqlite::Alter;
-use sqlrows::{only, or_fault};
+use sqlrows::or_fault;
 use sqltables::{HostRow, RowStore};
 use std::alloc::Global;
 use transactions::BookFault;
 
-/// The row of the host of this name, if there is one.
-pub(crate) fn row_named<S: Alter>(
-    store: &mut RowStore<S>,
-    name: &Text,
-) -> Result<Option<HostRow>, BookFault>
-    ensures { FindsSome result (λ row. filter (host_with_name name.now) store.old.content.hosts
-        ≡ rows_of row) store.old store.new }
-{
-    let rows = store.hosts_by_name(name.as_str())?;
-    only(rows)
-}
-
-/// The same of a host that is to be changed. One whose row has another sponsor than it has to have is
-/// refused.
+/// The row of the host of this name, if there is one, where it is to be changed. One that has another
+/// sponsor than it has to have is refused.
 pub(crate) fn row_to_change<S: Alter>(
     store: &mut RowStore<S>,
     name: &Text,
@@ -82,64 +68,8 @@ pub(crate) fn place<S: Alter>(
         store.new }
 {
     let found = row_to_change(store, &host.name)?;
-    place_at(store, alloc, found, host)
-}
-
-/// The same, told the row that was found.
-fn place_at<S: Alter>(
-    store: &mut RowStore<S>,
-    alloc: Global,
-    found: Option<HostRow>,
-    host: &Host,
-) -> Result<HostRow, BookFault>
-    requires { store.old.is_open ≡ true }
-    ensures { ChangesGiving result (λ row old new. IsHostPlacedAt found host.now row old new) store.old
-        store.new }
-{
-    match found {
-        None => add_row(store, alloc, host),
-        Some(found) => put_row(store, alloc, &found, host),
-    }
-}
-
-/// Puts a host into the row of its name.
-fn put_row<S: Alter>(
-    store: &mut RowStore<S>,
-    alloc: Global,
-    found: &HostRow,
-    host: &Host,
-) -> Result<HostRow, BookFault>
-    requires { store.old.is_open ≡ true }
-    ensures { ChangesGiving result (λ row old new. IsHostPlacedAt (Some found.now) host.now row old new)
-        store.old store.new }
-{
-    let row = row_again(store, alloc, found, host)?;
-    store.put_host(&row)?;
-    Ok(row)
-}
-
-/// Puts a host, whose name no row has, into a new row.
-fn add_row<S: Alter>(
-    store: &mut RowStore<S>,
-    alloc: Global,
-    host: &Host,
-) -> Result<HostRow, BookFault>
-    requires { store.old.is_open ≡ true }
-    ensures { ChangesGiving result (λ row old new. IsHostPlacedAt None host.now row old new) store.old
-        store.new }
-{
-    append(store, alloc, host)?;
-    row_there(store, &host.name)
-}
-
-/// Adds a host's row after the others.
-fn append<S: Alter>(store: &mut RowStore<S>, alloc: Global, host: &Host) -> Result<(), BookFault>
-    requires { store.old.is_open ≡ true }
-    ensures { Changes result (IsHostAdded host.now) store.old store.new }
-{
     let row = row_of(store, alloc, 0, host)?;
-    store.append_host(&row)?;
-    Ok(())
+    place_row(store, found, row)
 }
 
 /// A host's row under this number, but for its addresses. One that can't be written is refused.
@@ -156,13 +86,6 @@ fn row_of<S: Alter>(
     with_sponsor(store, row)
 }
 
-/// The same without a sponsor.
-fn row_without(alloc: Global, id: i64, host: &Host) -> Result<HostRow, BookFault>
-    ensures { IfOk result (λ row. inner_hosts.host_row id None host.now ≡ Some row) }
-{
-    or_fault(host_row(alloc, id, None, host)?)
-}
-
 /// The same under the number of a row that is there.
 pub(crate) fn row_again<S: Alter>(
     store: &mut RowStore<S>,
@@ -176,13 +99,9 @@ pub(crate) fn row_again<S: Alter>(
     row_of(store, alloc, found.id, host)
 }
 
-/// The row of the host of this name.
-fn row_there<S: Alter>(store: &mut RowStore<S>, name: &Text) -> Result<HostRow, BookFault>
-    ensures { FindsSome result (λ row. filter (host_with_name name.now) store.old.content.hosts ≡ row
-        ∷ []) store.old store.new }
+/// A host's row without a sponsor.
+fn row_without(alloc: Global, id: i64, host: &Host) -> Result<HostRow, BookFault>
+    ensures { IfOk result (λ row. inner_hosts.host_row id None host.now ≡ Some row) }
 {
-    match row_named(store, name)? {
-        None => Err(BookFault::Store),
-        Some(row) => Ok(row),
-    }
+    or_fault(host_row(alloc, id, None, host)?)
 }

@@ -9,6 +9,10 @@
 //! A host's row also says who sponsors the host (`specs/Sponsors.antt`): that is written with the host,
 //! and `follow` writes it where the domain above is to have another sponsor. A row in which it is wrong
 //! is refused, so that no change mends it unseen.
+//!
+//! The last transfer of a domain lies in the same table as a contact's, so both are put here
+//! (`Transferable`).
+//! Rows that have names, those of domains too, are found and put in one way (`NamedRow`).
 #![tactic(auto)]
 
 mod addresses;
@@ -20,6 +24,7 @@ mod host_changes;
 mod host_names;
 mod host_rows;
 mod hosts;
+mod named_rows;
 mod sponsors;
 mod transfers;
 
@@ -29,3 +34,5 @@ pub use following::follow;
 pub use host_changes::{drop_host, put_host};
 pub use host_names::rename_row;
 pub use hosts::{has_host, host, host_addresses};
+pub use named_rows::{NamedRow, place_row, row_named};
+pub use transfers::{Transferable, clear_transfer, put_transfer};

@@ -1,78 +1,106 @@
-//! The transfer of a contact.
-ghost use Rattle.std.specs.Prelude.{◌≡◌, true, is_some, IfOk, IfSome};
+//! The last transfer of a contact or a domain.
+ghost use Rattle.std.specs.Prelude.{◌≡◌, true, filter, IfOk, IfSome};
 ghost use Rattle.std.specs.List.{list_any};
+ghost use Rattle.sqlite_keyed.specs.Lists.{delete_where};
 ghost use Rattle.sqlcolumns.specs.Transfers.{IsTransfer};
-ghost use Rattle.transactions.specs.States.{Makes};
+ghost use Rattle.transactions.specs.States.{Finds, Makes};
 ghost use Rattle.sqlrows.specs.Meanings.{Changes};
 ghost use Rattle.sqltables.specs.inner.Content.{transfers_to};
-ghost use Rattle.sqltables.specs.Transfer as table;
-ghost use Rattle.sqlobjects.specs.inner.Stages.{IsTransferCleared, IsTransferPut, transfer_row_of, with_added};
+ghost use Rattle.sqlobjects.specs.inner.Transfers as spec;
 
-use crate::contact_rows::number_of;
+use basis::list::Seq;
 use objects::Transfer;
 use sqlcolumns::{is_transfer, transfer_row};
 use sqlite::Alter;
 use sqlrows::Number;
-use sqltables::{ContactRow, RowStore, TransferRow};
+use sqltables::{ContactRow, DomainRow, RowStore, TransferRow};
 use transactions::BookFault;
 
-/// Removes the transfers of the contact with this number. One that is a domain's too is refused.
-pub(crate) fn clear_transfer<S: Alter>(
+/// What can be transferred, by the number of its row.
+#[derive(Clone, Copy, Drop)]
+pub enum Transferable {
+    Contact(i64),
+    Domain(i64),
+}
+
+impl Transferable {
+    ghost use Rattle.sqlobjects.specs.declared.transfers.Transferable.TheVariants as transferable;
+
+    pub fn of_contact(row: &ContactRow) -> Transferable
+        ensures { result ≡ transferable.Contact row.now.id }
+    {
+        Transferable::Contact(row.id)
+    }
+
+    pub fn of_domain(row: &DomainRow) -> Transferable
+        ensures { result ≡ transferable.Domain row.now.id }
+    {
+        Transferable::Domain(row.id)
+    }
+}
+
+/// Removes the transfers of this object. One that is another's too is refused.
+pub fn clear_transfer<S: Alter>(
     store: &mut RowStore<S>,
-    contact: Number,
+    object: Transferable,
 ) -> Result<(), BookFault>
     requires { store.old.is_open ≡ true }
-    ensures { Changes result (IsTransferCleared contact) store.old store.new }
+    ensures { Changes result (spec.IsTransferCleared object) store.old store.new }
 {
-    let rows = store.transfers_by_contact(contact)?;
+    let rows = rows_of(store, object)?;
     if rows.is_empty() {
         return Ok(());
     }
-    if names_domain(rows.as_slice()) {
+    if name_both(rows.as_slice()) {
         return Err(BookFault::Store);
     }
-    store.remove_transfers_by_contact(contact)?;
+    remove_rows(store, object)?;
     Ok(())
 }
 
-/// Gives a contact, which lies in this row, its last transfer, or none, in place of the one that it had.
-pub(crate) fn put_transfer<S: Alter>(
+/// Gives an object its last transfer, or none, in place of the one that it had.
+pub fn put_transfer<S: Alter>(
     store: &mut RowStore<S>,
-    contact: &ContactRow,
+    object: Transferable,
     transfer: &Option<Transfer>,
 ) -> Result<(), BookFault>
     requires { store.old.is_open ≡ true }
-    ensures { Changes result (IsTransferPut contact.now.id transfer.now) store.old store.new }
+    ensures { Changes result (spec.IsTransferPut object transfer.now) store.old store.new }
 {
-    let row = row_of(contact, transfer)?;
-    let number = number_of(contact);
-    clear_transfer(store, number)?;
+    let row = maybe_row(object, transfer)?;
+    clear_transfer(store, object)?;
     add_row(store, row)?;
     Ok(())
 }
 
-/// The row of a contact's transfer, but for its number. A transfer that wouldn't be read back is
-/// refused.
-fn row_of(
-    contact: &ContactRow,
-    transfer: &Option<Transfer>,
-) -> Result<Option<TransferRow>, BookFault>
-    ensures row { IfOk result (λ row. row ≡ transfer_row_of contact.now.id transfer.now) }
-    ensures is { IfOk result (λ row. IfSome transfer.now IsTransfer) }
+fn rows_of<S: Alter>(
+    store: &mut RowStore<S>,
+    object: Transferable,
+) -> Result<Seq<TransferRow>, BookFault>
+    ensures { Finds result (filter (spec.is_of object) store.old.content.transfers) store.old
+        store.new }
 {
-    let Some(transfer) = transfer else {
-        return Ok(None);
-    };
-    if !is_transfer(transfer) {
-        return Err(BookFault::Store);
+    match object {
+        Transferable::Contact(id) => store.transfers_by_contact(Number::new(id)),
+        Transferable::Domain(id) => store.transfers_by_domain(Number::new(id)),
     }
-    Ok(Some(transfer_row(0, Some(contact.id), None, transfer)))
+}
+
+fn remove_rows<S: Alter>(store: &mut RowStore<S>, object: Transferable) -> Result<(), BookFault>
+    requires { store.old.is_open ≡ true }
+    ensures { Makes result (transfers_to (delete_where (spec.is_of object)) store.old.content) store.old
+        store.new }
+{
+    match object {
+        Transferable::Contact(id) => store.remove_transfers_by_contact(Number::new(id)),
+        Transferable::Domain(id) => store.remove_transfers_by_domain(Number::new(id)),
+    }
 }
 
 /// Adds a row, if there is one.
 fn add_row<S: Alter>(store: &mut RowStore<S>, row: Option<TransferRow>) -> Result<(), BookFault>
     requires { store.old.is_open ≡ true }
-    ensures { Makes result (transfers_to (with_added row) store.old.content) store.old store.new }
+    ensures { Makes result (transfers_to (spec.with_added row) store.old.content) store.old store.new }
 {
     match row {
         None => Ok(()),
@@ -83,9 +111,37 @@ fn add_row<S: Alter>(store: &mut RowStore<S>, row: Option<TransferRow>) -> Resul
     }
 }
 
-/// Whether one of these is a domain's.
-fn names_domain(rows: &[TransferRow]) -> bool
-    ensures { result ≡ list_any (λ (t : table.Transfer). is_some t.domain) rows.now }
+/// The row of an object's transfer, if there is one. A transfer that wouldn't be read back is refused.
+fn maybe_row(
+    object: Transferable,
+    transfer: &Option<Transfer>,
+) -> Result<Option<TransferRow>, BookFault>
+    ensures row { IfOk result (λ row. row ≡ spec.maybe_row object transfer.now) }
+    ensures is { IfOk result (λ row. IfSome transfer.now IsTransfer) }
 {
-    rows.iter().any(|row| row.domain.is_some())
+    let Some(transfer) = transfer else {
+        return Ok(None);
+    };
+    if !is_transfer(transfer) {
+        return Err(BookFault::Store);
+    }
+    Ok(Some(row_of(object, transfer)))
+}
+
+/// The row of an object's transfer, but for its number.
+fn row_of(object: Transferable, transfer: &Transfer) -> TransferRow
+    ensures { result ≡ spec.row_of object transfer.now }
+{
+    match object {
+        Transferable::Contact(id) => transfer_row(0, Some(id), None, transfer),
+        Transferable::Domain(id) => transfer_row(0, None, Some(id), transfer),
+    }
+}
+
+/// Whether one of these is of a contact and of a domain.
+fn name_both(rows: &[TransferRow]) -> bool
+    ensures { result ≡ list_any spec.names_both rows.now }
+{
+    rows.iter()
+        .any(|row| row.contact.is_some() && row.domain.is_some())
 }

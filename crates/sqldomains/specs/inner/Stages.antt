@@ -1,52 +1,22 @@
 -- What single steps of a change of a domain make.
-use Rattle.std.specs.Prelude.{◌≡◌, ℕ, ℤ, pos, true, false, List, [], ◌++◌, ◌∷◌, filter, Option, Some, None, option_map}
+use Rattle.std.specs.Prelude.{◌≡◌, ℕ, ℤ, true, false, List, [], ◌∷◌, filter, Option, Some, None}
 use Rattle.std.specs.Ordering.{int_eq}
 use Rattle.sqlite_keyed.specs.Lists.{delete_where}
 use Rattle.objects.specs.declared.domain.Domain.{Domain}
 use Rattle.objects.specs.declared.domain.Links.{Links}
-use Rattle.objects.specs.declared.transfer.Transfer.{Transfer}
 use Rattle.sqlcolumns.specs.declared.code.Role.{Role}
 use Rattle.sqlcolumns.specs.declared.code.Role.TheVariants as roles
 use Rattle.sqlcolumns.specs.Codes.{role_column}
 use Rattle.sqlcolumns.specs.inner.Domains.{domain_row}
-use Rattle.sqlcolumns.specs.Transfers.{transfer_row}
 use Rattle.sqltables.specs.Content.{Content}
-use Rattle.sqltables.specs.inner.Content.{domains_to}
 use Rattle.sqltables.specs.Domain as table
 use Rattle.sqltables.specs.inner.Domain as inner_table
 use Rattle.sqltables.specs.Link.{Link, link_with_domain}
-use Rattle.sqltables.specs.Transfer as transfer_table
 use Rattle.sqltables.specs.Transfer.{transfer_with_contact, transfer_with_domain}
-use Rattle.sqltables.specs.inner.Whole.{IsWhole}
-use Rattle.sqlrows.specs.Read.{rows_of}
 use Rattle.sqlobjects.specs.Changes.{contact_name, host_name}
-use Rattle.sqlobjects.specs.Objects.{last_transfer}
-use Rattle.sqlobjects.specs.inner.Stages.{IsPlaced}
+use Rattle.sqlobjects.specs.inner.Stages.{IsRowPlaced, domains}
 use Rattle.sqldomains.specs.declared.domain_rows.DerivedColumns.{DerivedColumns}
 use Rattle.sqldomains.specs.Domains.{are_dated, linked_name, registrant_alone, with_links, with_name}
-
--- ---- transfers
-
--- no contact has another transfer than before, nor has a domain but the one with this number
-pub record AreOtherTransfersKept (id : ℤ) (old new : Content) : Type 0 where
-  pub domains : (other : ℤ) → int_eq id other ≡ false → filter (transfer_with_domain other) new.transfers ≡ filter (transfer_with_domain other) old.transfers
-  pub contacts : (contact : ℤ) → filter (transfer_with_contact contact) new.transfers ≡ filter (transfer_with_contact contact) old.transfers
-  pub rest : new ≡ record old { transfers = new.transfers }
-
--- the domain with this number has no transfer
-pub record IsTransferCleared (id : ℤ) (old new : Content) : Type 0 where
-  pub none : filter (transfer_with_domain id) new.transfers ≡ []
-  pub others : AreOtherTransfersKept id old new
-
--- the row of a domain's transfer, if there is one, but for its number
-abbrev pub transfer_row_of : ℤ → Option Transfer → Option transfer_table.Transfer
-transfer_row_of id transfer =
-    option_map (λ (t : Transfer). transfer_row (pos 0) None (Some id) t) transfer
-
--- the domain with this number has this as its last transfer
-pub record IsTransferPut (id : ℤ) (transfer : Option Transfer) (old new : Content) : Type 0 where
-  pub last : last_transfer (filter (transfer_with_domain id) new.transfers) ≡ Some transfer
-  pub others : AreOtherTransfersKept id old new
 
 -- ---- links
 
@@ -123,24 +93,10 @@ pub record AreOtherPartsKept (id : ℤ) (old new : Content) : Type 0 where
 abbrev pub row_beside : ℤ → DerivedColumns → Domain → Option table.Domain
 row_beside id beside d = domain_row id beside.registrant beside.due d
 
--- the domain, but for its links and its transfer, is in a row after the others
-pub record IsDomainAdded (d : Domain) (beside : DerivedColumns) (old new : Content) : Type 0 where
-  pub row : table.Domain
-  pub is : row_beside row.id beside d ≡ Some row
-  pub content : new ≡ domains_to (λ rows. rows ++ row ∷ []) old
-
 -- the domain, but for its links and its transfer, is in this row, and no other row is changed
-pub record IsDomainPlaced (d : Domain) (beside : DerivedColumns) (row : table.Domain) (old new : Content) : Type 0 where
-  pub is : row_beside row.id beside d ≡ Some row
-  pub rows : IsPlaced (λ (r : table.Domain). r.name) d.name row old.domains new.domains
-  pub rest : new ≡ record old { domains = new.domains }
-
--- the same where it was this row, or none, that had its name
-abbrev pub IsDomainPlacedAt : Option table.Domain → Domain → DerivedColumns → table.Domain → Content
-    → Content → Type 0
-IsDomainPlacedAt found d beside row old new =
-    IsWhole old → filter (table.domain_with_name d.name) old.domains ≡ rows_of found
-    → IsDomainPlaced d beside row old new
+abbrev pub IsDomainPlaced : Domain → DerivedColumns → table.Domain → Content → Content → Type 0
+IsDomainPlaced d beside =
+    IsRowPlaced domains (λ (row : table.Domain). row_beside row.id beside d ≡ Some row) d.name
 
 -- the domain with this number, its links and its transfer aren't there any more
 pub record IsDomainRemoved (id : ℤ) (old new : Content) : Type 0 where

@@ -1,32 +1,31 @@
 -- What single steps of a change make.
-use Rattle.std.specs.Prelude.{◌≡◌, ℕ, ℤ, pos, true, false, List, [], ◌++◌, ◌∷◌, filter, Option, Some, None, IfSome, is_some, option_map, if◌then◌else◌, Result, Ok, Err}
+use Rattle.std.specs.Prelude.{◌≡◌, refl, ℕ, ℤ, true, false, List, [], ◌++◌, ◌∷◌, filter, Option, Some, None, IfSome, is_some, if◌then◌else◌, Result, Ok, Err}
 use Rattle.std.specs.Ordering.{int_eq}
-use Rattle.sqlite_keyed.specs.Keyed.{insert_by}
+use Rattle.sqlite_keyed.specs.Keyed.{IsKeyedBy, insert_by, next_key}
 use Rattle.sqlite_keyed.specs.Lists.{delete_where}
 use Rattle.sqlite_rules.specs.Lists.{Has}
 use Rattle.sqlite_typed.specs.Tests.{bytes_eq}
 use Rattle.objects.specs.declared.contact.Contact.{Contact}
 use Rattle.objects.specs.declared.host.Host.{Host}
-use Rattle.objects.specs.declared.transfer.Transfer.{Transfer}
 use Rattle.sqlcolumns.specs.inner.Contacts.{contact_row}
 use Rattle.sqlcolumns.specs.inner.Hosts.{host_row}
 use Rattle.sqlcolumns.specs.Steps.{◌>>=◌}
-use Rattle.sqlcolumns.specs.Transfers.{is_same, transfer_row}
-use Rattle.sqlrows.specs.inner.Layouts.{appended}
+use Rattle.sqlcolumns.specs.Transfers.{is_same}
 use Rattle.sqltables.specs.Contact as contact_table
 use Rattle.sqltables.specs.Content.{Content}
-use Rattle.sqltables.specs.inner.Content.{contacts_to, hosts_to}
+use Rattle.sqltables.specs.inner.Content.{hosts_to}
+use Rattle.sqltables.specs.Domain as domain_table
 use Rattle.sqltables.specs.Host as host_table
-use Rattle.sqltables.specs.Transfer as transfer_table
-use Rattle.sqltables.specs.Transfer.{transfer_with_contact, transfer_with_domain}
 use Rattle.sqltables.specs.inner.Whole.{IsWhole}
 use Rattle.transactions.specs.declared.fault.BookFault.{BookFault}
 use Rattle.transactions.specs.States.{StateOf, Stays}
 use Rattle.sqlrows.specs.Meanings.{HasChanged}
 use Rattle.sqlrows.specs.Read.{rows_of}
 use Rattle.sqlobjects.specs.declared.following.Sponsors.{Sponsors}
-use Rattle.sqlobjects.specs.Objects.{addresses_of, last_transfer}
+use Rattle.sqlobjects.specs.declared.transfers.Transferable.TheVariants as transferable
+use Rattle.sqlobjects.specs.Objects.{addresses_of}
 use Rattle.sqlobjects.specs.Sponsors.{AreMoved, sponsor_of}
+use Rattle.sqlobjects.specs.inner.Transfers.{IsTransferCleared}
 
 -- a change in a way that hangs on what is answered
 abbrev pub ChangesGiving : {A C : Type 0} → Result A BookFault → (A → C → C → Type 0) → StateOf C
@@ -46,57 +45,96 @@ pub record IsPlaced {P : Type 0} (name : P → List ℕ) (n : List ℕ) (row : P
   pub there : Has new row
   pub others : AreOthersKept name n old new
 
+-- ---- rows that have names
+
+-- A table in which no name comes twice: what numbers and names its rows have, how they lie among all rows,
+-- and a row under another number.
+pub record NamedTable (R : Type 0) : Type 0 where
+  pub key : R → ℤ
+  pub name : R → List ℕ
+  pub numbered : R → ℤ → R
+  pub rows : Content → List R
+  pub with_rows : List R → Content → Content
+  pub number_is : (row : R) (id : ℤ) → key (numbered row id) ≡ id
+  pub name_is : (row : R) (id : ℤ) → name (numbered row id) ≡ name row
+  pub rows_are : (all : List R) (xs : Content) → rows (with_rows all xs) ≡ all
+  pub keyed : (xs : Content) → IsWhole xs → IsKeyedBy key (rows xs)
+
+abbrev pub contacts : NamedTable contact_table.Contact
+contacts = record {
+  key = λ row. row.id;
+  name = λ row. row.name;
+  numbered = λ row id. record row { id = id };
+  rows = λ xs. xs.contacts;
+  with_rows = λ all xs. record xs { contacts = all };
+  number_is = λ row id. refl;
+  name_is = λ row id. refl;
+  rows_are = λ all xs. refl;
+  keyed = λ xs whole. whole.keyed.contacts;
+}
+
+abbrev pub hosts : NamedTable host_table.Host
+hosts = record {
+  key = λ row. row.id;
+  name = λ row. row.name;
+  numbered = λ row id. record row { id = id };
+  rows = λ xs. xs.hosts;
+  with_rows = λ all xs. record xs { hosts = all };
+  number_is = λ row id. refl;
+  name_is = λ row id. refl;
+  rows_are = λ all xs. refl;
+  keyed = λ xs whole. whole.keyed.hosts;
+}
+
+abbrev pub domains : NamedTable domain_table.Domain
+domains = record {
+  key = λ row. row.id;
+  name = λ row. row.name;
+  numbered = λ row id. record row { id = id };
+  rows = λ xs. xs.domains;
+  with_rows = λ all xs. record xs { domains = all };
+  number_is = λ row id. refl;
+  name_is = λ row id. refl;
+  rows_are = λ all xs. refl;
+  keyed = λ xs whole. whole.keyed.domains;
+}
+
+-- the rows of a name
+abbrev pub rows_named : {R : Type 0} → NamedTable R → List ℕ → Content → List R
+rows_named table n xs = filter (λ row. bytes_eq (table.name row) n) (table.rows xs)
+
+-- with this row in the place of the one with its number, or beside all others
+abbrev pub with_row : {R : Type 0} → NamedTable R → R → Content → Content
+with_row table row xs = table.with_rows (insert_by table.key (table.rows xs) row) xs
+
+-- with this row after the others, under a number of its own
+abbrev pub with_last : {R : Type 0} → NamedTable R → R → Content → Content
+with_last table row xs =
+    table.with_rows (table.rows xs ++ table.numbered row (next_key table.key (table.rows xs)) ∷ []) xs
+
+-- what has this name is in this row, and no other row is changed
+pub record IsRowPlaced {R : Type 0} (table : NamedTable R) (is_row : R → Type 0) (n : List ℕ) (row : R) (old new : Content) : Type 0 where
+  pub is : is_row row
+  pub rows : IsPlaced table.name n row (table.rows old) (table.rows new)
+  pub rest : new ≡ table.with_rows (table.rows new) old
+
+-- a row is that which was given, under the number that it has, if it was this row, or none, that had its
+-- name
+abbrev pub IsPlacedAt : {R : Type 0} → NamedTable R → Option R → R → R → Content → Content → Type 0
+IsPlacedAt table found given row old new =
+    IsWhole old → rows_named table (table.name given) old ≡ rows_of found
+    → IsRowPlaced table (λ it. it ≡ table.numbered given (table.key it)) (table.name given) row old new
+
 -- ---- contacts
 
--- no domain has another transfer than before, nor has a contact but the one with this number
-pub record AreOtherTransfersKept (id : ℤ) (old new : Content) : Type 0 where
-  pub contacts : (other : ℤ) → int_eq id other ≡ false → filter (transfer_with_contact other) new.transfers ≡ filter (transfer_with_contact other) old.transfers
-  pub domains : (domain : ℤ) → filter (transfer_with_domain domain) new.transfers ≡ filter (transfer_with_domain domain) old.transfers
-  pub rest : new ≡ record old { transfers = new.transfers }
-
--- the contact with this number has no transfer
-pub record IsTransferCleared (id : ℤ) (old new : Content) : Type 0 where
-  pub none : filter (transfer_with_contact id) new.transfers ≡ []
-  pub others : AreOtherTransfersKept id old new
-
--- the row of a contact's transfer, if there is one, but for its number
-abbrev pub transfer_row_of : ℤ → Option Transfer → Option transfer_table.Transfer
-transfer_row_of id transfer =
-    option_map (λ (t : Transfer). transfer_row (pos 0) (Some id) None t) transfer
-
--- the rows, and after them this one, if there is one, under a number of its own
-abbrev pub with_added : Option transfer_table.Transfer → List transfer_table.Transfer
-    → List transfer_table.Transfer
-with_added None rows = rows
-with_added (Some row) rows = appended transfer_table.transfers (λ id. record row { id = id }) rows
-
--- the contact with this number has this as its last transfer
-pub record IsTransferPut (id : ℤ) (transfer : Option Transfer) (old new : Content) : Type 0 where
-  pub last : last_transfer (filter (transfer_with_contact id) new.transfers) ≡ Some transfer
-  pub others : AreOtherTransfersKept id old new
-
--- the contact, but for its transfer, is in a row after the others
-pub record IsContactAdded (c : Contact) (old new : Content) : Type 0 where
-  pub row : contact_table.Contact
-  pub is : contact_row row.id c ≡ Some row
-  pub content : new ≡ contacts_to (λ rows. rows ++ row ∷ []) old
-
 -- the contact, but for its transfer, is in this row, and no other row is changed
-pub record IsContactPlaced (c : Contact) (row : contact_table.Contact) (old new : Content) : Type 0 where
-  pub is : contact_row row.id c ≡ Some row
-  pub rows : IsPlaced (λ (r : contact_table.Contact). r.name) c.name row old.contacts new.contacts
-  pub rest : new ≡ record old { contacts = new.contacts }
-
--- the same where it was this row, or none, that had its name
-abbrev pub IsContactPlacedAt : Option contact_table.Contact → Contact → contact_table.Contact
-    → Content → Content → Type 0
-IsContactPlacedAt found c row old new =
-    IsWhole old → filter (contact_table.contact_with_name c.name) old.contacts ≡ rows_of found
-    → IsContactPlaced c row old new
+abbrev pub IsContactPlaced : Contact → contact_table.Contact → Content → Content → Type 0
+IsContactPlaced c =
+    IsRowPlaced contacts (λ (row : contact_table.Contact). contact_row row.id c ≡ Some row) c.name
 
 -- the contact with this number, and its transfer, aren't there any more
 pub record IsContactRemoved (id : ℤ) (old new : Content) : Type 0 where
-  pub cleared : IsTransferCleared id old (record new { contacts = old.contacts })
+  pub cleared : IsTransferCleared (transferable.Contact id) old (record new { contacts = old.contacts })
   pub contacts : new.contacts ≡ delete_where (contact_table.contact_with_id id) old.contacts
 
 -- the same of the row that was found, if there was one
@@ -136,24 +174,10 @@ pub record IsHostFound (xs : Content) (name : List ℕ) (found : Option host_tab
   pub rows : filter (host_table.host_with_name name) xs.hosts ≡ rows_of found
   pub sponsor : IfSome found (HasRightSponsor xs)
 
--- the host, but for its addresses, is in a row after the others
-pub record IsHostAdded (h : Host) (old new : Content) : Type 0 where
-  pub row : host_table.Host
-  pub is : IsHostRow old row.id h row
-  pub content : new ≡ hosts_to (λ rows. rows ++ row ∷ []) old
-
 -- the host, but for its addresses, is in this row, and no other row is changed
-pub record IsHostPlaced (h : Host) (row : host_table.Host) (old new : Content) : Type 0 where
-  pub is : IsHostRow old row.id h row
-  pub rows : IsPlaced (λ (r : host_table.Host). r.name) h.name row old.hosts new.hosts
-  pub rest : new ≡ record old { hosts = new.hosts }
-
--- the same where it was this row, or none, that had its name
-abbrev pub IsHostPlacedAt : Option host_table.Host → Host → host_table.Host → Content → Content
-    → Type 0
-IsHostPlacedAt found h row old new =
-    IsWhole old → filter (host_table.host_with_name h.name) old.hosts ≡ rows_of found
-    → IsHostPlaced h row old new
+abbrev pub IsHostPlaced : Host → host_table.Host → Content → Content → Type 0
+IsHostPlaced h row old =
+    IsRowPlaced hosts (λ (it : host_table.Host). IsHostRow old it.id h it) h.name row old
 
 -- and each row that had its name had the right sponsor
 pub record IsHostPlacedRight (h : Host) (row : host_table.Host) (old new : Content) : Type 0 where

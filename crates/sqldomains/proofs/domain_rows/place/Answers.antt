@@ -1,12 +1,23 @@
+use Rattle.std.proofs.Common.{◌≡◌, Some, pos}
+use Rattle.sqltables.specs.Domain.{Domain}
 use Rattle.sqltables.specs.inner.Whole.{IsWhole}
-use Rattle.sqldomains.specs.inner.Stages.{IsDomainPlaced, IsDomainPlacedAt}
+use Rattle.sqlobjects.specs.inner.Stages.{IsPlacedAt, domains}
+use Rattle.sqlobjects.proofs.NamedRowLemmas.{placed-as}
 use Rattle.sqlobjects.proofs.StepLemmas.{asked-brings}
+use Rattle.sqldomains.specs.inner.Stages.{IsDomainPlaced, row_beside}
+use Rattle.sqldomains.proofs.DomainLemmas.{written}
 use Rattle.sqldomains.proofs.domain_rows.place.Goals as goal
 
 pub returns : goal.returns
 returns g c =
+    let old = c.args.store.now in
+    let middle = c.row_named.new.store in
+    let new = c.place_row.new.store in
     let domain = c.args.domain.now in
+    let beside = c.args.beside.now in
+    let found = c.in_ok-found.found in
     let asked = c.in_ok-found.ensures in
-    asked-brings c.place_at.result (λ row old new. IsDomainPlacedAt c.in_ok-found.found domain c.args.beside.now row old new) (λ row old new. IsWhole old → IsDomainPlaced domain c.args.beside.now row old new)
-    c.args.store.now c.row_named.new.store c.place_at.new.store asked.0 c.place_at.ensures
-    (λ row clean step whole. step whole (asked.1 clean))
+    let row = c.in_ok-row.row in
+    let made = written (pos 0) beside domain row c.in_ok-row.ensures in
+    asked-brings c.place_row.result (IsPlacedAt domains found row) (λ row old new. IsWhole old → IsDomainPlaced domain beside row old new) old middle new asked.0 c.place_row.ensures
+    (λ it clean step. placed-as domains (λ (r : Domain). row_beside r.id beside domain ≡ Some r) domain.name found row it old.content new.content made.name made.again (asked.1 clean) step)

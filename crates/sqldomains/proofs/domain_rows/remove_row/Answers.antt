@@ -1,10 +1,13 @@
+use Rattle.std.proofs.Common.{subst}
 use Rattle.sqlite_keyed.specs.Lists.{delete_where}
 use Rattle.sqltables.specs.Content.{Content}
 use Rattle.sqltables.specs.inner.Content.{domains_to}
 use Rattle.sqltables.specs.inner.Domain.{domain_with_id}
 use Rattle.sqlrows.proofs.StateLemmas.{then-became}
 use Rattle.sqlobjects.proofs.StepLemmas.{became-made}
-use Rattle.sqldomains.specs.inner.Stages.{AreLinksCleared, IsDomainRemoved, IsTransferCleared}
+use Rattle.sqlobjects.specs.declared.transfers.Transferable.{Transferable}
+use Rattle.sqlobjects.specs.inner.Transfers.{IsTransferCleared}
+use Rattle.sqldomains.specs.inner.Stages.{AreLinksCleared, IsDomainRemoved}
 use Rattle.sqldomains.proofs.DomainLemmas.{removed-so}
 use Rattle.sqldomains.proofs.domain_rows.remove_row.Goals as goal
 
@@ -16,8 +19,8 @@ returns g c =
     let middle = c.clear_links.new.store in
     let last = c.clear_transfer.new.store in
     let new = c.remove_domains_by_id.new.self in
-    let rest = became-made (IsTransferCleared number) (λ b e. (a : Content) → AreLinksCleared number a b → IsDomainRemoved id a e) (domains_to (delete_where (domain_with_id number))) middle last new
+    let rest = became-made (IsTransferCleared c.of_domain.result) (λ b e. (a : Content) → AreLinksCleared number a b → IsDomainRemoved id a e) (domains_to (delete_where (domain_with_id number))) middle last new
     (c.in_ok-clear_transfer.ensures {u = tt}) (c.in_ok-remove_domains_by_id.ensures {u = tt})
-    (λ clean step a links. removed-so id number a middle.content last.content c.number_of-number.ensures links step) in
+    (λ clean step a links. removed-so id number a middle.content last.content c.number_of-number.ensures links (subst (λ (it : Transferable). IsTransferCleared it middle.content last.content) c.of_domain.ensures step)) in
     then-became (AreLinksCleared number) (λ b e. (a : Content) → AreLinksCleared number a b → IsDomainRemoved id a e) (IsDomainRemoved id) old middle new
     (c.in_ok-clear_links.ensures {u = tt}) rest (λ clean links more. more old.content links)

@@ -1,0 +1,54 @@
+-- What single steps of a change make of the last transfers of contacts and domains.
+use Rattle.std.specs.Prelude.{◌≡◌, ◌&&◌, pos, Bool, false, List, [], filter, Option, Some, None, is_some, option_map}
+use Rattle.std.specs.Ordering.{int_eq}
+use Rattle.objects.specs.declared.transfer.Transfer as object
+use Rattle.sqlcolumns.specs.Transfers.{transfer_row}
+use Rattle.sqlrows.specs.inner.Layouts.{appended}
+use Rattle.sqltables.specs.Content.{Content}
+use Rattle.sqltables.specs.Transfer.{Transfer, transfer_with_contact, transfer_with_domain, transfers}
+use Rattle.sqlobjects.specs.declared.transfers.Transferable.{Transferable}
+use Rattle.sqlobjects.specs.declared.transfers.Transferable.TheVariants.{Contact, Domain}
+use Rattle.sqlobjects.specs.Objects.{last_transfer}
+
+-- a row is of this object's transfer
+abbrev pub is_of : Transferable → Transfer → Bool
+is_of (Contact id) = transfer_with_contact id
+is_of (Domain id) = transfer_with_domain id
+
+abbrev pub names_both : Transfer → Bool
+names_both row = is_some row.contact && is_some row.domain
+
+abbrev pub are_same : Transferable → Transferable → Bool
+are_same (Contact id) (Contact other) = int_eq id other
+are_same (Contact id) (Domain other) = false
+are_same (Domain id) (Contact other) = false
+are_same (Domain id) (Domain other) = int_eq id other
+
+-- no object but this one has another transfer than before
+pub record AreOtherTransfersKept (it : Transferable) (old new : Content) : Type 0 where
+  pub others : (other : Transferable) → are_same it other ≡ false
+      → filter (is_of other) new.transfers ≡ filter (is_of other) old.transfers
+  pub rest : new ≡ record old { transfers = new.transfers }
+
+-- the object has no transfer
+pub record IsTransferCleared (it : Transferable) (old new : Content) : Type 0 where
+  pub none : filter (is_of it) new.transfers ≡ []
+  pub kept : AreOtherTransfersKept it old new
+
+-- the row of an object's transfer, but for its number
+abbrev pub row_of : Transferable → object.Transfer → Transfer
+row_of (Contact id) transfer = transfer_row (pos 0) (Some id) None transfer
+row_of (Domain id) transfer = transfer_row (pos 0) None (Some id) transfer
+
+abbrev pub maybe_row : Transferable → Option object.Transfer → Option Transfer
+maybe_row it transfer = option_map (row_of it) transfer
+
+-- the rows, and after them this one, if there is one, under a number of its own
+abbrev pub with_added : Option Transfer → List Transfer → List Transfer
+with_added None rows = rows
+with_added (Some row) rows = appended transfers (λ id. record row { id = id }) rows
+
+-- the object has this as its last transfer
+pub record IsTransferPut (it : Transferable) (transfer : Option object.Transfer) (old new : Content) : Type 0 where
+  pub last : last_transfer (filter (is_of it) new.transfers) ≡ Some transfer
+  pub kept : AreOtherTransfersKept it old new
