@@ -1,5 +1,5 @@
 -- What it is to a book that a host's row gets another name.
-use Rattle.std.proofs.Common.{◌≡◌, inl, inr, ℕ, ℤ, pos, ◌+◌, Bool, true, false, cond, ◌&&◌, length, List, [], ◌∷◌, map, filter, Option, Some, None, option_map, refl, sym, ap, subst, ◌∙◌}
+use Rattle.std.proofs.Common.{◌≡◌, inl, inr, ℕ, ℤ, pos, suc, Bool, true, false, cond, ◌&&◌, length, List, [], ◌∷◌, map, filter, Option, Some, None, option_map, refl, sym, ap, subst, ◌∙◌}
 use Rattle.std.specs.Cmp.Lexicographic.{nat_list_cmp_total, slice_cmp}
 use Rattle.std.specs.FinMap.{FinMap, entries, get, get-insert, get-remove, same_map, values}
 use Rattle.std.specs.List.{list_all}
@@ -66,7 +66,7 @@ module _ (from : List ℕ) (h : Host) (xs ys : Content) (it : IsRowRenamed from 
       ∙ go (entries (domains_of xs))
     where
       by : (b : Bool) (x y : Domain) (l m : List Domain) → length l ≡ length m → length (cond b (x ∷ l) l) ≡ length (cond b (y ∷ m) m)
-      by true x y l m e = ap (λ n. n + 1) e
+      by true x y l m e = ap suc e
       by false x y l m e = e
 
       go : (es : List (List ℕ × Domain))
