@@ -1,10 +1,11 @@
 -- To give a host its new name in the domains that name it, one after another, is to give it in all.
-use Rattle.std.proofs.Common.{◌≡◌, ℕ, Bool, true, false, cond, not, ◌&&◌, T, map, filter, List, [], ◌∷◌, Option, Some, None, Result, refl, sym, ap, subst, ◌∙◌}
+use Rattle.std.proofs.Common.{◌≡◌, ℕ, Bool, true, false, cond, not, ◌&&◌, T, map, filter, List, [], ◌∷◌, ◌++◌, take, drop, Option, Some, None, Result, refl, sym, ap, subst, ◌∙◌}
 use Rattle.std.specs.Prelude.{option_map}
 use Rattle.std.specs.Ordering.{is_lt}
 use Rattle.std.specs.Str.{bytes_eq}
 use Rattle.std.specs.declared.cmp.Ordering.{Ordering}
 use Rattle.std.specs.declared.cmp.Ordering.TheVariants.{Less, Equal, Greater}
+use Rattle.std.proofs.lemmas.List.{take-append-drop}
 use Rattle.std.proofs.lemmas.Slice.Eq.{bytes_eq-Decides}
 use Rattle.std.specs.Cmp.{Equal-is, eq_by_cmp_equiv}
 use Rattle.std.specs.Cmp.Lexicographic.{slice_cmp, nat_list_cmp_total}
@@ -24,7 +25,7 @@ use Rattle.rules.specs.declared.change.Change.TheVariants.{DropHost, PutHost, Re
 use Rattle.transactions.specs.declared.fault.BookFault.{BookFault}
 use Rattle.store.specs.Book.{Stored, with_changes}
 use Rattle.store.specs.Records.{MayMake, RecordsState}
-use Rattle.transactions.specs.States.{Makes, Reads}
+use Rattle.transactions.specs.States.{Makes, Reads, Writes}
 use Rattle.store.specs.Tables.{amended, domains_naming, host_moved, host_renamed, host_renamed_in, with_domains}
 use Rattle.store.proofs.RecordsLemmas.{makes-on}
 
@@ -161,3 +162,18 @@ moved-at-once result p put renamed dropped host old new gone held s t one two th
     let second : RenameHost old host.name ≡ renamed = ap (RenameHost old) ((bytes_eq-Decides host.name new).0 named) ∙ sym two in
     let third : DropHost old ≡ dropped = ap DropHost ((bytes_eq-Decides old gone).0 same) ∙ sym three in
     subst (λ (after : Stored). MayMake result after s t) (λ i. with_changes p (sym one i ∷ second i ∷ third i ∷ []) held)
+
+-- ---- a list of changes in two parts
+
+with_both : (p : PolicyRules) (first last : List Change) (held : Stored) → with_changes p (first ++ last) held ≡ with_changes p last (with_changes p first held)
+with_both p [] last held = refl
+with_both p (change ∷ first) last held = with_both p first last (with_changes p (change ∷ []) held)
+
+pub makes-both : {A : Type 0} (result : Result A BookFault) (p : PolicyRules) (n : ℕ) (changes first last : List Change) (s m t : RecordsState)
+    → first ≡ take n changes → last ≡ drop n changes → Writes (with_changes p first s.content) s m → Makes result (with_changes p last m.content) m t
+    → Makes result (with_changes p changes s.content) s t
+makes-both result p n changes first last s m t one two made more =
+    makes-on result s m t (with_changes p last m.content) (with_changes p changes s.content) made.clean made.before made.answers made.leaves
+    (λ e.
+    ap (with_changes p last) (made.content e) ∙ sym (with_both p first last s.content)
+    ∙ ap (λ (all : List Change). with_changes p all s.content) ((λ i. one i ++ two i) ∙ take-append-drop n changes)) more

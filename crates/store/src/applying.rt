@@ -16,7 +16,8 @@ use policy::Policy;
 use rules::Change;
 use transactions::BookFault;
 
-/// Makes changes, one after another, but for a host's new name, which records may make at once.
+/// Makes changes, one after another, but for a host's new name at their end, which records may make at
+/// once.
 pub(crate) fn apply<R: Records>(
     records: &mut R,
     changes: Seq<Change>,
@@ -26,7 +27,27 @@ pub(crate) fn apply<R: Records>(
     ensures { Makes result (with_changes policy.now changes (R.kept records.old).content)
         (R.kept records.old) (R.kept records.new) }
 {
-    if apply_at_once(records, changes.as_slice(), policy)? {
+    let mut before = changes.into_vec();
+    let at = before.len().saturating_sub(NEW_NAME);
+    let last = before.split_off(at)?;
+    apply_each(records, before, policy)?;
+    apply_last(records, last, policy)
+}
+
+/// How many changes a host's new name is.
+const NEW_NAME: usize = 3;
+
+/// The last changes, at once where they are a host's new name and the records make it so.
+fn apply_last<R: Records>(
+    records: &mut R,
+    changes: Vec<Change>,
+    policy: &Policy,
+) -> Result<(), BookFault>
+    requires { (R.kept records.old).is_open ≡ true }
+    ensures { Makes result (with_changes policy.now changes.items (R.kept records.old).content)
+        (R.kept records.old) (R.kept records.new) }
+{
+    if apply_at_once(records, &changes, policy)? {
         return Ok(());
     }
     apply_each(records, changes, policy)
@@ -70,14 +91,14 @@ fn move_at_once<R: Records>(
 /// Makes changes, one after another.
 fn apply_each<R: Records>(
     records: &mut R,
-    changes: Seq<Change>,
+    changes: Vec<Change>,
     policy: &Policy,
 ) -> Result<(), BookFault>
     requires { (R.kept records.old).is_open ≡ true }
-    ensures { Makes result (with_changes policy.now changes (R.kept records.old).content)
+    ensures { Makes result (with_changes policy.now changes.items (R.kept records.old).content)
         (R.kept records.old) (R.kept records.new) }
 {
-    for change in changes.into_vec() {
+    for change in changes {
         make(records, change, policy)?;
     }
     Ok(())

@@ -7,4 +7,4 @@ use Rattle.store.proofs.applying.apply_each.Given as goal
 abbrev pub invariant-loop-change : goal.invariant-loop-change
 invariant-loop-change g l =
     Stays (g.R.Records.kept l.fn.records) (g.R.Records.kept l.records) × ((g.R.Records.kept l.records).is_open ≡ true) × (Answers (g.R.Records.kept l.fn.records) → Answers (g.R.Records.kept l.records))
-    × ((g.R.Records.kept l.records).is_clean ≡ true → with_changes l.policy l.change-iterator.rest.items (g.R.Records.kept l.records).content ≡ with_changes l.policy l.fn.changes (g.R.Records.kept l.fn.records).content)
+    × ((g.R.Records.kept l.records).is_clean ≡ true → with_changes l.policy l.change-iterator.rest.items (g.R.Records.kept l.records).content ≡ with_changes l.policy l.fn.changes.items (g.R.Records.kept l.fn.records).content)
