@@ -20,10 +20,10 @@ framed_is : (text : List ℕ) (fits : Bool) → IsFixed (cond fits text closing_
 framed_is text true = inr refl
 framed_is text false = inl (inr refl)
 
--- what is sent of a text that was to be told
-told : (wanted outcome : Outcome) (text : List ℕ) → Tells wanted outcome → sent wanted ≡ framed text → IsFixed (sent outcome) ⊎ (sent outcome ≡ text)
-told wanted outcome text (inl e) s = rw (e, s) (framed_is text (has_frame text))
-told wanted outcome text (inr e) s = inl (inr (ap sent e))
+-- what is sent where a text was to be sent
+sent-text : (wanted outcome : Outcome) (text : List ℕ) → Tells wanted outcome → sent wanted ≡ framed text → IsFixed (sent outcome) ⊎ (sent outcome ≡ text)
+sent-text wanted outcome text (inl e) s = rw (e, s) (framed_is text (has_frame text))
+sent-text wanted outcome text (inr e) s = inl (inr (ap sent e))
 
 reply_sent : (last : Bool) (text : List ℕ) → sent (cond last (ended text) (replied text)) ≡ framed text
 reply_sent true text = refl
@@ -40,11 +40,11 @@ said_isolated p r Hello moment old new outcome (inl gives) clean other same = in
 said_isolated p r Hello moment old new outcome (inr greeted) clean other same =
     let date : greeted.date ≡ (lapsed p moment other).clock = (greeted.step clean).dated ∙ sym (ap (λ (v : View). v.clock) same) in
     same_text (greeting_text greeted.date) (greeting_text (lapsed p moment other).clock) (sent outcome) (ap greeting_text date)
-    (told (greeting_outcome greeted.date) outcome (greeting_text greeted.date) greeted.told refl)
+    (sent-text (greeting_outcome greeted.date) outcome (greeting_text greeted.date) greeted.told refl)
 said_isolated p r (Ordinary c) moment old new outcome (inl gives) clean other same = inl (inl (ap sent gives.0))
 said_isolated p r (Ordinary c) moment old new outcome (inr served) clean other same =
     same_text (reply_text served.reply) (reply_text (answer p r c (lapsed p moment other))) (sent outcome) (served.bytes clean other same)
-    (told (reply_outcome served.reply) outcome (reply_text served.reply) served.told (reply_sent (is_last served.reply.code) (reply_text served.reply)))
+    (sent-text (reply_outcome served.reply) outcome (reply_text served.reply) served.told (reply_sent (is_last served.reply.code) (reply_text served.reply)))
 
 pub isolated_frames : FramesAreIsolated
 isolated_frames p r payload moment old new outcome (inl gives) clean other same = inl (inl (ap sent gives.0))

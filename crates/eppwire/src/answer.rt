@@ -59,7 +59,7 @@ fn answer_command<B: Book + Drop>(
 {
     match registry.execute(caller, command, moment) {
         Ok(reply) => {
-            let answer = told(alloc, &reply);
+            let answer = reply_answer(alloc, &reply);
             drop(reply);
             answer
         }
@@ -68,7 +68,7 @@ fn answer_command<B: Book + Drop>(
 }
 
 /// The reply to a command, which may be the last of its session.
-fn told(alloc: Global, reply: &Reply) -> Answer
+fn reply_answer(alloc: Global, reply: &Reply) -> Answer
     ensures { spec.Tells (spec.reply_outcome reply.now) (outcome_of result) }
 {
     match reply_bytes(alloc, reply) {

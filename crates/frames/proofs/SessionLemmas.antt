@@ -7,7 +7,7 @@ use Rattle.frames.specs.Frames.{frame, Takes, Ending, Splits, bad_length}
 use Rattle.frames.specs.Texts.{closing_text}
 use Rattle.frames.proofs.SplitLemmas.{begins}
 use Rattle.frames.specs.Outcomes.{Outcome, replied, ended, failed, lost, has_frame, sent, end_with}
-use Rattle.frames.specs.Sessions.{Standing, Turn, IsTurn, Run, frames, Rests, IsAt, Ends, Session, Writes}
+use Rattle.frames.specs.Sessions.{SessionState, Turn, IsTurn, Run, frames, Rests, IsAt, Ends, Session, Writes}
 use Rattle.frames.specs.declared.session.SessionEnd.{SessionEnd}
 use Rattle.frames.specs.declared.session.SessionEnd.TheVariants.{Logout, WriteFault, Lost}
 
@@ -35,12 +35,12 @@ frames-more a b c turns turn p q =
     rw flat_map-append (Appends-trans a b c (frames turns) (frames (turn ∷ [])) p one)
 
 module _ {S : Type 0} (answers : S → ℕ → List ℕ → Outcome → S → Type 0) where
-  pub Run-more : (turns : List Turn) (turn : Turn) (before middle after : Standing S) → Run answers turns before middle → IsTurn answers turn middle after → end_with turn.outcome ≡ None
+  pub Run-more : (turns : List Turn) (turn : Turn) (before middle after : SessionState S) → Run answers turns before middle → IsTurn answers turn middle after → end_with turn.outcome ≡ None
       → Run answers (turns ++ turn ∷ []) before after
-  Run-more [] turn before middle after run is on = (on, after, subst (λ (s : Standing S). IsTurn answers turn s after) run is, refl)
+  Run-more [] turn before middle after run is on = (on, after, subst (λ (s : SessionState S). IsTurn answers turn s after) run is, refl)
   Run-more (t ∷ ts) turn before middle after run is on = (run.0, run.1, run.2, Run-more ts turn run.1 middle after run.3 is on)
 
-  pub Ends-turn : (end : SessionEnd) (turns : List Turn) (turn : Turn) (before after : Standing S) → IsTurn answers turn before after → end_with turn.outcome ≡ Some end
+  pub Ends-turn : (end : SessionEnd) (turns : List Turn) (turn : Turn) (before after : SessionState S) → IsTurn answers turn before after → end_with turn.outcome ≡ Some end
       → Ends answers end turns before (frame (sent turn.outcome)) after
   Ends-turn end turns turn before after is e = by_end (last_end turn.outcome end e)
     where
@@ -48,33 +48,33 @@ module _ {S : Type 0} (answers : S → ℕ → List ℕ → Outcome → S → Ty
       by_end (inl l) = rw l (turn, is, rw l at e, refl)
       by_end (inr l) = rw l (inl (turn, is, rw l at e, refl))
 
-  pub ends_session : (end : SessionEnd) (turns : List Turn) (before middle after : Standing S) (last : List ℕ) (a b c : Option (List ℕ)) → Run answers turns before middle
+  pub ends_session : (end : SessionEnd) (turns : List Turn) (before middle after : SessionState S) (last : List ℕ) (a b c : Option (List ℕ)) → Run answers turns before middle
       → Ends answers end turns middle last after → Appends a b (frames turns) → Appends b c last → Writes a c (λ (w : List ℕ). Session answers before w after end)
   ends_session end turns before middle after last a b c run ends p q = (
     frames turns ++ last,
     Appends-trans a b c (frames turns) last p q,
-    record { turns = turns; standing = middle; last = last; run = run; ends = ends; bytes = refl },
+    record { turns = turns; reached = middle; last = last; run = run; ends = ends; bytes = refl },
   )
 
   -- a write of the closing text fails
-  pub breaks_closing : (turns : List Turn) (before middle after : Standing S) (a b c : Option (List ℕ)) → Run answers turns before middle → (IsAt bad_length middle ⊎ (turns ≡ [])) → Rests middle after
+  pub breaks_closing : (turns : List Turn) (before middle after : SessionState S) (a b c : Option (List ℕ)) → Run answers turns before middle → (IsAt bad_length middle ⊎ (turns ≡ [])) → Rests middle after
       → Appends a b (frames turns) → ((n : ℕ) × Appends b c (take n (frame closing_text))) → Writes a c (λ (w : List ℕ). Session answers before w after WriteFault)
   breaks_closing turns before middle after a b c run why rests p q =
       ends_session WriteFault turns before middle after (take q.0 (frame closing_text)) a b c run (inr (q.0, why, refl, rests)) p q.1
 
   -- a write of a reply fails
-  pub breaks_turn : (turns : List Turn) (turn : Turn) (before middle after : Standing S) (a b c : Option (List ℕ)) → Run answers turns before middle → IsTurn answers turn middle after
+  pub breaks_turn : (turns : List Turn) (turn : Turn) (before middle after : SessionState S) (a b c : Option (List ℕ)) → Run answers turns before middle → IsTurn answers turn middle after
       → Appends a b (frames turns) → ((n : ℕ) × Appends b c (take n (frame (sent turn.outcome)))) → Writes a c (λ (w : List ℕ). Session answers before w after WriteFault)
   breaks_turn turns turn before middle after a b c run is p q =
       ends_session WriteFault turns before middle after (take q.0 (frame (sent turn.outcome))) a b c run (inl (q.0, turn, is, refl)) p q.1
 
 -- ---- which frames are taken
 
-abbrev Taken : {S : Type 0} → List Turn → Standing S → List (List ℕ) → Ending → Type 0
+abbrev Taken : {S : Type 0} → List Turn → SessionState S → List (List ℕ) → Ending → Type 0
 Taken turns after payloads ending =
     (rest : List ℕ) × (later : List (List ℕ)) × (after.input ≡ Some rest) × Splits rest later ending × (payloads ≡ map (λ (turn : Turn). turn.payload) turns ++ later)
 
-takes_one : {S : Type 0} (turn : Turn) (turns : List Turn) (after : Standing S) (input : List ℕ) (payloads : List (List ℕ)) (ending : Ending) → Splits input payloads ending
+takes_one : {S : Type 0} (turn : Turn) (turns : List Turn) (after : SessionState S) (input : List ℕ) (payloads : List (List ℕ)) (ending : Ending) → Splits input payloads ending
     → (next : Option (List ℕ)) → Takes turn.payload (Some input) next
     → ((rest : List ℕ) (others : List (List ℕ)) → next ≡ Some rest → Splits rest others ending → Taken turns after others ending) → Taken (turn ∷ turns) after payloads ending
 takes_one turn turns after input payloads ending s None none more = absurd none
@@ -83,9 +83,9 @@ takes_one turn turns after input payloads ending s (Some rest) whole more =
     let m = more rest b.more refl b.splits in
     (m.0, m.1, m.2, m.3, b.are ∙ ap (λ (x : List (List ℕ)). turn.payload ∷ x) m.4)
 
-pub takes_in_order : {S : Type 0} (answers : S → ℕ → List ℕ → Outcome → S → Type 0) (turns : List Turn) (before after : Standing S) (input : List ℕ) → before.input ≡ Some input
+pub takes_in_order : {S : Type 0} (answers : S → ℕ → List ℕ → Outcome → S → Type 0) (turns : List Turn) (before after : SessionState S) (input : List ℕ) → before.input ≡ Some input
     → Run answers turns before after → (payloads : List (List ℕ)) (ending : Ending) → Splits input payloads ending → Taken turns after payloads ending
-takes_in_order {S} answers [] before after input e run payloads ending s = (input, payloads, ap (λ (t : Standing S). t.input) run ∙ e, s, refl)
+takes_in_order {S} answers [] before after input e run payloads ending s = (input, payloads, ap (λ (t : SessionState S). t.input) run ∙ e, s, refl)
 takes_in_order answers (turn ∷ turns) before after input e run payloads ending s =
     takes_one turn turns after input payloads ending s run.1.input (subst (λ (x : Option (List ℕ)). Takes turn.payload x run.1.input) e run.2.payload)
     (λ rest others is split. takes_in_order answers turns run.1 after rest is run.3 others ending split)

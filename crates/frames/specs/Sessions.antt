@@ -11,7 +11,7 @@ use Rattle.frames.specs.declared.session.SessionEnd.TheVariants.{Logout, End, Cu
 
 -- where a session stands: what its input and its clock have yet to give, where that is known, and
 -- the state of its peer
-pub record Standing (S : Type 0) : Type 0 where
+pub record SessionState (S : Type 0) : Type 0 where
   pub input : Option (List ℕ)
   pub clock : Option (List ℕ)
   pub peer : S
@@ -23,16 +23,16 @@ pub record Turn : Type 0 where
   pub outcome : Outcome
 
 -- One turn: the input's next frame, at the clock's next moment, is answered by the peer.
-pub record IsTurn {S : Type 0} (answers : S → ℕ → List ℕ → Outcome → S → Type 0) (turn : Turn) (before after : Standing S) : Type 0 where
+pub record IsTurn {S : Type 0} (answers : S → ℕ → List ℕ → Outcome → S → Type 0) (turn : Turn) (before after : SessionState S) : Type 0 where
   pub payload : Takes turn.payload before.input after.input
   pub moment : Tells before.clock after.clock turn.moment
   pub outcome : answers before.peer turn.moment turn.payload turn.outcome after.peer
 
 -- A run: turns one after the other, after each of which the session goes on.
-abbrev pub Run : {S : Type 0} → (S → ℕ → List ℕ → Outcome → S → Type 0) → List Turn → Standing S → Standing S → Type 0
+abbrev pub Run : {S : Type 0} → (S → ℕ → List ℕ → Outcome → S → Type 0) → List Turn → SessionState S → SessionState S → Type 0
 Run answers [] before after = after ≡ before
 Run {S} answers (turn ∷ turns) before after =
-    (end_with turn.outcome ≡ None) × (next : Standing S) × IsTurn answers turn before next × Run answers turns next after
+    (end_with turn.outcome ≡ None) × (next : SessionState S) × IsTurn answers turn before next × Run answers turns next after
 
 -- what is written in a run
 abbrev pub frames : List Turn → List ℕ
@@ -41,16 +41,16 @@ frames turns = flat_map (λ turn. frame (sent turn.outcome)) turns
 -- ---- how a session ends
 
 -- neither the clock nor the peer is asked again
-pub record Rests {S : Type 0} (before after : Standing S) : Type 0 where
+pub record Rests {S : Type 0} (before after : SessionState S) : Type 0 where
   pub clock : after.clock ≡ before.clock
   pub peer : after.peer ≡ before.peer
 
 -- what is left of the input is such an ending
-abbrev pub IsAt : {S : Type 0} → Ending → Standing S → Type 0
-IsAt ending standing = IfSome standing.input (λ input. front input ≡ over ending)
+abbrev pub IsAt : {S : Type 0} → Ending → SessionState S → Type 0
+IsAt ending reached = IfSome state.input (λ input. front input ≡ over ending)
 
 -- What a session writes last, and where it then stands, after a run of these turns.
-abbrev pub Ends : {S : Type 0} → (S → ℕ → List ℕ → Outcome → S → Type 0) → SessionEnd → List Turn → Standing S → List ℕ → Standing S → Type 0
+abbrev pub Ends : {S : Type 0} → (S → ℕ → List ℕ → Outcome → S → Type 0) → SessionEnd → List Turn → SessionState S → List ℕ → SessionState S → Type 0
 Ends answers End turns before last after = IsAt closed before × (last ≡ []) × Rests before after
 Ends answers Cut turns before last after = IsAt cut before × (last ≡ []) × Rests before after
 Ends answers Length turns before last after = IsAt bad_length before × (last ≡ frame closing_text) × Rests before after
@@ -67,12 +67,12 @@ Ends answers WriteFault turns before last after =
     ⊎ ((n : ℕ) × (IsAt bad_length before ⊎ (turns ≡ [])) × (last ≡ take n (frame closing_text)) × Rests before after)
 
 -- A session: a run, and an end.
-pub record Session {S : Type 0} (answers : S → ℕ → List ℕ → Outcome → S → Type 0) (before : Standing S) (written : List ℕ) (after : Standing S) (end : SessionEnd) : Type 0 where
+pub record Session {S : Type 0} (answers : S → ℕ → List ℕ → Outcome → S → Type 0) (before : SessionState S) (written : List ℕ) (after : SessionState S) (end : SessionEnd) : Type 0 where
   pub turns : List Turn
-  pub standing : Standing S
+  pub reached : SessionState S
   pub last : List ℕ
-  pub run : Run answers turns before standing
-  pub ends : Ends answers end turns standing last after
+  pub run : Run answers turns before reached
+  pub ends : Ends answers end turns reached last after
   pub bytes : written ≡ frames turns ++ last
 
 -- the known bytes grew by some that P holds of
@@ -83,6 +83,6 @@ Writes before after P = (written : List ℕ) × Appends before after written × 
 
 -- The input of a run is the frames of its payloads, and of some that it hasn't come to.
 abbrev pub TakesFramesInOrder : {S : Type 0} → (S → ℕ → List ℕ → Outcome → S → Type 0) → Type 0
-TakesFramesInOrder {S} answers = (turns : List Turn) (before after : Standing S) (input : List ℕ) → before.input ≡ Some input → Run answers turns before after
+TakesFramesInOrder {S} answers = (turns : List Turn) (before after : SessionState S) (input : List ℕ) → before.input ≡ Some input → Run answers turns before after
     → (payloads : List (List ℕ)) (ending : Ending) → Splits input payloads ending
     → (rest : List ℕ) × (later : List (List ℕ)) × (after.input ≡ Some rest) × Splits rest later ending × (payloads ≡ map (λ turn. turn.payload) turns ++ later)

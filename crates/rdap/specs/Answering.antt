@@ -28,9 +28,9 @@ abbrev pub without_object : Outcome → List ℕ
 without_object outcome = response outcome (fixed_body_of outcome)
 
 -- the answer with the body of an object, if it is there
-abbrev pub told : Option (List ℕ) → List ℕ
-told None = without_object NotFound
-told (Some body) = response Found body
+abbrev pub object_answer : Option (List ℕ) → List ℕ
+object_answer None = without_object NotFound
+object_answer (Some body) = response Found body
 
 -- a name that breaks the rule of names is a bad request; one that the zone doesn't keep isn't there
 abbrev pub outcome_of : NameFault → Outcome
@@ -39,17 +39,17 @@ outcome_of Policy = NotFound
 outcome_of Memory = NotFound
 
 abbrev pub domain_answer : PolicyRules → Faces → Result (List ℕ) NameFault → List ℕ
-domain_answer p faces (Ok name) = told (option_map (domain_text p name) (faces.domain name))
+domain_answer p faces (Ok name) = object_answer (option_map (domain_text p name) (faces.domain name))
 domain_answer p faces (Err fault) = without_object (outcome_of fault)
 
 abbrev pub nameserver_answer : Faces → Result (List ℕ) NameFault → List ℕ
-nameserver_answer faces (Ok name) = told (option_map (nameserver_text name) (faces.host name))
+nameserver_answer faces (Ok name) = object_answer (option_map (nameserver_text name) (faces.host name))
 nameserver_answer faces (Err fault) = without_object (outcome_of fault)
 
 abbrev pub answer_text : PolicyRules → Faces → Request → List ℕ
 answer_text p faces (Domain name) = domain_answer p faces (domain_of p.zone name)
 answer_text p faces (Nameserver name) = nameserver_answer faces (host_of p.zone name)
-answer_text p faces (Entity handle) = told (option_map contact_text (faces.contact handle))
+answer_text p faces (Entity handle) = object_answer (option_map contact_text (faces.contact handle))
 answer_text p faces Help = without_object Found
 answer_text p faces (Refused outcome) = without_object outcome
 

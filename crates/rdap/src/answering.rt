@@ -1,6 +1,6 @@
 //! Answers to heads of requests (RFC 7480, 5).
 ghost use Rattle.std.specs.Prelude.{◌≡◌, IfOk, option_map};
-ghost use Rattle.rdap.specs.Answering.{Faces, IsAnswer, MayLeave, answer_text, domain_answer, nameserver_answer, told, without_object};
+ghost use Rattle.rdap.specs.Answering.{Faces, IsAnswer, MayLeave, answer_text, domain_answer, nameserver_answer, object_answer, without_object};
 ghost use Rattle.rdap.specs.Bodies.{contact_text, domain_text, nameserver_text};
 ghost use Rattle.names.specs.Names.{domain_of, host_of};
 
@@ -70,9 +70,9 @@ fn answer_domain<F: FaceSource>(
     match DomainName::read(alloc, name.as_str(), source.policy().zone()) {
         Ok(name) => {
             let face = source.domain(&name)?;
-            let told = domain_told(alloc, &*source, &name, &face);
+            let answer = domain_response(alloc, &*source, &name, &face);
             drop(face);
-            told
+            answer
         }
         Err(fault) => Ok(answer_fault(alloc, fault)?),
     }
@@ -92,14 +92,14 @@ fn answer_fault(alloc: Global, fault: NameFault) -> Result<Vec<u8>, AllocError>
     }
 }
 
-fn domain_told<F: FaceSource>(
+fn domain_response<F: FaceSource>(
     alloc: Global,
     source: &F,
     name: &DomainName,
     face: &Option<DomainFace>,
 ) -> Result<Vec<u8>, F::Fault>
     ensures { IfOk result (λ bytes. bytes.items
-        ≡ told (option_map (domain_text (F.rules source.now) name.now) face.now)) }
+        ≡ object_answer (option_map (domain_text (F.rules source.now) name.now) face.now)) }
 {
     let Some(face) = face else {
         return Ok(answer_without_object(alloc, Outcome::NotFound)?);
@@ -120,21 +120,21 @@ fn answer_nameserver<F: FaceSource>(
     match HostName::read(alloc, name.as_str(), source.policy().zone()) {
         Ok(name) => {
             let face = source.host(&name)?;
-            let told = nameserver_told(alloc, &name, &face);
+            let answer = nameserver_response(alloc, &name, &face);
             drop(face);
-            Ok(told?)
+            Ok(answer?)
         }
         Err(fault) => Ok(answer_fault(alloc, fault)?),
     }
 }
 
-fn nameserver_told(
+fn nameserver_response(
     alloc: Global,
     name: &HostName,
     face: &Option<HostFace>,
 ) -> Result<Vec<u8>, AllocError>
     ensures { IfOk result (λ bytes. bytes.items
-        ≡ told (option_map (nameserver_text name.now) face.now)) }
+        ≡ object_answer (option_map (nameserver_text name.now) face.now)) }
 {
     let Some(face) = face else {
         return answer_without_object(alloc, Outcome::NotFound);
@@ -149,15 +149,15 @@ fn answer_contact<F: FaceSource>(
     source: &mut F,
 ) -> Result<Vec<u8>, F::Fault>
     ensures answer { IfOk result (λ bytes. (faces : Faces) → F.shows source.new faces
-        → bytes.items ≡ told (option_map contact_text (faces.contact name.now))) }
+        → bytes.items ≡ object_answer (option_map contact_text (faces.contact name.now))) }
     ensures left { MayLeave F.leaves source.old source.new }
 {
     let face = source.contact(name)?;
-    Ok(contact_told(alloc, &face)?)
+    Ok(contact_response(alloc, &face)?)
 }
 
-fn contact_told(alloc: Global, face: &Option<ContactFace>) -> Result<Vec<u8>, AllocError>
-    ensures { IfOk result (λ bytes. bytes.items ≡ told (option_map contact_text face.now)) }
+fn contact_response(alloc: Global, face: &Option<ContactFace>) -> Result<Vec<u8>, AllocError>
+    ensures { IfOk result (λ bytes. bytes.items ≡ object_answer (option_map contact_text face.now)) }
 {
     let Some(face) = face else {
         return answer_without_object(alloc, Outcome::NotFound);

@@ -5,7 +5,7 @@ use Rattle.std.specs.Fmt.{option_append}
 use Rattle.std.specs.Io.KnownBytes.{Consumes, IsAtEnd}
 use Rattle.policy.specs.Rules.{PolicyRules}
 use Rattle.frames.specs.Outcomes.{Outcome}
-use Rattle.frames.specs.Sessions.{Standing, Session, Writes}
+use Rattle.frames.specs.Sessions.{Session, SessionState, Writes}
 use Rattle.frames.specs.declared.session.SessionEnd.{SessionEnd}
 use Rattle.server.specs.Connections.{Agrees, AnswersAt, Desk, FramesBeginConnections, IsServed, Serves, begins_frame}
 use Rattle.eppwire.proofs.FollowLemmas.{answers_follow, follows_on, same_follows}
@@ -35,7 +35,7 @@ decides is (Some bytes) (Some rest) (suc count) (byte ∷ more) one c end e = rw
 -- a session of a peer that answers as a registry does, from when nobody is logged in
 pub served : {S : Type 0} (policy : S → PolicyRules) (desk : S → Desk) (answers : S → ℕ → List ℕ → Outcome → S → Type 0)
     → ((old new : S) (moment : ℕ) (payload : List ℕ) (outcome : Outcome) → answers old moment payload outcome new → AnswersAt (policy old) (desk old) moment payload outcome (desk new) × (policy new ≡ policy old))
-    → (p : PolicyRules) (old new : BookState) (before : Standing S) (written : List ℕ) (after : Standing S) (end : SessionEnd) → policy before.peer ≡ p → desk before.peer ≡ record { caller = None; book = old }
+    → (p : PolicyRules) (old new : BookState) (before : SessionState S) (written : List ℕ) (after : SessionState S) (end : SessionEnd) → policy before.peer ≡ p → desk before.peer ≡ record { caller = None; book = old }
     → (desk after.peer).book ≡ new → Session answers before written after end → (policy after.peer ≡ p) × IsServed p before.input before.clock old written after.clock new end
 served {S} policy desk answers are p old new before written after end kept start left s =
     let taken = session_taken desk K answers (AnswersAt p) (λ x y moment payload outcome k a. keeps x y moment payload outcome k (are x y moment payload outcome a)) before written after end (kept, from) s in

@@ -20,7 +20,7 @@ use Rattle.protocol.specs.declared.session.InSession.TheVariants as within
 use Rattle.runs.specs.Runs.{IsRun}
 use Rattle.runs.proofs.SettlementLemmas.{answers-are-determined}
 use Rattle.frames.specs.Outcomes.{Outcome, ended, failed, lost, replied, sent}
-use Rattle.frames.specs.Sessions.{Ends, IsTurn, Rests, Run, Standing, Turn, frames}
+use Rattle.frames.specs.Sessions.{Ends, IsTurn, Rests, Run, SessionState, Turn, frames}
 use Rattle.frames.specs.declared.session.SessionEnd.{SessionEnd}
 use Rattle.frames.specs.declared.session.SessionEnd.TheVariants.{Logout, End, Cut, Length, ReadFault, WriteFault, Lost}
 use Rattle.server.specs.Connections.{AnswersAt, Desk}
@@ -170,22 +170,22 @@ one-turn p (Some r) next turn old new answers clean = registrar-one p r turn old
 
 -- ---- frames one after another
 
-turn-follows : (p : PolicyRules) (turn : Turn) (old new : Standing Desk) → IsTurn (AnswersAt p) turn old new → Follows old.peer.book new.peer.book
+turn-follows : (p : PolicyRules) (turn : Turn) (old new : SessionState Desk) → IsTurn (AnswersAt p) turn old new → Follows old.peer.book new.peer.book
 turn-follows p turn old new is = answers_follow p old.peer.caller turn.payload turn.moment old.peer.book turn.outcome new.peer.book new.peer.caller is.outcome
 
-run-follows : (p : PolicyRules) (turns : List Turn) (old new : Standing Desk) → Run (AnswersAt p) turns old new → Follows old.peer.book new.peer.book
-run-follows p [] old new same = same_follows old.peer.book new.peer.book (ap (λ (s : Standing Desk). s.peer.book) same)
+run-follows : (p : PolicyRules) (turns : List Turn) (old new : SessionState Desk) → Run (AnswersAt p) turns old new → Follows old.peer.book new.peer.book
+run-follows p [] old new same = same_follows old.peer.book new.peer.book (ap (λ (s : SessionState Desk). s.peer.book) same)
 run-follows p (turn ∷ turns) old new (goes, next, is, more) = follows_on old.peer.book next.peer.book new.peer.book (turn-follows p turn old next is) (run-follows p turns next new more)
 
 -- those of a run, and some that are answered behind them
-answered-on : (p : PolicyRules) (turns rest : List Turn) (old mid : Standing Desk) (new : Registry) → Run (AnswersAt p) turns old mid → mid.peer.book.is_clean ≡ true
+answered-on : (p : PolicyRules) (turns rest : List Turn) (old mid : SessionState Desk) (new : Registry) → Run (AnswersAt p) turns old mid → mid.peer.book.is_clean ≡ true
     → AreAnswered p mid.peer.caller rest mid.peer.book.content.registry new → AreAnswered p old.peer.caller (turns ++ rest) old.peer.book.content.registry new
-answered-on p [] rest old mid new same clean more = subst (λ (s : Standing Desk). AreAnswered p s.peer.caller rest s.peer.book.content.registry new) same more
+answered-on p [] rest old mid new same clean more = subst (λ (s : SessionState Desk). AreAnswered p s.peer.caller rest s.peer.book.content.registry new) same more
 answered-on p (turn ∷ turns) rest old mid new (goes, next, is, run) clean more =
     let one = one-turn p old.peer.caller next.peer.caller turn old.peer.book next.peer.book is.outcome ((run-follows p turns next mid run).clean clean) in
     (one.answers, next.peer.book.content.registry, one.run, one.told, subst (λ (c : Option ℕ). AreAnswered p c (turns ++ rest) next.peer.book.content.registry new) one.sender (answered-on p turns rest next mid new run clean more))
 
-answered-last : (p : PolicyRules) (turn : Turn) (old new : Standing Desk) → IsTurn (AnswersAt p) turn old new → new.peer.book.is_clean ≡ true
+answered-last : (p : PolicyRules) (turn : Turn) (old new : SessionState Desk) → IsTurn (AnswersAt p) turn old new → new.peer.book.is_clean ≡ true
     → AreAnswered p old.peer.caller (turn ∷ []) old.peer.book.content.registry new.peer.book.content.registry
 answered-last p turn old new is clean =
     let one = one-turn p old.peer.caller new.peer.caller turn old.peer.book new.peer.book is.outcome clean in
@@ -212,7 +212,7 @@ begins-behind (u ∷ us) xs whole it = let more = begins-behind us xs whole it i
 frames-last : (turns : List Turn) (turn : Turn) → frames (turns ++ turn ∷ []) ≡ frames turns ++ frame (sent turn.outcome)
 frames-last turns turn = flat_map-append (λ (t : Turn). frame (sent t.outcome)) turns (turn ∷ []) ∙ ap (λ l. frames turns ++ l) (append-nil (frame (sent turn.outcome)))
 
-module _ (p : PolicyRules) (turns : List Turn) (old mid new : Standing Desk) (written last : List ℕ) (run : Run (AnswersAt p) turns old mid) (bytes : written ≡ frames turns ++ last) (clean : new.peer.book.is_clean ≡ true) where
+module _ (p : PolicyRules) (turns : List Turn) (old mid new : SessionState Desk) (written last : List ℕ) (run : Run (AnswersAt p) turns old mid) (bytes : written ≡ frames turns ++ last) (clean : new.peer.book.is_clean ≡ true) where
   -- the peer wasn't asked again, and the closing text, or a beginning of it, was sent, or nothing
   resting : Rests mid new → Begins last (frame closing_text) → IsAnsweredAll p old.peer written new.peer
   resting rests begins =
@@ -254,7 +254,7 @@ module _ (p : PolicyRules) (turns : List Turn) (old mid new : Standing Desk) (wr
   ends-answered WriteFault (inr e) = resting e.3 (e.0, e.2)
 
 pub sessions-are-answered : SessionsAreAnswered
-sessions-are-answered p old new written end s clean = ends-answered p s.turns old s.standing new written s.last s.run s.bytes clean end s.ends
+sessions-are-answered p old new written end s clean = ends-answered p s.turns old s.reached new written s.last s.run s.bytes clean end s.ends
 
 -- ---- a run
 

@@ -16,7 +16,7 @@ use Rattle.protocol.specs.declared.session.InSession.TheVariants as within
 use Rattle.protocol.specs.Codes.{code_of_form}
 use Rattle.runs.specs.Runs.{IsRun}
 use Rattle.frames.specs.Outcomes.{Outcome, ended, failed, lost, replied}
-use Rattle.frames.specs.Sessions.{Session, Standing, Turn, frames}
+use Rattle.frames.specs.Sessions.{Session, SessionState, Turn, frames}
 use Rattle.frames.specs.declared.session.SessionEnd.{SessionEnd}
 use Rattle.server.specs.Connections.{AnswersAt, Desk}
 
@@ -111,7 +111,7 @@ pub record IsAnsweredAll (p : PolicyRules) (old : Desk) (written : List ℕ) (ne
 -- A session with the book of a registry, from which nothing wrong was taken by its end, is its frames answered.
 abbrev pub SessionsAreAnswered : Type 0
 SessionsAreAnswered =
-    (p : PolicyRules) (old new : Standing Desk) (written : List ℕ) (end : SessionEnd)
+    (p : PolicyRules) (old new : SessionState Desk) (written : List ℕ) (end : SessionEnd)
     → Session (AnswersAt p) old written new end → new.peer.book.is_clean ≡ true
     → IsAnsweredAll p old.peer written new.peer
 

@@ -15,7 +15,7 @@ use Rattle.sqlcolumns.specs.Numbers.{exact_in, is_exact, is_place, registrar_in}
 use Rattle.sqltables.specs.Account as table
 use Rattle.sqltables.specs.Content.{Content}
 use Rattle.sqltables.specs.inner.Content.{accounts_to}
-use Rattle.sqlaccounts.specs.Accounts.{account_in, accounts_of, balance_in, entries_of, has_right_sums, is_right, lines_of, queue_of, row_of, standing, standing_of, sums_are_right}
+use Rattle.sqlaccounts.specs.Accounts.{account_in, accounts_of, balance_in, entries_of, has_right_sums, ident_and_held, ident_and_held_of, is_right, lines_of, queue_of, row_of, sums_are_right}
 use Rattle.sqlaccounts.specs.inner.Changes.{AreOthersKept, IsChange, IsCounted, counters_in, with_changed}
 use Rattle.accounts.specs.Counters.{counters_of, with_counters}
 use Rattle.accounts.specs.declared.counters.Counters.{Counters}
@@ -210,7 +210,7 @@ module _ (xs ys : Content) (r : ℕ) (f : Account → Account) (new : table.Acco
 
 module _ (xs ys : Content) (r : ℕ) (f : Account → Account) (row new : table.Account)
     (place : is_place r ≡ true) (found : row_of xs (pos r) ≡ Some row) (put : ys.accounts ≡ insert_by key xs.accounts new) (same : new.id ≡ row.id)
-    (stands : standing new ≡ standing row)
+    (stands : ident_and_held new ≡ ident_and_held row)
     (lines : (id : ℤ) → int_eq (pos r) id ≡ false → lines_of ys id ≡ lines_of xs id)
     (queues : (id : ℤ) → int_eq (pos r) id ≡ false → queue_of ys id ≡ queue_of xs id)
     (here : account_in ys new ≡ f (account_in xs row)) (right : is_right ys new ≡ is_right xs row) (others : AreOthersKept xs ys) where
@@ -226,16 +226,16 @@ module _ (xs ys : Content) (r : ℕ) (f : Account → Account) (row new : table.
   row_was : (id : ℤ) → int_eq (pos r) id ≡ true → row_of xs id ≡ Some row
   row_was id e = ap (row_of xs) (sym (same_int (pos r) id e)) ∙ found
 
-  standing-at : (id : ℤ) (b : Bool) → int_eq (pos r) id ≡ b → standing_of ys id ≡ standing_of xs id
-  standing-at id true e = ap (option_map standing) (row_here xs ys r new put at id e) ∙ ap Some stands ∙ sym (ap (option_map standing) (row_was id e))
-  standing-at id false e = ap (option_map standing) (row_there xs ys r new put at id e)
+  ident_and_held-at : (id : ℤ) (b : Bool) → int_eq (pos r) id ≡ b → ident_and_held_of ys id ≡ ident_and_held_of xs id
+  ident_and_held-at id true e = ap (option_map ident_and_held) (row_here xs ys r new put at id e) ∙ ap Some stands ∙ sym (ap (option_map ident_and_held) (row_was id e))
+  ident_and_held-at id false e = ap (option_map ident_and_held) (row_there xs ys r new put at id e)
 
   pub changed : IsChange r f xs ys
   changed = record {
     there = (account_in xs row, get-found xs r row place found);
     accounts = accounts-put xs ys r f new place put at lines queues value_here right_here;
     sums = sums-put xs ys r f new place put at lines queues value_here right_here;
-    standings = λ id. standing-at id _ refl;
+    idents_and_held = λ id. ident_and_held-at id _ refl;
     others = others;
   }
 
@@ -247,7 +247,7 @@ counted xs r x row new place found it =
     let id : new.id ≡ row.id = ap (λ (a : table.Account). a.id) it.rest in
     let waiting : new.waiting ≡ row.waiting = ap (λ (a : table.Account). a.waiting) it.rest in
     let cents : new.balance ≡ row.balance = ap (λ (a : table.Account). a.balance) it.rest in
-    changed xs ys r (with_counters x) row new place (sym found) refl id (ap standing it.rest) (λ id e. refl) (λ id e. refl)
+    changed xs ys r (with_counters x) row new place (sym found) refl id (ap ident_and_held it.rest) (λ id e. refl) (λ id e. refl)
     (λ i. record { lines = lines_of xs (id i); queue = queue_of xs (id i); commands = (it.back i).commands; messages = (it.back i).messages; serial = (it.back i).serial })
     (λ i. int_eq (balance_in (cents i)) (balance (lines_of xs (id i))) && int_eq (waiting i) (pos (length (queue_of xs (id i)))))
     (record { metas = refl; days = refl; contacts = refl; domains = refl; hosts = refl; addresses = refl; links = refl; transfers = refl })
@@ -276,6 +276,6 @@ module _ (xs : Content) (r : ℕ) (f : Account → Account) (row : table.Account
     there = (account_in xs row, get-found xs r row place there);
     accounts = kept_accounts;
     sums = refl;
-    standings = λ id. refl;
+    idents_and_held = λ id. refl;
     others = record { metas = refl; days = refl; contacts = refl; domains = refl; hosts = refl; addresses = refl; links = refl; transfers = refl };
   }

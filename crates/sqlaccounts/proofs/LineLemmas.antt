@@ -23,7 +23,7 @@ use Rattle.sqltables.specs.inner.Content.{accounts_to, lines_to}
 use Rattle.sqltables.specs.Line as table
 use Rattle.sqltables.specs.Line.{line_with_account}
 use Rattle.sqltables.specs.Message.{message_with_account}
-use Rattle.sqlaccounts.specs.Accounts.{balance_in, lines_of, put_all, queue_of, row_of, standing}
+use Rattle.sqlaccounts.specs.Accounts.{balance_in, ident_and_held, lines_of, put_all, queue_of, row_of}
 use Rattle.sqlaccounts.specs.inner.Changes.{AreOthersKept, IsChange, IsPaid, IsWritten}
 use Rattle.sqlaccounts.proofs.AccountLemmas.{changed}
 use Rattle.sqlaccounts.proofs.BagLemmas.{bag-middle}
@@ -90,7 +90,7 @@ repaid xs ys r change cents row new place found paid put messages elsewhere here
     let queue : queue_of ys new.id ≡ queue_of xs row.id = λ i. put_all (filter_map message_in (filter (message_with_account (id i)) (messages i))) in
     let right : int_eq (balance_in new.balance) (balance (lines_of ys new.id)) ≡ int_eq (balance_in row.balance) (balance (lines_of xs row.id)) =
     (λ i. int_eq (paid.sum i) (balance (lines_of ys (now i)))) ∙ sums ∙ ap (λ k. int_eq (balance_in row.balance) (balance (lines_of xs k))) (sym at) in
-    changed xs ys r (with_lines change) row new place (sym found) put id (ap standing paid.rest) elsewhere
+    changed xs ys r (with_lines change) row new place (sym found) put id (ap ident_and_held paid.rest) elsewhere
     (λ k e. ap (λ ms. put_all (filter_map message_in (filter (message_with_account k) ms))) messages)
     (λ i. record { lines = lines i; queue = queue i; commands = counter_in (paid.rest i).commands; messages = counter_in (paid.rest i).messages; serial = counter_in (paid.rest i).serial })
     (λ i. right i && int_eq (paid.rest i).waiting (pos (length (queue i))))

@@ -34,7 +34,7 @@ use Rattle.sqltables.specs.inner.Content.{accounts_to, messages_to}
 use Rattle.sqltables.specs.Message as table
 use Rattle.sqltables.specs.inner.Message as inner_table
 use Rattle.sqltables.specs.inner.Whole.{IsWhole}
-use Rattle.sqlaccounts.specs.Accounts.{account_in, accounts_of, balance_in, lines_of, put_all, queue_of, row_of, standing}
+use Rattle.sqlaccounts.specs.Accounts.{account_in, accounts_of, balance_in, ident_and_held, lines_of, put_all, queue_of, row_of}
 use Rattle.sqlaccounts.specs.inner.Changes.{IsChange}
 use Rattle.sqlaccounts.proofs.AccountLemmas.{changed, get-accounts_of, get-found}
 use Rattle.sqlaccounts.specs.declared.queue.Found.{Found}
@@ -144,7 +144,7 @@ unchanged xs r f row place found same =
       there = (account_in xs row, there);
       accounts = same_map nat_cmp_total nat_cmp-IsAntisymmetric _ _ (λ q. go there q (eq_by_cmp nat_cmp q r) refl ∙ sym (get-insert nat_cmp_total (accounts_of xs) r (f (unwrap_or (get (accounts_of xs) r) empty_account)) q));
       sums = refl;
-      standings = λ id. refl;
+      idents_and_held = λ id. refl;
       others = record { metas = refl; days = refl; contacts = refl; domains = refl; hosts = refl; addresses = refl; links = refl; transfers = refl };
     }
   where
@@ -185,7 +185,7 @@ requeued xs ms r f row new step place found more elsewhere here count =
     let counted : int_eq new.waiting (pos (length (queue_of ys new.id))) ≡ int_eq row.waiting (pos (length (queue_of xs row.id))) =
     (λ i. int_eq (waiting i) (pos (length (queue i)))) ∙ ap (int_eq (row.waiting +ℤ step)) (ap (λ id. pos (length (f (queue_of xs id)))) at ∙ count ∙ sym (ap (λ id. pos (length (queue_of xs id)) +ℤ step) at))
     ∙ shifted row.waiting (pos (length (queue_of xs row.id))) step in
-    changed xs ys r (with_queue f) row new place (sym found) refl same (ap standing more.rest) (λ id e. refl) elsewhere
+    changed xs ys r (with_queue f) row new place (sym found) refl same (ap ident_and_held more.rest) (λ id e. refl) elsewhere
     (λ i. record { lines = lines_of xs (same i); queue = queue i; commands = (account_in xs (more.rest i)).commands; messages = (account_in xs (more.rest i)).messages; serial = (account_in xs (more.rest i)).serial })
     (λ i. int_eq (balance_in (cents i)) (balance (lines_of xs (same i))) && counted i)
     (record { metas = refl; days = refl; contacts = refl; domains = refl; hosts = refl; addresses = refl; links = refl; transfers = refl })

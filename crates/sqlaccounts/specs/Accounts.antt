@@ -82,11 +82,11 @@ sums_are_right xs = list_all (λ (row : account_table.Account). has_right_sums x
 -- ---- what a row keeps besides
 
 -- who it is, and how many domains are its own
-abbrev pub standing : account_table.Account → List ℕ × ℤ
-standing row = (row.ident, row.held)
+abbrev pub ident_and_held : account_table.Account → List ℕ × ℤ
+ident_and_held row = (row.ident, row.held)
 
-abbrev pub standing_of : Content → ℤ → Option (List ℕ × ℤ)
-standing_of xs id = option_map standing (row_of xs id)
+abbrev pub ident_and_held_of : Content → ℤ → Option (List ℕ × ℤ)
+ident_and_held_of xs id = option_map ident_and_held (row_of xs id)
 
 -- the ident of an account that was opened and has no id yet: # and its place
 abbrev pub place_ident : ℕ → List ℕ

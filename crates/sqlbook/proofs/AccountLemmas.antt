@@ -15,7 +15,7 @@ use Rattle.sqltables.specs.Readiness.{may_be_numbered}
 use Rattle.sqltables.specs.Meta.{Meta}
 use Rattle.sqltables.specs.inner.Whole.{IsWhole}
 use Rattle.sqltables.proofs.RowLemmas.{all_at}
-use Rattle.sqlaccounts.specs.Accounts.{row_of, standing}
+use Rattle.sqlaccounts.specs.Accounts.{ident_and_held, row_of}
 use Rattle.sqlaccounts.specs.inner.Changes.{IsChange}
 use Rattle.sqlsums.proofs.KeptLemmas.{change-kept}
 use Rattle.sqlobjects.proofs.PutLemmas.{has-get_by}
@@ -105,14 +105,14 @@ module _ (r : ℕ) (f : Account → Account) (old new : Content) (whole : IsWhol
       (λ i. terms_of (record new { metas = it.others.metas i; days = it.others.days i }))
       ∙ go (meta_of old)
     where
-      named-so : (n o : Option table.Account) → option_map standing n ≡ option_map standing o → ident_in n ≡ ident_in o
+      named-so : (n o : Option table.Account) → option_map ident_and_held n ≡ option_map ident_and_held o → ident_in n ≡ ident_in o
       named-so None None e = refl
       named-so None (Some b) e = cc
       named-so (Some a) None e = cc
-      named-so (Some a) (Some b) e = ap (λ (s : List ℕ × ℤ). Some s.0) (same_some (standing a) (standing b) e)
+      named-so (Some a) (Some b) e = ap (λ (s : List ℕ × ℤ). Some s.0) (same_some (ident_and_held a) (ident_and_held b) e)
 
       ids : ids_in new.accounts ≡ ids_in old.accounts
-      ids = same-ids new.accounts old.accounts after.keyed.accounts whole.keyed.accounts (λ id. named-so (row_of new id) (row_of old id) (it.standings id)) []
+      ids = same-ids new.accounts old.accounts after.keyed.accounts whole.keyed.accounts (λ id. named-so (row_of new id) (row_of old id) (it.idents_and_held id)) []
 
       go : (m : Option Meta) → terms_in m old.days new.accounts ≡ terms_in m old.days old.accounts
       go None = refl

@@ -24,7 +24,7 @@ use Rattle.sqlrows.specs.Read.{first_read, or_else}
 use Rattle.sqldomains.specs.Domains.{domain_of, domains_of}
 use Rattle.sqldomains.specs.inner.Changes.{IsDomainPut, sponsor_in}
 use Rattle.sqldomains.proofs.FoundLemmas.{domain-named}
-use Rattle.sqldomains.proofs.FrameLemmas.{follow-leaves-domains, follow-leaves-reading}
+use Rattle.sqldomains.proofs.FrameLemmas.{sponsors-leave-domains, sponsors-leave-reading}
 use Rattle.sqldomains.proofs.SponsorLemmas.{domain-sponsors}
 use Rattle.sqlaccounts.specs.Accounts.{accounts_of, sums_are_right}
 use Rattle.sqlsums.specs.Held.{helds_are_right}
@@ -89,7 +89,7 @@ module _ (name : List ℕ) (days : Schedule) (after : Option Domain) (due : ℕ)
   put-it = there.exchanged.put
 
   was : (these : Schedule) → days_of moved ≡ Some these → (row : table.Domain) → Has moved.domains row → row.name ≡ name → is_due_right these moved row ≡ true
-  was these e row here named = ap (λ ds. is_due_right ds moved row) (days-are (days_of moved) these days there.standing.days_are e) ∙ there.standing.due row here named
+  was these e row here named = ap (λ ds. is_due_right ds moved row) (days-are (days_of moved) these days there.checked.days_are e) ∙ there.checked.due row here named
 
   reads-after : (row : table.Domain) → Has new.domains row → row.name ≡ name → domain_of new row ≡ after
   reads-after row here named = reading-is new row put-it.whole.1 here ∙ ap (get (domains_of new)) named ∙ ap (λ m. get m name) put-it.domains ∙ get-put (domains_of there.exchanged.mid) name after
@@ -102,16 +102,16 @@ module _ (name : List ℕ) (days : Schedule) (after : Option Domain) (due : ℕ)
 
   is : (these : Schedule) → days_of moved ≡ Some these → (row : table.Domain) → Has new.domains row → row.name ≡ name → is_due_right these new row ≡ true
   is these e row here named =
-      ap (λ ds. is_due_right ds new row) (days-are (days_of moved) these days there.standing.days_are e)
+      ap (λ ds. is_due_right ds new row) (days-are (days_of moved) these days there.checked.days_are e)
       ∙ ap (λ o. option_map_or (λ d. int_le row.due (pos (due_at (rules_with days) d))) o true) (reads-after row here named)
       ∙ early-enough row here named after refl
 
-  -- the hosts that follow leave the other sums, and all that a book sees
+  -- the hosts that take a sponsor leave the other sums, and all that a book sees
   rest-moved : (field : Content → Bool) → ((xs : Content) (hosts : List host_table.Host) → field (record xs { hosts = hosts }) ≡ field xs) → field moved ≡ field old
   rest-moved field same = ap field it.followed.rest ∙ same old moved.hosts
 
   domains-moved : domains_of moved ≡ domains_of old
-  domains-moved = follow-leaves-domains name (sponsor_in after) old moved it.followed
+  domains-moved = sponsors-leave-domains name (sponsor_in after) old moved it.followed
 
   held-moved : helds_are_right moved ≡ helds_are_right old
   held-moved = accounts-kept old moved domains-moved (ap (λ (xs : Content). xs.accounts) it.followed.rest)
@@ -119,7 +119,7 @@ module _ (name : List ℕ) (days : Schedule) (after : Option Domain) (due : ℕ)
   dues-moved : dues_are_right moved ≡ dues_are_right old
   dues-moved =
       dues-where old moved (ap (λ (xs : Content). xs.metas) it.followed.rest) (ap (λ (xs : Content). xs.days) it.followed.rest) (ap (λ (xs : Content). xs.domains) it.followed.rest)
-      (follow-leaves-reading name (sponsor_in after) old moved it.followed)
+      (sponsors-leave-reading name (sponsor_in after) old moved it.followed)
 
   sums-moved : (sums_are_right moved && (helds_are_right moved && dues_are_right moved)) ≡ (sums_are_right old && (helds_are_right old && dues_are_right old))
   sums-moved = λ i. rest-moved sums_are_right (λ xs hosts. refl) i && (held-moved i && dues-moved i)
@@ -137,7 +137,7 @@ module _ (name : List ℕ) (days : Schedule) (after : Option Domain) (due : ℕ)
   }
 
   others-right : (sums_are_right new && (helds_are_right new && dues_are_right new)) ≡ (sums_are_right old && (helds_are_right old && dues_are_right old))
-  others-right = domain-right name there.before after (due_with after due) moved there.exchanged.mid new there.whole there.exchanged.counted there.standing.domain_is put-it was is ∙ sums-moved
+  others-right = domain-right name there.before after (due_with after due) moved there.exchanged.mid new there.whole there.exchanged.counted there.checked.domain_is put-it was is ∙ sums-moved
 
   sponsors-right : sponsors_are_right new ≡ sponsors_are_right old
   sponsors-right = domain-sponsors name after (due_with after due) old moved there.exchanged.mid new it.followed there.exchanged.counted.rest put-it
@@ -157,7 +157,7 @@ module _ (name : List ℕ) (days : Schedule) (after : Option Domain) (due : ℕ)
       split xs = three (sums_are_right xs) (helds_are_right xs) (dues_are_right xs) (sponsors_are_right xs)
 
   pub replaced : stored_of new ≡ domain_put name after (stored_of old)
-  replaced = domain-changed name there.before after (due_with after due) moved there.exchanged.mid new there.whole there.exchanged.counted there.standing.domain_is put-it was is ∙ ap (domain_put name after) stored-moved
+  replaced = domain-changed name there.before after (due_with after due) moved there.exchanged.mid new there.whole there.exchanged.counted there.checked.domain_is put-it was is ∙ ap (domain_put name after) stored-moved
 
   pub replaced-days : days_of new ≡ days_of old
   replaced-days = λ i. days_of (record new {

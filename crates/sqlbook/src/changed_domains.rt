@@ -4,7 +4,7 @@ ghost use Rattle.store.specs.Tables as tables;
 ghost use Rattle.sqlrows.specs.Meanings.{Changes};
 ghost use Rattle.transactions.specs.States.{FindsSome};
 ghost use Rattle.sqlbook.specs.Meaning.{are_right, stored_of};
-ghost use Rattle.sqlbook.specs.inner.Replacing.{IsExchanged, IsExchangedThere, IsReplaced, IsStanding, due_with, with_renamed};
+ghost use Rattle.sqlbook.specs.inner.Replacing.{IsCheckedDomain, IsExchanged, IsExchangedThere, IsReplaced, due_with, with_renamed};
 ghost use Rattle.sqlbook.specs.AsBook.{MakesAs};
 ghost use Rattle.sqldomains.specs.inner.Changes.{IsDomainPut, sponsor_in};
 
@@ -14,8 +14,8 @@ use calendar::Moment;
 use objects::Domain;
 use policy::Policy;
 use sqlite::Alter;
-use sqlobjects::follow;
-use sqlsums::{due_of_domain, recount, same_days, standing};
+use sqlobjects::set_sponsor_below;
+use sqlsums::{checked_domain, due_of_domain, recount, same_days};
 use sqltables::RowStore;
 use std::alloc::Global;
 use store::with_host_renamed;
@@ -100,11 +100,11 @@ fn found<S: Alter>(
     name: &Text,
     policy: &Policy,
 ) -> Result<Option<Domain>, BookFault>
-    ensures { FindsSome result (IsStanding name.now policy.now.days store.old.content) store.old
+    ensures { FindsSome result (IsCheckedDomain name.now policy.now.days store.old.content) store.old
         store.new }
 {
     same_days(store, alloc, policy.schedule())?;
-    standing(store, alloc, name, policy)
+    checked_domain(store, alloc, name, policy)
 }
 
 /// One domain, or none, stands in the place of another, or of none, and the hosts below have its sponsor.
@@ -119,7 +119,7 @@ fn replace<S: Alter>(
     requires { store.old.is_open ≡ true }
     ensures { Changes result (IsReplaced name.now policy.now.days after.now due) store.old store.new }
 {
-    follow(store, name, sponsor_of(after))?;
+    set_sponsor_below(store, name, sponsor_of(after))?;
     exchange_there(store, alloc, name, after, due, policy)?;
     Ok(())
 }

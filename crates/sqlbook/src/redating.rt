@@ -5,7 +5,7 @@ ghost use Rattle.lifecycle.specs.Lapse as lapse;
 ghost use Rattle.lifecycle.specs.Periods.{rules_with};
 ghost use Rattle.sqlrows.specs.Meanings.{Changes};
 ghost use Rattle.transactions.specs.States.{FindsSome};
-ghost use Rattle.sqlbook.specs.inner.Replacing.{IsExchangedThere, IsReplaced, IsStanding};
+ghost use Rattle.sqlbook.specs.inner.Replacing.{IsCheckedDomain, IsExchangedThere, IsReplaced};
 ghost use Rattle.sqlbook.specs.inner.Suiting.{MeansSame};
 
 use crate::changed_domains::{exchange, sponsor_of};
@@ -14,7 +14,7 @@ use calendar::Moment;
 use objects::Domain;
 use policy::Schedule;
 use sqlite::Alter;
-use sqlobjects::follow;
+use sqlobjects::set_sponsor_below;
 use sqlsums::{deleted, deleted_names, end_of_deletion, same_days};
 use sqltables::RowStore;
 use std::alloc::Global;
@@ -101,7 +101,7 @@ fn replace<S: Alter>(
     requires { store.old.is_open ≡ true }
     ensures { Changes result (IsReplaced name.now days.now after.now due) store.old store.new }
 {
-    follow(store, name, sponsor_of(after))?;
+    set_sponsor_below(store, name, sponsor_of(after))?;
     exchange_there(store, alloc, name, after, due, days)?;
     Ok(())
 }
@@ -132,7 +132,7 @@ fn found<S: Alter>(
     name: &Text,
     days: &Schedule,
 ) -> Result<Option<Domain>, BookFault>
-    ensures { FindsSome result (IsStanding name.now days.now store.old.content) store.old store.new }
+    ensures { FindsSome result (IsCheckedDomain name.now days.now store.old.content) store.old store.new }
 {
     same_days(store, alloc, days)?;
     deleted(store, alloc, name, days)

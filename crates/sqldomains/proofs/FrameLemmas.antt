@@ -26,7 +26,7 @@ use Rattle.sqlrows.specs.Read.{named}
 use Rattle.sqlobjects.specs.inner.Changes.{IsContactPut, IsHostPut}
 use Rattle.sqlobjects.specs.Changes.{contact_name, host_name}
 use Rattle.sqlobjects.specs.Objects.{last_transfer}
-use Rattle.sqlobjects.specs.Sponsors.{IsFollowed, domain_sponsor, follows, with_sponsor}
+use Rattle.sqlobjects.specs.Sponsors.{IsSponsorSetBelow, domain_sponsor, takes_sponsor, with_sponsor}
 use Rattle.sqlobjects.proofs.PutLemmas.{get_by-has, has-filter}
 use Rattle.sqldomains.specs.Domains.{are_dated, dated, domain_entry, domain_of, domains_of, linked_name, registrant_alone, with_links, with_name}
 
@@ -136,7 +136,7 @@ module _ (name : List ℕ) (value : Option Host) (xs ys : Content) (put : IsHost
   pub host-leaves-domains : domains_of ys ≡ domains_of xs
   host-leaves-domains = domains-same xs ys put.links put.domains host-transfers host-registrants host-names
 
--- ---- hosts that follow a domain
+-- ---- hosts that take a domain's sponsor
 
 abbrev name_in : Option host_table.Host → Option (List ℕ)
 name_in o = option_map (λ (r : host_table.Host). r.name) o
@@ -145,7 +145,7 @@ name_in o = option_map (λ (r : host_table.Host). r.name) o
 names-kept : (above : List ℕ) (sponsor : Option ℤ) (rows : List host_table.Host) (id : ℤ)
     → name_in (get_by host_table.hosts.key (map (with_sponsor above sponsor) rows) id) ≡ name_in (get_by host_table.hosts.key rows id)
 names-kept above sponsor [] id = refl
-names-kept above sponsor (row ∷ rows) id = go (follows above row) (names-kept above sponsor rows id)
+names-kept above sponsor (row ∷ rows) id = go (takes_sponsor above row) (names-kept above sponsor rows id)
   where
     at : (b : Bool) (r : host_table.Host) (o p : Option host_table.Host) → r.name ≡ row.name → name_in o ≡ name_in p → name_in (cond b (Some r) o) ≡ name_in (cond b (Some row) p)
     at true r o p same more = ap Some same
@@ -157,9 +157,9 @@ names-kept above sponsor (row ∷ rows) id = go (follows above row) (names-kept 
     go true more = at (int_eq row.id id) (record row { sponsor = sponsor }) _ _ refl more
     go false more = at (int_eq row.id id) row _ _ refl more
 
-module _ (above : List ℕ) (after : Option ℕ) (xs ys : Content) (it : IsFollowed above after xs ys) where
-  follow-names : (id : ℤ) → host_name ys id ≡ host_name xs id
-  follow-names id = go (is_same (domain_sponsor xs above) (maybe_registrar_column after)) refl
+module _ (above : List ℕ) (after : Option ℕ) (xs ys : Content) (it : IsSponsorSetBelow above after xs ys) where
+  sponsor-names : (id : ℤ) → host_name ys id ≡ host_name xs id
+  sponsor-names id = go (is_same (domain_sponsor xs above) (maybe_registrar_column after)) refl
     where
       go : (b : Bool) → is_same (domain_sponsor xs above) (maybe_registrar_column after) ≡ b → host_name ys id ≡ host_name xs id
       go true e = ap (λ rows. name_in (get_by host_table.hosts.key rows id)) (it.stays e)
@@ -167,17 +167,17 @@ module _ (above : List ℕ) (after : Option ℕ) (xs ys : Content) (it : IsFollo
           ap (λ rows. name_in (get_by host_table.hosts.key rows id)) (it.moves e).has
           ∙ names-kept above (maybe_registrar_column after) xs.hosts id
 
-  follow-linked : (row : Link) → Has xs.links row → (role : Role) → linked_name ys role row.contact row.host ≡ linked_name xs role row.contact row.host
-  follow-linked row there role = name-where xs ys role row.contact row.host (λ id is. ap (λ (x : Content). contact_name x id) it.rest) (λ id is. follow-names id)
+  sponsor-linked : (row : Link) → Has xs.links row → (role : Role) → linked_name ys role row.contact row.host ≡ linked_name xs role row.contact row.host
+  sponsor-linked row there role = name-where xs ys role row.contact row.host (λ id is. ap (λ (x : Content). contact_name x id) it.rest) (λ id is. sponsor-names id)
 
-  follow-registrants : (row : table.Domain) → Has xs.domains row → contact_name ys row.registrant ≡ contact_name xs row.registrant
-  follow-registrants row there = ap (λ (x : Content). contact_name x row.registrant) it.rest
+  sponsor-registrants : (row : table.Domain) → Has xs.domains row → contact_name ys row.registrant ≡ contact_name xs row.registrant
+  sponsor-registrants row there = ap (λ (x : Content). contact_name x row.registrant) it.rest
 
-  follow-transfers : (id : ℤ) → filter (transfer_with_domain id) ys.transfers ≡ filter (transfer_with_domain id) xs.transfers
-  follow-transfers id = ap (λ (x : Content). filter (transfer_with_domain id) x.transfers) it.rest
+  sponsor-transfers : (id : ℤ) → filter (transfer_with_domain id) ys.transfers ≡ filter (transfer_with_domain id) xs.transfers
+  sponsor-transfers id = ap (λ (x : Content). filter (transfer_with_domain id) x.transfers) it.rest
 
-  pub follow-leaves-reading : (row : table.Domain) → Has xs.domains row → domain_of ys row ≡ domain_of xs row
-  follow-leaves-reading = reads-same xs ys (ap (λ (x : Content). x.links) it.rest) (ap (λ (x : Content). x.domains) it.rest) follow-transfers follow-registrants follow-linked
+  pub sponsors-leave-reading : (row : table.Domain) → Has xs.domains row → domain_of ys row ≡ domain_of xs row
+  sponsors-leave-reading = reads-same xs ys (ap (λ (x : Content). x.links) it.rest) (ap (λ (x : Content). x.domains) it.rest) sponsor-transfers sponsor-registrants sponsor-linked
 
-  pub follow-leaves-domains : domains_of ys ≡ domains_of xs
-  follow-leaves-domains = domains-same xs ys (ap (λ (x : Content). x.links) it.rest) (ap (λ (x : Content). x.domains) it.rest) follow-transfers follow-registrants follow-linked
+  pub sponsors-leave-domains : domains_of ys ≡ domains_of xs
+  sponsors-leave-domains = domains-same xs ys (ap (λ (x : Content). x.links) it.rest) (ap (λ (x : Content). x.domains) it.rest) sponsor-transfers sponsor-registrants sponsor-linked

@@ -26,7 +26,7 @@ use Rattle.sqltables.proofs.RowLemmas.{bytes_same}
 use Rattle.sqlrows.specs.Read.{first_read, or_else}
 use Rattle.sqlobjects.specs.inner.Changes.{IsContactPut, IsHostPut, put}
 use Rattle.sqlobjects.specs.Objects.{last_transfer}
-use Rattle.sqlobjects.specs.Sponsors.{AreMoved, IsFollowed, domain_sponsor, first_sponsor, follows, is_sponsor_right, sponsors_are_right, with_sponsor}
+use Rattle.sqlobjects.specs.Sponsors.{AreMoved, IsSponsorSetBelow, domain_sponsor, first_sponsor, is_sponsor_right, sponsors_are_right, takes_sponsor, with_sponsor}
 use Rattle.sqlobjects.specs.inner.Stages.{AreOthersKept}
 use Rattle.sqlobjects.proofs.PutLemmas.{bytes_is, filter-has, has-filter}
 use Rattle.sqlobjects.proofs.SponsorLemmas.{same-from, same-is, sponsor-kept}
@@ -99,8 +99,8 @@ module _ (name : List ℕ) (value : Option Domain) (due : Option ℕ) (mid new :
           let there = has-filter (table.domain_with_name name) new.domains row (subst (λ l. Has l row) (sym e) (inl refl)) in
           it.sponsor_is row there.0 (bytes_is row.name name there.1)
 
--- Hosts follow, accounts are written, and then the domain is put or dropped.
-module _ (name : List ℕ) (value : Option Domain) (due : Option ℕ) (old mid counted new : Content) (followed : IsFollowed name (sponsor_in value) old mid) (accounts : counted ≡ record mid { accounts = counted.accounts })
+-- Hosts take a sponsor, accounts are written, and then the domain is put or dropped.
+module _ (name : List ℕ) (value : Option Domain) (due : Option ℕ) (old mid counted new : Content) (followed : IsSponsorSetBelow name (sponsor_in value) old mid) (accounts : counted ≡ record mid { accounts = counted.accounts })
     (it : IsDomainPut name value due counted new) where
   abbrev before : Option ℤ
   before = domain_sponsor old name
@@ -134,16 +134,16 @@ module _ (name : List ℕ) (value : Option Domain) (due : Option ℕ) (old mid c
       at q true f = own-sponsor q f ∙ sym (ap (domain_sponsor old) (bytes_is q name f) ∙ same-is before after e)
       at q false f = other-sponsor q f
 
-  -- a host that follows had the one and has the other
+  -- a host that takes it had the one and has the other
   moves : AreMoved name before after old.hosts mid.hosts → sponsors_are_right new ≡ sponsors_are_right old
   moves moved =
       ap (list_all (is_sponsor_right new)) (rows_now ∙ moved.has)
       ∙ all-changed (is_sponsor_right old) (is_sponsor_right new) (with_sponsor name after) old.hosts (λ row there. each row there (bytes_eq row.above name) row.external_sponsor refl refl)
     where
-      so : (row : host_table.Host) (a : Bool) (o : Option ℤ) → bytes_eq row.above name ≡ a → row.external_sponsor ≡ o → follows name row ≡ (a && not (is_some o))
+      so : (row : host_table.Host) (a : Bool) (o : Option ℤ) → bytes_eq row.above name ≡ a → row.external_sponsor ≡ o → takes_sponsor name row ≡ (a && not (is_some o))
       so row a o e f = λ i. e i && not (is_some (f i))
 
-      chosen : (row : host_table.Host) (b : Bool) → follows name row ≡ b → with_sponsor name after row ≡ cond b (record row { sponsor = after }) row
+      chosen : (row : host_table.Host) (b : Bool) → takes_sponsor name row ≡ b → with_sponsor name after row ≡ cond b (record row { sponsor = after }) row
       chosen row b e = ap (λ (t : Bool). cond t (record row { sponsor = after }) row) e
 
       external : (xs : Content) (row : host_table.Host) (s : ℤ) → row.external_sponsor ≡ Some s → is_sponsor_right xs row ≡ is_same row.sponsor (Some s)

@@ -8,6 +8,6 @@ pub mod ContactLemmas
 pub mod AddressLemmas
 pub mod SponsorLemmas
 pub mod HostLemmas
-pub mod FollowLemmas
+pub mod HostSponsorLemmas
 pub mod VerdictLemmas
 pub mod RowNameLemmas

@@ -30,26 +30,26 @@ is_sponsor_right xs row = is_same row.sponsor (sponsor_of xs row)
 abbrev pub sponsors_are_right : Content → Bool
 sponsors_are_right xs = list_all (is_sponsor_right xs) xs.hosts
 
--- ---- hosts that follow a domain
+-- ---- hosts that take a domain's sponsor
 
 -- a host lies below this domain, and nobody sponsors it outside the zone
-abbrev pub follows : List ℕ → Host → Bool
-follows above row = host_with_above above row && not (is_some row.external_sponsor)
+abbrev pub takes_sponsor : List ℕ → Host → Bool
+takes_sponsor above row = host_with_above above row && not (is_some row.external_sponsor)
 
--- with this sponsor, if it follows the domain
+-- with this sponsor, if it takes the domain's
 abbrev pub with_sponsor : List ℕ → Option ℤ → Host → Host
-with_sponsor above sponsor row = if follows above row then record row { sponsor = sponsor } else row
+with_sponsor above sponsor row = if takes_sponsor above row then record row { sponsor = sponsor } else row
 
--- each host that follows the domain had one sponsor, and has the other; no other column and no other
+-- each host that takes the domain's sponsor had one, and has the other; no other column and no other
 -- row is changed
 pub record AreMoved (above : List ℕ) (before after : Option ℤ) (old new : List Host) : Type 0 where
-  pub had : (row : Host) → Has old row → follows above row ≡ true
+  pub had : (row : Host) → Has old row → takes_sponsor above row ≡ true
       → is_same row.sponsor before ≡ true
   pub has : new ≡ map (with_sponsor above after) old
 
--- The hosts that follow the domain of this name have this registrar as their sponsor, or none, in place of
--- the domain's. Where the two are the same no row is changed, whatever it has.
-pub record IsFollowed (above : List ℕ) (after : Option ℕ) (old new : Content) : Type 0 where
+-- The hosts that take the sponsor of the domain of this name have this registrar as their sponsor, or
+-- none, in place of the domain's. Where the two are the same no row is changed, whatever it has.
+pub record IsSponsorSetBelow (above : List ℕ) (after : Option ℕ) (old new : Content) : Type 0 where
   pub stays : is_same (domain_sponsor old above) (maybe_registrar_column after) ≡ true
       → new.hosts ≡ old.hosts
   pub moves : is_same (domain_sponsor old above) (maybe_registrar_column after) ≡ false

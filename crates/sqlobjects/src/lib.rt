@@ -7,7 +7,7 @@
 //! was, and no number leads to another name than before.
 //!
 //! A host's row also says who sponsors the host (`specs/Sponsors.antt`): that is written with the host,
-//! and `follow` writes it where the domain above is to have another sponsor. A row in which it is wrong
+//! and `set_sponsor_below` writes it where the domain above is to have another sponsor. A row in which it is wrong
 //! is refused, so that no change mends it unseen.
 //!
 //! The last transfer of a domain lies in the same table as a contact's, so both are put here
@@ -19,10 +19,10 @@ mod addresses;
 mod contact_changes;
 mod contact_rows;
 mod contacts;
-mod following;
 mod host_changes;
 mod host_names;
 mod host_rows;
+mod host_sponsors;
 mod hosts;
 mod named_rows;
 mod sponsors;
@@ -30,9 +30,9 @@ mod transfers;
 
 pub use contact_changes::{drop_contact, put_contact};
 pub use contacts::{contact, contact_of, has_contact};
-pub use following::follow;
 pub use host_changes::{drop_host, put_host};
 pub use host_names::rename_row;
+pub use host_sponsors::set_sponsor_below;
 pub use hosts::{has_host, host, host_addresses};
 pub use named_rows::{NamedRow, place_row, row_named};
 pub use transfers::{Transferable, clear_transfer, put_transfer};

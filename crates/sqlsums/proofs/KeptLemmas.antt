@@ -12,7 +12,7 @@ use Rattle.sqlcolumns.specs.Numbers.{is_place, registrar_in}
 use Rattle.sqlrows.proofs.RowLemmas.{all_with}
 use Rattle.accounts.specs.declared.account.Account.{Account}
 use Rattle.sqlcolumns.proofs.ReadLemmas.{same_some}
-use Rattle.sqlaccounts.specs.Accounts.{row_of, standing}
+use Rattle.sqlaccounts.specs.Accounts.{ident_and_held, row_of}
 use Rattle.sqlaccounts.specs.inner.Changes.{AreOthersKept, IsChange, IsOpened, opened_row}
 use Rattle.sqlaccounts.proofs.FindingLemmas.{equal}
 use Rattle.sqldomains.specs.Domains.{domains_of}
@@ -168,13 +168,13 @@ domains-kept old new it = λ i. domains_of (record new { contacts = it.contacts 
 
 -- an account is changed (what it counts, its lines, its messages)
 pub change-kept : (r : ℕ) (f : Account → Account) (old new : Content) → IsChange r f old new → helds_are_right new ≡ helds_are_right old
-change-kept r f old new it = columns-kept old new (domains-kept old new it.others) (λ id. held-of (row_of old id) (row_of new id) (it.standings id))
+change-kept r f old new it = columns-kept old new (domains-kept old new it.others) (λ id. held-of (row_of old id) (row_of new id) (it.idents_and_held id))
   where
-    held-of : (o n : Option table.Account) → option_map standing n ≡ option_map standing o → column n ≡ column o
+    held-of : (o n : Option table.Account) → option_map ident_and_held n ≡ option_map ident_and_held o → column n ≡ column o
     held-of None None e = refl
     held-of None (Some b) e = cc
     held-of (Some a) None e = cc
-    held-of (Some a) (Some b) e = ap (λ (s : List ℕ × ℤ). Some s.1) (same_some (standing b) (standing a) e)
+    held-of (Some a) (Some b) e = ap (λ (s : List ℕ × ℤ). Some s.1) (same_some (ident_and_held b) (ident_and_held a) e)
 
 -- an account is opened
 module _ (old new : Content) (r : ℕ) (whole : IsWhole old) (it : IsOpened r old new) where

@@ -1,4 +1,4 @@
-pub mod StandingLemmas
+pub mod CheckedDomainLemmas
 pub mod OrderLemmas
 pub mod FoundLemmas
 pub mod DueLemmas

@@ -42,7 +42,7 @@ fn last_moment() -> Moment {
 }
 
 /// The domain that stands under a name. Refused is a row whose column is later than the domain is due.
-pub fn standing<S: Alter>(
+pub fn checked_domain<S: Alter>(
     store: &mut RowStore<S>,
     alloc: Global,
     name: &Text,

@@ -23,7 +23,7 @@ mod near;
 mod recounting;
 mod redating;
 
-pub use checking::{due_of_domain, standing};
+pub use checking::{checked_domain, due_of_domain};
 pub use finding::due;
 pub use holding::is_at_holding_limit;
 pub use length::same_days;

@@ -5,7 +5,7 @@ use crate::connections::{ASKED, TOLD};
 use crate::hostile::{BAD_REQUEST, NOT_ALLOWED};
 use crate::serving::{client_of, is_told};
 use crate::session_ends::CLOSING;
-use crate::silent::{Standing, silent_client_of};
+use crate::silent::{StoppedClock, silent_client_of};
 use fixtures::registry_of;
 use server::{MachineClock, serve_each_within};
 use std::alloc::Global;
@@ -81,7 +81,7 @@ fn more_is_sent(rt: HostRuntime) -> Result<(), Fail> {
     let next = client_of(&rt, &listener, ASKS)?;
     listener.set_nonblocking(true)?;
     let silence = Duration::from_secs(3_600);
-    let mut clock = MachineClock::new(&Standing);
+    let mut clock = MachineClock::new(&StoppedClock);
     let began = Instant::now(&rt)?;
     drop(serve_each_within(alloc, &listener, silence, &mut clock, registry_of(alloc)?));
     let waited = began.elapsed(&rt)?;

@@ -3,7 +3,7 @@
 
 use crate::connections::framed;
 use crate::pieces::{Interrupted, whole};
-use crate::silent::Standing;
+use crate::silent::StoppedClock;
 use calendar::Moment;
 use fixtures::registry_of;
 use frames::{ListClock, SessionEnd};
@@ -307,7 +307,7 @@ fn clients_of_a_listener(rt: HostRuntime) -> Result<(), Fail> {
     for exchange in exchanges.iter() {
         clients.push(client_of(&rt, &listener, &exchange.asked)?)?;
     }
-    let mut clock = MachineClock::new(&Standing);
+    let mut clock = MachineClock::new(&StoppedClock);
     listener.set_nonblocking(true)?;
     drop(serve_each(alloc, &listener, &mut clock, registry_of(alloc)?));
     for (client, exchange) in clients.into_iter().zip(exchanges.iter()) {

@@ -12,9 +12,9 @@ use std::time::{self, Duration};
 
 /// A machine whose time stands.
 #[derive(Drop)]
-pub(crate) struct Standing;
+pub(crate) struct StoppedClock;
 
-impl time::Clock for Standing {
+impl time::Clock for StoppedClock {
     fn monotonic(&self) -> io::Result<Duration> {
         Ok(Duration::from_secs(0))
     }
@@ -70,7 +70,7 @@ fn silent_and_gone(rt: HostRuntime) -> Result<(), Fail> {
     let last = client_of(&rt, &listener, ASKED)?;
     listener.set_nonblocking(true)?;
     let silence = Duration::from_millis(20);
-    let mut clock = MachineClock::new(&Standing);
+    let mut clock = MachineClock::new(&StoppedClock);
     drop(serve_each_within(alloc, &listener, silence, &mut clock, registry_of(alloc)?));
     for (client, (_, wanted)) in silent.into_iter().zip(SILENT.iter().copied()) {
         assert!(&rt; is_told(alloc, client, wanted));

@@ -17,7 +17,7 @@ use Rattle.sqltables.specs.Content.{Content}
 use Rattle.sqltables.specs.inner.Content.{accounts_to, lines_to}
 use Rattle.sqltables.specs.Line as line_table
 use Rattle.accounts.specs.declared.counters.Counters.{Counters}
-use Rattle.sqlaccounts.specs.Accounts.{accounts_of, balance_in, place_ident, row_of, standing_of, sums_are_right}
+use Rattle.sqlaccounts.specs.Accounts.{accounts_of, balance_in, ident_and_held_of, place_ident, row_of, sums_are_right}
 
 -- the accounts, where a registrar's is changed; what was never opened is opened
 abbrev pub with_changed : (Account → Account) → FinMap nat_cmp Account → ℕ → FinMap nat_cmp Account
@@ -40,7 +40,7 @@ pub record IsChange (r : ℕ) (f : Account → Account) (old new : Content) : Ty
   pub there : (a : Account) × (get (accounts_of old) r ≡ Some a)
   pub accounts : accounts_of new ≡ with_changed f (accounts_of old) r
   pub sums : sums_are_right new ≡ sums_are_right old
-  pub standings : (id : ℤ) → standing_of new id ≡ standing_of old id
+  pub idents_and_held : (id : ℤ) → ident_and_held_of new id ≡ ident_and_held_of old id
   pub others : AreOthersKept old new
 
 -- the row of an account that was just opened

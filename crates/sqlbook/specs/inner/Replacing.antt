@@ -14,11 +14,11 @@ use Rattle.sqldomains.specs.inner.Changes.{IsDomainPut, sponsor_in}
 use Rattle.sqldomains.specs.Domains.{domains_of}
 use Rattle.sqlsums.specs.Dues.{is_due_right}
 use Rattle.sqlsums.specs.inner.Recounts.{IsRecounted}
-use Rattle.sqlobjects.specs.Sponsors.{IsFollowed}
+use Rattle.sqlobjects.specs.Sponsors.{IsSponsorSetBelow}
 use Rattle.sqlterms.specs.Terms.{days_of}
 
 -- this domain, or none, stands under a name, its row's column is right, and no other days were put down
-pub record IsStanding (name : List ℕ) (days : Schedule) (xs : Content) (domain : Option Domain) : Type 0 where
+pub record IsCheckedDomain (name : List ℕ) (days : Schedule) (xs : Content) (domain : Option Domain) : Type 0 where
   pub days_are : IfSome (days_of xs) (λ d. d ≡ days)
   pub domain_is : get (domains_of xs) name ≡ domain
   pub due : (row : table.Domain) → Has xs.domains row → row.name ≡ name
@@ -44,11 +44,11 @@ pub record IsExchanged (name : List ℕ) (before after : Option Domain) (due : �
 pub record IsExchangedThere (name : List ℕ) (days : Schedule) (after : Option Domain) (due : ℕ) (old new : Content) : Type 0 where
   pub before : Option Domain
   pub whole : IsWhole old
-  pub standing : IsStanding name days old before
+  pub checked : IsCheckedDomain name days old before
   pub exchanged : IsExchanged name before after due old new
 
--- the hosts below follow before
+-- the hosts below take their sponsor before
 pub record IsReplaced (name : List ℕ) (days : Schedule) (after : Option Domain) (due : ℕ) (old new : Content) : Type 0 where
   pub moved : Content
-  pub followed : IsFollowed name (sponsor_in after) old moved
+  pub followed : IsSponsorSetBelow name (sponsor_in after) old moved
   pub exchanged : IsExchangedThere name days after due moved new

@@ -21,7 +21,7 @@ use Rattle.transactions.specs.declared.fault.BookFault.{BookFault}
 use Rattle.transactions.specs.States.{StateOf, Stays}
 use Rattle.sqlrows.specs.Meanings.{HasChanged}
 use Rattle.sqlrows.specs.Read.{rows_of}
-use Rattle.sqlobjects.specs.declared.following.Sponsors.{Sponsors}
+use Rattle.sqlobjects.specs.declared.host_sponsors.Sponsors.{Sponsors}
 use Rattle.sqlobjects.specs.declared.transfers.Transferable.TheVariants as transferable
 use Rattle.sqlobjects.specs.Objects.{addresses_of}
 use Rattle.sqlobjects.specs.Sponsors.{AreMoved, sponsor_of}
@@ -203,7 +203,7 @@ pub record IsRowTaken (from : List ℕ) (h : Host) (row : host_table.Host) (old 
   pub is : IsHostRow old found.id h row
   pub content : new ≡ hosts_to (λ rows. insert_by host_table.hosts.key rows row) old
 
--- ---- hosts that follow a domain
+-- ---- hosts that take a domain's sponsor
 
 -- a row had the sponsor before and has the one after
 pub record IsMoved (s : Sponsors) (row after : host_table.Host) : Type 0 where
@@ -229,7 +229,7 @@ pub record AreWritten (made : List host_table.Host → Option (List host_table.H
   pub hosts : made old.hosts ≡ Some new.hosts
   pub rest : new ≡ record old { hosts = new.hosts }
 
--- the hosts that follow a domain have the sponsor after in place of the one before
+-- the hosts that take a domain's sponsor have the one after in place of the one before
 pub record AreHostsMoved (above : List ℕ) (s : Sponsors) (old new : Content) : Type 0 where
   pub rows : AreMoved above s.before s.after old.hosts new.hosts
   pub rest : new ≡ record old { hosts = new.hosts }

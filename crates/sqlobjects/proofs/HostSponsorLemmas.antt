@@ -1,4 +1,4 @@
--- Rows of hosts that follow a domain, written one after another.
+-- Rows of hosts that take a domain's sponsor, written one after another.
 use Rattle.std.proofs.Common.{◌≡◌, inl, inr, ℕ, ℤ, ◌<ℤ◌, Bool, true, false, not, cond, ◌&&◌, List, [], ◌∷◌, map, filter, Option, Some, None, option_map, is_some, refl, sym, ap, subst, ◌∙◌, Ordering, Less, int_cmp, true≢false}
 use Rattle.std.specs.FinMap.{from_entries}
 use Rattle.std.specs.List.{cons_option, filter_map}
@@ -15,9 +15,9 @@ use Rattle.sqltables.specs.Content.{Content}
 use Rattle.sqltables.specs.Host as table
 use Rattle.sqltables.specs.inner.Whole.{IsWhole}
 use Rattle.sqltables.proofs.RowLemmas.{all_at}
-use Rattle.sqlobjects.specs.declared.following.Sponsors.{Sponsors}
+use Rattle.sqlobjects.specs.declared.host_sponsors.Sponsors.{Sponsors}
 use Rattle.sqlobjects.specs.Objects.{host_entry, hosts_of}
-use Rattle.sqlobjects.specs.Sponsors.{AreMoved, IsFollowed, domain_sponsor, follows, with_sponsor}
+use Rattle.sqlobjects.specs.Sponsors.{AreMoved, IsSponsorSetBelow, domain_sponsor, takes_sponsor, with_sponsor}
 use Rattle.sqlobjects.specs.inner.Stages.{AreHostsMoved, AreWritten, with_all_moved}
 use Rattle.sqlobjects.proofs.PutLemmas.{has-filter}
 
@@ -50,8 +50,8 @@ module _ (s : Sponsors) where
   abbrev below : List ℕ → List table.Host → List table.Host
   below above xs = filter (table.host_with_above above) xs
 
-  -- the first row follows or not, and the others behind it
-  with_first : (above : List ℕ) (x y : table.Host) (xs ys : List table.Host) (o : Option (List table.Host)) → (follows above x ≡ true → is_same x.sponsor s.before ≡ true) → y ≡ with_sponsor above s.after x
+  -- the first row takes it or not, and the others behind it
+  with_first : (above : List ℕ) (x y : table.Host) (xs ys : List table.Host) (o : Option (List table.Host)) → (takes_sponsor above x ≡ true → is_same x.sponsor s.before ≡ true) → y ≡ with_sponsor above s.after x
       → behind_all y o ≡ Some ys → ((zs : List table.Host) → o ≡ Some zs → AreMoved above s.before s.after xs zs) → AreMoved above s.before s.after (x ∷ xs) ys
   with_first above x y xs ys None had has e more = cc
   with_first above x y xs ys (Some zs) had has e more =
@@ -61,8 +61,8 @@ module _ (s : Sponsors) where
         has = sym (same_some (y ∷ zs) ys e) ∙ (λ i. has i ∷ rest.has i);
       }
     where
-      first : AreMoved above s.before s.after xs zs → (row : table.Host) → Has (x ∷ xs) row → follows above row ≡ true → is_same row.sponsor s.before ≡ true
-      first rest row (inl same) so = subst (λ (r : table.Host). is_same r.sponsor s.before ≡ true) (sym same) (had (ap (follows above) (sym same) ∙ so))
+      first : AreMoved above s.before s.after xs zs → (row : table.Host) → Has (x ∷ xs) row → takes_sponsor above row ≡ true → is_same row.sponsor s.before ≡ true
+      first rest row (inl same) so = subst (λ (r : table.Host). is_same r.sponsor s.before ≡ true) (sym same) (had (ap (takes_sponsor above) (sym same) ∙ so))
       first rest row (inr there) so = rest.had row there so
 
   pub all-moved : (above : List ℕ) (xs ys : List table.Host) → IsKeyedBy key xs → with_all_moved s xs (below above xs) ≡ Some ys → AreMoved above s.before s.after xs ys
@@ -75,10 +75,10 @@ module _ (s : Sponsors) where
       later : (row : table.Host) → Has (below above xs) row → int_cmp (key x) (key row) ≡ Less
       later row there = Less-from_lt (key x) (key row) (all_at (λ z. key x <ℤ key z) xs row up.0 (has-filter (table.host_with_above above) xs row there).0)
 
-      at : (a b : Bool) → table.host_with_above above x ≡ a → is_some x.external_sponsor ≡ b → follows above x ≡ (a && not b)
+      at : (a b : Bool) → table.host_with_above above x ≡ a → is_some x.external_sponsor ≡ b → takes_sponsor above x ≡ (a && not b)
       at a b e f = λ i. e i && not (f i)
 
-      chosen : (b : Bool) → follows above x ≡ b → cond b moved x ≡ with_sponsor above s.after x
+      chosen : (b : Bool) → takes_sponsor above x ≡ b → cond b moved x ≡ with_sponsor above s.after x
       chosen b e = ap (λ (t : Bool). cond t moved x) (sym e)
 
       in_place : insert_by key (x ∷ xs) moved ≡ moved ∷ xs
@@ -107,7 +107,7 @@ module _ (s : Sponsors) where
 -- ---- what hosts are isn't changed
 
 entry-same : (xs ys : Content) (above : List ℕ) (sponsor : Option ℤ) (row : table.Host) → ys.addresses ≡ xs.addresses → host_entry ys (with_sponsor above sponsor row) ≡ host_entry xs row
-entry-same xs ys above sponsor row addresses = go (follows above row) ∙ ap (λ rows. host_entry (record xs { addresses = rows }) row) addresses
+entry-same xs ys above sponsor row addresses = go (takes_sponsor above row) ∙ ap (λ rows. host_entry (record xs { addresses = rows }) row) addresses
   where
     go : (b : Bool) → host_entry ys (cond b (record row { sponsor = sponsor }) row) ≡ host_entry ys row
     go true = refl
@@ -132,7 +132,7 @@ hosts-moved xs ys above given s rows whole same found made = record {
 }
 
 pub followed : (xs ys : Content) (above given : List ℕ) (before column : Option ℤ) (after : Option ℕ) → given ≡ above → before ≡ domain_sponsor xs given → column ≡ maybe_registrar_column after
-    → is_same before column ≡ false → IsWhole xs → IsWhole ys → AreHostsMoved above (record { before = before; after = column }) xs ys → IsFollowed above after xs ys
+    → is_same before column ≡ false → IsWhole xs → IsWhole ys → AreHostsMoved above (record { before = before; after = column }) xs ys → IsSponsorSetBelow above after xs ys
 followed xs ys above given before column after same is become differ whole still moved =
     let was : before ≡ domain_sponsor xs above = is ∙ ap (domain_sponsor xs) same in
     record {

@@ -1,8 +1,8 @@
-//! Hosts that follow the domain that they lie below: whoever sponsors it sponsors them.
+//! Hosts in the zone are sponsored by whoever sponsors the domain above them.
 ghost use Rattle.std.specs.Prelude.{◌≡◌, true, IfOk};
 ghost use Rattle.sqlcolumns.specs.Transfers as columns;
 ghost use Rattle.sqlrows.specs.Meanings.{Changes};
-ghost use Rattle.sqlobjects.specs.Sponsors.{IsFollowed};
+ghost use Rattle.sqlobjects.specs.Sponsors.{IsSponsorSetBelow};
 ghost use Rattle.sqlobjects.specs.inner.Stages.{AreHostsMoved, AreWritten, IsMoved, with_all_moved, with_moved};
 
 use crate::sponsors::domain_sponsor;
@@ -24,13 +24,13 @@ pub(crate) struct Sponsors {
 /// The hosts that lie below a domain, and that nobody sponsors outside the zone, have this registrar as
 /// their sponsor, or none, in place of the domain's. Where that is the same nothing is written. Refused
 /// is what would leave a row right that was wrong.
-pub fn follow<S: Alter>(
+pub fn set_sponsor_below<S: Alter>(
     store: &mut RowStore<S>,
     above: &Text,
     after: Option<RegistrarNo>,
 ) -> Result<(), BookFault>
     requires { store.old.is_open ≡ true }
-    ensures { Changes result (IsFollowed above.now after) store.old store.new }
+    ensures { Changes result (IsSponsorSetBelow above.now after) store.old store.new }
 {
     store.whole();
     let before = domain_sponsor(store, above.as_str())?;
@@ -54,7 +54,7 @@ impl Sponsors {
     }
 }
 
-/// The hosts that follow a domain have the sponsor that is to come in place of the one before.
+/// The hosts that take a domain's sponsor have the one that is to come in place of the one before.
 fn move_hosts<S: Alter>(
     store: &mut RowStore<S>,
     above: &Text,

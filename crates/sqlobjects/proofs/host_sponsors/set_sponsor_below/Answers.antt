@@ -1,9 +1,9 @@
 use Rattle.std.proofs.Common.{sym, ◌∙◌}
-use Rattle.sqlobjects.specs.Sponsors.{IsFollowed}
+use Rattle.sqlobjects.specs.Sponsors.{IsSponsorSetBelow}
 use Rattle.sqlobjects.specs.inner.Stages.{AreHostsMoved}
-use Rattle.sqlobjects.proofs.FollowLemmas.{followed}
+use Rattle.sqlobjects.proofs.HostSponsorLemmas.{followed}
 use Rattle.sqlobjects.proofs.StepLemmas.{asked-then}
-use Rattle.sqlobjects.proofs.following.follow.Goals as goal
+use Rattle.sqlobjects.proofs.host_sponsors.set_sponsor_below.Goals as goal
 
 pub returns : goal.returns
 returns g c =
@@ -14,7 +14,7 @@ returns g c =
     let column = c.maybe_registrar_column.result in
     let asked = c.in_ok-before.ensures {u = tt} in
     let made = c.in_ok-move_hosts.ensures {u = tt} in
-    asked-then (AreHostsMoved above (record { before = before; after = column })) (IsFollowed above c.args.after) old c.domain_sponsor.new.store new asked.0 made
+    asked-then (AreHostsMoved above (record { before = before; after = column })) (IsSponsorSetBelow above c.args.after) old c.domain_sponsor.new.store new asked.0 made
     (λ clean moved.
     let then = made.clean clean in
     followed old.content new.content above c.as_str.result.now before column c.args.after c.as_str.ensures (asked.1 then) c.maybe_registrar_column.ensures (sym c.are_same.ensures ∙ c.if-are_same.false)

@@ -1,7 +1,7 @@
 use Rattle.sqlobjects.specs.inner.Stages.{AreHostsMoved, AreWritten, with_all_moved}
-use Rattle.sqlobjects.proofs.FollowLemmas.{hosts-moved}
+use Rattle.sqlobjects.proofs.HostSponsorLemmas.{hosts-moved}
 use Rattle.sqlobjects.proofs.StepLemmas.{asked-turns}
-use Rattle.sqlobjects.proofs.following.move_hosts.Goals as goal
+use Rattle.sqlobjects.proofs.host_sponsors.move_hosts.Goals as goal
 
 pub returns : goal.returns
 returns g c =

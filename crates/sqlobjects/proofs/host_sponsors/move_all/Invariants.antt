@@ -2,7 +2,7 @@ use Rattle.std.proofs.Common.{◌≡◌}
 use Rattle.sqlrows.specs.Meanings.{HasChanged}
 use Rattle.sqltables.specs.Content.{Content}
 use Rattle.sqlobjects.specs.inner.Stages.{with_all_moved}
-use Rattle.sqlobjects.proofs.following.move_all.Given as goal
+use Rattle.sqlobjects.proofs.host_sponsors.move_all.Given as goal
 
 -- the rows that are left give now what all of them gave at first
 abbrev pub invariant-loop-row : goal.invariant-loop-row
