@@ -10,7 +10,7 @@ use Rattle.rules.specs.Decisions.{decided}
 use Rattle.rules.specs.Orders.{order_answer, order_effect}
 use Rattle.rules.specs.Steps.{answer, effect, reply_of}
 use Rattle.rules.specs.Isolation.{IsIsolated}
-use Rattle.store.specs.Book.{BookState, HasRefused, IsBack, NoRefusal, Stored}
+use Rattle.store.specs.Book.{BookState, Follows, HasRefused, IsBack, NoRefusal, Stored}
 use Rattle.model.specs.DueBy.{due_by}
 use Rattle.protocol.specs.declared.code.Code.{Code}
 use Rattle.protocol.specs.declared.command.Command.{Command}
@@ -99,8 +99,14 @@ SameTerms old new = new.is_clean ≡ true → new.content.terms ≡ old.content.
 abbrev pub at_moment : PolicyRules → ℕ → Stored → Stored
 at_moment p t s = record s { registry = lapsed p t s.registry }
 
--- the transaction is still open, and can go back as before
+-- the transaction is still open, and can go back as before; the terms are the same
 pub record IsWithin (old new : BookState) : Type 0 where
   pub counted : NoRefusal old new
   pub opened : new.is_open ≡ true
   pub before : new.is_clean ≡ true → new.before ≡ old.before
+  pub terms : SameTerms old new
+
+-- the transaction is over, kept or gone back on
+pub record IsOver (old new : BookState) : Type 0 where
+  pub closed : new.is_open ≡ false
+  pub follows : Follows old new

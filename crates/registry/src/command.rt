@@ -1,7 +1,7 @@
 //! How a registrar's command is answered.
 ghost use Rattle.std.specs.Prelude.{◌≡◌, true, IfOk, IfErr, OnOk};
 ghost use Rattle.accounts.specs.Account.{saturating_next};
-ghost use Rattle.registry.specs.Execution.{GoesBack, IsPrepared, IsStep, IsWithin, SameTerms, Steps};
+ghost use Rattle.registry.specs.Execution.{GoesBack, IsPrepared, IsStep, IsWithin, Steps};
 ghost use Rattle.rules.specs.Steps.{reply_of};
 ghost use Rattle.store.specs.Book.{Follows, BookReads, LeavesSame, BookWrites, with_changes};
 ghost use Rattle.facts.specs.Facts.{facts};
@@ -54,7 +54,6 @@ fn execute_in<B: Book>(
     requires { (B.state book.old).is_open ≡ true }
     ensures step { IfOk result (λ reply. Steps policy.now caller command.now moment reply
         (B.state book.old) (B.state book.new)) }
-    ensures terms { OnOk result (SameTerms (B.state book.old) (B.state book.new)) }
     ensures within { OnOk result (IsWithin (B.state book.old) (B.state book.new)) }
     ensures fault { IfErr result (λ fault. GoesBack fault (B.state book.old) (B.state book.new)) }
     ensures follows { Follows (B.state book.old) (B.state book.new) }

@@ -26,8 +26,8 @@ pub(crate) fn open_in<B: Book>(
     policy: &Policy,
 ) -> Result<(), OpenFault>
     requires { (B.state book.old).is_open ≡ false }
-    ensures opened { OnOk result (Opens policy.now (B.state book.old) (B.state book.new)) }
-    ensures ours { OnOk result (IsOurs (B.state book.old) (B.state book.new)) }
+    ensures opened { OnOk result (Opens policy.now (B.state book.old) (B.state book.new)
+        × IsOurs (B.state book.old) (B.state book.new)) }
     ensures refused { IfErr result (λ fault. Refuses fault policy.now (B.state book.old)
         (B.state book.new)) }
     ensures refused_ours { IfErr result (λ fault. RefusesOurs fault (B.state book.old)

@@ -1,6 +1,6 @@
 //! How an order of the operator is carried out.
 ghost use Rattle.std.specs.Prelude.{◌≡◌, true, option_and_then, IfOk, IfErr, OnOk};
-ghost use Rattle.registry.specs.Execution.{GoesBack, IsOrderStep, IsWithin, OrderSteps, SameTerms};
+ghost use Rattle.registry.specs.Execution.{GoesBack, IsOrderStep, IsWithin, OrderSteps};
 ghost use Rattle.protocol.specs.declared.order.Order.TheVariants as orders;
 ghost use Rattle.registry.specs.inner.Passing.{status_at};
 ghost use Rattle.rules.specs.Orders.{deposit_decision};
@@ -49,7 +49,6 @@ fn execute_order_in<B: Book>(
     requires { (B.state book.old).is_open ≡ true }
     ensures step { IfOk result (λ code. OrderSteps policy.now order.now moment code
         (B.state book.old) (B.state book.new)) }
-    ensures terms { OnOk result (SameTerms (B.state book.old) (B.state book.new)) }
     ensures within { OnOk result (IsWithin (B.state book.old) (B.state book.new)) }
     ensures fault { IfErr result (λ fault. GoesBack fault (B.state book.old) (B.state book.new)) }
     ensures follows { Follows (B.state book.old) (B.state book.new) }
@@ -74,7 +73,6 @@ fn set_statuses_at<B: Book>(
     requires { (B.state book.old).is_open ≡ true }
     ensures step { IfOk result (λ code. OrderSteps policy.now (orders.Status order.now) moment code
         (B.state book.old) (B.state book.new)) }
-    ensures terms { OnOk result (SameTerms (B.state book.old) (B.state book.new)) }
     ensures within { OnOk result (IsWithin (B.state book.old) (B.state book.new)) }
     ensures fault { IfErr result (λ fault. GoesBack fault (B.state book.old) (B.state book.new)) }
     ensures follows { Follows (B.state book.old) (B.state book.new) }
@@ -97,7 +95,6 @@ fn deposit_at<B: Book>(
     requires { (B.state book.old).is_open ≡ true }
     ensures step { IfOk result (λ code. OrderSteps policy.now (orders.Deposit registrar.now cents)
         moment code (B.state book.old) (B.state book.new)) }
-    ensures terms { OnOk result (SameTerms (B.state book.old) (B.state book.new)) }
     ensures within { OnOk result (IsWithin (B.state book.old) (B.state book.new)) }
     ensures fault { IfErr result (λ fault. GoesBack fault (B.state book.old) (B.state book.new)) }
     ensures follows { Follows (B.state book.old) (B.state book.new) }

@@ -1,6 +1,6 @@
 //! How some of what is due lapses: a settlement.
 ghost use Rattle.std.specs.Prelude.{◌≡◌, true, min, length, take, IfOk, IfErr, OnOk};
-ghost use Rattle.registry.specs.Execution.{GoesBack, IsSettlement, IsWithin, SameTerms, Settles};
+ghost use Rattle.registry.specs.Execution.{GoesBack, IsSettlement, IsWithin, Settles};
 ghost use Rattle.store.specs.Book.{Follows, LeavesSame};
 
 use crate::fault::Fault;
@@ -43,7 +43,6 @@ fn settle_in<B: Book>(
     requires { (B.state book.old).is_open ≡ true }
     ensures step { IfOk result (λ done. Settles policy.now moment at_most done (B.state book.old)
         (B.state book.new)) }
-    ensures terms { OnOk result (SameTerms (B.state book.old) (B.state book.new)) }
     ensures within { OnOk result (IsWithin (B.state book.old) (B.state book.new)) }
     ensures fault { IfErr result (λ fault. GoesBack fault (B.state book.old) (B.state book.new)) }
     ensures follows { Follows (B.state book.old) (B.state book.new) }

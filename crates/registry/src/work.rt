@@ -1,7 +1,7 @@
 //! What calls of a registry do in a transaction, and the one step that keeps it.
 ghost use Rattle.std.specs.Prelude.{◌≡◌, true, false, IfOk, IfErr, OnOk};
 ghost use Rattle.registry.specs.Crashes.{Makes, Outlives};
-ghost use Rattle.registry.specs.Execution.{GoesBack, SameTerms};
+ghost use Rattle.registry.specs.Execution.{GoesBack, IsOver, SameTerms};
 ghost use Rattle.store.specs.Book.{BookKeeps, Follows, LeavesHeld};
 
 use crate::fault::Fault;
@@ -15,7 +15,7 @@ pub(crate) trait Work {
     ghost use Rattle.std.specs.Prelude.{◌≡◌, true, IfOk, IfErr, OnOk};
     ghost use Rattle.model.specs.Registry.{Registry};
     ghost use Rattle.policy.specs.Rules.{PolicyRules};
-    ghost use Rattle.registry.specs.Execution.{GoesBack, IsWithin, SameTerms};
+    ghost use Rattle.registry.specs.Execution.{GoesBack, IsWithin};
     ghost use Rattle.store.specs.Book.{Follows, LeavesSame};
 
     /// What it answers.
@@ -35,7 +35,6 @@ pub(crate) trait Work {
         ensures done { IfOk result (λ answer. (B.state book.new).is_clean ≡ true
             → step self.now policy.now (B.state book.old).content.registry
             (B.state book.new).content.registry answer) }
-        ensures terms { OnOk result (SameTerms (B.state book.old) (B.state book.new)) }
         ensures within { OnOk result (IsWithin (B.state book.old) (B.state book.new)) }
         ensures fault { IfErr result (λ fault. GoesBack fault (B.state book.old)
             (B.state book.new)) }
@@ -56,11 +55,10 @@ pub(crate) fn keep<B: Book, W: Work>(
         → W.step work.now policy.now (B.state book.old).content.registry
         (B.state book.new).content.registry answer) }
     ensures terms { OnOk result (SameTerms (B.state book.old) (B.state book.new)) }
-    ensures closed { (B.state book.new).is_open ≡ false }
+    ensures over { IsOver (B.state book.old) (B.state book.new) }
     ensures fault { IfErr result (λ fault. GoesBack fault (B.state book.old) (B.state book.new)) }
     ensures crash { Outlives result (Makes (W.step work.now policy.now)) (B.state book.old)
         (B.state book.new) }
-    ensures follows { Follows (B.state book.old) (B.state book.new) }
 {
     let answer = work.work(book, alloc, policy)?;
     keep_with(book, answer)
