@@ -47,7 +47,7 @@ pub record Rests {S : Type 0} (before after : SessionState S) : Type 0 where
 
 -- what is left of the input is such an ending
 abbrev pub IsAt : {S : Type 0} → Ending → SessionState S → Type 0
-IsAt ending reached = IfSome state.input (λ input. front input ≡ over ending)
+IsAt ending state = IfSome state.input (λ input. front input ≡ over ending)
 
 -- What a session writes last, and where it then stands, after a run of these turns.
 abbrev pub Ends : {S : Type 0} → (S → ℕ → List ℕ → Outcome → S → Type 0) → SessionEnd → List Turn → SessionState S → List ℕ → SessionState S → Type 0
