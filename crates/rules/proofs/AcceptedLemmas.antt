@@ -1,19 +1,13 @@
 -- What holds of the changes of a command holds where it was refused, or where it wasn't.
 use Rattle.std.proofs.Common.{◌≡◌, ℕ, Bool, true, false, cond, List, [], Option, Some, None, refl, sym, subst}
-use Rattle.rules.proofs.Words.{Asked, Change, domain_seen, Facts, name_of, PolicyRules, Request, TransferOp}
+use Rattle.rules.proofs.Words.{Asked, Change, domain_seen, Facts, name_of, PolicyRules, Request, TransferOp, changes_of}
+use Rattle.rules.proofs.Words.{code_granted, code_of_transfer, DeleteDomain, goes_at_once, granted, is_accepted, judged}
+use Rattle.rules.proofs.Words.{PollRequest, refusal_of, refusing, TransferContact, TransferDomain, unless_refused}
 use Rattle.facts.specs.declared.facts.OldestMessage.{OldestMessage}
 use Rattle.protocol.specs.declared.code.Code.{Code}
 use Rattle.protocol.specs.declared.code.Code.TheVariants.{Completed, CompletedActionPending}
-use Rattle.protocol.specs.declared.command.Request.TheVariants.{DeleteDomain, PollRequest, TransferContact, TransferDomain}
 use Rattle.protocol.specs.declared.transfer.TransferOp.TheVariants as ops
-use Rattle.protocol.specs.Codes.{is_accepted}
-use Rattle.rules.specs.Decisions.{changes_of}
-use Rattle.verdict.specs.Deletion.{goes_at_once}
 use Rattle.verdict.specs.Poll.{code_of_poll}
-use Rattle.verdict.specs.Rules.{refusal_of}
-use Rattle.verdict.specs.Transfers.{code_of_transfer}
-use Rattle.verdict.specs.Verdicts.{code_granted, granted, judged, unless_refused}
-use Rattle.verdict.proofs.RowLemmas.{refusing}
 
 transfer-accepted : (op : TransferOp) → is_accepted (code_of_transfer op) ≡ true
 transfer-accepted ops.Request = refl

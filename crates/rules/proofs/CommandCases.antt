@@ -1,27 +1,18 @@
 -- What holds of no change, and of what each command changes that isn't refused, holds of what a command changes.
 use Rattle.std.proofs.Common.{◌≡◌, inl, inr, ℕ, Bool, true, false, not, ◌&&◌, ◌||◌, nat_lt, List, [], ◌∷◌, Option, Some, None, is_none, is_some, option_and_then, option_map, refl, sym, ap, ap₂, subst, ◌∙◌, if◌then◌else◌}
-use Rattle.std.proofs.lemmas.Bool.{not-false, or_parts}
 use Rattle.rules.proofs.Words.{Ack, amended, Asked, Change, charge, ClientApproved, ClientCancelled, ClientRejected, Contact}
 use Rattle.rules.proofs.Words.{deleted_domain, Domain, domain_seen, domain_sight, domain_sponsor, DomainUpdate, DropContact, DropDomain}
 use Rattle.rules.proofs.Words.{DropHost, ended, Facts, facts, Full, FullDomain, get, Post, RequestedName, holds_of, Host, is_empty, is_pending}
 use Rattle.rules.proofs.Words.{is_pending_state, LineKind, list_any, lookups, name_of, new_domain, NewDomain, NewHost, PolicyRules}
-use Rattle.rules.proofs.Words.{presented, Public, PutContact, PutDomain, PutHost, refund_at, RefundRunning, Registry, RenameHost}
+use Rattle.rules.proofs.Words.{presented, PutContact, PutDomain, PutHost, refund_at, RefundRunning, Registry, RenameHost}
 use Rattle.rules.proofs.Words.{renewed_domain, Request, requested, restored_domain, restoring_domain, Roid, Superordinate}
-use Rattle.rules.proofs.Words.{superordinate_of_domain, TakeSerial, Transfer, TransferOp, TransferParty, updated_domain}
+use Rattle.rules.proofs.Words.{superordinate_of_domain, TakeSerial, Transfer, TransferOp, updated_domain}
+use Rattle.rules.proofs.Words.{amended_statuses, charge_of, ContactFacts, ContactUpdate, DomainFacts, goes_at_once}
+use Rattle.rules.proofs.Words.{HostFacts, HostUpdate, itself, judged, keeps_domain, keeps_host, last_two_of, NewContact}
+use Rattle.rules.proofs.Words.{not-false, or_parts, PendingTransfer, plus_years, StandsIn, table_of, unrefused}
 use Rattle.accounts.specs.declared.line.LineKind.TheVariants as lines
-use Rattle.calendar.specs.Moment.{plus_years}
-use Rattle.facts.specs.declared.facts.ContactFacts.{ContactFacts}
-use Rattle.facts.specs.declared.facts.DomainFacts.{DomainFacts}
-use Rattle.facts.specs.declared.facts.HostFacts.{HostFacts}
 use Rattle.facts.specs.Facts.{domain_at, domain_facts, host_facts, host_seen, is_inside, is_linked_contact, is_linked_host, subordinate}
-use Rattle.facts.specs.Lists.{itself}
-use Rattle.names.specs.Zone.{keeps_domain, keeps_host, last_two_of}
 use Rattle.objects.specs.declared.roid.ObjectKind.TheVariants as kinds
-use Rattle.objects.specs.declared.status.Status.TheVariants.{PendingTransfer}
-use Rattle.objects.specs.Statuses.{amended_statuses}
-use Rattle.protocol.specs.declared.command.ContactUpdate.{ContactUpdate}
-use Rattle.protocol.specs.declared.command.HostUpdate.{HostUpdate}
-use Rattle.protocol.specs.declared.command.NewContact.{NewContact}
 use Rattle.protocol.specs.declared.command.Request.TheVariants as requests
 use Rattle.protocol.specs.declared.transfer.TransferOp.TheVariants as ops
 use Rattle.protocol.specs.Requests.{asks_of, domains_asked, final_name, hosts_asked, of_domain, of_host}
@@ -32,12 +23,7 @@ use Rattle.rules.proofs.CommandLemmas.{ContactSight, Covers, DomainSight, IsTake
 use Rattle.rules.proofs.TransferCases.{IsAskable, contact-cases, domain-cases}
 use Rattle.verdict.specs.declared.rules.Condition.{Condition}
 use Rattle.verdict.specs.declared.rules.Condition.TheVariants as conditions
-use Rattle.verdict.specs.Charges.{charge_of}
 use Rattle.verdict.specs.Conditions.{any_host_refused, are_too_long, contact_is_linked, domain_has, domain_in_full, domain_is_over, domain_is_refused, domain_seen_shows, has_no_superordinate, holds, host_has, host_is_over, host_is_refused, is_anothers, is_shown, leaves_too_many, list_repeats, renewed_expiry, superordinate_is_deleted}
-use Rattle.verdict.specs.Deletion.{goes_at_once}
-use Rattle.verdict.specs.Rules.{table_of}
-use Rattle.verdict.specs.Verdicts.{judged}
-use Rattle.verdict.proofs.RowLemmas.{StandsIn, unrefused}
 
 -- ---- what is so of a request that isn't refused
 
@@ -169,10 +155,6 @@ module _ (p : PolicyRules) (r : ℕ) (cl_trid : Option (List ℕ)) (s : Registry
 
 -- ---- each command
 
-unless-not : (b : Bool) → not b ≡ false → b ≡ true
-unless-not true e = refl
-unless-not false e = absurd cc
-
 module _ (p : PolicyRules) (r : ℕ) (cl_trid : Option (List ℕ)) (s : Registry) (P : Request → List Change → Type 0) (cases : CommandCases p r cl_trid s P) where
   abbrev facts_for : Request → Facts
   facts_for q = known p r cl_trid s q
@@ -198,7 +180,7 @@ module _ (p : PolicyRules) (r : ℕ) (cl_trid : Option (List ℕ)) (s : Registry
       let q : Request = requests.CreateDomain new in
       let names = or_parts (list_any (domain_is_refused p.zone) (domains_asked q)) _ (free q taken conditions.NameIsRefused (inl refl)) in
       cases.domain_created new
-      (unless-not _ (or_parts (domain_is_refused p.zone new.name) false names.0).0)
+      (not-false _ (or_parts (domain_is_refused p.zone new.name) false names.0).0)
       (lists-fit q (free q taken conditions.ListRepeats (search (inl, inr) depth 20)) (free q taken conditions.LeavesTooMany (search (inl, inr) depth 20)))
       (free q taken conditions.ReferenceIsMissing (search (inl, inr) depth 20))
       (free q taken conditions.LacksMoney (search (inl, inr) depth 20))
@@ -218,7 +200,7 @@ module _ (p : PolicyRules) (r : ℕ) (cl_trid : Option (List ℕ)) (s : Registry
       let names = or_parts (list_any (domain_is_refused p.zone) (domains_asked q)) _ (free q taken conditions.NameIsRefused (inl refl)) in
       let hosts = or_parts (any_host_refused p.zone (hosts_asked q)) _ names.1 in
       cases.host_created new
-      (unless-not _ (or_parts (host_is_refused p.zone new.name) false hosts.0).0)
+      (not-false _ (or_parts (host_is_refused p.zone new.name) false hosts.0).0)
       (lists-fit q (free q taken conditions.ListRepeats (search (inl, inr) depth 20)) (free q taken conditions.LeavesTooMany (search (inl, inr) depth 20)))
       (based-by (name_of new.name) (host_facts (lookups p r (Asked cl_trid q) s) (Asked cl_trid q) (name_of new.name)) refl refl
       (sym (ap (holds_of (has_no_superordinate p.zone)) at) ∙ free q taken conditions.SuperordinateIsMissing (search (inl, inr) depth 20))
@@ -269,10 +251,8 @@ module _ (p : PolicyRules) (r : ℕ) (cl_trid : Option (List ℕ)) (s : Registry
     by-phase full e false = cases.domain_deleted name full.domain it.given_back.years (deletable full e)
 
     by-seen : (seen : DomainSight) → it.seen ≡ seen → P deletion (deletion_changes r s.clock it seen)
-    by-seen None e = cases.none deletion
     by-seen (Some (Full full)) e = by-phase full e (goes_at_once (Some (Full full)))
-    by-seen (Some (TransferParty face x)) e = cases.none deletion
-    by-seen (Some (Public face)) e = cases.none deletion
+    by-seen _ e = cases.none deletion
 
     domain-deleted : P deletion (deletion_at r s.clock (domain_at (facts_for deletion) (name_of name)))
     domain-deleted = subst (λ (o : Option DomainFacts). P deletion (deletion_at r s.clock o)) (sym it-is) (by-seen it.seen refl)
@@ -311,8 +291,8 @@ module _ (p : PolicyRules) (r : ℕ) (cl_trid : Option (List ℕ)) (s : Registry
     seen-is = ap (option_and_then (λ (it : HostFacts). it.host)) (host-at p r cl_trid s update u.name refl)
 
     kept-name : (given : Option RequestedName) → host_is_refused p.zone u.name ≡ false → holds_of (host_is_refused p.zone) given ≡ false → keeps_host p.zone (final_name u given) ≡ true
-    kept-name None old new = unless-not _ old
-    kept-name (Some name) old new = unless-not _ new
+    kept-name None old new = not-false _ old
+    kept-name (Some name) old new = not-false _ new
 
     fits : (h : Host) → host_seen (facts_for update) (name_of u.name) ≡ Some h → (given : Option RequestedName) → u.new_name ≡ given → IsHostUpdateOf p s u given h
     fits h e given is =
@@ -374,8 +354,6 @@ module _ (p : PolicyRules) (r : ℕ) (cl_trid : Option (List ℕ)) (s : Registry
 
   pub command-cases : (q : Request) → IsTaken p r cl_trid s q → P q (changes_of p r s.clock q (known p r cl_trid s q))
   unfolding changes_of
-  command-cases requests.Logout taken = cases.none requests.Logout
-  command-cases requests.Balance taken = cases.none requests.Balance
   command-cases (requests.CreateContact new) taken = cases.contact_created new
   command-cases (requests.CreateDomain new) taken = domain-created new taken
   command-cases (requests.CreateHost new) taken = host-created new taken
@@ -402,14 +380,8 @@ module _ (p : PolicyRules) (r : ℕ) (cl_trid : Option (List ℕ)) (s : Registry
       domain-cases p r cl_trid s name secret (λ op. P (asks op)) (λ op. cases.none (asks op))
       (cases.domain_asked (asks ops.Request) (name_of name)) (cases.domain_approved (asks ops.Approve) (name_of name))
       (cases.domain_rejected (asks ops.Reject) (name_of name)) (cases.domain_cancelled (asks ops.Cancel) (name_of name)) op taken
-  command-cases requests.PollRequest taken = cases.none requests.PollRequest
   command-cases (requests.PollAck id) taken = cases.acknowledged id
-  command-cases (requests.CheckContact names) taken = cases.none (requests.CheckContact names)
-  command-cases (requests.CheckDomain names) taken = cases.none (requests.CheckDomain names)
-  command-cases (requests.CheckHost names) taken = cases.none (requests.CheckHost names)
-  command-cases (requests.InfoContact name secret) taken = cases.none (requests.InfoContact name secret)
-  command-cases (requests.InfoDomain name secret) taken = cases.none (requests.InfoDomain name secret)
-  command-cases (requests.InfoHost name) taken = cases.none (requests.InfoHost name)
+  command-cases q taken = cases.none q
 
   -- and of what it changes where it may be refused
   pub request-cases : (q : Request) → let f : Facts = facts p r (Asked cl_trid q) s in P q (changes_after p r s.clock (Asked cl_trid q) f (judged p r s.clock (Asked cl_trid q) f).code)

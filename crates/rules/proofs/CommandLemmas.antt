@@ -1,33 +1,21 @@
 -- What a command that isn't refused is known to find.
 use Rattle.std.proofs.Common.{◌≡◌, ℕ, nat_lt, ◌==◌, Bool, true, false, cond, not, ◌&&◌, ◌||◌, List, [], ◌∷◌, map, find, Option, Some, None, option_and_then, option_map, refl, sym, ap, ◌∙◌, eqb-true, pos, int_lt}
-use Rattle.std.proofs.lemmas.Bool.{not-false, or_parts}
 use Rattle.rules.proofs.Words.{account_of, Asked, balance, bytes_decides, bytes_eq, Command, Contact, contact_as, Domain, domain_seen}
 use Rattle.rules.proofs.Words.{domain_sight, domain_sponsor, DomainFace, Facts, facts, Full, FullDomain, get, RequestedName, is_party, lookups}
 use Rattle.rules.proofs.Words.{name_of, PolicyRules, presented, Public, Registry, Request, Seen, standing_of, Transfer, TransferParty}
-use Rattle.facts.specs.declared.facts.ContactFacts.{ContactFacts}
-use Rattle.facts.specs.declared.facts.DomainFacts.{DomainFacts}
-use Rattle.facts.specs.declared.facts.HostFacts.{HostFacts}
+use Rattle.rules.proofs.Words.{authorizes, cond_both, contact_face_of, ContactFace, ContactFacts, DomainFacts, face_of}
+use Rattle.rules.proofs.Words.{HostFacts, is_anothers, names, not-false, or_parts, refusal_of, seen_by_outsider}
 use Rattle.facts.specs.Facts.{contact_at, contact_facts, contact_seen, domain_at, domain_facts, host_at, host_facts}
-use Rattle.objects.specs.declared.contact.ContactFace.{ContactFace}
-use Rattle.objects.specs.Contacts.{contact_face_of}
-use Rattle.objects.specs.Domains.{face_of}
-use Rattle.objects.specs.Sight.{authorizes, seen_by_outsider}
-use Rattle.objects.specs.Transfers.{names}
 use Rattle.protocol.specs.Requests.{contacts_asked, domains_asked, hosts_asked, presented_contact}
 use Rattle.rules.proofs.SightLemmas.{full_as}
-use Rattle.verdict.specs.Conditions.{is_anothers}
-use Rattle.verdict.specs.Rules.{refusal_of}
 
 -- ---- what is seen in full is the object itself
 
 full-is : {O F : Type 0} (r : ℕ) (o : O) (face : F) (t : Option Transfer) (b : Bool) (x : O) → cond b (Full o) (seen_by_outsider r face t) ≡ Full x → o ≡ x
 full-is r o face t true x e = cc
 full-is r o face None false x e = absurd cc
-full-is {O} {F} r o face (Some t) false x e = by (names r t) e
-  where
-    by : (b : Bool) → (let seen : Seen O F = cond b (TransferParty face t) (Public face) in seen ≡ Full x) → o ≡ x
-    by true e = absurd cc
-    by false e = absurd cc
+full-is {O} {F} r o face (Some t) false x e =
+    absurd (cond_both {A = Seen O F} (names r t) (TransferParty face t) (Public face) (λ seen. seen ≡ Full x → ⊥) (λ a e. cc) (λ a e. cc) e)
 
 pub contact-full : (r : ℕ) (presented : Option (List ℕ)) (found : Option Contact) (c : Contact) → option_map (contact_as r presented) found ≡ Some (Full c) → found ≡ Some c
 contact-full r presented None c e = absurd cc
@@ -60,6 +48,13 @@ DomainSight = Option (Seen FullDomain DomainFace)
 abbrev pub ContactSight : Type 0
 ContactSight = Option (Seen Contact ContactFace)
 
+where-seen : {O F : Type 0} (Q : Option (Seen O F) → Type 0) → Q None → ((face : F) (x : Transfer) → Q (Some (TransferParty face x))) → ((face : F) → Q (Some (Public face)))
+    → (seen : Option (Seen O F)) → ((o : O) → seen ≡ Some (Full o) → Q (Some (Full o))) → Q seen
+where-seen Q nothing party public None full = nothing
+where-seen Q nothing party public (Some (Full o)) full = full o refl
+where-seen Q nothing party public (Some (TransferParty face x)) full = party face x
+where-seen Q nothing party public (Some (Public face)) full = public face
+
 module _ (p : PolicyRules) (r : ℕ) (cl_trid : Option (List ℕ)) (s : Registry) (q : Request) where
   abbrev asked : Command
   asked = Asked cl_trid q
@@ -91,24 +86,13 @@ module _ (p : PolicyRules) (r : ℕ) (cl_trid : Option (List ℕ)) (s : Registry
   -- what holds of nothing seen, and of what is seen in part, and of an object that is seen in full where it stands
   pub where-contact : (Q : ContactSight → Type 0) (name : List ℕ) → contacts_asked q ≡ name ∷ [] → Q None → ((face : ContactFace) (x : Transfer) → Q (Some (TransferParty face x))) → ((face : ContactFace) → Q (Some (Public face)))
       → ((c : Contact) → get s.contacts name ≡ Some c → Q (Some (Full c))) → Q (contact_seen known name)
-  where-contact Q name only nothing party public full = by (contact_seen known name) refl
-    where
-      by : (seen : ContactSight) → contact_seen known name ≡ seen → Q seen
-      by None e = nothing
-      by (Some (Full c)) e = full c (contact-full r (presented_contact asked name) (get s.contacts name) c (sym (ap (option_and_then (λ (it : ContactFacts). it.seen)) (contact-at name only)) ∙ e))
-      by (Some (TransferParty face x)) e = party face x
-      by (Some (Public face)) e = public face
+  where-contact Q name only nothing party public full = where-seen Q nothing party public (contact_seen known name) (λ c e.
+      full c (contact-full r (presented_contact asked name) (get s.contacts name) c (sym (ap (option_and_then (λ (it : ContactFacts). it.seen)) (contact-at name only)) ∙ e)))
 
   pub where-domain : (Q : DomainSight → Type 0) (name : RequestedName) → domains_asked q ≡ name ∷ [] → Q None → ((face : DomainFace) (x : Transfer) → Q (Some (TransferParty face x))) → ((face : DomainFace) → Q (Some (Public face)))
       → ((full : FullDomain) → get s.domains (name_of name) ≡ Some full.domain → domain_seen known (name_of name) ≡ Some (Full full) → Q (Some (Full full))) → Q (domain_seen known (name_of name))
-  where-domain Q name only nothing party public full = by (domain_seen known (name_of name)) refl
-    where
-      by : (seen : DomainSight) → domain_seen known (name_of name) ≡ seen → Q seen
-      by None e = nothing
-      by (Some (Full it)) e =
-          full it (domain-full p r s (presented asked (name_of name)) (get s.domains (name_of name)) it (sym (ap (option_and_then (λ (it : DomainFacts). it.seen)) (domain-at name only)) ∙ e)) e
-      by (Some (TransferParty face x)) e = party face x
-      by (Some (Public face)) e = public face
+  where-domain Q name only nothing party public full = where-seen Q nothing party public (domain_seen known (name_of name)) (λ it e.
+      full it (domain-full p r s (presented asked (name_of name)) (get s.domains (name_of name)) it (sym (ap (option_and_then (λ (it : DomainFacts). it.seen)) (domain-at name only)) ∙ e)) e)
 
 -- what is seen in full, and isn't another's, is the registrar's own
 pub owned : (r : ℕ) (seen : DomainSight) (full : FullDomain) → seen ≡ Some (Full full) → (b : Bool) → (is_anothers domain_sponsor r seen || b) ≡ false → r ≡ full.domain.sponsor

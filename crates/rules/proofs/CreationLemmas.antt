@@ -1,34 +1,23 @@
 -- What a new object, the serial that it takes, and a charge keep of a well-formed registry.
-use Rattle.std.proofs.Common.{◌≡◌, ◌≢◌, inr, ℕ, ◌<◌, ◌≤◌, ◌+◌, ◌==◌, Bool, true, false, cond, ◌&&◌, List, [], ◌∷◌, Option, Some, None, IsSome, is_none, is_some, option_map, refl, sym, ap, ap₂, subst, ◌∙◌, arith, eqb-true}
+use Rattle.std.proofs.Common.{◌≡◌, ◌≢◌, inr, ℕ, ◌<◌, ◌≤◌, ◌+◌, ◌==◌, true, false, cond, ◌&&◌, List, [], ◌∷◌, Option, Some, None, IsSome, is_none, is_some, option_map, refl, sym, ap, ap₂, subst, ◌∙◌, arith, eqb-true}
 use Rattle.rules.proofs.Words.{Account, account_of, changed_all, charge, charge_line, Domain, Facts, get, Post, HasObjects, HasRoid}
 use Rattle.rules.proofs.Words.{holds_of, IsRegistrar, Line, name_of, new_domain, NewDomain, NewHost, ObjectKind, PolicyRules, PutContact}
 use Rattle.rules.proofs.Words.{PutDomain, PutHost, Registry, Request, Roid, Superordinate, superordinate_of, superordinate_of_domain}
-use Rattle.rules.proofs.Words.{TakeSerial, with_account, with_command, with_lines, with_serial}
+use Rattle.rules.proofs.Words.{TakeSerial, with_account, with_command, with_lines, with_serial, bag_add, BelongsTo}
+use Rattle.rules.proofs.Words.{cond_both, in_order, last_two_of, NewContact, saturating_next}
 use Rattle.accounts.specs.declared.line.LineKind.TheVariants as lines
-use Rattle.accounts.specs.Account.{saturating_next}
-use Rattle.accounts.specs.Lines.{in_order}
-use Rattle.basis.specs.Bag.{add as bag_add}
-use Rattle.model.specs.WellFormed.{BelongsTo}
-use Rattle.names.specs.Zone.{last_two_of}
 use Rattle.names.proofs.LastTwoLemmas.{last_two-superordinate}
 use Rattle.objects.specs.declared.roid.ObjectKind.TheVariants as kinds
-use Rattle.protocol.specs.declared.command.NewContact.{NewContact}
 use Rattle.protocol.specs.declared.command.Request.TheVariants as requests
 use Rattle.rules.specs.Decisions.{external_sponsor_of, new_contact, new_host, new_roid}
-use Rattle.rules.proofs.CommandCases.{IsBased, found_above}
-use Rattle.rules.proofs.CommandLemmas.{known}
+use Rattle.rules.proofs.Lemmas.{found_above, IsBased, known, new-contacts, new-hosts, own-account, serial-rises}
 use Rattle.rules.proofs.KeepingLemmas.{IsUndeleted, kept-account, put-contact, put-domain, put-host}
-use Rattle.rules.proofs.LinkLemmas.{new-contacts, new-hosts}
-use Rattle.rules.proofs.ViewLemmas.{own-account, serial-rises}
 
 -- ---- serials
 
 raised-next : (n : ℕ) → n < 4_611_686_018_427_387_904 → saturating_next n ≡ n + 1
-raised-next n small = by (n == 0xFFFF_FFFF_FFFF_FFFF) refl
-  where
-    by : (b : Bool) → (n == 0xFFFF_FFFF_FFFF_FFFF) ≡ b → cond b n (n + 1) ≡ n + 1
-    by true is = absurd (omega (arith, eqb-true n 0xFFFF_FFFF_FFFF_FFFF is))
-    by false is = refl
+raised-next n small = cond_both (n == 0xFFFF_FFFF_FFFF_FFFF) n (n + 1) (λ m. m ≡ n + 1)
+    (λ is. absurd (omega (arith, eqb-true n 0xFFFF_FFFF_FFFF_FFFF is))) (λ is. refl)
 
 module _ (p : PolicyRules) (r : ℕ) (s : Registry) (place : IsRegistrar p r) (is : HasObjects p s) where
   -- the registry once the command is counted

@@ -1,10 +1,23 @@
 -- What is so of an object stays so while the clock and the accounts' serials grow.
 use Rattle.std.proofs.Common.{◌≡◌, ◌≢◌, ◌⊎◌, ⊎_elim, ℕ, ◌≤◌, true, List, Option, Some, None, IsSome, refl, sym, ap, subst, ◌∙◌, arith}
+use Rattle.std.proofs.Common.{[], ◌∷◌}
 use Rattle.rules.proofs.Words.{account_of, Contact, Deletion, Domain, get, HasBeen, HasRoid, Host, IsContactOf, IsDeletion, IsDomainOf}
 use Rattle.rules.proofs.Words.{IsHostOf, IsLastTransfer, IsRegistrar, Links, names_contact, names_host, ObjectKind, PolicyRules, Registry}
-use Rattle.rules.proofs.Words.{Roid, superordinate_of, Transfer, ZoneRules}
+use Rattle.rules.proofs.Words.{Roid, superordinate_of, Transfer, ZoneRules, Change, changed, changed_all}
 use Rattle.objects.specs.declared.roid.ObjectKind.TheVariants as kinds
-use Rattle.model.specs.WellFormed.{BelongsTo}
+use Rattle.model.specs.WellFormed.{BelongsTo, IsContactAt}
+
+-- ---- what each change keeps that fits, a list of changes keeps of which each fits when its turn comes
+
+module _ (p : PolicyRules) (Fits : Change → Registry → Type 0) where
+  abbrev pub AllFit : List Change → Registry → Type 0
+  AllFit [] s = Unit {0}
+  AllFit (change ∷ changes) s = Fits change s × AllFit changes (changed p change s)
+
+  pub all-kept : (Kept : Registry → Type 0) → ((change : Change) (s : Registry) → Fits change s → Kept s → Kept (changed p change s))
+      → (changes : List Change) (s : Registry) → AllFit changes s → Kept s → Kept (changed_all p changes s)
+  all-kept Kept keeps [] s fit is = is
+  all-kept Kept keeps (change ∷ changes) s fit is = all-kept Kept keeps changes (changed p change s) fit.1 (keeps change s fit.0 is)
 
 -- A registry under a policy becomes another, under a policy of the same zone with at least its
 -- registrars: the clock and each account's serial stand where they stood, or later.
@@ -102,6 +115,19 @@ module _ (p q : PolicyRules) (s t : Registry) (grows : Grows p q s t) where
     };
     transfer = transfer-grown d.created d.transferred d.transfer h.transfer;
   }
+
+-- ---- a contact with other dates, or in other hands
+
+pub contact-stands : (p : PolicyRules) (s : Registry) (name : List ℕ) (c e : Contact) → IsContactAt p s name c → e.name ≡ c.name → e.roid ≡ c.roid → e.created ≡ c.created
+    → IsRegistrar p e.sponsor → HasBeen s e.transferred → HasBeen s e.updated → IsContactAt p s name e
+contact-stands p s name c e of called roid created sponsor transferred updated = record {
+  named = called ∙ of.named;
+  roid = subst (HasRoid p s kinds.Contact) (sym roid) of.roid;
+  sponsor = sponsor;
+  created = omega (arith, created, of.created);
+  transferred = transferred;
+  updated = updated;
+}
 
 -- ---- a domain with other dates, in other hands, or deleted
 

@@ -1,21 +1,15 @@
 -- A domain that is handed over by a pending transfer begins with the grace of the transfer alone (RFC
 -- 3915, 3.1; RFC 5730, 2.9.3.4).
-use Rattle.std.proofs.Common.{◌≡◌, ◌≢◌, ℕ, ◌≤◌, ◌<◌, ◌==◌, nat_lt, nat_le, Bool, true, false, cond, not, ◌&&◌, List, Option, Some, None, is_some, refl, ap, subst, ◌∙◌, arith, eqb-true}
-use Rattle.std.specs.Prelude.{IfSome}
-use Rattle.std.proofs.lemmas.Bool.{and_parts}
-use Rattle.std.proofs.lemmas.Bool.Decides.{nat_tests}
+use Rattle.std.proofs.Common.{◌≡◌, ◌≢◌, ℕ, ◌≤◌, ◌<◌, ◌==◌, nat_lt, nat_le, Bool, true, false, cond, not, ◌&&◌, List, Option, Some, None, is_some, refl, ap, subst, ◌∙◌, arith, eqb-true, ⊎_elim}
+use Rattle.std.proofs.lemmas.Bool.{and_cases, and_left, and_parts, and_right}
 use Rattle.rules.proofs.Words.{account_of, begins_after, Domain, end, get, Graces, is_begun_after, is_for_transfer, is_kind, is_on}
 use Rattle.rules.proofs.Words.{is_pending_state, IsLater, IsSound, Line, LineKind, list_any, MeetsStandards, PolicyRules, Registry, remade}
-use Rattle.rules.proofs.Words.{Roid, runs, Transfer, transfer_started, TransferStart, waits}
+use Rattle.rules.proofs.Words.{Roid, runs, Transfer, transfer_started, TransferStart, waits, and-false, any-of-one}
+use Rattle.rules.proofs.Words.{begins_by, day-count, gives, graces, IfSome, in_order, IsStandardRequest}
+use Rattle.rules.proofs.Words.{IsTransferRecord, kind_rank, nat_tests, none-remade, period_of, runs_from}
 use Rattle.accounts.specs.declared.line.LineKind.TheVariants as kinds
-use Rattle.accounts.specs.Lines.{begins_by, in_order, kind_rank}
-use Rattle.lifecycle.specs.Graces.{gives, graces, period_of, runs_from}
 use Rattle.policy.specs.declared.days.Period.{Period}
 use Rattle.policy.specs.declared.days.Period.TheVariants as periods
-use Rattle.policy.proofs.ScheduleLemmas.{day-count}
-use Rattle.model.specs.Standards.{IsStandardRequest}
-use Rattle.model.specs.WellFormed.{IsTransferRecord}
-use Rattle.model.proofs.LineLemmas.{and-false, any-of-one, none-remade}
 
 -- ---- one line
 
@@ -40,11 +34,9 @@ module _ (p : PolicyRules) (t : ℕ) (roid : Roid) (last : Option ℕ) (past : I
 
   -- a grace that didn't begin after that has ended
   over : (l : Line) → begins_after roid last l ≡ false → runs p t roid (Some t) l ≡ false
-  over l none = by (is_on roid l) none
-    where
-      by : (b : Bool) → (b && is_begun_after last l.started) ≡ false → (b && (not (is_some l.refunded) && runs_from p t (Some t) l.started (period_of l.kind))) ≡ false
-      by true none = and-false (not (is_some l.refunded)) _ (begun-ended last l.started (period_of l.kind) past none)
-      by false none = refl
+  over l none = ⊎_elim (and_left (is_on roid l) _)
+      (λ n. and_right (is_on roid l) _ (and_right (not (is_some l.refunded)) _ (begun-ended last l.started (period_of l.kind) past n)))
+      (and_cases (is_on roid l) _ none)
 
   over-by : (kind : LineKind) (l : Line) → begins_after roid last l ≡ false → gives kind p t roid (Some t) l ≡ false
   over-by kind l none = and-false (is_kind l.kind kind) _ (over l none)
@@ -62,8 +54,7 @@ module _ (p : PolicyRules) (t : ℕ) (roid : Roid) (last : Option ℕ) (past : I
             let rank : kind_rank l.kind ≡ 4 = eqb-true (kind_rank l.kind) 4 (and_parts (is_kind l.kind kinds.Transfer) _ e).0 in
             let off : is_kind l.kind kind ≡ false = ap (λ (n : ℕ). n == kind_rank kind) rank ∙ other in
             ap (λ (b : Bool). b && runs p t roid (Some t) (let m : Line = record l { started = Some t; years = years } in m)) off
-        by true false e = over-by kind l none
-        by false c e = over-by kind l none
+        by b c e = over-by kind l none
 
     -- that of the one that waits begins
     begins : (sound : IsSound p) (l : Line) → waits roid l ≡ true → gives kinds.Transfer p t roid (Some t) (transfer_started start l) ≡ true
@@ -82,11 +73,7 @@ module _ (p : PolicyRules) (t : ℕ) (roid : Roid) (last : Option ℕ) (past : I
 
         runs-by : (kind : LineKind) → is_kind kind kinds.Transfer ≡ true → runs_from p t (Some t) (Some t) (period_of kind) ≡ true
         runs-by kinds.Transfer e = run
-        runs-by kinds.Deposit e = absurd cc
-        runs-by kinds.Create e = absurd cc
-        runs-by kinds.Renew e = absurd cc
-        runs-by kinds.AutoRenew e = absurd cc
-        runs-by kinds.Restore e = absurd cc
+        runs-by _ e = absurd cc
 
         by : (started : Option ℕ) (kind : LineKind) → not (is_some started) ≡ true → is_kind kind kinds.Transfer ≡ true → is_on roid l ≡ true → not (is_some l.refunded) ≡ true
             → (let m : Line = record l { started = started; kind = kind } in gives kinds.Transfer p t roid (Some t) (transfer_started start m)) ≡ true

@@ -2,18 +2,14 @@
 -- command is named here: facts are a function of the view, and each change commutes with it.
 use Rattle.std.proofs.Common.{◌≡◌, ℕ, ◌≤◌, max, sym, ap, subst, ◌∙◌}
 use Rattle.rules.proofs.Words.{account_of, changed_all, Command, decision, effect, facts, IsSound, lapsed, last_clock, MeetsStandards, now}
-use Rattle.rules.proofs.Words.{PolicyRules, Registry, view}
-use Rattle.rules.specs.Decisions.{decided}
+use Rattle.rules.proofs.Words.{PolicyRules, Registry, view, answer, decided, lapsed-is-settled}
+use Rattle.rules.proofs.Words.{registries-meet-standards, reply_of, settled-is-now, view_for}
 use Rattle.rules.specs.Isolation.{IsIsolated}
-use Rattle.rules.specs.Steps.{answer, reply_of}
 use Rattle.rules.proofs.RegistryLemmas.{registry-lapsed}
 use Rattle.rules.proofs.MeetingLemmas.{meets-decided}
 use Rattle.rules.proofs.SettledLemmas.{settled-effect}
 use Rattle.rules.proofs.ViewLemmas.{AllMeet, same_facts, same_view, same_changed_all}
 use Rattle.protocol.specs.declared.reply.Reply.{Reply}
-use Rattle.model.specs.View.{view_for}
-use Rattle.model.proofs.LapseLaws.{lapsed-is-settled, settled-is-now}
-use Rattle.model.proofs.StandardLemmas.{registries-meet-standards}
 
 same_decision : (p : PolicyRules) (r : ℕ) (c : Command) (s t : Registry) → view_for p r c s ≡ view_for p r c t → decision p r c s ≡ decision p r c t
 same_decision p r c s t alike =

@@ -1,19 +1,16 @@
 -- Each change keeps a registry well formed, where what it puts or takes away fits.
-use Rattle.std.proofs.Common.{◌≡◌, ◌≢◌, ◌↔◌, ◌⊎◌, inl, inr, ⊎_elim, ℕ, ◌≤◌, Bool, true, false, cond, not, List, filter, Some, IsSome, is_some, refl, sym, ap, subst, subst₂, ◌∙◌, arith}
+use Rattle.std.proofs.Common.{◌≡◌, ◌≢◌, ◌↔◌, ◌⊎◌, inl, inr, ⊎_elim, ℕ, ◌≤◌, Bool, true, false, cond, not, List, filter, Some, IsSome, is_some, refl, sym, ap, subst, ◌∙◌, arith}
 use Rattle.std.proofs.lemmas.Bool.{and_parts, not-true, or_cases}
 use Rattle.rules.proofs.Words.{Account, account_of, AreApart, bytes_decides, bytes_eq, changed, Contact, Domain, domain_roid, DropContact}
 use Rattle.rules.proofs.Words.{DropDomain, DropHost, eq_by_cmp, eq_by_cmp_equiv, Equal-is, FinMap, get, get-insert, has_name, HasObjects}
 use Rattle.rules.proofs.Words.{Host, insert, IsContactOf, IsDomainOf, IsHostOf, IsRegistrar, map_values, names_contact, names_host, nat_cmp}
 use Rattle.rules.proofs.Words.{nat_cmp-IsAntisymmetric, nat_cmp_total, PolicyRules, precedes, PutContact, PutDomain, PutHost, Registry}
 use Rattle.rules.proofs.Words.{remove, renamed, RenameHost, Roid, slice_cmp, superordinate_of, with_account, with_host_renamed}
-use Rattle.basis.specs.Bag.{add}
-use Rattle.basis.proofs.BagLaws.{any-add}
-use Rattle.rules.specs.Changes.{links_with_host_renamed}
+use Rattle.rules.proofs.Words.{add, any-add, contact_roid, host_roid, links_with_host_renamed}
 use Rattle.rules.proofs.GrowthLemmas.{Grows, contact-grown, domain-grown, host-grown, host-grown-below}
-use Rattle.rules.proofs.NameListLemmas.{has_name-filter}
-use Rattle.rules.proofs.NamedLemmas.{drop-cases, drop-keeps, drop-there, is-there, put-cases, put-is, put-keeps, put-there, remade-cases, remade-keeps, swap-names}
+use Rattle.rules.proofs.LinkLemmas.{has_name-filter}
+use Rattle.rules.proofs.NamedLemmas.{drop-cases, drop-keeps, drop-there, is-there, put-cases, put-is, put-keeps, put-there, remade-cases, remade-keeps, swap-names, at-put}
 use Rattle.rules.proofs.ViewLemmas.{account-keep}
-use Rattle.model.specs.WellFormed.{contact_roid, host_roid}
 
 -- ---- the clock and the accounts
 
@@ -70,10 +67,6 @@ module _ {X : Type 0} (roid_of : X → Roid) (m : FinMap (slice_cmp nat_cmp) X) 
       let first = remade-cases f m a x at-a in
       let second = remade-cases f m b y at-b in
       apart a b first.0 second.0 first.1 second.1 (sym (keeps first.0) ∙ ap roid_of first.2 ∙ same ∙ ap roid_of (sym second.2) ∙ keeps second.0)
-
--- what is so of all at their names and of what is put
-at-put : {X : Type 0} (P : List ℕ → X → Type 0) (m : FinMap (slice_cmp nat_cmp) X) (k : List ℕ) (v : X) → P k v → ((n : List ℕ) (x : X) → get m n ≡ Some x → P n x) → (n : List ℕ) (x : X) → get (insert m k v) n ≡ Some x → P n x
-at-put P m k v new old n x at = ⊎_elim (λ put. subst₂ P (sym put.0) put.1 new) (λ before. old n x before) (put-cases m k v n x at)
 
 -- ---- objects are put and taken away
 

@@ -1,29 +1,20 @@
 -- What time alone makes of a well-formed registry is well formed.
 use Rattle.std.proofs.Common.{◌≡◌, inl, ℕ, ◌≤◌, ◌+◌, max, Bool, true, false, cond, nat_lt, List, [], Option, Some, None, IsSome, is_some, refl, sym, ap, subst, ◌∙◌, arith}
-use Rattle.std.specs.Prelude.{fold}
 use Rattle.std.specs.Option.{option_map_or}
 use Rattle.rules.proofs.Words.{account_of, AreApart, Contact, contact_completed, Deletion, Domain, domain_roid, due_by, FinMap, get}
 use Rattle.rules.proofs.Words.{HasObjects, IsContactOf, IsDeletion, IsDomainOf, IsTransfer, lapse_by, lapse_contact, lapsed, leaves, lived}
 use Rattle.rules.proofs.Words.{moved, nat_cmp, nat_list_cmp_total, now, PolicyRules, posted, postings, purge_at, purged, raised, Registry}
-use Rattle.rules.proofs.Words.{Roid, slice_cmp, superordinate_of, Transfer, turns}
+use Rattle.rules.proofs.Words.{Roid, slice_cmp, superordinate_of, Transfer, turns, approved, contact_moved}
+use Rattle.rules.proofs.Words.{contact_roid, fold, lapse, Lapsed, lapses-on, left, left-of, names_apart, same_Some}
 use Rattle.basis.specs.Sweeps.{kept}
 use Rattle.basis.proofs.ApartLaws.{get-kept}
-use Rattle.basis.proofs.MapLemmas.{names_apart}
-use Rattle.lifecycle.specs.declared.lapsed.Lapsed.{Lapsed}
-use Rattle.lifecycle.specs.Lapse.{approved, contact_moved, lapse}
 use Rattle.model.specs.Lapse.{accounts_at, contacts_at, domains_at, lapse as lapse_registry}
-use Rattle.model.specs.WellFormed.{contact_roid}
-use Rattle.model.proofs.LapseLaws.{lapses-on, left-of}
-use Rattle.model.proofs.SweepLemmas.{left}
-use Rattle.rules.proofs.GrowthLemmas.{Grows, contact-grown, domain-grown, domain-with, host-grown-below, same-domain}
+use Rattle.rules.proofs.GrowthLemmas.{Grows, contact-grown, domain-grown, domain-with, host-grown-below, same-domain, contact-stands}
 use Rattle.rules.proofs.KeepingLemmas.{kept-grown}
 use Rattle.rules.proofs.NamedLemmas.{is-there, there-is}
 use Rattle.rules.proofs.PostingLemmas.{due-is, due-transfer, kept-posted, postings-to, serial-posted}
 
 -- ---- what is left of a domain
-
-some-only : {X : Type 0} (x y : X) → (let o : Option X = Some x in o) ≡ Some y → x ≡ y
-some-only x y e = cc
 
 -- the domain with other years
 abbrev with_years : ℕ → Domain → Domain
@@ -40,12 +31,12 @@ transferred_by x d = moved x (raised (turns d x.ac_date) d)
 module _ (p : PolicyRules) (t : ℕ) (d : Domain) (P : Domain → Type 0) (deleted : (x : Deletion) → d.deletion ≡ Some x → P d) (aged : d.deletion ≡ None → P (raised (turns d t) d))
     (transferred : d.deletion ≡ None → (x : Transfer) → due_by t d.transfer ≡ Some x → P (raised (turns (transferred_by x d) t) (transferred_by x d))) where
   by-purge : (x : Deletion) (b : Bool) (e : Domain) → d.deletion ≡ Some x → (cond b (leaves d []) (purged p x d)).object ≡ Some e → P e
-  by-purge x true e gone found = subst P (some-only d e found) (deleted x gone)
+  by-purge x true e gone found = subst P (same_Some d e found) (deleted x gone)
   by-purge x false e gone found = cc
 
   by-transfer : (o : Option Transfer) (e : Domain) → d.deletion ≡ None → due_by t d.transfer ≡ o → (lived p t o d).object ≡ Some e → P e
-  by-transfer None e alive due found = subst P (some-only (raised (turns d t) d) e found) (aged alive)
-  by-transfer (Some x) e alive due found = subst P (some-only (raised (turns (transferred_by x d) t) (transferred_by x d)) e found) (transferred alive x due)
+  by-transfer None e alive due found = subst P (same_Some (raised (turns d t) d) e found) (aged alive)
+  by-transfer (Some x) e alive due found = subst P (same_Some (raised (turns (transferred_by x d) t) (transferred_by x d)) e found) (transferred alive x due)
 
   by-deletion : (o : Option Deletion) (e : Domain) → d.deletion ≡ o → (lapse_by p t o d).object ≡ Some e → P e
   by-deletion None e alive found = by-transfer (due_by t d.transfer) e alive refl found
@@ -69,8 +60,8 @@ lived-stays p t d (Some x) = refl
 
 module _ (t : ℕ) (c : Contact) (P : Contact → Type 0) (same : P c) (transferred : (x : Transfer) → due_by t c.transfer ≡ Some x → P (contact_moved x c)) where
   by-completion : (o : Option Transfer) (e : Contact) → due_by t c.transfer ≡ o → (contact_completed o c).object ≡ Some e → P e
-  by-completion None e due found = subst P (some-only c e found) same
-  by-completion (Some x) e due found = subst P (some-only (contact_moved x c) e found) (transferred x due)
+  by-completion None e due found = subst P (same_Some c e found) same
+  by-completion (Some x) e due found = subst P (same_Some (contact_moved x c) e found) (transferred x due)
 
   pub contact-left : (e : Contact) → (lapse_contact t c).object ≡ Some e → P e
   contact-left e found = by-completion (due_by t c.transfer) e refl found
@@ -123,14 +114,7 @@ module _ (p : PolicyRules) (t : ℕ) (s : Registry) (past : t ≤ s.clock) (is :
       let transfer = due-transfer p after t c.created c.transferred c.transfer x due k.transfer in
       let come = (due-is t c.transfer x due).1 in
       record {
-        stands = record {
-          named = k.stands.named;
-          roid = k.stands.roid;
-          sponsor = transfer.recorded.requester;
-          created = k.stands.created;
-          transferred = omega (arith, come, past);
-          updated = k.stands.updated;
-        };
+        stands = contact-stands p after name c _ k.stands refl refl refl transfer.recorded.requester (omega (arith, come, past)) k.stands.updated;
         transfer = ended c.created c.transferred x come transfer;
         losing = λ pending. absurd (let never : false ≡ true = pending in cc);
       }) e

@@ -1,7 +1,7 @@
 -- Each command and each order keeps what a well-formed registry says of lines.
 use Rattle.std.proofs.Common.{◌≡◌, ◌⊎◌, inl, inr, ⊎_elim, ℕ, ◌≤◌, ◌<◌, ◌+◌, Bool, true, false, cond, not, ◌&&◌, min, List, [], ◌∷◌, Option, Some, None, is_some, refl, sym, ap, subst, ◌∙◌, arith}
-use Rattle.std.proofs.lemmas.List.Elements.{recursion_from_All}
-use Rattle.std.proofs.lemmas.Option.{same_Some}
+use Rattle.rules.proofs.Lemmas.{AsksFor, been-grown, begins-asks, CommandCases, Grows, IsItsOwn, known, order-cases}
+use Rattle.rules.proofs.Lemmas.{OrderCases, put-cases, put-is, request-cases, roid-grown, waits-asks}
 use Rattle.rules.proofs.Words.{account_of, AreApart, Asked, Bad, begins_after, Change, changed, changed_all, Charge, charge, charge_line}
 use Rattle.rules.proofs.Words.{ClientApproved, ClientCancelled, ClientRejected, Command, deleted_domain, Deletion, Domain, domain_roid}
 use Rattle.rules.proofs.Words.{effect, ended, expiry, Facts, facts, FinMap, gained, get, Post, HasBeen, HasLines, HasLinesOn, HasObjects}
@@ -9,23 +9,15 @@ use Rattle.rules.proofs.Words.{HasRoid, insert, is_kind, is_of, is_on, is_pendin
 use Rattle.rules.proofs.Words.{IsRegistrar, IsRegistry, IsSettled, IsSound, last_clock, Line, list_any, name_of, nat_cmp, new_domain}
 use Rattle.rules.proofs.Words.{NewDomain, Order, order_decision, order_effect, ordered, PolicyRules, PutDomain, Registry, renewed_domain}
 use Rattle.rules.proofs.Words.{Request, restored_domain, restoring_domain, Roid, slice_cmp, TakeSerial, Transfer, updated_domain, waits}
-use Rattle.rules.proofs.Words.{WasGiven, with_account, with_command}
+use Rattle.rules.proofs.Words.{WasGiven, with_account, with_command, and-false, changes_after, count-none}
+use Rattle.rules.proofs.Words.{false_from_ne_true, none-by, recursion_from_All, same-roids, same_Some}
 use Rattle.accounts.specs.declared.line.LineKind.TheVariants as lines
-use Rattle.accounts.proofs.LineLaws.{same-roids}
 use Rattle.lifecycle.specs.Lapse.{completes_at, due_at, due_of, earlier}
 use Rattle.objects.specs.declared.roid.ObjectKind.TheVariants as kinds
 use Rattle.protocol.specs.declared.command.Request.TheVariants as requests
-use Rattle.model.proofs.LineLemmas.{and-false, count-none, none-by}
-use Rattle.rules.specs.Decisions.{changes_after}
-use Rattle.rules.proofs.CommandCases.{CommandCases, request-cases}
-use Rattle.rules.proofs.CommandLemmas.{known}
 use Rattle.rules.proofs.CreationLemmas.{has-given, kept-counted, ungiven}
-use Rattle.rules.proofs.KeepingLemmas.{IsItsOwn}
-use Rattle.rules.proofs.LineEntryLemmas.{AsksFor, begins-asks, waits-asks}
 use Rattle.rules.proofs.LineKeepingLemmas.{AllFitLines, IsAsBefore, IsChargeIn, IsCharged, as-before, begun-by, lines-changed_all, lines-counted, lines-stay, on-as-before, on-same, rises}
 use Rattle.rules.proofs.LineTransferLemmas.{asked-kept, lines-ended, lines-handed-over, told}
-use Rattle.rules.proofs.NamedLemmas.{put-cases, put-is}
-use Rattle.rules.proofs.OrderCases.{OrderCases, order-cases}
 
 -- ---- a charge for a domain that is the registrar's own
 
@@ -88,25 +80,19 @@ module _ (p : PolicyRules) (r : ℕ) (cl_trid : Option (List ℕ)) (s : Registry
       → AllFitLines p (PutDomain new ∷ Post r (Charge line) ∷ []) counted
   put-charged name d new line at called same sponsor of kind recorded started refunded =
       let k = is.domains name d at in
-      let t : Registry = changed p (PutDomain new) counted in (
+      let t : Registry = changed p (PutDomain new) counted in
+      let grown : Grows p p s t = record { zone = refl; place = λ q place. place; clock = omega arith; serial = rises s r with_command (λ a. omega arith) } in (
         put-again name d new at same,
         (
           own-charge p t r new.name new line (put-is counted.domains new.name new)
               (own-put s.domains name d new is.identities.domain_roids at k.stands.named called same.roid)
-              (given-there new.roid (subst (HasRoid p s kinds.Domain) (sym same.roid) k.stands.roid))
+              (roid-grown p p s t grown kinds.Domain new.roid (subst (HasRoid p s kinds.Domain) (sym same.roid) k.stands.roid))
               (sponsor ∙ sym same.sponsor)
               (λ x e pending. awaited-ahead p s d k.stands.deletion (settled.domains name d at) x (sym same.transfer ∙ e) pending)
-              (of ∙ ap (λ (roid : Roid). Some roid) (sym same.roid)) kind recorded (been line.started started) (been line.refunded refunded),
+              (of ∙ ap (λ (roid : Roid). Some roid) (sym same.roid)) kind recorded (been-grown p p s t grown line.started started) (been-grown p p s t grown line.refunded refunded),
           tt,
         ),
       )
-    where
-      been : (started : Option ℕ) → HasBeen s started → HasBeen (changed p (PutDomain new) counted) started
-      been None h = tt
-      been (Some moment) h = h
-
-      given-there : (roid : Roid) → HasRoid p s kinds.Domain roid → HasRoid p (changed p (PutDomain new) counted) kinds.Domain roid
-      given-there roid h = record { kind_is = h.kind_is; creator = h.creator; serial = omega (arith, h.serial, rises s r with_command (λ a. omega arith) roid.creator) }
 
   -- ---- a new domain
 
@@ -126,11 +112,8 @@ module _ (p : PolicyRules) (r : ℕ) (cl_trid : Option (List ℕ)) (s : Registry
       where
         by : (of : Option Roid) → WasGiven p s of → is_of made.roid of ≡ false
         by None k = refl
-        by (Some other) k = one (is_same_roid other made.roid) refl
-          where
-            one : (b : Bool) → is_same_roid other made.roid ≡ b → b ≡ false
-            one true e = absurd (ungiven p r s place is cl_trid small kinds.Domain request kinds.Domain other k (same-roids other made.roid e))
-            one false e = refl
+        by (Some other) k = false_from_ne_true (is_same_roid other made.roid) (λ e.
+            ungiven p r s place is cl_trid small kinds.Domain request kinds.Domain other k (same-roids other made.roid e))
 
     none-listed : (test : Line → Bool) → AsksFor made.roid test → (q : ℕ) → list_any test (account_of q s).lines ≡ false
     none-listed test asks q = none-by (IsLineOf p s) test (λ l k. asks l (unlisted l k)) (account_of q s).lines (recursion_from_All (IsLineOf p s) (account_of q s).lines (has.each q))

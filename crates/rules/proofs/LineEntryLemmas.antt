@@ -1,18 +1,12 @@
 -- What is so of the lines of an account stays so as time enters into it.
-use Rattle.std.proofs.Common.{◌≡◌, ℕ, ◌≤◌, nat_lt, Bool, true, false, cond, not, ◌&&◌, List, [], ◌∷◌, ◌++◌, Option, Some, None, is_some, refl, sym, ap, subst, ◌∙◌, arith}
-use Rattle.std.specs.Prelude.{fold}
-use Rattle.std.proofs.lemmas.Bool.Decides.{nat_tests}
+use Rattle.std.proofs.Common.{◌≡◌, ℕ, ◌≤◌, nat_lt, Bool, true, false, cond, not, ◌&&◌, List, [], ◌∷◌, ◌++◌, Option, Some, None, refl, sym, ap, subst, ◌∙◌, arith, ⊎_elim}
 use Rattle.rules.proofs.Words.{Account, account_of, AllByRecursion, begins_after, entered, FinMap, get, given}
 use Rattle.rules.proofs.Words.{is_begun_after, is_for_transfer, is_kind, is_of, is_on, is_same_roid, IsLineOf, LapseEntry, Line, list_any}
 use Rattle.rules.proofs.Words.{nat_cmp, Notice, PolicyRules, posted, Posting, Registry, remade, Renewal, Roid}
 use Rattle.rules.proofs.Words.{slice_cmp, Start, start-elsewhere, start-stays, transfer_started, TransferStart, waits, WasGiven}
-use Rattle.rules.proofs.Words.{with_account}
-use Rattle.accounts.specs.declared.entries.AutoRenewal.{AutoRenewal}
-use Rattle.accounts.specs.Entries.{renewal_line}
-use Rattle.accounts.specs.Lines.{begins_by, in_order}
+use Rattle.rules.proofs.Words.{with_account, add, and_left, and_right, AutoRenewal, begins_by, cases_Bool, cond_both}
+use Rattle.rules.proofs.Words.{fold, in_order, nat_tests, renewal_line, same-roids}
 use Rattle.accounts.specs.declared.line.LineKind.TheVariants as kinds
-use Rattle.accounts.proofs.LineLaws.{same-roids}
-use Rattle.basis.specs.Bag.{add}
 use Rattle.model.proofs.LineLemmas.{all-add, all-remade, and-false, count, count-add-none, count-remade, none-add, none-remade}
 use Rattle.rules.proofs.PostingLemmas.{AllPosted, posted-both, posted-given}
 use Rattle.rules.proofs.ViewLemmas.{account-keep}
@@ -61,12 +55,7 @@ pub begins-asks : (roid : Roid) (last : Option ℕ) → AsksFor roid (begins_aft
 begins-asks roid last l off = ap (λ (b : Bool). b && is_begun_after last l.started) off
 
 pub waits-asks : (roid : Roid) → AsksFor roid (waits roid)
-waits-asks roid l off = by (is_kind l.kind kinds.Transfer) (is_on roid l) off
-  where
-    by : (k b : Bool) → b ≡ false → ((k && (b && not (is_some l.refunded))) && not (is_some l.started)) ≡ false
-    by true true off = cc
-    by true false off = refl
-    by false b off = refl
+waits-asks roid l off = and_left _ _ (and_right (is_kind l.kind kinds.Transfer) _ (and_left (is_on roid l) _ off))
 
 -- a line on one domain isn't on another
 pub on-one : (roid other : Roid) → is_same_roid other roid ≡ false → (l : Line) → is_on other l ≡ true → is_on roid l ≡ false
@@ -79,13 +68,11 @@ on-one roid other apart l on = by l.roid on
 -- a test that asks for a domain doesn't tell what is done to the lines of another
 pub test-elsewhere : (roid other : Roid) (test : Line → Bool) → AsksFor roid test → is_same_roid other roid ≡ false → (f : Line → Line) → ((l : Line) → is_on other l ≡ false → f l ≡ l) → ((l : Line) → (f l).roid ≡ l.roid)
     → (l : Line) → test (f l) ≡ test l
-test-elsewhere roid other test asks apart f elsewhere stays l = by (is_on other l) refl
-  where
-    by : (b : Bool) → is_on other l ≡ b → test (f l) ≡ test l
-    by true on =
-        let off : is_on roid l ≡ false = on-one roid other apart l on in
-        asks (f l) (ap (is_of roid) (stays l) ∙ off) ∙ sym (asks l off)
-    by false off = ap test (elsewhere l off)
+test-elsewhere roid other test asks apart f elsewhere stays l = ⊎_elim
+    (λ on.
+    let off : is_on roid l ≡ false = on-one roid other apart l on in
+    asks (f l) (ap (is_of roid) (stays l) ∙ off) ∙ sym (asks l off))
+    (λ off. ap test (elsewhere l off)) (cases_Bool (is_on other l))
 
 -- the entry is on another domain
 abbrev pub IsOff : Roid → LapseEntry → Type 0
@@ -133,18 +120,13 @@ renewal-by roid r last le = and-false (is_on roid (renewal_line r)) (nat_lt last
 pub started-waits-not : (x : TransferStart) (l : Line) → waits x.roid (transfer_started x l) ≡ false
 started-waits-not x l = by l.started (is_for_transfer x.roid l) refl
   where
-    no-more : (b : Bool) → (b && false) ≡ false
-    no-more true = refl
-    no-more false = refl
-
     by : (started : Option ℕ) (b : Bool) → is_for_transfer x.roid l ≡ b → (let m : Line = record l { started = started } in waits x.roid (cond (b && not (begins_by started l.years x.moment x.years)) (record m { started = Some x.moment; years = x.years }) m)) ≡ false
-    by None true e = no-more (is_for_transfer x.roid l)
+    by None true e = and_right (is_for_transfer x.roid l) false refl
     by None false e = ap (λ (b : Bool). b && true) e
-    by (Some start) b e = begun (b && not (begins_by (Some start) l.years x.moment x.years))
-      where
-        begun : (c : Bool) → (let m : Line = record l { started = Some start } in waits x.roid (cond c (record m { started = Some x.moment; years = x.years }) m)) ≡ false
-        begun true = no-more (is_for_transfer x.roid l)
-        begun false = no-more (is_for_transfer x.roid l)
+    by (Some start) b e =
+        let m : Line = record l { started = Some start } in
+        cond_both (b && not (begins_by (Some start) l.years x.moment x.years)) (record m { started = Some x.moment; years = x.years }) m
+        (λ n. waits x.roid n ≡ false) (λ e. and_right (is_for_transfer x.roid l) false refl) (λ e. and_right (is_for_transfer x.roid l) false refl)
 
 -- ---- each line is of a domain, and no grace begins ahead of the clock
 
@@ -155,11 +137,9 @@ IsOf p s (Start x) = x.moment ≤ s.clock
 IsOf p s (Notice m) = Unit {0}
 
 started-line : (p : PolicyRules) (s : Registry) (x : TransferStart) → x.moment ≤ s.clock → (l : Line) → IsLineOf p s l → IsLineOf p s (transfer_started x l)
-started-line p s x le l is = by (is_for_transfer x.roid l && not (begins_by l.started l.years x.moment x.years))
-  where
-    by : (b : Bool) → IsLineOf p s (cond b (record l { started = Some x.moment; years = x.years }) l)
-    by true = record { roid = is.roid; recorded = is.recorded; started = le; refunded = is.refunded }
-    by false = is
+started-line p s x le l is = cond_both (is_for_transfer x.roid l && not (begins_by l.started l.years x.moment x.years))
+    (record l { started = Some x.moment; years = x.years }) l (IsLineOf p s)
+    (λ e. record { roid = is.roid; recorded = is.recorded; started = le; refunded = is.refunded }) (λ e. is)
 
 pub lines-kept : (p : PolicyRules) (s : Registry) (what : LapseEntry) → IsOf p s what → (ls : List Line) → AllByRecursion (IsLineOf p s) ls → AllByRecursion (IsLineOf p s) (entered_lines what ls)
 lines-kept p s (Renewal r) is ls all = all-add in_order (IsLineOf p s) (renewal_line r) ls (record { roid = is.0; recorded = is.1; started = is.1; refunded = tt }) all

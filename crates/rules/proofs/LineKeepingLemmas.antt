@@ -1,26 +1,17 @@
 -- Each change keeps what a well-formed registry says of lines, where what it puts or charges fits.
 use Rattle.std.proofs.Common.{◌≡◌, ◌⊎◌, ⊎_elim, ℕ, ◌≤◌, Bool, true, false, cond, not, List, Option, Some, None, is_some, unwrap_or, refl, sym, ap, subst, ◌∙◌, arith}
-use Rattle.std.proofs.lemmas.Bool.Decides.{nat_tests}
-use Rattle.std.proofs.lemmas.List.Elements.{All-from_recursion, recursion_from_All}
-use Rattle.rules.proofs.Words.{Account, account_of, AccountChange, Ack, All, AllByRecursion, begins_after, Change, changed, changed_all}
-use Rattle.rules.proofs.Words.{Charge, charges_waiting, Domain, DropContact, DropDomain, DropHost, get, Post, HasBeen, HasLines, HasLinesOn}
+use Rattle.rules.proofs.Words.{Account, account_of, AccountChange, All, AllByRecursion, begins_after, Change, changed, changed_all}
+use Rattle.rules.proofs.Words.{Charge, charges_waiting, Domain, DropDomain, get, Post, HasBeen, HasLines, HasLinesOn}
 use Rattle.rules.proofs.Words.{is_begun_after, is_for_transfer, is_on, is_pending_state, IsLineOf, Lapse, LapseContact, LapseDomain, Line}
-use Rattle.rules.proofs.Words.{list_any, MoveClock, OpenAccount, PolicyRules, PutContact, PutDomain, PutHost, RefundRunning, RefundTransfer}
-use Rattle.rules.proofs.Words.{Registry, remade, RenameHost, Roid, runs, TakeSerial, Notify, Transfer, waits, WasGiven, with_account}
-use Rattle.rules.proofs.Words.{with_host_renamed, with_lines}
-use Rattle.accounts.specs.Account.{empty_account}
-use Rattle.accounts.specs.Lines.{in_order}
-use Rattle.basis.specs.Bag.{add}
-use Rattle.lifecycle.specs.declared.change.AccountChange.TheVariants.{CountCommand}
-use Rattle.lifecycle.specs.declared.change.RunningRefund.{RunningRefund}
-use Rattle.lifecycle.specs.Changes.{changed as account_changed, refunded_by}
+use Rattle.rules.proofs.Words.{list_any, MoveClock, OpenAccount, PolicyRules, PutDomain, RefundRunning, RefundTransfer}
+use Rattle.rules.proofs.Words.{Registry, remade, RenameHost, Roid, runs, TakeSerial, Transfer, waits, WasGiven, with_account}
+use Rattle.rules.proofs.Words.{with_host_renamed, with_lines, account_changed, add, All-from_recursion, empty_account}
+use Rattle.rules.proofs.Words.{in_order, IsAwaitedIfPending, nat_tests, recursion_from_All, refunded_by, RunningRefund}
 use Rattle.rules.specs.Changes.{itself}
-use Rattle.rules.proofs.FitLemmas.{AllFit, all-kept}
-use Rattle.rules.proofs.GrowthLemmas.{Grows, been-grown, roid-grown}
+use Rattle.rules.proofs.GrowthLemmas.{Grows, been-grown, roid-grown, AllFit, all-kept}
 use Rattle.rules.proofs.LineEntryLemmas.{begins-asks, waits-asks}
-use Rattle.rules.proofs.NamedLemmas.{drop-cases, put-cases, remade-cases}
+use Rattle.rules.proofs.NamedLemmas.{drop-cases, remade-cases, at-put}
 use Rattle.rules.proofs.ViewLemmas.{account-keep, serial-rises}
-use Rattle.model.specs.WellFormed.{IsAwaitedIfPending}
 use Rattle.model.proofs.LineLemmas.{all-add, all-remade, all-weaker, and-false, awaited-carried, count, count-add-none, count-remade, none-add, none-remade}
 
 -- ---- the clock and serials grow, and lines stay
@@ -167,18 +158,21 @@ module _ (p : PolicyRules) (s : Registry) (r : ℕ) where
         domains = λ name d at. ⊎_elim (λ off. charged-off line d off (is.domains name d at)) (λ own. charged-own line d own (is.domains name d at)) (charge.domains name d at);
       }
 
--- ---- what a deletion gives back
+-- ---- what is given back
 
+-- begins when it did
+pub refund-begins : (b : Bool) (moment : ℕ) (roid : Roid) (last : Option ℕ) (l : Line) → begins_after roid last (cond b (record l { refunded = Some moment }) l) ≡ begins_after roid last l
+refund-begins true moment roid last l = refl
+refund-begins false moment roid last l = refl
+
+pub refund-line : (b : Bool) (p : PolicyRules) (s : Registry) (moment : ℕ) → moment ≤ s.clock → (l : Line) → IsLineOf p s l → IsLineOf p s (cond b (record l { refunded = Some moment }) l)
+refund-line true p s moment come l h = record { roid = h.roid; recorded = h.recorded; started = h.started; refunded = come }
+refund-line false p s moment come l h = h
+
+-- by a deletion
 module _ (p : PolicyRules) (x : RunningRefund) where
   abbrev back : Line → Line
   back = refunded_by p x
-
-  refund-begins : (roid : Roid) (last : Option ℕ) (l : Line) → begins_after roid last (back l) ≡ begins_after roid last l
-  refund-begins roid last l = by (runs p x.moment x.roid x.transferred l)
-    where
-      by : (b : Bool) → begins_after roid last (cond b (record l { refunded = Some x.moment }) l) ≡ begins_after roid last l
-      by true = refl
-      by false = refl
 
   -- what waits for a transfer isn't given back
   refund-waits : (roid : Roid) (l : Line) → waits roid (back l) ≡ waits roid l
@@ -195,13 +189,6 @@ module _ (p : PolicyRules) (x : RunningRefund) where
           ap (λ (b : Bool). waits roid (cond b (record m { refunded = Some x.moment }) m)) none
       by (Some started) = begun started (runs p x.moment x.roid x.transferred (let m : Line = record l { started = Some started } in m))
 
-  refund-line : (s : Registry) → x.moment ≤ s.clock → (l : Line) → IsLineOf p s l → IsLineOf p s (back l)
-  refund-line s come l h = by (runs p x.moment x.roid x.transferred l)
-    where
-      by : (b : Bool) → IsLineOf p s (cond b (record l { refunded = Some x.moment }) l)
-      by true = record { roid = h.roid; recorded = h.recorded; started = h.started; refunded = come }
-      by false = h
-
   module _ (s : Registry) (r : ℕ) where
     abbrev refunded : Registry
     refunded = with_account r (with_lines (remade in_order back)) s
@@ -209,7 +196,7 @@ module _ (p : PolicyRules) (x : RunningRefund) where
     refunded-on : (d : Domain) → HasLinesOn s d → HasLinesOn refunded d
     refunded-on d = on-carried s refunded d
         (λ last q. lines-keep s r (with_lines (remade in_order back)) (λ ls. list_any (begins_after d.roid last) ls ≡ false) q
-        (λ own h. none-remade in_order (begins_after d.roid last) (begins_after d.roid last) back (λ l e. refund-begins d.roid last l ∙ e) (account_of q s).lines h))
+        (λ own h. none-remade in_order (begins_after d.roid last) (begins_after d.roid last) back (λ l e. refund-begins (runs p x.moment x.roid x.transferred l) x.moment d.roid last l ∙ e) (account_of q s).lines h))
         (λ q n. lines-keep s r (with_lines (remade in_order back)) (λ ls. count (waits d.roid) ls ≡ n) q (λ own h. count-remade in_order (waits d.roid) back (refund-waits d.roid) (account_of q s).lines ∙ h))
 
     pub lines-refunded : x.moment ≤ s.clock → HasLines p s → HasLines p (with_account r (with_lines (remade in_order (refunded_by p x))) s)
@@ -218,7 +205,7 @@ module _ (p : PolicyRules) (x : RunningRefund) where
         record {
           each = λ q. All-from_recursion (IsLineOf p refunded) (account_of q refunded).lines
               (lines-keep s r (with_lines (remade in_order back)) (AllByRecursion (IsLineOf p refunded)) q
-              (λ own all. all-remade in_order (IsLineOf p refunded) (IsLineOf p refunded) back (refund-line refunded come) (account_of q s).lines all)
+              (λ own all. all-remade in_order (IsLineOf p refunded) (IsLineOf p refunded) back (λ l. refund-line (runs p x.moment x.roid x.transferred l) p refunded x.moment come l) (account_of q s).lines all)
               (all-weaker (IsLineOf p s) (IsLineOf p refunded) (line-grown p p s refunded grows) (account_of q s).lines (recursion_from_All (IsLineOf p s) (account_of q s).lines (is.each q))));
           domains = λ name d at. refunded-on d (is.domains name d at);
         }
@@ -247,10 +234,8 @@ lines-account p r (Charge line) s fits is = lines-charged p s r line fits is
 lines-account p r (RefundRunning x) s fits is = lines-refunded p x s r fits is
 lines-account p r (RefundTransfer x) s fits is = absurd fits
 lines-account p r (Lapse what) s fits is = absurd fits
-lines-account p r (Notify n) s fits is = lines-counted p s r (account_changed p (Notify n)) (λ a. refl) (λ a. omega arith) is
-lines-account p r (Ack id) s fits is = lines-counted p s r (account_changed p (Ack id)) (λ a. refl) (λ a. omega arith) is
-lines-account p r CountCommand s fits is = lines-counted p s r (account_changed p CountCommand) (λ a. refl) (λ a. omega arith) is
 lines-account p r TakeSerial s fits is = lines-counted p s r (account_changed p TakeSerial) (λ a. refl) serial-rises is
+lines-account p r what s fits is = lines-counted p s r (account_changed p what) (λ a. refl) (λ a. omega arith) is
 
 -- objects change, and neither the clock nor an account does
 lines-objects : (p : PolicyRules) (s t : Registry) → t.clock ≡ s.clock → t.accounts ≡ s.accounts → ((name : List ℕ) (d : Domain) → get t.domains name ≡ Some d → HasLinesOn s d) → HasLines p s → HasLines p t
@@ -261,18 +246,15 @@ lines-objects p s t clock accounts on is = lines-domains p p s t
 lines-changed : (p : PolicyRules) (change : Change) (s : Registry) → FitsLines p change s → HasLines p s → HasLines p (changed p change s)
 lines-changed p (MoveClock t) s fits is = absurd fits
 lines-changed p (OpenAccount r) s fits is = lines-counted p s r itself (λ a. refl) (λ a. omega arith) is
-lines-changed p (PutContact c) s fits is = lines-objects p s _ refl refl is.domains is
-lines-changed p (DropContact name) s fits is = lines-objects p s _ refl refl is.domains is
-lines-changed p (PutDomain d) s fits is = lines-objects p s _ refl refl (λ name e at. ⊎_elim (λ put. subst (HasLinesOn s) put.1 fits) (λ before. is.domains name e before) (put-cases s.domains d.name d name e at)) is
+lines-changed p (PutDomain d) s fits is = lines-objects p s _ refl refl (at-put (λ n. HasLinesOn s) s.domains d.name d fits is.domains) is
 lines-changed p (DropDomain dropped) s fits is = lines-objects p s _ refl refl (λ name e at. is.domains name e (drop-cases s.domains dropped name e at).1) is
-lines-changed p (PutHost h) s fits is = lines-objects p s _ refl refl is.domains is
-lines-changed p (DropHost name) s fits is = lines-objects p s _ refl refl is.domains is
 lines-changed p (RenameHost old new) s fits is = lines-objects p s _ refl refl (λ name e at.
     let was = remade-cases (with_host_renamed old new) s.domains name e at in
     subst (HasLinesOn s) was.2 (on-as-before s was.0 (with_host_renamed old new was.0) (as-before refl refl refl refl refl) (is.domains name was.0 was.1))) is
 lines-changed p (LapseContact name left) s fits is = absurd fits
 lines-changed p (LapseDomain name left) s fits is = absurd fits
 lines-changed p (Post r what) s fits is = lines-account p r what s fits is
+lines-changed p _ s fits is = lines-objects p s _ refl refl is.domains is
 
 -- each of the changes fits when its turn comes
 abbrev pub AllFitLines : PolicyRules → List Change → Registry → Type 0

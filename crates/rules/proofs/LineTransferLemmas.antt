@@ -1,31 +1,18 @@
 -- What is asked for, approved, rejected or withdrawn of a domain's transfer keeps what a well-formed
 -- registry says of lines (RFC 5730, 2.9.3.4).
-use Rattle.std.proofs.Common.{◌≡◌, ◌≢◌, ⊎_elim, ℕ, ◌≤◌, ◌<◌, ◌==◌, Bool, true, false, cond, not, ◌&&◌, List, Option, Some, None, is_some, refl, sym, ap, subst, ◌∙◌, arith, max, nat_lt}
-use Rattle.std.proofs.lemmas.List.Elements.{All-from_recursion, recursion_from_All}
-use Rattle.std.proofs.lemmas.Option.{same_Some}
-use Rattle.std.proofs.lemmas.Bool.Decides.{nat_tests}
+use Rattle.std.proofs.Common.{◌≡◌, ◌≢◌, ⊎_elim, ℕ, ◌≤◌, ◌<◌, ◌==◌, Bool, true, false, cond, ◌&&◌, List, Option, Some, None, refl, sym, ap, subst, ◌∙◌, arith, max, nat_lt}
 use Rattle.rules.proofs.Words.{Account, account_of, AllByRecursion, begins_after, changed, charges_waiting, Domain, domain_with_transfer}
 use Rattle.rules.proofs.Words.{end, Facts, get, HasBeen, HasLines, HasLinesOn, HasObjects, HasRoid, is_begun_after, is_kind, is_of, is_on}
 use Rattle.rules.proofs.Words.{is_pending, is_pending_state, is_same_roid, IsLater, IsLineOf, IsSound, last_clock, Line, list_any}
 use Rattle.rules.proofs.Words.{PolicyRules, PutDomain, Registry, remade, Request, requested, Roid, Start, start-elsewhere, start-stays}
 use Rattle.rules.proofs.Words.{Transfer, transfer_refunded, transfer_started, TransferStart, waits, WasGiven, with_account, with_command}
-use Rattle.rules.proofs.Words.{with_lines}
-use Rattle.accounts.specs.declared.line.TransferRefund.{TransferRefund}
-use Rattle.accounts.specs.LineChanges.{refund-elsewhere, refund-stays}
-use Rattle.accounts.specs.Lines.{in_order}
-use Rattle.accounts.proofs.LineLaws.{same-roids, itself-roid}
-use Rattle.basis.specs.Bag.{add}
+use Rattle.rules.proofs.Words.{with_lines, add, All-from_recursion, and_left, and_right, cond_both, day-count, in_order}
+use Rattle.rules.proofs.Words.{itself-roid, locked_since, nat_tests, Notification, notified, recursion_from_All}
+use Rattle.rules.proofs.Words.{refund-elsewhere, refund-stays, same-roids, same_Some, transfer_line, TransferRefund}
 use Rattle.model.proofs.LineLemmas.{and-false, all-add, all-remade, all-weaker, count, count-add, count-add-none, count-none-remade, count-remade, itself, none-add, none-by, none-remade, not-itself, one-or-other, one_if}
-use Rattle.rules.proofs.GrowthLemmas.{Grows}
+use Rattle.rules.proofs.Lemmas.{Grows, own-account, put-cases, put-is}
 use Rattle.rules.proofs.LineEntryLemmas.{AsksFor, begins-asks, lines-kept, started-waits-not, test-elsewhere, waits-asks}
-use Rattle.rules.proofs.LineKeepingLemmas.{account-grows, begun-by, line-grown, lines-counted, lines-keep, on-carried}
-use Rattle.rules.proofs.NamedLemmas.{put-cases, put-is}
-use Rattle.rules.proofs.ViewLemmas.{own-account}
-use Rattle.lifecycle.specs.declared.change.Notification.{Notification}
-use Rattle.lifecycle.specs.Changes.{notified}
-use Rattle.lifecycle.specs.Transfers.{locked_since}
-use Rattle.policy.proofs.ScheduleLemmas.{day-count}
-use Rattle.rules.specs.Transfers.{transfer_line}
+use Rattle.rules.proofs.LineKeepingLemmas.{account-grows, begun-by, line-grown, lines-counted, lines-keep, on-carried, refund-begins, refund-line}
 use Rattle.rules.proofs.TransferCases.{IsAskable}
 use Rattle.accounts.specs.declared.line.LineKind.TheVariants as lines
 use Rattle.objects.specs.declared.roid.ObjectKind.TheVariants as kinds
@@ -227,36 +214,14 @@ module _ (p : PolicyRules) (s : Registry) (objects : HasObjects p s) (has : HasL
       abbrev refunded : List Line → List Line
       refunded ls = remade in_order (transfer_refunded back) ls
 
-      refund-begins : (roid : Roid) (last : Option ℕ) (l : Line) → begins_after roid last (transfer_refunded back l) ≡ begins_after roid last l
-      refund-begins roid last l = by (waits d.roid l)
-        where
-          by : (b : Bool) → begins_after roid last (cond b (record l { refunded = Some moment }) l) ≡ begins_after roid last l
-          by true = refl
-          by false = refl
-
       refund-waits-not : (l : Line) → waits d.roid (transfer_refunded back l) ≡ false
-      refund-waits-not l = by (waits d.roid l) refl
-        where
-          given-back : (k b c : Bool) → ((k && (b && false)) && c) ≡ false
-          given-back true true c = refl
-          given-back true false c = refl
-          given-back false b c = refl
-
-          by : (b : Bool) → waits d.roid l ≡ b → waits d.roid (cond b (record l { refunded = Some moment }) l) ≡ false
-          by true e = given-back (is_kind l.kind lines.Transfer) (is_on d.roid l) (not (is_some l.started))
-          by false e = e
-
-      refund-line : (t : Registry) → moment ≤ t.clock → (l : Line) → IsLineOf p t l → IsLineOf p t (transfer_refunded back l)
-      refund-line t here l k = by (waits d.roid l)
-        where
-          by : (b : Bool) → IsLineOf p t (cond b (record l { refunded = Some moment }) l)
-          by true = record { roid = k.roid; recorded = k.recorded; started = k.started; refunded = here }
-          by false = k
+      refund-waits-not l = cond_both (waits d.roid l) (record l { refunded = Some moment }) l (λ m. waits d.roid m ≡ false)
+          (λ e. and_left _ _ (and_right (is_kind l.kind lines.Transfer) _ (and_right (is_on d.roid l) false refl))) (λ e. e)
 
       ended-on : HasLinesOn (left ended refl x.requester refunded) ended
       ended-on = record {
         elsewhere = λ q other. none-changed ended refl x.requester refunded (begins_after d.roid d.transferred) q
-            (λ own none. none-remade in_order (begins_after d.roid d.transferred) (begins_after d.roid d.transferred) (transfer_refunded back) (λ l k. refund-begins d.roid d.transferred l ∙ k) (account_of q s).lines none)
+            (λ own none. none-remade in_order (begins_after d.roid d.transferred) (begins_after d.roid d.transferred) (transfer_refunded back) (λ l k. refund-begins (waits d.roid l) moment d.roid d.transferred l ∙ k) (account_of q s).lines none)
             ((has.domains name d at).elsewhere q other);
         waiting = λ q. none-wait ended refl refl (transfer_refunded back) refund-waits-not q ∙ sym (over-of q);
         awaited = λ never. absurd (let no : true ≡ false = sym never ∙ over in cc);
@@ -264,7 +229,7 @@ module _ (p : PolicyRules) (s : Registry) (objects : HasObjects p s) (has : HasL
 
       pub lines-ended : HasLines p (with_account x.requester (with_lines (remade in_order (transfer_refunded (record { roid = d.roid; moment = moment })))) (changed p (PutDomain (record d { transfer = Some x })) s))
       lines-ended = lines-left ended refl x.requester refunded (remade-only (transfer_refunded back) (refund-elsewhere back) (refund-stays back))
-          (λ ls all. all-remade in_order (IsLineOf p (left ended refl x.requester refunded)) (IsLineOf p (left ended refl x.requester refunded)) (transfer_refunded back) (refund-line (left ended refl x.requester refunded) come) ls all) ended-on
+          (λ ls all. all-remade in_order (IsLineOf p (left ended refl x.requester refunded)) (IsLineOf p (left ended refl x.requester refunded)) (transfer_refunded back) (λ l. refund-line (waits d.roid l) p (left ended refl x.requester refunded) moment come l) ls all) ended-on
 
 -- a message changes no line
 pub told : (p : PolicyRules) (q : ℕ) (n : Notification) (s : Registry) → HasLines p s → HasLines p (with_account q (notified n) s)

@@ -1,16 +1,32 @@
 -- What a domain is to name is there: the lists of its links, in order or amended, name what commands
 -- and the domain named before.
 use Rattle.std.proofs.Common.{◌≡◌, ⊎_elim, ℕ, Bool, true, false, not, ◌||◌, List, [], ◌∷◌, ◌++◌, map, Option, Some, None, refl, sym, ap, ◌∙◌}
+use Rattle.std.proofs.Math.Bool.{or-false, or_assoc, or_comm}
+use Rattle.std.proofs.Common.{◌&&◌, filter, fold}
 use Rattle.std.proofs.lemmas.Bool.{and_parts, not-false, or_cases, or_left, or_parts, or_right}
-use Rattle.std.proofs.lemmas.List.Folds.{list_any-append}
 use Rattle.rules.proofs.Words.{amended, bytes_decides, bytes_eq, DomainUpdate, has_name, holds_of, Links, list_any, name_of, names_contact}
-use Rattle.rules.proofs.Words.{names_host, NewDomain}
+use Rattle.rules.proofs.Words.{names_host, NewDomain, nat_cmp, precedes, slice_cmp, add, any-add, any-filter_same}
+use Rattle.rules.proofs.Words.{CreateDomain, is_among, itself, kept, list_any-append, references_fail, UpdateDomain}
 use Rattle.objects.specs.Links.{in_order}
 use Rattle.rules.specs.Decisions.{new_links, or_old, updated_links}
-use Rattle.rules.proofs.NameListLemmas.{has_name-filter, has_name-in_order}
-use Rattle.protocol.specs.declared.command.Request.TheVariants.{CreateDomain, UpdateDomain}
-use Rattle.protocol.specs.Requests.{references_fail}
-use Rattle.facts.specs.Lists.{is_among, itself, kept}
+
+-- ---- lists of names that are filtered, or put in order
+
+-- of the names that pass, those that a list has
+pub has_name-filter : (test : List ℕ → Bool) (names : List (List ℕ)) (name : List ℕ) → has_name (filter test names) name ≡ (test name && has_name names name)
+has_name-filter test names name = any-filter_same (λ other. bytes_eq other name) test (test name) (λ other same. ap test ((bytes_decides other name).0 same)) names
+
+or-swapped : (a b c : Bool) → (a || (b || c)) ≡ ((b || a) || c)
+or-swapped a b c = sym (or_assoc a b c) ∙ ap (λ (x : Bool). x || c) (or_comm a b)
+
+any-sorted : {A : Type 0} (le : A → A → Bool) (test : A → Bool) (xs bag : List A) → list_any test (fold (λ bag item. add le item bag) bag xs) ≡ (list_any test xs || list_any test bag)
+any-sorted le test [] bag = refl
+any-sorted le test (x ∷ xs) bag =
+    any-sorted le test xs (add le x bag) ∙ ap (λ (b : Bool). list_any test xs || b) (any-add le test x bag) ∙ or-swapped (list_any test xs) (test x) (list_any test bag)
+
+-- names in order are the same names
+pub has_name-in_order : (names : List (List ℕ)) (name : List ℕ) → has_name (in_order names) name ≡ has_name names name
+has_name-in_order names name = any-sorted (precedes (slice_cmp nat_cmp)) (λ other. bytes_eq other name) names [] ∙ or-false (has_name names name)
 
 module _ (there : List ℕ → Bool) where
   -- what passes for a name passes for the same name

@@ -3,14 +3,9 @@ use Rattle.std.proofs.Common.{◌≡◌, inl, inr, ℕ, List, Option, Some, refl
 use Rattle.rules.proofs.Words.{Asked, Bad, changed, ClientCancelled, ClientRejected, Command, decision, deleted_domain, Domain}
 use Rattle.rules.proofs.Words.{domain_with_transfer, ended, get, graces_of, IsSound, MeetsStandards, name_of, new_domain, PolicyRules}
 use Rattle.rules.proofs.Words.{PutDomain, Registry, renewed_domain, requested, restored_domain, restoring_domain, updated_domain}
-use Rattle.rules.proofs.Words.{with_account, with_command}
-use Rattle.protocol.specs.declared.command.Request.TheVariants.{CreateDomain}
-use Rattle.rules.specs.Decisions.{changes_after}
-use Rattle.rules.proofs.CommandCases.{CommandCases, request-cases}
-use Rattle.rules.proofs.CommandLemmas.{known}
-use Rattle.rules.proofs.PutLemmas.{eq-self, put-again, put-own}
-use Rattle.rules.proofs.TransferLemmas.{handed-meets, refund-keeps, start-meets}
-use Rattle.rules.proofs.ViewLemmas.{AllMeet, Meets}
+use Rattle.rules.proofs.Words.{with_account, with_command, changes_after, CreateDomain}
+use Rattle.rules.proofs.Lemmas.{AllMeet, CommandCases, known, Meets, request-cases}
+use Rattle.rules.proofs.TransferLemmas.{handed-meets, refund-keeps, start-meets, eq-self, put-again, put-own}
 
 module _ (p : PolicyRules) (sound : IsSound p) (r : ℕ) (cl_trid : Option (List ℕ)) (s : Registry) (is : MeetsStandards p s) where
   -- the registry once the command is counted

@@ -1,19 +1,63 @@
--- What commands and orders charge and give back.
+-- Changes of a registry, and the money of its accounts: what commands and orders charge and give back.
 use Rattle.std.proofs.Common.{◌≡◌, ◌⊎◌, inl, inr, ℕ, nat_lt, true, false, ◌&&◌, List, Option, Some, refl, sym, subst, ◌∙◌, arith, ℤ, pos, int_lt, ◌+ℤ◌, ◌-ℤ◌, ◌≤ℤ◌}
-use Rattle.std.proofs.lemmas.Bool.{and_cases}
-use Rattle.std.proofs.lemmas.Bool.Decides.{nat_tests}
+use Rattle.std.proofs.Common.{◌≤◌, None}
 use Rattle.std.proofs.lemmas.Int.{ints}
 use Rattle.rules.proofs.Words.{account_of, Asked, Bad, balance, Change, changed_all, ClientCancelled, ClientRejected, Command, decision}
 use Rattle.rules.proofs.Words.{Domain, domain_with_transfer, ended, Facts, facts, get, IsRefundable, Line, name_of, Order, order_decision}
 use Rattle.rules.proofs.Words.{PolicyRules, Registry, runs, Transfer, TransferState, waits, with_account, with_command, with_serial}
-use Rattle.model.proofs.MoneyChangeLemmas.{in-grace, turned-down}
-use Rattle.rules.specs.Decisions.{changes_after}
+use Rattle.rules.proofs.Words.{Account, AccountChange, changed, Charge, Post, Lapse, Notice, OpenAccount, RefundRunning}
+use Rattle.rules.proofs.Words.{RefundTransfer, Renewal, Start, Notify, transfer_refunded, transfer_started}
+use Rattle.rules.proofs.Words.{account_changed, amount, and_cases, changes_after, nat_tests, refunded_by}
+use Rattle.model.proofs.MoneyChangeLemmas.{in-grace, turned-down, Follows, follows-changed, follows-charge}
+use Rattle.model.proofs.MoneyChangeLemmas.{running-given-back, transfer-begun, transfer-given-back}
+use Rattle.rules.specs.Changes.{itself}
 use Rattle.rules.proofs.CommandCases.{CommandCases, IsDeletable, request-cases}
-use Rattle.rules.proofs.CommandLemmas.{Covers}
-use Rattle.rules.proofs.LineKeepingLemmas.{lines-stay}
-use Rattle.rules.proofs.MoneyChangesLemmas.{AllFitMoney}
-use Rattle.rules.proofs.NamedLemmas.{put-is}
-use Rattle.rules.proofs.OrderCases.{OrderCases, order-cases}
+use Rattle.rules.proofs.Lemmas.{all-kept, AllFit, Covers, lines-keep, lines-stay, order-cases, OrderCases, put-is}
+
+-- a line that is nothing or more, or that these lines cover
+abbrev pub IsPaid : Line → List Line → Type 0
+IsPaid line ls = (pos 0 ≤ℤ amount line) ⊎ (pos 0 ≤ℤ (amount line +ℤ balance ls))
+
+-- A charge is paid, what is given back is given back lawfully, and nothing begins or is told ahead of the clock;
+-- automatic renewals are no part of it.
+abbrev pub FitsAccount : (ℕ → ℕ → Line → Type 0) → ℕ → PolicyRules → ℕ → AccountChange → List Line → Type 0
+FitsAccount L u p r (Charge line) ls = (line.refunded ≡ None) × IsPaid line ls
+FitsAccount L u p r (RefundRunning x) ls = (l : Line) → runs p x.moment x.roid x.transferred l ≡ true → L r x.moment (record l { refunded = Some x.moment })
+FitsAccount L u p r (RefundTransfer x) ls = (l : Line) → waits x.roid l ≡ true → L r x.moment (record l { refunded = Some x.moment })
+FitsAccount L u p r (Lapse (Renewal x)) ls = ⊥
+FitsAccount L u p r (Lapse (Start x)) ls = x.moment ≤ u
+FitsAccount L u p r (Lapse (Notice m)) ls = m.moment ≤ u
+FitsAccount L u p r (Notify n) ls = n.moment ≤ u
+FitsAccount L u p r _ ls = Unit {0}
+
+abbrev pub FitsMoney : (ℕ → ℕ → Line → Type 0) → ℕ → PolicyRules → Change → Registry → Type 0
+FitsMoney L u p (Post r what) s = FitsAccount L u p r what (account_of r s).lines
+FitsMoney L u p _ s = Unit {0}
+
+-- each when its turn comes
+abbrev pub AllFitMoney : (ℕ → ℕ → Line → Type 0) → ℕ → PolicyRules → List Change → Registry → Type 0
+AllFitMoney L u p changes s = AllFit p (FitsMoney L u p) changes s
+
+module _ (L : ℕ → ℕ → Line → Type 0) (u : ℕ) (p : PolicyRules) (q : ℕ) (begin : List Line) where
+  abbrev Follow : List Line → Type 0
+  Follow ls = Follows (L q) u begin ls
+
+  own-follows : (what : AccountChange) (a : Account) → FitsAccount L u p q what a.lines → Follow a.lines → Follow (account_changed p what a).lines
+  own-follows (Charge line) a fits h = follows-charge (L q) u line begin a.lines fits.0 fits.1 h
+  own-follows (RefundRunning x) a fits h = follows-changed (L q) u (refunded_by p x) (λ l. running-given-back (L q) u p x.moment x.roid x.transferred l (fits l)) begin a.lines h
+  own-follows (RefundTransfer x) a fits h = follows-changed (L q) u (transfer_refunded x) (λ l. transfer-given-back (L q) u x l (fits l)) begin a.lines h
+  own-follows (Lapse (Renewal x)) a fits h = absurd fits
+  own-follows (Lapse (Start x)) a fits h = follows-changed (L q) u (transfer_started x) (transfer-begun (L q) u x fits) begin a.lines h
+  own-follows _ a fits h = h
+
+  change-follows : (change : Change) (s : Registry) → FitsMoney L u p change s → Follow (account_of q s).lines → Follow (account_of q (changed p change s)).lines
+  change-follows (Post r what) s fits h = lines-keep s r (account_changed p what) Follow q
+      (λ own h. own-follows what (account_of q s) (subst (λ (n : ℕ). FitsAccount L u p n what (account_of n s).lines) own fits) h) h
+  change-follows (OpenAccount r) s fits h = lines-keep s r itself Follow q (λ own h. h) h
+  change-follows _ s fits h = h
+
+  pub changes-follow : (changes : List Change) (s : Registry) → AllFitMoney L u p changes s → Follow (account_of q s).lines → Follow (account_of q (changed_all p changes s)).lines
+  changes-follow = all-kept p (FitsMoney L u p) (λ s. Follow (account_of q s).lines) change-follows
 
 -- what is charged is nothing, or the balance covers it
 affordable : (charge : ℕ) (money : ℤ) → (nat_lt 0 charge && int_lt money (pos charge)) ≡ false → (pos 0 ≤ℤ (pos 0 -ℤ pos charge)) ⊎ (pos 0 ≤ℤ ((pos 0 -ℤ pos charge) +ℤ money))

@@ -1,15 +1,46 @@
--- What becomes of the money of every account in a step of the rules, and as time passes.
-use Rattle.std.proofs.Common.{◌≡◌, ℕ, ◌≤◌, max, sym, subst, arith}
+-- What becomes of the money of every account in a step of the rules, and as time passes: time alone charges an account
+-- for automatic renewals, and begins the graces of its transfers.
+use Rattle.std.proofs.Common.{◌≡◌, ℕ, ◌≤◌, max, sym, subst, arith, List}
 use Rattle.rules.proofs.Words.{account_of, Command, decision, effect, IsRefundable, IsRegistry, IsSound, lapsed, last_clock, now, Order}
-use Rattle.rules.proofs.Words.{order_decision, order_effect, PolicyRules, Registry}
-use Rattle.model.specs.Money.{AccountAges, AccountFollows, MoneyFollows}
-use Rattle.model.proofs.LapseLaws.{lapsed-is-settled, lapses-on, settled-is-now}
-use Rattle.model.proofs.MoneyChangeLemmas.{Follows, follows-itself}
-use Rattle.rules.proofs.MoneyChangesLemmas.{changes-follow}
-use Rattle.rules.proofs.MoneyCommandLemmas.{command-lawful, order-lawful}
-use Rattle.rules.proofs.MoneyTimeLemmas.{lapse-ages}
+use Rattle.rules.proofs.Words.{order_decision, order_effect, PolicyRules, Registry, Domain, gained, lapse_contact, Line}
+use Rattle.rules.proofs.Words.{moved, postings, raised, transfer_started, TransferStart, turns, AccountAges}
+use Rattle.rules.proofs.Words.{AccountFollows, accounts_at, lapse, lapse_registry, lapsed-is-settled, lapses-on}
+use Rattle.rules.proofs.Words.{MoneyFollows, NoRefund, Posting, settled-is-now, transfer-begun, turn}
+use Rattle.model.proofs.MoneyChangeLemmas.{Follows, follows-itself, ages-changed, ages-itself, ages-renewal}
+use Rattle.rules.proofs.MoneyCommandLemmas.{command-lawful, order-lawful, changes-follow}
 use Rattle.rules.proofs.RegistryLemmas.{registry-lapsed}
 use Rattle.rules.proofs.SettledLemmas.{settled-effect, settled-order}
+use Rattle.rules.proofs.Lemmas.{AllPosted, contact-posted, domain-posted, due-is, keep-posted, Keeps, postings-posted}
+use Rattle.rules.proofs.LineTimeLemmas.{renewal_at}
+
+-- ---- as time passes
+
+module _ (p : PolicyRules) (t r : ℕ) (begin : List Line) where
+  abbrev Ages : Posting → Type 0
+  Ages e = Keeps (AccountAges t begin) r e
+
+  turned-ages : (d : Domain) (k : ℕ) → AllPosted Ages (turn p d k)
+  turned-ages d k = ((λ own ls h. ages-renewal t (renewal_at p d k) begin ls h), ((λ own ls h. h), tt))
+
+  domain-ages : (d : Domain) → AllPosted Ages (lapse p t d).postings
+  domain-ages d = domain-posted p t Ages d (λ k come. turned-ages d k) (λ x due.
+      let before : Domain = raised (turns d x.ac_date) d in
+      let start : TransferStart = record { roid = d.roid; moment = x.ac_date; years = gained before x.ac_date } in (
+        ((λ own ls h. ages-changed t (transfer_started start) (transfer-begun NoRefund t start (due-is t d.transfer x due).1) begin ls h), ((λ own ls h. h), ((λ own ls h. h), tt))),
+        λ k come. turned-ages (moved x before) k,
+      ))
+      (λ x past own ls h. h)
+
+-- what time alone makes of a registrar's lines
+pub lapse-ages : (p : PolicyRules) (t r : ℕ) (s : Registry) → AccountAges t (account_of r s).lines (account_of r (lapse_registry p t s)).lines
+unfolding accounts_at
+lapse-ages p t r s =
+    let begin : List Line = (account_of r s).lines in
+    keep-posted (AccountAges t begin) r (postings (λ name. lapse_contact t) (λ name. lapse p t) s)
+    (postings-posted p t (Ages p t r begin) s (λ name c there. contact-posted p t (Ages p t r begin) c (λ x due. ((λ own ls h. h), ((λ own ls h. h), tt)))) (λ name d there. domain-ages p t r begin d)) s
+    (ages-itself t begin)
+
+-- ---- every account, in a step of the rules
 
 module _ (p : PolicyRules) (moment : ℕ) (before : Registry) where
   -- the registry as a call finds it

@@ -1,11 +1,9 @@
 -- What stands at a name after a map by names was changed.
-use Rattle.std.proofs.Common.{◌≡◌, ◌≢◌, ◌⊎◌, inl, inr, ⊎_elim, ℕ, Bool, true, false, cond, List, [], ◌∷◌, map, Option, Some, None, IsSome, is_some, option_map, refl, sym, ap, ◌∙◌, suc, length, filter, eqb-true, arith}
+use Rattle.std.proofs.Common.{◌≡◌, ◌≢◌, ◌⊎◌, inl, inr, ⊎_elim, ℕ, Bool, true, false, cond, List, [], ◌∷◌, map, Option, Some, None, IsSome, is_some, option_map, refl, sym, ap, ◌∙◌, suc, length, filter, eqb-true, arith, subst₂}
 use Rattle.std.specs.FinMap.{find, get-entries, keys, same_map, slice_cmp-IsAntisymmetric, values, get-remove}
-use Rattle.std.proofs.lemmas.Bool.{or_parts}
-use Rattle.std.proofs.lemmas.Option.{same_Some}
 use Rattle.rules.proofs.Words.{entries, eq_by_cmp, eq_by_cmp_equiv, Equal-is, FinMap, get, get-insert, insert, is_empty, list_any}
 use Rattle.rules.proofs.Words.{map_values, nat_cmp, nat_cmp-IsAntisymmetric, nat_list_cmp_total, remove, slice_cmp}
-use Rattle.basis.proofs.MapLemmas.{names_apart, get-map_values}
+use Rattle.rules.proofs.Words.{cond_both, get-map_values, names_apart, or_parts, same_Some}
 
 -- what is some value is there
 pub is-there : {X : Type 0} (o : Option X) (x : X) → o ≡ Some x → IsSome o
@@ -26,22 +24,17 @@ module _ {X : Type 0} (m : FinMap (slice_cmp nat_cmp) X) (k : List ℕ) where
   -- ---- a value is put at a name
 
   pub put-cases : (v : X) (n : List ℕ) (x : X) → get (insert m k v) n ≡ Some x → ((n ≡ k) × (v ≡ x)) ⊎ (get m n ≡ Some x)
-  put-cases v n x e = by (eq_by_cmp (slice_cmp nat_cmp) n k) refl (sym (get-insert nat_list_cmp_total m k v n) ∙ e)
-    where
-      by : (b : Bool) → eq_by_cmp (slice_cmp nat_cmp) n k ≡ b → cond b (Some v) (get m n) ≡ Some x → ((n ≡ k) × (v ≡ x)) ⊎ (get m n ≡ Some x)
-      by true same e = inl (same_name n k same, same_Some v x e)
-      by false same e = inr e
+  put-cases v n x e = cond_both (eq_by_cmp (slice_cmp nat_cmp) n k) (Some v) (get m n)
+      (λ o. o ≡ Some x → ((n ≡ k) × (v ≡ x)) ⊎ (get m n ≡ Some x)) (λ same e. inl (same_name n k same, same_Some v x e))
+      (λ same e. inr e) (sym (get-insert nat_list_cmp_total m k v n) ∙ e)
 
   pub put-is : (v : X) → get (insert m k v) k ≡ Some v
   put-is v = get-insert nat_list_cmp_total m k v k ∙ ap (λ (b : Bool). cond b (Some v) (get m k)) (itself k)
 
   -- what was there is there still
   pub put-keeps : (v : X) (n : List ℕ) → IsSome (get m n) → IsSome (get (insert m k v) n)
-  put-keeps v n there = ap is_some (get-insert nat_list_cmp_total m k v n) ∙ by (eq_by_cmp (slice_cmp nat_cmp) n k)
-    where
-      by : (b : Bool) → is_some (cond b (Some v) (get m n)) ≡ true
-      by true = refl
-      by false = there
+  put-keeps v n there = ap is_some (get-insert nat_list_cmp_total m k v n)
+      ∙ cond_both (eq_by_cmp (slice_cmp nat_cmp) n k) (Some v) (get m n) (λ o. is_some o ≡ true) (λ e. refl) (λ e. there)
 
   -- what is there was put, or was there
   pub put-there : (v : X) (n : List ℕ) → IsSome (get (insert m k v) n) → (n ≡ k) ⊎ IsSome (get m n)
@@ -52,18 +45,15 @@ module _ {X : Type 0} (m : FinMap (slice_cmp nat_cmp) X) (k : List ℕ) where
   -- ---- a name is taken away
 
   pub drop-cases : (n : List ℕ) (x : X) → get (remove m k) n ≡ Some x → (n ≢ k) × (get m n ≡ Some x)
-  drop-cases n x e = by (eq_by_cmp (slice_cmp nat_cmp) n k) refl (sym (get-remove nat_list_cmp_total m k n) ∙ e)
-    where
-      by : (b : Bool) → eq_by_cmp (slice_cmp nat_cmp) n k ≡ b → cond b None (get m n) ≡ Some x → (n ≢ k) × (get m n ≡ Some x)
-      by true same e = absurd cc
-      by false same e = (λ is. let never : true ≡ false = sym (itself k) ∙ ap (λ (q : List ℕ). eq_by_cmp (slice_cmp nat_cmp) q k) (sym is) ∙ same in cc, e)
+  drop-cases n x e = cond_both (eq_by_cmp (slice_cmp nat_cmp) n k) None (get m n)
+      (λ o. o ≡ Some x → (n ≢ k) × (get m n ≡ Some x)) (λ same e. absurd cc)
+      (λ same e. (λ is. let never : true ≡ false = sym (itself k) ∙ ap (λ (q : List ℕ). eq_by_cmp (slice_cmp nat_cmp) q k) (sym is) ∙ same in cc, e))
+      (sym (get-remove nat_list_cmp_total m k n) ∙ e)
 
   pub drop-keeps : (n : List ℕ) → n ≢ k → IsSome (get m n) → IsSome (get (remove m k) n)
-  drop-keeps n other there = ap is_some (get-remove nat_list_cmp_total m k n) ∙ by (eq_by_cmp (slice_cmp nat_cmp) n k) refl
-    where
-      by : (b : Bool) → eq_by_cmp (slice_cmp nat_cmp) n k ≡ b → is_some (cond b None (get m n)) ≡ true
-      by true same = absurd (other (same_name n k same))
-      by false same = there
+  drop-keeps n other there = ap is_some (get-remove nat_list_cmp_total m k n)
+      ∙ cond_both (eq_by_cmp (slice_cmp nat_cmp) n k) None (get m n) (λ o. is_some o ≡ true)
+      (λ same. absurd (other (same_name n k same))) (λ same. there)
 
   pub drop-there : (n : List ℕ) → IsSome (get (remove m k) n) → IsSome (get m n)
   drop-there n there =
@@ -81,9 +71,11 @@ module _ {X : Type 0} (m : FinMap (slice_cmp nat_cmp) X) (k : List ℕ) where
     where
       by : (q : List ℕ) (a b : Bool) → eq_by_cmp (slice_cmp nat_cmp) q n ≡ a → eq_by_cmp (slice_cmp nat_cmp) q k ≡ b → cond a (Some v) (cond b None (get m q)) ≡ cond b None (cond a (Some v) (get m q))
       by q true true first second = absurd (other (sym (same_name q n first) ∙ same_name q k second))
-      by q true false first second = refl
-      by q false true first second = refl
-      by q false false first second = refl
+      by q a b first second = refl
+
+-- what is so of all at their names and of what is put
+pub at-put : {X : Type 0} (P : List ℕ → X → Type 0) (m : FinMap (slice_cmp nat_cmp) X) (k : List ℕ) (v : X) → P k v → ((n : List ℕ) (x : X) → get m n ≡ Some x → P n x) → (n : List ℕ) (x : X) → get (insert m k v) n ≡ Some x → P n x
+at-put P m k v new old n x at = ⊎_elim (λ put. subst₂ P (sym put.0) put.1 new) (λ before. old n x before) (put-cases m k v n x at)
 
 -- ---- each value is made anew
 
@@ -107,11 +99,8 @@ found-fails : {X : Type 0} (test : X → Bool) (n : List ℕ) (x : X) (es : List
 found-fails test n x [] e none = absurd cc
 found-fails {X} test n x (p ∷ es) e none =
     let parts = or_parts (test p.1) (list_any test (map (λ (e : List ℕ × X). e.1) es)) none in
-    by (eq_by_cmp (slice_cmp nat_cmp) n p.0) e parts.0 (λ found. found-fails test n x es found parts.1)
-  where
-    by : (b : Bool) → cond b (Some p.1) (find (slice_cmp nat_cmp) n es) ≡ Some x → test p.1 ≡ false → (find (slice_cmp nat_cmp) n es ≡ Some x → test x ≡ false) → test x ≡ false
-    by true e first more = ap test (sym (same_Some p.1 x e)) ∙ first
-    by false e first more = more e
+    cond_both (eq_by_cmp (slice_cmp nat_cmp) n p.0) (Some p.1) (find (slice_cmp nat_cmp) n es) (λ o. o ≡ Some x → test x ≡ false)
+    (λ same e. ap test (sym (same_Some p.1 x e)) ∙ parts.0) (λ same found. found-fails test n x es found parts.1) e
 
 -- what none of a map's values passes, no value passes that stands at a name
 pub value-fails : {X : Type 0} (test : X → Bool) (m : FinMap (slice_cmp nat_cmp) X) (n : List ℕ) (x : X) → get m n ≡ Some x → list_any test (values m) ≡ false → test x ≡ false
@@ -120,21 +109,17 @@ value-fails test m n x e none = found-fails test n x (entries m) (sym (get-entri
 -- ---- a test of all names
 
 none-passes : (test : List ℕ → Bool) (k : List ℕ) (ks : List (List ℕ)) → is_empty (filter test (k ∷ ks)) ≡ true → (test k ≡ false) × (is_empty (filter test ks) ≡ true)
-none-passes test k ks e = by (test k) refl e
-  where
-    by : (b : Bool) → test k ≡ b → is_empty (cond b (k ∷ filter test ks) (filter test ks)) ≡ true → (test k ≡ false) × (is_empty (filter test ks) ≡ true)
-    by true is e = absurd (let none : suc (length (filter test ks)) ≡ 0 = eqb-true (suc (length (filter test ks))) 0 e in omega (arith, none))
-    by false is e = (is, e)
+none-passes test k ks e = cond_both (test k) (k ∷ filter test ks) (filter test ks)
+    (λ names. is_empty names ≡ true → (test k ≡ false) × (is_empty (filter test ks) ≡ true))
+    (λ is e. absurd (let none : suc (length (filter test ks)) ≡ 0 = eqb-true (suc (length (filter test ks))) 0 e in omega (arith, none)))
+    (λ is e. (is, e)) e
 
 listed-fails : {X : Type 0} (test : List ℕ → Bool) (n : List ℕ) (es : List (List ℕ × X)) → IsSome (find (slice_cmp nat_cmp) n es) → is_empty (filter test (map (λ (e : List ℕ × X). e.0) es)) ≡ true → test n ≡ false
 listed-fails test n [] there none = absurd cc
 listed-fails {X} test n (p ∷ es) there none =
     let parts = none-passes test p.0 (map (λ (e : List ℕ × X). e.0) es) none in
-    by (eq_by_cmp (slice_cmp nat_cmp) n p.0) refl there parts.0 (λ found. listed-fails test n es found parts.1)
-  where
-    by : (b : Bool) → eq_by_cmp (slice_cmp nat_cmp) n p.0 ≡ b → IsSome (cond b (Some p.1) (find (slice_cmp nat_cmp) n es)) → test p.0 ≡ false → (IsSome (find (slice_cmp nat_cmp) n es) → test n ≡ false) → test n ≡ false
-    by true same there first more = ap test (same_name n p.0 same) ∙ first
-    by false same there first more = more there
+    cond_both (eq_by_cmp (slice_cmp nat_cmp) n p.0) (Some p.1) (find (slice_cmp nat_cmp) n es) (λ o. IsSome o → test n ≡ false)
+    (λ same there. ap test (same_name n p.0 same) ∙ parts.0) (λ same there. listed-fails test n es there parts.1) there
 
 -- what no name of a map passes, no name passes at which something stands
 pub name-fails : {X : Type 0} (test : List ℕ → Bool) (m : FinMap (slice_cmp nat_cmp) X) (n : List ℕ) → IsSome (get m n) → is_empty (filter test (keys m)) ≡ true → test n ≡ false

@@ -1,18 +1,14 @@
 -- What holds of no change, and of what each order changes that is carried out, holds of what an order changes.
 use Rattle.std.proofs.Common.{◌≡◌, ℕ, ◌+◌, ◌≤◌, nat_lt, length, Bool, true, false, cond, List, [], ◌∷◌, Option, Some, None, option_and_then, option_map, refl, arith}
-use Rattle.std.specs.List.{position_or_len}
-use Rattle.std.proofs.lemmas.Bool.{ltb-true}
 use Rattle.rules.proofs.Words.{Change, Charge, Contact, Domain, get, Post, Host, IsRegistrar, ObjectKind, Order, order_decision, ordered}
-use Rattle.rules.proofs.Words.{PolicyRules, PutContact, PutDomain, PutHost, Registry}
+use Rattle.rules.proofs.Words.{PolicyRules, PutContact, PutDomain, PutHost, Registry, cents_of, deposit_line, deposited}
+use Rattle.rules.proofs.Words.{deposited_to, has_id, is_accepted, ltb-true, order_changes, place_of, position_or_len}
 use Rattle.model.specs.declared.object.Object.TheVariants as objects
 use Rattle.model.specs.Objects.{object_at, object_ordered}
 use Rattle.objects.specs.declared.roid.ObjectKind.TheVariants as kinds
-use Rattle.policy.specs.Rules.{has_id, place_of}
 use Rattle.protocol.specs.declared.order.Order.TheVariants as orders
 use Rattle.protocol.specs.declared.order.StatusOrder.{StatusOrder}
-use Rattle.protocol.specs.Codes.{is_accepted}
 use Rattle.protocol.specs.Orders.{name_ordered}
-use Rattle.rules.specs.Orders.{cents_of, deposit_line, deposited, deposited_to, order_changes}
 use Rattle.verdict.specs.Orders.{order_code}
 
 module _ (p : PolicyRules) (s : Registry) (P : List Change → Type 0) where

@@ -1,18 +1,12 @@
 -- What time posts into accounts goes to registrars, and keeps a registry well formed.
 use Rattle.std.proofs.Common.{◌≡◌, ℕ, ◌+◌, ◌<◌, ◌≤◌, Bool, true, false, cond, nat_lt, zero, suc, List, [], ◌∷◌, ◌++◌, Option, Some, None, refl, ap, subst, ◌∙◌, arith}
-use Rattle.std.specs.Prelude.{fold, ◌&&◌, nat_le}
-use Rattle.std.proofs.lemmas.Bool.Decides.{nat_tests}
 use Rattle.rules.proofs.Words.{Account, account_of, completion, Contact, contact_completed, Deletion, Domain, due_by, entered, entries}
 use Rattle.rules.proofs.Words.{FinMap, gained, get, given, given_list, HasObjects, is_pending_state, IsLastTransfer, IsRegistrar}
 use Rattle.rules.proofs.Words.{IsTransfer, lapse_by, lapse_contact, LapseEntry, leaves, lived, moved, nat_cmp, nat_list_cmp_total, Notice}
 use Rattle.rules.proofs.Words.{PolicyRules, posted, Posting, postings, purge_at, purged, raised, Registry, Renewal, slice_cmp, Start}
-use Rattle.rules.proofs.Words.{Transfer, turns, with_account}
+use Rattle.rules.proofs.Words.{Transfer, turns, with_account, contact_completion, fold, lapse, names_apart, nat_le}
+use Rattle.rules.proofs.Words.{nat_tests, plus_years, Purged, renewals, tell, turn, turns-are, ◌&&◌}
 use Rattle.basis.proofs.EntryLaws.{Each, each_entry}
-use Rattle.basis.proofs.MapLemmas.{names_apart}
-use Rattle.accounts.specs.declared.message.LapseNotice.TheVariants.{Purged}
-use Rattle.calendar.specs.Moment.{plus_years}
-use Rattle.lifecycle.specs.Lapse.{contact_completion, lapse, renewals, tell, turn}
-use Rattle.lifecycle.proofs.TurnLaws.{turns-are}
 use Rattle.rules.proofs.KeepingLemmas.{kept-account}
 use Rattle.rules.proofs.ViewLemmas.{account-keep}
 
@@ -38,8 +32,7 @@ module _ (R : Posting → Type 0) where
 
 due-case : (y x : Transfer) (pending : Bool) (come : Bool) → (let o : Option Transfer = cond (pending && come) (Some y) None in o) ≡ Some x → (y ≡ x) × (come ≡ true)
 due-case y x true true e = (cc, refl)
-due-case y x true false e = cc
-due-case y x false come e = cc
+due-case y x pending come e = cc
 
 pub due-is : (t : ℕ) (o : Option Transfer) (x : Transfer) → due_by t o ≡ Some x → (o ≡ Some x) × (x.ac_date ≤ t)
 due-is t None x e = cc

@@ -1,22 +1,109 @@
 -- Each step of the rules, and time alone, keep a registry well formed, with its clock, its objects, its lines, its messages and its shapes.
-use Rattle.std.proofs.Common.{ℕ, ◌≤◌, ◌<◌, max, sym, subst, arith}
+use Rattle.std.proofs.Common.{ℕ, ◌≤◌, ◌<◌, max, sym, subst, arith, List, [], ◌∷◌, ◌≡◌, refl}
+use Rattle.std.proofs.Common.{◌∙◌}
 use Rattle.rules.proofs.Words.{account_of, All, Command, decision, effect, IsRefundable, IsRegistrar, IsRegistry, IsSettled, IsSound}
 use Rattle.rules.proofs.Words.{lapsed, last_clock, now, Order, order_decision, order_effect, PolicyRules, Registry}
-use Rattle.model.specs.Lapse.{lapse}
-use Rattle.model.specs.WellFormed.{HasCome, HasMessages}
-use Rattle.model.proofs.LapseLaws.{lapses-on}
-use Rattle.rules.specs.Askable.{CanBeAsked}
-use Rattle.rules.proofs.ClockLemmas.{clock-effect, clock-order}
-use Rattle.rules.proofs.LapsedLemmas.{kept-lapse}
-use Rattle.rules.proofs.LineCommandLemmas.{lines-effect, lines-order}
+use Rattle.rules.proofs.Words.{Account, AccountChange, Ack, bytes_eq, Change, changed, changed_all, entered, Post}
+use Rattle.rules.proofs.Words.{Lapse, lapse_contact, LapseEntry, Line, Notice, OpenAccount, posted, Posting, postings}
+use Rattle.rules.proofs.Words.{Renewal, Notify, with_account, HasLines, MoveClock, account_changed, accounts_at}
+use Rattle.rules.proofs.Words.{All-from_recursion, All-insert_key, All-tail, all-weaker, CanBeAsked, cond_both, fold}
+use Rattle.rules.proofs.Words.{HasCome, HasMessages, lapse, lapse_registry, lapses-on, nat_tests, numbered}
+use Rattle.rules.proofs.Words.{recursion_from_All, registries-meet-standards, saturating_next}
+use Rattle.rules.specs.Changes.{itself}
+use Rattle.rules.proofs.Lemmas.{account-keep, all-kept, FitsLines, kept-lapse, Meets}
+use Rattle.rules.proofs.LineCommandLemmas.{lines-effect, lines-order, fits-order}
 use Rattle.rules.proofs.LineTimeLemmas.{lines-lapse}
-use Rattle.rules.proofs.MessageLemmas.{changes-told, messages-lapse}
-use Rattle.rules.proofs.MoneyCommandLemmas.{command-lawful, order-lawful}
-use Rattle.rules.proofs.ShapeCommandLemmas.{shapes-effect, shapes-order}
-use Rattle.rules.proofs.ShapeKeepingLemmas.{shapes-lapse}
+use Rattle.rules.proofs.MoneyCommandLemmas.{command-lawful, order-lawful, AllFitMoney, FitsAccount, FitsMoney}
+use Rattle.rules.proofs.ShapeCommandLemmas.{shapes-effect, shapes-order, shapes-lapse}
 use Rattle.rules.proofs.WellFormedLemmas.{kept-effect, kept-order}
+use Rattle.rules.proofs.PostingLemmas.{AllPosted, contact-posted, domain-posted, due-is, postings-posted}
+use Rattle.rules.proofs.MeetingLemmas.{meets-decided}
+use Rattle.accounts.specs.declared.message.Message.{Message}
+use Rattle.accounts.specs.Messages.{message_cmp, message_id}
+use Rattle.accounts.specs.Queue.{acked}
 
-pub registry-lapse : (p : PolicyRules) (t : ℕ) (s : Registry) → s.clock ≤ t → t ≤ last_clock → IsRegistry p s → IsRegistry p (lapse p t s)
+-- ---- commands and orders leave the clock where it stands
+
+-- what a registrar's view is told of its changes
+clock-met : (p : PolicyRules) (r : ℕ) (change : Change) (s : Registry) → Meets p r change s → (changed p change s).clock ≡ s.clock
+clock-met p r (MoveClock t) s meets = absurd meets
+clock-met p r _ s meets = refl
+
+pub clock-effect : (p : PolicyRules) → IsSound p → (r : ℕ) (c : Command) (s : Registry) → IsRegistry p s → (effect p r c s).clock ≡ s.clock
+clock-effect p sound r c s is = all-kept p (Meets p r) (λ t. t.clock ≡ s.clock) (λ change t meets same. clock-met p r change t meets ∙ same)
+    (decision p r c s).changes s (meets-decided p sound r c s (registries-meet-standards p s is)) refl
+
+-- what an order changes fits the lines
+clock-fit : (p : PolicyRules) (change : Change) (s : Registry) → FitsLines p change s → (changed p change s).clock ≡ s.clock
+clock-fit p (MoveClock t) s fits = absurd fits
+clock-fit p _ s fits = refl
+
+pub clock-order : (p : PolicyRules) (order : Order) (s : Registry) → HasLines p s → (order_effect p order s).clock ≡ s.clock
+clock-order p order s has = all-kept p (FitsLines p) (λ t. t.clock ≡ s.clock) (λ change t fits same. clock-fit p change t fits ∙ same)
+    (order_decision p order s).changes s (fits-order p order s has) refl
+
+-- ---- no message is of a moment that hasn't come: none is told ahead of the clock, by a command or by time
+
+-- ---- changes that tell of what has come
+
+acked-told : (t : ℕ) (id : List ℕ) (queue : List Message) → All (HasCome t) queue → All (HasCome t) (acked id queue)
+acked-told t id [] h = h
+acked-told t id (m ∷ ms) h = cond_both (bytes_eq (message_id m) id) ms (m ∷ ms) (All (HasCome t))
+    (λ e. All-tail (HasCome t) m ms h) (λ e. h)
+
+module _ (L : ℕ → ℕ → Line → Type 0) (u : ℕ) (p : PolicyRules) (q : ℕ) where
+  abbrev Told : List Message → Type 0
+  Told queue = All (HasCome u) queue
+
+  own-told : (what : AccountChange) (a : Account) → FitsAccount L u p q what a.lines → Told a.queue → Told (account_changed p what a).queue
+  own-told (Lapse (Renewal x)) a fits h = absurd fits
+  own-told (Lapse (Notice m)) a fits h = All-insert_key message_cmp m (HasCome u) a.queue h fits
+  own-told (Notify n) a fits h = All-insert_key message_cmp (numbered (saturating_next a.messages) n) (HasCome u) a.queue h fits
+  own-told (Ack id) a fits h = acked-told u id a.queue h
+  own-told _ a fits h = h
+
+  change-told : (change : Change) (s : Registry) → FitsMoney L u p change s → Told (account_of q s).queue → Told (account_of q (changed p change s)).queue
+  change-told (Post r what) s fits h = account-keep (λ (a : Account). Told a.queue) s r (account_changed p what) q
+      (λ own h. own-told what (account_of q s) (subst (λ (n : ℕ). FitsAccount L u p n what (account_of n s).lines) own fits) h) h
+  change-told (OpenAccount r) s fits h = account-keep (λ (a : Account). Told a.queue) s r itself q (λ own h. h) h
+  change-told _ s fits h = h
+
+  pub changes-told : (changes : List Change) (s : Registry) → AllFitMoney L u p changes s → Told (account_of q s).queue → Told (account_of q (changed_all p changes s)).queue
+  changes-told = all-kept p (FitsMoney L u p) (λ s. Told (account_of q s).queue) change-told
+
+-- ---- what time posts
+
+-- what is told has come
+abbrev HasComeIn : ℕ → LapseEntry → Type 0
+HasComeIn t (Notice m) = HasCome t m
+HasComeIn t _ = Unit {0}
+
+abbrev HasTold : ℕ → Posting → Type 0
+HasTold t e = HasComeIn t e.what
+
+postings-come : (p : PolicyRules) (t : ℕ) (s : Registry) → AllPosted (HasTold t) (postings (λ name. lapse_contact t) (λ name. lapse p t) s)
+postings-come p t s = postings-posted p t (HasTold t) s
+    (λ name c at. contact-posted p t (HasTold t) c (λ x due. let come = (due-is t c.transfer x due).1 in (come, (come, tt))))
+    (λ name d at. domain-posted p t (HasTold t) d (λ k come. (tt, (come, tt)))
+    (λ x due. let come = (due-is t d.transfer x due).1 in ((tt, (come, (come, tt))), λ k come. (tt, (come, tt))))
+    (λ x past. grind (arith, nat_tests, past)))
+
+entered-told : (t : ℕ) (what : LapseEntry) (a : Account) → HasComeIn t what → All (HasCome t) a.queue → All (HasCome t) (entered what a).queue
+entered-told t (Notice m) a come h = All-insert_key message_cmp m (HasCome t) a.queue h come
+entered-told t _ a come h = h
+
+posted-told : (t r : ℕ) (es : List Posting) → AllPosted (HasTold t) es → (s : Registry) → All (HasCome t) (account_of r s).queue → All (HasCome t) (account_of r (record s { accounts = fold posted s.accounts es })).queue
+posted-told t r [] come s h = h
+posted-told t r (e ∷ es) come s h = posted-told t r es come.1 (with_account e.registrar (entered e.what) s)
+    (account-keep (λ (a : Account). All (HasCome t) a.queue) s e.registrar (entered e.what) r (λ own h. entered-told t e.what (account_of r s) come.0 h) h)
+
+-- time alone
+pub messages-lapse : (p : PolicyRules) (t : ℕ) (s : Registry) → s.clock ≤ t → HasMessages s → HasMessages (lapse_registry p t s)
+unfolding accounts_at
+messages-lapse p t s le has r = posted-told t r (postings (λ name. lapse_contact t) (λ name. lapse p t) s) (postings-come p t s) s
+    (All-from_recursion (HasCome t) (account_of r s).queue (all-weaker (HasCome s.clock) (HasCome t) (λ m come. omega (arith, come, le)) (account_of r s).queue (recursion_from_All (HasCome s.clock) (account_of r s).queue (has r))))
+
+pub registry-lapse : (p : PolicyRules) (t : ℕ) (s : Registry) → s.clock ≤ t → t ≤ last_clock → IsRegistry p s → IsRegistry p (lapse_registry p t s)
 registry-lapse p t s le early is = record { clock = early; objects = kept-lapse p t s le is.objects; lines = lines-lapse p t s le is.objects is.lines; messages = messages-lapse p t s le is.messages; shapes = shapes-lapse p t s early is.shapes }
 
 -- what is due by its own clock is done

@@ -1,30 +1,21 @@
 -- What a command or an order leaves of a registry in which nothing is due has nothing due in it.
-use Rattle.std.proofs.Common.{◌≡◌, ⊎_elim, inl, inr, ℕ, ◌+◌, ◌<◌, ◌≤◌, max, nat_le, Bool, false, cond, List, Option, Some, None, option_map, refl, sym, ap, subst, ◌∙◌, arith}
-use Rattle.std.proofs.lemmas.Bool.{cases_lt}
-use Rattle.std.proofs.lemmas.Bool.Decides.{nat_tests}
+use Rattle.std.proofs.Common.{◌≡◌, inl, inr, ℕ, ◌+◌, ◌<◌, ◌≤◌, max, nat_le, Bool, false, cond, List, Option, Some, None, option_map, refl, sym, ap, subst, ◌∙◌, arith}
 use Rattle.rules.proofs.Words.{Asked, Bad, Change, changed, changed_all, ClientApproved, ClientCancelled, ClientRejected, Command, Contact}
-use Rattle.rules.proofs.Words.{decision, Deletion, Domain, domain_with_transfer, DropContact, DropDomain, DropHost, due_by, effect, end}
-use Rattle.rules.proofs.Words.{ended, expiry, gained, get, Post, handed_over, is_pending, IsDeletion, IsSettled, IsSound, LapseContact}
-use Rattle.rules.proofs.Words.{LapseDomain, last_clock, MoveClock, name_of, OpenAccount, Order, order_decision, order_effect, ordered}
-use Rattle.rules.proofs.Words.{PolicyRules, purge_at, PutContact, PutDomain, PutHost, Registry, RenameHost, renewed_domain, requested}
+use Rattle.rules.proofs.Words.{decision, Deletion, Domain, domain_with_transfer, DropContact, DropDomain, due_by, effect, end}
+use Rattle.rules.proofs.Words.{ended, expiry, gained, get, handed_over, is_pending, IsDeletion, IsSettled, IsSound, LapseContact}
+use Rattle.rules.proofs.Words.{LapseDomain, last_clock, MoveClock, name_of, Order, order_decision, order_effect, ordered}
+use Rattle.rules.proofs.Words.{PolicyRules, purge_at, PutContact, PutDomain, Registry, RenameHost, renewed_domain, requested}
 use Rattle.rules.proofs.Words.{restored_domain, restoring_domain, Transfer, turns, updated_domain, with_account, with_command}
-use Rattle.rules.proofs.Words.{with_host_renamed}
-use Rattle.calendar.specs.Moment.{plus_years}
+use Rattle.rules.proofs.Words.{with_host_renamed, cases_lt, changes_after, completes_at, day-count, due_at, due_of}
+use Rattle.rules.proofs.Words.{earlier, later, nat_tests, plus_years, redemption_end, turns-are}
 use Rattle.calendar.proofs.YearLaws.{plus_years-lt, plus_years-zero}
-use Rattle.lifecycle.specs.Lapse.{completes_at, due_at, due_of, earlier}
-use Rattle.lifecycle.specs.Phases.{later, redemption_end}
-use Rattle.lifecycle.proofs.TurnLaws.{turns-are}
 use Rattle.policy.specs.declared.days.Period.TheVariants as periods
-use Rattle.policy.proofs.ScheduleLemmas.{day-count}
-use Rattle.rules.specs.Decisions.{changes_after}
-use Rattle.rules.proofs.CommandCases.{CommandCases, request-cases}
-use Rattle.rules.proofs.FitLemmas.{AllFit, all-kept}
-use Rattle.rules.proofs.NamedLemmas.{drop-cases, put-cases, remade-cases}
-use Rattle.rules.proofs.OrderCases.{OrderCases, order-cases}
+use Rattle.rules.proofs.Lemmas.{all-kept, AllFit, CommandCases, order-cases, OrderCases, request-cases}
+use Rattle.rules.proofs.NamedLemmas.{drop-cases, remade-cases, at-put}
 
 -- ---- a domain that another stands in for
 
-years-ahead : (created n k : ℕ) → n ≤ k → plus_years created n ≤ plus_years created k
+pub years-ahead : (created n k : ℕ) → n ≤ k → plus_years created n ≤ plus_years created k
 years-ahead created n k le = elim (cases_lt n k) [
   | inl lt ↦ omega (arith, plus_years-lt created n k lt)
   | inr ge ↦ let same : n ≡ k = omega (arith, le, ge) in subst (λ (m : ℕ). plus_years created n ≤ plus_years created m) same (omega arith)
@@ -91,25 +82,19 @@ PutsNothingDue p t _ = Unit {0}
 
 settled-changed : (p : PolicyRules) (change : Change) (s : Registry) → PutsNothingDue p s.clock change → IsSettled p s → IsSettled p (changed p change s)
 settled-changed p (MoveClock u) s none is = absurd none
-settled-changed p (OpenAccount r) s none is = record { contacts = is.contacts; domains = is.domains }
 settled-changed p (PutContact c) s none is = record {
-  contacts = λ name x at. ⊎_elim (λ put. subst (λ (y : Contact). due_by s.clock y.transfer ≡ None) put.1 none) (λ before. is.contacts name x before) (put-cases s.contacts c.name c name x at);
+  contacts = at-put (λ n (y : Contact). due_by s.clock y.transfer ≡ None) s.contacts c.name c none is.contacts;
   domains = is.domains;
 }
 settled-changed p (DropContact dropped) s none is = record {
   contacts = λ name x at. is.contacts name x (drop-cases s.contacts dropped name x at).1;
   domains = is.domains;
 }
-settled-changed p (PutDomain d) s none is = record {
-  contacts = is.contacts;
-  domains = λ name x at. ⊎_elim (λ put. subst (λ (y : Domain). s.clock < due_at p y) put.1 none) (λ before. is.domains name x before) (put-cases s.domains d.name d name x at);
-}
+settled-changed p (PutDomain d) s none is = record { contacts = is.contacts; domains = at-put (λ n y. s.clock < due_at p y) s.domains d.name d none is.domains }
 settled-changed p (DropDomain dropped) s none is = record {
   contacts = is.contacts;
   domains = λ name x at. is.domains name x (drop-cases s.domains dropped name x at).1;
 }
-settled-changed p (PutHost h) s none is = record { contacts = is.contacts; domains = is.domains }
-settled-changed p (DropHost dropped) s none is = record { contacts = is.contacts; domains = is.domains }
 settled-changed p (RenameHost old new) s none is = record {
   contacts = is.contacts;
   domains = λ name x at.
@@ -118,7 +103,7 @@ settled-changed p (RenameHost old new) s none is = record {
 }
 settled-changed p (LapseContact name left) s none is = absurd none
 settled-changed p (LapseDomain name left) s none is = absurd none
-settled-changed p (Post r what) s none is = record { contacts = is.contacts; domains = is.domains }
+settled-changed p _ s none is = record { contacts = is.contacts; domains = is.domains }
 
 stays : (p : PolicyRules) (t : ℕ) (change : Change) (s : Registry) → PutsNothingDue p t change → (changed p change s).clock ≡ s.clock
 stays p t (MoveClock u) s none = absurd none

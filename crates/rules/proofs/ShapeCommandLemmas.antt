@@ -1,32 +1,175 @@
--- Each command and each order keep the shapes of objects.
-use Rattle.std.proofs.Common.{◌≡◌, ℕ, ◌-◌, ◌<◌, ◌≤◌, max, nat_lt, Bool, true, false, List, length, Option, Some, None, IsSome, is_some, refl, sym, subst, ◌∙◌, arith}
+-- Each command, each order and each change, and time alone, keep the shapes of objects, where what is put has one.
+use Rattle.std.proofs.Common.{◌≡◌, ℕ, ◌-◌, ◌<◌, ◌≤◌, max, nat_lt, true, false, List, length, Option, Some, None, IsSome, is_some, refl, sym, subst, ◌∙◌, arith}
+use Rattle.std.proofs.Common.{inl, inr, zero, suc, ◌+◌, ◌/◌, min}
 use Rattle.std.specs.Option.{IfSome}
-use Rattle.std.proofs.lemmas.Bool.{or_parts}
+use Rattle.rules.proofs.Words.{adds_what_is_there, AreSetsWithin, CanBeAsked, cases_lt, Change, changed, changed_all}
 use Rattle.rules.proofs.Words.{Asked, Bad, ClientApproved, ClientCancelled, ClientRejected, Command, decision, deleted_domain, Domain}
+use Rattle.rules.proofs.Words.{changes_after, cond_both, domains_at, DropDomain, DropHost, expiry, false_from_ne_true}
 use Rattle.rules.proofs.Words.{domain_with_transfer, DomainUpdate, effect, ended, Facts, gained, get, RequestedName, handed_over, has_name}
+use Rattle.rules.proofs.Words.{final_name, has_twice, HostUpdate, is_over, IsAskable, itself, keeps_host, lapse}
 use Rattle.rules.proofs.Words.{HasObjects, Host, IsRegistry, last_clock, name_of, new_domain, NewDomain, NewHost, Order, order_decision}
+use Rattle.rules.proofs.Words.{lapse_registry, LapseDomain, left-of, more_years, moved, nat_tests, or_else, or_parts}
 use Rattle.rules.proofs.Words.{order_effect, ordered, PolicyRules, Registry, renewed_domain, requested, restored_domain, restoring_domain}
-use Rattle.rules.proofs.Words.{updated_domain, with_account, with_command, ZoneRules}
-use Rattle.facts.specs.Facts.{or_else}
-use Rattle.facts.specs.Lists.{adds_what_is_there, has_twice, is_over, itself}
+use Rattle.rules.proofs.Words.{plus_years, PutDomain, PutHost, raised, RenameHost, Transfer, turns, turns-are}
+use Rattle.rules.proofs.Words.{updated_domain, with_account, with_command, with_host_renamed, years_later, ZoneRules}
 use Rattle.model.specs.Shapes.{HasShapes, IsDomainName, IsHostName, IsSetWithin, IsShaped, IsShapedHost, end_of_expiries}
 use Rattle.names.specs.Canonical.{IsCanonical}
-use Rattle.names.specs.Zone.{keeps_host}
 use Rattle.objects.specs.Links.{in_order}
-use Rattle.protocol.specs.declared.command.HostUpdate.{HostUpdate}
 use Rattle.protocol.specs.declared.command.Request.TheVariants as requests
 use Rattle.protocol.specs.declared.lists.TheConstants.{MOST_ADDRESSES, MOST_CONTACTS, MOST_HOSTS}
-use Rattle.protocol.specs.Requests.{final_name}
-use Rattle.rules.specs.Askable.{CanBeAsked, IsAskable}
-use Rattle.rules.specs.Decisions.{changes_after}
 use Rattle.rules.proofs.CommandCases.{AreListsFit, CommandCases, IsHostUpdateOf, IsUpdateOf, host_with, request-cases}
-use Rattle.objects.specs.Domains.{expiry}
-use Rattle.rules.proofs.CommandLemmas.{known}
-use Rattle.rules.proofs.ExpiryLemmas.{fewer-end, gained-end, renewed-end, ten-end, turns-end}
-use Rattle.rules.proofs.LimitLemmas.{within-amended, within-items, within-texts}
-use Rattle.rules.proofs.OrderCases.{OrderCases, order-cases}
-use Rattle.rules.proofs.OrderedSetLemmas.{set-amended, set-in_order, set-texts}
-use Rattle.rules.proofs.ShapeKeepingLemmas.{AllFitShapes, same-shape, shapes-changed_all}
+use Rattle.rules.proofs.Lemmas.{all-kept, AllFit, domain-lapsed, due-is, known, order-cases, OrderCases, transferred_by}
+use Rattle.rules.proofs.OrderedSetLemmas.{set-amended, set-in_order, set-texts, within-amended, within-items}
+use Rattle.rules.proofs.OrderedSetLemmas.{within-texts, set-renamed, within-renamed}
+use Rattle.rules.proofs.NamedLemmas.{drop-cases, remade-cases, at-put}
+use Rattle.rules.proofs.SettledLemmas.{years-ahead}
+use Rattle.calendar.specs.Calendar.{Date, date_of, day_number, days_of_years}
+use Rattle.calendar.proofs.CalendarLemmas.{IsReal, IsReal-date_of}
+use Rattle.calendar.proofs.YearLaws.{IsReal-years_later, day_number-year, days_of_years-mono, plus_years-zero}
+
+-- ---- how far the years of a domain go: what is registered, renewed, restored or handed over by the end of clocks expires before 2120
+
+days_to_2100 : days_of_years 130 ≡ 47_482
+unfolding days_of_years
+days_to_2100 = refl
+
+days_to_2110 : days_of_years 140 ≡ 51_134
+unfolding days_of_years
+days_to_2110 = refl
+
+-- a year by whose beginning no clock has ended
+before_2100 : (n k : ℕ) → days_of_years k ≤ n → n ≤ 47_481 → k < 130
+before_2100 n k low high = elim (cases_lt k 130) [
+  | inl lt ↦ lt
+  | inr ge ↦
+      let apart : (k - 130) + 130 ≡ k = omega arith in
+      absurd (omega (arith, low, high, days_to_2100, rw apart at (days_of_years-mono 130 (k - 130))))
+]
+
+by_2110 : (k : ℕ) → k ≤ 140 → days_of_years k ≤ 51_134
+by_2110 k le =
+    let apart : (140 - k) + k ≡ 140 = omega arith in
+    omega (arith, days_to_2110, rw apart at (days_of_years-mono k (140 - k)))
+
+-- ten years more than by the end of clocks
+pub years-end : (m n k : ℕ) → plus_years m n ≤ last_clock → k ≤ 10 → plus_years m (n + k) < end_of_expiries
+unfolding plus_years
+years-end m n k early few =
+    let d : Date = date_of (m / 86_400) in
+    let real : IsReal d = IsReal-date_of (m / 86_400) in
+    let year = day_number-year (years_later d n) (IsReal-years_later d n real) in
+    let first : d.year + n - 1970 < 130 = before_2100 (day_number (years_later d n)) (d.year + n - 1970) year.0 (omega (arith, early)) in
+    let later = day_number-year (years_later d (n + k)) (IsReal-years_later d (n + k) real) in
+    omega (arith, later.1, by_2110 (d.year + (n + k) - 1970 + 1) (omega (arith, first, few, real.year)))
+
+-- ten years after a clock
+pub ten-end : (t k : ℕ) → t ≤ last_clock → k ≤ 10 → plus_years t k < end_of_expiries
+ten-end t k early few =
+    let same : 0 + k ≡ k = omega arith in
+    subst (λ (n : ℕ). plus_years t n < end_of_expiries) same (years-end t 0 k (omega (arith, early, plus_years-zero t)) few)
+
+-- ---- the years of a domain
+
+abbrev pub EndsInTime : ℕ → ℕ → Type 0
+EndsInTime created years = plus_years created years < end_of_expiries
+
+pub fewer-end : (created n k : ℕ) → n ≤ k → EndsInTime created k → EndsInTime created n
+fewer-end created n k le h = omega (arith, years-ahead created n k le, h)
+
+-- the years of a turn, and of a restoration
+pub turns-end : (d : Domain) (t : ℕ) → t ≤ last_clock → EndsInTime d.created d.years → EndsInTime d.created (d.years + turns d t)
+turns-end d t early h = by (turns d t) refl
+  where
+    by : (k : ℕ) → turns d t ≡ k → EndsInTime d.created (d.years + k)
+    by zero e = let none : d.years + 0 ≡ d.years = omega arith in subst (EndsInTime d.created) (sym none) h
+    by (suc j) e =
+        let last : plus_years d.created (d.years + j) ≤ t = (turns-are d t).before j (omega (arith, e)) in
+        let more : d.years + j + 1 ≡ d.years + suc j = omega arith in
+        subst (EndsInTime d.created) more (years-end d.created (d.years + j) 1 (omega (arith, last, early)) (omega arith))
+
+-- the year of a transfer
+pub gained-end : (d : Domain) (u : ℕ) → u ≤ last_clock → EndsInTime d.created d.years → EndsInTime d.created (d.years + gained d u)
+gained-end d u early h =
+    cond_both (nat_lt (plus_years u 10) (plus_years d.created (d.years + 1))) 0 1 (λ n. EndsInTime d.created (d.years + n))
+    (λ e. let none : d.years + 0 ≡ d.years = omega arith in subst (EndsInTime d.created) (sym none) h) (λ e.
+    let within : plus_years d.created (d.years + 1) ≤ plus_years u 10 = grind (arith, nat_tests, e) in
+    omega (arith, within, ten-end u 10 early (omega arith)))
+
+-- the years of a renewal, where it doesn't pass ten
+pub renewed-end : (t created years more : ℕ) → t ≤ last_clock → nat_lt (plus_years t 10) (plus_years created (years + more)) ≡ false → EndsInTime created years → EndsInTime created (more_years years more)
+renewed-end t created years more early fits h =
+    let within : plus_years created (years + more) ≤ plus_years t 10 = grind (arith, nat_tests, fits) in
+    let ends : EndsInTime created (years + more) = omega (arith, within, ten-end t 10 early (omega arith)) in
+    fewer-end created (max years (min (years + more) 0xFFFF_FFFF)) (years + more) (omega arith) ends
+
+-- ---- each change, and time alone
+
+-- ---- one change
+
+-- What is put has its shape, and no domain names a host that a name is given to.
+abbrev pub FitsShapes : PolicyRules → Change → Registry → Type 0
+FitsShapes p (PutDomain d) s = IsShaped p.zone d
+FitsShapes p (PutHost h) s = IsShapedHost p.zone h
+FitsShapes p (RenameHost old new) s = (name : List ℕ) (d : Domain) → get s.domains name ≡ Some d → has_name d.links.hosts new ≡ false
+FitsShapes p (LapseDomain name left) s = ⊥
+FitsShapes p _ s = Unit {0}
+
+-- a domain of the same name and links, which expires in time
+pub same-shape : (zone : ZoneRules) (d e : Domain) → e.name ≡ d.name → e.links ≡ d.links → expiry e < end_of_expiries → IsShaped zone d → IsShaped zone e
+same-shape zone d e name links expires h = record { name = subst (IsDomainName zone) (sym name) h.name; links = subst AreSetsWithin (sym links) h.links; expires = expires }
+
+shape-renamed : (zone : ZoneRules) (old new : List ℕ) (d : Domain) → has_name d.links.hosts new ≡ false → IsShaped zone d → IsShaped zone (with_host_renamed old new d)
+shape-renamed zone old new d absent h = record {
+  name = h.name;
+  links = record { admin = h.links.admin; tech = h.links.tech; hosts = (set-renamed old new d.links.hosts absent h.links.hosts.0, within-renamed old new d.links.hosts MOST_HOSTS h.links.hosts.1) };
+  expires = h.expires;
+}
+
+pub shapes-changed : (p : PolicyRules) (change : Change) (s : Registry) → FitsShapes p change s → HasShapes p.zone s → HasShapes p.zone (changed p change s)
+shapes-changed p (PutDomain d) s fits is =
+    record { domains = at-put (λ n. IsShaped p.zone) s.domains d.name d fits is.domains; hosts = is.hosts }
+shapes-changed p (DropDomain dropped) s fits is = record { domains = λ name e at. is.domains name e (drop-cases s.domains dropped name e at).1; hosts = is.hosts }
+shapes-changed p (PutHost h) s fits is =
+    record { domains = is.domains; hosts = at-put (λ n. IsShapedHost p.zone) s.hosts h.name h fits is.hosts }
+shapes-changed p (DropHost dropped) s fits is = record { domains = is.domains; hosts = λ name g at. is.hosts name g (drop-cases s.hosts dropped name g at).1 }
+shapes-changed p (RenameHost old new) s fits is = record {
+  domains = λ name e at.
+      let was = remade-cases (with_host_renamed old new) s.domains name e at in
+      subst (IsShaped p.zone) was.2 (shape-renamed p.zone old new was.0 (fits name was.0 was.1) (is.domains name was.0 was.1));
+  hosts = is.hosts;
+}
+shapes-changed p (LapseDomain name left) s fits is = absurd fits
+shapes-changed p _ s fits is = record { domains = is.domains; hosts = is.hosts }
+
+-- each of the changes fits when its turn comes
+abbrev pub AllFitShapes : PolicyRules → List Change → Registry → Type 0
+AllFitShapes p changes s = AllFit p (FitsShapes p) changes s
+
+pub shapes-changed_all : (p : PolicyRules) (changes : List Change) (s : Registry) → AllFitShapes p changes s → HasShapes p.zone s → HasShapes p.zone (changed_all p changes s)
+shapes-changed_all p = all-kept p (FitsShapes p) (HasShapes p.zone) (shapes-changed p)
+
+-- ---- time
+
+shape-raised : (zone : ZoneRules) (d : Domain) (t : ℕ) → t ≤ last_clock → IsShaped zone d → IsShaped zone (raised (turns d t) d)
+shape-raised zone d t early h = same-shape zone d (raised (turns d t) d) refl refl (turns-end d t early h.expires) h
+
+shape-moved : (zone : ZoneRules) (x : Transfer) (d : Domain) → x.ac_date ≤ last_clock → IsShaped zone d → IsShaped zone (moved x d)
+shape-moved zone x d early h = same-shape zone d (moved x d) refl refl (gained-end d x.ac_date early h.expires) h
+
+module _ (p : PolicyRules) (t : ℕ) (early : t ≤ last_clock) (d : Domain) (h : IsShaped p.zone d) where
+  -- what is left of a domain
+  shape-left : (e : Domain) → (lapse p t d).object ≡ Some e → IsShaped p.zone e
+  shape-left = domain-lapsed p t d (IsShaped p.zone) (λ x gone. h) (λ alive. shape-raised p.zone d t early h) (λ alive x due.
+      let come : x.ac_date ≤ t = (due-is t d.transfer x due).1 in
+      let then_early : x.ac_date ≤ last_clock = omega (arith, come, early) in
+      shape-raised p.zone (transferred_by x d) t early (shape-moved p.zone x (raised (turns d x.ac_date) d) then_early (shape-raised p.zone d x.ac_date then_early h)))
+
+pub shapes-lapse : (p : PolicyRules) (t : ℕ) (s : Registry) → t ≤ last_clock → HasShapes p.zone s → HasShapes p.zone (lapse_registry p t s)
+unfolding domains_at
+shapes-lapse p t s early is = record {
+  domains = λ name e found. let was = left-of (λ name. lapse p t) s.domains name e found in shape-left p t early was.0 (is.domains name was.0 was.1) e was.2;
+  hosts = is.hosts;
+}
 
 -- ---- new objects
 
@@ -95,13 +238,9 @@ shape-host p r s u given h askable it is =
 
 -- a name at which no host is, no domain names
 unnamed : (p : PolicyRules) (s : Registry) → HasObjects p s → (name : List ℕ) → is_some (get s.hosts name) ≡ false → (n : List ℕ) (d : Domain) → get s.domains n ≡ Some d → has_name d.links.hosts name ≡ false
-unnamed p s is name free n d at = by (has_name d.links.hosts name) refl
-  where
-    by : (b : Bool) → has_name d.links.hosts name ≡ b → b ≡ false
-    by false e = refl
-    by true e =
-        let there : IsSome (get s.hosts name) = (is.domains n d at).stands.hosts name e in
-        absurd (let never : true ≡ false = sym there ∙ free in cc)
+unnamed p s is name free n d at = false_from_ne_true (has_name d.links.hosts name) (λ e.
+    let there : IsSome (get s.hosts name) = (is.domains n d at).stands.hosts name e in
+    let never : true ≡ false = sym there ∙ free in cc)
 
 -- ---- commands
 

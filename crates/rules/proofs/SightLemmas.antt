@@ -1,22 +1,13 @@
 -- What is seen without a secret, of what was seen with one.
 use Rattle.std.proofs.Common.{◌≡◌, ℕ, suc, length, arith, eqb-true, Bool, true, false, cond, not, ◌&&◌, Option, Some, None, List, [], ◌∷◌, filter, refl, sym, ap, ◌∙◌}
-use Rattle.std.specs.Prelude.{◌||◌, ◌==◌, is_some}
 use Rattle.rules.proofs.Words.{bytes_eq, Contact, contact_as, Domain, DomainFace, Full, FullDomain, Graces, has_name, is_empty, is_party}
 use Rattle.rules.proofs.Words.{is_pending, nat_cmp, precedes, Public, renamed, Roid, Seen, slice_cmp, Superordinate}
-use Rattle.rules.proofs.Words.{superordinate_of_domain, Transfer, TransferParty, with_host_renamed}
-use Rattle.basis.specs.Bag.{add}
-use Rattle.objects.specs.declared.grace.Standing.{Standing}
-use Rattle.objects.specs.Contacts.{contact_face_of}
-use Rattle.objects.specs.Domains.{face_of}
+use Rattle.rules.proofs.Words.{superordinate_of_domain, Transfer, TransferParty, with_host_renamed, add, all_statuses}
+use Rattle.rules.proofs.Words.{cond_both, contact_face_of, face_of, has_status, is_some, links_seen}
+use Rattle.rules.proofs.Words.{links_with_host_renamed, names, shown, shows, Standing, Status, ◌==◌, ◌||◌}
 use Rattle.objects.specs.Sight.{authorizes, seen_by_outsider, domain_as}
-use Rattle.objects.specs.declared.status.Status.{Status}
 use Rattle.objects.specs.declared.status.Status.TheVariants as statuses
-use Rattle.objects.specs.Domains.{shown, shows}
-use Rattle.objects.specs.Links.{links_seen}
-use Rattle.objects.specs.Statuses.{all_statuses, has_status}
-use Rattle.objects.specs.Transfers.{names}
 use Rattle.objects.proofs.StatusLemmas.{has_status-filter}
-use Rattle.rules.specs.Changes.{links_with_host_renamed}
 
 -- what is seen in full is looked at again, without a secret
 pub forget : {O F : Type 0} → (O → Seen O F) → Seen O F → Seen O F
@@ -60,6 +51,16 @@ same_shown h x r o face full named public true t = full
 same_shown h x r o face full named public false None = public
 same_shown {O} {F} h x r o face full named public false (Some t) = elim (names r t) as (λ (b : Bool). let seen : Seen O F = cond b (TransferParty face t) (Public face) in h seen ≡ x) [ true ↦ named t | false ↦ public ]
 
+-- to change each sight of an object is to see the changed object
+seen-mapped : {O F : Type 0} (h : Seen O F → Seen O F) (r : ℕ) (o after : O) (face changed : F) → h (Full o) ≡ Full after
+    → ((t : Transfer) → h (TransferParty face t) ≡ TransferParty changed t) → h (Public face) ≡ Public changed
+    → (b : Bool) (t : Option Transfer) → h (cond b (Full o) (seen_by_outsider r face t)) ≡ cond b (Full after) (seen_by_outsider r changed t)
+seen-mapped h r o after face changed full party public true t = full
+seen-mapped h r o after face changed full party public false None = public
+seen-mapped {O} {F} h r o after face changed full party public false (Some t) =
+    elim (names r t) as (λ (b : Bool). let seen : F → Seen O F = λ f. cond b (TransferParty f t) (Public f) in h (seen face) ≡ seen changed)
+    [ true ↦ party t | false ↦ public ]
+
 pub links-seen : (r : ℕ) (presented : Option (List ℕ)) (standing : Standing) (d : Domain) → links_seen (domain_as r presented standing d) ≡ d.links
 links-seen r presented standing d = same_shown links_seen d.links r (full_as standing d) (face_of standing d) refl (λ t. refl) refl (is_party r d.sponsor d.transfer || authorizes presented d.secret) d.transfer
 
@@ -82,8 +83,7 @@ superordinate-seen r presented standing d =
 -- the registrar holds what it sees, or gets it
 pub holds_seen : ℕ → Seen FullDomain DomainFace → Bool
 holds_seen r (Full known) = is_party r known.domain.sponsor known.domain.transfer
-holds_seen r (TransferParty face t) = false
-holds_seen r (Public face) = false
+holds_seen r _ = false
 
 outside-held : (r : ℕ) (face : DomainFace) (t : Option Transfer) → holds_seen r (seen_by_outsider r face t) ≡ false
 unfolding holds_seen
@@ -125,28 +125,15 @@ found-some [] x e = absurd cc
 found-some (y ∷ ys) x e = some-left y ys
 
 is_empty-renamed : (old new : List ℕ) (hosts : List (List ℕ)) → is_empty (renamed old new hosts) ≡ is_empty hosts
-is_empty-renamed old new hosts = by (has_name hosts old) refl
-  where
-    by : (b : Bool) → has_name hosts old ≡ b → is_empty (cond b (add (precedes (slice_cmp nat_cmp)) new (filter (λ host. not (bytes_eq host old)) hosts)) hosts) ≡ is_empty hosts
-    by true e = add-some (precedes (slice_cmp nat_cmp)) new (filter (λ host. not (bytes_eq host old)) hosts) ∙ sym (found-some hosts old e)
-    by false e = refl
+is_empty-renamed old new hosts =
+    let others : List (List ℕ) = filter (λ host. not (bytes_eq host old)) hosts in
+    cond_both (has_name hosts old) (add (precedes (slice_cmp nat_cmp)) new others) hosts (λ names. is_empty names ≡ is_empty hosts)
+    (λ e. add-some (precedes (slice_cmp nat_cmp)) new others ∙ sym (found-some hosts old e)) (λ e. refl)
 
 shows-relinked : (old new : List ℕ) (d : Domain) (s : Status) → shows (with_host_renamed old new d) s ≡ shows d s
-shows-relinked old new d statuses.ClientDeleteProhibited = refl
-shows-relinked old new d statuses.ClientHold = refl
-shows-relinked old new d statuses.ClientRenewProhibited = refl
-shows-relinked old new d statuses.ClientTransferProhibited = refl
-shows-relinked old new d statuses.ClientUpdateProhibited = refl
 shows-relinked old new d statuses.Inactive = is_empty-renamed old new d.links.hosts
-shows-relinked old new d statuses.Linked = refl
 shows-relinked old new d statuses.Fine = ap (λ (b : Bool). is_empty d.statuses && not b && not (is_some d.deletion) && not (is_pending d.transfer)) (is_empty-renamed old new d.links.hosts)
-shows-relinked old new d statuses.PendingDelete = refl
-shows-relinked old new d statuses.PendingTransfer = refl
-shows-relinked old new d statuses.ServerDeleteProhibited = refl
-shows-relinked old new d statuses.ServerHold = refl
-shows-relinked old new d statuses.ServerRenewProhibited = refl
-shows-relinked old new d statuses.ServerTransferProhibited = refl
-shows-relinked old new d statuses.ServerUpdateProhibited = refl
+shows-relinked old new d _ = refl
 
 relinked_face : List ℕ → List ℕ → Standing → Domain → DomainFace
 relinked_face old new standing d = record (face_of standing d) { links = links_with_host_renamed old new d.links }
@@ -155,23 +142,17 @@ face-relinked : (old new : List ℕ) (standing : Standing) (d : Domain) → face
 unfolding relinked_face
 face-relinked old new standing d = ap (λ (f : Status → Bool). record (relinked_face old new standing d) { statuses = filter f all_statuses }) (λ i s. shows-relinked old new d s i)
 
-relinked-outside : (r : ℕ) (old new : List ℕ) (face : DomainFace) (t : Option Transfer) → seen_by_outsider r (record face { links = links_with_host_renamed old new face.links }) t ≡ relinked_seen old new (seen_by_outsider r face t)
-unfolding relinked_seen
-relinked-outside r old new face None = refl
-relinked-outside r old new face (Some t) = elim (names r t) as (λ (b : Bool). let seen : Seen FullDomain DomainFace = cond b (TransferParty face t) (Public face) in ◌≡◌ {A = Seen FullDomain DomainFace} (cond b (TransferParty (record face { links = links_with_host_renamed old new face.links }) t) (Public (record face { links = links_with_host_renamed old new face.links }))) (relinked_seen old new seen)) [ true ↦ refl | false ↦ refl ]
-
-seen-relinked-by : (r : ℕ) (old new : List ℕ) (standing : Standing) (d : Domain) (b : Bool)
-    → cond b (Full (full_as standing (with_host_renamed old new d))) (seen_by_outsider r (face_of standing (with_host_renamed old new d)) d.transfer)
-    ≡ relinked_seen old new (cond b (Full (full_as standing d)) (seen_by_outsider r (face_of standing d) d.transfer))
-unfolding relinked_seen relinked_face
-seen-relinked-by r old new standing d true = refl
-seen-relinked-by r old new standing d false =
-    ap (λ (face : DomainFace). let seen : Seen FullDomain DomainFace = seen_by_outsider r face d.transfer in seen) (face-relinked old new standing d) ∙ relinked-outside r old new (face_of standing d) d.transfer
-
 -- to relink a domain and to look is to look and to see it relinked
 pub seen-relinked : (r : ℕ) (presented : Option (List ℕ)) (old new : List ℕ) (standing : Standing) (d : Domain)
     → domain_as r presented standing (with_host_renamed old new d) ≡ relinked_seen old new (domain_as r presented standing d)
-seen-relinked r presented old new standing d = seen-relinked-by r old new standing d (is_party r d.sponsor d.transfer || authorizes presented d.secret)
+unfolding relinked_seen relinked_face
+seen-relinked r presented old new standing d =
+    let again : Domain = with_host_renamed old new d in
+    let same = sym (face-relinked old new standing d) in
+    sym (seen-mapped (relinked_seen old new) r (full_as standing d) (full_as standing again) (face_of standing d) (face_of standing again)
+    refl (λ t. ap (λ (face : DomainFace). let seen : Seen FullDomain DomainFace = TransferParty face t in seen) same)
+    (ap (λ (face : DomainFace). let seen : Seen FullDomain DomainFace = Public face in seen) same)
+    (is_party r d.sponsor d.transfer || authorizes presented d.secret) d.transfer)
 
 -- ---- a domain with other graces
 
@@ -199,23 +180,12 @@ module _ (regrace : Regrace) (r : ℕ) (standing : Standing) (d : Domain) where
   abbrev afterwards : Standing
   afterwards = restood regrace d.sponsor d.roid d.transferred standing
 
-  regraced-outside : (t : Option Transfer) → regraced regrace (seen_by_outsider r (face_of standing d) t) ≡ seen_by_outsider r (face_of afterwards d) t
-  unfolding regraced
-  regraced-outside None = refl
-  regraced-outside (Some t) = by (names r t)
-    where
-      by : (b : Bool) → regraced regrace (cond b (TransferParty (face_of standing d) t) (Public (face_of standing d))) ≡ cond b (TransferParty (face_of afterwards d) t) (Public (face_of afterwards d))
-      by true = refl
-      by false = refl
-
-  regraced-by : (b : Bool) → regraced regrace (cond b (Full (full_as standing d)) (seen_by_outsider r (face_of standing d) d.transfer)) ≡ cond b (Full (full_as afterwards d)) (seen_by_outsider r (face_of afterwards d) d.transfer)
-  unfolding regraced
-  regraced-by true = refl
-  regraced-by false = regraced-outside d.transfer
-
   -- to give a domain other graces and to look is to look and to see other graces
   pub regraced-seen : (presented : Option (List ℕ)) → regraced regrace (domain_as r presented standing d) ≡ domain_as r presented (restood regrace d.sponsor d.roid d.transferred standing) d
-  regraced-seen presented = regraced-by (is_party r d.sponsor d.transfer || authorizes presented d.secret)
+  unfolding regraced
+  regraced-seen presented =
+      seen-mapped (regraced regrace) r (full_as standing d) (full_as afterwards d) (face_of standing d) (face_of afterwards d)
+      refl (λ t. refl) refl (is_party r d.sponsor d.transfer || authorizes presented d.secret) d.transfer
 
 -- the sponsor and the graces that all see alike
 pub sponsor_seen : Seen FullDomain DomainFace → ℕ

@@ -1,22 +1,15 @@
 -- What is so of an operation on a transfer that isn't refused (RFC 5730, 2.9.3.4).
-use Rattle.std.proofs.Common.{◌≡◌, ◌≢◌, inl, inr, ℕ, ◌==◌, true, false, not, ◌||◌, List, [], Option, Some, None, is_some, option_and_then, option_map, refl, sym, ap, subst, ◌∙◌, arith}
-use Rattle.std.proofs.lemmas.Bool.{not-false, or_parts}
-use Rattle.std.proofs.lemmas.Bool.Decides.{nat_tests}
+use Rattle.std.proofs.Common.{◌≡◌, ◌≢◌, inl, inr, ℕ, true, false, not, ◌||◌, List, [], Option, Some, None, is_some, option_and_then, option_map, refl, sym, ap, subst, ◌∙◌}
 use Rattle.rules.proofs.Words.{Change, ClientApproved, ClientCancelled, ClientRejected, Contact, Deletion, Domain, domain_seen}
 use Rattle.rules.proofs.Words.{domain_sponsor, ended, Full, FullDomain, get, RequestedName, holds_of, is_pending, is_pending_state, name_of}
 use Rattle.rules.proofs.Words.{PolicyRules, Registry, Request, requested, Transfer, TransferOp, TransferState}
-use Rattle.facts.specs.Facts.{contact_seen}
-use Rattle.lifecycle.specs.Transfers.{is_locked}
-use Rattle.objects.specs.declared.status.Status.TheVariants.{PendingDelete, PendingTransfer}
-use Rattle.protocol.specs.declared.command.Request.TheVariants.{TransferContact, TransferDomain}
+use Rattle.rules.proofs.Words.{charge_of, contact_seen, eqb-false, is_locked, not-false, or_parts, PendingDelete}
+use Rattle.rules.proofs.Words.{PendingTransfer, transfer_after, TransferContact, TransferDomain, unrefused}
 use Rattle.protocol.specs.declared.transfer.TransferOp.TheVariants as ops
 use Rattle.rules.specs.Transfers.{contact_transfer_changes, contact_transferred, contact_transferred_if, domain_transfer_changes, domain_transferred, domain_transferred_if}
 use Rattle.rules.proofs.CommandLemmas.{Covers, DomainSight, IsTaken, known, owned, where-contact, where-domain}
 use Rattle.verdict.specs.declared.rules.Condition.TheVariants as conditions
-use Rattle.verdict.specs.Charges.{charge_of}
 use Rattle.verdict.specs.Conditions.{domain_in_full, domain_seen_shows, domain_transfer, is_own, is_shown, last_seen}
-use Rattle.verdict.specs.Transfers.{transfer_after}
-use Rattle.verdict.proofs.RowLemmas.{unrefused}
 
 -- ---- a domain that can be asked for
 
@@ -30,12 +23,6 @@ pub record IsAskable (p : PolicyRules) (r t : ℕ) (d : Domain) : Type 0 where
 none-is : (o : Option Deletion) → is_some o ≡ false → o ≡ None
 none-is None e = refl
 none-is (Some x) e = absurd (let never : true ≡ false = e in cc)
-
-not-equal : (a b : ℕ) → (b == a) ≡ false → a ≢ b
-not-equal a b e same = let never : true ≡ false = sym (eqb-itself a) ∙ ap (λ (n : ℕ). n == a) same ∙ e in absurd cc
-  where
-    eqb-itself : (n : ℕ) → (n == n) ≡ true
-    eqb-itself n = grind (arith, nat_tests)
 
 -- a transfer that is pending is there
 pub pending-is : (o : Option Transfer) (A : Type 0) → is_pending o ≡ true → ((y : Transfer) → o ≡ Some y → is_pending_state y.state ≡ true → A) → A
@@ -70,7 +57,7 @@ module _ (p : PolicyRules) (r : ℕ) (cl_trid : Option (List ℕ)) (s : Registry
   askable full e taken =
       let free = unrefused p r s.clock (asks ops.Request) (known p r cl_trid s (asks ops.Request)) taken in
       record {
-        other = not-equal r full.domain.sponsor (sym (ap (λ (o : DomainSight). holds_of (is_own domain_sponsor r) o) e) ∙ free conditions.IsOwn (search (inl, inr) depth 20));
+        other = λ same. eqb-false full.domain.sponsor r (sym (ap (λ (o : DomainSight). holds_of (is_own domain_sponsor r) o) e) ∙ free conditions.IsOwn (search (inl, inr) depth 20)) (sym same);
         over = (or_parts (domain_seen_shows (Full full) PendingTransfer) false
             (sym (ap (λ (o : DomainSight). is_shown domain_seen_shows PendingTransfer o || false) e) ∙ free conditions.IsPending (search (inl, inr) depth 20))).0;
         undeleted = none-is full.domain.deletion (or_parts (domain_seen_shows (Full full) PendingDelete) false
@@ -121,14 +108,11 @@ module _ (p : PolicyRules) (r : ℕ) (cl_trid : Option (List ℕ)) (s : Registry
     (cancelled : (c : Contact) → get s.contacts name ≡ Some c → (y : Transfer) → c.transfer ≡ Some y → P (contact_transferred s.clock ops.Cancel (ended ClientCancelled s.clock y) c)) where
   after-op : (op : TransferOp) (c : Contact) → get s.contacts name ≡ Some c → (last : Option Transfer) → c.transfer ≡ last → P (contact_transferred_if s.clock op (transfer_after p r s.clock op c.sponsor last) c)
   after-op ops.Request c at last is = asked c at
-  after-op ops.Query c at None is = none
-  after-op ops.Query c at (Some y) is = none
-  after-op ops.Approve c at None is = none
   after-op ops.Approve c at (Some y) is = approved c at y is
-  after-op ops.Reject c at None is = none
   after-op ops.Reject c at (Some y) is = rejected c at y is
-  after-op ops.Cancel c at None is = none
   after-op ops.Cancel c at (Some y) is = cancelled c at y is
+  after-op ops.Query c at (Some y) is = none
+  after-op op c at last is = none
 
   pub contact-cases : (op : TransferOp) → P (contact_transfer_changes p r s.clock op (contact_seen (known p r cl_trid s (TransferContact name op secret)) name))
   contact-cases op = where-contact p r cl_trid s (TransferContact name op secret) (λ seen. P (contact_transfer_changes p r s.clock op seen)) name refl none (λ face x. none) (λ face. none) (λ c at. after-op op c at c.transfer refl)

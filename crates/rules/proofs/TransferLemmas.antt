@@ -1,36 +1,56 @@
 -- What the changes of transfers leave: graces that no one else sees, and a face that can be told by who
 -- hands a domain over.
-use Rattle.std.proofs.Common.{◌≡◌, ◌≢◌, inl, inr, ℕ, Bool, true, false, cond, not, ◌&&◌, ◌||◌, map, List, [], ◌∷◌, Option, Some, None, is_some, refl, sym, ap, ◌∙◌}
-use Rattle.std.proofs.lemmas.Bool.{and_parts}
+use Rattle.std.proofs.Common.{◌≡◌, ◌≢◌, inl, inr, ℕ, Bool, true, false, cond, not, ◌&&◌, ◌||◌, map, List, [], ◌∷◌, Option, Some, None, is_some, refl, sym, ap, ◌∙◌, ⊎_elim}
+use Rattle.std.proofs.Common.{option_map}
 use Rattle.rules.proofs.Words.{Account, account_of, changed, ClientApproved, Domain, ended, entered, eq_by_cmp, gained, get, Post}
 use Rattle.rules.proofs.Words.{graces_of, handed_over, is_for_transfer, is_kind, is_on, is_pending_state, is_same_roid, IsSound, Lapse}
 use Rattle.rules.proofs.Words.{Line, LineKind, list_any, MeetsStandards, nat_cmp, PolicyRules, PutDomain, RefundTransfer, Registry, remade}
 use Rattle.rules.proofs.Words.{Roid, Start, start-elsewhere, start-stays, Transfer, transfer_refunded, transfer_started, TransferStart}
-use Rattle.rules.proofs.Words.{waits, with_account, with_command}
+use Rattle.rules.proofs.Words.{waits, with_account, with_command, domain_sight, eq_by_cmp_equiv, nat_cmp_total}
+use Rattle.rules.proofs.Words.{nat_list_cmp_total, slice_cmp, standing_of, view, account_changed, and_parts, and_right}
+use Rattle.rules.proofs.Words.{any-bag_of, cases_Bool, cond_both, false_from_ne_true, get-map_values, gives, graces}
+use Rattle.rules.proofs.Words.{in_order, names_apart, period_of, runs_from, same-roids, TransferRefund, unasked}
 use Rattle.accounts.specs.declared.line.LineKind.TheVariants as kinds
-use Rattle.accounts.specs.declared.line.TransferRefund.{TransferRefund}
-use Rattle.accounts.specs.LineChanges.{unasked}
-use Rattle.accounts.specs.Lines.{in_order}
-use Rattle.accounts.proofs.LineLaws.{same-roids}
-use Rattle.basis.proofs.BagLaws.{any-bag_of}
-use Rattle.lifecycle.specs.Changes.{changed as account_changed}
-use Rattle.lifecycle.specs.Graces.{gives, graces, period_of, runs_from}
 use Rattle.rules.proofs.HandedOver.{graces-handed-over, transfer_alone}
-use Rattle.rules.proofs.LineEntryLemmas.{AsksFor, test-elsewhere}
+use Rattle.rules.proofs.Lemmas.{AsksFor, graces-seen, graces_kept, graces_put, sponsor-seen, test-elsewhere}
 use Rattle.rules.proofs.ViewLemmas.{KeepsGraces, Meets, account_of-with_account, lines-kept, own, same_number}
-use Rattle.rules.proofs.PutLemmas.{eq-self, kept-at, put-by}
 
--- ---- graces that a posting_change leaves
+-- ---- the graces of a domain that is put can be told from what is seen
+
+pub eq-self : (a : ℕ) → eq_by_cmp nat_cmp a a ≡ true
+eq-self a = (eq_by_cmp_equiv nat_cmp_total).refl a
+
+-- ---- a domain that is put
+
+module _ (p : PolicyRules) (r : ℕ) (s : Registry) where
+  -- the registrar's own has the graces of its lines
+  pub put-own : (d : Domain) → eq_by_cmp nat_cmp d.sponsor r ≡ true → graces_of p s d ≡ graces_put p r d (view p r s)
+  put-own d e =
+      ap (λ (k : ℕ). graces p s.clock d.roid d.transferred (account_of k s).lines) (same_number d.sponsor r e)
+      ∙ sym (ap (λ (b : Bool). cond b (graces p s.clock d.roid d.transferred (account_of r s).lines) (graces_kept d.sponsor (get (view p r s).domains d.name))) e)
+
+  -- another's has those that were seen, where this was its sponsor before
+  pub kept-at : (sponsor : ℕ) (name : List ℕ) (before : Domain) → get s.domains name ≡ Some before
+      → graces_kept sponsor (get (view p r s).domains name) ≡ cond (eq_by_cmp nat_cmp before.sponsor sponsor) (graces_of p s before) transfer_alone
+  kept-at sponsor name before found =
+      ap (graces_kept sponsor) (get-map_values (slice_cmp nat_cmp) nat_list_cmp_total names_apart (λ name. domain_sight p r s None) s.domains name ∙ ap (option_map (domain_sight p r s None)) found)
+      ∙ (λ i. cond (eq_by_cmp nat_cmp (sponsor-seen r None (standing_of p s before) before i) sponsor) (graces-seen r None (standing_of p s before) before i) transfer_alone)
+
+  pub put-by : (d : Domain) (b : Bool) → eq_by_cmp nat_cmp d.sponsor r ≡ b → (b ≡ false → graces_of p s d ≡ graces_kept d.sponsor (get (view p r s).domains d.name)) → graces_of p s d ≡ graces_put p r d (view p r s)
+  put-by d true e h = put-own d e
+  put-by d false e h = h refl ∙ sym (ap (λ (b : Bool). cond b (graces p s.clock d.roid d.transferred (account_of r s).lines) (graces_kept d.sponsor (get (view p r s).domains d.name))) e)
+
+  -- one whose sponsor, ROID and last completed transfer stay has the graces that were seen
+  pub put-again : (before d : Domain) → get s.domains d.name ≡ Some before → d.sponsor ≡ before.sponsor → graces_of p s d ≡ graces_of p s before → graces_of p s d ≡ graces_put p r d (view p r s)
+  put-again before d found sponsor alike = put-by d (eq_by_cmp nat_cmp d.sponsor r) refl (λ not_own.
+      alike ∙ sym (kept-at d.sponsor d.name before found
+      ∙ ap (λ (b : Bool). cond b (graces_of p s before) transfer_alone) (ap (λ (k : ℕ). eq_by_cmp nat_cmp before.sponsor k) sponsor ∙ eq-self before.sponsor)))
+
+-- ---- graces that a posting leaves
 
 none-of : (o : Option ℕ) → not (is_some o) ≡ true → o ≡ None
 none-of None e = refl
 none-of (Some m) e = absurd (let never : false ≡ true = e in cc)
-
-no-grace : (k o n : Bool) → (k && (o && (n && false))) ≡ false
-no-grace true true true = refl
-no-grace true true false = refl
-no-grace true false n = refl
-no-grace false o n = refl
 
 any-map : {A : Type 0} (test : A → Bool) (f : A → A) → ((x : A) → test (f x) ≡ test x) → (xs : List A) → list_any test (map f xs) ≡ list_any test xs
 any-map test f same [] = refl
@@ -44,16 +64,14 @@ module _ (p : PolicyRules) (t : ℕ) (roid : Roid) (since : Option ℕ) where
   begun-not : (kind : LineKind) (l : Line) → l.started ≡ None → gives_now kind l ≡ false
   begun-not kind l e =
       ap (λ (started : Option ℕ). is_kind l.kind kind && (is_on roid l && (not (is_some l.refunded) && runs_from p t since started (period_of l.kind)))) e
-      ∙ no-grace (is_kind l.kind kind) (is_on roid l) (not (is_some l.refunded))
+      ∙ and_right (is_kind l.kind kind) _ (and_right (is_on roid l) _ (and_right (not (is_some l.refunded)) false refl))
 
   refund-same : (x : TransferRefund) (kind : LineKind) (l : Line) → gives_now kind (transfer_refunded x l) ≡ gives_now kind l
-  refund-same x kind l = by (waits x.roid l) refl
-    where
-      by : (b : Bool) → waits x.roid l ≡ b → gives_now kind (cond b (record l { refunded = Some x.moment }) l) ≡ gives_now kind l
-      by true w =
-          let none : l.started ≡ None = none-of l.started (and_parts (is_for_transfer x.roid l) (not (is_some l.started)) w).1 in
-          begun-not kind (record l { refunded = Some x.moment }) none ∙ sym (begun-not kind l none)
-      by false w = refl
+  refund-same x kind l = cond_both (waits x.roid l) (record l { refunded = Some x.moment }) l (λ m. gives_now kind m ≡ gives_now kind l)
+      (λ w.
+      let none : l.started ≡ None = none-of l.started (and_parts (is_for_transfer x.roid l) (not (is_some l.started)) w).1 in
+      begun-not kind (record l { refunded = Some x.moment }) none ∙ sym (begun-not kind l none))
+      (λ w. refl)
 
   asks-for : (kind : LineKind) → AsksFor roid (gives_now kind)
   asks-for kind l off = unasked (is_kind l.kind kind) (is_on roid l) (not (is_some l.refunded) && runs_from p t since l.started (period_of l.kind)) off
@@ -85,11 +103,7 @@ refund-keeps p q x s = λ name d at own. graces-refunded p s.clock d.roid d.tran
 -- ---- a domain that is handed over, as its last sponsor sees it
 
 not-same : (a b : ℕ) → a ≢ b → eq_by_cmp nat_cmp a b ≡ false
-not-same a b apart = by (eq_by_cmp nat_cmp a b) refl
-  where
-    by : (c : Bool) → eq_by_cmp nat_cmp a b ≡ c → eq_by_cmp nat_cmp a b ≡ false
-    by true e = absurd (apart (same_number a b e))
-    by false e = e
+not-same a b apart = false_from_ne_true (eq_by_cmp nat_cmp a b) (λ e. apart (same_number a b e))
 
 module _ (p : PolicyRules) (sound : IsSound p) (r : ℕ) (s : Registry) (is : MeetsStandards p s) (name : List ℕ) (d : Domain) (at : get s.domains name ≡ Some d)
     (y : Transfer) (last : d.transfer ≡ Some y) (pending : is_pending_state y.state ≡ true) (sponsored : r ≡ d.sponsor) where
@@ -117,24 +131,19 @@ module _ (p : PolicyRules) (sound : IsSound p) (r : ℕ) (s : Registry) (is : Me
 
   -- the requester's other domains have the graces that they had
   start-keeps : y.requester ≢ d.sponsor → KeepsGraces p y.requester (account_changed p (Lapse (Start start))) counted
-  start-keeps other n e found own = by (is_same_roid d.roid e.roid) refl
-    where
-      by : (b : Bool) → is_same_roid d.roid e.roid ≡ b
-          → graces p s.clock e.roid e.transferred (remade in_order (transfer_started start) (account_of y.requester counted).lines) ≡ graces p s.clock e.roid e.transferred (account_of y.requester counted).lines
-      by true same =
-          let one : n ≡ name = is.identities.domain_roids n name e d found at (sym (same-roids d.roid e.roid same)) in
-          let alike : Some e ≡ Some d = sym found ∙ ap (get s.domains) one ∙ at in
-          let it : e ≡ d = cc in
-          absurd (other (sym own ∙ ap (λ (z : Domain). z.sponsor) it))
-      by false apart = graces-elsewhere p s.clock e.roid e.transferred start apart (account_of y.requester counted).lines
+  start-keeps other n e found own = ⊎_elim
+      (λ same.
+      let one : n ≡ name = is.identities.domain_roids n name e d found at (sym (same-roids d.roid e.roid same)) in
+      let alike : Some e ≡ Some d = sym found ∙ ap (get s.domains) one ∙ at in
+      let it : e ≡ d = cc in
+      absurd (other (sym own ∙ ap (λ (z : Domain). z.sponsor) it)))
+      (λ apart. graces-elsewhere p s.clock e.roid e.transferred start apart (account_of y.requester counted).lines)
+      (cases_Bool (is_same_roid d.roid e.roid))
 
   -- a requester that approves it sees its own account
   pub start-meets : Meets p r (Post y.requester (Lapse (Start start))) counted
-  start-meets = by (eq_by_cmp nat_cmp y.requester r) refl
-    where
-      by : (b : Bool) → eq_by_cmp nat_cmp y.requester r ≡ b → Meets p r (Post y.requester (Lapse (Start start))) counted
-      by true same = inl (same_number y.requester r same)
-      by false apart = inr (start-keeps (other-sponsor apart))
+  start-meets = ⊎_elim (λ same. inl (same_number y.requester r same)) (λ apart. inr (start-keeps (other-sponsor apart)))
+      (cases_Bool (eq_by_cmp nat_cmp y.requester r))
 
   -- the registry once the grace of the transfer has begun
   abbrev begun : Registry

@@ -1,7 +1,5 @@
 -- The facts of a command lie in the view, and each change is seen by the view alone.
 use Rattle.std.proofs.Common.{◌≡◌, ◌⊎◌, ⊎_elim, ℕ, ◌≤◌, ◌+◌, ◌==◌, suc, Bool, true, false, cond, List, [], ◌∷◌, map, filter, length, Option, Some, None, refl, sym, ap, subst, ◌∙◌, arith}
-use Rattle.std.specs.Prelude.{◌||◌, is_some, option_map, unwrap_or}
-use Rattle.std.specs.FinMap.{keys, values, same_map}
 use Rattle.rules.proofs.Words.{Account, account_of, Change, changed, changed_all, Command, Contact, contact_as, Domain, domain_sight}
 use Rattle.rules.proofs.Words.{DomainFace, DropContact, DropDomain, DropHost, entries, eq_by_cmp, eq_by_cmp_equiv, Equal-is, facts, FinMap}
 use Rattle.rules.proofs.Words.{FullDomain, get, get-insert, Post, Graces, graces_of, insert, is_below, is_party, LapseContact, LapseDomain}
@@ -9,23 +7,15 @@ use Rattle.rules.proofs.Words.{Line, Links, list_any, lookups, map_values, MoveC
 use Rattle.rules.proofs.Words.{nat_cmp-IsAntisymmetric, nat_cmp_total, nat_list_cmp_total, OpenAccount, PolicyRules, presented, PutContact}
 use Rattle.rules.proofs.Words.{PutDomain, PutHost, refund_at, Registry, remove, RenameHost, Seen, slice_cmp, standing_of}
 use Rattle.rules.proofs.Words.{superordinate_of_domain, view, with_account, with_host_renamed, with_serial}
-use Rattle.accounts.specs.Account.{empty_account}
-use Rattle.lifecycle.specs.Changes.{changed as account_changed}
+use Rattle.rules.proofs.Words.{account_changed, cond_both, ContactFace, domain_as, empty_account, facts_by, given_back}
+use Rattle.rules.proofs.Words.{graces, held, is_some, keys, links_seen, Lookups, option_map, phase, presented_contact}
+use Rattle.rules.proofs.Words.{same_map, Standing, subordinate, unwrap_or, values, ◌||◌}
 use Rattle.basis.proofs.MapLemmas.{names_apart, entries-map_values, get-map_values, map_values-insert, map_values-remove, map_values-twice, map-twice}
-use Rattle.objects.specs.declared.contact.ContactFace.{ContactFace}
-use Rattle.objects.specs.declared.grace.Standing.{Standing}
 use Rattle.objects.specs.Graces.{no_graces}
-use Rattle.objects.specs.Links.{links_seen}
-use Rattle.objects.specs.Sight.{domain_as}
 use Rattle.rules.specs.Changes.{itself}
-use Rattle.rules.proofs.FitLemmas.{AllFit}
+use Rattle.rules.proofs.GrowthLemmas.{AllFit}
 use Rattle.rules.proofs.HandedOver.{transfer_alone}
 use Rattle.rules.proofs.SightLemmas.{domain_again, forget, forget-domain, forget-contact, graces_seen, holds_seen, holds-seen, links-seen, Regrace, regraced, regraced-seen, relinked_seen, seen-relinked, sponsor_seen, superordinate_seen, superordinate-seen}
-use Rattle.facts.specs.Facts.{Lookups, facts_by, held, subordinate}
-use Rattle.protocol.specs.Requests.{presented_contact}
-use Rattle.lifecycle.specs.Graces.{graces}
-use Rattle.lifecycle.specs.Phases.{phase}
-use Rattle.lifecycle.specs.Refunds.{given_back}
 use Rattle.model.specs.View.{View, Secrets, view_for, view_with, secrets_of}
 
 -- ---- the facts lie in the view
@@ -161,7 +151,6 @@ abbrev with_seen_account : PolicyRules → ℕ → Account → View → View
 with_seen_account p r a v = record v { account = a; domains = map_values (λ name. regraced (own_graces p r v.clock a.lines)) v.domains }
 
 seen_change : PolicyRules → ℕ → Change → View → View
-seen_change p r (MoveClock t) v = v
 seen_change p r (OpenAccount other) v = record v { account = own r other itself v.account }
 seen_change p r (PutContact c) v = record v { contacts = insert v.contacts c.name (contact_as r None c) }
 seen_change p r (DropContact name) v = record v { contacts = remove v.contacts name }
@@ -170,9 +159,8 @@ seen_change p r (DropDomain name) v = record v { domains = remove v.domains name
 seen_change p r (PutHost h) v = record v { hosts = insert v.hosts h.name h }
 seen_change p r (DropHost name) v = record v { hosts = remove v.hosts name }
 seen_change p r (RenameHost old new) v = record v { domains = map_values (λ name. relinked_seen old new) v.domains }
-seen_change p r (LapseContact name left) v = v
-seen_change p r (LapseDomain name left) v = v
 seen_change p r (Post other what) v = with_seen_account p r (own r other (account_changed p what) v.account) v
+seen_change p r _ v = v
 
 found-or : (b : Bool) (x d : Account) (o : Option Account) → unwrap_or (cond b (Some x) o) d ≡ cond b x (unwrap_or o d)
 found-or true x d o = refl
@@ -191,11 +179,8 @@ account_of-with_account r other f s =
 
 -- what holds of each account, and of one once it is changed, holds of each afterwards
 pub account-keep : (P : Account → Type 0) (s : Registry) (r : ℕ) (f : Account → Account) (q : ℕ) → (r ≡ q → P (account_of q s) → P (f (account_of q s))) → P (account_of q s) → P (account_of q (with_account r f s))
-account-keep P s r f q keeps h = subst P (sym (account_of-with_account q r f s)) (by (eq_by_cmp nat_cmp q r) refl)
-  where
-    by : (b : Bool) → eq_by_cmp nat_cmp q r ≡ b → P (cond b (f (account_of q s)) (account_of q s))
-    by true own = keeps (sym (nat_cmp-IsAntisymmetric q r ((Equal-is (nat_cmp q r)).0 own))) h
-    by false other = h
+account-keep P s r f q keeps h = subst P (sym (account_of-with_account q r f s))
+    (cond_both (eq_by_cmp nat_cmp q r) (f (account_of q s)) (account_of q s) P (λ own. keeps (sym (nat_cmp-IsAntisymmetric q r ((Equal-is (nat_cmp q r)).0 own))) h) (λ other. h))
 
 -- the account itself
 pub own-account : (r : ℕ) (f : Account → Account) (s : Registry) → account_of r (with_account r f s) ≡ f (account_of r s)
@@ -203,11 +188,8 @@ own-account r f s = account_of-with_account r r f s ∙ ap (λ (b : Bool). cond 
 
 -- taking a serial lowers none
 pub serial-rises : (a : Account) → a.serial ≤ (with_serial a).serial
-serial-rises a = by (a.serial == 0xFFFF_FFFF_FFFF_FFFF)
-  where
-    by : (b : Bool) → a.serial ≤ cond b a.serial (a.serial + 1)
-    by true = omega arith
-    by false = omega arith
+serial-rises a = cond_both (a.serial == 0xFFFF_FFFF_FFFF_FFFF) a.serial (a.serial + 1) (λ n. a.serial ≤ n)
+    (λ e. omega arith) (λ e. omega arith)
 
 -- ---- an account whose lines stay
 
@@ -261,11 +243,9 @@ module _ (p : PolicyRules) (r q : ℕ) (f : Account → Account) (s : Registry) 
       by false e = refl
 
   graces-given : (name : List ℕ) (d : Domain) → get s.domains name ≡ Some d → graces_of p given d ≡ own_graces p r s.clock own_after.lines d.sponsor d.roid d.transferred (graces_of p s d)
-  graces-given name d at = by (eq_by_cmp nat_cmp d.sponsor r) refl
-    where
-      by : (b : Bool) → eq_by_cmp nat_cmp d.sponsor r ≡ b → graces_of p given d ≡ cond b (graces p s.clock d.roid d.transferred own_after.lines) (graces_of p s d)
-      by true e = ap (λ (k : ℕ). graces p s.clock d.roid d.transferred (account_of k given).lines) (same_number d.sponsor r e) ∙ ap (λ (a : Account). graces p s.clock d.roid d.transferred a.lines) (account_of-with_account r q f s)
-      by false e = graces-of-another name d at e
+  graces-given name d at = cond_both (eq_by_cmp nat_cmp d.sponsor r) (graces p s.clock d.roid d.transferred own_after.lines) (graces_of p s d) (λ g. graces_of p given d ≡ g)
+      (λ e. ap (λ (k : ℕ). graces p s.clock d.roid d.transferred (account_of k given).lines) (same_number d.sponsor r e) ∙ ap (λ (a : Account). graces p s.clock d.roid d.transferred a.lines) (account_of-with_account r q f s))
+      (graces-of-another name d at)
 
   sight-given : (name : List ℕ) (d : Domain) → get s.domains name ≡ Some d → domain_sight p r given None d ≡ regraced (own_graces p r s.clock own_after.lines) (domain_sight p r s None d)
   sight-given name d at =
@@ -309,8 +289,6 @@ view-changed p r (OpenAccount other) s meets = view-account p r other itself (λ
 view-changed p r (PutContact c) s meets = ap (λ m. record (view p r s) { contacts = m }) (map_values-insert (slice_cmp nat_cmp) nat_list_cmp_total names_apart (λ name. contact_as r None) s.contacts c.name c)
 view-changed p r (DropContact name) s meets = ap (λ m. record (view p r s) { contacts = m }) (map_values-remove (slice_cmp nat_cmp) nat_list_cmp_total names_apart (λ name. contact_as r None) s.contacts name)
 view-changed p r (DropDomain name) s meets = ap (λ (m : FinMap (slice_cmp nat_cmp) (Seen FullDomain DomainFace)). record (view p r s) { domains = m }) (map_values-remove (slice_cmp nat_cmp) nat_list_cmp_total names_apart (λ name. domain_sight p r s None) s.domains name)
-view-changed p r (PutHost h) s meets = refl
-view-changed p r (DropHost name) s meets = refl
 view-changed p r (RenameHost old new) s meets = ap (λ m. record (view p r s) { domains = m }) (relinked-view p r s old new s.domains)
 view-changed p r (PutDomain d) s meets =
     ap (λ (m : FinMap (slice_cmp nat_cmp) (Seen FullDomain DomainFace)). record (view p r s) { domains = m })
@@ -319,6 +297,7 @@ view-changed p r (PutDomain d) s meets =
 view-changed p r (LapseContact name left) s meets = absurd meets
 view-changed p r (LapseDomain name left) s meets = absurd meets
 view-changed p r (Post other what) s meets = view-given p r other (account_changed p what) s meets
+view-changed p r _ s meets = refl
 
 -- each of the changes meets it when its turn comes
 abbrev pub AllMeet : PolicyRules → ℕ → List Change → Registry → Type 0

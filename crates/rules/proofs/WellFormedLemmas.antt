@@ -1,32 +1,55 @@
 -- Each step of the rules keeps a registry well formed, in its objects.
 use Rattle.std.proofs.Common.{◌≡◌, ◌≢◌, ℕ, ◌<◌, ◌≤◌, Bool, true, false, List, Option, Some, None, IsSome, is_some, option_map, refl, sym, ap, ◌∙◌, arith}
+use Rattle.std.proofs.Common.{◌+◌, ◌-◌, ◌==◌, nat_eq, ◌&&◌, ◌∷◌, ◌++◌, drop, length, get_or, slice_index, subst}
+use Rattle.std.proofs.Math.Seq.{drop-append-add, get_or-append_seam}
+use Rattle.std.proofs.lemmas.Cmp.{nat_list_eq_equiv}
 use Rattle.rules.proofs.Words.{account_of, Asked, Bad, changed, changed_all, charge_line, ClientApproved, ClientCancelled, ClientRejected}
 use Rattle.rules.proofs.Words.{Command, Contact, deleted_domain, Deletion, Domain, DomainUpdate, effect, ended, get, HasObjects, Host}
 use Rattle.rules.proofs.Words.{is_below, IsDeletion, IsRegistrar, IsSound, IsTransfer, last_clock, name_of, names_contact, names_host}
 use Rattle.rules.proofs.Words.{Order, order_effect, ordered, PolicyRules, PutContact, PutDomain, refund_at, Registry, renewed_domain}
 use Rattle.rules.proofs.Words.{Request, requested, restored_domain, restoring_domain, superordinate_of, Transfer, updated_domain}
-use Rattle.rules.proofs.Words.{with_account, with_command, with_lines}
-use Rattle.accounts.specs.Lines.{in_order}
+use Rattle.rules.proofs.Words.{with_account, with_command, with_lines, ZoneRules, add, changes_after, ContactUpdate}
+use Rattle.rules.proofs.Words.{deposit_line, ends_with, in_order, length-append, lt-ltb, pointwise, RunningRefund}
+use Rattle.rules.proofs.Words.{transfer_line, updated_contact, with_acked, with_running_refunded}
 use Rattle.accounts.specs.declared.line.LineKind.TheVariants as lines
-use Rattle.basis.specs.Bag.{add}
-use Rattle.lifecycle.specs.declared.change.RunningRefund.{RunningRefund}
-use Rattle.lifecycle.specs.Changes.{with_acked, with_running_refunded}
-use Rattle.protocol.specs.declared.command.ContactUpdate.{ContactUpdate}
 use Rattle.protocol.specs.declared.command.Request.TheVariants as requests
-use Rattle.rules.specs.Decisions.{changes_after, updated_contact}
-use Rattle.rules.specs.Orders.{deposit_line}
-use Rattle.rules.specs.Transfers.{transfer_line}
-use Rattle.rules.proofs.BelowLemmas.{below-superordinate_of}
-use Rattle.rules.proofs.CommandCases.{CommandCases, IsDeletable, IsUpdateOf, host_with, request-cases}
-use Rattle.rules.proofs.CommandLemmas.{known}
+use Rattle.rules.proofs.Lemmas.{CommandCases, drop-contact, drop-domain, drop-host, host_with, is-there, IsDeletable}
+use Rattle.rules.proofs.Lemmas.{IsUpdateOf, kept-account, known, name-fails, order-cases, OrderCases, rename-host}
+use Rattle.rules.proofs.Lemmas.{request-cases, same-domain, updated-contacts, updated-hosts, value-fails}
 use Rattle.rules.proofs.CreationLemmas.{belongs-new, kept-charged, kept-counted, kept-new-contact, kept-new-domain, kept-new-host, undeleted-new}
-use Rattle.rules.proofs.GrowthLemmas.{same-domain}
-use Rattle.rules.proofs.KeepingLemmas.{drop-contact, drop-domain, drop-host, kept-account, rename-host}
-use Rattle.rules.proofs.LinkLemmas.{updated-contacts, updated-hosts}
-use Rattle.rules.proofs.NamedLemmas.{is-there, name-fails, value-fails}
-use Rattle.rules.proofs.OrderCases.{OrderCases, order-cases}
-use Rattle.rules.proofs.StandInLemmas.{contact-updated, domain-updated, kept-contact-statuses, kept-domain, kept-domain-statuses, kept-host-statuses, kept-put-contact, kept-put-domain, kept-put-host}
 use Rattle.rules.proofs.TransferKeepingLemmas.{kept-approved, kept-back, kept-contact-over, kept-contact-transfer, kept-domain-transfer, kept-told, last-is, transfer-asked, transfer-ended}
+use Rattle.rules.proofs.TransferKeepingLemmas.{contact-updated, domain-updated, kept-contact-statuses, kept-domain}
+use Rattle.rules.proofs.TransferKeepingLemmas.{kept-domain-statuses, kept-host-statuses, kept-put-contact}
+use Rattle.rules.proofs.TransferKeepingLemmas.{kept-put-domain, kept-put-host}
+use Rattle.names.proofs.SuperordinateLemmas.{spells-superordinate_of}
+
+-- ---- a host in the zone lies below its superordinate domain (RFC 5732, 1.1)
+
+module _ (lower domain : List ℕ) where
+  abbrev host : List ℕ
+  host = lower ++ 46 ∷ domain
+
+  long : length host ≡ length lower + (1 + length domain)
+  long = length-append lower (46 ∷ domain) ∙ omega arith
+
+  ends : ends_with nat_eq host domain ≡ true
+  ends =
+      ap (λ (n : ℕ). pointwise nat_eq domain (drop n host)) (let at : length host - length domain ≡ length lower + 1 = omega (arith, long) in at)
+      ∙ ap (pointwise nat_eq domain) (drop-append-add lower (46 ∷ domain) 1)
+      ∙ nat_list_eq_equiv.refl domain
+
+  dotted : (slice_index host (length host - length domain - 1) == 46) ≡ true
+  dotted =
+      ap (λ (n : ℕ). get_or host n 0 == 46) (let at : length host - length domain - 1 ≡ length lower = omega (arith, long) in at)
+      ∙ ap (λ (b : ℕ). b == 46) (get_or-append_seam lower 46 domain 0)
+
+  lies-below : is_below domain host ≡ true
+  lies-below = λ i. lt-ltb (length domain) (length host) (omega (arith, long)) i && ends i && dotted i
+
+pub below-superordinate_of : (zone : ZoneRules) (host domain : List ℕ) → superordinate_of zone host ≡ Some domain → is_below domain host ≡ true
+below-superordinate_of zone host domain e =
+    let spelled = spells-superordinate_of zone host domain e in
+    subst (λ (h : List ℕ). is_below domain h ≡ true) (sym spelled.1) (lies-below spelled.0 domain)
 
 never : {A : Type 0} → false ≡ true → A
 never e = absurd (let no : false ≡ true = e in cc)
