@@ -3,9 +3,9 @@ use Rattle.std.proofs.Common.{◌≡◌, inl, ℕ, ◌≤◌, ◌+◌, max, Bool
 use Rattle.std.specs.Option.{option_map_or}
 use Rattle.rules.proofs.Words.{account_of, AreApart, Contact, contact_completed, Deletion, Domain, domain_roid, due_by, FinMap, get}
 use Rattle.rules.proofs.Words.{HasObjects, IsContactOf, IsDeletion, IsDomainOf, IsTransfer, lapse_by, lapse_contact, lapsed, leaves, lived}
-use Rattle.rules.proofs.Words.{moved, nat_cmp, nat_list_cmp_total, now, PolicyRules, posted, postings, purge_at, purged, raised, Registry}
+use Rattle.rules.proofs.Words.{moved, nat_cmp, nat_list_cmp_total, PolicyRules, posted, postings, purge_at, purged, raised, Registry}
 use Rattle.rules.proofs.Words.{Roid, slice_cmp, superordinate_of, Transfer, turns, approved, contact_moved}
-use Rattle.rules.proofs.Words.{contact_roid, fold, lapse, Lapsed, lapses-on, left, left-of, names_apart, same_Some}
+use Rattle.rules.proofs.Words.{contact_roid, fold, lapse, Lapsed, left, left-of, names_apart, same_Some}
 use Rattle.basis.specs.Sweeps.{kept}
 use Rattle.basis.proofs.ApartLaws.{get-kept}
 use Rattle.model.specs.Lapse.{accounts_at, contacts_at, domains_at, lapse as lapse_registry}
@@ -175,13 +175,3 @@ kept-lapse p t s le is =
 pub serial-lapsed : (p : PolicyRules) (moment r : ℕ) (s : Registry) → (account_of r (lapsed p moment s)).serial ≡ (account_of r s).serial
 unfolding accounts_at
 serial-lapsed p moment r s = let t : ℕ = max moment s.clock in serial-posted r (postings (λ name. lapse_contact t) (λ name. lapse p t) s) s
-
--- what is due by its own clock is done
-pub kept-now : (p : PolicyRules) (s : Registry) → HasObjects p s → HasObjects p (now p s)
-kept-now p s is = kept-lapse p s.clock s (omega arith) is
-
--- time passes; it is enough that what is kept is well formed by its own clock
-pub kept-lapsed : (p : PolicyRules) (moment : ℕ) (s : Registry) → HasObjects p (now p s) → HasObjects p (lapsed p moment s)
-kept-lapsed p moment s is =
-    let t : ℕ = max moment s.clock in
-    subst (HasObjects p) (lapses-on p s.clock t (omega arith) s) (kept-lapse p t (now p s) (omega arith) is)
