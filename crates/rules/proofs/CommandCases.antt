@@ -174,17 +174,6 @@ module _ (p : PolicyRules) (r : ℕ) (cl_trid : Option (List ℕ)) (s : Registry
     short = (or_parts (are_too_long (asks_of q).adds) _ many).0;
   }
 
-  domain-created : (new : NewDomain) → Took (requests.CreateDomain new) → P (requests.CreateDomain new) (changes_of p r s.clock (requests.CreateDomain new) (facts_for (requests.CreateDomain new)))
-  unfolding changes_of
-  domain-created new taken =
-      let q : Request = requests.CreateDomain new in
-      let names = or_parts (list_any (domain_is_refused p.zone) (domains_asked q)) _ (free q taken conditions.NameIsRefused (inl refl)) in
-      cases.domain_created new
-      (not-false _ (or_parts (domain_is_refused p.zone new.name) false names.0).0)
-      (lists-fit q (free q taken conditions.ListRepeats (search (inl, inr) depth 20)) (free q taken conditions.LeavesTooMany (search (inl, inr) depth 20)))
-      (free q taken conditions.ReferenceIsMissing (search (inl, inr) depth 20))
-      (free q taken conditions.LacksMoney (search (inl, inr) depth 20))
-
   -- a host that is to have a name, by what is known there
   based-by : (name : List ℕ) (it : HostFacts) → it.name ≡ name → it.superordinate ≡ found_above s (last_two_of name) → has_no_superordinate p.zone it ≡ false → superordinate_is_deleted p.zone it ≡ false → IsBased p s name
   based-by name it called above based alive = record {
@@ -192,32 +181,7 @@ module _ (p : PolicyRules) (r : ℕ) (cl_trid : Option (List ℕ)) (s : Registry
     alive = sym (ap₂ (λ (n : List ℕ) (o : Option Superordinate). is_inside p.zone n && holds_of (λ (it : Superordinate). it.is_deleted) o) called above) ∙ alive;
   }
 
-  host-created : (new : NewHost) → Took (requests.CreateHost new) → P (requests.CreateHost new) (changes_of p r s.clock (requests.CreateHost new) (facts_for (requests.CreateHost new)))
-  unfolding changes_of
-  host-created new taken =
-      let q : Request = requests.CreateHost new in
-      let at = host-at p r cl_trid s q new.name refl in
-      let names = or_parts (list_any (domain_is_refused p.zone) (domains_asked q)) _ (free q taken conditions.NameIsRefused (inl refl)) in
-      let hosts = or_parts (any_host_refused p.zone (hosts_asked q)) _ names.1 in
-      cases.host_created new
-      (not-false _ (or_parts (host_is_refused p.zone new.name) false hosts.0).0)
-      (lists-fit q (free q taken conditions.ListRepeats (search (inl, inr) depth 20)) (free q taken conditions.LeavesTooMany (search (inl, inr) depth 20)))
-      (based-by (name_of new.name) (host_facts (lookups p r (Asked cl_trid q) s) (Asked cl_trid q) (name_of new.name)) refl refl
-      (sym (ap (holds_of (has_no_superordinate p.zone)) at) ∙ free q taken conditions.SuperordinateIsMissing (search (inl, inr) depth 20))
-      (sym (ap (holds_of (superordinate_is_deleted p.zone)) at) ∙ free q taken conditions.SuperordinateIsDeleted (search (inl, inr) depth 20)))
-
   -- ---- deletes
-
-  contact-dropped : (name : List ℕ) → Took (requests.DeleteContact name) → P (requests.DeleteContact name) (DropContact name ∷ [])
-  contact-dropped name taken =
-      let q : Request = requests.DeleteContact name in
-      cases.contact_dropped name (sym (ap (holds_of (λ (it : ContactFacts). it.linked)) (contact-at p r cl_trid s q name refl))
-      ∙ (or_parts (contact_is_linked q (facts_for q)) false (free q taken conditions.IsLinked (search (inl, inr) depth 20))).0)
-
-  host-dropped : (name : RequestedName) → Took (requests.DeleteHost name) → P (requests.DeleteHost name) (DropHost (name_of name) ∷ [])
-  host-dropped name taken =
-      let q : Request = requests.DeleteHost name in
-      cases.host_dropped name (sym (ap (holds_of (λ (it : HostFacts). it.linked)) (host-at p r cl_trid s q name refl)) ∙ free q taken conditions.IsLinked (search (inl, inr) depth 20))
 
   module _ (name : RequestedName) (taken : Took (requests.DeleteDomain name)) where
     abbrev deletion : Request
@@ -258,23 +222,6 @@ module _ (p : PolicyRules) (r : ℕ) (cl_trid : Option (List ℕ)) (s : Registry
     domain-deleted = subst (λ (o : Option DomainFacts). P deletion (deletion_at r s.clock o)) (sym it-is) (by-seen it.seen refl)
 
   -- ---- updates
-
-  domain-updated : (u : DomainUpdate) → Took (requests.UpdateDomain u) → P (requests.UpdateDomain u) (domain_changes s.clock u (domain_seen (facts_for (requests.UpdateDomain u)) (name_of u.name)))
-  domain-updated u taken =
-      let q : Request = requests.UpdateDomain u in
-      let none = cases.none q in
-      let has : DomainSight → Bool = λ seen. holds_of (domain_has (of_domain u.add)) (option_and_then domain_in_full seen) in
-      let is_over : DomainSight → Bool = λ seen. holds_of (domain_is_over (of_domain u.rem) (of_domain u.add)) (option_and_then domain_in_full seen) in
-      let many = or_parts (are_too_long (of_domain u.add)) _ (free q taken conditions.LeavesTooMany (search (inl, inr) depth 20)) in
-      where-domain p r cl_trid s q (λ (seen : DomainSight). P q (domain_changes s.clock u seen)) u.name refl none (λ face x. none) (λ face. none) (λ full at e.
-      cases.domain_updated u full.domain
-      (record {
-        at = at;
-        once = (or_parts (list_repeats (of_domain u.add)) (list_repeats (of_domain u.rem)) (free q taken conditions.ListRepeats (search (inl, inr) depth 20))).0;
-        new = sym (ap has e) ∙ (or_parts (has (domain_seen (facts_for q) (name_of u.name))) false (free q taken conditions.AddsWhatIsThere (search (inl, inr) depth 20))).0;
-        few = sym (ap is_over e) ∙ (or_parts (is_over (domain_seen (facts_for q) (name_of u.name))) false many.1).0;
-      })
-      (free q taken conditions.ReferenceIsMissing (search (inl, inr) depth 20)))
 
   module _ (u : HostUpdate) (taken : Took (requests.UpdateHost u)) where
     abbrev update : Request
@@ -330,9 +277,59 @@ module _ (p : PolicyRules) (r : ℕ) (cl_trid : Option (List ℕ)) (s : Registry
       → (b : Bool) → (is_anothers domain_sponsor r (domain_seen (facts_for q) (name_of name)) || b) ≡ false → Covers r s (charge_of p s.clock q (facts_for q)) → IsPayable p r cl_trid s q (name_of name) full.domain
   payable q name full at e b own covered = record { at = at; own = owned r (domain_seen (facts_for q) (name_of name)) full e b own; paid = covered }
 
-  renewed : (name : RequestedName) (expires : List ℕ) (years : ℕ) → let q : Request = requests.RenewDomain name expires years in
-      Took q → P q (renewal_changes p r s.clock q (facts_for q) (domain_seen (facts_for q) (name_of name)))
-  renewed name expires years taken =
+  -- ---- every command
+
+  pub command-cases : (q : Request) → IsTaken p r cl_trid s q → P q (changes_of p r s.clock q (known p r cl_trid s q))
+  unfolding changes_of
+  command-cases (requests.CreateContact new) taken = cases.contact_created new
+  command-cases (requests.CreateDomain new) taken =
+      let q : Request = requests.CreateDomain new in
+      let names = or_parts (list_any (domain_is_refused p.zone) (domains_asked q)) _ (free q taken conditions.NameIsRefused (inl refl)) in
+      cases.domain_created new
+      (not-false _ (or_parts (domain_is_refused p.zone new.name) false names.0).0)
+      (lists-fit q (free q taken conditions.ListRepeats (search (inl, inr) depth 20)) (free q taken conditions.LeavesTooMany (search (inl, inr) depth 20)))
+      (free q taken conditions.ReferenceIsMissing (search (inl, inr) depth 20))
+      (free q taken conditions.LacksMoney (search (inl, inr) depth 20))
+  command-cases (requests.CreateHost new) taken =
+      let q : Request = requests.CreateHost new in
+      let at = host-at p r cl_trid s q new.name refl in
+      let names = or_parts (list_any (domain_is_refused p.zone) (domains_asked q)) _ (free q taken conditions.NameIsRefused (inl refl)) in
+      let hosts = or_parts (any_host_refused p.zone (hosts_asked q)) _ names.1 in
+      cases.host_created new
+      (not-false _ (or_parts (host_is_refused p.zone new.name) false hosts.0).0)
+      (lists-fit q (free q taken conditions.ListRepeats (search (inl, inr) depth 20)) (free q taken conditions.LeavesTooMany (search (inl, inr) depth 20)))
+      (based-by (name_of new.name) (host_facts (lookups p r (Asked cl_trid q) s) (Asked cl_trid q) (name_of new.name)) refl refl
+      (sym (ap (holds_of (has_no_superordinate p.zone)) at) ∙ free q taken conditions.SuperordinateIsMissing (search (inl, inr) depth 20))
+      (sym (ap (holds_of (superordinate_is_deleted p.zone)) at) ∙ free q taken conditions.SuperordinateIsDeleted (search (inl, inr) depth 20)))
+  command-cases (requests.DeleteContact name) taken =
+      let q : Request = requests.DeleteContact name in
+      cases.contact_dropped name (sym (ap (holds_of (λ (it : ContactFacts). it.linked)) (contact-at p r cl_trid s q name refl))
+      ∙ (or_parts (contact_is_linked q (facts_for q)) false (free q taken conditions.IsLinked (search (inl, inr) depth 20))).0)
+  command-cases (requests.DeleteDomain name) taken = domain-deleted name taken
+  command-cases (requests.DeleteHost name) taken =
+      let q : Request = requests.DeleteHost name in
+      cases.host_dropped name (sym (ap (holds_of (λ (it : HostFacts). it.linked)) (host-at p r cl_trid s q name refl)) ∙ free q taken conditions.IsLinked (search (inl, inr) depth 20))
+  command-cases (requests.UpdateContact u) taken =
+      let q : Request = requests.UpdateContact u in
+      let none = cases.none q in
+      where-contact p r cl_trid s q (λ (seen : ContactSight). P q (contact_changes s.clock u seen)) u.name refl none (λ face x. none) (λ face. none) (λ c at. cases.contact_updated u c at)
+  command-cases (requests.UpdateDomain u) taken =
+      let q : Request = requests.UpdateDomain u in
+      let none = cases.none q in
+      let has : DomainSight → Bool = λ seen. holds_of (domain_has (of_domain u.add)) (option_and_then domain_in_full seen) in
+      let is_over : DomainSight → Bool = λ seen. holds_of (domain_is_over (of_domain u.rem) (of_domain u.add)) (option_and_then domain_in_full seen) in
+      let many = or_parts (are_too_long (of_domain u.add)) _ (free q taken conditions.LeavesTooMany (search (inl, inr) depth 20)) in
+      where-domain p r cl_trid s q (λ (seen : DomainSight). P q (domain_changes s.clock u seen)) u.name refl none (λ face x. none) (λ face. none) (λ full at e.
+      cases.domain_updated u full.domain
+      (record {
+        at = at;
+        once = (or_parts (list_repeats (of_domain u.add)) (list_repeats (of_domain u.rem)) (free q taken conditions.ListRepeats (search (inl, inr) depth 20))).0;
+        new = sym (ap has e) ∙ (or_parts (has (domain_seen (facts_for q) (name_of u.name))) false (free q taken conditions.AddsWhatIsThere (search (inl, inr) depth 20))).0;
+        few = sym (ap is_over e) ∙ (or_parts (is_over (domain_seen (facts_for q) (name_of u.name))) false many.1).0;
+      })
+      (free q taken conditions.ReferenceIsMissing (search (inl, inr) depth 20)))
+  command-cases (requests.UpdateHost u) taken = host-updated u taken
+  command-cases (requests.RenewDomain name expires years) taken =
       let q : Request = requests.RenewDomain name expires years in
       let none = cases.none q in
       where-domain p r cl_trid s q (λ (seen : DomainSight). P q (renewal_changes p r s.clock q (facts_for q) seen)) name refl none (λ face x. none) (λ face. none) (λ full at e.
@@ -340,38 +337,16 @@ module _ (p : PolicyRules) (r : ℕ) (cl_trid : Option (List ℕ)) (s : Registry
       (payable q name full at e _ (free q taken conditions.IsAnothers (search (inl, inr) depth 20)) (free q taken conditions.LacksMoney (search (inl, inr) depth 20)))
       (sym (ap (λ (o : DomainSight). holds_of (λ (d : Domain). nat_lt (plus_years s.clock 10) (renewed_expiry years d)) (option_and_then domain_in_full o)) e)
       ∙ free q taken conditions.PassesTenYears (search (inl, inr) depth 20)))
-
-  restored : (name : RequestedName) (del_time res_time : ℕ) → let q : Request = requests.ReportRestore name del_time res_time in
-      Took q → P q (report_changes p r s.clock q (facts_for q) (domain_seen (facts_for q) (name_of name)))
-  restored name del_time res_time taken =
+  command-cases (requests.RequestRestore name) taken =
+      let q : Request = requests.RequestRestore name in
+      let none = cases.none q in
+      where-domain p r cl_trid s q (λ (seen : DomainSight). P q (restore_changes s.clock seen)) name refl none (λ face x. none) (λ face. none) (λ full at e. cases.restoring name full.domain at)
+  command-cases (requests.ReportRestore name del_time res_time) taken =
       let q : Request = requests.ReportRestore name del_time res_time in
       let none = cases.none q in
       where-domain p r cl_trid s q (λ (seen : DomainSight). P q (report_changes p r s.clock q (facts_for q) seen)) name refl none (λ face x. none) (λ face. none) (λ full at e.
       cases.restored name del_time res_time full.domain
       (payable q name full at e _ (free q taken conditions.IsAnothers (search (inl, inr) depth 20)) (free q taken conditions.LacksMoney (search (inl, inr) depth 20))))
-
-  -- ---- every command
-
-  pub command-cases : (q : Request) → IsTaken p r cl_trid s q → P q (changes_of p r s.clock q (known p r cl_trid s q))
-  unfolding changes_of
-  command-cases (requests.CreateContact new) taken = cases.contact_created new
-  command-cases (requests.CreateDomain new) taken = domain-created new taken
-  command-cases (requests.CreateHost new) taken = host-created new taken
-  command-cases (requests.DeleteContact name) taken = contact-dropped name taken
-  command-cases (requests.DeleteDomain name) taken = domain-deleted name taken
-  command-cases (requests.DeleteHost name) taken = host-dropped name taken
-  command-cases (requests.UpdateContact u) taken =
-      let q : Request = requests.UpdateContact u in
-      let none = cases.none q in
-      where-contact p r cl_trid s q (λ (seen : ContactSight). P q (contact_changes s.clock u seen)) u.name refl none (λ face x. none) (λ face. none) (λ c at. cases.contact_updated u c at)
-  command-cases (requests.UpdateDomain u) taken = domain-updated u taken
-  command-cases (requests.UpdateHost u) taken = host-updated u taken
-  command-cases (requests.RenewDomain name expires years) taken = renewed name expires years taken
-  command-cases (requests.RequestRestore name) taken =
-      let q : Request = requests.RequestRestore name in
-      let none = cases.none q in
-      where-domain p r cl_trid s q (λ (seen : DomainSight). P q (restore_changes s.clock seen)) name refl none (λ face x. none) (λ face. none) (λ full at e. cases.restoring name full.domain at)
-  command-cases (requests.ReportRestore name del_time res_time) taken = restored name del_time res_time taken
   command-cases (requests.TransferContact name op secret) taken =
       let q : Request = requests.TransferContact name op secret in
       contact-cases p r cl_trid s name secret (P q) (cases.none q) (cases.contact_asked q name) (cases.contact_approved q name) (cases.contact_rejected q name) (cases.contact_cancelled q name) op

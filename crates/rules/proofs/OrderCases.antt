@@ -27,24 +27,20 @@ placed k n r false e f = absurd cc
 place_of-is : (p : PolicyRules) (id : List ℕ) (r : ℕ) → place_of id p ≡ Some r → IsRegistrar p r
 place_of-is p id r e = placed (position_or_len (has_id id) p.registrars) (length p.registrars) r (nat_lt (position_or_len (has_id id) p.registrars) (length p.registrars)) refl e
 
+-- what holds of nothing, and of what is found, holds
+where-found : {X : Type 0} (Q : Option X → Type 0) → Q None → (found : Option X) → ((x : X) → found ≡ Some x → Q (Some x)) → Q found
+where-found Q none None some = none
+where-found Q none (Some x) some = some x refl
+
 module _ (p : PolicyRules) (s : Registry) (P : List Change → Type 0) (cases : OrderCases p s P) where
-  contact-set : (o : StatusOrder) (name : List ℕ) (found : Option Contact) → get s.contacts name ≡ found → P (order_changes o (option_map objects.Contact found))
-  contact-set o name None at = cases.none
-  contact-set o name (Some c) at = cases.contact_set o name c at
-
-  domain-set : (o : StatusOrder) (name : List ℕ) (found : Option Domain) → get s.domains name ≡ found → P (order_changes o (option_map objects.Domain found))
-  domain-set o name None at = cases.none
-  domain-set o name (Some d) at = cases.domain_set o name d at
-
-  host-set : (o : StatusOrder) (name : List ℕ) (found : Option Host) → get s.hosts name ≡ found → P (order_changes o (option_map objects.Host found))
-  host-set o name None at = cases.none
-  host-set o name (Some h) at = cases.host_set o name h at
-
   set-at : (o : StatusOrder) (kind : ObjectKind) (name : Option (List ℕ)) → P (order_changes o (option_and_then (object_at s kind) name))
   set-at o kind None = cases.none
-  set-at o kinds.Contact (Some name) = contact-set o name (get s.contacts name) refl
-  set-at o kinds.Domain (Some name) = domain-set o name (get s.domains name) refl
-  set-at o kinds.Host (Some name) = host-set o name (get s.hosts name) refl
+  set-at o kinds.Contact (Some name) =
+      where-found (λ found. P (order_changes o (option_map objects.Contact found))) cases.none (get s.contacts name) (cases.contact_set o name)
+  set-at o kinds.Domain (Some name) =
+      where-found (λ found. P (order_changes o (option_map objects.Domain found))) cases.none (get s.domains name) (cases.domain_set o name)
+  set-at o kinds.Host (Some name) =
+      where-found (λ found. P (order_changes o (option_map objects.Host found))) cases.none (get s.hosts name) (cases.host_set o name)
 
   set-where : (o : StatusOrder) (accepted : Bool) → P (cond accepted (order_changes o (object_ordered p.zone o s)) [])
   set-where o true = set-at o o.kind (name_ordered p.zone o)

@@ -162,25 +162,22 @@ seen_change p r (RenameHost old new) v = record v { domains = map_values (λ nam
 seen_change p r (Post other what) v = with_seen_account p r (own r other (account_changed p what) v.account) v
 seen_change p r _ v = v
 
-found-or : (b : Bool) (x d : Account) (o : Option Account) → unwrap_or (cond b (Some x) o) d ≡ cond b x (unwrap_or o d)
-found-or true x d o = refl
-found-or false x d o = refl
-
--- the account that is changed is the registrar's own, or not
-own-or-other : (f : Account → Account) (s : Registry) (r other : ℕ) (b : Bool) → eq_by_cmp nat_cmp r other ≡ b → cond b (f (account_of other s)) (account_of r s) ≡ cond b (f (account_of r s)) (account_of r s)
-own-or-other f s r other true e = ap (λ q. f (account_of q s)) (sym (nat_cmp-IsAntisymmetric r other ((Equal-is (nat_cmp r other)).0 e)))
-own-or-other f s r other false e = refl
+pub same_number : (a b : ℕ) → eq_by_cmp nat_cmp a b ≡ true → a ≡ b
+same_number a b e = nat_cmp-IsAntisymmetric a b ((Equal-is (nat_cmp a b)).0 e)
 
 pub account_of-with_account : (r other : ℕ) (f : Account → Account) (s : Registry) → account_of r (with_account other f s) ≡ own r other f (account_of r s)
 account_of-with_account r other f s =
-    ap (λ o. unwrap_or o empty_account) (get-insert nat_cmp_total s.accounts other (f (account_of other s)) r)
-    ∙ found-or (eq_by_cmp nat_cmp r other) (f (account_of other s)) empty_account (get s.accounts r)
-    ∙ own-or-other f s r other (eq_by_cmp nat_cmp r other) refl
+    ap (λ o. unwrap_or o empty_account) (get-insert nat_cmp_total s.accounts other (f (account_of other s)) r) ∙ by (eq_by_cmp nat_cmp r other) refl
+  where
+    by : (b : Bool) → eq_by_cmp nat_cmp r other ≡ b
+        → unwrap_or (cond b (Some (f (account_of other s))) (get s.accounts r)) empty_account ≡ cond b (f (account_of r s)) (account_of r s)
+    by true e = ap (λ q. f (account_of q s)) (sym (same_number r other e))
+    by false e = refl
 
 -- what holds of each account, and of one once it is changed, holds of each afterwards
 pub account-keep : (P : Account → Type 0) (s : Registry) (r : ℕ) (f : Account → Account) (q : ℕ) → (r ≡ q → P (account_of q s) → P (f (account_of q s))) → P (account_of q s) → P (account_of q (with_account r f s))
 account-keep P s r f q keeps h = subst P (sym (account_of-with_account q r f s))
-    (cond_both (eq_by_cmp nat_cmp q r) (f (account_of q s)) (account_of q s) P (λ own. keeps (sym (nat_cmp-IsAntisymmetric q r ((Equal-is (nat_cmp q r)).0 own))) h) (λ other. h))
+    (cond_both (eq_by_cmp nat_cmp q r) (f (account_of q s)) (account_of q s) P (λ own. keeps (sym (same_number q r own)) h) (λ other. h))
 
 -- the account itself
 pub own-account : (r : ℕ) (f : Account → Account) (s : Registry) → account_of r (with_account r f s) ≡ f (account_of r s)
@@ -205,9 +202,6 @@ module _ (p : PolicyRules) (r q : ℕ) (f : Account → Account) (keeps : (a : A
   view-account = λ i. record (view p r s) { account = account_of-with_account r q f s i; domains = sights-kept i }
 
 -- ---- an account whose lines change: the registrar's own, or one whose lines stay
-
-pub same_number : (a b : ℕ) → eq_by_cmp nat_cmp a b ≡ true → a ≡ b
-same_number a b e = nat_cmp-IsAntisymmetric a b ((Equal-is (nat_cmp a b)).0 e)
 
 -- the graces that an account gives its registrar's domains stay
 abbrev pub KeepsGraces : PolicyRules → ℕ → (Account → Account) → Registry → Type 0
