@@ -218,9 +218,6 @@ module _ (p : PolicyRules) (r : ℕ) (cl_trid : Option (List ℕ)) (s : Registry
     by-seen (Some (Full full)) e = by-phase full e (goes_at_once (Some (Full full)))
     by-seen _ e = cases.none deletion
 
-    domain-deleted : P deletion (deletion_at r s.clock (domain_at (facts_for deletion) (name_of name)))
-    domain-deleted = subst (λ (o : Option DomainFacts). P deletion (deletion_at r s.clock o)) (sym it-is) (by-seen it.seen refl)
-
   -- ---- updates
 
   module _ (u : HostUpdate) (taken : Took (requests.UpdateHost u)) where
@@ -268,9 +265,6 @@ module _ (p : PolicyRules) (r : ℕ) (cl_trid : Option (List ℕ)) (s : Registry
     by-host (Some h) e = by-name h e u.new_name refl (free update taken conditions.NewNameIsTaken (search (inl, inr) depth 20))
         (free update taken conditions.SuperordinateIsMissing (search (inl, inr) depth 20)) (free update taken conditions.SuperordinateIsDeleted (search (inl, inr) depth 20))
 
-    host-updated : P update (host_changes p.zone r s.clock u (host_seen (facts_for update) (name_of u.name)))
-    host-updated = by-host (host_seen (facts_for update) (name_of u.name)) refl
-
   -- ---- what is charged for
 
   payable : (q : Request) (name : RequestedName) (full : FullDomain) → get s.domains (name_of name) ≡ Some full.domain → domain_seen (facts_for q) (name_of name) ≡ Some (Full full)
@@ -305,7 +299,9 @@ module _ (p : PolicyRules) (r : ℕ) (cl_trid : Option (List ℕ)) (s : Registry
       let q : Request = requests.DeleteContact name in
       cases.contact_dropped name (sym (ap (holds_of (λ (it : ContactFacts). it.linked)) (contact-at p r cl_trid s q name refl))
       ∙ (or_parts (contact_is_linked q (facts_for q)) false (free q taken conditions.IsLinked (search (inl, inr) depth 20))).0)
-  command-cases (requests.DeleteDomain name) taken = domain-deleted name taken
+  command-cases (requests.DeleteDomain name) taken =
+      let q : Request = requests.DeleteDomain name in
+      subst (λ (o : Option DomainFacts). P q (deletion_at r s.clock o)) (sym (it-is name taken)) (by-seen name taken (it name taken).seen refl)
   command-cases (requests.DeleteHost name) taken =
       let q : Request = requests.DeleteHost name in
       cases.host_dropped name (sym (ap (holds_of (λ (it : HostFacts). it.linked)) (host-at p r cl_trid s q name refl)) ∙ free q taken conditions.IsLinked (search (inl, inr) depth 20))
@@ -328,7 +324,7 @@ module _ (p : PolicyRules) (r : ℕ) (cl_trid : Option (List ℕ)) (s : Registry
         few = sym (ap is_over e) ∙ (or_parts (is_over (domain_seen (facts_for q) (name_of u.name))) false many.1).0;
       })
       (free q taken conditions.ReferenceIsMissing (search (inl, inr) depth 20)))
-  command-cases (requests.UpdateHost u) taken = host-updated u taken
+  command-cases (requests.UpdateHost u) taken = by-host u taken (host_seen (facts_for (requests.UpdateHost u)) (name_of u.name)) refl
   command-cases (requests.RenewDomain name expires years) taken =
       let q : Request = requests.RenewDomain name expires years in
       let none = cases.none q in

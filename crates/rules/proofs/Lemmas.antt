@@ -7,7 +7,7 @@ pub use Rattle.rules.proofs.LapsedLemmas.{domain-lapsed, domain-left, kept-lapse
 pub use Rattle.rules.proofs.LineEntryLemmas.{AsksFor, begins-asks, keep-posted, Keeps, renewal-by, renewal-waits-not, started-waits-not, test-elsewhere, waits-asks}
 pub use Rattle.rules.proofs.LineKeepingLemmas.{FitsLines, line-grown, lines-keep, lines-stay}
 pub use Rattle.rules.proofs.LinkLemmas.{new-contacts, new-hosts, updated-contacts, updated-hosts}
-pub use Rattle.rules.proofs.NamedLemmas.{drop-cases, is-there, name-fails, put-cases, put-is, value-fails}
+pub use Rattle.rules.proofs.NamedLemmas.{drop-cases, is-there, name-fails, none-is, put-cases, put-is, value-fails}
 pub use Rattle.rules.proofs.OrderCases.{order-cases, OrderCases}
 pub use Rattle.rules.proofs.PostingLemmas.{AllPosted, contact-posted, domain-posted, due-is, postings-posted, serial-posted}
 pub use Rattle.rules.proofs.SightLemmas.{graces-seen, sponsor-seen}

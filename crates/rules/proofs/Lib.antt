@@ -28,6 +28,5 @@ pub mod AcceptedLemmas
 pub mod TransferCases
 pub mod CommandCases
 pub mod OrderCases
-pub mod TransferKeepingLemmas
 pub mod MoneyCommandLemmas
 pub mod MoneyLaws

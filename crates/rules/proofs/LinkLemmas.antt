@@ -16,13 +16,11 @@ use Rattle.rules.specs.Decisions.{new_links, or_old, updated_links}
 pub has_name-filter : (test : List ℕ → Bool) (names : List (List ℕ)) (name : List ℕ) → has_name (filter test names) name ≡ (test name && has_name names name)
 has_name-filter test names name = any-filter_same (λ other. bytes_eq other name) test (test name) (λ other same. ap test ((bytes_decides other name).0 same)) names
 
-or-swapped : (a b c : Bool) → (a || (b || c)) ≡ ((b || a) || c)
-or-swapped a b c = sym (or_assoc a b c) ∙ ap (λ (x : Bool). x || c) (or_comm a b)
-
 any-sorted : {A : Type 0} (le : A → A → Bool) (test : A → Bool) (xs bag : List A) → list_any test (fold (λ bag item. add le item bag) bag xs) ≡ (list_any test xs || list_any test bag)
 any-sorted le test [] bag = refl
 any-sorted le test (x ∷ xs) bag =
-    any-sorted le test xs (add le x bag) ∙ ap (λ (b : Bool). list_any test xs || b) (any-add le test x bag) ∙ or-swapped (list_any test xs) (test x) (list_any test bag)
+    any-sorted le test xs (add le x bag) ∙ ap (λ (b : Bool). list_any test xs || b) (any-add le test x bag)
+    ∙ sym (or_assoc (list_any test xs) (test x) (list_any test bag)) ∙ ap (λ (b : Bool). b || list_any test bag) (or_comm (list_any test xs) (test x))
 
 -- names in order are the same names
 pub has_name-in_order : (names : List (List ℕ)) (name : List ℕ) → has_name (in_order names) name ≡ has_name names name

@@ -5,6 +5,11 @@ use Rattle.rules.proofs.Words.{entries, eq_by_cmp, eq_by_cmp_equiv, Equal-is, Fi
 use Rattle.rules.proofs.Words.{map_values, nat_cmp, nat_cmp-IsAntisymmetric, nat_list_cmp_total, remove, slice_cmp}
 use Rattle.rules.proofs.Words.{cond_both, get-map_values, names_apart, or_parts, same_Some}
 
+-- where no value is, there is none
+pub none-is : {X : Type 0} (o : Option X) → is_some o ≡ false → o ≡ None
+none-is None e = refl
+none-is (Some x) e = absurd (let never : true ≡ false = e in cc)
+
 -- what is some value is there
 pub is-there : {X : Type 0} (o : Option X) (x : X) → o ≡ Some x → IsSome o
 is-there o x e = ap is_some e

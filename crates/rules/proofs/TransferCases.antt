@@ -1,6 +1,6 @@
 -- What is so of an operation on a transfer that isn't refused (RFC 5730, 2.9.3.4).
-use Rattle.std.proofs.Common.{◌≡◌, ◌≢◌, inl, inr, ℕ, true, false, not, ◌||◌, List, [], Option, Some, None, is_some, option_and_then, option_map, refl, sym, ap, subst, ◌∙◌}
-use Rattle.rules.proofs.Words.{Change, ClientApproved, ClientCancelled, ClientRejected, Contact, Deletion, Domain, domain_seen}
+use Rattle.std.proofs.Common.{◌≡◌, ◌≢◌, inl, inr, ℕ, true, false, not, ◌||◌, List, [], Option, Some, None, option_and_then, option_map, refl, sym, ap, subst, ◌∙◌}
+use Rattle.rules.proofs.Words.{Change, ClientApproved, ClientCancelled, ClientRejected, Contact, Domain, domain_seen}
 use Rattle.rules.proofs.Words.{domain_sponsor, ended, Full, FullDomain, get, RequestedName, holds_of, is_pending, is_pending_state, name_of}
 use Rattle.rules.proofs.Words.{PolicyRules, Registry, Request, requested, Transfer, TransferOp, TransferState}
 use Rattle.rules.proofs.Words.{charge_of, contact_seen, eqb-false, is_locked, not-false, or_parts, PendingDelete}
@@ -8,6 +8,7 @@ use Rattle.rules.proofs.Words.{PendingTransfer, transfer_after, TransferContact,
 use Rattle.protocol.specs.declared.transfer.TransferOp.TheVariants as ops
 use Rattle.rules.specs.Transfers.{contact_transfer_changes, contact_transferred, contact_transferred_if, domain_transfer_changes, domain_transferred, domain_transferred_if}
 use Rattle.rules.proofs.CommandLemmas.{Covers, DomainSight, IsTaken, known, owned, where-contact, where-domain}
+use Rattle.rules.proofs.NamedLemmas.{none-is}
 use Rattle.verdict.specs.declared.rules.Condition.TheVariants as conditions
 use Rattle.verdict.specs.Conditions.{domain_in_full, domain_seen_shows, domain_transfer, is_own, is_shown, last_seen}
 
@@ -19,10 +20,6 @@ pub record IsAskable (p : PolicyRules) (r t : ℕ) (d : Domain) : Type 0 where
   pub over : is_pending d.transfer ≡ false
   pub undeleted : d.deletion ≡ None
   pub unlocked : is_locked p t d ≡ false
-
-none-is : (o : Option Deletion) → is_some o ≡ false → o ≡ None
-none-is None e = refl
-none-is (Some x) e = absurd (let never : true ≡ false = e in cc)
 
 -- a transfer that is pending is there
 pub pending-is : (o : Option Transfer) (A : Type 0) → is_pending o ≡ true → ((y : Transfer) → o ≡ Some y → is_pending_state y.state ≡ true → A) → A

@@ -2,6 +2,7 @@
 -- hands a domain over.
 use Rattle.std.proofs.Common.{◌≡◌, ◌≢◌, inl, inr, ℕ, Bool, true, false, cond, not, ◌&&◌, ◌||◌, map, List, [], ◌∷◌, Option, Some, None, is_some, refl, sym, ap, ◌∙◌, ⊎_elim}
 use Rattle.std.proofs.Common.{option_map}
+use Rattle.std.proofs.lemmas.Bool.{not-true}
 use Rattle.rules.proofs.Words.{Account, account_of, changed, ClientApproved, Domain, ended, entered, eq_by_cmp, gained, get, Post}
 use Rattle.rules.proofs.Words.{graces_of, handed_over, is_for_transfer, is_kind, is_on, is_pending_state, is_same_roid, IsSound, Lapse}
 use Rattle.rules.proofs.Words.{Line, LineKind, list_any, MeetsStandards, nat_cmp, PolicyRules, PutDomain, RefundTransfer, Registry, remade}
@@ -12,7 +13,7 @@ use Rattle.rules.proofs.Words.{any-bag_of, cases_Bool, cond_both, false_from_ne_
 use Rattle.rules.proofs.Words.{in_order, names_apart, period_of, runs_from, same-roids, TransferRefund, unasked}
 use Rattle.accounts.specs.declared.line.LineKind.TheVariants as kinds
 use Rattle.rules.proofs.HandedOver.{graces-handed-over, transfer_alone}
-use Rattle.rules.proofs.Lemmas.{AsksFor, graces-seen, graces_kept, graces_put, sponsor-seen, test-elsewhere}
+use Rattle.rules.proofs.Lemmas.{AsksFor, graces-seen, graces_kept, graces_put, sponsor-seen, test-elsewhere, none-is}
 use Rattle.rules.proofs.ViewLemmas.{KeepsGraces, Meets, account_of-with_account, lines-kept, own, same_number}
 
 -- ---- the graces of a domain that is put can be told from what is seen
@@ -48,10 +49,6 @@ module _ (p : PolicyRules) (r : ℕ) (s : Registry) where
 
 -- ---- graces that a posting leaves
 
-none-of : (o : Option ℕ) → not (is_some o) ≡ true → o ≡ None
-none-of None e = refl
-none-of (Some m) e = absurd (let never : false ≡ true = e in cc)
-
 any-map : {A : Type 0} (test : A → Bool) (f : A → A) → ((x : A) → test (f x) ≡ test x) → (xs : List A) → list_any test (map f xs) ≡ list_any test xs
 any-map test f same [] = refl
 any-map test f same (x ∷ xs) = λ i. same x i || any-map test f same xs i
@@ -69,7 +66,7 @@ module _ (p : PolicyRules) (t : ℕ) (roid : Roid) (since : Option ℕ) where
   refund-same : (x : TransferRefund) (kind : LineKind) (l : Line) → gives_now kind (transfer_refunded x l) ≡ gives_now kind l
   refund-same x kind l = cond_both (waits x.roid l) (record l { refunded = Some x.moment }) l (λ m. gives_now kind m ≡ gives_now kind l)
       (λ w.
-      let none : l.started ≡ None = none-of l.started (and_parts (is_for_transfer x.roid l) (not (is_some l.started)) w).1 in
+      let none : l.started ≡ None = none-is l.started (not-true _ (and_parts (is_for_transfer x.roid l) (not (is_some l.started)) w).1) in
       begun-not kind (record l { refunded = Some x.moment }) none ∙ sym (begun-not kind l none))
       (λ w. refl)
 
