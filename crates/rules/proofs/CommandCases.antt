@@ -301,7 +301,8 @@ module _ (p : PolicyRules) (r : ℕ) (cl_trid : Option (List ℕ)) (s : Registry
       ∙ (or_parts (contact_is_linked q (facts_for q)) false (free q taken conditions.IsLinked (search (inl, inr) depth 20))).0)
   command-cases (requests.DeleteDomain name) taken =
       let q : Request = requests.DeleteDomain name in
-      subst (λ (o : Option DomainFacts). P q (deletion_at r s.clock o)) (sym (it-is name taken)) (by-seen name taken (it name taken).seen refl)
+      subst (λ (o : Option DomainFacts). P q (deletion_at r s.clock o)) (sym (it-is name taken))
+      (by-seen name taken (it name taken).seen refl)
   command-cases (requests.DeleteHost name) taken =
       let q : Request = requests.DeleteHost name in
       cases.host_dropped name (sym (ap (holds_of (λ (it : HostFacts). it.linked)) (host-at p r cl_trid s q name refl)) ∙ free q taken conditions.IsLinked (search (inl, inr) depth 20))
@@ -324,7 +325,8 @@ module _ (p : PolicyRules) (r : ℕ) (cl_trid : Option (List ℕ)) (s : Registry
         few = sym (ap is_over e) ∙ (or_parts (is_over (domain_seen (facts_for q) (name_of u.name))) false many.1).0;
       })
       (free q taken conditions.ReferenceIsMissing (search (inl, inr) depth 20)))
-  command-cases (requests.UpdateHost u) taken = by-host u taken (host_seen (facts_for (requests.UpdateHost u)) (name_of u.name)) refl
+  command-cases (requests.UpdateHost u) taken =
+      by-host u taken (host_seen (facts_for (requests.UpdateHost u)) (name_of u.name)) refl
   command-cases (requests.RenewDomain name expires years) taken =
       let q : Request = requests.RenewDomain name expires years in
       let none = cases.none q in

@@ -15,7 +15,8 @@ full-is : {O F : Type 0} (r : ℕ) (o : O) (face : F) (t : Option Transfer) (b :
 full-is r o face t true x e = cc
 full-is r o face None false x e = absurd cc
 full-is {O} {F} r o face (Some t) false x e =
-    absurd (cond_both {A = Seen O F} (names r t) (TransferParty face t) (Public face) (λ seen. seen ≡ Full x → ⊥) (λ a e. cc) (λ a e. cc) e)
+    absurd (cond_both {A = Seen O F} (names r t) (TransferParty face t) (Public face) (λ seen. seen ≡ Full x → ⊥)
+    (λ a e. cc) (λ a e. cc) e)
 
 pub contact-full : (r : ℕ) (presented : Option (List ℕ)) (found : Option Contact) (c : Contact) → option_map (contact_as r presented) found ≡ Some (Full c) → found ≡ Some c
 contact-full r presented None c e = absurd cc
@@ -48,7 +49,8 @@ DomainSight = Option (Seen FullDomain DomainFace)
 abbrev pub ContactSight : Type 0
 ContactSight = Option (Seen Contact ContactFace)
 
-where-seen : {O F : Type 0} (Q : Option (Seen O F) → Type 0) → Q None → ((face : F) (x : Transfer) → Q (Some (TransferParty face x))) → ((face : F) → Q (Some (Public face)))
+where-seen : {O F : Type 0} (Q : Option (Seen O F) → Type 0) → Q None
+    → ((face : F) (x : Transfer) → Q (Some (TransferParty face x))) → ((face : F) → Q (Some (Public face)))
     → (seen : Option (Seen O F)) → ((o : O) → seen ≡ Some (Full o) → Q (Some (Full o))) → Q seen
 where-seen Q nothing party public None full = nothing
 where-seen Q nothing party public (Some (Full o)) full = full o refl
@@ -86,12 +88,14 @@ module _ (p : PolicyRules) (r : ℕ) (cl_trid : Option (List ℕ)) (s : Registry
   -- what holds of nothing seen, and of what is seen in part, and of an object that is seen in full where it stands
   pub where-contact : (Q : ContactSight → Type 0) (name : List ℕ) → contacts_asked q ≡ name ∷ [] → Q None → ((face : ContactFace) (x : Transfer) → Q (Some (TransferParty face x))) → ((face : ContactFace) → Q (Some (Public face)))
       → ((c : Contact) → get s.contacts name ≡ Some c → Q (Some (Full c))) → Q (contact_seen known name)
-  where-contact Q name only nothing party public full = where-seen Q nothing party public (contact_seen known name) (λ c e.
+  where-contact Q name only nothing party public full =
+      where-seen Q nothing party public (contact_seen known name) (λ c e.
       full c (contact-full r (presented_contact asked name) (get s.contacts name) c (sym (ap (option_and_then (λ (it : ContactFacts). it.seen)) (contact-at name only)) ∙ e)))
 
   pub where-domain : (Q : DomainSight → Type 0) (name : RequestedName) → domains_asked q ≡ name ∷ [] → Q None → ((face : DomainFace) (x : Transfer) → Q (Some (TransferParty face x))) → ((face : DomainFace) → Q (Some (Public face)))
       → ((full : FullDomain) → get s.domains (name_of name) ≡ Some full.domain → domain_seen known (name_of name) ≡ Some (Full full) → Q (Some (Full full))) → Q (domain_seen known (name_of name))
-  where-domain Q name only nothing party public full = where-seen Q nothing party public (domain_seen known (name_of name)) (λ it e.
+  where-domain Q name only nothing party public full =
+      where-seen Q nothing party public (domain_seen known (name_of name)) (λ it e.
       full it (domain-full p r s (presented asked (name_of name)) (get s.domains (name_of name)) it (sym (ap (option_and_then (λ (it : DomainFacts). it.seen)) (domain-at name only)) ∙ e)) e)
 
 -- what is seen in full, and isn't another's, is the registrar's own

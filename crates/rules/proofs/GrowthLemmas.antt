@@ -118,7 +118,8 @@ module _ (p q : PolicyRules) (s t : Registry) (grows : Grows p q s t) where
 
 -- ---- a contact with other dates, or in other hands
 
-pub contact-stands : (p : PolicyRules) (s : Registry) (name : List ℕ) (c e : Contact) → IsContactAt p s name c → e.name ≡ c.name → e.roid ≡ c.roid → e.created ≡ c.created
+pub contact-stands : (p : PolicyRules) (s : Registry) (name : List ℕ) (c e : Contact) → IsContactAt p s name c
+    → e.name ≡ c.name → e.roid ≡ c.roid → e.created ≡ c.created
     → IsRegistrar p e.sponsor → HasBeen s e.transferred → HasBeen s e.updated → IsContactAt p s name e
 contact-stands p s name c e of called roid created sponsor transferred updated = record {
   named = called ∙ of.named;
@@ -131,29 +132,21 @@ contact-stands p s name c e of called roid created sponsor transferred updated =
 
 -- ---- a domain with other dates, in other hands, or deleted
 
--- what stays of a domain
-pub record IsSameDomain (d e : Domain) : Type 0 where
-  pub name : e.name ≡ d.name
-  pub roid : e.roid ≡ d.roid
-  pub created : e.created ≡ d.created
-  pub links : e.links ≡ d.links
-
-pub same-domain : {d e : Domain} → e.name ≡ d.name → e.roid ≡ d.roid → e.created ≡ d.created → e.links ≡ d.links → IsSameDomain d e
-same-domain name roid created links = record { name = name; roid = roid; created = created; links = links }
-
-pub domain-with : (p : PolicyRules) (s : Registry) (name : List ℕ) (d e : Domain) → IsDomainOf p s name d → IsSameDomain d e
+-- its name, ROID, creation and links stay
+pub domain-with : (p : PolicyRules) (s : Registry) (name : List ℕ) (d e : Domain) → IsDomainOf p s name d
+    → e.name ≡ d.name → e.roid ≡ d.roid → e.created ≡ d.created → e.links ≡ d.links
     → IsRegistrar p e.sponsor → HasBeen s e.transferred → HasBeen s e.updated → IsDeletion p s e e.deletion → IsLastTransfer p s e.created e.transferred e.transfer → IsDomainOf p s name e
-domain-with p s name d e of same sponsor transferred updated deletion transfer = record {
+domain-with p s name d e of called roid created links sponsor transferred updated deletion transfer = record {
   stands = record {
-    named = same.name ∙ of.stands.named;
-    roid = subst (HasRoid p s kinds.Domain) (sym same.roid) of.stands.roid;
+    named = called ∙ of.stands.named;
+    roid = subst (HasRoid p s kinds.Domain) (sym roid) of.stands.roid;
     sponsor = sponsor;
-    created = omega (arith, same.created, of.stands.created);
+    created = omega (arith, created, of.stands.created);
     transferred = transferred;
     updated = updated;
     deletion = deletion;
-    contacts = λ contact named. of.stands.contacts contact (ap (names_contact contact) (sym same.links) ∙ named);
-    hosts = λ host named. of.stands.hosts host (ap (names_host host) (sym same.links) ∙ named);
+    contacts = λ contact named. of.stands.contacts contact (ap (names_contact contact) (sym links) ∙ named);
+    hosts = λ host named. of.stands.hosts host (ap (names_host host) (sym links) ∙ named);
   };
   transfer = transfer;
 }

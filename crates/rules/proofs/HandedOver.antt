@@ -1,6 +1,7 @@
 -- A domain that is handed over by a pending transfer begins with the grace of the transfer alone (RFC
 -- 3915, 3.1; RFC 5730, 2.9.3.4).
-use Rattle.std.proofs.Common.{◌≡◌, ◌≢◌, ℕ, ◌≤◌, ◌<◌, ◌==◌, nat_lt, nat_le, Bool, true, false, cond, not, ◌&&◌, List, Option, Some, None, is_some, refl, ap, subst, ◌∙◌, arith, eqb-true, ⊎_elim}
+use Rattle.std.proofs.Common.{◌≡◌, ◌≢◌, ℕ, ◌≤◌, ◌<◌, ◌==◌, nat_lt, nat_le, Bool, true, false, cond, not, ◌&&◌, List, Option, Some, None, is_some, refl, ap, subst, ◌∙◌, arith, eqb-true}
+use Rattle.std.proofs.Common.{⊎_elim}
 use Rattle.std.proofs.lemmas.Bool.{and_cases, and_left, and_parts, and_right}
 use Rattle.rules.proofs.Words.{account_of, begins_after, Domain, end, get, Graces, is_begun_after, is_for_transfer, is_kind, is_on}
 use Rattle.rules.proofs.Words.{is_pending_state, IsLater, IsSound, Line, LineKind, list_any, MeetsStandards, PolicyRules, Registry, remade}
@@ -35,7 +36,8 @@ module _ (p : PolicyRules) (t : ℕ) (roid : Roid) (last : Option ℕ) (past : I
   -- a grace that didn't begin after that has ended
   over : (l : Line) → begins_after roid last l ≡ false → runs p t roid (Some t) l ≡ false
   over l none = ⊎_elim (and_left (is_on roid l) _)
-      (λ n. and_right (is_on roid l) _ (and_right (not (is_some l.refunded)) _ (begun-ended last l.started (period_of l.kind) past n)))
+      (λ n. and_right (is_on roid l) _ (and_right (not (is_some l.refunded)) _
+      (begun-ended last l.started (period_of l.kind) past n)))
       (and_cases (is_on roid l) _ none)
 
   over-by : (kind : LineKind) (l : Line) → begins_after roid last l ≡ false → gives kind p t roid (Some t) l ≡ false

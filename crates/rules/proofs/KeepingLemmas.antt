@@ -9,7 +9,8 @@ use Rattle.rules.proofs.Words.{remove, renamed, RenameHost, Roid, slice_cmp, sup
 use Rattle.rules.proofs.Words.{add, any-add, contact_roid, host_roid, links_with_host_renamed}
 use Rattle.rules.proofs.GrowthLemmas.{Grows, contact-grown, domain-grown, host-grown, host-grown-below}
 use Rattle.rules.proofs.LinkLemmas.{has_name-filter}
-use Rattle.rules.proofs.NamedLemmas.{drop-cases, drop-keeps, drop-there, is-there, put-cases, put-is, put-keeps, put-there, remade-cases, remade-keeps, swap-names, at-put}
+use Rattle.rules.proofs.NamedLemmas.{drop-cases, drop-keeps, drop-there, is-there, put-cases, put-is, put-keeps, put-there, remade-cases, remade-keeps, swap-names}
+use Rattle.rules.proofs.NamedLemmas.{at-put}
 use Rattle.rules.proofs.ViewLemmas.{account-keep}
 
 -- ---- the clock and the accounts

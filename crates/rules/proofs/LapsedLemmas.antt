@@ -9,7 +9,7 @@ use Rattle.rules.proofs.Words.{contact_roid, fold, lapse, Lapsed, left, left-of,
 use Rattle.basis.specs.Sweeps.{kept}
 use Rattle.basis.proofs.ApartLaws.{get-kept}
 use Rattle.model.specs.Lapse.{accounts_at, contacts_at, domains_at, lapse as lapse_registry}
-use Rattle.rules.proofs.GrowthLemmas.{Grows, contact-grown, domain-grown, domain-with, host-grown-below, same-domain, contact-stands}
+use Rattle.rules.proofs.GrowthLemmas.{Grows, contact-grown, domain-grown, domain-with, host-grown-below, contact-stands}
 use Rattle.rules.proofs.KeepingLemmas.{kept-grown}
 use Rattle.rules.proofs.NamedLemmas.{is-there, there-is}
 use Rattle.rules.proofs.PostingLemmas.{due-is, due-transfer, kept-posted, postings-to, serial-posted}
@@ -114,7 +114,8 @@ module _ (p : PolicyRules) (t : ℕ) (s : Registry) (past : t ≤ s.clock) (is :
       let transfer = due-transfer p after t c.created c.transferred c.transfer x due k.transfer in
       let come = (due-is t c.transfer x due).1 in
       record {
-        stands = contact-stands p after name c _ k.stands refl refl refl transfer.recorded.requester (omega (arith, come, past)) k.stands.updated;
+        stands = contact-stands p after name c _ k.stands refl refl refl transfer.recorded.requester
+            (omega (arith, come, past)) k.stands.updated;
         transfer = ended c.created c.transferred x come transfer;
         losing = λ pending. absurd (let never : false ≡ true = pending in cc);
       }) e
@@ -129,11 +130,11 @@ module _ (p : PolicyRules) (t : ℕ) (s : Registry) (past : t ≤ s.clock) (is :
       let k : IsDomainOf p after name d = domain-grown p p s after grows name d d.links (λ host there. inl there) (λ contact named. contact-there contact (of.stands.contacts contact named)) of.stands.hosts of in
       let undeleted : (f : Domain) → d.deletion ≡ None → IsDeletion p after f d.deletion = λ f alive. subst (IsDeletion p after f) (sym alive) tt in
       domain-left p t d (IsDomainOf p after name) (λ x gone. k)
-      (λ alive years. domain-with p after name d (with_years years d) k (same-domain refl refl refl refl) k.stands.sponsor k.stands.transferred k.stands.updated (undeleted (with_years years d) alive) k.transfer)
+      (λ alive years. domain-with p after name d (with_years years d) k refl refl refl refl k.stands.sponsor k.stands.transferred k.stands.updated (undeleted (with_years years d) alive) k.transfer)
       (λ alive x due years.
       let transfer = due-transfer p after t d.created d.transferred d.transfer x due k.transfer in
       let come = (due-is t d.transfer x due).1 in
-      domain-with p after name d (taken_over x years d) k (same-domain refl refl refl refl) transfer.recorded.requester (omega (arith, come, past)) k.stands.updated (undeleted (taken_over x years d) alive)
+      domain-with p after name d (taken_over x years d) k refl refl refl refl transfer.recorded.requester (omega (arith, come, past)) k.stands.updated (undeleted (taken_over x years d) alive)
       (ended d.created d.transferred x come transfer)) e
 
   -- a domain that a host lies below isn't deleted, so it stays

@@ -1,7 +1,7 @@
 -- The lemmas that many proofs cite, from one place.
 pub use Rattle.rules.proofs.CommandCases.{CommandCases, found_above, host_with, IsBased, IsDeletable, IsUpdateOf, request-cases}
 pub use Rattle.rules.proofs.CommandLemmas.{Covers, known}
-pub use Rattle.rules.proofs.GrowthLemmas.{all-kept, AllFit, been-grown, Grows, roid-grown, same-domain}
+pub use Rattle.rules.proofs.GrowthLemmas.{all-kept, AllFit, been-grown, Grows, roid-grown}
 pub use Rattle.rules.proofs.KeepingLemmas.{drop-contact, drop-domain, drop-host, IsItsOwn, kept-account, put-contact, put-domain, put-host, rename-host}
 pub use Rattle.rules.proofs.LapsedLemmas.{domain-lapsed, domain-left, kept-lapse, transferred_by}
 pub use Rattle.rules.proofs.LineEntryLemmas.{AsksFor, begins-asks, keep-posted, Keeps, renewal-by, renewal-waits-not, started-waits-not, test-elsewhere, waits-asks}

@@ -81,15 +81,18 @@ module _ (p : PolicyRules) (r : ℕ) (cl_trid : Option (List ℕ)) (s : Registry
   put-charged name d new line at called same sponsor of kind recorded started refunded =
       let k = is.domains name d at in
       let t : Registry = changed p (PutDomain new) counted in
-      let grown : Grows p p s t = record { zone = refl; place = λ q place. place; clock = omega arith; serial = rises s r with_command (λ a. omega arith) } in (
+      let rise = rises s r with_command (λ a. omega arith) in
+      let grown : Grows p p s t = record { zone = refl; place = λ q place. place; clock = omega arith; serial = rise } in (
         put-again name d new at same,
         (
           own-charge p t r new.name new line (put-is counted.domains new.name new)
               (own-put s.domains name d new is.identities.domain_roids at k.stands.named called same.roid)
-              (roid-grown p p s t grown kinds.Domain new.roid (subst (HasRoid p s kinds.Domain) (sym same.roid) k.stands.roid))
+              (roid-grown p p s t grown kinds.Domain new.roid
+              (subst (HasRoid p s kinds.Domain) (sym same.roid) k.stands.roid))
               (sponsor ∙ sym same.sponsor)
               (λ x e pending. awaited-ahead p s d k.stands.deletion (settled.domains name d at) x (sym same.transfer ∙ e) pending)
-              (of ∙ ap (λ (roid : Roid). Some roid) (sym same.roid)) kind recorded (been-grown p p s t grown line.started started) (been-grown p p s t grown line.refunded refunded),
+              (of ∙ ap (λ (roid : Roid). Some roid) (sym same.roid)) kind recorded
+              (been-grown p p s t grown line.started started) (been-grown p p s t grown line.refunded refunded),
           tt,
         ),
       )

@@ -125,8 +125,9 @@ started-waits-not x l = by l.started (is_for_transfer x.roid l) refl
     by None false e = ap (λ (b : Bool). b && true) e
     by (Some start) b e =
         let m : Line = record l { started = Some start } in
-        cond_both (b && not (begins_by (Some start) l.years x.moment x.years)) (record m { started = Some x.moment; years = x.years }) m
-        (λ n. waits x.roid n ≡ false) (λ e. and_right (is_for_transfer x.roid l) false refl) (λ e. and_right (is_for_transfer x.roid l) false refl)
+        let none : (is_for_transfer x.roid l && false) ≡ false = and_right (is_for_transfer x.roid l) false refl in
+        cond_both (b && not (begins_by (Some start) l.years x.moment x.years))
+        (record m { started = Some x.moment; years = x.years }) m (λ n. waits x.roid n ≡ false) (λ e. none) (λ e. none)
 
 -- ---- each line is of a domain, and no grace begins ahead of the clock
 

@@ -161,12 +161,15 @@ module _ (p : PolicyRules) (s : Registry) (r : ℕ) where
 -- ---- what is given back
 
 -- begins when it did
-pub refund-begins : (b : Bool) (moment : ℕ) (roid : Roid) (last : Option ℕ) (l : Line) → begins_after roid last (cond b (record l { refunded = Some moment }) l) ≡ begins_after roid last l
+pub refund-begins : (b : Bool) (moment : ℕ) (roid : Roid) (last : Option ℕ) (l : Line)
+    → begins_after roid last (cond b (record l { refunded = Some moment }) l) ≡ begins_after roid last l
 refund-begins true moment roid last l = refl
 refund-begins false moment roid last l = refl
 
-pub refund-line : (b : Bool) (p : PolicyRules) (s : Registry) (moment : ℕ) → moment ≤ s.clock → (l : Line) → IsLineOf p s l → IsLineOf p s (cond b (record l { refunded = Some moment }) l)
-refund-line true p s moment come l h = record { roid = h.roid; recorded = h.recorded; started = h.started; refunded = come }
+pub refund-line : (b : Bool) (p : PolicyRules) (s : Registry) (moment : ℕ) → moment ≤ s.clock → (l : Line)
+    → IsLineOf p s l → IsLineOf p s (cond b (record l { refunded = Some moment }) l)
+refund-line true p s moment come l h =
+    record { roid = h.roid; recorded = h.recorded; started = h.started; refunded = come }
 refund-line false p s moment come l h = h
 
 -- by a deletion
@@ -196,7 +199,9 @@ module _ (p : PolicyRules) (x : RunningRefund) where
     refunded-on : (d : Domain) → HasLinesOn s d → HasLinesOn refunded d
     refunded-on d = on-carried s refunded d
         (λ last q. lines-keep s r (with_lines (remade in_order back)) (λ ls. list_any (begins_after d.roid last) ls ≡ false) q
-        (λ own h. none-remade in_order (begins_after d.roid last) (begins_after d.roid last) back (λ l e. refund-begins (runs p x.moment x.roid x.transferred l) x.moment d.roid last l ∙ e) (account_of q s).lines h))
+        (λ own h. none-remade in_order (begins_after d.roid last) (begins_after d.roid last) back
+        (λ l e. refund-begins (runs p x.moment x.roid x.transferred l) x.moment d.roid last l ∙ e)
+        (account_of q s).lines h))
         (λ q n. lines-keep s r (with_lines (remade in_order back)) (λ ls. count (waits d.roid) ls ≡ n) q (λ own h. count-remade in_order (waits d.roid) back (refund-waits d.roid) (account_of q s).lines ∙ h))
 
     pub lines-refunded : x.moment ≤ s.clock → HasLines p s → HasLines p (with_account r (with_lines (remade in_order (refunded_by p x))) s)
@@ -205,7 +210,9 @@ module _ (p : PolicyRules) (x : RunningRefund) where
         record {
           each = λ q. All-from_recursion (IsLineOf p refunded) (account_of q refunded).lines
               (lines-keep s r (with_lines (remade in_order back)) (AllByRecursion (IsLineOf p refunded)) q
-              (λ own all. all-remade in_order (IsLineOf p refunded) (IsLineOf p refunded) back (λ l. refund-line (runs p x.moment x.roid x.transferred l) p refunded x.moment come l) (account_of q s).lines all)
+              (λ own all. all-remade in_order (IsLineOf p refunded) (IsLineOf p refunded) back
+              (λ l. refund-line (runs p x.moment x.roid x.transferred l) p refunded x.moment come l)
+              (account_of q s).lines all)
               (all-weaker (IsLineOf p s) (IsLineOf p refunded) (line-grown p p s refunded grows) (account_of q s).lines (recursion_from_All (IsLineOf p s) (account_of q s).lines (is.each q))));
           domains = λ name d at. refunded-on d (is.domains name d at);
         }

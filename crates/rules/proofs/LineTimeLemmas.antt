@@ -174,10 +174,11 @@ module _ (p : PolicyRules) (t : ℕ) (s : Registry) (d : Domain) (on : HasLinesO
 
         own-begun : r ≡ x.requester → as_many d.roid 0 (account_of r begun).lines
         own-begun own =
-            let begins : TransferStart = record { roid = d.roid; moment = x.ac_date; years = gained before x.ac_date } in
+            let begin : TransferStart = record { roid = d.roid; moment = x.ac_date; years = gained before x.ac_date } in
             subst (λ (q : ℕ). as_many d.roid 0 (account_of q begun).lines) (sym own)
             (subst (λ (a : Account). as_many d.roid 0 a.lines) (sym (own-account x.requester (entered start.what) (with turned)))
-            (count-none-remade in_order (waits d.roid) (transfer_started begins) (started-waits-not begins) (account_of x.requester (with turned)).lines))
+            (count-none-remade in_order (waits d.roid) (transfer_started begin) (started-waits-not begin)
+            (account_of x.requester (with turned)).lines))
 
         own-waits : r ≡ x.requester → as_many d.roid 0 (account_of r (with (turned ++ (start ∷ rest)))).lines
         own-waits own =
@@ -280,7 +281,8 @@ module _ (p : PolicyRules) (t : ℕ) (name : List ℕ) (s : Registry) where
     is-first = ap (λ (o : Option Domain). with_domain_lapsed p t name o s) found
 
     off : (n : List ℕ) (x : Domain) → get s.domains n ≡ Some x → n ≢ name → is_same_roid x.roid d.roid ≡ false
-    off n x there other = false_from_ne_true (is_same_roid x.roid d.roid) (λ e. other (apart n x there (same-roids x.roid d.roid e)))
+    off n x there other =
+        false_from_ne_true (is_same_roid x.roid d.roid) (λ e. other (apart n x there (same-roids x.roid d.roid e)))
 
     others-off : (n : List ℕ) (x : Domain) → get first.domains n ≡ Some x → AllKeep P r (lapse_if (not (is_named name n)) (lapse p t x) x).postings
     others-off n x there = by (is_named name n) refl
@@ -319,7 +321,8 @@ module _ (p : PolicyRules) (t : ℕ) (s : Registry) (le : s.clock ≤ t) (object
   grows-later = record { zone = refl; place = λ r place. place; clock = le; serial = λ r. omega arith }
 
   grows-left : Grows p p later left
-  grows-left = record { zone = refl; place = λ r place. place; clock = omega arith; serial = λ r. omega (arith, same-serials r) }
+  grows-left =
+      record { zone = refl; place = λ r place. place; clock = omega arith; serial = λ r. omega (arith, same-serials r) }
 
   each-line : (r : ℕ) → AllByRecursion (IsLineOf p later) (account_of r left).lines
   unfolding accounts_at
@@ -350,7 +353,8 @@ module _ (p : PolicyRules) (t : ℕ) (s : Registry) (le : s.clock ≤ t) (object
   unfolding domains_at
   lines-lapse = record {
     each = λ r. All-from_recursion (IsLineOf p left) (account_of r left).lines
-        (all-weaker (IsLineOf p later) (IsLineOf p left) (line-grown p p later left grows-left) (account_of r left).lines (each-line r));
+        (all-weaker (IsLineOf p later) (IsLineOf p left) (line-grown p p later left grows-left)
+        (account_of r left).lines (each-line r));
     domains = λ name e found.
         let was = left-of (λ name. lapse p t) s.domains name e found in
         left-on name was.0 e was.1 was.2 (domain-left p t was.0 (λ (x : Domain). x.roid ≡ was.0.roid) (λ x gone. refl) (λ alive years. refl) (λ alive x due years. refl) e was.2);

@@ -12,7 +12,8 @@ use Rattle.rules.proofs.Words.{refund-elsewhere, refund-stays, same-roids, same_
 use Rattle.model.proofs.LineLemmas.{and-false, all-add, all-remade, all-weaker, count, count-add, count-add-none, count-none-remade, count-remade, itself, none-add, none-by, none-remade, not-itself, one-or-other, one_if}
 use Rattle.rules.proofs.Lemmas.{Grows, own-account, put-cases, put-is}
 use Rattle.rules.proofs.LineEntryLemmas.{AsksFor, begins-asks, lines-kept, started-waits-not, test-elsewhere, waits-asks}
-use Rattle.rules.proofs.LineKeepingLemmas.{account-grows, begun-by, line-grown, lines-counted, lines-keep, on-carried, refund-begins, refund-line}
+use Rattle.rules.proofs.LineKeepingLemmas.{account-grows, begun-by, line-grown, lines-counted, lines-keep, on-carried}
+use Rattle.rules.proofs.LineKeepingLemmas.{refund-begins, refund-line}
 use Rattle.rules.proofs.TransferCases.{IsAskable}
 use Rattle.accounts.specs.declared.line.LineKind.TheVariants as lines
 use Rattle.objects.specs.declared.roid.ObjectKind.TheVariants as kinds
@@ -215,13 +216,17 @@ module _ (p : PolicyRules) (s : Registry) (objects : HasObjects p s) (has : HasL
       refunded ls = remade in_order (transfer_refunded back) ls
 
       refund-waits-not : (l : Line) → waits d.roid (transfer_refunded back l) ≡ false
-      refund-waits-not l = cond_both (waits d.roid l) (record l { refunded = Some moment }) l (λ m. waits d.roid m ≡ false)
-          (λ e. and_left _ _ (and_right (is_kind l.kind lines.Transfer) _ (and_right (is_on d.roid l) false refl))) (λ e. e)
+      refund-waits-not l =
+          cond_both (waits d.roid l) (record l { refunded = Some moment }) l (λ m. waits d.roid m ≡ false)
+          (λ e. and_left _ _ (and_right (is_kind l.kind lines.Transfer) _ (and_right (is_on d.roid l) false refl)))
+          (λ e. e)
 
       ended-on : HasLinesOn (left ended refl x.requester refunded) ended
       ended-on = record {
         elsewhere = λ q other. none-changed ended refl x.requester refunded (begins_after d.roid d.transferred) q
-            (λ own none. none-remade in_order (begins_after d.roid d.transferred) (begins_after d.roid d.transferred) (transfer_refunded back) (λ l k. refund-begins (waits d.roid l) moment d.roid d.transferred l ∙ k) (account_of q s).lines none)
+            (λ own none. none-remade in_order (begins_after d.roid d.transferred) (begins_after d.roid d.transferred)
+            (transfer_refunded back) (λ l k. refund-begins (waits d.roid l) moment d.roid d.transferred l ∙ k)
+            (account_of q s).lines none)
             ((has.domains name d at).elsewhere q other);
         waiting = λ q. none-wait ended refl refl (transfer_refunded back) refund-waits-not q ∙ sym (over-of q);
         awaited = λ never. absurd (let no : true ≡ false = sym never ∙ over in cc);
@@ -229,7 +234,9 @@ module _ (p : PolicyRules) (s : Registry) (objects : HasObjects p s) (has : HasL
 
       pub lines-ended : HasLines p (with_account x.requester (with_lines (remade in_order (transfer_refunded (record { roid = d.roid; moment = moment })))) (changed p (PutDomain (record d { transfer = Some x })) s))
       lines-ended = lines-left ended refl x.requester refunded (remade-only (transfer_refunded back) (refund-elsewhere back) (refund-stays back))
-          (λ ls all. all-remade in_order (IsLineOf p (left ended refl x.requester refunded)) (IsLineOf p (left ended refl x.requester refunded)) (transfer_refunded back) (λ l. refund-line (waits d.roid l) p (left ended refl x.requester refunded) moment come l) ls all) ended-on
+          (λ ls all. all-remade in_order (IsLineOf p (left ended refl x.requester refunded))
+          (IsLineOf p (left ended refl x.requester refunded)) (transfer_refunded back)
+          (λ l. refund-line (waits d.roid l) p (left ended refl x.requester refunded) moment come l) ls all) ended-on
 
 -- a message changes no line
 pub told : (p : PolicyRules) (q : ℕ) (n : Notification) (s : Registry) → HasLines p s → HasLines p (with_account q (notified n) s)

@@ -1,5 +1,6 @@
 -- What stands at a name after a map by names was changed.
-use Rattle.std.proofs.Common.{◌≡◌, ◌≢◌, ◌⊎◌, inl, inr, ⊎_elim, ℕ, Bool, true, false, cond, List, [], ◌∷◌, map, Option, Some, None, IsSome, is_some, option_map, refl, sym, ap, ◌∙◌, suc, length, filter, eqb-true, arith, subst₂}
+use Rattle.std.proofs.Common.{◌≡◌, ◌≢◌, ◌⊎◌, inl, inr, ⊎_elim, ℕ, Bool, true, false, cond, List, [], ◌∷◌, map, Option, Some, None, IsSome, is_some, option_map, refl, sym, ap, ◌∙◌, suc, length, filter, eqb-true, arith}
+use Rattle.std.proofs.Common.{subst₂}
 use Rattle.std.specs.FinMap.{find, get-entries, keys, same_map, slice_cmp-IsAntisymmetric, values, get-remove}
 use Rattle.rules.proofs.Words.{entries, eq_by_cmp, eq_by_cmp_equiv, Equal-is, FinMap, get, get-insert, insert, is_empty, list_any}
 use Rattle.rules.proofs.Words.{map_values, nat_cmp, nat_cmp-IsAntisymmetric, nat_list_cmp_total, remove, slice_cmp}
@@ -39,7 +40,7 @@ module _ {X : Type 0} (m : FinMap (slice_cmp nat_cmp) X) (k : List ℕ) where
   -- what was there is there still
   pub put-keeps : (v : X) (n : List ℕ) → IsSome (get m n) → IsSome (get (insert m k v) n)
   put-keeps v n there = ap is_some (get-insert nat_list_cmp_total m k v n)
-      ∙ cond_both (eq_by_cmp (slice_cmp nat_cmp) n k) (Some v) (get m n) (λ o. is_some o ≡ true) (λ e. refl) (λ e. there)
+      ∙ cond_both (eq_by_cmp (slice_cmp nat_cmp) n k) (Some v) (get m n) IsSome (λ e. refl) (λ e. there)
 
   -- what is there was put, or was there
   pub put-there : (v : X) (n : List ℕ) → IsSome (get (insert m k v) n) → (n ≡ k) ⊎ IsSome (get m n)
@@ -57,7 +58,7 @@ module _ {X : Type 0} (m : FinMap (slice_cmp nat_cmp) X) (k : List ℕ) where
 
   pub drop-keeps : (n : List ℕ) → n ≢ k → IsSome (get m n) → IsSome (get (remove m k) n)
   drop-keeps n other there = ap is_some (get-remove nat_list_cmp_total m k n)
-      ∙ cond_both (eq_by_cmp (slice_cmp nat_cmp) n k) None (get m n) (λ o. is_some o ≡ true)
+      ∙ cond_both (eq_by_cmp (slice_cmp nat_cmp) n k) None (get m n) IsSome
       (λ same. absurd (other (same_name n k same))) (λ same. there)
 
   pub drop-there : (n : List ℕ) → IsSome (get (remove m k) n) → IsSome (get m n)
@@ -79,7 +80,8 @@ module _ {X : Type 0} (m : FinMap (slice_cmp nat_cmp) X) (k : List ℕ) where
       by q a b first second = refl
 
 -- what is so of all at their names and of what is put
-pub at-put : {X : Type 0} (P : List ℕ → X → Type 0) (m : FinMap (slice_cmp nat_cmp) X) (k : List ℕ) (v : X) → P k v → ((n : List ℕ) (x : X) → get m n ≡ Some x → P n x) → (n : List ℕ) (x : X) → get (insert m k v) n ≡ Some x → P n x
+pub at-put : {X : Type 0} (P : List ℕ → X → Type 0) (m : FinMap (slice_cmp nat_cmp) X) (k : List ℕ) (v : X) → P k v
+    → ((n : List ℕ) (x : X) → get m n ≡ Some x → P n x) → (n : List ℕ) (x : X) → get (insert m k v) n ≡ Some x → P n x
 at-put P m k v new old n x at = ⊎_elim (λ put. subst₂ P (sym put.0) put.1 new) (λ before. old n x before) (put-cases m k v n x at)
 
 -- ---- each value is made anew
@@ -104,7 +106,8 @@ found-fails : {X : Type 0} (test : X → Bool) (n : List ℕ) (x : X) (es : List
 found-fails test n x [] e none = absurd cc
 found-fails {X} test n x (p ∷ es) e none =
     let parts = or_parts (test p.1) (list_any test (map (λ (e : List ℕ × X). e.1) es)) none in
-    cond_both (eq_by_cmp (slice_cmp nat_cmp) n p.0) (Some p.1) (find (slice_cmp nat_cmp) n es) (λ o. o ≡ Some x → test x ≡ false)
+    cond_both (eq_by_cmp (slice_cmp nat_cmp) n p.0) (Some p.1) (find (slice_cmp nat_cmp) n es)
+    (λ o. o ≡ Some x → test x ≡ false)
     (λ same e. ap test (sym (same_Some p.1 x e)) ∙ parts.0) (λ same found. found-fails test n x es found parts.1) e
 
 -- what none of a map's values passes, no value passes that stands at a name

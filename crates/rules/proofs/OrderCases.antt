@@ -28,7 +28,8 @@ place_of-is : (p : PolicyRules) (id : List ℕ) (r : ℕ) → place_of id p ≡ 
 place_of-is p id r e = placed (position_or_len (has_id id) p.registrars) (length p.registrars) r (nat_lt (position_or_len (has_id id) p.registrars) (length p.registrars)) refl e
 
 -- what holds of nothing, and of what is found, holds
-where-found : {X : Type 0} (Q : Option X → Type 0) → Q None → (found : Option X) → ((x : X) → found ≡ Some x → Q (Some x)) → Q found
+where-found : {X : Type 0} (Q : Option X → Type 0) → Q None → (found : Option X)
+    → ((x : X) → found ≡ Some x → Q (Some x)) → Q found
 where-found Q none None some = none
 where-found Q none (Some x) some = some x refl
 
@@ -36,11 +37,14 @@ module _ (p : PolicyRules) (s : Registry) (P : List Change → Type 0) (cases : 
   set-at : (o : StatusOrder) (kind : ObjectKind) (name : Option (List ℕ)) → P (order_changes o (option_and_then (object_at s kind) name))
   set-at o kind None = cases.none
   set-at o kinds.Contact (Some name) =
-      where-found (λ found. P (order_changes o (option_map objects.Contact found))) cases.none (get s.contacts name) (cases.contact_set o name)
+      where-found (λ found. P (order_changes o (option_map objects.Contact found))) cases.none (get s.contacts name)
+      (cases.contact_set o name)
   set-at o kinds.Domain (Some name) =
-      where-found (λ found. P (order_changes o (option_map objects.Domain found))) cases.none (get s.domains name) (cases.domain_set o name)
+      where-found (λ found. P (order_changes o (option_map objects.Domain found))) cases.none (get s.domains name)
+      (cases.domain_set o name)
   set-at o kinds.Host (Some name) =
-      where-found (λ found. P (order_changes o (option_map objects.Host found))) cases.none (get s.hosts name) (cases.host_set o name)
+      where-found (λ found. P (order_changes o (option_map objects.Host found))) cases.none (get s.hosts name)
+      (cases.host_set o name)
 
   set-where : (o : StatusOrder) (accepted : Bool) → P (cond accepted (order_changes o (object_ordered p.zone o s)) [])
   set-where o true = set-at o o.kind (name_ordered p.zone o)

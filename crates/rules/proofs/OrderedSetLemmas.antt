@@ -150,7 +150,8 @@ unfolding IsStrictlySortedBy
 set-filter test [] h = tt
 set-filter test (x ∷ xs) h =
     let rest = set-filter test xs h.1 in
-    cond_both (test x) (x ∷ filter test xs) (filter test xs) IsOrderedSet (λ e. (below-filter test x xs h.0, rest)) (λ e. rest)
+    cond_both (test x) (x ∷ filter test xs) (filter test xs) IsOrderedSet (λ e. (below-filter test x xs h.0, rest))
+    (λ e. rest)
 
 -- ---- amended lists
 
@@ -210,7 +211,8 @@ unfolding add
 length-add x [] = refl
 length-add x (y ∷ ys) =
     let more : length (add le x ys) ≡ length ys + 1 = length-add x ys in
-    cond_both (le x y) (x ∷ y ∷ ys) (y ∷ add le x ys) (λ zs. length zs ≡ length (y ∷ ys) + 1) (λ e. omega arith) (λ e. omega (arith, more))
+    cond_both (le x y) (x ∷ y ∷ ys) (y ∷ add le x ys) (λ zs. length zs ≡ length (y ∷ ys) + 1) (λ e. omega arith)
+    (λ e. omega (arith, more))
 
 length-fold : (items bag : List Text) → length (fold (λ bag item. add le item bag) bag items) ≡ length items + length bag
 length-fold [] bag = omega arith
@@ -243,7 +245,8 @@ filter-le : (test : Text → Bool) (xs : List Text) → length (filter test xs) 
 filter-le test [] = omega arith
 filter-le test (x ∷ xs) =
     let rest : length (filter test xs) ≤ length xs = filter-le test xs in
-    cond_both (test x) (x ∷ filter test xs) (filter test xs) (λ ys. length ys ≤ length (x ∷ xs)) (λ e. omega (arith, rest)) (λ e. omega (arith, rest))
+    cond_both (test x) (x ∷ filter test xs) (filter test xs) (λ ys. length ys ≤ length (x ∷ xs))
+    (λ e. omega (arith, rest)) (λ e. omega (arith, rest))
 
 -- without an item that is there, there is one fewer at least
 one-fewer : (old : Text) (xs : List Text) → has_name xs old ≡ true → length (filter (λ x. not (bytes_eq x old)) xs) + 1 ≤ length xs

@@ -90,7 +90,8 @@ settled-changed p (DropContact dropped) s none is = record {
   contacts = λ name x at. is.contacts name x (drop-cases s.contacts dropped name x at).1;
   domains = is.domains;
 }
-settled-changed p (PutDomain d) s none is = record { contacts = is.contacts; domains = at-put (λ n y. s.clock < due_at p y) s.domains d.name d none is.domains }
+settled-changed p (PutDomain d) s none is =
+    record { contacts = is.contacts; domains = at-put (λ n y. s.clock < due_at p y) s.domains d.name d none is.domains }
 settled-changed p (DropDomain dropped) s none is = record {
   contacts = is.contacts;
   domains = λ name x at. is.domains name x (drop-cases s.domains dropped name x at).1;

@@ -90,7 +90,8 @@ turns-end d t early h = by (turns d t) refl
 -- the year of a transfer
 pub gained-end : (d : Domain) (u : ℕ) → u ≤ last_clock → EndsInTime d.created d.years → EndsInTime d.created (d.years + gained d u)
 gained-end d u early h =
-    cond_both (nat_lt (plus_years u 10) (plus_years d.created (d.years + 1))) 0 1 (λ n. EndsInTime d.created (d.years + n))
+    cond_both (nat_lt (plus_years u 10) (plus_years d.created (d.years + 1))) 0 1
+    (λ n. EndsInTime d.created (d.years + n))
     (λ e. let none : d.years + 0 ≡ d.years = omega arith in subst (EndsInTime d.created) (sym none) h) (λ e.
     let within : plus_years d.created (d.years + 1) ≤ plus_years u 10 = grind (arith, nat_tests, e) in
     omega (arith, within, ten-end u 10 early (omega arith)))

@@ -52,14 +52,16 @@ same_shown h x r o face full named public false None = public
 same_shown {O} {F} h x r o face full named public false (Some t) = elim (names r t) as (λ (b : Bool). let seen : Seen O F = cond b (TransferParty face t) (Public face) in h seen ≡ x) [ true ↦ named t | false ↦ public ]
 
 -- to change each sight of an object is to see the changed object
-seen-mapped : {O F : Type 0} (h : Seen O F → Seen O F) (r : ℕ) (o after : O) (face changed : F) → h (Full o) ≡ Full after
+seen-mapped : {O F : Type 0} (h : Seen O F → Seen O F) (r : ℕ) (o after : O) (face changed : F)
+    → h (Full o) ≡ Full after
     → ((t : Transfer) → h (TransferParty face t) ≡ TransferParty changed t) → h (Public face) ≡ Public changed
-    → (b : Bool) (t : Option Transfer) → h (cond b (Full o) (seen_by_outsider r face t)) ≡ cond b (Full after) (seen_by_outsider r changed t)
+    → (b : Bool) (t : Option Transfer) → h (cond b (Full o) (seen_by_outsider r face t))
+    ≡ cond b (Full after) (seen_by_outsider r changed t)
 seen-mapped h r o after face changed full party public true t = full
 seen-mapped h r o after face changed full party public false None = public
 seen-mapped {O} {F} h r o after face changed full party public false (Some t) =
-    elim (names r t) as (λ (b : Bool). let seen : F → Seen O F = λ f. cond b (TransferParty f t) (Public f) in h (seen face) ≡ seen changed)
-    [ true ↦ party t | false ↦ public ]
+    let seen : Bool → F → Seen O F = λ b f. cond b (TransferParty f t) (Public f) in
+    elim (names r t) as (λ (b : Bool). h (seen b face) ≡ seen b changed) [ true ↦ party t | false ↦ public ]
 
 pub links-seen : (r : ℕ) (presented : Option (List ℕ)) (standing : Standing) (d : Domain) → links_seen (domain_as r presented standing d) ≡ d.links
 links-seen r presented standing d = same_shown links_seen d.links r (full_as standing d) (face_of standing d) refl (λ t. refl) refl (is_party r d.sponsor d.transfer || authorizes presented d.secret) d.transfer
@@ -127,7 +129,8 @@ found-some (y ∷ ys) x e = some-left y ys
 is_empty-renamed : (old new : List ℕ) (hosts : List (List ℕ)) → is_empty (renamed old new hosts) ≡ is_empty hosts
 is_empty-renamed old new hosts =
     let others : List (List ℕ) = filter (λ host. not (bytes_eq host old)) hosts in
-    cond_both (has_name hosts old) (add (precedes (slice_cmp nat_cmp)) new others) hosts (λ names. is_empty names ≡ is_empty hosts)
+    cond_both (has_name hosts old) (add (precedes (slice_cmp nat_cmp)) new others) hosts
+    (λ names. is_empty names ≡ is_empty hosts)
     (λ e. add-some (precedes (slice_cmp nat_cmp)) new others ∙ sym (found-some hosts old e)) (λ e. refl)
 
 shows-relinked : (old new : List ℕ) (d : Domain) (s : Status) → shows (with_host_renamed old new d) s ≡ shows d s
@@ -149,7 +152,8 @@ unfolding relinked_seen relinked_face
 seen-relinked r presented old new standing d =
     let again : Domain = with_host_renamed old new d in
     let same = sym (face-relinked old new standing d) in
-    sym (seen-mapped (relinked_seen old new) r (full_as standing d) (full_as standing again) (face_of standing d) (face_of standing again)
+    sym (seen-mapped (relinked_seen old new) r (full_as standing d) (full_as standing again) (face_of standing d)
+    (face_of standing again)
     refl (λ t. ap (λ (face : DomainFace). let seen : Seen FullDomain DomainFace = TransferParty face t in seen) same)
     (ap (λ (face : DomainFace). let seen : Seen FullDomain DomainFace = Public face in seen) same)
     (is_party r d.sponsor d.transfer || authorizes presented d.secret) d.transfer)
@@ -184,7 +188,8 @@ module _ (regrace : Regrace) (r : ℕ) (standing : Standing) (d : Domain) where
   pub regraced-seen : (presented : Option (List ℕ)) → regraced regrace (domain_as r presented standing d) ≡ domain_as r presented (restood regrace d.sponsor d.roid d.transferred standing) d
   unfolding regraced
   regraced-seen presented =
-      seen-mapped (regraced regrace) r (full_as standing d) (full_as afterwards d) (face_of standing d) (face_of afterwards d)
+      seen-mapped (regraced regrace) r (full_as standing d) (full_as afterwards d) (face_of standing d)
+      (face_of afterwards d)
       refl (λ t. refl) refl (is_party r d.sponsor d.transfer || authorizes presented d.secret) d.transfer
 
 -- the sponsor and the graces that all see alike

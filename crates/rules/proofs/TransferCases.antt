@@ -54,7 +54,9 @@ module _ (p : PolicyRules) (r : ℕ) (cl_trid : Option (List ℕ)) (s : Registry
   askable full e taken =
       let free = unrefused p r s.clock (asks ops.Request) (known p r cl_trid s (asks ops.Request)) taken in
       record {
-        other = λ same. eqb-false full.domain.sponsor r (sym (ap (λ (o : DomainSight). holds_of (is_own domain_sponsor r) o) e) ∙ free conditions.IsOwn (search (inl, inr) depth 20)) (sym same);
+        other = λ same. eqb-false full.domain.sponsor r
+            (sym (ap (λ (o : DomainSight). holds_of (is_own domain_sponsor r) o) e)
+            ∙ free conditions.IsOwn (search (inl, inr) depth 20)) (sym same);
         over = (or_parts (domain_seen_shows (Full full) PendingTransfer) false
             (sym (ap (λ (o : DomainSight). is_shown domain_seen_shows PendingTransfer o || false) e) ∙ free conditions.IsPending (search (inl, inr) depth 20))).0;
         undeleted = none-is full.domain.deletion (or_parts (domain_seen_shows (Full full) PendingDelete) false

@@ -1,6 +1,7 @@
 -- What the changes of transfers leave: graces that no one else sees, and a face that can be told by who
 -- hands a domain over.
-use Rattle.std.proofs.Common.{◌≡◌, ◌≢◌, inl, inr, ℕ, Bool, true, false, cond, not, ◌&&◌, ◌||◌, map, List, [], ◌∷◌, Option, Some, None, is_some, refl, sym, ap, ◌∙◌, ⊎_elim}
+use Rattle.std.proofs.Common.{◌≡◌, ◌≢◌, inl, inr, ℕ, Bool, true, false, cond, not, ◌&&◌, ◌||◌, map, List, [], ◌∷◌, Option, Some, None, is_some, refl, sym, ap, ◌∙◌}
+use Rattle.std.proofs.Common.{⊎_elim}
 use Rattle.std.proofs.Common.{option_map}
 use Rattle.std.proofs.lemmas.Bool.{not-true}
 use Rattle.rules.proofs.Words.{Account, account_of, changed, ClientApproved, Domain, ended, entered, eq_by_cmp, gained, get, Post}
@@ -64,9 +65,11 @@ module _ (p : PolicyRules) (t : ℕ) (roid : Roid) (since : Option ℕ) where
       ∙ and_right (is_kind l.kind kind) _ (and_right (is_on roid l) _ (and_right (not (is_some l.refunded)) false refl))
 
   refund-same : (x : TransferRefund) (kind : LineKind) (l : Line) → gives_now kind (transfer_refunded x l) ≡ gives_now kind l
-  refund-same x kind l = cond_both (waits x.roid l) (record l { refunded = Some x.moment }) l (λ m. gives_now kind m ≡ gives_now kind l)
+  refund-same x kind l =
+      cond_both (waits x.roid l) (record l { refunded = Some x.moment }) l (λ m. gives_now kind m ≡ gives_now kind l)
       (λ w.
-      let none : l.started ≡ None = none-is l.started (not-true _ (and_parts (is_for_transfer x.roid l) (not (is_some l.started)) w).1) in
+      let none : l.started ≡ None = none-is l.started
+      (not-true _ (and_parts (is_for_transfer x.roid l) (not (is_some l.started)) w).1) in
       begun-not kind (record l { refunded = Some x.moment }) none ∙ sym (begun-not kind l none))
       (λ w. refl)
 

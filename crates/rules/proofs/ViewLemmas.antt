@@ -167,17 +167,20 @@ same_number a b e = nat_cmp-IsAntisymmetric a b ((Equal-is (nat_cmp a b)).0 e)
 
 pub account_of-with_account : (r other : ℕ) (f : Account → Account) (s : Registry) → account_of r (with_account other f s) ≡ own r other f (account_of r s)
 account_of-with_account r other f s =
-    ap (λ o. unwrap_or o empty_account) (get-insert nat_cmp_total s.accounts other (f (account_of other s)) r) ∙ by (eq_by_cmp nat_cmp r other) refl
+    ap (λ o. unwrap_or o empty_account) (get-insert nat_cmp_total s.accounts other (f (account_of other s)) r)
+    ∙ by (eq_by_cmp nat_cmp r other) refl
   where
     by : (b : Bool) → eq_by_cmp nat_cmp r other ≡ b
-        → unwrap_or (cond b (Some (f (account_of other s))) (get s.accounts r)) empty_account ≡ cond b (f (account_of r s)) (account_of r s)
+        → unwrap_or (cond b (Some (f (account_of other s))) (get s.accounts r)) empty_account
+        ≡ cond b (f (account_of r s)) (account_of r s)
     by true e = ap (λ q. f (account_of q s)) (sym (same_number r other e))
     by false e = refl
 
 -- what holds of each account, and of one once it is changed, holds of each afterwards
 pub account-keep : (P : Account → Type 0) (s : Registry) (r : ℕ) (f : Account → Account) (q : ℕ) → (r ≡ q → P (account_of q s) → P (f (account_of q s))) → P (account_of q s) → P (account_of q (with_account r f s))
 account-keep P s r f q keeps h = subst P (sym (account_of-with_account q r f s))
-    (cond_both (eq_by_cmp nat_cmp q r) (f (account_of q s)) (account_of q s) P (λ own. keeps (sym (same_number q r own)) h) (λ other. h))
+    (cond_both (eq_by_cmp nat_cmp q r) (f (account_of q s)) (account_of q s) P
+    (λ own. keeps (sym (same_number q r own)) h) (λ other. h))
 
 -- the account itself
 pub own-account : (r : ℕ) (f : Account → Account) (s : Registry) → account_of r (with_account r f s) ≡ f (account_of r s)
@@ -237,7 +240,8 @@ module _ (p : PolicyRules) (r q : ℕ) (f : Account → Account) (s : Registry) 
       by false e = refl
 
   graces-given : (name : List ℕ) (d : Domain) → get s.domains name ≡ Some d → graces_of p given d ≡ own_graces p r s.clock own_after.lines d.sponsor d.roid d.transferred (graces_of p s d)
-  graces-given name d at = cond_both (eq_by_cmp nat_cmp d.sponsor r) (graces p s.clock d.roid d.transferred own_after.lines) (graces_of p s d) (λ g. graces_of p given d ≡ g)
+  graces-given name d at = cond_both (eq_by_cmp nat_cmp d.sponsor r)
+      (graces p s.clock d.roid d.transferred own_after.lines) (graces_of p s d) (λ g. graces_of p given d ≡ g)
       (λ e. ap (λ (k : ℕ). graces p s.clock d.roid d.transferred (account_of k given).lines) (same_number d.sponsor r e) ∙ ap (λ (a : Account). graces p s.clock d.roid d.transferred a.lines) (account_of-with_account r q f s))
       (graces-of-another name d at)
 

@@ -19,10 +19,10 @@ use Rattle.accounts.specs.declared.line.LineKind.TheVariants as lines
 use Rattle.protocol.specs.declared.command.Request.TheVariants as requests
 use Rattle.rules.proofs.Lemmas.{CommandCases, drop-contact, drop-domain, drop-host, host_with, is-there, IsDeletable}
 use Rattle.rules.proofs.Lemmas.{IsUpdateOf, kept-account, known, name-fails, order-cases, OrderCases, rename-host}
-use Rattle.rules.proofs.Lemmas.{request-cases, same-domain, updated-contacts, updated-hosts, value-fails, put-contact}
+use Rattle.rules.proofs.Lemmas.{request-cases, updated-contacts, updated-hosts, value-fails, put-contact}
 use Rattle.rules.proofs.Lemmas.{put-domain, put-host}
 use Rattle.rules.proofs.CreationLemmas.{belongs-new, kept-charged, kept-counted, kept-new-contact, kept-new-domain, kept-new-host, undeleted-new}
-use Rattle.rules.proofs.GrowthLemmas.{IsSameDomain, domain-with, contact-stands}
+use Rattle.rules.proofs.GrowthLemmas.{domain-with, contact-stands}
 use Rattle.names.proofs.SuperordinateLemmas.{spells-superordinate_of}
 use Rattle.policy.specs.declared.days.Period.TheVariants as periods
 use Rattle.rules.specs.Transfers.{contact_with_transfer}
@@ -88,10 +88,13 @@ module _ (p : PolicyRules) (s : Registry) (name : List ℕ) where
 
 -- ---- a domain with other dates, in other hands, or deleted
 
-pub kept-domain : (p : PolicyRules) (s : Registry) → HasObjects p s → (name : List ℕ) (d e : Domain) → get s.domains name ≡ Some d → IsSameDomain d e
+pub kept-domain : (p : PolicyRules) (s : Registry) → HasObjects p s → (name : List ℕ) (d e : Domain) → get s.domains name ≡ Some d
+    → e.name ≡ d.name → e.roid ≡ d.roid → e.created ≡ d.created → e.links ≡ d.links
     → IsRegistrar p e.sponsor → HasBeen s e.transferred → HasBeen s e.updated → IsDeletion p s e e.deletion → IsLastTransfer p s e.created e.transferred e.transfer → HasObjects p (changed p (PutDomain e) s)
-kept-domain p s is name d e at same sponsor transferred updated deletion transfer =
-    kept-put-domain p s is name d e at same.roid (domain-with p s name d e (is.domains name d at) same sponsor transferred updated deletion transfer)
+kept-domain p s is name d e at called roid created links sponsor transferred updated deletion transfer =
+    kept-put-domain p s is name d e at roid
+    (domain-with p s name d e (is.domains name d at) called roid created links sponsor transferred updated deletion
+    transfer)
 
 -- ---- other statuses are set on an object
 
@@ -152,8 +155,10 @@ module _ (p : PolicyRules) (t : Registry) (is : HasObjects p t) (name : List ℕ
   pub kept-contact-transfer : (c : Contact) → get t.contacts name ≡ Some c → (x : Transfer) → IsTransfer p t c.created c.transferred x → (is_pending_state x.state ≡ true → x.losing_registrar ≡ c.sponsor) → HasObjects p (changed p (PutContact (contact_with_transfer x c)) t)
   kept-contact-transfer c at x fits losing =
       let k = is.contacts name c at in
+      let stands = contact-stands p t name c (contact_with_transfer x c) k.stands refl refl refl
+      k.stands.sponsor k.stands.transferred k.stands.updated in
       kept-put-contact p t is name c (contact_with_transfer x c) at refl
-      (record { stands = contact-stands p t name c _ k.stands refl refl refl k.stands.sponsor k.stands.transferred k.stands.updated; transfer = fits; losing = losing })
+      (record { stands = stands; transfer = fits; losing = losing })
 
   pub kept-contact-over : (c : Contact) → get t.contacts name ≡ Some c → (x : Transfer) → x.ac_date ≤ t.clock → IsTransfer p t c.created (Some x.ac_date) x → is_pending_state x.state ≡ false → HasObjects p (changed p (PutContact (contact_handed_over x c)) t)
   kept-contact-over c at x le fits over =
@@ -168,14 +173,15 @@ module _ (p : PolicyRules) (t : Registry) (is : HasObjects p t) (name : List ℕ
   deletion-kept : (d : Domain) (x : Transfer) (o : Option Deletion) → (is_pending_state x.state ≡ true → o ≡ None) → IsDeletion p t d o → IsDeletion p t (domain_with_transfer x d) o
   deletion-kept d x None free k = tt
   deletion-kept d x (Some deletion) free k =
-      let over : is_pending_state x.state ≡ false = false_from_ne_true (is_pending_state x.state) (λ e. let never : Some deletion ≡ None = free e in cc) in
+      let over : is_pending_state x.state ≡ false = false_from_ne_true (is_pending_state x.state)
+      (λ e. let never : Some deletion ≡ None = free e in cc) in
       record { deleted = k.deleted; requested = k.requested; since = k.since; hosts = k.hosts; transfer = over }
 
   -- a domain is given another transfer, which is pending of none that is deleted
   pub kept-domain-transfer : (d : Domain) → get t.domains name ≡ Some d → (x : Transfer) → IsTransfer p t d.created d.transferred x → (is_pending_state x.state ≡ true → d.deletion ≡ None) → HasObjects p (changed p (PutDomain (domain_with_transfer x d)) t)
   kept-domain-transfer d at x fits free =
       let k = is.domains name d at in
-      kept-domain p t is name d (domain_with_transfer x d) at (same-domain refl refl refl refl) k.stands.sponsor k.stands.transferred k.stands.updated (deletion-kept d x d.deletion free k.stands.deletion) fits
+      kept-domain p t is name d (domain_with_transfer x d) at refl refl refl refl k.stands.sponsor k.stands.transferred k.stands.updated (deletion-kept d x d.deletion free k.stands.deletion) fits
 
   undeleted : (d : Domain) (o : Option Deletion) → is_pending d.transfer ≡ true → IsDeletion p t d o → o ≡ None
   undeleted d None pending k = refl
@@ -185,7 +191,7 @@ module _ (p : PolicyRules) (t : Registry) (is : HasObjects p t) (name : List ℕ
   pub kept-domain-over : (d : Domain) → get t.domains name ≡ Some d → (x : Transfer) (years : ℕ) → x.ac_date ≤ t.clock → IsTransfer p t d.created (Some x.ac_date) x → is_pending d.transfer ≡ true → HasObjects p (changed p (PutDomain (handed_over x years d)) t)
   kept-domain-over d at x years le fits pending =
       let k = is.domains name d at in
-      kept-domain p t is name d (handed_over x years d) at (same-domain refl refl refl refl) fits.recorded.requester le k.stands.updated
+      kept-domain p t is name d (handed_over x years d) at refl refl refl refl fits.recorded.requester le k.stands.updated
       (subst (IsDeletion p t (handed_over x years d)) (sym (undeleted d d.deletion pending k.stands.deletion)) tt) fits
 
 -- a registrar is told
@@ -263,7 +269,7 @@ module _ (p : PolicyRules) (r : ℕ) (cl_trid : Option (List ℕ)) (s : Registry
   deleted : (name : List ℕ) (d : Domain) (years : ℕ) → IsDeletable r s name d → HasObjects p (changed p (PutDomain (deleted_domain s.clock years d)) counted)
   deleted name d years it =
       let k = kept.domains name d it.at in
-      kept-domain p counted kept name d (deleted_domain s.clock years d) it.at (same-domain refl refl refl refl) k.stands.sponsor k.stands.transferred (omega arith)
+      kept-domain p counted kept name d (deleted_domain s.clock years d) it.at refl refl refl refl k.stands.sponsor k.stands.transferred (omega arith)
       (record { deleted = omega arith; requested = tt; since = tt; hosts = λ host there above. alone name d it host there (above ∙ ap (λ (n : List ℕ). Some n) k.stands.named); transfer = it.still }) k.transfer
 
   -- what is given back leaves objects and serials
@@ -307,12 +313,12 @@ module _ (p : PolicyRules) (r : ℕ) (cl_trid : Option (List ℕ)) (s : Registry
   restoring : (name : List ℕ) (d : Domain) → get s.domains name ≡ Some d → HasObjects p (changed p (PutDomain (restoring_domain s.clock d)) counted)
   restoring name d at =
       let k = kept.domains name d at in
-      kept-domain p counted kept name d (restoring_domain s.clock d) at (same-domain refl refl refl refl) k.stands.sponsor k.stands.transferred (omega arith) (requested-now d d.deletion k.stands.deletion) k.transfer
+      kept-domain p counted kept name d (restoring_domain s.clock d) at refl refl refl refl k.stands.sponsor k.stands.transferred (omega arith) (requested-now d d.deletion k.stands.deletion) k.transfer
 
   restored : (name : List ℕ) (d : Domain) → get s.domains name ≡ Some d → HasObjects p (changed p (PutDomain (restored_domain s.clock d)) counted)
   restored name d at =
       let k = kept.domains name d at in
-      kept-domain p counted kept name d (restored_domain s.clock d) at (same-domain refl refl refl refl) k.stands.sponsor k.stands.transferred (omega arith) tt k.transfer
+      kept-domain p counted kept name d (restored_domain s.clock d) at refl refl refl refl k.stands.sponsor k.stands.transferred (omega arith) tt k.transfer
 
   -- ---- the last transfer of a contact, and of a domain
 
