@@ -1,14 +1,19 @@
 -- The lemmas that many proofs cite, from one place.
-pub use Rattle.rules.proofs.CommandCases.{CommandCases, found_above, host_with, IsBased, IsDeletable, IsUpdateOf, request-cases}
+pub use Rattle.rules.proofs.CommandCases.{CommandCases, found_above, host_with, IsBased, IsDeletable, IsUpdateOf}
+pub use Rattle.rules.proofs.CommandCases.{request-cases}
 pub use Rattle.rules.proofs.CommandLemmas.{Covers, known}
 pub use Rattle.rules.proofs.GrowthLemmas.{all-kept, AllFit, been-grown, Grows, roid-grown}
-pub use Rattle.rules.proofs.KeepingLemmas.{drop-contact, drop-domain, drop-host, IsItsOwn, kept-account, put-contact, put-domain, put-host, rename-host}
+pub use Rattle.rules.proofs.KeepingLemmas.{drop-contact, drop-domain, drop-host, IsItsOwn, kept-account, put-contact}
+pub use Rattle.rules.proofs.KeepingLemmas.{put-domain, put-host, rename-host}
 pub use Rattle.rules.proofs.LapsedLemmas.{domain-lapsed, domain-left, kept-lapse, transferred_by}
-pub use Rattle.rules.proofs.LineEntryLemmas.{AsksFor, begins-asks, keep-posted, Keeps, renewal-by, renewal-waits-not, started-waits-not, test-elsewhere, waits-asks}
+pub use Rattle.rules.proofs.LineEntryLemmas.{AsksFor, begins-asks, keep-posted, Keeps, renewal-by, renewal-waits-not}
+pub use Rattle.rules.proofs.LineEntryLemmas.{started-waits-not, test-elsewhere, waits-asks}
 pub use Rattle.rules.proofs.LineKeepingLemmas.{FitsLines, line-grown, lines-keep, lines-stay}
 pub use Rattle.rules.proofs.LinkLemmas.{new-contacts, new-hosts, updated-contacts, updated-hosts}
 pub use Rattle.rules.proofs.NamedLemmas.{drop-cases, is-there, name-fails, none-is, put-cases, put-is, value-fails}
 pub use Rattle.rules.proofs.OrderCases.{order-cases, OrderCases}
-pub use Rattle.rules.proofs.PostingLemmas.{AllPosted, contact-posted, domain-posted, due-is, postings-posted, serial-posted}
+pub use Rattle.rules.proofs.PostingLemmas.{AllPosted, contact-posted, domain-posted, due-is, postings-posted}
+pub use Rattle.rules.proofs.PostingLemmas.{serial-posted}
 pub use Rattle.rules.proofs.SightLemmas.{graces-seen, sponsor-seen}
-pub use Rattle.rules.proofs.ViewLemmas.{account-keep, AllMeet, graces_kept, graces_put, Meets, own-account, serial-rises}
+pub use Rattle.rules.proofs.ViewLemmas.{account-keep, AllMeet, graces_kept, graces_put, Meets, own-account}
+pub use Rattle.rules.proofs.ViewLemmas.{serial-rises}

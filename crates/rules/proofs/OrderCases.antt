@@ -3,6 +3,7 @@ use Rattle.std.proofs.Common.{◌≡◌, ℕ, ◌+◌, ◌≤◌, nat_lt, length
 use Rattle.rules.proofs.Words.{Change, Charge, Contact, Domain, get, Post, Host, IsRegistrar, ObjectKind, Order, order_decision, ordered}
 use Rattle.rules.proofs.Words.{PolicyRules, PutContact, PutDomain, PutHost, Registry, cents_of, deposit_line, deposited}
 use Rattle.rules.proofs.Words.{deposited_to, has_id, is_accepted, ltb-true, order_changes, place_of, position_or_len}
+use Rattle.rules.proofs.Words.{cond_both}
 use Rattle.model.specs.declared.object.Object.TheVariants as objects
 use Rattle.model.specs.Objects.{object_at, object_ordered}
 use Rattle.objects.specs.declared.roid.ObjectKind.TheVariants as kinds
@@ -46,18 +47,14 @@ module _ (p : PolicyRules) (s : Registry) (P : List Change → Type 0) (cases : 
       where-found (λ found. P (order_changes o (option_map objects.Host found))) cases.none (get s.hosts name)
       (cases.host_set o name)
 
-  set-where : (o : StatusOrder) (accepted : Bool) → P (cond accepted (order_changes o (object_ordered p.zone o s)) [])
-  set-where o true = set-at o o.kind (name_ordered p.zone o)
-  set-where o false = cases.none
-
-  paid-to : (cents : ℕ) (place : Option ℕ) → ((r : ℕ) → place ≡ Some r → IsRegistrar p r) → P (deposited_to s.clock cents place).changes
-  paid-to cents None registrar = cases.none
-  paid-to cents (Some r) registrar = cases.paid_in r cents (registrar r refl)
-
   paid-in : (id : List ℕ) (cents : Option ℕ) → P (deposited p s.clock id cents).changes
   paid-in id None = cases.none
-  paid-in id (Some cents) = paid-to cents (place_of id p) (place_of-is p id)
+  paid-in id (Some cents) = where-found (λ place. P (deposited_to s.clock cents place).changes) cases.none (place_of id p)
+      (λ r at. cases.paid_in r cents (place_of-is p id r at))
 
   pub order-cases : (order : Order) → P (order_decision p order s).changes
-  order-cases (orders.Status o) = set-where o (is_accepted (order_code o (object_ordered p.zone o s)))
+  order-cases (orders.Status o) =
+      let found = object_ordered p.zone o s in
+      cond_both (is_accepted (order_code o found)) (order_changes o found) [] P
+      (λ e. set-at o o.kind (name_ordered p.zone o)) (λ e. cases.none)
   order-cases (orders.Deposit id cents) = paid-in id (cents_of cents)

@@ -6,6 +6,7 @@ use Rattle.rules.proofs.Words.{IsTransfer, lapse_by, lapse_contact, LapseEntry, 
 use Rattle.rules.proofs.Words.{PolicyRules, posted, Posting, postings, purge_at, purged, raised, Registry, Renewal, slice_cmp, Start}
 use Rattle.rules.proofs.Words.{Transfer, turns, with_account, contact_completion, fold, lapse, names_apart, nat_le}
 use Rattle.rules.proofs.Words.{nat_tests, plus_years, Purged, renewals, tell, turn, turns-are, ◌&&◌}
+use Rattle.rules.proofs.Words.{and_parts, cond_some}
 use Rattle.basis.proofs.EntryLaws.{Each, each_entry}
 use Rattle.rules.proofs.KeepingLemmas.{kept-account}
 use Rattle.rules.proofs.ViewLemmas.{account-keep}
@@ -30,16 +31,12 @@ module _ (R : Posting → Type 0) where
 
 -- ---- a transfer that is due
 
-due-case : (y x : Transfer) (pending : Bool) (come : Bool) → (let o : Option Transfer = cond (pending && come) (Some y) None in o) ≡ Some x → (y ≡ x) × (come ≡ true)
-due-case y x true true e = (cc, refl)
-due-case y x pending come e = cc
-
 pub due-is : (t : ℕ) (o : Option Transfer) (x : Transfer) → due_by t o ≡ Some x → (o ≡ Some x) × (x.ac_date ≤ t)
 due-is t None x e = cc
 due-is t (Some y) x e =
-    let h : (y ≡ x) × (nat_le y.ac_date t ≡ true) = due-case y x (is_pending_state y.state) (nat_le y.ac_date t) e in
-    let come : y.ac_date ≤ t = grind (arith, nat_tests, h.1) in
-    (ap (λ (z : Transfer). Some z) h.0, subst (λ (z : Transfer). z.ac_date ≤ t) h.0 come)
+    let h = cond_some (is_pending_state y.state && nat_le y.ac_date t) y x e in
+    let come : y.ac_date ≤ t = grind (arith, nat_tests, (and_parts (is_pending_state y.state) (nat_le y.ac_date t) h.0).1) in
+    (ap (λ (z : Transfer). Some z) h.1, subst (λ (z : Transfer). z.ac_date ≤ t) h.1 come)
 
 -- it lies between registrars
 pub due-transfer : (p : PolicyRules) (s : Registry) (t created : ℕ) (transferred : Option ℕ) (o : Option Transfer) (x : Transfer) → due_by t o ≡ Some x → IsLastTransfer p s created transferred o → IsTransfer p s created transferred x

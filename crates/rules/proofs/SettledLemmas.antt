@@ -21,9 +21,16 @@ years-ahead created n k le = elim (cases_lt n k) [
   | inr ge ↦ let same : n ≡ k = omega (arith, le, ge) in subst (λ (m : ℕ). plus_years created n ≤ plus_years created m) same (omega arith)
 ]
 
+expiry-ahead : (t m : ℕ) (o : Option ℕ) → t < earlier m o → t < m
+expiry-ahead t m None lt = lt
+expiry-ahead t m (Some n) lt = omega (arith, lt)
+
+earlier-of-both : (t m n : ℕ) (o : Option ℕ) → t < n → t < earlier m o → t < earlier n o
+earlier-of-both t m n None ahead lt = ahead
+earlier-of-both t m n (Some k) ahead lt = omega (arith, ahead, lt)
+
 earlier-ahead : (t m n : ℕ) (o : Option ℕ) → m ≤ n → t < earlier m o → t < earlier n o
-earlier-ahead t m n None le lt = omega (arith, le, lt)
-earlier-ahead t m n (Some k) le lt = omega (arith, le, lt)
+earlier-ahead t m n o le lt = earlier-of-both t m n o (omega (arith, le, expiry-ahead t m o lt)) lt
 
 -- deleted and transferred as the other is, and registered for at least its years, it is due no earlier
 pub due-no-earlier : (p : PolicyRules) (t : ℕ) (d e : Domain) → e.deletion ≡ d.deletion → e.transfer ≡ d.transfer → e.created ≡ d.created → d.years ≤ e.years → t < due_at p d → t < due_at p e
@@ -53,10 +60,6 @@ restoring-ahead p sound t d lt = by d.deletion lt
     by : (o : Option Deletion) → t < due_of p o d → t < due_of p (option_map (λ (x : Deletion). record x { restore_requested = Some t }) o) (restoring_domain t d)
     by None lt = lt
     by (Some x) lt = due-after-request p sound t x
-
-earlier-of-both : (t m n : ℕ) (o : Option ℕ) → t < n → t < earlier m o → t < earlier n o
-earlier-of-both t m n None ahead lt = ahead
-earlier-of-both t m n (Some k) ahead lt = omega (arith, ahead, lt)
 
 completes-none : (o : Option Transfer) → is_pending o ≡ false → completes_at o ≡ None
 completes-none None none = refl
@@ -123,10 +126,6 @@ settled-changed_all p changes s fit is = (all-kept p (λ change t. PutsNothingDu
 -- each domain that is deleted has neither subordinate hosts nor a pending transfer
 abbrev pub HasDeletions : PolicyRules → Registry → Type 0
 HasDeletions p s = (name : List ℕ) (d : Domain) → get s.domains name ≡ Some d → IsDeletion p s d d.deletion
-
-expiry-ahead : (t m : ℕ) (o : Option ℕ) → t < earlier m o → t < m
-expiry-ahead t m None lt = lt
-expiry-ahead t m (Some n) lt = omega (arith, lt)
 
 -- a domain whose transfer isn't pending, and that is registered for at least its years
 ended-ahead : (p : PolicyRules) (t : ℕ) (d e : Domain) → e.deletion ≡ d.deletion → completes_at e.transfer ≡ None → e.created ≡ d.created → d.years ≤ e.years → t < due_at p d → t < due_at p e
