@@ -82,7 +82,7 @@ module _ (p : PolicyRules) (r : ℕ) (cl_trid : Option (List ℕ)) (s : Registry
       let k = is.domains name d at in
       let t : Registry = changed p (PutDomain new) counted in
       let rise = rises s r with_command (λ a. omega arith) in
-      let grown : Grows p p s t = record { zone = refl; place = λ q place. place; clock = omega arith; serial = rise } in (
+      let grown : Grows p p s t = record { zone = refl; place = λ q is. is; clock = omega arith; serial = rise } in (
         put-again name d new at same,
         (
           own-charge p t r new.name new line (put-is counted.domains new.name new)

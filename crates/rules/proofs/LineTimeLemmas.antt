@@ -176,7 +176,8 @@ module _ (p : PolicyRules) (t : ℕ) (s : Registry) (d : Domain) (on : HasLinesO
         own-begun own =
             let begin : TransferStart = record { roid = d.roid; moment = x.ac_date; years = gained before x.ac_date } in
             subst (λ (q : ℕ). as_many d.roid 0 (account_of q begun).lines) (sym own)
-            (subst (λ (a : Account). as_many d.roid 0 a.lines) (sym (own-account x.requester (entered start.what) (with turned)))
+            (subst (λ (a : Account). as_many d.roid 0 a.lines)
+            (sym (own-account x.requester (entered start.what) (with turned)))
             (count-none-remade in_order (waits d.roid) (transfer_started begin) (started-waits-not begin)
             (account_of x.requester (with turned)).lines))
 

@@ -20,7 +20,8 @@ any-sorted : {A : Type 0} (le : A → A → Bool) (test : A → Bool) (xs bag : 
 any-sorted le test [] bag = refl
 any-sorted le test (x ∷ xs) bag =
     any-sorted le test xs (add le x bag) ∙ ap (λ (b : Bool). list_any test xs || b) (any-add le test x bag)
-    ∙ sym (or_assoc (list_any test xs) (test x) (list_any test bag)) ∙ ap (λ (b : Bool). b || list_any test bag) (or_comm (list_any test xs) (test x))
+    ∙ sym (or_assoc (list_any test xs) (test x) (list_any test bag))
+    ∙ ap (λ (b : Bool). b || list_any test bag) (or_comm (list_any test xs) (test x))
 
 -- names in order are the same names
 pub has_name-in_order : (names : List (List ℕ)) (name : List ℕ) → has_name (in_order names) name ≡ has_name names name

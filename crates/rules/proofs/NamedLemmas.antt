@@ -126,8 +126,9 @@ listed-fails : {X : Type 0} (test : List ℕ → Bool) (n : List ℕ) (es : List
 listed-fails test n [] there none = absurd cc
 listed-fails {X} test n (p ∷ es) there none =
     let parts = none-passes test p.0 (map (λ (e : List ℕ × X). e.0) es) none in
-    cond_both (eq_by_cmp (slice_cmp nat_cmp) n p.0) (Some p.1) (find (slice_cmp nat_cmp) n es) (λ o. IsSome o → test n ≡ false)
-    (λ same there. ap test (same_name n p.0 same) ∙ parts.0) (λ same there. listed-fails test n es there parts.1) there
+    cond_both (eq_by_cmp (slice_cmp nat_cmp) n p.0) (Some p.1) (find (slice_cmp nat_cmp) n es)
+    (λ o. IsSome o → test n ≡ false) (λ same there. ap test (same_name n p.0 same) ∙ parts.0)
+    (λ same there. listed-fails test n es there parts.1) there
 
 -- what no name of a map passes, no name passes at which something stands
 pub name-fails : {X : Type 0} (test : List ℕ → Bool) (m : FinMap (slice_cmp nat_cmp) X) (n : List ℕ) → IsSome (get m n) → is_empty (filter test (keys m)) ≡ true → test n ≡ false

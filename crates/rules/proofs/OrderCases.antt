@@ -4,6 +4,7 @@ use Rattle.rules.proofs.Words.{Change, Charge, Contact, Domain, get, Post, Host,
 use Rattle.rules.proofs.Words.{PolicyRules, PutContact, PutDomain, PutHost, Registry, cents_of, deposit_line, deposited}
 use Rattle.rules.proofs.Words.{deposited_to, has_id, is_accepted, ltb-true, order_changes, place_of, position_or_len}
 use Rattle.rules.proofs.Words.{cond_both}
+use Rattle.model.specs.declared.object.Object.{Object}
 use Rattle.model.specs.declared.object.Object.TheVariants as objects
 use Rattle.model.specs.Objects.{object_at, object_ordered}
 use Rattle.objects.specs.declared.roid.ObjectKind.TheVariants as kinds
@@ -28,29 +29,26 @@ placed k n r false e f = absurd cc
 place_of-is : (p : PolicyRules) (id : List ℕ) (r : ℕ) → place_of id p ≡ Some r → IsRegistrar p r
 place_of-is p id r e = placed (position_or_len (has_id id) p.registrars) (length p.registrars) r (nat_lt (position_or_len (has_id id) p.registrars) (length p.registrars)) refl e
 
--- what holds of nothing, and of what is found, holds
-where-found : {X : Type 0} (Q : Option X → Type 0) → Q None → (found : Option X)
-    → ((x : X) → found ≡ Some x → Q (Some x)) → Q found
-where-found Q none None some = none
-where-found Q none (Some x) some = some x refl
-
 module _ (p : PolicyRules) (s : Registry) (P : List Change → Type 0) (cases : OrderCases p s P) where
+  -- an order for what is found under a name
+  set-found : {X : Type 0} (o : StatusOrder) (make : X → Object) (found : Option X)
+      → ((x : X) → found ≡ Some x → P (order_changes o (Some (make x)))) → P (order_changes o (option_map make found))
+  set-found o make None set = cases.none
+  set-found o make (Some x) set = set x refl
+
   set-at : (o : StatusOrder) (kind : ObjectKind) (name : Option (List ℕ)) → P (order_changes o (option_and_then (object_at s kind) name))
   set-at o kind None = cases.none
-  set-at o kinds.Contact (Some name) =
-      where-found (λ found. P (order_changes o (option_map objects.Contact found))) cases.none (get s.contacts name)
-      (cases.contact_set o name)
-  set-at o kinds.Domain (Some name) =
-      where-found (λ found. P (order_changes o (option_map objects.Domain found))) cases.none (get s.domains name)
-      (cases.domain_set o name)
-  set-at o kinds.Host (Some name) =
-      where-found (λ found. P (order_changes o (option_map objects.Host found))) cases.none (get s.hosts name)
-      (cases.host_set o name)
+  set-at o kinds.Contact (Some name) = set-found o objects.Contact (get s.contacts name) (cases.contact_set o name)
+  set-at o kinds.Domain (Some name) = set-found o objects.Domain (get s.domains name) (cases.domain_set o name)
+  set-at o kinds.Host (Some name) = set-found o objects.Host (get s.hosts name) (cases.host_set o name)
+
+  paid-to : (cents : ℕ) (place : Option ℕ) → ((r : ℕ) → place ≡ Some r → IsRegistrar p r) → P (deposited_to s.clock cents place).changes
+  paid-to cents None registrar = cases.none
+  paid-to cents (Some r) registrar = cases.paid_in r cents (registrar r refl)
 
   paid-in : (id : List ℕ) (cents : Option ℕ) → P (deposited p s.clock id cents).changes
   paid-in id None = cases.none
-  paid-in id (Some cents) = where-found (λ place. P (deposited_to s.clock cents place).changes) cases.none (place_of id p)
-      (λ r at. cases.paid_in r cents (place_of-is p id r at))
+  paid-in id (Some cents) = paid-to cents (place_of id p) (place_of-is p id)
 
   pub order-cases : (order : Order) → P (order_decision p order s).changes
   order-cases (orders.Status o) =

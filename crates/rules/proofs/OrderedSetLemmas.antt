@@ -1,4 +1,4 @@
--- Lists of texts that stay ordered sets, and how many items they have: put in order, amended, and with one item under another name.
+-- Lists of texts that stay ordered sets, and how many items they have: in order, amended, and with one renamed.
 use Rattle.std.proofs.Common.{◌≡◌, ℕ, Bool, true, false, cond, not, ◌||◌, List, [], ◌∷◌, ◌++◌, map, filter, fold, refl, sym, ap, subst, ◌∙◌}
 use Rattle.std.proofs.Common.{◌+◌, ◌≤◌, nat_lt, length, length-append, arith}
 use Rattle.std.specs.List.Sorted.{IsStrictlySortedBy}
@@ -67,7 +67,8 @@ below-add : (x y : Text) (ys : List Text) → cmp y x ≡ Less → Below y ys �
 unfolding add
 below-add x y [] less below = (less, tt)
 below-add x y (z ∷ zs) less below =
-    cond_both (le x z) (x ∷ z ∷ zs) (z ∷ add le x zs) (Below y) (λ e. (less, below)) (λ e. (below.0, below-add x y zs less below.1))
+    cond_both (le x z) (x ∷ z ∷ zs) (z ∷ add le x zs) (Below y) (λ e. (less, below))
+    (λ e. (below.0, below-add x y zs less below.1))
 
 below-trans : (x y : Text) (zs : List Text) → cmp x y ≡ Less → Below y zs → Below x zs
 below-trans x y [] less below = tt

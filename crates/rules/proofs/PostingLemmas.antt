@@ -35,7 +35,7 @@ pub due-is : (t : ℕ) (o : Option Transfer) (x : Transfer) → due_by t o ≡ S
 due-is t None x e = cc
 due-is t (Some y) x e =
     let h = cond_some (is_pending_state y.state && nat_le y.ac_date t) y x e in
-    let come : y.ac_date ≤ t = grind (arith, nat_tests, (and_parts (is_pending_state y.state) (nat_le y.ac_date t) h.0).1) in
+    let come : y.ac_date ≤ t = grind (arith, nat_tests, (and_parts (is_pending_state y.state) _ h.0).1) in
     (ap (λ (z : Transfer). Some z) h.1, subst (λ (z : Transfer). z.ac_date ≤ t) h.1 come)
 
 -- it lies between registrars

@@ -27,7 +27,7 @@ use Rattle.calendar.specs.Calendar.{Date, date_of, day_number, days_of_years}
 use Rattle.calendar.proofs.CalendarLemmas.{IsReal, IsReal-date_of}
 use Rattle.calendar.proofs.YearLaws.{IsReal-years_later, day_number-year, days_of_years-mono, plus_years-zero}
 
--- ---- how far the years of a domain go: what is registered, renewed, restored or handed over by the end of clocks expires before 2120
+-- ---- how far years go: what is registered, renewed, restored or handed over by the end of clocks expires before 2120
 
 days_to_2100 : days_of_years 130 ≡ 47_482
 unfolding days_of_years
