@@ -19,6 +19,8 @@ module _ (p : PolicyRules) (Fits : Change → Registry → Type 0) where
   all-kept Kept keeps [] s fit is = is
   all-kept Kept keeps (change ∷ changes) s fit is = all-kept Kept keeps changes (changed p change s) fit.1 (keeps change s fit.0 is)
 
+-- ---- a registry grows, and what is so of its objects stays so
+
 -- A registry under a policy becomes another, under a policy of the same zone with at least its
 -- registrars: the clock and each account's serial stand where they stood, or later.
 pub record Grows (p q : PolicyRules) (s t : Registry) : Type 0 where

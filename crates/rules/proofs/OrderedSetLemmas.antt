@@ -203,9 +203,7 @@ set-renamed old new hosts absent h =
     cond_both (has_name hosts old) (add le new others) hosts IsOrderedSet
     (λ e. set-add new others (absent-filter (λ host. not (bytes_eq host old)) hosts new absent) (set-filter (λ host. not (bytes_eq host old)) hosts h)) (λ e. h)
 
--- ---- how many items such lists have
-
--- ---- items in order
+-- ---- how many items such lists have: in order
 
 length-add : (x : Text) (ys : List Text) → length (add le x ys) ≡ length ys + 1
 unfolding add
@@ -222,7 +220,7 @@ length-fold (x ∷ xs) bag = length-fold xs (add le x bag) ∙ omega (arith, len
 pub length-in_order : (items : List Text) → length (in_order items) ≡ length items
 length-in_order items = length-fold items [] ∙ omega arith
 
--- ---- lists of a command
+-- ---- of lists of a command
 
 pub within-texts : {A : Type 0} (text : A → Text) (most : ℕ) (items : List A) → nat_lt most (length items) ≡ false → length (in_order (map text items)) ≤ most
 within-texts text most items fits =
@@ -240,7 +238,7 @@ within-amended text most old removed added fits =
     let few : length (kept text old removed) + length added ≤ most = grind (arith, nat_tests, fits) in
     omega (arith, few, length-in_order (kept text old removed ++ map text added), length-append (kept text old removed) (map text added), length-map added text)
 
--- ---- a host under a new name
+-- ---- and with a host under a new name
 
 filter-le : (test : Text → Bool) (xs : List Text) → length (filter test xs) ≤ length xs
 filter-le test [] = omega arith

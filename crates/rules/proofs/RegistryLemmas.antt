@@ -103,6 +103,8 @@ unfolding accounts_at
 messages-lapse p t s le has r = posted-told t r (postings (λ name. lapse_contact t) (λ name. lapse p t) s) (postings-come p t s) s
     (All-from_recursion (HasCome t) (account_of r s).queue (all-weaker (HasCome s.clock) (HasCome t) (λ m come. omega (arith, come, le)) (account_of r s).queue (recursion_from_All (HasCome s.clock) (account_of r s).queue (has r))))
 
+-- ---- the whole registry, as time passes and in each step
+
 pub registry-lapse : (p : PolicyRules) (t : ℕ) (s : Registry) → s.clock ≤ t → t ≤ last_clock → IsRegistry p s
     → IsRegistry p (lapse_registry p t s)
 registry-lapse p t s le early is = record { clock = early; objects = kept-lapse p t s le is.objects; lines = lines-lapse p t s le is.objects is.lines; messages = messages-lapse p t s le is.messages; shapes = shapes-lapse p t s early is.shapes }

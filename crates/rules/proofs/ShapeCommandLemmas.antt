@@ -103,8 +103,6 @@ renewed-end t created years more early fits h =
     let ends : EndsInTime created (years + more) = omega (arith, within, ten-end t 10 early (omega arith)) in
     fewer-end created (max years (min (years + more) 0xFFFF_FFFF)) (years + more) (omega arith) ends
 
--- ---- each change, and time alone
-
 -- ---- one change
 
 -- What is put has its shape, and no domain names a host that a name is given to.
