@@ -5,11 +5,12 @@
  * looked up again, and nothing is removed that can't be there. Why each statement is needed stands beside it. What the
  * tables and their texts are it takes from the program (statements.py), but for two of its own.
  *
- * usage: floor DB DOMAINS COMMANDS [each]    (DB is a path where nothing is yet, or :memory:)
+ * usage: floor DB DOMAINS COMMANDS [each|counted]    (DB is a path where nothing is yet, or :memory:)
  *
  * Fills a database with so many domains of the registrar 1 by creates, and then times so many of each
  * command, each in a transaction of its own. A file is in WAL mode with full synchronisation. With 'each' it
- * prints besides, of the creates alone, what each statement took and how often one create runs it.
+ * prints besides, of the creates alone, what each statement took and how often one create runs it. With 'counted',
+ * under callgrind, each statement of the commands leaves a file of what it took, under its name (instructions.py).
  */
 #include <sqlite3.h>
 #include <stdarg.h>
@@ -18,6 +19,13 @@
 #include <stdlib.h>
 #include <string.h>
 #include <time.h>
+
+#if __has_include(<valgrind/callgrind.h>)
+#include <valgrind/callgrind.h>
+#else
+#define CALLGRIND_ZERO_STATS
+#define CALLGRIND_DUMP_STATS_AT(name)
+#endif
 
 #include "statements.h"
 
@@ -147,11 +155,14 @@ static double now(void) {
 
 /* What each statement took, and how often it ran. */
 static int is_noted;
+static int is_counted;
 static double spent[STATEMENTS];
 static int64_t runs[STATEMENTS];
 
 static void run(enum statement which, const struct subject *of) {
     const double begun = is_noted ? now() : 0;
+    if (is_counted)
+        CALLGRIND_ZERO_STATS;
     if (made[which] == NULL)
         need(sqlite3_prepare_v3(db, TEXTS[which], -1, SQLITE_PREPARE_PERSISTENT, &made[which], NULL) == SQLITE_OK,
              TEXTS[which]);
@@ -161,6 +172,8 @@ static void run(enum statement which, const struct subject *of) {
         read_columns(made[which]);
     need(told == SQLITE_DONE, TEXTS[which]);
     sqlite3_reset(made[which]);
+    if (is_counted)
+        CALLGRIND_DUMP_STATS_AT(NAMES[which]);
     if (is_noted) {
         spent[which] += now() - begun;
         runs[which]++;
@@ -185,7 +198,8 @@ static void timed(const char *word, const enum statement *of, size_t bytes, int6
 
 int main(int words, char **word) {
     const int is_each = words == 5 && strcmp(word[4], "each") == 0;
-    need(words == 4 || is_each, "usage: floor DB DOMAINS COMMANDS [each]");
+    const int is_to_count = words == 5 && strcmp(word[4], "counted") == 0;
+    need(words == 4 || is_each || is_to_count, "usage: floor DB DOMAINS COMMANDS [each|counted]");
     const int64_t domains = atoll(word[2]), commands = atoll(word[3]);
     need(commands > 0 && domains >= commands, "at least as many domains as commands, and one");
     need(sqlite3_open(word[1], &db) == SQLITE_OK, word[1]);
@@ -203,6 +217,7 @@ int main(int words, char **word) {
         command(CREATE, sizeof CREATE, &subject);
     }
     sqlite3_exec(db, "PRAGMA synchronous = FULL", NULL, NULL, NULL);
+    is_counted = is_to_count;
     timed("check", CHECK, sizeof CHECK, domains, commands, 1, 0);
     timed("info", INFO, sizeof INFO, domains, commands, 1, 0);
     timed("balance", BALANCE, sizeof BALANCE, domains, commands, 1, 0);

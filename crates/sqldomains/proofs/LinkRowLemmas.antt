@@ -1,13 +1,11 @@
 -- Rows that lead from a domain, removed and added.
-use Rattle.std.proofs.Common.{◌≡◌, inl, inr, ◌+◌, ◌<◌, ◌<ℤ◌, get_or, length, take, ℕ, ℤ, Bool, true, false, ◌&&◌, cond, List, [], ◌∷◌, ◌++◌, filter, fold, Option, Some, None, option_map, refl, sym, ap, subst, ◌∙◌, append_assoc, arith, int_eq}
+use Rattle.std.proofs.Common.{◌≡◌, ◌+◌, ◌<◌, get_or, length, take, ℕ, ℤ, Bool, true, false, ◌&&◌, cond, List, [], ◌∷◌, ◌++◌, map, filter, fold, Option, Some, None, option_map, refl, sym, ap, subst, ◌∙◌, append_assoc, int_eq}
 use Rattle.std.proofs.lemmas.Bool.Decides.{Decides-int_eq}
-use Rattle.std.proofs.lemmas.Int.{ints}
 use Rattle.std.proofs.lemmas.List.{append-nil, take_more}
 use Rattle.sqlrows.specs.inner.Layouts.{appended}
-use Rattle.sqlite_keyed.specs.Keyed.{IsKeyedBy, get_by, next_key}
-use Rattle.sqlite_keyed.specs.Lists.{delete_where}
-use Rattle.sqlite_keyed.proofs.KeyedLemmas.{int_eq_apart, same_int}
-use Rattle.sqlite_rules.specs.Lists.{Has}
+use Rattle.sqlite_keyed.specs.Keyed.{next_key}
+use Rattle.sqlite_keyed.specs.Lists.{delete_where, update_where}
+use Rattle.sqlite_keyed.proofs.KeyedLemmas.{same_int}
 use Rattle.objects.specs.declared.domain.Links.{Links}
 use Rattle.sqlcolumns.specs.declared.code.Role.{Role}
 use Rattle.sqlcolumns.specs.declared.code.Role.TheVariants as roles
@@ -21,12 +19,12 @@ use Rattle.sqltables.specs.Host as host_table
 use Rattle.sqltables.specs.Link as table
 use Rattle.sqltables.specs.Link.{Link, link_with_domain}
 use Rattle.sqltables.specs.inner.Whole.{IsWhole}
-use Rattle.sqltables.proofs.RowLemmas.{all_at}
 use Rattle.sqlobjects.specs.Changes.{contact_name, host_name}
 use Rattle.sqlobjects.proofs.PutLemmas.{filter-append, filter-append_pass, filter-delete, filter-deleted, get_by-has}
+use Rattle.sqldomains.specs.declared.comparison.LinkComparison.TheVariants as comparisons
 use Rattle.sqldomains.specs.Domains.{are_dated, in_places, linked_name, placed, registrant_alone, with_link, with_links, with_name}
 use Rattle.sqldomains.specs.inner.Links.{IsNumberOfContact, IsNumberOfHost}
-use Rattle.sqldomains.specs.inner.Stages.{AreLinksCleared, AreLinksPut, AreNamesAdded, AreOtherLinksKept, IsLinkTo, Names, with_names}
+use Rattle.sqldomains.specs.inner.Stages.{AreLinksCleared, AreLinksPutOver, AreNamesAdded, AreOtherLinksKept, IsLinkTo, Names, with_names}
 use Rattle.sqldomains.proofs.LinkedLemmas.{registrant-more}
 
 -- ---- rows read where names are alike
@@ -158,15 +156,71 @@ in-all l so =
     ∙ all_hosts l.hosts (record (registrant_alone l.registrant) { admin = l.admin; tech = l.tech })
     ∙ (λ i. record l { hosts = so i })
 
-pub links-put : (id due number : ℤ) (l : Links) (a b c d e : Content) → in_places l.hosts ≡ l.hosts → number ≡ id → AreLinksCleared number a b → AreNamesAdded id due roles.Admin l.admin b c → AreNamesAdded id due roles.Tech l.tech c d → AreNamesAdded id due roles.Host l.hosts d e
-    → AreLinksPut id due l a e
-links-put id due number l a b c d e so same clear admin tech host =
-    let cleared : AreLinksCleared id a b = subst (λ k. AreLinksCleared k a b) same clear in
-    let start : Names id due (registrant_alone l.registrant) b = record { all = ap (with_links b (registrant_alone l.registrant)) cleared.none; dated = ap (are_dated due) cleared.none } in
+pub links-added : (id due : ℤ) (l : Links) (a b c d : Content) → AreNamesAdded id due roles.Admin l.admin a b → AreNamesAdded id due roles.Tech l.tech b c → AreNamesAdded id due roles.Host l.hosts c d → AreLinksPutOver id due l comparisons.Absent a d
+links-added id due l a b c d admin tech host so none =
+    let start : Names id due (registrant_alone l.registrant) a = record { all = ap (with_links a (registrant_alone l.registrant)) none; dated = ap (are_dated due) none } in
     record {
-      here = subst (λ m. Names id due m e) (in-all l so) (host.here _ (tech.here _ (admin.here _ start)));
-      others = then-kept id a b e cleared.others (then-kept id b c e admin.others (then-kept id c d e tech.others host.others));
+      here = subst (λ m. Names id due m d) (in-all l so) (host.here _ (tech.here _ (admin.here _ start)));
+      others = then-kept id a b d admin.others (then-kept id b c d tech.others host.others);
     }
+
+pub links-replaced : (id due number : ℤ) (l : Links) (a b c : Content) → number ≡ id → AreLinksCleared number a b → AreLinksPutOver id due l comparisons.Absent b c → AreLinksPutOver id due l comparisons.Different a c
+links-replaced id due number l a b c same clear added so any =
+    let cleared : AreLinksCleared id a b = subst (λ k. AreLinksCleared k a b) same clear in
+    let put = added so cleared.none in
+    record { here = put.here; others = then-kept id a b c cleared.others put.others }
+
+-- ---- rows that stay
+
+abbrev due_then : ℤ → Link → Link
+due_then due row = record row { due = due }
+
+module _ (id due : ℤ) where
+  abbrev updated : List Link → List Link
+  updated rows = update_where (link_with_domain id) (due_then due) rows
+
+  updated-here : (rows : List Link) → filter (link_with_domain id) (updated rows) ≡ map (due_then due) (filter (link_with_domain id) rows)
+  updated-here [] = refl
+  updated-here (row ∷ rows) = go (link_with_domain id row) refl (updated-here rows)
+    where
+      go : (b : Bool) → link_with_domain id row ≡ b → filter (link_with_domain id) (updated rows) ≡ map (due_then due) (filter (link_with_domain id) rows)
+          → filter (link_with_domain id) (cond b (due_then due row) row ∷ updated rows) ≡ map (due_then due) (cond b (row ∷ filter (link_with_domain id) rows) (filter (link_with_domain id) rows))
+      go true e more = ap (λ (b : Bool). cond b (due_then due row ∷ filter (link_with_domain id) (updated rows)) (filter (link_with_domain id) (updated rows))) e ∙ ap (λ l. due_then due row ∷ l) more
+      go false e more = ap (λ (b : Bool). cond b (row ∷ filter (link_with_domain id) (updated rows)) (filter (link_with_domain id) (updated rows))) e ∙ more
+
+  updated-others : (other : ℤ) → int_eq id other ≡ false → (rows : List Link) → filter (link_with_domain other) (updated rows) ≡ filter (link_with_domain other) rows
+  updated-others other apart [] = refl
+  updated-others other apart (row ∷ rows) = go (link_with_domain id row) refl (updated-others other apart rows)
+    where
+      go : (b : Bool) → link_with_domain id row ≡ b → filter (link_with_domain other) (updated rows) ≡ filter (link_with_domain other) rows
+          → filter (link_with_domain other) (cond b (due_then due row) row ∷ updated rows) ≡ cond (link_with_domain other row) (row ∷ filter (link_with_domain other) rows) (filter (link_with_domain other) rows)
+      go true e more =
+          let elsewhere : link_with_domain other row ≡ false = ap (λ k. int_eq k other) (same_int row.domain id e) ∙ apart in
+          ap (λ (b : Bool). cond b (due_then due row ∷ filter (link_with_domain other) (updated rows)) (filter (link_with_domain other) (updated rows))) elsewhere ∙ more
+          ∙ sym (ap (λ (b : Bool). cond b (row ∷ filter (link_with_domain other) rows) (filter (link_with_domain other) rows)) elsewhere)
+      go false e more = ap (λ l. cond (link_with_domain other row) (row ∷ l) l) more
+
+  -- where rows lead doesn't hang on when they are due
+  lead-alike : (xs : Content) (rows : List Link) (l : Links) → with_links xs l (map (due_then due) rows) ≡ with_links xs l rows
+  lead-alike xs [] l = refl
+  lead-alike xs (row ∷ rows) l = λ i. with_link xs l row >>= (λ n. lead-alike xs rows n i)
+
+  all-dated : (rows : List Link) → are_dated due (map (due_then due) rows) ≡ true
+  all-dated [] = refl
+  all-dated (row ∷ rows) = ap (λ b. b && are_dated due (map (due_then due) rows)) ((Decides-int_eq due due).1 refl) ∙ all-dated rows
+
+  pub dues-set : (l : Links) (xs : Content) → AreLinksPutOver id due l comparisons.Misdated xs (links_to (update_where (link_with_domain id) (due_then due)) xs)
+  dues-set l xs so leads =
+      let ys : Content = links_to (update_where (link_with_domain id) (due_then due)) xs in
+      let rows = filter (link_with_domain id) xs.links in
+      let alone = registrant_alone l.registrant in
+      record {
+        here = record {
+          all = ap (with_links ys alone) (updated-here xs.links) ∙ links-alike xs ys (λ i. refl) (λ i. refl) (map (due_then due) rows) alone ∙ lead-alike xs rows alone ∙ leads;
+          dated = ap (are_dated due) (updated-here xs.links) ∙ all-dated rows;
+        };
+        others = record { domains = λ other apart. updated-others other apart xs.links; rest = refl };
+      }
 
 -- ---- numbers of names
 

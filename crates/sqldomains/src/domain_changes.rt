@@ -1,18 +1,20 @@
 //! Domains put under their names and dropped.
 ghost use Rattle.std.specs.Prelude.{◌≡◌, true, Some, None};
 ghost use Rattle.sqlrows.specs.Meanings.{Changes};
+ghost use Rattle.transactions.specs.States.{FindsSome};
 ghost use Rattle.sqlobjects.specs.Changes.{contact_name};
 ghost use Rattle.sqldomains.specs.inner.Changes.{IsDomainPut};
 
 use crate::domain_rows::{DerivedColumns, place, remove_found};
 use crate::link_rows::{contact_number, put_links};
+use crate::names;
 use basis::text::Text;
 use calendar::Moment;
 use objects::Domain;
 use sqlcolumns::is_domain;
 use sqlite::Alter;
 use sqlobjects::{Transferable, put_transfer, row_named};
-use sqltables::RowStore;
+use sqltables::{DomainRow, RowStore};
 use std::alloc::Global;
 use transactions::BookFault;
 
@@ -45,9 +47,36 @@ fn put<S: Alter>(
     ensures { Changes result (IsDomainPut domain.now.name (Some domain.now) (Some due)) store.old
         store.new }
 {
-    let registrant = contact_number(store, &domain.links.registrant)?;
+    let registrant = registrant_number(store, domain)?;
     let beside = DerivedColumns { registrant, due };
     put_beside(store, alloc, &beside, domain)
+}
+
+/// The number of the domain's registrant. It is looked for by its name only where the row that stands
+/// under the domain's name has another one's.
+fn registrant_number<S: Alter>(store: &mut RowStore<S>, domain: &Domain) -> Result<i64, BookFault>
+    ensures { FindsSome result (λ id. contact_name store.old.content id
+        ≡ Some domain.now.links.registrant) store.old store.new }
+{
+    let found: Option<DomainRow> = row_named(store, &domain.name)?;
+    let Some(row) = found else {
+        return contact_number(store, &domain.links.registrant);
+    };
+    number_or(store, row.registrant, &domain.links.registrant)
+}
+
+/// The number of the contact of this name: this one, if it is.
+fn number_or<S: Alter>(store: &mut RowStore<S>, id: i64, name: &Text) -> Result<i64, BookFault>
+    ensures { FindsSome result (λ id. contact_name store.old.content id ≡ Some name.now) store.old
+        store.new }
+{
+    let there = names::contact_name(store, id)?;
+    let is_same = there.as_str() == name.as_str();
+    drop(there);
+    if !is_same {
+        return contact_number(store, name);
+    }
+    Ok(id)
 }
 
 /// The same, told its registrant's number. One that wouldn't be read back is refused.

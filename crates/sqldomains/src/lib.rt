@@ -4,6 +4,7 @@
 #![tactic(auto)]
 
 mod below;
+mod comparison;
 mod domain_changes;
 mod domain_rows;
 mod domains;

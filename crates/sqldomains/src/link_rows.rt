@@ -3,10 +3,12 @@ ghost use Rattle.std.specs.Prelude.{◌≡◌, true, ◌∷◌, [], Some};
 ghost use Rattle.transactions.specs.States.{FindsSome};
 ghost use Rattle.sqlrows.specs.Meanings.{Changes};
 ghost use Rattle.sqlobjects.specs.Changes as changes;
-ghost use Rattle.sqldomains.specs.inner.Stages.{AreLinksCleared, AreLinksPut, AreNamesAdded, IsContactLinkTo, IsHostLinkTo, IsLinkTo};
+ghost use Rattle.sqldomains.specs.declared.comparison.LinkComparison.TheVariants as comparisons;
+ghost use Rattle.sqldomains.specs.inner.Stages.{AreDuesSet, AreLinksCleared, AreLinksPut, AreLinksPutOver, AreNamesAdded, IsContactLinkTo, IsHostLinkTo, IsLinkTo};
 
+use crate::comparison::{LinkComparison, compare_links};
 use crate::linked::{number_of_contact, number_of_host};
-use crate::links::number_of;
+use crate::links::{due_of, number_of};
 use crate::placing::check_places;
 use basis::text::Text;
 use objects::Links;
@@ -18,7 +20,8 @@ use std::alloc::Global;
 use transactions::BookFault;
 
 /// The domain that lies in this row names this, in place of what it named. Its registrant is in its row.
-/// Hosts in another order than that of their names wouldn't be read back and are refused.
+/// Hosts in another order than that of their names wouldn't be read back and are refused. Rows that
+/// lead to this already stay, and are told when the domain is due.
 pub(crate) fn put_links<S: Alter>(
     store: &mut RowStore<S>,
     alloc: Global,
@@ -30,11 +33,66 @@ pub(crate) fn put_links<S: Alter>(
         store.new }
 {
     check_places(alloc, links.hosts.as_slice())?;
-    let number = number_of(domain);
-    clear_links(store, number)?;
+    let there = compare_links(store, alloc, domain, links)?;
+    put_over(store, domain, links, there)
+}
+
+/// The same, told what the rows that lead from the domain lead to.
+fn put_over<S: Alter>(
+    store: &mut RowStore<S>,
+    domain: &DomainRow,
+    links: &Links,
+    there: LinkComparison,
+) -> Result<(), BookFault>
+    requires { store.old.is_open ≡ true }
+    ensures { Changes result (AreLinksPutOver domain.now.id domain.now.due links.now there) store.old
+        store.new }
+{
+    match there {
+        LinkComparison::Absent => add_links(store, domain, links),
+        LinkComparison::Same => Ok(()),
+        LinkComparison::Misdated => set_due(store, domain),
+        LinkComparison::Different => replace_links(store, domain, links),
+    }
+}
+
+/// The domain, from which nothing leads, names this.
+fn add_links<S: Alter>(
+    store: &mut RowStore<S>,
+    domain: &DomainRow,
+    links: &Links,
+) -> Result<(), BookFault>
+    requires { store.old.is_open ≡ true }
+    ensures { Changes result (AreLinksPutOver domain.now.id domain.now.due links.now comparisons.Absent)
+        store.old store.new }
+{
     add_names(store, domain, Role::Admin, links.admin.as_slice())?;
     add_names(store, domain, Role::Tech, links.tech.as_slice())?;
     add_names(store, domain, Role::Host, links.hosts.as_slice())?;
+    Ok(())
+}
+
+/// The rows that lead from the domain say when it is due.
+fn set_due<S: Alter>(store: &mut RowStore<S>, domain: &DomainRow) -> Result<(), BookFault>
+    requires { store.old.is_open ≡ true }
+    ensures { Changes result (AreDuesSet domain.now.id domain.now.due) store.old store.new }
+{
+    store.update_links_due(number_of(domain), due_of(domain))?;
+    Ok(())
+}
+
+/// The domain names this in place of what it named.
+fn replace_links<S: Alter>(
+    store: &mut RowStore<S>,
+    domain: &DomainRow,
+    links: &Links,
+) -> Result<(), BookFault>
+    requires { store.old.is_open ≡ true }
+    ensures { Changes result (AreLinksPutOver domain.now.id domain.now.due links.now comparisons.Different)
+        store.old store.new }
+{
+    clear_links(store, number_of(domain))?;
+    add_links(store, domain, links)?;
     Ok(())
 }
 

@@ -41,7 +41,7 @@ fn dated(row: &DomainRow, rows: Seq<LinkRow>) -> Result<Seq<LinkRow>, BookFault>
     Ok(rows)
 }
 
-fn are_dated(row: &DomainRow, rows: &[LinkRow]) -> bool
+pub(crate) fn are_dated(row: &DomainRow, rows: &[LinkRow]) -> bool
     ensures { result ≡ spec.are_dated row.now.due rows.now }
 {
     rows.iter().all(|link| link.due == row.due)
@@ -53,7 +53,13 @@ pub(crate) fn number_of(row: &DomainRow) -> Number
     Number::new(row.id)
 }
 
-fn registrant_alone(alloc: Global, registrant: Text) -> Links
+pub(crate) fn due_of(row: &DomainRow) -> Number
+    ensures { result ≡ row.now.due }
+{
+    Number::new(row.due)
+}
+
+pub(crate) fn registrant_alone(alloc: Global, registrant: Text) -> Links
     ensures { result ≡ spec.registrant_alone registrant }
 {
     Links {
@@ -65,7 +71,7 @@ fn registrant_alone(alloc: Global, registrant: Text) -> Links
 }
 
 /// With what the rows lead to, in their order.
-fn with_links<S: Alter>(
+pub(crate) fn with_links<S: Alter>(
     store: &mut RowStore<S>,
     links: Links,
     rows: Seq<LinkRow>,

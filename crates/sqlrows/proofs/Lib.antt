@@ -2,6 +2,7 @@ pub mod SelectLemmas
 pub mod ListLemmas
 pub mod WriteLemmas
 pub mod PutLemmas
+pub mod UpdateLemmas
 pub mod AppendLemmas
 pub mod StandLemmas
 pub mod CastLemmas

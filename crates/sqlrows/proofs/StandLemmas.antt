@@ -3,7 +3,7 @@ use Rattle.std.proofs.Common.{cond, OnErr, OnOk, ◌≡◌, inl, inr, ℕ, Bool,
 use Rattle.sqlite_value.specs.Order.{Row}
 use Rattle.sqlite_trees.specs.Tree.{Trees}
 use Rattle.sqlite_schema.specs.declared.command.Command.{Command}
-use Rattle.sqlite_schema.specs.declared.command.Command.TheVariants.{Insert, InsertOr, Delete, CreateTable, CreateIndex}
+use Rattle.sqlite_schema.specs.declared.command.Command.TheVariants.{Insert, InsertOr, Update, Delete, CreateTable, CreateIndex}
 use Rattle.sqlite_schema.specs.declared.command.Returning.{Returning}
 use Rattle.sqlite_resolve.specs.declared.compiled.Compiled.{Compiled}
 use Rattle.sqlite.specs.declared.error.Error.{Error}
@@ -75,6 +75,7 @@ stays_by : (old new : State) (returning : Option Returning) (command : Command) 
     → Runs old new returning command text params count → Stays old new
 stays_by old new returning (Insert at from) text params count kind inside w = record { shown = subst (λ b. Shows old new new.now (cond b old.committed new.now) b) inside w.shown; marks = w.marks }
 stays_by old new returning (InsertOr at way from clauses) text params count kind inside w = record { shown = subst (λ b. Shows old new new.now (cond b old.committed new.now) b) inside w.shown; marks = w.marks }
+stays_by old new returning (Update at q) text params count kind inside w = record { shown = subst (λ b. Shows old new new.now (cond b old.committed new.now) b) inside w.shown; marks = w.marks }
 stays_by old new returning (Delete at q) text params count kind inside w = record { shown = subst (λ b. Shows old new new.now (cond b old.committed new.now) b) inside w.shown; marks = w.marks }
 stays_by old new returning CreateTable text params count kind inside w = record { shown = subst (λ b. Shows old new new.now (cond b old.committed new.now) b) inside w.shown; marks = w.marks }
 stays_by old new returning (CreateIndex at) text params count kind inside w = record { shown = subst (λ b. Shows old new new.now (cond b old.committed new.now) b) inside w.shown; marks = w.marks }

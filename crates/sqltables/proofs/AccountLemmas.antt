@@ -33,16 +33,16 @@ pub all_is : IsSelect registry account_all (select_query 1 ([]) columns)
 unfolding understood everything
 all_is = record { names = codes "id" ∷ codes "ident" ∷ codes "commands" ∷ codes "messages" ∷ codes "serial" ∷ codes "waiting" ∷ codes "balance" ∷ codes "held" ∷ []; command = refl; plain = (refl, refl); unlisted = refl }
 
-pub all_asks : Asks account_shown account_all [] (λ c. c.accounts)
-all_asks = asks_accounts account_shown account_all [] _ (λ xs. xs) all_is (λ db xs rows h answer.
+pub all_asks : Asks accounts.tree account_shown account_all [] (λ c. c.accounts)
+all_asks = asks_accounts account_shown account_all [] _ (λ xs. xs) all_is refl (λ db xs rows h answer.
     selects accounts _ _ [] (λ _. true) account_shown (λ x. refl) (λ x. refl) db xs rows h answer ∙ ap (map account_shown) (filter_all (λ _. true) xs (all_of _ (λ x. refl) xs)))
 
 pub by_id_is : IsSelect registry account_by_id (select_query 1 (op2 (Compare Eq Binary) (col 1 0) (col 0 0) ∷ []) columns)
 unfolding understood everything
 by_id_is = record { names = codes "id" ∷ codes "ident" ∷ codes "commands" ∷ codes "messages" ∷ codes "serial" ∷ codes "waiting" ∷ codes "balance" ∷ codes "held" ∷ []; command = refl; plain = (refl, refl); unlisted = refl }
 
-pub by_id_asks : (v : ℤ) → Asks account_shown account_by_id (Int v ∷ []) (λ c. filter (account_with_id v) c.accounts)
-by_id_asks v = asks_accounts account_shown account_by_id (Int v ∷ []) _ (λ xs. filter (account_with_id v) xs) by_id_is (λ db xs rows h answer.
+pub by_id_asks : (v : ℤ) → Asks accounts.tree account_shown account_by_id (Int v ∷ []) (λ c. filter (account_with_id v) c.accounts)
+by_id_asks v = asks_accounts account_shown account_by_id (Int v ∷ []) _ (λ xs. filter (account_with_id v) xs) by_id_is refl (λ db xs rows h answer.
     selects accounts _ _ (Int v ∷ []) (account_with_id v) account_shown (λ x. last_term (at_ints false Eq x.id v)) (λ x. refl) db xs rows h answer)
 
 listed : Listed accounts registry 1 table
@@ -61,5 +61,5 @@ put_is = record { command = refl; plain = (refl, refl) }
 gives : Gives accounts registry table 8 values sets account_shown
 gives = record { values = λ x. refl; place = λ x v. refl; updates = λ x v r. refl; unshared = λ new r. refl; headed = λ x. refl }
 
-pub put_alters : (x : Account) → Alters account_put (account_shown x) (accounts_to (λ xs. insert_by accounts.key xs x))
+pub put_alters : (x : Account) → Alters accounts.tree account_put (account_shown x) (accounts_to (λ xs. insert_by accounts.key xs x))
 put_alters x = alters_accounts account_put (account_shown x) (λ xs. insert_by accounts.key xs x) put_is.plain (ap writes_tables put_is.command) (puts accounts registry 1 table listed 8 values sets account_shown gives account_put x put_is)

@@ -5,7 +5,7 @@ use Rattle.sqlite_value.specs.Order.{Row}
 use Rattle.sqlite_trees.specs.Tree.{Trees}
 use Rattle.sqlite_schema.specs.declared.schema.Schema.{Schema}
 use Rattle.sqlite_schema.specs.declared.command.Command.{Command}
-use Rattle.sqlite_schema.specs.declared.command.Command.TheVariants.{Insert, InsertOr, Delete, CreateTable, CreateIndex}
+use Rattle.sqlite_schema.specs.declared.command.Command.TheVariants.{Insert, InsertOr, Update, Delete, CreateTable, CreateIndex}
 use Rattle.sqlite.specs.declared.error.Error.{Error}
 use Rattle.sqlite.specs.Does.{Does, Tally}
 use Rattle.sqlite.specs.Effect.{Database}
@@ -14,7 +14,7 @@ use Rattle.sqlite.specs.State.{CommitsBy, State, Executes, HasCleanDisk, Runs, S
 use Rattle.sqlite.proofs.Callers.{runs_as, statement_of}
 use Rattle.sqlrows.specs.inner.Calls.{Stands}
 use Rattle.sqlrows.specs.inner.Calls as calls
-use Rattle.sqlrows.specs.inner.Layouts.{command_of, writes_tables}
+use Rattle.sqlrows.specs.inner.Layouts.{Leads, command_of, writes_tables}
 use Rattle.sqlrows.proofs.SelectLemmas.{same_command}
 use Rattle.sqlrows.proofs.SoundLemmas.{executed_open}
 use Rattle.sqlrows.proofs.StandLemmas.{commits_later, stands_if_not_executed, stays_if_executed}
@@ -25,7 +25,9 @@ use Rattle.sqltables.specs.Tables.{registry}
 use Rattle.sqltables.specs.declared.form.Form.{Form}
 use Rattle.sqltables.specs.declared.form.Form.TheVariants.{Unused, Making, Made, Other}
 use Rattle.transactions.specs.States.{Remains, Writes}
-use Rattle.sqltables.specs.inner.Statements.{Alters}
+use Rattle.sqltables.specs.declared.answers.Answers.{Answers}
+use Rattle.sqltables.specs.inner.Answers.{AreRight, Recalls}
+use Rattle.sqltables.specs.inner.Statements.{Alters, AreOthersSame}
 use Rattle.sqltables.specs.inner.Stored.{Agrees, Bears, Fits, HoldsRows, has_rows, rows_in, stands, undone}
 use Rattle.sqltables.proofs.AskingLemmas.{holds-now, rows-are}
 use Rattle.sqltables.proofs.DecodingLemmas.{decoded}
@@ -36,6 +38,7 @@ changed-by : (old new : State) (command : Command) (text : List ℕ) (params : R
     → (tally : Tally) × Does old.step_limit (mode_of old) params old.now text None command (Ok (tally, new.now))
 changed-by old new (Insert at from) text params count kind w = (w.tally, w.changed)
 changed-by old new (InsertOr at way from clauses) text params count kind w = (w.tally, w.changed)
+changed-by old new (Update at q) text params count kind w = (w.tally, w.changed)
 changed-by old new (Delete at q) text params count kind w = (w.tally, w.changed)
 changed-by old new CreateTable text params count kind w = (w.tally, w.changed)
 changed-by old new (CreateIndex at) text params count kind w = (w.tally, w.changed)
@@ -47,7 +50,7 @@ bears-written Making was now committed after is it h same = (h, ap (λ (db : Dat
 bears-written Made was now committed after is it h same = (h, subst HoldsRows (sym same) it.1)
 bears-written Other was now committed after is it h same = absurd (true≢false (sym is))
 
-module _ (sql : List ℕ) (params : Row) (form : Form) (old new : State) (P : Trees → Type 0) (survives : Survives old new P) (fits : Fits form true old) (rows : has_rows form ≡ true) (f : Content → Content) (alters : Alters sql params f) where
+module _ (tree : ℕ) (sql : List ℕ) (params : Row) (form : Form) (old new : State) (P : Trees → Type 0) (survives : Survives old new P) (fits : Fits form true old) (rows : has_rows form ≡ true) (f : Content → Content) (alters : Alters tree sql params f) where
   -- after an error
   pub left-by-write : (e : Error) → (HasCleanDisk new → Executes sql params old new (Err e)) → HasCleanDisk new → IsTrue new.is_open → Stands old new × Agrees form true old
   left-by-write e ran clean opened = (stands_if_not_executed sql params old new e (ran clean), fits (was-honest old new P survives clean) (executed_open sql params old new (Err e) (ran clean) opened))
@@ -67,15 +70,32 @@ module _ (sql : List ℕ) (params : Row) (form : Form) (old new : State) (P : Tr
     agreed : HasCleanDisk new → IsTrue new.is_open → Agrees form true old
     agreed clean opened = fits (was-honest old new P survives clean) (executed_open sql params old new (Ok count) (ran clean) opened)
 
-    made : HasCleanDisk new → Agrees form true old → IsContent (f (contents old.now.trees)) new.now
-    made clean it =
+    was-content : Agrees form true old → IsContent (contents old.now.trees) (record { schema = registry; trees = old.now.trees })
+    was-content it =
+        let h = holds-now form old.now old.committed rows it.bears in
+        subst (λ (s : Schema). IsContent (contents old.now.trees) (record { schema = s; trees = old.now.trees })) h.schema h
+
+    led : HasCleanDisk new → Agrees form true old → (tally : Tally) × Leads registry sql params old.step_limit (statement_of sql (understood registry sql)) old.now.trees tally new.now
+    led clean it =
         let h = holds-now form old.now old.committed rows it.bears in
         let command = command_of (understood registry sql) in
         let runs = runs_as sql params old new registry h.schema command (same_command (understood registry sql)) alters.plain count (ran clean) in
         let text = statement_of sql (understood registry sql) in
         let did = changed-by old new command text params count alters.writes runs in
-        alters.means old.step_limit text old.now.trees did.0 new.now (contents old.now.trees) (subst (λ (s : Schema). IsContent (contents old.now.trees) (record { schema = s; trees = old.now.trees })) h.schema h)
-        (subst (λ (s : Schema). Does old.step_limit (mode_of old) params (record { schema = s; trees = old.now.trees }) text None command (Ok (did.0, new.now))) h.schema did.1)
+        (did.0, subst (λ (s : Schema). Does old.step_limit (mode_of old) params (record { schema = s; trees = old.now.trees }) text None command (Ok (did.0, new.now))) h.schema did.1)
+
+    made : HasCleanDisk new → Agrees form true old → IsContent (f (contents old.now.trees)) new.now
+    made clean it =
+        let led = led clean it in
+        alters.means old.step_limit _ old.now.trees led.0 new.now (contents old.now.trees) (was-content it) led.1
+
+    -- what was kept of other tables is still right
+    pub recalls-written : (kept left : Answers) → Recalls old kept → ((db next : Trees) → AreOthersSame tree db next → AreRight db kept → AreRight next left) → Recalls new left
+    recalls-written kept left was leaves clean opened =
+        let it = agreed clean opened in
+        let led = led clean it in
+        leaves old.now.trees new.now.trees (alters.others old.step_limit _ old.now.trees led.0 new.now (contents old.now.trees) (was-content it) led.1)
+        (was (was-honest old new P survives clean) (executed_open sql params old new (Ok count) (ran clean) opened))
 
     stayed : HasCleanDisk new → Agrees form true old → calls.Stays old new
     stayed clean it =

@@ -1,15 +1,25 @@
 -- What is found among the answers that are kept, and what is kept.
-use Rattle.std.proofs.Common.{◌≡◌, Bool, true, ℕ, List, map, IfOk, Result, refl, sym, ap, subst, subst₂, ◌∙◌}
-use Rattle.std.proofs.lemmas.Bool.{and_parts}
+use Rattle.std.proofs.Common.{◌≡◌, ◌≢◌, ◌++◌, ◌==◌, Bool, true, false, not, ℕ, List, [], ◌∷◌, map, filter, flat_map, get_or, if◌then◌else◌, IfOk, Result, refl, sym, ap, subst, subst₂, ◌∙◌}
+use Rattle.std.specs.List.{All}
+use Rattle.std.proofs.lemmas.Bool.{and_parts, eqb-false}
+use Rattle.std.proofs.lemmas.List.Elements.{All-filter, All-push, filter_passes}
 use Rattle.std.proofs.lemmas.Simd.{map-map}
 use Rattle.sqlite_value.specs.declared.value.Value.{Value}
+use Rattle.sqlite_value.specs.declared.value.Value.TheVariants.{Null}
 use Rattle.sqlite_value.specs.declared.value.ValueRef.{ValueRef}
 use Rattle.sqlite_value.specs.Value.{owned}
 use Rattle.sqlite.specs.Values.{bound, bound_value}
 use Rattle.sqlite_value.specs.Order.{Row}
 use Rattle.sqlite_trees.specs.Tree.{Trees}
+use Rattle.sqlite_sql.specs.Query.{Query, IsAnswer, inner, end, matches_as}
+use Rattle.sqlite_sql.specs.Group.{IsGrouped}
+use Rattle.sqlite_schema.specs.declared.command.Command.{Command}
+use Rattle.sqlite_schema.specs.declared.command.Command.TheVariants.{Select}
+use Rattle.sqlite_sql.specs.Term.{Env}
+use Rattle.sqlite_sql.specs.Program.{overlay}
+use Rattle.sqlrows.proofs.SelectLemmas.{overlay_none}
 use Rattle.sqlite.specs.State.{State}
-use Rattle.sqltables.specs.inner.Answers.{AreRight, IsAnswered, IsOf, IsRight, Recalls}
+use Rattle.sqltables.specs.inner.Answers.{AreRight, IsAnswered, IsOf, IsQueryOf, IsRight, Recalls}
 use Rattle.sqltables.specs.Content.{Content}
 use Rattle.sqltables.specs.inner.Content.{IsContent}
 use Rattle.sqltables.specs.Decoding.{contents}
@@ -19,7 +29,7 @@ use Rattle.sqltables.specs.declared.answers.Answer.{Answer}
 use Rattle.sqltables.specs.declared.answers.Answers.{Answers}
 use Rattle.sqltables.specs.declared.form.Form.{Form}
 use Rattle.transactions.specs.States.{Finds, Reads, Remains, StateOf}
-use Rattle.sqltables.specs.inner.Statements.{Asks}
+use Rattle.sqltables.specs.inner.Statements.{AreOthersSame, Asks, IsOfTable}
 use Rattle.sqltables.specs.inner.Stored.{Fits, HoldsRows, has_rows, rows_in, stands}
 use Rattle.sqltables.proofs.AskingLemmas.{finds-by, holds-now, in-registry, rows-are, shows}
 use Rattle.sqltables.proofs.StandingLemmas.{honest}
@@ -29,10 +39,10 @@ pub same_bound : (values : List Value) (given : List ValueRef) → values ≡ ma
 same_bound values given is = ap (map bound_value) is ∙ map-map bound_value owned given
 
 -- the rows of an answer to the question that a text is
-pub shown-by : {R : Type 0} (shown : R → Row) (sql : List ℕ) (params : Row) (f : Content → List R) → Asks shown sql params f → (db : Trees) (xs : Content) → IsContent xs (record { schema = registry; trees = db }) → (it : Answer) → IsOf it sql params → IsRight db it
+pub shown-by : {R : Type 0} (tree : ℕ) (shown : R → Row) (sql : List ℕ) (params : Row) (f : Content → List R) → Asks tree shown sql params f → (db : Trees) (xs : Content) → IsContent xs (record { schema = registry; trees = db }) → (it : Answer) → IsOf it sql params → IsRight db it
     → it.rows.items ≡ map shown (f xs)
-shown-by shown sql params f asks db xs is it of right =
-    shows shown sql params f asks db xs is it.rows.items (subst₂ (λ (text : List ℕ) (given : Row). IsAnswered db text given it.rows.items) of.0 of.1 right)
+shown-by tree shown sql params f asks db xs is it of right =
+    shows tree shown sql params f asks db xs is it.rows.items (subst₂ (λ (text : List ℕ) (given : Row). IsAnswered db text given it.rows.items) of.0 of.1 right.0)
 
 -- a call that does nothing
 reads-itself : (s : StateOf Content) → Reads s s
@@ -55,3 +65,64 @@ recalled form begun s leaves kept fits rows recalls f found tells =
     let clean = honest s parts.0 in
     let h : HoldsRows s.now = holds-now form s.now s.committed rows (fits clean parts.1).bears in
     subst (λ (xs : Content). IfOk found (λ records. records ≡ f xs)) (sym (rows-are form s.now.trees rows)) (tells s.now.trees (contents s.now.trees) (recalls clean parts.1) (in-registry s.now h)))
+
+-- ---- what a write of another table leaves
+
+-- what a command asks
+abbrev asked-by : Query → Command → Query
+asked-by other (Select program names) = program.body
+asked-by other _ = other
+
+-- a text that asks a table asks no other
+pub reads-by : {R : Type 0} (tree : ℕ) (shown : R → Row) (sql : List ℕ) (params : Row) (f : Content → List R) → Asks tree shown sql params f → IsQueryOf tree sql
+reads-by tree shown sql params f a query is = subst (IsOfTable tree) (ap (asked-by a.query) (sym a.is.command ∙ is.command)) a.of
+
+-- a query answers as before where its table is as it was
+same-answer : (tree : ℕ) (query : Query) (params : Row) (rows : List Row) (old new : Trees) → query.from ≡ inner tree end → new tree ≡ old tree
+    → IsAnswer query (overlay old []) params rows → IsAnswer query (overlay new []) params rows
+same-answer tree query params rows old new from same a =
+    let stored : overlay old [] tree ≡ overlay new [] tree = overlay_none old tree ∙ sym same ∙ sym (overlay_none new tree) in
+    let of_table : matches_as Null (overlay old []) query.filter (inner tree end) (params ∷ []) ≡ matches_as Null (overlay new []) query.filter (inner tree end) (params ∷ []) =
+    ap (λ (l : List Row). flat_map (λ (r : Row). matches_as Null (overlay old []) query.filter end ((params ∷ []) ++ r ∷ [])) l) stored in
+    let matched = subst (λ j. matches_as Null (overlay old []) query.filter j (params ∷ []) ≡ matches_as Null (overlay new []) query.filter j (params ∷ [])) (sym from) of_table in
+    record {
+      staged = a.staged;
+      grouped = subst (λ (envs : List Env). IsGrouped query.group params envs a.staged) matched a.grouped;
+      kept = a.kept;
+      distinct = a.distinct;
+      ordered = a.ordered;
+      same = a.same;
+      sorted = a.sorted;
+      shown = a.shown;
+    }
+
+-- an answer about another table than the one that was written
+pub right-after : (written : ℕ) (old new : Trees) → AreOthersSame written old new → (it : Answer) → it.tree ≢ written → IsRight old it → IsRight new it
+right-after written old new others it apart right = (
+  λ query is. let of = right.1 query is in same-answer it.tree query (map bound_value it.params) it.rows.items old new of.from (others it.tree of.table apart) (right.0 query is),
+  right.1,
+)
+
+-- of several, those that are about other tables
+pub rights-after : (written : ℕ) (old new : Trees) → AreOthersSame written old new → (items left : List Answer) → left ≡ filter (λ (it : Answer). not (it.tree == written)) items → All (IsRight old) items → All (IsRight new) left
+rights-after written old new others items left is right =
+    subst (All (IsRight new)) (sym is) (λ i d short.
+    let it = get_or (filter (λ (a : Answer). not (a.tree == written)) items) i d in
+    let other : (it.tree == written) ≡ false = not_true (it.tree == written) (filter_passes (λ (a : Answer). not (a.tree == written)) items i d short) in
+    right-after written old new others it (eqb-false it.tree written other) (All-filter (λ (a : Answer). not (a.tree == written)) (IsRight old) items right i d short))
+  where
+    not_true : (b : Bool) → not b ≡ true → b ≡ false
+    not_true true e = sym e
+    not_true false e = refl
+
+-- the answer to a question, as it is kept
+pub right-as : (db : Trees) (it : Answer) (tree : ℕ) (sql : List ℕ) (params : Row) (rows : List Row) → IsOf it sql params → it.tree ≡ tree → it.rows.items ≡ rows → IsAnswered db sql params rows → IsQueryOf tree sql → IsRight db it
+right-as db it tree sql params rows of at has answered asks = (
+  subst (IsAnswered db it.sql.items (map bound_value it.params)) (sym has) (subst₂ (λ (text : List ℕ) (given : Row). IsAnswered db text given rows) (sym of.0) (sym of.1) answered),
+  subst₂ IsQueryOf (sym at) (sym of.0) asks,
+)
+
+-- one more, if it could be put in
+pub right-pushed : {X : Type 0} (P : X → Type 0) (in_it : Bool) (items : List X) (it : X) → All P items → P it → All P (if in_it then items ++ it ∷ [] else items)
+right-pushed P true items it all one = All-push P items it all one
+right-pushed P false items it all one = all

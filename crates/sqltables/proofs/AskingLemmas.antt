@@ -82,33 +82,33 @@ right sql params old new h found seen query is =
     (reads_as sql params old new registry h.schema (Select (record { lets = []; body = query }) is.names) (same_command (understood registry sql) ∙ is.command) is.plain is.unlisted found seen).answer Null
 
 -- the records that an answer shows
-pub shows : {R : Type 0} (shown : R → Row) (sql : List ℕ) (params : Row) (f : Content → List R) → Asks shown sql params f → (db : Trees) (xs : Content) → IsContent xs (record { schema = registry; trees = db }) → (found : List Row) → IsAnswered db sql params found
+pub shows : {R : Type 0} (tree : ℕ) (shown : R → Row) (sql : List ℕ) (params : Row) (f : Content → List R) → Asks tree shown sql params f → (db : Trees) (xs : Content) → IsContent xs (record { schema = registry; trees = db }) → (found : List Row) → IsAnswered db sql params found
     → found ≡ map shown (f xs)
-shows shown sql params f a db xs is found answer = a.means db xs found is (answer a.query a.is)
+shows tree shown sql params f a db xs is found answer = a.means db xs found is (answer a.query a.is)
 
 -- the tables of a database that is the registry's
 pub in-registry : (db : Database) → HoldsRows db → IsContent (contents db.trees) (record { schema = registry; trees = db.trees })
 in-registry db h = subst (λ (s : Schema). IsContent (contents db.trees) (record { schema = s; trees = db.trees })) h.schema h
 
-answered : {R : Type 0} (shown : R → Row) (sql : List ℕ) (params : Row) (f : Content → List R) → Asks shown sql params f → (old new : State) → HoldsRows old.now → (found : List Row) → Shown sql params old new found
+answered : {R : Type 0} (tree : ℕ) (shown : R → Row) (sql : List ℕ) (params : Row) (f : Content → List R) → Asks tree shown sql params f → (old new : State) → HoldsRows old.now → (found : List Row) → Shown sql params old new found
     → found ≡ map shown (f (contents old.now.trees))
-answered shown sql params f a old new h found seen = shows shown sql params f a old.now.trees (contents old.now.trees) (in-registry old.now h) found (right sql params old new h found seen)
+answered tree shown sql params f a old new h found seen = shows tree shown sql params f a old.now.trees (contents old.now.trees) (in-registry old.now h) found (right sql params old new h found seen)
 
 -- what was read, or a fault
 pub finds-by : {A : Type 0} (result : Result A BookFault) (v : A) (old new : StateOf Content) → Reads old new → (new.is_clean ≡ true → IfOk result (λ it. it ≡ v)) → Finds result v old new
 finds-by (Ok it) v old new reads same = (reads, same)
 finds-by (Err fault) v old new reads same = record { clean = reads.clean; before = reads.before; leaves = reads.leaves }
 
-pub asked : {R : Type 0} (shown : R → Row) (sql : List ℕ) (params : Row) (form : Form) (begun : Bool) (old new : State) (P : Trees → Type 0) (leaves : List (Remains Content)) → Survives old new P → Fits form begun old → has_rows form ≡ true
-    → (f : Content → List R) → Asks shown sql params f → (found : List Row) → (HasCleanDisk new → Shown sql params old new found) → (result : Result (List R) BookFault)
+pub asked : {R : Type 0} (tree : ℕ) (shown : R → Row) (sql : List ℕ) (params : Row) (form : Form) (begun : Bool) (old new : State) (P : Trees → Type 0) (leaves : List (Remains Content)) → Survives old new P → Fits form begun old → has_rows form ≡ true
+    → (f : Content → List R) → Asks tree shown sql params f → (found : List Row) → (HasCleanDisk new → Shown sql params old new found) → (result : Result (List R) BookFault)
     → ((xs : List R) → found ≡ map shown xs → IfOk result (λ out. out ≡ xs)) → Finds result (f (rows_in form old.now.trees)) (stands form begun old leaves) (stands form begun new leaves)
-asked shown sql params form begun old new P leaves survives fits rows f asks found seen result read =
+asked tree shown sql params form begun old new P leaves survives fits rows f asks found seen result read =
     let plain = asks.is.plain in
     finds-by result (f (rows_in form old.now.trees)) (stands form begun old leaves) (stands form begun new leaves)
     (reads-same form begun old new P leaves survives (λ clean. same-if sql params form begun old new P survives fits rows plain found clean (seen clean)))
     (λ e. let clean = honest new (and_parts new.is_clean new.is_open e).0 in
     read (f (rows_in form old.now.trees))
-    (answered shown sql params f asks old new (held sql params form begun old new P survives fits rows plain found clean (seen clean)) found (seen clean) ∙ ap (λ (xs : Content). map shown (f xs)) (sym (rows-are form old.now.trees rows))))
+    (answered tree shown sql params f asks old new (held sql params form begun old new P survives fits rows plain found clean (seen clean)) found (seen clean) ∙ ap (λ (xs : Content). map shown (f xs)) (sym (rows-are form old.now.trees rows))))
 
 -- what was kept is still right, and so is what was answered
 pub recalls-shown : (sql : List ℕ) (params : Row) (form : Form) (begun : Bool) (old new : State) (P : Trees → Type 0) → Survives old new P → Fits form begun old → has_rows form ≡ true → IsPlain (understood registry sql)

@@ -29,8 +29,8 @@ pub all_is : IsSelect registry meta_all (select_query 0 ([]) columns)
 unfolding understood everything
 all_is = record { names = codes "id" ∷ codes "version" ∷ codes "clock" ∷ codes "zone" ∷ codes "reserved" ∷ codes "days_add" ∷ codes "days_auto_renew" ∷ codes "days_renew" ∷ codes "days_transfer" ∷ codes "days_redemption" ∷ codes "days_restore" ∷ codes "days_pending_delete" ∷ codes "days_answer" ∷ codes "days_lock" ∷ codes "price_create" ∷ codes "price_renew" ∷ codes "price_transfer" ∷ []; command = refl; plain = (refl, refl); unlisted = refl }
 
-pub all_asks : Asks meta_shown meta_all [] (λ c. c.metas)
-all_asks = asks_metas meta_shown meta_all [] _ (λ xs. xs) all_is (λ db xs rows h answer.
+pub all_asks : Asks metas.tree meta_shown meta_all [] (λ c. c.metas)
+all_asks = asks_metas meta_shown meta_all [] _ (λ xs. xs) all_is refl (λ db xs rows h answer.
     selects metas _ _ [] (λ _. true) meta_shown (λ x. refl) (λ x. refl) db xs rows h answer ∙ ap (map meta_shown) (filter_all (λ _. true) xs (all_of _ (λ x. refl) xs)))
 
 listed : Listed metas registry 0 table
@@ -49,5 +49,5 @@ put_is = record { command = refl; plain = (refl, refl) }
 gives : Gives metas registry table 17 values sets meta_shown
 gives = record { values = λ x. refl; place = λ x v. refl; updates = λ x v r. refl; unshared = λ new r. refl; headed = λ x. refl }
 
-pub put_alters : (x : Meta) → Alters meta_put (meta_shown x) (metas_to (λ xs. insert_by metas.key xs x))
+pub put_alters : (x : Meta) → Alters metas.tree meta_put (meta_shown x) (metas_to (λ xs. insert_by metas.key xs x))
 put_alters x = alters_metas meta_put (meta_shown x) (λ xs. insert_by metas.key xs x) put_is.plain (ap writes_tables put_is.command) (puts metas registry 0 table listed 17 values sets meta_shown gives meta_put x put_is)

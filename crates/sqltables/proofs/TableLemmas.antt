@@ -1,11 +1,13 @@
 -- Statements on one of the eleven tables, as statements on all of them.
-use Rattle.std.proofs.Common.{◌≡◌, ◌≢◌, true, ℕ, List, [], ◌∷◌, map, Option, ◌∙◌, ap, ap₂, subst, sym}
-use Rattle.std.specs.List.{AllByRecursion}
+use Rattle.std.proofs.Common.{◌≡◌, ◌≢◌, ◌==◌, ◌||◌, Bool, true, false, ℕ, List, [], ◌∷◌, map, Option, ◌∙◌, refl, ap, ap₂, subst, sym, true≢false}
+use Rattle.std.proofs.lemmas.Bool.{eqb-true}
+use Rattle.std.specs.List.{AllByRecursion, list_any}
+use Rattle.sqlite_schema.specs.declared.schema.Table.{Table}
 use Rattle.sqlite_value.specs.declared.value.Value.{Value}
 use Rattle.sqlite_value.specs.Order.{Row}
 use Rattle.sqlite.specs.Values.{bound_value}
 use Rattle.sqlite_trees.specs.Tree.{Trees}
-use Rattle.sqlite_sql.specs.Query.{Query, IsAnswer}
+use Rattle.sqlite_sql.specs.Query.{Query, IsAnswer, inner, end}
 use Rattle.sqlite_sql.specs.Program.{overlay}
 use Rattle.sqlite.specs.Does.{Tally}
 use Rattle.sqlite.specs.Effect.{Database}
@@ -66,6 +68,16 @@ untouched_of tree old new all = record {
   days = all.1.1.1.1.1.1.1.1.1.1.0;
 }
 
+-- the table in a tree is as it was, of several of which each is whose tree isn't the one that is written
+others_same : (written : ℕ) (old new : Trees) (tables : List Table) → AllByRecursion (λ t. t.tree ≢ written → new t.tree ≡ old t.tree) tables
+    → (tree : ℕ) → list_any (λ t. t.tree == tree) tables ≡ true → tree ≢ written → new tree ≡ old tree
+others_same written old new [] kept tree h apart = absurd (true≢false (sym h))
+others_same written old new (t ∷ ts) kept tree h apart = go (t.tree == tree) refl h (λ more. others_same written old new ts kept.1 tree more apart)
+  where
+    go : (b : Bool) → (t.tree == tree) ≡ b → (b || list_any (λ x. x.tree == tree) ts) ≡ true → (list_any (λ x. x.tree == tree) ts ≡ true → new tree ≡ old tree) → new tree ≡ old tree
+    go true e _ later = let same = eqb-true t.tree tree e in subst (λ n. new n ≡ old n) same (kept.0 (λ is. apart (sym same ∙ is)))
+    go false e more later = later more
+
 -- a query of one table
 abbrev Answers : {X : Type 0} → Layout X → (X → Row) → Query → Row → (List X → List X) → Type 0
 Answers {X} L shown q params f = (db : Trees) (xs : List X) (rows : List Row) → Holds L db xs → IsAnswer q (overlay db []) params rows → rows ≡ map shown (f xs)
@@ -74,10 +86,10 @@ Answers {X} L shown q params f = (db : Trees) (xs : List X) (rows : List Row) �
 abbrev Changes : {X : Type 0} → Layout X → List ℕ → Row → (List X → List X) → Type 0
 Changes {X} L sql params f = (limit : Option ℕ) (text : List ℕ) (db : Trees) (tally : Tally) (after : Database) (xs : List X) → Holds L db xs → Leads registry sql params limit text db tally after → Sets L registry (given db) after (f xs)
 
-pub asks_metas : (shown : Meta → Row) (sql : List ℕ) (params : Row) (q : Query) (f : List Meta → List Meta) → IsSelect registry sql q → Answers metas shown q params f → Asks shown sql params (λ c. f c.metas)
-asks_metas shown sql params q f is answers = record { query = q; is = is; means = λ db xs rows h answer. answers db xs.metas rows h.metas answer }
+pub asks_metas : (shown : Meta → Row) (sql : List ℕ) (params : Row) (q : Query) (f : List Meta → List Meta) → IsSelect registry sql q → q.from ≡ inner metas.tree end → Answers metas shown q params f → Asks metas.tree shown sql params (λ c. f c.metas)
+asks_metas shown sql params q f is from answers = record { query = q; is = is; of = record { from = from; table = refl }; means = λ db xs rows h answer. answers db xs.metas rows h.metas answer }
 
-pub alters_metas : (sql : List ℕ) (params : Row) (f : List Meta → List Meta) → IsPlain (understood registry sql) → writes_tables (command_of (understood registry sql)) ≡ true → Changes metas sql params f → Alters sql params (metas_to f)
+pub alters_metas : (sql : List ℕ) (params : Row) (f : List Meta → List Meta) → IsPlain (understood registry sql) → writes_tables (command_of (understood registry sql)) ≡ true → Changes metas sql params f → Alters metas.tree sql params (metas_to f)
 alters_metas sql params f plain writes changes = record {
   plain = plain;
   writes = writes;
@@ -98,12 +110,13 @@ alters_metas sql params f plain writes changes = record {
         transfers = kept transfers db after.trees xs.transfers (untouched.transfers (λ same. cc)) h.transfers;
         days = kept days db after.trees xs.days (untouched.days (λ same. cc)) h.days;
       };
+  others = λ limit text db tally after xs h ran. others_same metas.tree db after.trees registry.tables (changes limit text db tally after xs.metas h.metas ran).others;
 }
 
-pub asks_accounts : (shown : Account → Row) (sql : List ℕ) (params : Row) (q : Query) (f : List Account → List Account) → IsSelect registry sql q → Answers accounts shown q params f → Asks shown sql params (λ c. f c.accounts)
-asks_accounts shown sql params q f is answers = record { query = q; is = is; means = λ db xs rows h answer. answers db xs.accounts rows h.accounts answer }
+pub asks_accounts : (shown : Account → Row) (sql : List ℕ) (params : Row) (q : Query) (f : List Account → List Account) → IsSelect registry sql q → q.from ≡ inner accounts.tree end → Answers accounts shown q params f → Asks accounts.tree shown sql params (λ c. f c.accounts)
+asks_accounts shown sql params q f is from answers = record { query = q; is = is; of = record { from = from; table = refl }; means = λ db xs rows h answer. answers db xs.accounts rows h.accounts answer }
 
-pub alters_accounts : (sql : List ℕ) (params : Row) (f : List Account → List Account) → IsPlain (understood registry sql) → writes_tables (command_of (understood registry sql)) ≡ true → Changes accounts sql params f → Alters sql params (accounts_to f)
+pub alters_accounts : (sql : List ℕ) (params : Row) (f : List Account → List Account) → IsPlain (understood registry sql) → writes_tables (command_of (understood registry sql)) ≡ true → Changes accounts sql params f → Alters accounts.tree sql params (accounts_to f)
 alters_accounts sql params f plain writes changes = record {
   plain = plain;
   writes = writes;
@@ -124,12 +137,13 @@ alters_accounts sql params f plain writes changes = record {
         transfers = kept transfers db after.trees xs.transfers (untouched.transfers (λ same. cc)) h.transfers;
         days = kept days db after.trees xs.days (untouched.days (λ same. cc)) h.days;
       };
+  others = λ limit text db tally after xs h ran. others_same accounts.tree db after.trees registry.tables (changes limit text db tally after xs.accounts h.accounts ran).others;
 }
 
-pub asks_contacts : (shown : Contact → Row) (sql : List ℕ) (params : Row) (q : Query) (f : List Contact → List Contact) → IsSelect registry sql q → Answers contacts shown q params f → Asks shown sql params (λ c. f c.contacts)
-asks_contacts shown sql params q f is answers = record { query = q; is = is; means = λ db xs rows h answer. answers db xs.contacts rows h.contacts answer }
+pub asks_contacts : (shown : Contact → Row) (sql : List ℕ) (params : Row) (q : Query) (f : List Contact → List Contact) → IsSelect registry sql q → q.from ≡ inner contacts.tree end → Answers contacts shown q params f → Asks contacts.tree shown sql params (λ c. f c.contacts)
+asks_contacts shown sql params q f is from answers = record { query = q; is = is; of = record { from = from; table = refl }; means = λ db xs rows h answer. answers db xs.contacts rows h.contacts answer }
 
-pub alters_contacts : (sql : List ℕ) (params : Row) (f : List Contact → List Contact) → IsPlain (understood registry sql) → writes_tables (command_of (understood registry sql)) ≡ true → Changes contacts sql params f → Alters sql params (contacts_to f)
+pub alters_contacts : (sql : List ℕ) (params : Row) (f : List Contact → List Contact) → IsPlain (understood registry sql) → writes_tables (command_of (understood registry sql)) ≡ true → Changes contacts sql params f → Alters contacts.tree sql params (contacts_to f)
 alters_contacts sql params f plain writes changes = record {
   plain = plain;
   writes = writes;
@@ -150,12 +164,13 @@ alters_contacts sql params f plain writes changes = record {
         transfers = kept transfers db after.trees xs.transfers (untouched.transfers (λ same. cc)) h.transfers;
         days = kept days db after.trees xs.days (untouched.days (λ same. cc)) h.days;
       };
+  others = λ limit text db tally after xs h ran. others_same contacts.tree db after.trees registry.tables (changes limit text db tally after xs.contacts h.contacts ran).others;
 }
 
-pub asks_domains : (shown : Domain → Row) (sql : List ℕ) (params : Row) (q : Query) (f : List Domain → List Domain) → IsSelect registry sql q → Answers domains shown q params f → Asks shown sql params (λ c. f c.domains)
-asks_domains shown sql params q f is answers = record { query = q; is = is; means = λ db xs rows h answer. answers db xs.domains rows h.domains answer }
+pub asks_domains : (shown : Domain → Row) (sql : List ℕ) (params : Row) (q : Query) (f : List Domain → List Domain) → IsSelect registry sql q → q.from ≡ inner domains.tree end → Answers domains shown q params f → Asks domains.tree shown sql params (λ c. f c.domains)
+asks_domains shown sql params q f is from answers = record { query = q; is = is; of = record { from = from; table = refl }; means = λ db xs rows h answer. answers db xs.domains rows h.domains answer }
 
-pub alters_domains : (sql : List ℕ) (params : Row) (f : List Domain → List Domain) → IsPlain (understood registry sql) → writes_tables (command_of (understood registry sql)) ≡ true → Changes domains sql params f → Alters sql params (domains_to f)
+pub alters_domains : (sql : List ℕ) (params : Row) (f : List Domain → List Domain) → IsPlain (understood registry sql) → writes_tables (command_of (understood registry sql)) ≡ true → Changes domains sql params f → Alters domains.tree sql params (domains_to f)
 alters_domains sql params f plain writes changes = record {
   plain = plain;
   writes = writes;
@@ -176,12 +191,13 @@ alters_domains sql params f plain writes changes = record {
         transfers = kept transfers db after.trees xs.transfers (untouched.transfers (λ same. cc)) h.transfers;
         days = kept days db after.trees xs.days (untouched.days (λ same. cc)) h.days;
       };
+  others = λ limit text db tally after xs h ran. others_same domains.tree db after.trees registry.tables (changes limit text db tally after xs.domains h.domains ran).others;
 }
 
-pub asks_hosts : (shown : Host → Row) (sql : List ℕ) (params : Row) (q : Query) (f : List Host → List Host) → IsSelect registry sql q → Answers hosts shown q params f → Asks shown sql params (λ c. f c.hosts)
-asks_hosts shown sql params q f is answers = record { query = q; is = is; means = λ db xs rows h answer. answers db xs.hosts rows h.hosts answer }
+pub asks_hosts : (shown : Host → Row) (sql : List ℕ) (params : Row) (q : Query) (f : List Host → List Host) → IsSelect registry sql q → q.from ≡ inner hosts.tree end → Answers hosts shown q params f → Asks hosts.tree shown sql params (λ c. f c.hosts)
+asks_hosts shown sql params q f is from answers = record { query = q; is = is; of = record { from = from; table = refl }; means = λ db xs rows h answer. answers db xs.hosts rows h.hosts answer }
 
-pub alters_hosts : (sql : List ℕ) (params : Row) (f : List Host → List Host) → IsPlain (understood registry sql) → writes_tables (command_of (understood registry sql)) ≡ true → Changes hosts sql params f → Alters sql params (hosts_to f)
+pub alters_hosts : (sql : List ℕ) (params : Row) (f : List Host → List Host) → IsPlain (understood registry sql) → writes_tables (command_of (understood registry sql)) ≡ true → Changes hosts sql params f → Alters hosts.tree sql params (hosts_to f)
 alters_hosts sql params f plain writes changes = record {
   plain = plain;
   writes = writes;
@@ -202,12 +218,13 @@ alters_hosts sql params f plain writes changes = record {
         transfers = kept transfers db after.trees xs.transfers (untouched.transfers (λ same. cc)) h.transfers;
         days = kept days db after.trees xs.days (untouched.days (λ same. cc)) h.days;
       };
+  others = λ limit text db tally after xs h ran. others_same hosts.tree db after.trees registry.tables (changes limit text db tally after xs.hosts h.hosts ran).others;
 }
 
-pub asks_addresses : (shown : Address → Row) (sql : List ℕ) (params : Row) (q : Query) (f : List Address → List Address) → IsSelect registry sql q → Answers addresses shown q params f → Asks shown sql params (λ c. f c.addresses)
-asks_addresses shown sql params q f is answers = record { query = q; is = is; means = λ db xs rows h answer. answers db xs.addresses rows h.addresses answer }
+pub asks_addresses : (shown : Address → Row) (sql : List ℕ) (params : Row) (q : Query) (f : List Address → List Address) → IsSelect registry sql q → q.from ≡ inner addresses.tree end → Answers addresses shown q params f → Asks addresses.tree shown sql params (λ c. f c.addresses)
+asks_addresses shown sql params q f is from answers = record { query = q; is = is; of = record { from = from; table = refl }; means = λ db xs rows h answer. answers db xs.addresses rows h.addresses answer }
 
-pub alters_addresses : (sql : List ℕ) (params : Row) (f : List Address → List Address) → IsPlain (understood registry sql) → writes_tables (command_of (understood registry sql)) ≡ true → Changes addresses sql params f → Alters sql params (addresses_to f)
+pub alters_addresses : (sql : List ℕ) (params : Row) (f : List Address → List Address) → IsPlain (understood registry sql) → writes_tables (command_of (understood registry sql)) ≡ true → Changes addresses sql params f → Alters addresses.tree sql params (addresses_to f)
 alters_addresses sql params f plain writes changes = record {
   plain = plain;
   writes = writes;
@@ -228,12 +245,13 @@ alters_addresses sql params f plain writes changes = record {
         transfers = kept transfers db after.trees xs.transfers (untouched.transfers (λ same. cc)) h.transfers;
         days = kept days db after.trees xs.days (untouched.days (λ same. cc)) h.days;
       };
+  others = λ limit text db tally after xs h ran. others_same addresses.tree db after.trees registry.tables (changes limit text db tally after xs.addresses h.addresses ran).others;
 }
 
-pub asks_links : (shown : Link → Row) (sql : List ℕ) (params : Row) (q : Query) (f : List Link → List Link) → IsSelect registry sql q → Answers links shown q params f → Asks shown sql params (λ c. f c.links)
-asks_links shown sql params q f is answers = record { query = q; is = is; means = λ db xs rows h answer. answers db xs.links rows h.links answer }
+pub asks_links : (shown : Link → Row) (sql : List ℕ) (params : Row) (q : Query) (f : List Link → List Link) → IsSelect registry sql q → q.from ≡ inner links.tree end → Answers links shown q params f → Asks links.tree shown sql params (λ c. f c.links)
+asks_links shown sql params q f is from answers = record { query = q; is = is; of = record { from = from; table = refl }; means = λ db xs rows h answer. answers db xs.links rows h.links answer }
 
-pub alters_links : (sql : List ℕ) (params : Row) (f : List Link → List Link) → IsPlain (understood registry sql) → writes_tables (command_of (understood registry sql)) ≡ true → Changes links sql params f → Alters sql params (links_to f)
+pub alters_links : (sql : List ℕ) (params : Row) (f : List Link → List Link) → IsPlain (understood registry sql) → writes_tables (command_of (understood registry sql)) ≡ true → Changes links sql params f → Alters links.tree sql params (links_to f)
 alters_links sql params f plain writes changes = record {
   plain = plain;
   writes = writes;
@@ -254,12 +272,13 @@ alters_links sql params f plain writes changes = record {
         transfers = kept transfers db after.trees xs.transfers (untouched.transfers (λ same. cc)) h.transfers;
         days = kept days db after.trees xs.days (untouched.days (λ same. cc)) h.days;
       };
+  others = λ limit text db tally after xs h ran. others_same links.tree db after.trees registry.tables (changes limit text db tally after xs.links h.links ran).others;
 }
 
-pub asks_lines : (shown : Line → Row) (sql : List ℕ) (params : Row) (q : Query) (f : List Line → List Line) → IsSelect registry sql q → Answers lines shown q params f → Asks shown sql params (λ c. f c.lines)
-asks_lines shown sql params q f is answers = record { query = q; is = is; means = λ db xs rows h answer. answers db xs.lines rows h.lines answer }
+pub asks_lines : (shown : Line → Row) (sql : List ℕ) (params : Row) (q : Query) (f : List Line → List Line) → IsSelect registry sql q → q.from ≡ inner lines.tree end → Answers lines shown q params f → Asks lines.tree shown sql params (λ c. f c.lines)
+asks_lines shown sql params q f is from answers = record { query = q; is = is; of = record { from = from; table = refl }; means = λ db xs rows h answer. answers db xs.lines rows h.lines answer }
 
-pub alters_lines : (sql : List ℕ) (params : Row) (f : List Line → List Line) → IsPlain (understood registry sql) → writes_tables (command_of (understood registry sql)) ≡ true → Changes lines sql params f → Alters sql params (lines_to f)
+pub alters_lines : (sql : List ℕ) (params : Row) (f : List Line → List Line) → IsPlain (understood registry sql) → writes_tables (command_of (understood registry sql)) ≡ true → Changes lines sql params f → Alters lines.tree sql params (lines_to f)
 alters_lines sql params f plain writes changes = record {
   plain = plain;
   writes = writes;
@@ -280,12 +299,13 @@ alters_lines sql params f plain writes changes = record {
         transfers = kept transfers db after.trees xs.transfers (untouched.transfers (λ same. cc)) h.transfers;
         days = kept days db after.trees xs.days (untouched.days (λ same. cc)) h.days;
       };
+  others = λ limit text db tally after xs h ran. others_same lines.tree db after.trees registry.tables (changes limit text db tally after xs.lines h.lines ran).others;
 }
 
-pub asks_messages : (shown : Message → Row) (sql : List ℕ) (params : Row) (q : Query) (f : List Message → List Message) → IsSelect registry sql q → Answers messages shown q params f → Asks shown sql params (λ c. f c.messages)
-asks_messages shown sql params q f is answers = record { query = q; is = is; means = λ db xs rows h answer. answers db xs.messages rows h.messages answer }
+pub asks_messages : (shown : Message → Row) (sql : List ℕ) (params : Row) (q : Query) (f : List Message → List Message) → IsSelect registry sql q → q.from ≡ inner messages.tree end → Answers messages shown q params f → Asks messages.tree shown sql params (λ c. f c.messages)
+asks_messages shown sql params q f is from answers = record { query = q; is = is; of = record { from = from; table = refl }; means = λ db xs rows h answer. answers db xs.messages rows h.messages answer }
 
-pub alters_messages : (sql : List ℕ) (params : Row) (f : List Message → List Message) → IsPlain (understood registry sql) → writes_tables (command_of (understood registry sql)) ≡ true → Changes messages sql params f → Alters sql params (messages_to f)
+pub alters_messages : (sql : List ℕ) (params : Row) (f : List Message → List Message) → IsPlain (understood registry sql) → writes_tables (command_of (understood registry sql)) ≡ true → Changes messages sql params f → Alters messages.tree sql params (messages_to f)
 alters_messages sql params f plain writes changes = record {
   plain = plain;
   writes = writes;
@@ -306,12 +326,13 @@ alters_messages sql params f plain writes changes = record {
         transfers = kept transfers db after.trees xs.transfers (untouched.transfers (λ same. cc)) h.transfers;
         days = kept days db after.trees xs.days (untouched.days (λ same. cc)) h.days;
       };
+  others = λ limit text db tally after xs h ran. others_same messages.tree db after.trees registry.tables (changes limit text db tally after xs.messages h.messages ran).others;
 }
 
-pub asks_transfers : (shown : Transfer → Row) (sql : List ℕ) (params : Row) (q : Query) (f : List Transfer → List Transfer) → IsSelect registry sql q → Answers transfers shown q params f → Asks shown sql params (λ c. f c.transfers)
-asks_transfers shown sql params q f is answers = record { query = q; is = is; means = λ db xs rows h answer. answers db xs.transfers rows h.transfers answer }
+pub asks_transfers : (shown : Transfer → Row) (sql : List ℕ) (params : Row) (q : Query) (f : List Transfer → List Transfer) → IsSelect registry sql q → q.from ≡ inner transfers.tree end → Answers transfers shown q params f → Asks transfers.tree shown sql params (λ c. f c.transfers)
+asks_transfers shown sql params q f is from answers = record { query = q; is = is; of = record { from = from; table = refl }; means = λ db xs rows h answer. answers db xs.transfers rows h.transfers answer }
 
-pub alters_transfers : (sql : List ℕ) (params : Row) (f : List Transfer → List Transfer) → IsPlain (understood registry sql) → writes_tables (command_of (understood registry sql)) ≡ true → Changes transfers sql params f → Alters sql params (transfers_to f)
+pub alters_transfers : (sql : List ℕ) (params : Row) (f : List Transfer → List Transfer) → IsPlain (understood registry sql) → writes_tables (command_of (understood registry sql)) ≡ true → Changes transfers sql params f → Alters transfers.tree sql params (transfers_to f)
 alters_transfers sql params f plain writes changes = record {
   plain = plain;
   writes = writes;
@@ -332,12 +353,13 @@ alters_transfers sql params f plain writes changes = record {
         transfers = it.holds;
         days = kept days db after.trees xs.days (untouched.days (λ same. cc)) h.days;
       };
+  others = λ limit text db tally after xs h ran. others_same transfers.tree db after.trees registry.tables (changes limit text db tally after xs.transfers h.transfers ran).others;
 }
 
-pub asks_days : (shown : Day → Row) (sql : List ℕ) (params : Row) (q : Query) (f : List Day → List Day) → IsSelect registry sql q → Answers days shown q params f → Asks shown sql params (λ c. f c.days)
-asks_days shown sql params q f is answers = record { query = q; is = is; means = λ db xs rows h answer. answers db xs.days rows h.days answer }
+pub asks_days : (shown : Day → Row) (sql : List ℕ) (params : Row) (q : Query) (f : List Day → List Day) → IsSelect registry sql q → q.from ≡ inner days.tree end → Answers days shown q params f → Asks days.tree shown sql params (λ c. f c.days)
+asks_days shown sql params q f is from answers = record { query = q; is = is; of = record { from = from; table = refl }; means = λ db xs rows h answer. answers db xs.days rows h.days answer }
 
-pub alters_days : (sql : List ℕ) (params : Row) (f : List Day → List Day) → IsPlain (understood registry sql) → writes_tables (command_of (understood registry sql)) ≡ true → Changes days sql params f → Alters sql params (days_to f)
+pub alters_days : (sql : List ℕ) (params : Row) (f : List Day → List Day) → IsPlain (understood registry sql) → writes_tables (command_of (understood registry sql)) ≡ true → Changes days sql params f → Alters days.tree sql params (days_to f)
 alters_days sql params f plain writes changes = record {
   plain = plain;
   writes = writes;
@@ -358,14 +380,15 @@ alters_days sql params f plain writes changes = record {
         transfers = kept transfers db after.trees xs.transfers (untouched.transfers (λ same. cc)) h.transfers;
         days = it.holds;
       };
+  others = λ limit text db tally after xs h ran. others_same days.tree db after.trees registry.tables (changes limit text db tally after xs.days h.days ran).others;
 }
 
 -- the same for parameters that are equal
-pub asks-by : {R : Type 0} {shown : R → Row} {sql : List ℕ} {row given : Row} {f : Content → List R} → given ≡ row → Asks shown sql row f → Asks shown sql given f
-asks-by {R} {shown} {sql} {row} {given} {f} e a = subst (λ (r : Row). Asks shown sql r f) (sym e) a
+pub asks-by : {R : Type 0} {tree : ℕ} {shown : R → Row} {sql : List ℕ} {row given : Row} {f : Content → List R} → given ≡ row → Asks tree shown sql row f → Asks tree shown sql given f
+asks-by {R} {tree} {shown} {sql} {row} {given} {f} e a = subst (λ (r : Row). Asks tree shown sql r f) (sym e) a
 
-pub alters-by : {sql : List ℕ} {row given : Row} {f : Content → Content} → given ≡ row → Alters sql row f → Alters sql given f
-alters-by {sql} {row} {given} {f} e a = subst (λ (r : Row). Alters sql r f) (sym e) a
+pub alters-by : {tree : ℕ} {sql : List ℕ} {row given : Row} {f : Content → Content} → given ≡ row → Alters tree sql row f → Alters tree sql given f
+alters-by {tree} {sql} {row} {given} {f} e a = subst (λ (r : Row). Alters tree sql r f) (sym e) a
 
 -- the last of some parameters, and one before others
 pub bound-last : {v w : Value} → v ≡ w → bound_value v ∷ [] ≡ bound_value w ∷ []

@@ -17,6 +17,9 @@ use std::alloc::{AllocError, Global};
 use std::marker::Model;
 use transactions::BookFault;
 
+/// The tree of the table `account`.
+const TREE: u64 = 1;
+
 const ALL: &str =
     "SELECT id, ident, commands, messages, serial, waiting, balance, held FROM account ORDER BY id";
 
@@ -145,7 +148,7 @@ impl<S: Alter> Base<S> {
     pub(crate) fn all_accounts(&mut self) -> Result<Seq<AccountRow>, BookFault>
         ensures { Finds result self.old.content.accounts self.old self.new }
     {
-        self.select(ALL, &[])
+        self.select(TREE, ALL, &[])
     }
 
     /// Those with this number.
@@ -153,7 +156,7 @@ impl<S: Alter> Base<S> {
         ensures { Finds result (filter (account_with_id id) self.old.content.accounts) self.old
             self.new }
     {
-        self.select(BY_ID, params![id])
+        self.select(TREE, BY_ID, params![id])
     }
 
     /// Puts a row in the place of the one with its number, or beside all others.
@@ -162,7 +165,7 @@ impl<S: Alter> Base<S> {
         ensures { Makes result (accounts_to (λ xs. insert_by accounts.key xs account.now)
             self.old.content) self.old self.new }
     {
-        self.write(PUT, &account.params())
+        self.write(TREE, PUT, &account.params())
     }
 }
 

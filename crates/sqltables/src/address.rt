@@ -15,6 +15,9 @@ use sqlrows::{Number, Record};
 use std::marker::Model;
 use transactions::BookFault;
 
+/// The tree of the table `address`.
+const TREE: u64 = 9;
+
 const BY_HOST: &str = "SELECT id, host, address FROM address WHERE host = ?1 ORDER BY id";
 
 const PUT: &str =
@@ -81,7 +84,7 @@ impl<S: Alter> RowStore<S> {
         ensures { Finds result (filter (address_with_host host) self.old.content.addresses) self.old
             self.new }
     {
-        self.select(BY_HOST, params![host])
+        self.select(TREE, BY_HOST, params![host])
     }
 
     /// Puts a row in the place of the one with its number, or beside all others.
@@ -90,7 +93,7 @@ impl<S: Alter> RowStore<S> {
         ensures { Makes result (addresses_to (λ xs. insert_by addresses.key xs address.now)
             self.old.content) self.old self.new }
     {
-        self.write(PUT, &address.params())
+        self.write(TREE, PUT, &address.params())
     }
 
     /// Adds a row at the end, with the number after the last one. The given row's number isn't looked at.
@@ -100,7 +103,7 @@ impl<S: Alter> RowStore<S> {
             (addresses_to (appended addresses (λ id. record address.now { id = id }))
             self.old.content) self.old self.new }
     {
-        self.write(APPEND, &address.params()[1..])
+        self.write(TREE, APPEND, &address.params()[1..])
     }
 
     /// Removes those whose `host` is this.
@@ -109,6 +112,6 @@ impl<S: Alter> RowStore<S> {
         ensures { Makes result (addresses_to (delete_where (address_with_host host))
             self.old.content) self.old self.new }
     {
-        self.write(REMOVE_HOST, params![host])
+        self.write(TREE, REMOVE_HOST, params![host])
     }
 }

@@ -1,12 +1,12 @@
 //! Answers that are kept, so that the same question needn't be asked again.
-ghost use Rattle.std.specs.Prelude.{◌≡◌, true, map, IfOk, IfSome, List};
+ghost use Rattle.std.specs.Prelude.{◌≡◌, true, map, ℕ, IfOk, IfSome, List};
 ghost use Rattle.sqlite_trees.specs.Tree.{Trees};
 ghost use Rattle.sqlite_value.specs.Value.{owned};
 ghost use Rattle.sqlite.specs.Values.{bound};
-ghost use Rattle.sqltables.specs.inner.Answers.{AreRight, IsAnswered, IsOf, IsRight};
+ghost use Rattle.sqltables.specs.inner.Answers.{AreRight, IsAnswered, IsOf, IsRight, IsQueryOf};
 ghost use Rattle.sqltables.specs.Content.{Content};
 ghost use Rattle.sqltables.specs.inner.Content.{IsContent};
-ghost use Rattle.sqltables.specs.inner.Statements.{Asks};
+ghost use Rattle.sqltables.specs.inner.Statements.{AreOthersSame, Asks};
 ghost use Rattle.sqltables.specs.Tables.{registry};
 
 use crate::base::read_all;
@@ -28,6 +28,8 @@ const MOST_ROWS: usize = 16;
 /// A question, as its text and its parameters, and the rows that answer it.
 #[derive(Drop)]
 pub(crate) struct Answer {
+    /// The tree of the table that was asked.
+    pub tree: u64,
     pub sql: Vec<u8>,
     pub params: Values,
     pub rows: Vec<Row>,
@@ -37,7 +39,7 @@ pub(crate) struct Answer {
 /// database holds, and a copy of its question.
 #[derive(Drop)]
 pub(crate) struct Answers {
-    pub items: Seq<Answer>,
+    pub items: Vec<Answer>,
     pub alloc: Global,
 }
 
@@ -71,16 +73,23 @@ impl Answer {
     /// The answer to this question.
     fn new(
         alloc: Global,
+        tree: u64,
         sql: &str,
         params: &[ValueRef<'_>],
         rows: Vec<Row>,
     ) -> Result<Answer, AllocError>
-        ensures { IfOk result (λ it. IsOf it sql.now (bound params.now)
-            × (it.rows.items ≡ rows.items)) }
+        ensures of { IfOk result (λ it. IsOf it sql.now (bound params.now)) }
+        ensures tree { IfOk result (λ it. it.tree ≡ tree) }
+        ensures rows { IfOk result (λ it. it.rows.items ≡ rows.items) }
     {
         let sql = Vec::from_slice(alloc, sql.as_bytes())?;
         let params = copy_of(alloc, params)?;
-        Ok(Answer { sql, params, rows })
+        Ok(Answer {
+            tree,
+            sql,
+            params,
+            rows,
+        })
     }
 
     /// Whether it answers this question.
@@ -100,7 +109,7 @@ impl Answers {
         ensures { (db : Trees) → AreRight db result }
     {
         Answers {
-            items: Seq::new(alloc),
+            items: Vec::new(alloc),
             alloc,
         }
     }
@@ -109,19 +118,28 @@ impl Answers {
     pub fn forget(&mut self)
         ensures { (db : Trees) → AreRight db self.new }
     {
-        self.items = Seq::new(self.alloc);
+        self.items = Vec::new(self.alloc);
     }
 
-    /// Keeps the rows that answer a question, where they are few and memory for a copy of it is there. They
-    /// take the place of all others where those are many.
-    pub fn keep(&mut self, sql: &str, params: &[ValueRef<'_>], rows: Vec<Row>)
+    /// Keeps those alone that were asked of other tables than the one in this tree.
+    pub fn forget_of(&mut self, tree: u64)
+        ensures { (old new : Trees) → AreOthersSame tree old new → AreRight old self.old
+            → AreRight new self.new }
+    {
+        self.items.retain(|answer| answer.tree != tree);
+    }
+
+    /// Keeps the rows that answer a question of the table in this tree, where they are few and memory for a
+    /// copy of it is there. They take the place of all others where those are many.
+    pub fn keep(&mut self, tree: u64, sql: &str, params: &[ValueRef<'_>], rows: Vec<Row>)
+        requires { IsQueryOf tree sql.now }
         ensures { (db : Trees) → AreRight db self.old
             → IsAnswered db sql.now (bound params.now) rows.items → AreRight db self.new }
     {
         if rows.len() > MOST_ROWS {
             return;
         }
-        if let Ok(answer) = Answer::new(self.alloc, sql, params, rows) {
+        if let Ok(answer) = Answer::new(self.alloc, tree, sql, params, rows) {
             self.add(answer);
         }
     }
@@ -130,7 +148,7 @@ impl Answers {
     fn add(&mut self, answer: Answer)
         ensures { (db : Trees) → AreRight db self.old → IsRight db answer → AreRight db self.new }
     {
-        if self.items.as_slice().len() >= MOST_ANSWERS {
+        if self.items.len() >= MOST_ANSWERS {
             self.forget();
         }
         let _ = self.items.push(answer);
@@ -142,12 +160,12 @@ impl Answers {
         sql: &str,
         params: &[ValueRef<'_>],
     ) -> Option<Result<Seq<R>, BookFault>>
-        ensures { (f : Content → List R) (db : Trees) (xs : Content)
-            → Asks R.shown sql.now (bound params.now) f → AreRight db self.now
+        ensures { (tree : ℕ) (f : Content → List R) (db : Trees) (xs : Content)
+            → Asks tree R.shown sql.now (bound params.now) f → AreRight db self.now
             → IsContent xs (record { schema = registry; trees = db })
             → IfSome result (λ found. IfOk found (λ records. records ≡ f xs)) }
     {
-        'answers: for answer in self.items.as_slice() {
+        'answers: for answer in &self.items {
             if answer.is_of(sql, params) {
                 return Some(read_all(self.alloc, &answer.rows));
             }

@@ -24,7 +24,7 @@ pub(crate) struct Base<S: Alter> {
     form: Form,
     /// Whether a transaction is open. After going back was itself refused the connection may think otherwise.
     begun: bool,
-    /// What was answered since the last statement that writes.
+    /// What was answered in the open transaction, about each table since it was written last.
     answers: Answers,
     /// The databases that a crash may leave, as what they were when they were seen. Only proofs read it.
     left: Log<Connection<S>, Form>,
@@ -76,6 +76,7 @@ impl<S: Alter> Base<S> {
     ghost use Rattle.sqlite.specs.Values.{bound};
     ghost use Rattle.sqltables.specs.Content.{Content};
     ghost use Rattle.transactions.specs.States.{Begins, Closes, Ends, Finds, IsIdle, Makes, FindsSome, Notes};
+    ghost use Rattle.sqltables.specs.inner.Answers.{IsQueryOf};
     ghost use Rattle.sqltables.specs.inner.Statements.{Alters, Asks};
     ghost use Rattle.sqltables.specs.Stored.{Covers, fresh};
     ghost use Rattle.sqltables.specs.Tables.{registry};
@@ -85,18 +86,20 @@ impl<S: Alter> Base<S> {
         self.alloc
     }
 
-    /// The records that the rows of a query show.
+    /// The records that the rows of a query of the table in this tree show.
     pub(crate) fn select<R: Record>(
         &mut self,
+        tree: u64,
         sql: &str,
         params: &[ValueRef<'_>],
     ) -> Result<Seq<R>, BookFault>
-        requires { IsPlain (understood registry sql.now) }
-        ensures { (f : Content → List R) → Asks R.shown sql.now (bound params.now) f
+        requires plain { IsPlain (understood registry sql.now) }
+        requires reads { IsQueryOf tree sql.now }
+        ensures { (f : Content → List R) → Asks tree R.shown sql.now (bound params.now) f
             → Finds result (f self.old.content) self.old self.new }
     {
         self.look(sql)?;
-        self.ask(sql, params)
+        self.ask(tree, sql, params)
     }
 
     /// Does nothing but learn whether the database still answers, where no transaction tells it. There nothing
@@ -115,12 +118,18 @@ impl<S: Alter> Base<S> {
         }
     }
 
-    /// The records that the rows of a query show, where the database still answers. What was asked since the
-    /// last statement that writes isn't asked again.
-    fn ask<R: Record>(&mut self, sql: &str, params: &[ValueRef<'_>]) -> Result<Seq<R>, BookFault>
+    /// The records that the rows of a query of the table in this tree show, where the database still answers.
+    /// What was asked since the table was written isn't asked again.
+    fn ask<R: Record>(
+        &mut self,
+        tree: u64,
+        sql: &str,
+        params: &[ValueRef<'_>],
+    ) -> Result<Seq<R>, BookFault>
         requires plain { IsPlain (understood registry sql.now) }
+        requires reads { IsQueryOf tree sql.now }
         requires answers { self.old.is_honest ≡ true → self.old.is_clean ≡ true }
-        ensures { (f : Content → List R) → Asks R.shown sql.now (bound params.now) f
+        ensures { (f : Content → List R) → Asks tree R.shown sql.now (bound params.now) f
             → Finds result (f self.old.content) self.old self.new }
     {
         if !self.form.has_rows() {
@@ -132,7 +141,7 @@ impl<S: Alter> Base<S> {
         match self.conn.query_all(sql, params) {
             Ok(rows) => {
                 let found = read_all(self.alloc, &rows);
-                self.answers.keep(sql, params, rows);
+                self.answers.keep(tree, sql, params, rows);
                 found
             }
             Err(error) => {
@@ -146,21 +155,29 @@ impl<S: Alter> Base<S> {
         }
     }
 
-    /// Runs a statement that writes rows, in the open transaction.
-    pub(crate) fn write(&mut self, sql: &str, params: &[ValueRef<'_>]) -> Result<(), BookFault>
-        requires means { (f : Content → Content) × Alters sql.now (bound params.now) f }
+    /// Runs a statement that writes rows of the table in this tree, in the open transaction. What was answered
+    /// about other tables is kept.
+    pub(crate) fn write(
+        &mut self,
+        tree: u64,
+        sql: &str,
+        params: &[ValueRef<'_>],
+    ) -> Result<(), BookFault>
+        requires means { (f : Content → Content) × Alters tree sql.now (bound params.now) f }
         requires begun { self.old.is_open ≡ true }
-        ensures { (f : Content → Content) → Alters sql.now (bound params.now) f
+        ensures { (f : Content → Content) → Alters tree sql.now (bound params.now) f
             → Makes result (f self.old.content) self.old self.new }
     {
         if !self.form.has_rows() {
             return Err(BookFault::Store);
         }
-        let done = self.conn.execute(sql, params);
-        self.answers.forget();
-        match done {
-            Ok(_) => Ok(()),
+        match self.conn.execute(sql, params) {
+            Ok(_) => {
+                self.answers.forget_of(tree);
+                Ok(())
+            }
             Err(error) => {
+                self.answers.forget();
                 if self.conn.is_autocommit() {
                     self.form = self.form.undone();
                     self.begun = false;

@@ -15,6 +15,9 @@ use sqlrows::{Number, Record, maybe_number, maybe_text};
 use std::marker::Model;
 use transactions::BookFault;
 
+/// The tree of the table `contact`.
+const TREE: u64 = 3;
+
 const BY_ID: &str =
     "SELECT id, name, creator, serial, sponsor, created, transferred, updated, statuses, secret, postal_name, org, street, city, state, postal_code, country, voice, due, mail FROM contact WHERE id = ?1 ORDER BY id";
 
@@ -212,7 +215,7 @@ impl<S: Alter> RowStore<S> {
         ensures { Finds result (filter (contact_with_id id) self.old.content.contacts) self.old
             self.new }
     {
-        self.select(BY_ID, params![id])
+        self.select(TREE, BY_ID, params![id])
     }
 
     /// Those whose `name` is this.
@@ -220,7 +223,7 @@ impl<S: Alter> RowStore<S> {
         ensures { Finds result (filter (contact_with_name name.now) self.old.content.contacts)
             self.old self.new }
     {
-        self.select(BY_NAME, params![name])
+        self.select(TREE, BY_NAME, params![name])
     }
 
     /// Those whose `due` is this moment or one before, in the order in which they are due. No moment is
@@ -230,7 +233,7 @@ impl<S: Alter> RowStore<S> {
             (contacts_by_due (filter (contact_within_due due) self.old.content.contacts)) self.old
             self.new }
     {
-        self.select(UNTIL_DUE, params![due])
+        self.select(TREE, UNTIL_DUE, params![due])
     }
 
     /// The first of those whose `due` is this moment or one before, in the order in which they are due, if
@@ -240,7 +243,7 @@ impl<S: Alter> RowStore<S> {
             (take 1 (contacts_by_due (filter (contact_within_due due) self.old.content.contacts)))
             self.old self.new }
     {
-        self.select(FIRST_UNTIL_DUE, params![due])
+        self.select(TREE, FIRST_UNTIL_DUE, params![due])
     }
 
     /// Those whose `sponsor` is this and whose `due` is this moment or one before.
@@ -252,7 +255,7 @@ impl<S: Alter> RowStore<S> {
         ensures { Finds result (filter (contact_of_sponsor_within sponsor due)
             self.old.content.contacts) self.old self.new }
     {
-        self.select(BY_SPONSOR_UNTIL_DUE, params![sponsor, due])
+        self.select(TREE, BY_SPONSOR_UNTIL_DUE, params![sponsor, due])
     }
 
     /// Puts a row in the place of the one with its number, or beside all others.
@@ -261,7 +264,7 @@ impl<S: Alter> RowStore<S> {
         ensures { Makes result (contacts_to (λ xs. insert_by contacts.key xs contact.now)
             self.old.content) self.old self.new }
     {
-        self.write(PUT, &contact.params())
+        self.write(TREE, PUT, &contact.params())
     }
 
     /// Adds a row at the end, with the number after the last one. The given row's number isn't looked at.
@@ -271,7 +274,7 @@ impl<S: Alter> RowStore<S> {
             (contacts_to (appended contacts (λ id. record contact.now { id = id }))
             self.old.content) self.old self.new }
     {
-        self.write(APPEND, &contact.params()[1..])
+        self.write(TREE, APPEND, &contact.params()[1..])
     }
 
     /// Removes those whose `id` is this.
@@ -280,6 +283,6 @@ impl<S: Alter> RowStore<S> {
         ensures { Makes result (contacts_to (delete_where (contact_with_id id)) self.old.content)
             self.old self.new }
     {
-        self.write(REMOVE_ID, params![id])
+        self.write(TREE, REMOVE_ID, params![id])
     }
 }

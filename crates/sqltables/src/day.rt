@@ -17,6 +17,9 @@ use std::alloc::{AllocError, Global};
 use std::marker::Model;
 use transactions::BookFault;
 
+/// The tree of the table `day`.
+const TREE: u64 = 34;
+
 const ALL: &str =
     "SELECT id, starts, days_add, days_auto_renew, days_renew, days_transfer, days_redemption, days_restore, days_pending_delete, days_answer, days_lock FROM days ORDER BY id";
 
@@ -140,7 +143,7 @@ impl<S: Alter> Base<S> {
     pub(crate) fn all_days(&mut self) -> Result<Seq<DayRow>, BookFault>
         ensures { Finds result self.old.content.days self.old self.new }
     {
-        self.select(ALL, &[])
+        self.select(TREE, ALL, &[])
     }
 
     /// Adds a row at the end, with the number after the last one. The given row's number isn't looked at.
@@ -149,7 +152,7 @@ impl<S: Alter> Base<S> {
         ensures { Makes result (days_to (appended days (λ id. record day.now { id = id }))
             self.old.content) self.old self.new }
     {
-        self.write(APPEND, &day.params()[1..])
+        self.write(TREE, APPEND, &day.params()[1..])
     }
 }
 

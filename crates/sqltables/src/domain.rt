@@ -16,6 +16,9 @@ use sqlrows::{Number, Record, maybe_number};
 use std::marker::Model;
 use transactions::BookFault;
 
+/// The tree of the table `domain`.
+const TREE: u64 = 5;
+
 const ALL: &str =
     "SELECT id, name, creator, serial, sponsor, created, years, transferred, updated, statuses, secret, registrant, deleted, restore_requested, due FROM domain ORDER BY id";
 
@@ -155,7 +158,7 @@ impl<S: Alter> RowStore<S> {
     pub fn all_domains(&mut self) -> Result<Seq<DomainRow>, BookFault>
         ensures { Finds result self.old.content.domains self.old self.new }
     {
-        self.select(ALL, &[])
+        self.select(TREE, ALL, &[])
     }
 
     /// Those with this number.
@@ -163,7 +166,7 @@ impl<S: Alter> RowStore<S> {
         ensures { Finds result (filter (domain_with_id id) self.old.content.domains) self.old
             self.new }
     {
-        self.select(BY_ID, params![id])
+        self.select(TREE, BY_ID, params![id])
     }
 
     /// Those whose `name` is this.
@@ -171,7 +174,7 @@ impl<S: Alter> RowStore<S> {
         ensures { Finds result (filter (domain_with_name name.now) self.old.content.domains)
             self.old self.new }
     {
-        self.select(BY_NAME, params![name])
+        self.select(TREE, BY_NAME, params![name])
     }
 
     /// The first of those whose `registrant` is this, by number, if there is any.
@@ -183,7 +186,7 @@ impl<S: Alter> RowStore<S> {
             (take 1 (filter (domain_with_registrant registrant) self.old.content.domains)) self.old
             self.new }
     {
-        self.select(FIRST_BY_REGISTRANT, params![registrant])
+        self.select(TREE, FIRST_BY_REGISTRANT, params![registrant])
     }
 
     /// Those whose `due` is this moment or one before, in the order in which they are due.
@@ -192,7 +195,7 @@ impl<S: Alter> RowStore<S> {
             (domains_by_due (filter (domain_within_due due) self.old.content.domains)) self.old
             self.new }
     {
-        self.select(UNTIL_DUE, params![due])
+        self.select(TREE, UNTIL_DUE, params![due])
     }
 
     /// The first of those whose `due` is this moment or one before, in the order in which they are due, if
@@ -202,7 +205,7 @@ impl<S: Alter> RowStore<S> {
             (take 1 (domains_by_due (filter (domain_within_due due) self.old.content.domains)))
             self.old self.new }
     {
-        self.select(FIRST_UNTIL_DUE, params![due])
+        self.select(TREE, FIRST_UNTIL_DUE, params![due])
     }
 
     /// Those whose `sponsor` is this and whose `due` is this moment or one before.
@@ -214,7 +217,7 @@ impl<S: Alter> RowStore<S> {
         ensures { Finds result (filter (domain_of_sponsor_within sponsor due)
             self.old.content.domains) self.old self.new }
     {
-        self.select(BY_SPONSOR_UNTIL_DUE, params![sponsor, due])
+        self.select(TREE, BY_SPONSOR_UNTIL_DUE, params![sponsor, due])
     }
 
     /// Those whose `registrant` is this and whose `due` is this moment or one before.
@@ -226,7 +229,7 @@ impl<S: Alter> RowStore<S> {
         ensures { Finds result (filter (domain_of_registrant_within registrant due)
             self.old.content.domains) self.old self.new }
     {
-        self.select(BY_REGISTRANT_UNTIL_DUE, params![registrant, due])
+        self.select(TREE, BY_REGISTRANT_UNTIL_DUE, params![registrant, due])
     }
 
     /// Those that this registrar created with this number.
@@ -238,7 +241,7 @@ impl<S: Alter> RowStore<S> {
         ensures { Finds result (filter (domain_with_roid creator serial) self.old.content.domains)
             self.old self.new }
     {
-        self.select(BY_ROID, params![creator, serial])
+        self.select(TREE, BY_ROID, params![creator, serial])
     }
 
     /// Puts a row in the place of the one with its number, or beside all others.
@@ -247,7 +250,7 @@ impl<S: Alter> RowStore<S> {
         ensures { Makes result (domains_to (λ xs. insert_by domains.key xs domain.now)
             self.old.content) self.old self.new }
     {
-        self.write(PUT, &domain.params())
+        self.write(TREE, PUT, &domain.params())
     }
 
     /// Adds a row at the end, with the number after the last one. The given row's number isn't looked at.
@@ -256,7 +259,7 @@ impl<S: Alter> RowStore<S> {
         ensures { Makes result (domains_to (appended domains (λ id. record domain.now { id = id }))
             self.old.content) self.old self.new }
     {
-        self.write(APPEND, &domain.params()[1..])
+        self.write(TREE, APPEND, &domain.params()[1..])
     }
 
     /// Removes those whose `id` is this.
@@ -265,6 +268,6 @@ impl<S: Alter> RowStore<S> {
         ensures { Makes result (domains_to (delete_where (domain_with_id id)) self.old.content)
             self.old self.new }
     {
-        self.write(REMOVE_ID, params![id])
+        self.write(TREE, REMOVE_ID, params![id])
     }
 }

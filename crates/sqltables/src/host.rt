@@ -15,6 +15,9 @@ use sqlrows::{Number, Record, maybe_number};
 use std::marker::Model;
 use transactions::BookFault;
 
+/// The tree of the table `host`.
+const TREE: u64 = 7;
+
 const ALL: &str =
     "SELECT id, name, creator, serial, above, external_sponsor, sponsor, created, updated, statuses FROM host ORDER BY id";
 
@@ -120,14 +123,14 @@ impl<S: Alter> RowStore<S> {
     pub fn all_hosts(&mut self) -> Result<Seq<HostRow>, BookFault>
         ensures { Finds result self.old.content.hosts self.old self.new }
     {
-        self.select(ALL, &[])
+        self.select(TREE, ALL, &[])
     }
 
     /// Those with this number.
     pub fn hosts_by_id(&mut self, id: Number) -> Result<Seq<HostRow>, BookFault>
         ensures { Finds result (filter (host_with_id id) self.old.content.hosts) self.old self.new }
     {
-        self.select(BY_ID, params![id])
+        self.select(TREE, BY_ID, params![id])
     }
 
     /// Those whose `name` is this.
@@ -135,7 +138,7 @@ impl<S: Alter> RowStore<S> {
         ensures { Finds result (filter (host_with_name name.now) self.old.content.hosts) self.old
             self.new }
     {
-        self.select(BY_NAME, params![name])
+        self.select(TREE, BY_NAME, params![name])
     }
 
     /// Those whose `above` is this.
@@ -143,7 +146,7 @@ impl<S: Alter> RowStore<S> {
         ensures { Finds result (filter (host_with_above above.now) self.old.content.hosts) self.old
             self.new }
     {
-        self.select(BY_ABOVE, params![above])
+        self.select(TREE, BY_ABOVE, params![above])
     }
 
     /// Puts a row in the place of the one with its number, or beside all others.
@@ -152,7 +155,7 @@ impl<S: Alter> RowStore<S> {
         ensures { Makes result (hosts_to (λ xs. insert_by hosts.key xs host.now) self.old.content)
             self.old self.new }
     {
-        self.write(PUT, &host.params())
+        self.write(TREE, PUT, &host.params())
     }
 
     /// Adds a row at the end, with the number after the last one. The given row's number isn't looked at.
@@ -161,7 +164,7 @@ impl<S: Alter> RowStore<S> {
         ensures { Makes result (hosts_to (appended hosts (λ id. record host.now { id = id }))
             self.old.content) self.old self.new }
     {
-        self.write(APPEND, &host.params()[1..])
+        self.write(TREE, APPEND, &host.params()[1..])
     }
 
     /// Removes those whose `id` is this.
@@ -170,6 +173,6 @@ impl<S: Alter> RowStore<S> {
         ensures { Makes result (hosts_to (delete_where (host_with_id id)) self.old.content) self.old
             self.new }
     {
-        self.write(REMOVE_ID, params![id])
+        self.write(TREE, REMOVE_ID, params![id])
     }
 }

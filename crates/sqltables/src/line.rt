@@ -15,6 +15,9 @@ use sqlrows::{Number, Record, maybe_number};
 use std::marker::Model;
 use transactions::BookFault;
 
+/// The tree of the table `line`.
+const TREE: u64 = 11;
+
 const BY_ACCOUNT: &str =
     "SELECT id, account, kind, creator, serial, years, cents, started, ends, refunded, recorded FROM line WHERE account = ?1 ORDER BY id";
 
@@ -139,7 +142,7 @@ impl<S: Alter> RowStore<S> {
         ensures { Finds result (filter (line_with_account account) self.old.content.lines) self.old
             self.new }
     {
-        self.select(BY_ACCOUNT, params![account])
+        self.select(TREE, BY_ACCOUNT, params![account])
     }
 
     /// Those of this account for the object that this registrar created with this number.
@@ -152,7 +155,7 @@ impl<S: Alter> RowStore<S> {
         ensures { Finds result (filter (line_of_object account creator serial)
             self.old.content.lines) self.old self.new }
     {
-        self.select(BY_OBJECT, params![account, creator, serial])
+        self.select(TREE, BY_OBJECT, params![account, creator, serial])
     }
 
     /// Puts a row in the place of the one with its number, or beside all others.
@@ -161,7 +164,7 @@ impl<S: Alter> RowStore<S> {
         ensures { Makes result (lines_to (λ xs. insert_by lines.key xs line.now) self.old.content)
             self.old self.new }
     {
-        self.write(PUT, &line.params())
+        self.write(TREE, PUT, &line.params())
     }
 
     /// Adds a row at the end, with the number after the last one. The given row's number isn't looked at.
@@ -170,7 +173,7 @@ impl<S: Alter> RowStore<S> {
         ensures { Makes result (lines_to (appended lines (λ id. record line.now { id = id }))
             self.old.content) self.old self.new }
     {
-        self.write(APPEND, &line.params()[1..])
+        self.write(TREE, APPEND, &line.params()[1..])
     }
 
     /// Removes those whose `id` is this.
@@ -179,6 +182,6 @@ impl<S: Alter> RowStore<S> {
         ensures { Makes result (lines_to (delete_where (line_with_id id)) self.old.content) self.old
             self.new }
     {
-        self.write(REMOVE_ID, params![id])
+        self.write(TREE, REMOVE_ID, params![id])
     }
 }

@@ -1,6 +1,6 @@
 //! What domains name: contacts in a role, and hosts.
 ghost use Rattle.std.specs.Prelude.{◌≡◌, true, filter, take};
-ghost use Rattle.sqlite_keyed.specs.Lists.{delete_where};
+ghost use Rattle.sqlite_keyed.specs.Lists.{delete_where, update_where};
 ghost use Rattle.sqlite_keyed.specs.Keyed.{insert_by};
 ghost use Rattle.sqltables.specs.inner.Content.{links_to};
 ghost use Rattle.transactions.specs.States.{Finds, Makes};
@@ -14,6 +14,9 @@ use sqlite::{Alter, Error, Row, params};
 use sqlrows::{Number, Record, maybe_number};
 use std::marker::Model;
 use transactions::BookFault;
+
+/// The tree of the table `link`.
+const TREE: u64 = 10;
 
 const BY_DOMAIN: &str =
     "SELECT id, domain, contact, host, role, due FROM link WHERE domain = ?1 ORDER BY id";
@@ -40,6 +43,8 @@ const APPEND: &str =
     "INSERT INTO link (domain, contact, host, role, due) VALUES (?1, ?2, ?3, ?4, ?5)";
 
 const REMOVE_DOMAIN: &str = "DELETE FROM link WHERE domain = ?1";
+
+const UPDATE_DUE: &str = "UPDATE link SET due = ?2 WHERE domain = ?1";
 
 /// A row of the table `link`.
 #[derive(Drop)]
@@ -110,7 +115,7 @@ impl<S: Alter> RowStore<S> {
         ensures { Finds result (filter (link_with_domain domain) self.old.content.links) self.old
             self.new }
     {
-        self.select(BY_DOMAIN, params![domain])
+        self.select(TREE, BY_DOMAIN, params![domain])
     }
 
     /// Those whose `host` is this.
@@ -118,7 +123,7 @@ impl<S: Alter> RowStore<S> {
         ensures { Finds result (filter (link_with_host host) self.old.content.links) self.old
             self.new }
     {
-        self.select(BY_HOST, params![host])
+        self.select(TREE, BY_HOST, params![host])
     }
 
     /// The first of those whose `contact` is this, by number, if there is any.
@@ -126,7 +131,7 @@ impl<S: Alter> RowStore<S> {
         ensures { Finds result (take 1 (filter (link_with_contact contact) self.old.content.links))
             self.old self.new }
     {
-        self.select(FIRST_BY_CONTACT, params![contact])
+        self.select(TREE, FIRST_BY_CONTACT, params![contact])
     }
 
     /// The first of those whose `host` is this, by number, if there is any.
@@ -134,7 +139,7 @@ impl<S: Alter> RowStore<S> {
         ensures { Finds result (take 1 (filter (link_with_host host) self.old.content.links))
             self.old self.new }
     {
-        self.select(FIRST_BY_HOST, params![host])
+        self.select(TREE, FIRST_BY_HOST, params![host])
     }
 
     /// Those whose `contact` is this and whose `due` is this moment or one before.
@@ -146,7 +151,7 @@ impl<S: Alter> RowStore<S> {
         ensures { Finds result (filter (link_of_contact_within contact due) self.old.content.links)
             self.old self.new }
     {
-        self.select(BY_CONTACT_UNTIL_DUE, params![contact, due])
+        self.select(TREE, BY_CONTACT_UNTIL_DUE, params![contact, due])
     }
 
     /// Those whose `host` is this and whose `due` is this moment or one before.
@@ -158,7 +163,7 @@ impl<S: Alter> RowStore<S> {
         ensures { Finds result (filter (link_of_host_within host due) self.old.content.links)
             self.old self.new }
     {
-        self.select(BY_HOST_UNTIL_DUE, params![host, due])
+        self.select(TREE, BY_HOST_UNTIL_DUE, params![host, due])
     }
 
     /// Puts a row in the place of the one with its number, or beside all others.
@@ -167,7 +172,7 @@ impl<S: Alter> RowStore<S> {
         ensures { Makes result (links_to (λ xs. insert_by links.key xs link.now) self.old.content)
             self.old self.new }
     {
-        self.write(PUT, &link.params())
+        self.write(TREE, PUT, &link.params())
     }
 
     /// Adds a row at the end, with the number after the last one. The given row's number isn't looked at.
@@ -176,7 +181,7 @@ impl<S: Alter> RowStore<S> {
         ensures { Makes result (links_to (appended links (λ id. record link.now { id = id }))
             self.old.content) self.old self.new }
     {
-        self.write(APPEND, &link.params()[1..])
+        self.write(TREE, APPEND, &link.params()[1..])
     }
 
     /// Removes those whose `domain` is this.
@@ -185,6 +190,15 @@ impl<S: Alter> RowStore<S> {
         ensures { Makes result (links_to (delete_where (link_with_domain domain)) self.old.content)
             self.old self.new }
     {
-        self.write(REMOVE_DOMAIN, params![domain])
+        self.write(TREE, REMOVE_DOMAIN, params![domain])
+    }
+
+    /// Those whose `domain` is this are due at this moment.
+    pub fn update_links_due(&mut self, domain: Number, due: Number) -> Result<(), BookFault>
+        requires { self.old.is_open ≡ true }
+        ensures { Makes result (links_to (update_where (link_with_domain domain)
+            (λ x. record x { due = due })) self.old.content) self.old self.new }
+    {
+        self.write(TREE, UPDATE_DUE, params![domain, due])
     }
 }

@@ -16,6 +16,9 @@ use sqlrows::{Number, Record};
 use std::marker::Model;
 use transactions::BookFault;
 
+/// The tree of the table `message`.
+const TREE: u64 = 12;
+
 const FIRST_BY_ACCOUNT: &str =
     "SELECT id, account, moment, class, number, name, subject, notice FROM message WHERE account = ?1 ORDER BY moment, class, number, name, subject, notice, id LIMIT 1";
 
@@ -113,7 +116,7 @@ impl<S: Alter> RowStore<S> {
         ensures { Finds result (take 1 (queue_of account self.old.content.messages)) self.old
             self.new }
     {
-        self.select(FIRST_BY_ACCOUNT, params![account])
+        self.select(TREE, FIRST_BY_ACCOUNT, params![account])
     }
 
     /// Those that are equal to this one in all columns but the number.
@@ -121,7 +124,7 @@ impl<S: Alter> RowStore<S> {
         ensures { Finds result (filter (is_same_message message.now) self.old.content.messages)
             self.old self.new }
     {
-        self.select(SAME, &message.params()[1..])
+        self.select(TREE, SAME, &message.params()[1..])
     }
 
     /// Puts a row in the place of the one with its number, or beside all others.
@@ -130,7 +133,7 @@ impl<S: Alter> RowStore<S> {
         ensures { Makes result (messages_to (λ xs. insert_by messages.key xs message.now)
             self.old.content) self.old self.new }
     {
-        self.write(PUT, &message.params())
+        self.write(TREE, PUT, &message.params())
     }
 
     /// Adds a row at the end, with the number after the last one. The given row's number isn't looked at.
@@ -140,7 +143,7 @@ impl<S: Alter> RowStore<S> {
             (messages_to (appended messages (λ id. record message.now { id = id }))
             self.old.content) self.old self.new }
     {
-        self.write(APPEND, &message.params()[1..])
+        self.write(TREE, APPEND, &message.params()[1..])
     }
 
     /// Removes those whose `id` is this.
@@ -149,6 +152,6 @@ impl<S: Alter> RowStore<S> {
         ensures { Makes result (messages_to (delete_where (message_with_id id)) self.old.content)
             self.old self.new }
     {
-        self.write(REMOVE_ID, params![id])
+        self.write(TREE, REMOVE_ID, params![id])
     }
 }

@@ -17,6 +17,9 @@ use std::alloc::{AllocError, Global};
 use std::marker::Model;
 use transactions::BookFault;
 
+/// The tree of the table `meta`.
+const TREE: u64 = 0;
+
 const ALL: &str =
     "SELECT id, version, clock, zone, reserved, days_add, days_auto_renew, days_renew, days_transfer, days_redemption, days_restore, days_pending_delete, days_answer, days_lock, price_create, price_renew, price_transfer FROM meta ORDER BY id";
 
@@ -160,7 +163,7 @@ impl<S: Alter> Base<S> {
     pub(crate) fn all_metas(&mut self) -> Result<Seq<MetaRow>, BookFault>
         ensures { Finds result self.old.content.metas self.old self.new }
     {
-        self.select(ALL, &[])
+        self.select(TREE, ALL, &[])
     }
 
     /// Puts a row in the place of the one with its number, or beside all others.
@@ -169,7 +172,7 @@ impl<S: Alter> Base<S> {
         ensures { Makes result (metas_to (λ xs. insert_by metas.key xs meta.now) self.old.content)
             self.old self.new }
     {
-        self.write(PUT, &meta.params())
+        self.write(TREE, PUT, &meta.params())
     }
 }
 

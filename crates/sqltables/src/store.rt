@@ -81,28 +81,36 @@ impl<S: Alter> RowStore<S> {
         RowStore { base, hand, left }
     }
 
-    /// The records that the rows of a query show, which looks at no account.
+    /// The records that the rows of a query of the table in this tree show, which isn't that of accounts.
     pub(crate) fn select<R: Record>(
         &mut self,
+        tree: u64,
         sql: &str,
         params: &[ValueRef<'_>],
     ) -> Result<Seq<R>, BookFault>
-        requires { (f : Content → List R) × Asks R.shown sql.now (bound params.now) f }
-        ensures { (f : Content → List R) → Asks R.shown sql.now (bound params.now) f → IsBlind f
+        requires { (f : Content → List R) × Asks tree R.shown sql.now (bound params.now) f }
+        ensures { (f : Content → List R) → Asks tree R.shown sql.now (bound params.now) f → IsBlind f
             → Finds result (f self.old.content) self.old self.new }
     {
-        let found = self.base.select(sql, params);
+        let found = self.base.select(tree, sql, params);
         self.hand.or_forget(found)
     }
 
-    /// Runs a statement that writes rows, of neither `account` nor `meta` nor `days`, in the open transaction.
-    pub(crate) fn write(&mut self, sql: &str, params: &[ValueRef<'_>]) -> Result<(), BookFault>
-        requires means { (f : Content → Content) × Alters sql.now (bound params.now) f × IsApart f }
+    /// Runs a statement that writes rows of the table in this tree, which is that of neither `account` nor
+    /// `meta` nor `days`, in the open transaction.
+    pub(crate) fn write(
+        &mut self,
+        tree: u64,
+        sql: &str,
+        params: &[ValueRef<'_>],
+    ) -> Result<(), BookFault>
+        requires means { (f : Content → Content) × Alters tree sql.now (bound params.now) f
+            × IsApart f }
         requires begun { self.old.is_open ≡ true }
-        ensures { (f : Content → Content) → Alters sql.now (bound params.now) f → IsApart f
+        ensures { (f : Content → Content) → Alters tree sql.now (bound params.now) f → IsApart f
             → Makes result (f self.old.content) self.old self.new }
     {
-        let made = self.base.write(sql, params);
+        let made = self.base.write(tree, sql, params);
         self.hand.or_forget(made)
     }
 

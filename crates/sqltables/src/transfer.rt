@@ -15,6 +15,9 @@ use sqlrows::{Number, Record, maybe_number};
 use std::marker::Model;
 use transactions::BookFault;
 
+/// The tree of the table `transfer`.
+const TREE: u64 = 13;
+
 const BY_CONTACT: &str =
     "SELECT id, contact, domain, requester, losing, requested, ac_date, due, state FROM transfer WHERE contact = ?1 ORDER BY id";
 
@@ -117,7 +120,7 @@ impl<S: Alter> RowStore<S> {
         ensures { Finds result (filter (transfer_with_contact contact) self.old.content.transfers)
             self.old self.new }
     {
-        self.select(BY_CONTACT, params![contact])
+        self.select(TREE, BY_CONTACT, params![contact])
     }
 
     /// Those whose `domain` is this.
@@ -125,7 +128,7 @@ impl<S: Alter> RowStore<S> {
         ensures { Finds result (filter (transfer_with_domain domain) self.old.content.transfers)
             self.old self.new }
     {
-        self.select(BY_DOMAIN, params![domain])
+        self.select(TREE, BY_DOMAIN, params![domain])
     }
 
     /// Those that are pending and whose `requester` is this.
@@ -136,7 +139,7 @@ impl<S: Alter> RowStore<S> {
         ensures { Finds result (filter (transfer_pending_by requester) self.old.content.transfers)
             self.old self.new }
     {
-        self.select(PENDING_BY_REQUESTER, params![requester])
+        self.select(TREE, PENDING_BY_REQUESTER, params![requester])
     }
 
     /// Those that are pending and whose `losing` is this.
@@ -147,7 +150,7 @@ impl<S: Alter> RowStore<S> {
         ensures { Finds result (filter (transfer_pending_from losing) self.old.content.transfers)
             self.old self.new }
     {
-        self.select(PENDING_BY_LOSING, params![losing])
+        self.select(TREE, PENDING_BY_LOSING, params![losing])
     }
 
     /// Puts a row in the place of the one with its number, or beside all others.
@@ -156,7 +159,7 @@ impl<S: Alter> RowStore<S> {
         ensures { Makes result (transfers_to (λ xs. insert_by transfers.key xs transfer.now)
             self.old.content) self.old self.new }
     {
-        self.write(PUT, &transfer.params())
+        self.write(TREE, PUT, &transfer.params())
     }
 
     /// Adds a row at the end, with the number after the last one. The given row's number isn't looked at.
@@ -166,7 +169,7 @@ impl<S: Alter> RowStore<S> {
             (transfers_to (appended transfers (λ id. record transfer.now { id = id }))
             self.old.content) self.old self.new }
     {
-        self.write(APPEND, &transfer.params()[1..])
+        self.write(TREE, APPEND, &transfer.params()[1..])
     }
 
     /// Removes those whose `contact` is this.
@@ -175,7 +178,7 @@ impl<S: Alter> RowStore<S> {
         ensures { Makes result (transfers_to (delete_where (transfer_with_contact contact))
             self.old.content) self.old self.new }
     {
-        self.write(REMOVE_CONTACT, params![contact])
+        self.write(TREE, REMOVE_CONTACT, params![contact])
     }
 
     /// Removes those whose `domain` is this.
@@ -184,6 +187,6 @@ impl<S: Alter> RowStore<S> {
         ensures { Makes result (transfers_to (delete_where (transfer_with_domain domain))
             self.old.content) self.old self.new }
     {
-        self.write(REMOVE_DOMAIN, params![domain])
+        self.write(TREE, REMOVE_DOMAIN, params![domain])
     }
 }

@@ -1,7 +1,7 @@
 -- What single steps of a change of a domain make.
-use Rattle.std.specs.Prelude.{◌≡◌, ℕ, ℤ, true, false, List, [], ◌∷◌, filter, Option, Some, None}
+use Rattle.std.specs.Prelude.{◌≡◌, ℕ, ℤ, true, false, List, [], ◌∷◌, filter, Option, Some, None, ⊤}
 use Rattle.std.specs.Ordering.{int_eq}
-use Rattle.sqlite_keyed.specs.Lists.{delete_where}
+use Rattle.sqlite_keyed.specs.Lists.{delete_where, update_where}
 use Rattle.objects.specs.declared.domain.Domain.{Domain}
 use Rattle.objects.specs.declared.domain.Links.{Links}
 use Rattle.sqlcolumns.specs.declared.code.Role.{Role}
@@ -9,6 +9,7 @@ use Rattle.sqlcolumns.specs.declared.code.Role.TheVariants as roles
 use Rattle.sqlcolumns.specs.Codes.{role_column}
 use Rattle.sqlcolumns.specs.inner.Domains.{domain_row}
 use Rattle.sqltables.specs.Content.{Content}
+use Rattle.sqltables.specs.inner.Content.{links_to}
 use Rattle.sqltables.specs.Domain as table
 use Rattle.sqltables.specs.inner.Domain as inner_table
 use Rattle.sqltables.specs.Link.{Link, link_with_domain}
@@ -16,7 +17,9 @@ use Rattle.sqltables.specs.Transfer.{transfer_with_contact, transfer_with_domain
 use Rattle.sqlobjects.specs.Changes.{contact_name, host_name}
 use Rattle.sqlobjects.specs.inner.Stages.{IsRowPlaced, domains}
 use Rattle.sqldomains.specs.declared.domain_rows.DerivedColumns.{DerivedColumns}
-use Rattle.sqldomains.specs.Domains.{are_dated, linked_name, registrant_alone, with_links, with_name}
+use Rattle.sqldomains.specs.declared.comparison.LinkComparison.{LinkComparison}
+use Rattle.sqldomains.specs.declared.comparison.LinkComparison.TheVariants as comparisons
+use Rattle.sqldomains.specs.Domains.{are_dated, in_places, linked_name, registrant_alone, with_links, with_name}
 
 -- ---- links
 
@@ -77,6 +80,29 @@ pub record AreNamesAdded (id due : ℤ) (role : Role) (names : List (List ℕ)) 
 pub record AreLinksPut (id due : ℤ) (links : Links) (old new : Content) : Type 0 where
   pub here : Names id due links new
   pub others : AreOtherLinksKept id old new
+
+-- these rows lead to this
+abbrev pub LeadTo : Content → Links → List Link → Type 0
+LeadTo xs links rows = with_links xs (registrant_alone links.registrant) rows ≡ Some links
+
+-- what the rows that lead from a domain, which is due then, lead to beside what it is to name
+abbrev pub AreCompared : Content → ℤ → Links → List Link → LinkComparison → Type 0
+AreCompared xs due links rows comparisons.Absent = rows ≡ []
+AreCompared xs due links rows comparisons.Same = LeadTo xs links rows × (are_dated due rows ≡ true)
+AreCompared xs due links rows comparisons.Misdated = LeadTo xs links rows
+AreCompared xs due links rows comparisons.Different = ⊤
+
+-- the rows that lead from the domain with this number say that it is due then
+abbrev pub AreDuesSet : ℤ → ℤ → Content → Content → Type 0
+AreDuesSet id due old new =
+    new ≡ links_to (update_where (link_with_domain id) (λ (l : Link). record l { due = due })) old
+
+-- the domain with this number names this, if its hosts are in their order and the rows that led from it
+-- compared so
+abbrev pub AreLinksPutOver : ℤ → ℤ → Links → LinkComparison → Content → Content → Type 0
+AreLinksPutOver id due links compared old new =
+    in_places links.hosts ≡ links.hosts
+    → AreCompared old due links (filter (link_with_domain id) old.links) compared → AreLinksPut id due links old new
 
 -- ---- rows of domains
 

@@ -12,7 +12,7 @@ use Rattle.sqlite_sql.specs.Term.{Term, lit, col, op2, eval_all}
 use Rattle.sqlite_schema.specs.declared.schema.Table.{Table}
 use Rattle.sqlite_schema.specs.declared.schema.Schema.{Schema}
 use Rattle.sqlite_schema.specs.declared.command.Command.{Command}
-use Rattle.sqlite_schema.specs.declared.command.Command.TheVariants.{Select, Insert, Delete, InsertOr, CreateTable, CreateIndex, Nothing}
+use Rattle.sqlite_schema.specs.declared.command.Command.TheVariants.{Select, Insert, Update, Delete, InsertOr, CreateTable, CreateIndex, Nothing}
 use Rattle.sqlite_resolve.specs.declared.compiled.Compiled.{Compiled}
 use Rattle.sqlite_resolve.specs.declared.error.CompileError.{CompileError}
 use Rattle.sqlite.specs.Listing.{understood, reads_listing}
@@ -90,6 +90,16 @@ pub record IsDelete (schema : Schema) (sql : List ℕ) (at tree : ℕ) (filters 
   pub command : command_of (understood schema sql) ≡ Delete at (record { lets = []; body = chosen_query tree filters (col 1 0 ∷ []) })
   pub plain : IsPlain (understood schema sql)
 
+-- an update of the rows that pass: the columns after the rowid, as it leaves them
+pub record IsUpdate (schema : Schema) (sql : List ℕ) (at tree : ℕ) (filters sets : List Term) : Type 0 where
+  pub command : command_of (understood schema sql) ≡ Update at (record { lets = []; body = chosen_query tree filters (col 1 0 ∷ sets) })
+  pub plain : IsPlain (understood schema sql)
+
+-- what the update makes of a row is another one, with its key
+pub record Renews {X : Type 0} (L : Layout X) (sets : List Term) (params : Row) (f : X → X) : Type 0 where
+  pub row : (x : X) → eval_all sets (params ∷ L.to_row x ∷ []) ≡ L.to_row (f x)
+  pub key : (x : X) → L.key (f x) ≡ L.key x
+
 -- the table has these rows, and each other table is as it was
 pub record Sets {X : Type 0} (L : Layout X) (schema : Schema) (old new : Database) (xs : List X) : Type 0 where
   pub same : new.schema ≡ schema
@@ -144,6 +154,7 @@ pub record Numbers {X : Type 0} (L : Layout X) (table : Table) (terms : List Ter
 abbrev pub writes_tables : Command → Bool
 writes_tables (Insert at from) = true
 writes_tables (InsertOr at way from clauses) = true
+writes_tables (Update at q) = true
 writes_tables (Delete at q) = true
 writes_tables CreateTable = true
 writes_tables (CreateIndex at) = true

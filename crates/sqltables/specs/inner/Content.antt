@@ -10,7 +10,6 @@ use Rattle.sqltables.specs.Account as account_table
 use Rattle.sqltables.specs.Contact.{Contact}
 use Rattle.sqltables.specs.Contact as contact_table
 use Rattle.sqltables.specs.Domain.{Domain}
-use Rattle.sqltables.specs.Domain as domain_table
 use Rattle.sqltables.specs.inner.Domain as inner_domain_table
 use Rattle.sqltables.specs.Host.{Host}
 use Rattle.sqltables.specs.Host as host_table
@@ -21,7 +20,6 @@ use Rattle.sqltables.specs.Link as link_table
 use Rattle.sqltables.specs.Line.{Line}
 use Rattle.sqltables.specs.Line as line_table
 use Rattle.sqltables.specs.Message.{Message}
-use Rattle.sqltables.specs.Message as message_table
 use Rattle.sqltables.specs.inner.Message as inner_message_table
 use Rattle.sqltables.specs.Transfer.{Transfer}
 use Rattle.sqltables.specs.Transfer as transfer_table

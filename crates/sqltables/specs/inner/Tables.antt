@@ -1,7 +1,5 @@
 -- The tables of the registry and the texts of its statements.
 use Rattle.std.specs.Prelude.{[], ◌∷◌, codes, List, ℕ}
-use Rattle.sqlite_catalog.specs.Change.{created}
-use Rattle.sqltables.specs.Tables.{meta, account, contact, domain, host, address, link, line, message, transfer, days, contact_due, domain_registrant, domain_due, domain_sponsor, host_above, address_host, link_domain, link_contact, link_host, line_object, message_queue, transfer_contact, transfer_domain, transfer_requester, contact_sponsor, domain_roid, domain_registrant_due, link_contact_due, link_host_due, transfer_losing}
 
 -- ---- meta
 
@@ -172,6 +170,9 @@ link_append = codes "INSERT INTO link (domain, contact, host, role, due) VALUES 
 
 abbrev pub link_remove_domain : List ℕ
 link_remove_domain = codes "DELETE FROM link WHERE domain = ?1"
+
+abbrev pub link_update_due : List ℕ
+link_update_due = codes "UPDATE link SET due = ?2 WHERE domain = ?1"
 
 -- ---- line
 

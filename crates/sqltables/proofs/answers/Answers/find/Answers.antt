@@ -6,9 +6,9 @@ use Rattle.sqltables.proofs.AnswerLemmas.{shown-by}
 use Rattle.sqltables.proofs.answers.Answers.find.Goals as goal
 
 pub returns-then-is_of : goal.returns-then-is_of
-returns-then-is_of g c f db xs asks right is =
+returns-then-is_of g c tree f db xs asks right is =
     let it = c.answer-item.result in
     let at = c.answers.answer-index in
-    let here = c.answer-item.is ∙ ap (λ (items : List Answer). get_or items at it) c.as_slice-answer-items.ensures in
-    let short = subst (λ (items : List Answer). at < length items) c.as_slice-answer-items.ensures c.answers-test.true in
-    c.read_all.ensures (f xs) (c.deref.ensures.value ∙ shown-by g.R.Record.shown c.args.sql.now (bound c.args.params.now) f asks db xs is it (c.if-is_of.ensures refl) (subst (IsRight db) (sym here) (right at it short)))
+    let here = c.answer-item.is ∙ ap (λ (items : List Answer). get_or items at it) c.deref-answer-items.ensures.value in
+    let short = subst (λ (items : List Answer). at < length items) c.deref-answer-items.ensures.value c.answers-test.true in
+    c.read_all.ensures (f xs) (c.deref.ensures.value ∙ shown-by tree g.R.Record.shown c.args.sql.now (bound c.args.params.now) f asks db xs is it (c.if-is_of.ensures refl) (subst (IsRight db) (sym here) (right at it short)))

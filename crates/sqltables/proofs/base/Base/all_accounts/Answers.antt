@@ -1,8 +1,12 @@
 use Rattle.sqltables.proofs.AccountLemmas.{all_asks, all_is}
+use Rattle.sqltables.proofs.AnswerLemmas.{reads-by}
 use Rattle.sqltables.proofs.base.Base.all_accounts.Goals as goal
 
-pub select-requires : goal.select-requires
-select-requires g c = all_is.plain
+pub select-requires-clause-plain : goal.select-requires-clause-plain
+select-requires-clause-plain g c = all_is.plain
+
+pub select-requires-clause-reads : goal.select-requires-clause-reads
+select-requires-clause-reads g c = reads-by _ _ _ _ _ all_asks
 
 pub returns : goal.returns
 returns g c = c.select.ensures _ all_asks

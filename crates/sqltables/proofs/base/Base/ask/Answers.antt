@@ -81,7 +81,7 @@ returns-in-Ok g c f asks =
     let new = state g.S.Store c.query_all.new.self in
     let leaves = leaves_of (state g.S.Store) c.self.inside.left.items in
     let rows = sym c.has_rows.ensures ∙ c.if-not-has_rows.false in
-    let it = asked g.R.Record.shown sql params form begun old new _ leaves c.query_all.ensures.survives c.self.invariant.0 rows f asks _ c.in-Ok.ensures.ok c.read_all-found.result
+    let it = asked c.args.tree g.R.Record.shown sql params form begun old new _ leaves c.query_all.ensures.survives c.self.invariant.0 rows f asks _ c.in-Ok.ensures.ok c.read_all-found.result
     (λ xs e. c.read_all-found.ensures xs (c.deref.ensures.value ∙ e)) in
     subst (λ (s : StateOf Content). Finds c.read_all-found.result (f s.content) s (stands form begun new leaves)) c.self.view_is it
 
@@ -108,5 +108,8 @@ returns-in-Some g c f asks =
     let s = state g.S.Store c.self.inside.conn in
     let leaves = leaves_of (state g.S.Store) c.self.inside.left.items in
     let rows = sym c.has_rows.ensures ∙ c.if-not-has_rows.false in
-    let it = recalled c.self.inside.form c.self.inside.begun s leaves c.self.inside.answers c.self.invariant.0 rows c.self.invariant.2 f c.in-Some.found (λ db xs right is. c.in-Some.ensures f db xs asks right is) in
+    let it = recalled c.self.inside.form c.self.inside.begun s leaves c.self.inside.answers c.self.invariant.0 rows c.self.invariant.2 f c.in-Some.found (λ db xs right is. c.in-Some.ensures c.args.tree f db xs asks right is) in
     subst (λ (t : StateOf Content). Finds c.in-Some.found (f t.content) t t) c.self.view_is it
+
+pub keep-requires : goal.keep-requires
+keep-requires g c = c.requires.reads

@@ -6,7 +6,7 @@ use Rattle.sqltables.specs.Content.{Content}
 use Rattle.transactions.specs.States.{Stays, StateOf, Writes}
 use Rattle.sqltables.specs.inner.Stored.{Fits, Guards, leaves_of, stands}
 use Rattle.sqltables.specs.declared.form.Form.{Form}
-use Rattle.sqltables.proofs.AlteringLemmas.{fits-written, left-by-write, left-open, none-committed, open-after, written}
+use Rattle.sqltables.proofs.AlteringLemmas.{fits-written, left-by-write, left-open, none-committed, open-after, recalls-written, written}
 use Rattle.sqltables.proofs.StandingLemmas.{fits-held, fits-idle, guards-on, opened-held, stays-held, stays-idle, was-honest}
 use Rattle.sqltables.proofs.base.Base.write.Goals as goal
 use Rattle.sqltables.proofs.base.Base.write.Goals.{then-is_autocommit, else-is_autocommit}
@@ -14,94 +14,94 @@ use Rattle.sqltables.proofs.base.Base.write.Goals.{then-is_autocommit, else-is_a
 pub invariant_of-self : goal.invariant_of-self
 invariant_of-self g c =
     let old = state g.S.Store c.self.inside.conn in
-    let new = state g.S.Store c.execute-done.new.self in
+    let new = state g.S.Store c.execute.new.self in
     let form = c.self.inside.form in
     let leaves = leaves_of (state g.S.Store) c.self.inside.left.items in
     let rows = sym c.has_rows.ensures ∙ c.if-not-has_rows.false in
     let begun = ap (λ (s : StateOf Content). s.is_open) c.self.view_is ∙ c.requires.begun in
     let fits = subst (λ (b : Bool). Fits form b old) begun c.self.invariant.0 in
     let guards = subst (λ (b : Bool). Guards b old leaves) begun c.self.invariant.1 in
-    let opened : (HasCleanDisk new → IsTrue old.is_open) = λ clean. guards.opened (was-honest old new _ c.execute-done.ensures.survives clean) refl in
+    let opened : (HasCleanDisk new → IsTrue old.is_open) = λ clean. guards.opened (was-honest old new _ c.execute.ensures.survives clean) refl in
     let sql = c.args.sql.now in
     let params = bound c.args.params.now in (
-      subst (λ (b : Bool). Fits form b new) (sym begun) (fits-written sql params form old new _ c.execute-done.ensures.survives fits rows c.requires.means.0 c.requires.means.1 _ c.in-Ok.ensures.runs),
+      subst (λ (b : Bool). Fits form b new) (sym begun) (fits-written c.args.tree sql params form old new _ c.execute.ensures.survives fits rows c.requires.means.0 c.requires.means.1 _ c.in-Ok.ensures.runs),
       subst (λ (b : Bool). Guards b new leaves) (sym begun)
-          (guards-on true true old new _ leaves c.execute-done.ensures.survives guards
-          (λ clean _. open-after sql params form old new _ c.execute-done.ensures.survives fits rows c.requires.means.0 c.requires.means.1 _ c.in-Ok.ensures.runs opened clean)
-          (none-committed sql params form old new _ c.execute-done.ensures.survives fits rows c.requires.means.0 c.requires.means.1 c.execute-done.ensures.survives opened)),
-      λ _ _. c.forget.ensures _,
+          (guards-on true true old new _ leaves c.execute.ensures.survives guards
+          (λ clean _. open-after c.args.tree sql params form old new _ c.execute.ensures.survives fits rows c.requires.means.0 c.requires.means.1 _ c.in-Ok.ensures.runs opened clean)
+          (none-committed c.args.tree sql params form old new _ c.execute.ensures.survives fits rows c.requires.means.0 c.requires.means.1 c.execute.ensures.survives opened)),
+      recalls-written c.args.tree sql params form old new _ c.execute.ensures.survives fits rows c.requires.means.0 c.requires.means.1 _ c.in-Ok.ensures.runs c.self.inside.answers c.forget_of.new.self c.self.invariant.2 c.forget_of.ensures,
     )
 
 pub invariant_of-self-then-is_autocommit : goal.invariant_of-self-then-is_autocommit
 invariant_of-self-then-is_autocommit g c =
     let old = state g.S.Store c.self.inside.conn in
-    let new = state g.S.Store c.execute-done.new.self in
+    let new = state g.S.Store c.execute.new.self in
     let form = c.self.inside.form in
     let leaves = leaves_of (state g.S.Store) c.self.inside.left.items in
     let rows = sym c.has_rows.ensures ∙ c.if-not-has_rows.false in
     let begun = ap (λ (s : StateOf Content). s.is_open) c.self.view_is ∙ c.requires.begun in
     let fits = subst (λ (b : Bool). Fits form b old) begun c.self.invariant.0 in
     let guards = subst (λ (b : Bool). Guards b old leaves) begun c.self.invariant.1 in
-    let opened : (HasCleanDisk new → IsTrue old.is_open) = λ clean. guards.opened (was-honest old new _ c.execute-done.ensures.survives clean) refl in
-    let left = left-by-write c.args.sql.now (bound c.args.params.now) form old new _ c.execute-done.ensures.survives fits rows c.requires.means.0 c.requires.means.1 c.in-Err.error c.in-Err.ensures.runs in
+    let opened : (HasCleanDisk new → IsTrue old.is_open) = λ clean. guards.opened (was-honest old new _ c.execute.ensures.survives clean) refl in
+    let left = left-by-write c.args.tree c.args.sql.now (bound c.args.params.now) form old new _ c.execute.ensures.survives fits rows c.requires.means.0 c.requires.means.1 c.in-Err.error c.in-Err.ensures.runs in
     let sql = c.args.sql.now in
     let params = bound c.args.params.now in (
       subst (λ (f : Form). Fits f false new) (sym c.undone-self-inside.ensures) (fits-idle form true old new c.is_autocommit.result c.is_autocommit.ensures.value left c.if-is_autocommit.true),
-      guards-on true false old new _ leaves c.execute-done.ensures.survives guards (λ clean e. absurd (true≢false (sym e)))
-          (none-committed sql params form old new _ c.execute-done.ensures.survives fits rows c.requires.means.0 c.requires.means.1 c.execute-done.ensures.survives opened),
+      guards-on true false old new _ leaves c.execute.ensures.survives guards (λ clean e. absurd (true≢false (sym e)))
+          (none-committed c.args.tree sql params form old new _ c.execute.ensures.survives fits rows c.requires.means.0 c.requires.means.1 c.execute.ensures.survives opened),
       λ _ _. c.forget.ensures _,
     )
 
 pub invariant_of-self-else-is_autocommit : goal.invariant_of-self-else-is_autocommit
 invariant_of-self-else-is_autocommit g c =
     let old = state g.S.Store c.self.inside.conn in
-    let new = state g.S.Store c.execute-done.new.self in
+    let new = state g.S.Store c.execute.new.self in
     let form = c.self.inside.form in
     let leaves = leaves_of (state g.S.Store) c.self.inside.left.items in
     let rows = sym c.has_rows.ensures ∙ c.if-not-has_rows.false in
     let begun = ap (λ (s : StateOf Content). s.is_open) c.self.view_is ∙ c.requires.begun in
     let fits = subst (λ (b : Bool). Fits form b old) begun c.self.invariant.0 in
     let guards = subst (λ (b : Bool). Guards b old leaves) begun c.self.invariant.1 in
-    let opened : (HasCleanDisk new → IsTrue old.is_open) = λ clean. guards.opened (was-honest old new _ c.execute-done.ensures.survives clean) refl in
-    let left = left-by-write c.args.sql.now (bound c.args.params.now) form old new _ c.execute-done.ensures.survives fits rows c.requires.means.0 c.requires.means.1 c.in-Err.error c.in-Err.ensures.runs in
+    let opened : (HasCleanDisk new → IsTrue old.is_open) = λ clean. guards.opened (was-honest old new _ c.execute.ensures.survives clean) refl in
+    let left = left-by-write c.args.tree c.args.sql.now (bound c.args.params.now) form old new _ c.execute.ensures.survives fits rows c.requires.means.0 c.requires.means.1 c.in-Err.error c.in-Err.ensures.runs in
     let sql = c.args.sql.now in
     let params = bound c.args.params.now in
-    let known = left-open sql params form old new _ c.execute-done.ensures.survives fits rows c.requires.means.0 c.requires.means.1 c.in-Err.error c.in-Err.ensures.runs opened in (
+    let known = left-open c.args.tree sql params form old new _ c.execute.ensures.survives fits rows c.requires.means.0 c.requires.means.1 c.in-Err.error c.in-Err.ensures.runs opened in (
       subst (λ (b : Bool). Fits form b new) (sym begun) (fits-held form true old new c.is_autocommit.result c.is_autocommit.ensures.value left c.if-is_autocommit.false),
       subst (λ (b : Bool). Guards b new leaves) (sym begun)
-          (guards-on true true old new _ leaves c.execute-done.ensures.survives guards
+          (guards-on true true old new _ leaves c.execute.ensures.survives guards
           (λ clean _. opened-held form true old new c.is_autocommit.result c.is_autocommit.ensures.value known c.if-is_autocommit.false clean)
-          (none-committed sql params form old new _ c.execute-done.ensures.survives fits rows c.requires.means.0 c.requires.means.1 c.execute-done.ensures.survives opened)),
+          (none-committed c.args.tree sql params form old new _ c.execute.ensures.survives fits rows c.requires.means.0 c.requires.means.1 c.execute.ensures.survives opened)),
       λ _ _. c.forget.ensures _,
     )
 
 pub returns-in-Ok : goal.returns-in-Ok
 returns-in-Ok g c f alters =
     let old = state g.S.Store c.self.inside.conn in
-    let new = state g.S.Store c.execute-done.new.self in
+    let new = state g.S.Store c.execute.new.self in
     let form = c.self.inside.form in
     let leaves = leaves_of (state g.S.Store) c.self.inside.left.items in
     let rows = sym c.has_rows.ensures ∙ c.if-not-has_rows.false in
     let begun = ap (λ (s : StateOf Content). s.is_open) c.self.view_is ∙ c.requires.begun in
     let fits = subst (λ (b : Bool). Fits form b old) begun c.self.invariant.0 in
-    let it = written c.args.sql.now (bound c.args.params.now) form old new _ c.execute-done.ensures.survives fits rows f alters _ c.in-Ok.ensures.runs leaves in
+    let it = written c.args.tree c.args.sql.now (bound c.args.params.now) form old new _ c.execute.ensures.survives fits rows f alters _ c.in-Ok.ensures.runs leaves in
     let there = subst (λ (b : Bool). Writes (f (stands form b old leaves).content) (stands form b old leaves) (stands form b new leaves)) (sym begun) it in
     subst (λ (s : StateOf Content). Writes (f s.content) s (stands form c.self.inside.begun new leaves)) c.self.view_is there
 
 pub returns-after-is_autocommit : goal.returns-after-is_autocommit
 returns-after-is_autocommit g c f alters =
     let old = state g.S.Store c.self.inside.conn in
-    let new = state g.S.Store c.execute-done.new.self in
+    let new = state g.S.Store c.execute.new.self in
     let form = c.self.inside.form in
     let leaves = leaves_of (state g.S.Store) c.self.inside.left.items in
     let rows = sym c.has_rows.ensures ∙ c.if-not-has_rows.false in
     let begun = ap (λ (s : StateOf Content). s.is_open) c.self.view_is ∙ c.requires.begun in
     let fits = subst (λ (b : Bool). Fits form b old) begun c.self.invariant.0 in
-    let left = left-by-write c.args.sql.now (bound c.args.params.now) form old new _ c.execute-done.ensures.survives fits rows c.requires.means.0 c.requires.means.1 c.in-Err.error c.in-Err.ensures.runs in
+    let left = left-by-write c.args.tree c.args.sql.now (bound c.args.params.now) form old new _ c.execute.ensures.survives fits rows c.requires.means.0 c.requires.means.1 c.in-Err.error c.in-Err.ensures.runs in
     let was = ap (λ (b : Bool). stands form b old leaves) (sym begun) ∙ c.self.view_is in
     subst (λ (s : StateOf Content). Stays s c.if-is_autocommit.self) was (elim c.if-is_autocommit.branch [
       | then-is_autocommit w ↦ subst (λ (s : StateOf Content). Stays (stands form true old leaves) s) (sym w.self-is)
-          (subst (λ (f : Form). Stays (stands form true old leaves) (stands f false new leaves)) (sym w.undone-self-inside.ensures) (stays-idle form true old new c.is_autocommit.result c.is_autocommit.ensures.value _ c.execute-done.ensures.survives leaves left w.if-is_autocommit.true))
+          (subst (λ (f : Form). Stays (stands form true old leaves) (stands f false new leaves)) (sym w.undone-self-inside.ensures) (stays-idle form true old new c.is_autocommit.result c.is_autocommit.ensures.value _ c.execute.ensures.survives leaves left w.if-is_autocommit.true))
       | else-is_autocommit w ↦ subst (λ (s : StateOf Content). Stays (stands form true old leaves) s) (sym w.self-is)
-          (subst (λ (b : Bool). Stays (stands form true old leaves) (stands form b new leaves)) (sym begun) (stays-held form true old new c.is_autocommit.result c.is_autocommit.ensures.value _ c.execute-done.ensures.survives leaves left w.if-is_autocommit.false))
+          (subst (λ (b : Bool). Stays (stands form true old leaves) (stands form b new leaves)) (sym begun) (stays-held form true old new c.is_autocommit.result c.is_autocommit.ensures.value _ c.execute.ensures.survives leaves left w.if-is_autocommit.false))
     ])

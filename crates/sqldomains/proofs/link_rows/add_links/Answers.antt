@@ -1,0 +1,28 @@
+use Rattle.std.proofs.Common.{subst}
+use Rattle.sqlcolumns.specs.declared.code.Role.TheVariants as roles
+use Rattle.sqltables.specs.Content.{Content}
+use Rattle.sqlrows.specs.Meanings.{HasChanged}
+use Rattle.sqlrows.proofs.StateLemmas.{then-became}
+use Rattle.sqldomains.specs.declared.comparison.LinkComparison.TheVariants as comparisons
+use Rattle.sqldomains.specs.inner.Stages.{AreLinksPutOver, AreNamesAdded}
+use Rattle.sqldomains.proofs.LinkRowLemmas.{links-added}
+use Rattle.sqldomains.proofs.link_rows.add_links.Goals as goal
+
+pub returns : goal.returns
+returns g c =
+    let id = c.args.domain.now.id in
+    let due = c.args.domain.now.due in
+    let links = c.args.links.now in
+    let old = c.args.store.now in
+    let first = c.add_names.new.store in
+    let second = c.add_names-2.new.store in
+    let new = c.add_names-3.new.store in
+    let admin = subst (λ names. HasChanged (AreNamesAdded id due roles.Admin names) old first) c.as_slice.ensures (c.in_ok-add_names.ensures {u = tt}) in
+    let tech = subst (λ names. HasChanged (AreNamesAdded id due roles.Tech names) first second) c.as_slice-2.ensures (c.in_ok-add_names-2.ensures {u = tt}) in
+    let host = subst (λ names. HasChanged (AreNamesAdded id due roles.Host names) second new) c.as_slice-3.ensures (c.in_ok-add_names-3.ensures {u = tt}) in
+    then-became (AreNamesAdded id due roles.Admin links.admin) (λ b d. (a : Content) → AreNamesAdded id due roles.Admin links.admin a b → AreLinksPutOver id due links comparisons.Absent a d) (AreLinksPutOver id due links comparisons.Absent) old first new
+    admin
+    (then-became (AreNamesAdded id due roles.Tech links.tech) (AreNamesAdded id due roles.Host links.hosts) (λ b d. (a : Content) → AreNamesAdded id due roles.Admin links.admin a b → AreLinksPutOver id due links comparisons.Absent a d) first second new
+    tech host
+    (λ clean t h a x. links-added id due links a first.content second.content new.content x t h))
+    (λ clean x more. more old.content x)

@@ -1,0 +1,18 @@
+use Rattle.std.proofs.Common.{sym, subst}
+use Rattle.sqlrows.proofs.StateLemmas.{reads-same}
+use Rattle.sqlobjects.proofs.StepLemmas.{asked-turns}
+use Rattle.sqldomains.specs.declared.comparison.LinkComparison.{LinkComparison}
+use Rattle.sqldomains.specs.declared.comparison.LinkComparison.TheVariants as comparisons
+use Rattle.sqldomains.specs.inner.Stages.{AreDuesSet, AreLinksPutOver}
+use Rattle.sqldomains.proofs.LinkRowLemmas.{dues-set}
+use Rattle.sqldomains.proofs.link_rows.put_over.Goals as goal
+
+pub returns-in-Misdated : goal.returns-in-Misdated
+returns-in-Misdated g c =
+    let id = c.args.domain.now.id in
+    let due = c.args.domain.now.due in
+    let links = c.args.links.now in
+    let old = c.args.store.now in
+    let new = c.set_due.new.store in
+    asked-turns c.set_due.result (AreDuesSet id due) (AreLinksPutOver id due links c.args.there) old old new (reads-same old) c.set_due.ensures
+    (λ clean set. subst (λ (s : LinkComparison). AreLinksPutOver id due links s old.content new.content) (sym c.in-Misdated.is) (subst (AreLinksPutOver id due links comparisons.Misdated old.content) (sym set) (dues-set id due links old.content)))
