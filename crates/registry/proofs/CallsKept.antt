@@ -49,10 +49,10 @@ reopened p state kept clean formed = inr (p, kept clean, formed)
 
 -- ---- refusals stay counted
 
-follows-itself : (s : BookState) → Follows s s
+pub follows-itself : (s : BookState) → Follows s s
 follows-itself s = record { clean = λ clean. clean; counted = omega arith }
 
-follows-on : (old mid new : BookState) → Follows old mid → Follows mid new → Follows old new
+pub follows-on : (old mid new : BookState) → Follows old mid → Follows mid new → Follows old new
 follows-on old mid new first then = record { clean = λ clean. first.clean (then.clean clean); counted = omega (arith, first.counted, then.counted) }
 
 -- ---- each call

@@ -8,4 +8,5 @@ pub mod Answering
 pub mod CallsKept
 pub mod FaceLemmas
 pub mod PassingSteps
+pub mod DomainsSteps
 mod CallLemmas

@@ -7,7 +7,7 @@ use Rattle.concerns.specs.Names.{named_by, no_names}
 use Rattle.concerns.proofs.CommandLemmas.{answer-now, effect-now}
 use Rattle.concerns.proofs.ConcernLemmas.{caught-up}
 use Rattle.concerns.proofs.OrderLemmas.{deposit-effect-now, nothing-due, status-answer-now, status-effect-now}
-use Rattle.model.specs.Lapse.{among, at, lapsed, now}
+use Rattle.model.specs.Lapse.{among, at, lapse, lapsed, now}
 use Rattle.facts.specs.Facts.{facts}
 use Rattle.model.specs.Registry.{Registry, account_of}
 use Rattle.model.proofs.LapseLaws.{lapses-on}
@@ -24,6 +24,7 @@ use Rattle.registry.specs.Execution.{Greets, IsPrepared, IsStep, OrderSteps, Ste
 use Rattle.registry.specs.Faces.{LooksUp}
 use Rattle.registry.specs.Lapsing.{dues_lapsed, with_dues_lapsed}
 use Rattle.registry.specs.inner.Passing.{IsPassed, Passes, Reaches, names_at, status_at}
+use Rattle.registry.proofs.CallsKept.{follows-on}
 use Rattle.registry.proofs.LapseSteps.{same-lapse}
 use Rattle.registry.proofs.LapsingLemmas.{each-as-some, has-concerned, objects_of, some-lapsed}
 use Rattle.rules.specs.declared.change.Change.TheVariants.{MoveClock}
@@ -53,6 +54,15 @@ module _ (p : PolicyRules) (r : Option ℕ) (g : Names) (moment : ℕ) (before :
     future = some-lapsed p u asked (at u before) refl ∙ same-lapse p u before;
   }
 
+-- and where the clock stands there, it has lapsed without its moving
+pub passed-there : (p : PolicyRules) (r : Option ℕ) (g : Names) (t : ℕ) (s : Registry) → s.clock ≡ t → IsPassed p r g t s (dues_lapsed p t (due_for p r g t s) s)
+passed-there p r g t s stands =
+    let same : max t s.clock ≡ t = omega (arith, stands) in
+    let there : at t s ≡ s = ap (λ (u : ℕ). at u s) (sym stands) in
+    subst (IsPassed p r g t s)
+    ((λ i. dues_lapsed p (same i) (due_for p r g (same i) (at (same i) s)) (at (same i) s)) ∙ (λ i. dues_lapsed p t (due_for p r g t (there i)) (there i)))
+    (passed-for p r g t s)
+
 -- nothing has, where nothing is named and nobody asks
 pub passed-alone : (p : PolicyRules) (moment : ℕ) (before : Registry) → IsPassed p None no_names moment before (at (max moment before.clock) before)
 passed-alone p moment before = record {
@@ -63,41 +73,70 @@ passed-alone p moment before = record {
 
 -- ---- of a book
 
-pub passes : (p : PolicyRules) (r : Option ℕ) (g : Names) (moment clock : ℕ) (due : List Due) (old moved listed mid : BookState)
-    → BookWrites old moved (with_changes p (MoveClock moment ∷ []) old.content) → (moved.is_clean ≡ true → clock ≡ max moment old.content.registry.clock) → Follows moved listed
-    → BookReads moved listed → (listed.is_clean ≡ true → due ≡ due_for p r g clock moved.content.registry) → Follows listed mid
-    → BookWrites listed mid (with_dues_lapsed p clock due listed.content) → Passes p r g moment old mid
-passes p r g moment clock due old moved listed mid first told listing same found lapsing second = record {
-  counted = second.counted ∙ same.counted ∙ first.counted;
+-- what concerns them lapses where the clock stands
+pub catches-up : (p : PolicyRules) (r : Option ℕ) (g : Names) (t : ℕ) (due : List Due) (old listed new : BookState) → (old.is_clean ≡ true → old.content.registry.clock ≡ t) → Follows old listed
+    → BookReads old listed → (listed.is_clean ≡ true → due ≡ due_for p r g t old.content.registry) → Follows listed new
+    → BookWrites listed new (with_dues_lapsed p t due listed.content) → Passes p r g t old new
+catches-up p r g t due old listed new stands listing same found lapsing second = record {
+  counted = second.counted ∙ same.counted;
   opened = second.opened;
-  passed = λ clean. subst (IsPassed p r g moment s) (sym (left clean)) (passed-for p r g moment s);
-  terms = λ clean. ap (λ (held : Stored). held.terms) (second.content clean ∙ ap (with_dues_lapsed p clock due) (same.content (lapsing.clean clean) ∙ first.content (clean-moved clean)));
-  before = λ clean. second.before clean ∙ same.before (lapsing.clean clean) ∙ first.before (clean-moved clean);
+  passed = λ clean. subst (IsPassed p r g t s) (sym (left (lapsing.clean clean) clean)) (passed-there p r g t s (stands (listing.clean (lapsing.clean clean))));
+  terms = λ clean. ap (λ (held : Stored). held.terms) (second.content clean ∙ ap (with_dues_lapsed p t due) (same.content (lapsing.clean clean)));
+  before = λ clean. second.before clean ∙ same.before (lapsing.clean clean);
 }
   where
     s : Registry
     s = old.content.registry
 
-    m : ℕ
-    m = max moment s.clock
+    left : listed.is_clean ≡ true → new.is_clean ≡ true → new.content.registry ≡ dues_lapsed p t (due_for p r g t s) s
+    left before clean = ap (λ (held : Stored). held.registry) (second.content clean) ∙ (λ i. dues_lapsed p t (found before i) (same.content before i).registry)
 
-    clean-moved : mid.is_clean ≡ true → moved.is_clean ≡ true
-    clean-moved clean = listing.clean (lapsing.clean clean)
+-- the clock has moved
+moved-to : (p : PolicyRules) (moment : ℕ) (old moved : BookState) → BookWrites old moved (with_changes p (MoveClock moment ∷ []) old.content) → moved.is_clean ≡ true → moved.content.registry ≡ at (max moment old.content.registry.clock) old.content.registry
+moved-to p moment old moved first clean = ap (λ (held : Stored). held.registry) (first.content clean)
 
-    moved-is : mid.is_clean ≡ true → moved.content.registry ≡ at m s
-    moved-is clean = ap (λ (held : Stored). held.registry) (first.content (clean-moved clean))
+pub stands-there : (p : PolicyRules) (moment clock : ℕ) (old moved : BookState) → BookWrites old moved (with_changes p (MoveClock moment ∷ []) old.content) → (moved.is_clean ≡ true → clock ≡ max moment old.content.registry.clock)
+    → moved.is_clean ≡ true → moved.content.registry.clock ≡ clock
+stands-there p moment clock old moved first told clean = ap (λ (s : Registry). s.clock) (moved-to p moment old moved first clean) ∙ sym (told clean)
 
-    clock-is : mid.is_clean ≡ true → clock ≡ m
-    clock-is clean = told (clean-moved clean)
+-- where it has, and what concerns them lapses there, time passes
+pub passes-then : (p : PolicyRules) (r : Option ℕ) (g : Names) (moment clock : ℕ) (old moved new : BookState)
+    → BookWrites old moved (with_changes p (MoveClock moment ∷ []) old.content) → (moved.is_clean ≡ true → clock ≡ max moment old.content.registry.clock) → Follows moved new
+    → Passes p r g clock moved new → Passes p r g moment old new
+passes-then p r g moment clock old moved new first told then second = record {
+  counted = second.counted ∙ first.counted;
+  opened = second.opened;
+  passed = λ clean. by (then.clean clean) (second.passed clean);
+  terms = λ clean. second.terms clean ∙ ap (λ (held : Stored). held.terms) (first.content (then.clean clean));
+  before = λ clean. second.before clean ∙ first.before (then.clean clean);
+}
+  where
+    s : Registry
+    s = old.content.registry
 
-    due-is : mid.is_clean ≡ true → due ≡ due_for p r g m (at m s)
-    due-is clean = found (lapsing.clean clean) ∙ (λ i. due_for p r g (clock-is clean i) (moved-is clean i))
+    u : ℕ
+    u = max moment s.clock
 
-    left : mid.is_clean ≡ true → mid.content.registry ≡ dues_lapsed p m (due_for p r g m (at m s)) (at m s)
-    left clean =
-        ap (λ (held : Stored). held.registry) (second.content clean)
-        ∙ (λ i. dues_lapsed p (clock-is clean i) (due-is clean i) (same.content (lapsing.clean clean) i).registry)
-        ∙ ap (dues_lapsed p m (due_for p r g m (at m s))) (moved-is clean)
+    twice : max u u ≡ u
+    twice = omega arith
+
+    by : moved.is_clean ≡ true → IsPassed p r g clock moved.content.registry new.content.registry → IsPassed p r g moment s new.content.registry
+    by before is =
+        let same : clock ≡ u = told before in
+        let there : moved.content.registry ≡ at u s = moved-to p moment old moved first before in
+        record {
+          clock = is.clock ∙ (λ i. max (same i) (there i).clock) ∙ twice;
+          settled = is.settled;
+          future = is.future ∙ (λ i. lapsed p (same i) (there i)) ∙ ap (λ (t : ℕ). lapse p t (at u s)) twice ∙ same-lapse p u s;
+        }
+
+pub passes : (p : PolicyRules) (r : Option ℕ) (g : Names) (moment clock : ℕ) (due : List Due) (old moved listed mid : BookState)
+    → BookWrites old moved (with_changes p (MoveClock moment ∷ []) old.content) → (moved.is_clean ≡ true → clock ≡ max moment old.content.registry.clock) → Follows moved listed
+    → BookReads moved listed → (listed.is_clean ≡ true → due ≡ due_for p r g clock moved.content.registry) → Follows listed mid
+    → BookWrites listed mid (with_dues_lapsed p clock due listed.content) → Passes p r g moment old mid
+passes p r g moment clock due old moved listed mid first told listing same found lapsing second =
+    passes-then p r g moment clock old moved mid first told (follows-on moved listed mid listing lapsing)
+    (catches-up p r g clock due moved listed mid (stands-there p moment clock old moved first told) listing same found lapsing second)
 
 pub passes-alone : (p : PolicyRules) (moment : ℕ) (old new : BookState) → BookWrites old new (with_changes p (MoveClock moment ∷ []) old.content) → Passes p None no_names moment old new
 passes-alone p moment old new moved = record {
@@ -156,8 +195,17 @@ settled-for p kind None u is = is
 settled-for p kind (Some name) u is = is
 
 -- the registry of a moment is what it is by then
-now-lapsed : (p : PolicyRules) (moment : ℕ) (s : Registry) → now p (lapsed p moment s) ≡ lapsed p moment s
+pub now-lapsed : (p : PolicyRules) (moment : ℕ) (s : Registry) → now p (lapsed p moment s) ≡ lapsed p moment s
 now-lapsed p moment s = lapses-on p (max moment s.clock) (max moment s.clock) (omega arith) s
+
+later : (moment before after : ℕ) → after ≡ max moment before → max moment after ≡ after
+later moment before after e = omega (arith, e)
+
+-- a registry that is now what another was at a moment is at that moment what the other is
+pub same_then : (p : PolicyRules) (moment : ℕ) (before after : Registry) → now p after ≡ now p (lapsed p moment before) → lapsed p moment after ≡ lapsed p moment before
+same_then p moment before after left =
+    let clock : after.clock ≡ max moment before.clock = ap (λ (s : Registry). s.clock) left in
+    ap (λ (u : ℕ). lapse p u after) (later moment before.clock after.clock clock) ∙ left ∙ now-lapsed p moment before
 
 pub ordered : (p : PolicyRules) (o : StatusOrder) (moment : ℕ) (name : Option (List ℕ)) (code : Code) (old mid new : BookState)
     → name ≡ name_ordered p.zone o → Passes p None (names_at o.kind name) moment old mid → Follows mid new

@@ -1,13 +1,13 @@
 //! What everyone may know of a registry at a moment.
-ghost use Rattle.std.specs.Prelude.{◌≡◌, true, IfOk, IfErr, OnOk};
-ghost use Rattle.registry.specs.Execution.{GoesBack};
-ghost use Rattle.registry.specs.Faces.{IsLookUp};
+ghost use Rattle.std.specs.Prelude.{◌≡◌, true, map, IfOk, IfErr, OnOk};
+ghost use Rattle.registry.specs.Execution.{GoesBack, IsWithin};
+ghost use Rattle.registry.specs.Faces.{IsLookUp, LooksUp};
 ghost use Rattle.store.specs.Book.{Follows, BookReads, LeavesSame};
 ghost use Rattle.store.specs.Faces.{contact_face_at, domain_face_at, domain_names, host_addresses_at, host_face_at};
 
 use crate::fault::Fault;
-use crate::passing::pass_with;
-use crate::transaction::advance_clock;
+use crate::passing::{catch_up, pass_alone, pass_with};
+use crate::transaction::{advance_clock, or_rollback};
 use crate::work::Work;
 use basis::list::Seq;
 use basis::text::Text;
@@ -206,4 +206,79 @@ impl<L: LookUp> Work for LookUpWork<'_, L> {
         self.what.reach(book, alloc, self.moment, policy)?;
         self.what.look(book, policy)
     }
+}
+
+/// The domain under each of these names, at a moment.
+#[derive(Drop)]
+pub(crate) struct DomainsWork<'n> {
+    pub names: &'n [Text],
+    pub moment: Moment,
+}
+
+impl Work for DomainsWork<'_> {
+    type Answer = Seq<Option<DomainFace>>;
+
+    ghost step = { λ it p before after found. IsLookUp p (λ s. map (domain_face_at p s) it.names.now) it.moment before after found };
+
+    fn work<B: Book>(
+        &self,
+        book: &mut B,
+        alloc: Global,
+        policy: &Policy,
+    ) -> Result<Seq<Option<DomainFace>>, Fault> {
+        let now = pass_alone(book, alloc, self.moment, policy)?;
+        domains_at(book, alloc, self.names, now, policy)
+    }
+}
+
+/// What everyone may know of the domain under each of these names, in an open transaction whose clock
+/// stands at the moment: one after another lapses and is looked up.
+fn domains_at<B: Book>(
+    book: &mut B,
+    alloc: Global,
+    names: &[Text],
+    moment: Moment,
+    policy: &Policy,
+) -> Result<Seq<Option<DomainFace>>, Fault>
+    requires opened { (B.state book.old).is_open ≡ true }
+    requires clock { (B.state book.old).is_clean ≡ true
+        → (B.state book.old).content.registry.clock ≡ moment }
+    ensures found { IfOk result (λ found. LooksUp policy.now
+        (λ s. map (domain_face_at policy.now s) names.now) moment found (B.state book.old)
+        (B.state book.new)) }
+    ensures within { OnOk result (IsWithin (B.state book.old) (B.state book.new)) }
+    ensures fault { IfErr result (λ fault. GoesBack fault (B.state book.old) (B.state book.new)) }
+    ensures follows { Follows (B.state book.old) (B.state book.new) }
+    ensures leaves { LeavesSame (B.state book.old) (B.state book.new) }
+{
+    let mut faces = Seq::new(alloc);
+    for name in names {
+        let face = domain_at(book, alloc, name, moment, policy)?;
+        let pushed = faces.push(face);
+        or_rollback(book, pushed)?;
+    }
+    Ok(faces)
+}
+
+/// The same of one domain.
+fn domain_at<B: Book>(
+    book: &mut B,
+    alloc: Global,
+    name: &Text,
+    moment: Moment,
+    policy: &Policy,
+) -> Result<Option<DomainFace>, Fault>
+    requires opened { (B.state book.old).is_open ≡ true }
+    requires clock { (B.state book.old).is_clean ≡ true
+        → (B.state book.old).content.registry.clock ≡ moment }
+    ensures found { IfOk result (λ found. LooksUp policy.now
+        (λ s. domain_face_at policy.now s name.now) moment found (B.state book.old)
+        (B.state book.new)) }
+    ensures within { OnOk result (IsWithin (B.state book.old) (B.state book.new)) }
+    ensures fault { IfErr result (λ fault. GoesBack fault (B.state book.old) (B.state book.new)) }
+    ensures follows { Follows (B.state book.old) (B.state book.new) }
+    ensures leaves { LeavesSame (B.state book.old) (B.state book.new) }
+{
+    catch_up(book, alloc, ObjectKind::Domain, name, moment, policy)?;
+    DomainAt(name).look(book, policy)
 }

@@ -104,7 +104,28 @@ pub(crate) fn pass_with<B: Book>(
     ensures leaves { LeavesSame (B.state book.old) (B.state book.new) }
 {
     let now = move_clock(book, alloc, moment, policy)?;
-    let due = due_at(book, kind, name, now, policy)?;
-    lapse_each(book, alloc, due, now, policy)?;
+    catch_up(book, alloc, kind, name, now, policy)?;
     Ok(now)
+}
+
+/// Lets what an info of an object concerns lapse, where the clock stands at the moment.
+pub(crate) fn catch_up<B: Book>(
+    book: &mut B,
+    alloc: Global,
+    kind: ObjectKind,
+    name: &Text,
+    moment: Moment,
+    policy: &Policy,
+) -> Result<(), Fault>
+    requires opened { (B.state book.old).is_open ≡ true }
+    requires clock { (B.state book.old).is_clean ≡ true
+        → (B.state book.old).content.registry.clock ≡ moment }
+    ensures moved { OnOk result (Passes policy.now None (names_at kind (Some name.now)) moment
+        (B.state book.old) (B.state book.new)) }
+    ensures fault { IfErr result (λ fault. GoesBack fault (B.state book.old) (B.state book.new)) }
+    ensures follows { Follows (B.state book.old) (B.state book.new) }
+    ensures leaves { LeavesSame (B.state book.old) (B.state book.new) }
+{
+    let due = due_at(book, kind, name, moment, policy)?;
+    lapse_each(book, alloc, due, moment, policy)
 }

@@ -1,5 +1,5 @@
 //! The registry.
-ghost use Rattle.std.specs.Prelude.{◌≡◌, ◌≢◌, ◌<◌, nat_lt, true, false, ◌↔◌, IfOk, IfErr, OnOk, Err, Some};
+ghost use Rattle.std.specs.Prelude.{◌≡◌, ◌≢◌, ◌<◌, nat_lt, true, false, ◌↔◌, map, IfOk, IfErr, OnOk, Err, Some};
 ghost use Rattle.std.proofs.Props.{props};
 ghost use Rattle.std.specs.Coded.{codes};
 ghost use Rattle.basis.specs.Sets.{names_code};
@@ -16,7 +16,9 @@ ghost use Rattle.store.specs.Faces.{contact_face_at, domain_face_at, domain_name
 
 use crate::askable::can_be_asked;
 use crate::command::CommandWork;
-use crate::faces::{AddressesAt, ContactAt, DomainAt, DomainNames, HostAt, LookUp, LookUpWork};
+use crate::faces::{
+    AddressesAt, ContactAt, DomainAt, DomainNames, DomainsWork, HostAt, LookUp, LookUpWork,
+};
 use crate::fault::{Fault, OpenFault};
 use crate::greeting::GreetingWork;
 use crate::opening::open_in;
@@ -265,23 +267,28 @@ impl<B: Book + Drop> Registry<B> {
         self.look_up(&DomainNames, moment)
     }
 
-    /// What everyone may know of the domain under one of these names.
-    pub fn listed_domain(
+    /// What everyone may know of the domain under each of these names, in their order. They are looked
+    /// up one after another in one transaction, so all of them are held at once.
+    #[tactic(auto, using(crate::proofs::CallsKept::kept_late))]
+    pub fn listed_domains(
         &mut self,
-        name: &Text,
+        names: &[Text],
         moment: Moment,
-    ) -> Result<Option<DomainFace>, Fault>
+    ) -> Result<Seq<Option<DomainFace>>, Fault>
         ensures step { IfOk result (λ found. LooksUp self.old.policy
-            (λ s. domain_face_at self.old.policy s name.now) moment found (B.state self.old.book)
-            (B.state self.new.book)) }
+            (λ s. map (domain_face_at self.old.policy s) names.now) moment found
+            (B.state self.old.book) (B.state self.new.book)) }
         ensures fault { IfErr result (λ fault. Fails fault (B.state self.old.book)
             (B.state self.new.book)) }
         ensures keeps { LooksUpKeeping self.old.policy moment
-            (Makes (IsLookUp self.old.policy (λ s. domain_face_at self.old.policy s name.now) moment)) result
+            (Makes (IsLookUp self.old.policy (λ s. map (domain_face_at self.old.policy s) names.now) moment)) result
             self.new.policy (B.state self.old.book) (B.state self.new.book) }
         ensures late { (result ≡ Err Fault.Moment) ↔ (last_call < moment) }
     {
-        self.look_up(&DomainAt(name), moment)
+        if is_late(moment) {
+            return Err(Fault::Moment);
+        }
+        self.transact(&DomainsWork { names, moment })
     }
 
     /// The addresses of the host under a name.

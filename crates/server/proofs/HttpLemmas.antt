@@ -1,5 +1,5 @@
 -- What a look-up leaves of a registry, and what is written to a connection of HTTP.
-use Rattle.std.proofs.Common.{◌≡◌, ◌+◌, ◌≤◌, ℕ, max, true, inl, inr, ◌⊎◌, Option, Some, None, List, [], length, take, drop, ◌++◌, Result, Ok, Err, refl, sym, ap, subst, ◌∙◌, le_refl, append-nil, take-take, arith}
+use Rattle.std.proofs.Common.{◌≡◌, ◌+◌, ◌≤◌, ℕ, true, inl, inr, ◌⊎◌, Option, Some, None, List, [], length, take, drop, ◌++◌, Result, Ok, Err, refl, sym, ap, subst, ◌∙◌, le_refl, append-nil, take-take, arith}
 use Rattle.std.proofs.lemmas.List.{take-append-le}
 use Rattle.std.proofs.KnownBytes.{Consumes-trans}
 use Rattle.std.proofs.lemmas.Slice.{take-put_mid_below}
@@ -8,9 +8,8 @@ use borrow.Rule.Slice.PartMut.{put_mid}
 use lib.Seq.{take-add}
 use Rattle.std.specs.Prelude.{IfOk, IfErr, OnOk}
 use Rattle.frames.specs.Clocks.{Tells}
-use Rattle.model.specs.Lapse.{lapse, lapsed, now}
+use Rattle.model.specs.Lapse.{lapsed}
 use Rattle.model.specs.Registry.{Registry}
-use Rattle.model.proofs.LapseLaws.{lapses-on}
 use Rattle.policy.specs.Rules.{PolicyRules}
 use Rattle.rdap.specs.Answering.{Faces, IsAnswer}
 use Rattle.rdap.specs.Heads.{IsCut}
@@ -20,22 +19,13 @@ use Rattle.registry.specs.declared.fault.Fault.TheVariants as faults
 use Rattle.registry.specs.Calls.{LooksUpKeeping}
 use Rattle.registry.specs.Execution.{Fails, IsUnchanged, last_call}
 use Rattle.registry.specs.Faces.{LooksUp}
+use Rattle.registry.proofs.PassingSteps.{same_then}
 use Rattle.server.specs.Http.{AnswersHttp, IsAnswered, IsNeeded, IsRead, IsWritten, MayShow, Passes, faces_at, faces_of}
 use Rattle.server.specs.declared.http.HttpEnd.{HttpEnd}
 use Rattle.server.specs.declared.http.HttpEnd.TheVariants as ends
 use Rattle.store.specs.Book.{BookState, Stored}
 
 -- ---- what a look-up leaves
-
-later : (moment before after : ℕ) → after ≡ max moment before → max moment after ≡ after
-later moment before after e = omega (arith, e)
-
--- a registry that is now what another was at a moment is at that moment what the other is
-pub same_then : (p : PolicyRules) (moment : ℕ) (before after : Registry) → now p after ≡ now p (lapsed p moment before) → lapsed p moment after ≡ lapsed p moment before
-same_then p moment before after left =
-    let t : ℕ = max moment before.clock in
-    let clock : after.clock ≡ t = ap (λ (s : Registry). s.clock) left in
-    ap (λ (u : ℕ). lapse p u after) (later moment before.clock after.clock clock) ∙ left ∙ lapses-on p t t (le_refl t) before
 
 -- time that passes up to a moment changes nothing of that moment
 pub at_that_moment : (p : PolicyRules) (moment : ℕ) (old new : BookState) → Passes p moment old new → new.is_clean ≡ true → lapsed p moment new.content.registry ≡ lapsed p moment old.content.registry

@@ -10,7 +10,8 @@ use Rattle.model.specs.Registry.{Registry}
 use Rattle.policy.specs.Rules.{PolicyRules}
 use Rattle.registry.specs.Execution.{Greets, SameTerms}
 use Rattle.registry.specs.Faces.{LooksUp}
-use Rattle.server.proofs.HttpLemmas.{at_that_moment, same_then, stays}
+use Rattle.registry.proofs.PassingSteps.{same_then}
+use Rattle.server.proofs.HttpLemmas.{at_that_moment, stays}
 use Rattle.server.specs.HandOver.{LeavesLent, Shows, serial_of, zone_at, zone_faces, zone_faces_at, zone_with}
 use Rattle.server.specs.Http.{Passes}
 use Rattle.store.specs.Book.{BookState, Follows}
@@ -83,8 +84,11 @@ pub names_shown : (p : PolicyRules) (s : Registry) → keys (zone_faces p s).dom
 names_shown p s =
     ap (map (λ e. e.0)) (entries-map_values (slice_cmp nat_cmp) (λ name. domain_face p s) nat_list_cmp_total names_apart s.domains) ∙ same_keys (λ name. domain_face p s) (entries s.domains)
 
-pub domain_shown : (name : List ℕ) (p : PolicyRules) (s : Registry) → get (zone_faces p s).domains name ≡ domain_face_at p s name
+domain_shown : (name : List ℕ) (p : PolicyRules) (s : Registry) → get (zone_faces p s).domains name ≡ domain_face_at p s name
 domain_shown name p s = get-map_values (slice_cmp nat_cmp) nat_list_cmp_total names_apart (λ name. domain_face p s) s.domains name
+
+pub domains_shown : (names : List (List ℕ)) (p : PolicyRules) (s : Registry) → map (λ name. get (zone_faces p s).domains name) names ≡ map (domain_face_at p s) names
+domains_shown names p s = λ i. map (λ (name : List ℕ). domain_shown name p s i) names
 
 pub addresses_shown : (name : List ℕ) (p : PolicyRules) (s : Registry) → addresses_of (zone_faces p s).hosts name ≡ host_addresses_at s name
 addresses_shown name p s =

@@ -22,7 +22,7 @@ text_of p faces = zone_text p (serial_of faces.moment) faces.hosts faces.domains
 abbrev pub zone_at : PolicyRules → ℕ → Registry → List ℕ
 zone_at p moment s = text_of p (zone_faces_of p (lapsed p moment s))
 
--- ---- as it is written: face by face, with a serial number
+-- ---- as it is written: name by name, with a serial number
 
 abbrev pub zone_faces : PolicyRules → Registry → Faces
 zone_faces p s = record { hosts = (zone_faces_of p s).hosts; domains = (zone_faces_of p s).domains }

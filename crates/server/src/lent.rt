@@ -40,8 +40,8 @@ impl<B: Book + Drop> ZoneSource for LentAtMoment<'_, B> {
         Ok(self.registry.domain_names(self.moment)?)
     }
 
-    fn domain(&mut self, name: &Text) -> Result<Option<DomainFace>, ZoneExportFault> {
-        Ok(self.registry.listed_domain(name, self.moment)?)
+    fn domains(&mut self, names: &[Text]) -> Result<Seq<Option<DomainFace>>, ZoneExportFault> {
+        Ok(self.registry.listed_domains(names, self.moment)?)
     }
 
     fn addresses(&mut self, host: &Text) -> Result<Option<Seq<Text>>, ZoneExportFault> {

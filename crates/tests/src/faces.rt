@@ -1,12 +1,14 @@
 //! What everyone may know of a registry, for what no contract says: that look-ups succeed where memory
 //! is ample.
 
+use basis::list::Seq;
 use basis::text::Text;
 use calendar::Moment;
 use fixtures::{moment_of, registry_of};
 use names::{DomainName, HostName};
+use objects::DomainFace;
 use registry::Registry;
-use std::alloc::Global;
+use std::alloc::{AllocError, Global};
 use std::process::Abort;
 use std::test::Fail;
 use store::Book;
@@ -48,16 +50,29 @@ fn has_no_contact<B: Book + Drop>(alloc: Global, registry: &mut Registry<B>) -> 
     }
 }
 
-/// Whether the look-up of a domain that isn't listed in the zone succeeds.
+/// Two names of domains that aren't there.
+fn two_names(alloc: Global) -> Result<Seq<Text>, AllocError> {
+    let mut names = Seq::new(alloc);
+    names.push(Text::from_str(alloc, "bar.test")?)?;
+    names.push(Text::from_str(alloc, "foo.test")?)?;
+    Ok(names)
+}
+
+/// Whether neither of two domains is there.
+fn are_none(faces: &[Option<DomainFace>]) -> bool {
+    faces.len() == 2 && faces.iter().all(|face| face.is_none())
+}
+
+/// Whether the look-up of two domains that aren't listed in the zone succeeds.
 fn lists_no_domain<B: Book + Drop>(
     registry: &mut Registry<B>,
-    name: &Text,
+    names: &[Text],
     moment: Moment,
 ) -> bool {
-    let found = registry.listed_domain(name, moment);
-    let is_none = matches!(&found, Ok(None));
-    drop(found);
-    is_none
+    match registry.listed_domains(names, moment) {
+        Ok(faces) => are_none(faces.as_slice()),
+        Err(_) => false,
+    }
 }
 
 /// Whether the pieces of a zone are told, of which there are none.
@@ -66,8 +81,9 @@ fn has_an_empty_zone<B: Book + Drop>(
     registry: &mut Registry<B>,
 ) -> Result<bool, Fail> {
     let moment = moment_of(IN_2029)?;
+    let listed = two_names(alloc)?;
+    let lists_none = lists_no_domain(registry, listed.as_slice(), moment);
     let name = Text::from_str(alloc, "foo.test")?;
-    let lists_none = lists_no_domain(registry, &name, moment);
     let Ok(names) = registry.domain_names(moment) else {
         return Ok(false);
     };

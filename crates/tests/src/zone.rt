@@ -52,8 +52,12 @@ fn standing() -> Standing {
     }
 }
 
-fn domain(alloc: Global, row: &DomainRow) -> Result<DomainFace, AllocError> {
-    let (name, status, hosts) = *row;
+fn domain(
+    alloc: Global,
+    name: &str,
+    status: Status,
+    hosts: &[&str],
+) -> Result<DomainFace, AllocError> {
     let name = Text::from_str(alloc, name)?;
     let mut statuses = Seq::new(alloc);
     statuses.push(status)?;
@@ -76,6 +80,20 @@ type DomainRow = (&'static str, Status, &'static [&'static str]);
 
 /// A host's name and its addresses.
 type HostRow = (&'static str, &'static [&'static str]);
+
+/// The domain of a name among these rows.
+fn domain_of(
+    alloc: Global,
+    rows: &[DomainRow],
+    name: &Text,
+) -> Result<Option<DomainFace>, AllocError> {
+    for row in rows {
+        if row.0 == name.as_str() {
+            return Ok(Some(domain(alloc, row.0, row.1, row.2)?));
+        }
+    }
+    Ok(None)
+}
 
 /// Rows as the source of a zone. What it shows is left to the tests.
 #[derive(Drop)]
@@ -114,13 +132,12 @@ impl ZoneSource for Given<'_> {
         Ok(list)
     }
 
-    fn domain(&mut self, name: &Text) -> Result<Option<DomainFace>, ZoneFault> {
-        for row in self.domains {
-            if row.0 == name.as_str() {
-                return Ok(Some(domain(self.alloc, row)?));
-            }
+    fn domains(&mut self, names: &[Text]) -> Result<Seq<Option<DomainFace>>, ZoneFault> {
+        let mut faces = Seq::new(self.alloc);
+        for name in names {
+            faces.push(domain_of(self.alloc, self.domains, name)?)?;
         }
-        Ok(None)
+        Ok(faces)
     }
 
     fn addresses(&mut self, host: &Text) -> Result<Option<Seq<Text>>, ZoneFault> {
@@ -129,6 +146,70 @@ impl ZoneSource for Given<'_> {
                 return Ok(Some(texts(self.alloc, row.1)?));
             }
         }
+        Ok(None)
+    }
+
+    ghost stays = { λ it. refl };
+
+    ghost goes_on = { λ old between new first second. second ∙ first };
+
+    ghost keeps = { λ old new left faces none. none };
+
+    ghost keeps_rules = { λ old new left. left };
+}
+
+/// Domains that are named by numbers, each with one host, as the source of a zone.
+#[derive(Drop)]
+struct Numbered<'p> {
+    alloc: Global,
+    policy: &'p Policy,
+    count: u32,
+}
+
+/// The number in the name of the first.
+const FIRST_NUMBER: u32 = 1000;
+
+impl ZoneSource for Numbered<'_> {
+    ghost use Rattle.std.specs.Prelude.{◌≡◌, refl};
+    ghost use Rattle.std.proofs.Common.{◌∙◌};
+
+    type Fault = ZoneFault;
+
+    ghost shows = { λ it faces. ⊥ };
+
+    ghost rules = { λ it. it.policy.now };
+
+    ghost leaves = { λ old new. new.policy.now ≡ old.policy.now };
+
+    fn policy(&self) -> &Policy {
+        self.policy
+    }
+
+    fn domain_names(&mut self) -> Result<Seq<Text>, ZoneFault> {
+        let mut list = Seq::new(self.alloc);
+        for place in 0..self.count {
+            let number = FIRST_NUMBER.saturating_add(place);
+            let name = format!(in self.alloc; "d{number}.test")?;
+            list.push(Text::from_str(self.alloc, name.as_str())?)?;
+        }
+        Ok(list)
+    }
+
+    fn domains(&mut self, names: &[Text]) -> Result<Seq<Option<DomainFace>>, ZoneFault> {
+        let mut faces = Seq::new(self.alloc);
+        for name in names {
+            let face = domain(
+                self.alloc,
+                name.as_str(),
+                Status::Fine,
+                &["ns1.example.net"],
+            )?;
+            faces.push(Some(face))?;
+        }
+        Ok(faces)
+    }
+
+    fn addresses(&mut self, _: &Text) -> Result<Option<Seq<Text>>, ZoneFault> {
         Ok(None)
     }
 
@@ -266,6 +347,56 @@ fn zones(rt: HostRuntime) -> Result<(), Fail> {
         assert!(&rt; taken.starts_with(SOA));
         assert!(&rt; taken.len() == SOA.len().saturating_add(lines.len()));
         assert!(&rt; taken.ends_with(lines));
+    }
+    drop(policy);
+    Ok(())
+}
+
+/// What a writer takes of the zone of so many domains, and what became of it.
+fn taken_of_numbered(
+    alloc: Global,
+    policy: &Policy,
+    count: u32,
+) -> (Vec<u8>, Result<(), ZoneFault>) {
+    let mut writer = Full {
+        taken: Vec::new(alloc),
+        room: 1_000_000,
+    };
+    let mut source = Numbered {
+        alloc,
+        policy,
+        count,
+    };
+    let wrote = write_zone(alloc, &mut source, SERIAL, &mut writer);
+    drop(source);
+    (writer.taken, wrote)
+}
+
+/// The lines of the zone of so many domains, after its first.
+fn lines_of_numbered(alloc: Global, count: u32) -> Result<Vec<u8>, AllocError> {
+    let mut lines = Vec::new(alloc);
+    for place in 0..count {
+        let number = FIRST_NUMBER.saturating_add(place);
+        let line = format!(in alloc; "d{number}.test. 86400 IN NS ns1.example.net.\n")?;
+        lines.extend_from_slice(line.as_bytes())?;
+    }
+    Ok(lines)
+}
+
+/// As many domains as are looked up at once, one fewer, one more, and more than twice as many.
+const COUNTS: &[u32] = &[99, 100, 101, 250];
+
+#[test]
+fn many_domains(rt: HostRuntime) -> Result<(), Fail> {
+    let alloc = rt.alloc();
+    let policy = policy_of(alloc, POLICY)?;
+    for count in COUNTS.iter().copied() {
+        let (taken, wrote) = taken_of_numbered(alloc, &policy, count);
+        let lines = lines_of_numbered(alloc, count)?;
+        assert_eq!(&rt; wrote, Ok(()));
+        assert!(&rt; taken.starts_with(SOA));
+        assert!(&rt; taken.len() == SOA.len().saturating_add(lines.len()));
+        assert!(&rt; taken.ends_with(&lines));
     }
     drop(policy);
     Ok(())

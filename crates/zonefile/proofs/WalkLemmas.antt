@@ -1,5 +1,6 @@
 -- A walk through the names of a map comes to all its values.
-use Rattle.std.proofs.Common.{◌≡◌, ℕ, false, cond, T, List, [], ◌∷◌, ◌++◌, map, Some, refl, ap, ◌∙◌}
+use Rattle.std.proofs.Common.{◌≡◌, ℕ, false, cond, T, List, [], ◌∷◌, ◌++◌, map, Option, Some, refl, ap, ◌∙◌}
+use Rattle.std.proofs.lemmas.List.Folds.{flat_map-map}
 use Rattle.std.specs.Prelude.{fold}
 use Rattle.std.specs.declared.cmp.Ordering.{Ordering}
 use Rattle.std.specs.declared.cmp.Ordering.TheVariants.{Less, Equal, Greater}
@@ -39,6 +40,10 @@ module _ {X Y : Type 0} (R : List ℕ → List ℕ → Ordering) (o : IsTotalOrd
 -- what is made of the value at each name is what is made of each value
 pub by_names : {X Y : Type 0} (f : X → List Y) (m : FinMap (slice_cmp nat_cmp) X) → flat_map (λ name. option_map_or f (get m name) []) (keys m) ≡ flat_map f (values m)
 by_names f m = (λ i. flat_map (λ name. option_map_or f (get-entries m name i) []) (keys m)) ∙ each (slice_cmp nat_cmp) nat_list_cmp_total f (entries m) (entries_sorted m)
+
+-- what is made of the values that were looked up is what is made of each name
+pub looked_up : {X Y : Type 0} (f : Option X → List Y) (of : List ℕ → Option X) (names : List (List ℕ)) (found : List (Option X)) → found ≡ map of names → flat_map f found ≡ flat_map (λ name. f (of name)) names
+looked_up f of names found is = ap (flat_map f) is ∙ flat_map-map f of names
 
 -- ---- what is put in one after another
 

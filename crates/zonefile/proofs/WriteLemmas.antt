@@ -1,6 +1,7 @@
 -- What the writes of a text's parts join to.
 use Rattle.std.proofs.Common.{◌≡◌, ℕ, Option, List, [], ◌∷◌, ◌++◌, refl, subst, sym, ap, ◌∙◌, append_assoc}
 use Rattle.std.proofs.KnownBytes.{Appends-trans, Appends-nil}
+use Rattle.std.proofs.lemmas.Grind.{flat_map-append}
 use Rattle.std.proofs.lemmas.List.{append-nil}
 use Rattle.std.specs.Prelude.{fold}
 use Rattle.std.specs.FinMap.{empty, keys, values}
@@ -55,6 +56,17 @@ module _ {X : Type 0} (f : X → List ℕ) (old now new : Option (List ℕ)) (it
 
   pub stopped_at : AppendsBeginning now new (f item) → AppendsBeginning old new text
   stopped_at more = stopped_in old now new (f item) (flat_map f rest) text before more
+
+-- the same of several items at once
+module _ {X : Type 0} (f : X → List ℕ) (old now new : Option (List ℕ)) (items part rest : List X) (text : List ℕ) (next : items ≡ part ++ rest) (w : Written old now (flat_map f items) text) where
+  before_part : Written old now (flat_map f part ++ flat_map f rest) text
+  before_part = subst (λ (left : List ℕ). Written old now left text) (ap (flat_map f) next ∙ flat_map-append f part rest) w
+
+  pub some_more : Appends now new (flat_map f part) → Written old new (flat_map f rest) text
+  some_more more = more_written old now new (flat_map f part) (flat_map f rest) text before_part more
+
+  pub stopped_among : AppendsBeginning now new (flat_map f part) → AppendsBeginning old new text
+  stopped_among more = stopped_in old now new (flat_map f part) (flat_map f rest) text before_part more
 
 -- ---- the parts of a zone
 

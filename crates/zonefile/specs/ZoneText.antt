@@ -87,12 +87,19 @@ pub record Faces : Type 0 where
   pub hosts : Hosts
   pub domains : Domains
 
+-- what a domain adds, if there is one
+abbrev pub delegation_if : ℕ → Option DomainFace → List ℕ
+delegation_if ttl face = option_map_or (delegation_of ttl) face []
+
+abbrev pub own_hosts_if : ZoneRules → Option DomainFace → List (List ℕ)
+own_hosts_if zone face = option_map_or (own_hosts zone) face []
+
 -- what the domain under a name adds
 abbrev pub delegation_at : ℕ → Domains → List ℕ → List ℕ
-delegation_at ttl domains name = option_map_or (delegation_of ttl) (get domains name) []
+delegation_at ttl domains name = delegation_if ttl (get domains name)
 
 abbrev pub own_hosts_at : ZoneRules → Domains → List ℕ → List (List ℕ)
-own_hosts_at zone domains name = option_map_or (own_hosts zone) (get domains name) []
+own_hosts_at zone domains name = own_hosts_if zone (get domains name)
 
 -- the known bytes grew by a beginning of the text
 abbrev pub AppendsBeginning : Option (List ℕ) → Option (List ℕ) → List ℕ → Type 0

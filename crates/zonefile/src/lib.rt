@@ -2,9 +2,9 @@
 //! is served, and the addresses of those that lie in the zone.
 //!
 //! The text is a function of the faces of hosts and domains, the policy and a serial number. A
-//! [`ZoneSource`] gives the faces one by one: that of each domain, and the addresses of each host that
-//! needs glue. What is held meanwhile are the names of the domains, and those of the zone's own hosts
-//! that served domains name.
+//! [`ZoneSource`] gives the faces name by name: those of a hundred domains at once, and the addresses of
+//! each host that needs glue. What is held meanwhile are the names of the domains, those faces, and the
+//! names of the zone's own hosts that served domains name.
 #![tactic(auto)]
 
 mod delegation;

@@ -6,9 +6,9 @@ use basis::text::Text;
 use objects::DomainFace;
 use policy::Policy;
 
-/// What gives the faces of a zone at one moment, one by one, and the policy.
+/// What gives the faces of a zone at one moment, name by name, and the policy.
 pub trait ZoneSource {
-    ghost use Rattle.std.specs.Prelude.{◌≡◌, IfOk};
+    ghost use Rattle.std.specs.Prelude.{◌≡◌, IfOk, map};
     ghost use Rattle.std.specs.FinMap.{get, keys};
     ghost use Rattle.policy.specs.Rules.{PolicyRules};
     ghost use Rattle.zonefile.specs.ZoneText.{Faces, addresses_of};
@@ -34,10 +34,10 @@ pub trait ZoneSource {
             → names ≡ keys faces.domains) }
         ensures left { leaves self.old self.new };
 
-    /// The domain under a name.
-    fn domain(&mut self, name: &Text) -> Result<Option<DomainFace>, Self::Fault>
-        ensures found { IfOk result (λ face. (faces : Faces) → shows self.new faces
-            → face ≡ get faces.domains name.now) }
+    /// The domain under each of these names, in their order.
+    fn domains(&mut self, names: &[Text]) -> Result<Seq<Option<DomainFace>>, Self::Fault>
+        ensures found { IfOk result (λ list. (faces : Faces) → shows self.new faces
+            → list ≡ map (λ name. get faces.domains name) names.now) }
         ensures left { leaves self.old self.new };
 
     /// The addresses of the host under a name.

@@ -4,7 +4,7 @@ ghost use Rattle.std.specs.FinMap.{empty, keys};
 ghost use Rattle.std.specs.Io.KnownBytes.{Appends};
 ghost use Rattle.std.specs.List.{flat_map};
 ghost use Rattle.zonefile.specs.Lines.{soa_line};
-ghost use Rattle.zonefile.specs.ZoneText.{AppendsBeginning, Faces, delegation_at, delegation_of, glue_at, glue_of, own_hosts, own_hosts_at, with_name, zone_text};
+ghost use Rattle.zonefile.specs.ZoneText.{AppendsBeginning, Faces, delegation_at, delegation_if, delegation_of, glue_at, glue_of, own_hosts, own_hosts_at, own_hosts_if, with_name, zone_text};
 
 use crate::delegation::delegation;
 use crate::fault::ZoneFault;
@@ -64,6 +64,9 @@ fn write_soa<W: Write>(
     Ok(())
 }
 
+/// How many names of domains are looked up at once.
+const AT_ONCE: usize = 100;
+
 /// Writes the name servers of the domains under these names, and gives the zone's own hosts among
 /// them.
 fn write_domains<S: ZoneSource, W: Write>(
@@ -82,36 +85,80 @@ fn write_domains<S: ZoneSource, W: Write>(
     ensures left { S.leaves source.old source.new }
 {
     let mut hosts = NameMap::new(alloc);
-    for name in names {
-        write_domain(alloc, ttl, source, name, &mut hosts, writer)?;
+    for piece in names.chunks(AT_ONCE) {
+        write_piece(alloc, ttl, source, piece, &mut hosts, writer)?;
     }
     Ok(hosts)
 }
 
-/// Writes the name servers of the domain under a name, and puts the zone's own hosts among them to
-/// those that are there.
-fn write_domain<S: ZoneSource, W: Write>(
+/// Looks up the domains under these names at once, writes their name servers, and puts the zone's own
+/// hosts among them to those that are there.
+fn write_piece<S: ZoneSource, W: Write>(
     alloc: Global,
     ttl: u32,
     source: &mut S,
-    name: &Text,
+    names: &[Text],
     hosts: &mut NameMap<()>,
     writer: &mut W,
 ) -> Result<(), S::Fault>
     ensures written { OnOk result ((faces : Faces) → S.shows source.new faces
-        → Appends (W.contents writer.old) (W.contents writer.new) (delegation_at ttl faces.domains name.now)) }
+        → Appends (W.contents writer.old) (W.contents writer.new) (flat_map (delegation_at ttl faces.domains) names.now)) }
     ensures begun { OnErr result ((faces : Faces) → S.shows source.new faces
-        → AppendsBeginning (W.contents writer.old) (W.contents writer.new) (delegation_at ttl faces.domains name.now)) }
+        → AppendsBeginning (W.contents writer.old) (W.contents writer.new) (flat_map (delegation_at ttl faces.domains) names.now)) }
     ensures hosts { OnOk result ((faces : Faces) → S.shows source.new faces
-        → hosts.new ≡ fold with_name hosts.old (own_hosts_at (S.rules source.old).zone faces.domains name.now)) }
+        → hosts.new ≡ fold with_name hosts.old (flat_map (own_hosts_at (S.rules source.old).zone faces.domains) names.now)) }
     ensures left { S.leaves source.old source.new }
 {
-    let Some(face) = source.domain(name)? else {
-        return Ok(());
-    };
-    let written = write_face(alloc, ttl, source.policy().zone(), &face, hosts, writer);
-    drop(face);
+    let faces = source.domains(names)?;
+    let zone = source.policy().zone();
+    let written = write_faces(alloc, ttl, zone, faces.as_slice(), hosts, writer);
+    drop(faces);
     Ok(written?)
+}
+
+/// Writes the name servers of these domains, each if it is there, and puts the zone's own hosts among
+/// them to those that are there.
+fn write_faces<W: Write>(
+    alloc: Global,
+    ttl: u32,
+    zone: &Zone,
+    faces: &[Option<DomainFace>],
+    hosts: &mut NameMap<()>,
+    writer: &mut W,
+) -> Result<(), ZoneFault>
+    ensures written { OnOk result (Appends (W.contents writer.old) (W.contents writer.new)
+        (flat_map (delegation_if ttl) faces.now)) }
+    ensures begun { OnErr result (AppendsBeginning (W.contents writer.old) (W.contents writer.new)
+        (flat_map (delegation_if ttl) faces.now)) }
+    ensures hosts { OnOk result (hosts.new
+        ≡ fold with_name hosts.old (flat_map (own_hosts_if zone.now) faces.now)) }
+{
+    for face in faces {
+        write_if(alloc, ttl, zone, face, hosts, writer)?;
+    }
+    Ok(())
+}
+
+/// The same of one domain.
+fn write_if<W: Write>(
+    alloc: Global,
+    ttl: u32,
+    zone: &Zone,
+    face: &Option<DomainFace>,
+    hosts: &mut NameMap<()>,
+    writer: &mut W,
+) -> Result<(), ZoneFault>
+    ensures written { OnOk result (Appends (W.contents writer.old) (W.contents writer.new)
+        (delegation_if ttl face.now)) }
+    ensures begun { OnErr result (AppendsBeginning (W.contents writer.old) (W.contents writer.new)
+        (delegation_if ttl face.now)) }
+    ensures hosts { OnOk result (hosts.new
+        ≡ fold with_name hosts.old (own_hosts_if zone.now face.now)) }
+{
+    match face {
+        None => Ok(()),
+        Some(face) => write_face(alloc, ttl, zone, face, hosts, writer),
+    }
 }
 
 /// Writes the name servers of a domain, and puts the zone's own hosts among them to those that are

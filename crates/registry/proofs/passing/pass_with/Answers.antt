@@ -1,10 +1,13 @@
 use Rattle.std.specs.Prelude.{None}
 use Rattle.concerns.specs.Names.{named_of}
-use Rattle.registry.proofs.PassingSteps.{passes}
+use Rattle.registry.proofs.PassingSteps.{passes-then, stands-there}
 use Rattle.registry.proofs.passing.pass_with.Goals as goal
+
+pub catch_up-requires-clause-clock : goal.catch_up-requires-clause-clock
+catch_up-requires-clause-clock g c = stands-there c.args.policy.now c.args.moment c.in_ok-now.now (g.B.Book.state c.args.book.now) (g.B.Book.state c.move_clock.new.book) c.in_ok-now.ensures.moved c.in_ok-now.ensures.clock
 
 pub returns-clause-moved : goal.returns-clause-moved
 returns-clause-moved g c =
-    passes c.args.policy.now None (named_of c.args.kind c.args.name.now) c.args.moment c.in_ok-now.now c.in_ok-due.due
-    (g.B.Book.state c.args.book.now) (g.B.Book.state c.move_clock.new.book) (g.B.Book.state c.due_at.new.book) (g.B.Book.state c.lapse_each.new.book)
-    c.in_ok-now.ensures.moved c.in_ok-now.ensures.clock c.due_at.ensures.follows c.in_ok-due.ensures.same c.in_ok-due.ensures.found c.lapse_each.ensures.follows c.in_ok-lapse_each.ensures.ok
+    passes-then c.args.policy.now None (named_of c.args.kind c.args.name.now) c.args.moment c.in_ok-now.now
+    (g.B.Book.state c.args.book.now) (g.B.Book.state c.move_clock.new.book) (g.B.Book.state c.catch_up.new.book)
+    c.in_ok-now.ensures.moved c.in_ok-now.ensures.clock c.catch_up.ensures.follows c.in_ok-catch_up.ensures.moved
