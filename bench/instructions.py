@@ -4,12 +4,12 @@ usage: python3 instructions.py TLDREG FLOOR   (the program as rt ci builds it; t
                                                valgrind's header is; valgrind and gdb on the path)
 
 A database in memory with 1,000 domains, under the example policy with prices of 0. Of each command (a check of two
-names, an info, a balance, a create, a renewal) all statements are counted that it has the database run, from the call
-into the library until it returns, by callgrind, which no other work and no clock touches; then those of the floor. It
+names, an info, a balance, a create, a renewal) the instructions of each statement that it has the database run are
+counted, by callgrind, which no other work and no clock touches: those of the functions of the library's own crates,
+without what they call of others (allocation, copies of bytes), so at the least; then those of the floor, all of them. It
 prints of each command how many statements it runs, the instructions of them, and those of the whole command, and then of
 each statement, by the name of its text, what one run takes (the least of the runs in these commands) here and there.
 """
-import importlib.util
 import os
 import re
 import subprocess
@@ -22,18 +22,23 @@ import make_script
 import rows
 import shares
 
-HERE = Path(__file__).resolve().parent
+SOURCES = rows.HERE.parent / "crates" / "sqltables" / "src"
+CONSTANT = re.compile(r'^const ([A-Z_]+): &str =\s*"([^"]*)";', re.M)
 DOMAINS = 1000
 KINDS = ["check", "info", "balance", "create", "renew"]
 CALL = re.compile(r"sqlite::.*::(query_all|execute)(::<#[0-9a-f]+>)?$")
+OWN = re.compile(r"[<&]*sqlite(_\w+)?::")
 PATTERNS = ["sqlite::connection::Connection::query_all*", "sqlite::connection::Connection::execute::*"]
+
+
+# a statement's text is the third argument of such a call, and the fourth is its length
+TOLD = ('python print("STATEMENT", bytes(gdb.selected_inferior().read_memory(int(gdb.parse_and_eval("$rdx")), '
+        'int(gdb.parse_and_eval("$rcx")))).decode())')
 
 
 def names():
     """The names of the texts, as the floor has them."""
-    done = subprocess.run([sys.executable, "statements.py"], cwd=HERE / "floor", check=True, text=True, stdout=subprocess.PIPE).stdout
-    lists = [re.findall(r'^    ("(?:[^"\\]|\\.)*"),$', part, re.M) for part in done.split("static const char *const ")[1:3]]
-    return {eval(text): eval(name) for text, name in zip(*lists)}
+    return {text: f"{file.stem.upper()}_{name}" for file in SOURCES.glob("*.rt") for name, text in CONSTANT.findall(file.read_text())}
 
 
 def texts(program):
@@ -47,16 +52,16 @@ def texts(program):
     with tempfile.TemporaryDirectory() as folder:
         policy = shares.policy_of(folder)
         Path(folder, "in").write_text(script)
-        words = ["set pagination off", "set print elements 2000"]
+        words = ["set pagination off"]
         for call in calls:
-            words += [f"break *'{call}'", "commands", "silent", 'printf "STATEMENT "', "x/s $rdx", "continue", "end"]
+            words += [f"break *'{call}'", "commands", "silent", TOLD, "continue", "end"]
         words += [f"run run {policy} < {folder}/in > {folder}/out"]
         Path(folder, "gdb").write_text("\n".join(words))
         ran = subprocess.run(["gdb", "-q", "-batch", "-x", f"{folder}/gdb", program], text=True, stdout=subprocess.PIPE, stderr=subprocess.DEVNULL)
         replies = Path(folder, "out").read_text().splitlines()
     if any('"code":1' not in reply for reply in replies):
         sys.exit(f"instructions: a line isn't accepted: {replies}")
-    found = [re.search(r'"(.*)"', line)[1] for line in ran.stdout.splitlines() if line.startswith("STATEMENT ")]
+    found = [line[len("STATEMENT "):] for line in ran.stdout.splitlines() if line.startswith("STATEMENT ")]
     return [group.strip("\n").split("\n") for group in "\n".join(found).split("BEGIN\n")][-len(KINDS):]
 
 
@@ -68,38 +73,52 @@ def cost(path):
     return int(re.search(r"^totals: (\d+)", path.read_text(errors="replace"), re.M)[1])
 
 
+def own_cost(path):
+    """The instructions of the library's own functions, without what they call of others."""
+    total, is_own, is_call = 0, False, False
+    for line in open(path, errors="replace"):
+        if line.startswith("fn="):
+            is_own = bool(OWN.match(line[3:]))
+        elif line.startswith("calls="):
+            is_call = True
+        elif re.match(r"[0-9+*-]", line):
+            if is_own and not is_call:
+                total += int(line.split()[1])
+            is_call = False
+    return total
+
+
 def parts(folder):
     """The files that callgrind left, in their order."""
     return sorted((it for it in Path(folder).glob("callgrind.*")), key=lambda it: int(it.suffix[1:]))
 
 
-def ours(program, port, folder):
-    """Of each command what each of its statements took, and the whole of it."""
-    out = os.path.join(folder, "callgrind")
-    words = ["valgrind", "--quiet", "--tool=callgrind", "--instr-atstart=no", f"--callgrind-out-file={out}"]
-    words += [f"--dump-{when}={pattern}" for when in ("before", "after") for pattern in PATTERNS]
-    server = subprocess.Popen([*words, program, "serve", shares.policy_of(folder), ":memory:", str(port)], stderr=subprocess.DEVNULL)
-    client = rows.Client(port, "alfa")
-    client.send([make_script.CONTACT])
-    client.send([make_script.create(at) for at in range(1, DOMAINS + 1)])
-    today = time.gmtime()
-    expires = f"{today.tm_year + 1}-{today.tm_mon:02}-{today.tm_mday:02}"
-    control("--instr=on", server)
-    found = []
-    for kind in KINDS:
-        for turn in range(2):
-            time.sleep(1.1)
-            control("--dump", server)
-            for it in parts(folder):
-                it.unlink()
-            number = 500 if kind != "create" else DOMAINS + 1 + turn
-            client.send([rows.payload(kind, number if kind != "renew" else 500 + turn, expires)])
-            control("--dump", server)
-        told = [(re.search(r"^desc: Trigger: (.*)$", it.read_text(errors="replace"), re.M)[1], cost(it)) for it in parts(folder)]
-        found.append(([count for why, count in told if "--dump-after" in why], sum(count for _, count in told)))
-    client.close()
-    server.kill()
-    server.wait()
+def ours(program, port):
+    """Of each command what each of its statements took in the library's own functions, and the whole of it. A command is
+    sent twice, so that its statements are understood already; the second counts."""
+    with tempfile.TemporaryDirectory() as folder:
+        words = ["valgrind", "--quiet", "--tool=callgrind", "--compress-strings=no", "--compress-pos=no", "--instr-atstart=no",
+                 f"--callgrind-out-file={folder}/callgrind", *(f"--dump-after={pattern}" for pattern in PATTERNS)]
+        server = subprocess.Popen([*words, program, "serve", shares.policy_of(folder), ":memory:", str(port)], stderr=subprocess.DEVNULL)
+        client = rows.Client(port, "alfa")
+        client.send([make_script.CONTACT])
+        client.send([make_script.create(at) for at in range(1, DOMAINS + 1)])
+        today = time.gmtime()
+        expires = f"{today.tm_year + 1}-{today.tm_mon:02}-{today.tm_mday:02}"
+        control("--instr=on", server)
+        found = []
+        for kind in KINDS:
+            for turn in range(2):
+                time.sleep(1.1)
+                control("--dump", server)
+                for it in parts(folder):
+                    it.unlink()
+                client.send([rows.payload(kind, (DOMAINS if kind == "create" else 500) + turn + 1, expires)])
+                control("--dump", server)
+            found.append(([own_cost(it) for it in parts(folder)][:-1], sum(cost(it) for it in parts(folder))))
+        client.close()
+        server.kill()
+        server.wait()
     return found
 
 
@@ -122,19 +141,20 @@ def main(words):
     program, beneath = words
     called = names()
     sent = texts(program)
-    with tempfile.TemporaryDirectory() as folder:
-        counted = ours(program, 7960, folder)
+    here = ours(program, 7960)
     with tempfile.TemporaryDirectory() as folder:
         stock = floors(beneath, folder)
     least, other = {}, {}
-    print("| command | statements | instructions | of the whole | floor's statements | instructions | ratio |\n| --- | --- | --- | --- | --- | --- | --- |")
-    for kind, said, (each, whole), floor in zip(KINDS, sent, counted, stock):
+    print("| command | statements | in the library | in all | the floor's | instructions | library to floor | all to floor |")
+    print("| --- | --- | --- | --- | --- | --- | --- | --- |")
+    for kind, said, (each, whole), floor in zip(KINDS, sent, here, stock):
         said = ["BEGIN", *said]
         if len(said) != len(each):
             sys.exit(f"instructions: {kind} runs {len(said)} statements in one registry and {len(each)} in the other")
-        print(f"| {kind} | {len(each)} | {sum(each):,} | {whole:,} | {len(floor)} | {sum(it[1] for it in floor):,} | {sum(each) / sum(it[1] for it in floor):.2f} |")
+        below = sum(count for _, count in floor)
+        print(f"| {kind} | {len(each)} | {sum(each):,} | {whole:,} | {len(floor)} | {below:,} | {sum(each) / below:.2f} | {whole / below:.2f} |")
         for text, count in zip(said, each):
-            name = called.get(text, text[:40])
+            name = called.get(text, text)
             least[name] = min(count, least.get(name, count))
         for name, count in floor:
             other[name] = min(count, other.get(name, count))
