@@ -82,36 +82,3 @@ pub Ends-unwritten : (A : Type 0) (exit end : Exit) (p : PolicyRules) (before af
     → Appends a b sent → AppendsFront b c bs → IfSome unread (λ input. A → EndsIn p before after input a c end)
 Ends-unwritten A exit end p before after capacity buffer pending bs sent o unread a b c fault room empty same none ends s front =
     write_failed A exit end p before after unread a b c bs sent fault (unbuffered A exit p before after capacity buffer pending bs o unread a b room empty same none ends) s front
-
--- a run over a book from which nothing wrong is taken ends as one does
-ends_in : (exit : Exit) (p : PolicyRules) (before after : Registry) (input : List ℕ) (old new : Option (List ℕ)) → EndsIn p before after input old new exit → Ends p before input old new exit
-ends_in exits.Done p before after input old new ends = (after, ends)
-ends_in (exits.Script n) p before after input old new ends = (ends.0, ends.1, ends.2.0)
-ends_in _ p before after input old new ends = ends
-
-pub Ends-clean : (A : Type 0) (exit : Exit) (p : PolicyRules) (before after : Registry) (o old new : Option (List ℕ))
-    → IfSome o (λ input. A → EndsIn p before after input old new exit) → A → IfSome o (λ input. Ends p before input old new exit)
-Ends-clean A exit p before after None old new ends clean = tt
-Ends-clean A exit p before after (Some input) old new ends clean = ends_in exit p before after input old new (ends clean)
-
--- ---- under a policy
-
-ends_under : (exit : Exit) (p : PolicyRules) (input : List ℕ) (old new : Option (List ℕ)) → Ends p (start p) input old new exit → EndsUnder p input old new exit
-ends_under (exits.Open fault) p input old new ends = absurd ends
-ends_under _ p input old new ends = ends
-
-pub EndsUnder-opened : (exit : Exit) (p q : PolicyRules) (before : Registry) (a old new : Option (List ℕ)) → q ≡ p → before ≡ start p
-    → IfSome a (λ input. Ends q before input old new exit) → IfSome a (λ input. EndsUnder p input old new exit)
-EndsUnder-opened exit p q before None old new same at ends = tt
-EndsUnder-opened exit p q before (Some input) old new same at ends =
-    let under : Ends p before input old new exit = subst (λ (r : PolicyRules). Ends r before input old new exit) same ends in
-    ends_under exit p input old new (subst (λ (s : Registry). Ends p s input old new exit) at under)
-
-by_file : (exit : Exit) (policy : List ℕ) (p : PolicyRules) (input : List ℕ) (old new : Option (List ℕ)) → policy_of policy ≡ Ok p → EndsUnder p input old new exit → EndsByFile policy input old new exit
-by_file (exits.Policy fault) policy p input old new read ends = absurd ends
-by_file _ policy p input old new read ends = (p, read, ends)
-
-pub EndsByFile-read : (exit : Exit) (policy : List ℕ) (p : PolicyRules) (a old new : Option (List ℕ)) → policy_of policy ≡ Ok p
-    → IfSome a (λ input. EndsUnder p input old new exit) → IfSome a (λ input. EndsByFile policy input old new exit)
-EndsByFile-read exit policy p None old new read ends = tt
-EndsByFile-read exit policy p (Some input) old new read ends = by_file exit policy p input old new read ends

@@ -173,10 +173,6 @@ pub record BeginsBehind (pending : List ℕ) (p : PolicyRules) (before : Registr
 abbrev pub Begins : PolicyRules → Registry → (input written : List ℕ) → Type 0
 Begins p before input written = BeginsBehind [] p before input written
 
--- a registry that was never used, opened under a policy
-abbrev pub start : PolicyRules → Registry
-start p = (opened p nothing).registry
-
 -- the known bytes grew by some that P holds of
 abbrev pub Writes : Option (List ℕ) → Option (List ℕ) → (List ℕ → Type 0) → Type 0
 Writes old new P = (bytes : List ℕ) × Appends old new bytes × P bytes
@@ -200,16 +196,3 @@ EndsIn p before after input old new exits.Done = Writes old new (Finishes p befo
 EndsIn p before after input old new (exits.Script n) =
     Writes old new (λ written. (stops : Stops p before input written n) × (after ≡ stops.after))
 EndsIn p before after input old new exit = Ends p before input old new exit
-
--- how a run under a policy ends; a book in memory that can't be opened ends it with nothing printed
-abbrev pub EndsUnder : PolicyRules → List ℕ → Option (List ℕ) → Option (List ℕ) → Exit → Type 0
-EndsUnder p input old new (exits.Open fault) = Keeps old new
-EndsUnder p input old new exit = Ends p (start p) input old new exit
-
--- how a run under a policy file ends; the file's first fault ends it with nothing printed
-abbrev pub EndsByFile : List ℕ → List ℕ → Option (List ℕ) → Option (List ℕ) → Exit → Type 0
-EndsByFile policy input old new (exits.Policy faults.Memory) = Keeps old new
-EndsByFile policy input old new (exits.Policy fault) =
-    (policy_of policy ≡ Err fault) × Keeps old new
-EndsByFile policy input old new exit =
-    (p : PolicyRules) × (policy_of policy ≡ Ok p) × EndsUnder p input old new exit

@@ -5,15 +5,11 @@ mod answer;
 mod deposit;
 mod exit;
 mod line;
-mod memory;
-mod migration;
 mod order;
 mod script;
 
 pub use deposit::deposit_on;
 pub use exit::Exit;
 pub use line::{Line, Sender};
-pub use memory::execute_in_memory;
-pub use migration::migrate_on;
 pub use order::order_on;
-pub use script::{run_on, run_script};
+pub use script::run_on;

@@ -3,15 +3,12 @@ ghost use Rattle.std.specs.Prelude.{◌≡◌, ℕ, List, [], ◌++◌, codes, o
 ghost use Rattle.std.specs.Io.BufRead.{strip_last};
 ghost use Rattle.std.specs.Io.KnownBytes.{Appends, Keeps, append_known};
 ghost use Rattle.script.specs.inner.Runs.{AppendsFront, BreaksAt, EndsBehind, HaltsAt, LeavesAsWas, TellsLine, end_of, told_text};
-ghost use Rattle.script.specs.Runs.{Ends, EndsByFile, EndsIn, EndsUnder, kept};
+ghost use Rattle.script.specs.Runs.{EndsIn, kept};
 ghost use Rattle.store.specs.Book.{Follows};
 
 use crate::answer::answer;
 use crate::exit::Exit;
-use crate::memory::{is_clean, open};
-use policy::Policy;
 use registry::Registry;
-use sqlbook::MemoryBook;
 use std::alloc::{AllocError, Global};
 use std::io::{self, BufRead, BufReader, Read, Write};
 use store::Book;
@@ -22,56 +19,6 @@ const COMMAND_FAILED: &[u8] = b"{\"code\":2400,\"msg\":\"Command failed\",\"svTR
 
 /// How many bytes may be pending before they are written.
 const ROOM: usize = 8192;
-
-/// Answers a script line by line, under a policy, over a registry in memory that starts empty. What
-/// was written before a fault stays.
-pub fn run_script<R: Read + Drop, W: Write>(
-    alloc: Global,
-    policy: &[u8],
-    reader: R,
-    writer: &mut W,
-) -> Exit
-    ensures { IfSome (R.remaining reader) (λ input. EndsByFile policy.now input
-        (W.contents writer.old) (W.contents writer.new) result) }
-{
-    match Policy::read(alloc, policy) {
-        Ok(policy) => run_under(alloc, policy, reader, writer),
-        Err(fault) => Exit::Policy(fault),
-    }
-}
-
-/// Answers a script under a policy.
-fn run_under<R: Read + Drop, W: Write>(
-    alloc: Global,
-    policy: Policy,
-    reader: R,
-    writer: &mut W,
-) -> Exit
-    ensures { IfSome (R.remaining reader) (λ input. EndsUnder policy input (W.contents writer.old)
-        (W.contents writer.new) result) }
-{
-    match open(alloc, policy) {
-        Ok(registry) => run_over(alloc, registry, reader, writer),
-        Err(fault) => Exit::Open(fault),
-    }
-}
-
-/// Answers a script over a registry in memory.
-fn run_over<R: Read + Drop, W: Write>(
-    alloc: Global,
-    registry: Registry<MemoryBook>,
-    reader: R,
-    writer: &mut W,
-) -> Exit
-    ensures { IfSome (R.remaining reader)
-        (λ input. Ends registry.policy (kept (⟦<MemoryBook as Book>⟧.state registry.book)) input
-        (W.contents writer.old) (W.contents writer.new) result) }
-{
-    let mut registry = registry;
-    let exit = run_on(alloc, &mut registry, reader, writer);
-    is_clean(&registry);
-    exit
-}
 
 /// Answers a script line by line over a registry that is open, in which its lines are carried out. What
 /// was written before a fault stays, and so does what was carried out.

@@ -6,7 +6,6 @@ pub mod AlteringLemmas
 pub mod TermLemmas
 pub mod ReplacingLemmas
 pub mod RedatingLemmas
-pub mod MigratingLemmas
 pub mod SteadyLemmas
 pub mod ReopeningLemmas
 pub mod BeginningLemmas

@@ -1,14 +1,11 @@
 -- When the graces that lines begin end (RFC 3915, 3.1).
-use Rattle.std.specs.Prelude.{ℕ, Option, Some, None, option_and_then}
+use Rattle.std.specs.Prelude.{ℕ, Option, Some, None}
 use Rattle.calendar.specs.Moment.{capped}
 use Rattle.accounts.specs.declared.line.Line.{Line}
-use Rattle.sqlcolumns.specs.Lines.{line_in}
-use Rattle.sqlcolumns.specs.Numbers.{maybe_moment_column}
 use Rattle.lifecycle.specs.Graces.{period_of}
 use Rattle.lifecycle.specs.Periods.{end, rules_with}
 use Rattle.policy.specs.declared.days.Period.{Period}
 use Rattle.policy.specs.declared.schedule.Schedule.{Schedule}
-use Rattle.sqltables.specs.Line as table
 
 abbrev pub end_from : Schedule → Option Period → Option ℕ → Option ℕ
 end_from days None start = None
@@ -23,7 +20,3 @@ grace_end days line = end_from days (period_of line.kind) line.started
 abbrev pub maybe_grace_end : Option Schedule → Line → Option ℕ
 maybe_grace_end None line = None
 maybe_grace_end (Some days) line = grace_end days line
-
--- a row that says so of its line; one that doesn't read says nothing
-abbrev pub with_grace_end : Schedule → table.Line → table.Line
-with_grace_end days row = record row { grace = record row.grace { ends = maybe_moment_column (option_and_then (grace_end days) (line_in row)) } }

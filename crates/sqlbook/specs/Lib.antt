@@ -1,7 +1,6 @@
 pub mod Beginning
 pub mod Meaning
 pub mod Graces
-pub mod Migrating
 pub mod Suiting
 pub mod Files
 pub mod BetweenCalls

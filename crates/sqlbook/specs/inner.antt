@@ -1,5 +1,4 @@
 -- Words that this crate's own functions are told by, and that no promise of the registry names.
-pub mod Migrating
 pub mod Renaming
 pub mod Replacing
 pub mod Suiting

@@ -1,19 +1,14 @@
 //! When the graces that lines begin end (RFC 3915, 3.1).
-ghost use Rattle.std.specs.Prelude.{◌≡◌, map, option_and_then, IfOk};
-ghost use Rattle.sqlcolumns.specs.Lines.{line_in};
+ghost use Rattle.std.specs.Prelude.{◌≡◌};
 ghost use Rattle.sqlbook.specs.Graces as spec;
 
 use accounts::Line;
-use basis::list::Seq;
 use calendar::Moment;
 use lifecycle::{end_under, period_of};
 use policy::Schedule;
-use sqlcolumns::{line_of_row, maybe_moment_column};
-use sqltables::LineRow;
-use std::alloc::{AllocError, Global};
 
 /// When a line's grace ends, if it begins one, or the last moment where it ends later.
-fn grace_end(line: &Line, days: &Schedule) -> Option<Moment>
+pub fn grace_end(line: &Line, days: &Schedule) -> Option<Moment>
     ensures { result ≡ spec.grace_end days.now line.now }
 {
     let period = period_of(line.kind)?;
@@ -29,46 +24,4 @@ pub(crate) fn maybe_grace_end(line: &Line, days: &Option<Schedule>) -> Option<Mo
         None => None,
         Some(days) => grace_end(line, days),
     }
-}
-
-/// The same of a line, if there is one.
-fn end_if_there(line: Option<Line>, days: &Schedule) -> Option<Moment>
-    ensures { result ≡ option_and_then (spec.grace_end days.now) line }
-{
-    match line {
-        None => None,
-        Some(line) => grace_end(&line, days),
-    }
-}
-
-/// The end of the grace of a row's line; none of a row that doesn't read.
-fn row_grace_end(row: &LineRow, days: &Schedule) -> Option<Moment>
-    ensures { result ≡ option_and_then (spec.grace_end days.now) (line_in row.now) }
-{
-    end_if_there(line_of_row(row), days)
-}
-
-/// The row with the end of its line's grace.
-fn with_grace_end(row: LineRow, days: &Schedule) -> LineRow
-    ensures { result ≡ spec.with_grace_end days.now row }
-{
-    let ends = maybe_moment_column(row_grace_end(&row, days));
-    let mut row = row;
-    row.grace.ends = ends;
-    row
-}
-
-/// Rows with the ends of their lines' graces.
-pub(crate) fn with_grace_ends(
-    alloc: Global,
-    rows: Seq<LineRow>,
-    days: &Schedule,
-) -> Result<Seq<LineRow>, AllocError>
-    ensures { IfOk result (λ ended. ended ≡ map (spec.with_grace_end days.now) rows) }
-{
-    let mut ended = Seq::new(alloc);
-    for row in rows.into_vec() {
-        ended.push(with_grace_end(row, days))?;
-    }
-    Ok(ended)
 }

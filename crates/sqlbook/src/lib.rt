@@ -1,5 +1,5 @@
 //! A book over rows: what rows mean to it, and its changes, each of which leaves the stored sums as right
-//! as they were. The book itself isn't here yet.
+//! as they were.
 #![tactic(auto)]
 
 mod book;
@@ -9,7 +9,6 @@ mod changed_objects;
 mod changed_terms;
 mod files;
 mod graces;
-mod migrating;
 mod provenance;
 mod questions;
 mod records;
@@ -17,8 +16,9 @@ mod redating;
 mod renaming;
 
 pub use book::{MemoryBook, SqlBook, adopt, in_memory, into_connection, stays_clean, taken};
+pub use changed_terms::set_terms;
 pub use files::into_files;
-pub use migrating::{MigrateFault, migrate};
+pub use graces::grace_end;
 pub use provenance::{InMemory, OnDisk, Provenance};
 pub use records::SqlRecords;
 pub use sqltables::Unadopted;

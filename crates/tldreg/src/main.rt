@@ -10,10 +10,11 @@ mod database;
 use calendar::Moment;
 use command_line::{Job, Task, read_task};
 use database::{is_in_memory, open, policy_in};
+use memory::run_script;
 use policy::Policy;
 use protocol::Code;
 use registry::{OpenFault, Registry};
-use script::{Exit, deposit_on, migrate_on, order_on, run_script};
+use script::{Exit, deposit_on, order_on};
 use server::{MachineClock, ZoneExportFault, serve_each, zone_on};
 use sqlite::{Alter, Connection, Unknown};
 use std::net::{Ipv4Addr, TcpListener};
@@ -21,6 +22,7 @@ use std::process::ExitCode;
 use std::rt::Files;
 use std::{fs, io};
 use store::{Book, BookFault};
+use takeover::migrate_on;
 use zonefile::ZoneFault;
 
 /// Answers the script that standard input is.

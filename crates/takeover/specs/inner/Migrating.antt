@@ -13,10 +13,10 @@ use Rattle.sqltables.specs.Line.{lines}
 use Rattle.transactions.specs.declared.fault.BookFault.{BookFault}
 use Rattle.transactions.specs.declared.readiness.Ready.TheVariants.{Empty, Used}
 use Rattle.transactions.specs.States.{Closes, Fails, Keeps, LeavesSame, Reads, StateOf}
-use Rattle.sqlbook.specs.declared.migrating.MigrateFault.{MigrateFault}
-use Rattle.sqlbook.specs.declared.migrating.MigrateFault.TheVariants.{Policy, Schema, Memory, Store}
+use Rattle.takeover.specs.declared.migrating.MigrateFault.{MigrateFault}
+use Rattle.takeover.specs.declared.migrating.MigrateFault.TheVariants.{Policy, Schema, Memory, Store}
 use Rattle.sqlbook.specs.Meaning.{are_right, stored_of}
-use Rattle.sqlbook.specs.Migrating.{fault_of, numbered_anew, ended, suits, redated}
+use Rattle.takeover.specs.Migrating.{fault_of, numbered_anew, ended, suits, redated}
 
 -- the same rows as today's tables have them
 abbrev pub taken : Schedule → Content → Content

@@ -9,13 +9,13 @@ use Rattle.policy.specs.Terms.{continues, terms_of}
 use Rattle.store.specs.Book.{Stored}
 use Rattle.sqltables.specs.Content.{Content}
 use Rattle.sqltables.specs.Line.{Line}
-use Rattle.sqlbook.specs.Graces.{with_grace_end}
+use Rattle.takeover.specs.Graces.{with_grace_end}
 use Rattle.transactions.specs.declared.fault.BookFault.{BookFault}
 use Rattle.transactions.specs.declared.fault.BookFault.TheVariants as faults
 use Rattle.transactions.specs.declared.readiness.Ready.TheVariants.{Empty, Used}
 use Rattle.transactions.specs.States.{Closes, Has, Reads, Remains, StateOf}
-use Rattle.sqlbook.specs.declared.migrating.MigrateFault.{MigrateFault}
-use Rattle.sqlbook.specs.declared.migrating.MigrateFault.TheVariants.{Policy, Schema, Memory, Store}
+use Rattle.takeover.specs.declared.migrating.MigrateFault.{MigrateFault}
+use Rattle.takeover.specs.declared.migrating.MigrateFault.TheVariants.{Policy, Schema, Memory, Store}
 use Rattle.sqlbook.specs.Meaning.{are_right, stored_of}
 
 abbrev pub fault_of : BookFault → MigrateFault

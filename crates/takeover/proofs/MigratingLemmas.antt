@@ -43,12 +43,12 @@ use Rattle.sqlobjects.specs.Objects.{contacts_of, hosts_of}
 use Rattle.sqlobjects.specs.Sponsors.{sponsors_are_right}
 use Rattle.sqlterms.specs.Clock.{clock_in}
 use Rattle.sqlterms.specs.Terms.{terms_in}
-use Rattle.sqlbook.specs.declared.migrating.MigrateFault.{MigrateFault}
-use Rattle.sqlbook.specs.declared.migrating.MigrateFault.TheVariants.{Policy, Schema, Memory, Store}
-use Rattle.sqlbook.specs.Graces.{with_grace_end}
+use Rattle.takeover.specs.declared.migrating.MigrateFault.{MigrateFault}
+use Rattle.takeover.specs.declared.migrating.MigrateFault.TheVariants.{Policy, Schema, Memory, Store}
+use Rattle.takeover.specs.Graces.{with_grace_end}
 use Rattle.sqlbook.specs.Meaning.{are_right, stored_of}
-use Rattle.sqlbook.specs.inner.Migrating.{AreAsked, EndsAs, IsRefused, IsTakenOver, TakesOver, heads, others, put_lines, taken}
-use Rattle.sqlbook.specs.Migrating.{IsMigrated, IsTried, IsUnsuited, Migrates, ended, fault_of, numbered_anew, redated, suits, suits_in}
+use Rattle.takeover.specs.inner.Migrating.{AreAsked, EndsAs, IsRefused, IsTakenOver, TakesOver, heads, others, put_lines, taken}
+use Rattle.takeover.specs.Migrating.{IsMigrated, IsTried, IsUnsuited, Migrates, ended, fault_of, numbered_anew, redated, suits, suits_in}
 use Rattle.sqlbook.specs.AsBook.{HasMade}
 
 -- ---- the number of the schema says nothing of the registry

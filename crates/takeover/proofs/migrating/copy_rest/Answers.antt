@@ -1,7 +1,7 @@
 use Rattle.oldrows.specs.inner.Copies.{put_of_all}
-use Rattle.sqlbook.specs.inner.Migrating.{others, put_lines}
-use Rattle.sqlbook.proofs.MigratingLemmas.{copied-after}
-use Rattle.sqlbook.proofs.migrating.copy_rest.Goals as goal
+use Rattle.takeover.specs.inner.Migrating.{others, put_lines}
+use Rattle.takeover.proofs.MigratingLemmas.{copied-after}
+use Rattle.takeover.proofs.migrating.copy_rest.Goals as goal
 
 pub returns : goal.returns
 returns g c =

@@ -2,7 +2,8 @@
 ghost use Rattle.std.specs.Prelude.{◌≡◌, true, IfOk};
 ghost use Rattle.policy.specs.Rules.{IsRegistrar};
 ghost use Rattle.rules.specs.Isolation.{IsIsolated};
-ghost use Rattle.script.specs.Runs.{kept, start};
+ghost use Rattle.memory.specs.Runs.{start};
+ghost use Rattle.script.specs.Runs.{kept};
 
 use basis::registrar::RegistrarNo;
 use calendar::Moment;

@@ -1,9 +1,9 @@
 //! A registry of the schema before this one, taken over.
-use crate::exit::Exit;
+use crate::migrating::{MigrateFault, migrate};
 use oldrows::OldRows;
 use policy::Policy;
 use registry::OpenFault;
-use sqlbook::{MigrateFault, migrate};
+use script::Exit;
 use sqlite::{Alter, Connection};
 use sqltables::{RowStore, Unadopted};
 use std::alloc::Global;

@@ -1,6 +1,6 @@
 use Rattle.std.proofs.Common.{◌≡◌, ◌++◌, map}
-use Rattle.sqlbook.specs.Graces.{with_grace_end}
-use Rattle.sqlbook.proofs.graces.with_grace_ends.Given as goal
+use Rattle.takeover.specs.Graces.{with_grace_end}
+use Rattle.takeover.proofs.graces.with_grace_ends.Given as goal
 
 -- with those that are left, all of them
 abbrev pub invariant-loop-row : goal.invariant-loop-row

@@ -2,9 +2,9 @@ use Rattle.std.proofs.Common.{subst}
 use Rattle.oldrows.specs.inner.Copies.{IsCopied, put_of_all}
 use Rattle.policy.specs.declared.schedule.Schedule.{Schedule}
 use Rattle.sqltables.specs.Content.{Content}
-use Rattle.sqlbook.specs.inner.Migrating.{others, put_lines}
-use Rattle.sqlbook.proofs.MigratingLemmas.{refused, taken-over}
-use Rattle.sqlbook.proofs.migrating.take.Goals as goal
+use Rattle.takeover.specs.inner.Migrating.{others, put_lines}
+use Rattle.takeover.proofs.MigratingLemmas.{refused, taken-over}
+use Rattle.takeover.proofs.migrating.take.Goals as goal
 
 pub returns-then-not-branch : goal.returns-then-not-branch
 returns-then-not-branch g c =

@@ -4,8 +4,8 @@ use Rattle.oldrows.specs.inner.Copies.{put_all}
 use Rattle.sqltables.specs.Content.{Content}
 use Rattle.sqltables.specs.inner.Content.{lines_to}
 use Rattle.sqltables.specs.Line.{lines}
-use Rattle.sqlbook.specs.Migrating.{ended}
-use Rattle.sqlbook.proofs.migrating.copy_lines.Goals as goal
+use Rattle.takeover.specs.Migrating.{ended}
+use Rattle.takeover.proofs.migrating.copy_lines.Goals as goal
 
 pub returns : goal.returns
 returns g c =

@@ -5,14 +5,14 @@ ghost use Rattle.policy.specs.Terms.{terms_of};
 ghost use Rattle.sqltables.specs.Content.{no_content};
 ghost use Rattle.transactions.specs.States.{Finds};
 ghost use Rattle.sqlbook.specs.Meaning.{are_right, stored_of};
-ghost use Rattle.sqlbook.specs.inner.Migrating.{AreReady, EndsAs, TakesOver, heads, others, put_lines};
-ghost use Rattle.sqlbook.specs.Migrating.{Migrates, fault_of, redated, suits};
+ghost use Rattle.takeover.specs.inner.Migrating.{AreReady, EndsAs, TakesOver, heads, others, put_lines};
+ghost use Rattle.takeover.specs.Migrating.{Migrates, fault_of, redated, suits};
 ghost use Rattle.sqlbook.specs.AsBook.{MakesAs};
 
-use crate::changed_terms::set_terms;
 use crate::graces::with_grace_ends;
 use oldrows::{Copied, OldRows, TableName, copy_tables, put_all};
 use policy::{Policy, Schedule, Terms};
+use sqlbook::set_terms;
 use sqlite::Alter;
 use sqltables::{LineRow, RowStore};
 use std::alloc::{AllocError, Global};

@@ -1,0 +1,3 @@
+pub mod Graces
+pub mod Migrating
+pub mod inner
