@@ -2,12 +2,11 @@
 use Rattle.std.proofs.Common.{◌≡◌, inl, inr, refl, ◌==◌, ◌++◌, ℕ, cond, List, [], Some, None, IfSome, Ok, ap, subst, ◌∙◌, append-nil}
 use Rattle.std.specs.Prelude.{Option}
 use Rattle.std.specs.Io.KnownBytes.{Appends, Keeps, append_known, prepend_known}
-use Rattle.policy.specs.Reading.{policy_of}
 use Rattle.policy.specs.Rules.{PolicyRules}
 use Rattle.script.specs.declared.exit.Exit.{Exit}
 use Rattle.script.specs.declared.exit.Exit.TheVariants as exits
 use Rattle.script.specs.inner.Runs.{AppendsFront, EndsBehind}
-use Rattle.script.specs.Runs.{Ends, EndsByFile, EndsIn, EndsUnder, start}
+use Rattle.script.specs.Runs.{EndsIn}
 use Rattle.script.proofs.BeginLemmas.{IsFault, begun_by, fault_cut, fault_out}
 use Rattle.model.specs.Registry.{Registry}
 

@@ -7,17 +7,14 @@ use Rattle.eppcommands.specs.Order.{order_in}
 use Rattle.eppreplies.specs.Answer.{answer_text}
 use Rattle.eppreplies.specs.Greeting.{greeting_text}
 use Rattle.eppreplies.specs.Reply.{reply_text}
-use Rattle.policy.specs.declared.fault.PolicyFault.TheVariants as faults
-use Rattle.policy.specs.Reading.{policy_of}
 use Rattle.policy.specs.Rules.{PolicyRules}
 use Rattle.registry.specs.Execution.{IsGreetingStep, IsOrderStep, IsSettlement, IsStep, last_call}
-use Rattle.registry.specs.Opening.{opened}
 use Rattle.script.specs.declared.exit.Exit.{Exit}
 use Rattle.script.specs.declared.exit.Exit.TheVariants as exits
 use Rattle.script.specs.declared.line.Sender.{Sender}
 use Rattle.script.specs.declared.line.Sender.TheVariants.{Registrar, Operator}
 use Rattle.script.specs.Lines.{Asked, IsLine}
-use Rattle.store.specs.Book.{BookState, nothing}
+use Rattle.store.specs.Book.{BookState}
 use Rattle.protocol.specs.declared.code.Code.{Code}
 use Rattle.protocol.specs.declared.code.Code.TheVariants.{Completed}
 use Rattle.protocol.specs.declared.command.Command.{Command}
