@@ -10,7 +10,7 @@ from pathlib import Path
 
 ROOT = Path(__file__).resolve().parent.parent.parent
 DATABASE = {"sqlite", "sqlrows", "sqltables"}
-TESTS = ("tests", "wiretests", "rowtests", "crashtests", "fixtures", "transcripts", "refusals")
+TESTS = ("tests", "wiretests", "rowtests", "crashtests", "faulttests", "fixtures", "transcripts", "refusals")
 GROUPS = [
     ("values and objects", "#eef3fa", ["basis", "calendar", "names", "policy", "objects", "accounts", "lifecycle"]),
     ("the wire", "#f3eefa", ["protocol", "eppforms", "eppcommands", "jsonobjects", "eppreplies", "streams", "frames"]),
@@ -46,7 +46,7 @@ def groups(below, rows):
     grouped, left = [], dict.fromkeys(below)
     for title, colour, names in GROUPS:
         grouped.append((title, colour, [it for it in names if it in left]))
-    grouped.append(("programs", "#ffffff", [it for it in ("script", "restarts", "tldreg") if it in left]))
+    grouped.append(("programs", "#ffffff", [it for it in ("script", "memory", "takeover", "restarts", "tldreg") if it in left]))
     grouped.append(("tests", "#f2f2f2", [it for it in TESTS if it in left]))
     taken = {it for _, _, names in grouped for it in names}
     grouped.append(("the tables", "#f7e6ee", [it for it in below if it in rows and it not in taken]))
