@@ -5,7 +5,7 @@
 #![tactic(auto)]
 
 mod registry_in_memory;
-mod script;
+mod scripts;
 
 pub use registry_in_memory::execute_in_memory;
-pub use script::run_script;
+pub use scripts::run_script;
