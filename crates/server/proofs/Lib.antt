@@ -3,6 +3,6 @@ mod PeerLemmas
 mod HttpLemmas
 mod LentLemmas
 mod PublicLemmas
-mod ListeningLemmas
+pub mod ListeningLemmas
 mod SessionRunLemmas
 mod ClosingLemmas

@@ -23,12 +23,18 @@ const MOST_WAIT: u64 = 10;
 /// Lets a connection go that ended so. A machine that lets one go with bytes unread resets it, and what
 /// was written and not yet read is lost to the client. So what a client sent behind the end is read and
 /// thrown away until it ends its side, a hundred times 65,536 bytes or ten milliseconds at most.
-pub(crate) fn let_go(alloc: Global, stream: &TcpStream, end: ConnectionEnd) {
-    // The client reads the end of what was written.
-    let _ = stream.shutdown(Shutdown::Write);
-    if !may_have_more(end) {
-        return;
+pub fn let_go(alloc: Global, stream: &TcpStream, end: ConnectionEnd) {
+    if may_have_more(end) {
+        let_go_with_more(alloc, stream);
+    } else {
+        // The client reads the end of what was written.
+        let _ = stream.shutdown(Shutdown::Write);
     }
+}
+
+/// Lets a connection go whose client may have sent more than was read.
+pub fn let_go_with_more(alloc: Global, stream: &TcpStream) {
+    let _ = stream.shutdown(Shutdown::Write);
     let wait = Duration::from_millis(MOST_WAIT);
     if stream.set_read_timeout(Some(wait)).is_err() {
         return;

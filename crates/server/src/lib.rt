@@ -19,6 +19,7 @@ mod zone;
 
 pub use at_moment::AtMoment;
 pub use clock::MachineClock;
+pub use closing::{let_go, let_go_with_more};
 pub use connection::{ConnectionEnd, Served, serve_one};
 pub use http::HttpEnd;
 pub use impatient::Impatient;

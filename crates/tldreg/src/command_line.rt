@@ -3,6 +3,7 @@ ghost use Rattle.std.specs.Prelude.{◌≡◌, ◌⊎◌, ◌∷◌, IfErr, code
 ghost use Rattle.script.specs.declared.exit.Exit.TheVariants as exits;
 ghost use Rattle.tldreg.specs.inner.Words as spec;
 
+use crate::settings::{OptionKind, Settings, Split, split_of};
 use calendar::Moment;
 use script::Exit;
 use std::env::{self, Args};
@@ -11,6 +12,10 @@ use std::rt::Env;
 /// What a command line asks for.
 #[derive(Drop)]
 pub enum Task {
+    /// `--help`
+    Help,
+    /// `--version`
+    Version,
     /// `run POLICY`
     Run {
         policy: String,
@@ -53,12 +58,37 @@ pub enum Job {
     },
 }
 
-/// The task of the words that the program was started with. No clause can say what words the machine gives:
-/// `task_of` says what is made of any.
-pub fn read_task(rt: &(impl Env + AllocGlobal)) -> Result<Task, Exit>
+/// A task, and what the options beside it say.
+#[derive(Drop)]
+pub struct Asked {
+    pub task: Task,
+    pub settings: Settings,
+}
+
+/// The task of the words that the program was started with, and what its options say. No clause can say what
+/// words the machine gives: `task_of` says what is made of any, once the options are taken out.
+pub fn read_task(rt: &(impl Env + AllocGlobal)) -> Result<Asked, Exit>
     ensures { IfErr result (λ exit. (exit ≡ exits.Usage) ⊎ (exit ≡ exits.Memory)) }
 {
-    task_of(words_of(rt)?)
+    let split = split_of(rt.alloc(), words_of(rt)?)?;
+    let Split { plain, settings } = split;
+    let task = task_of(plain.into_iter())?;
+    if settings.kind() > options_of(&task) {
+        return Err(Exit::Usage);
+    }
+    Ok(Asked { task, settings })
+}
+
+/// Which options a task takes.
+fn options_of(task: &Task) -> OptionKind {
+    match task {
+        Task::OnDatabase {
+            job: Job::Serve { .. },
+            ..
+        } => OptionKind::Serving,
+        Task::OnDatabase { .. } => OptionKind::OnDatabase,
+        _ => OptionKind::None,
+    }
 }
 
 /// All words. One that isn't UTF-8 makes a wrong command line.
@@ -84,6 +114,14 @@ fn task_of(words: Args) -> Result<Task, Exit>
     let _program = words.next();
     let word = next_word(&mut words)?;
     match word.as_str() {
+        "--help" => {
+            end_of_words(words)?;
+            Ok(Task::Help)
+        }
+        "--version" => {
+            end_of_words(words)?;
+            Ok(Task::Version)
+        }
         "run" => run_of(words),
         "migrate" => migrate_of(words),
         "serve" => serve_of(words),

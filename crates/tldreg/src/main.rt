@@ -6,23 +6,32 @@ ghost use Rattle.tldreg.specs.inner.Ends as spec;
 
 mod command_line;
 mod database;
+mod nearness;
+mod settings;
+mod texts;
 
 use calendar::Moment;
-use command_line::{Job, Task, read_task};
+use command_line::{Asked, Job, Task, read_task};
 use database::{is_in_memory, open, policy_in};
+use frames::Clock;
+use listening::serve_port;
 use memory::run_script;
+use nearness::require_near;
 use policy::Policy;
 use protocol::Code;
 use registry::{OpenFault, Registry};
 use script::{Exit, deposit_on, order_on};
-use server::{MachineClock, ZoneExportFault, serve_each, zone_on};
+use server::{MachineClock, ZoneExportFault, zone_on};
+use settings::Settings;
 use sqlite::{Alter, Connection, Unknown};
 use std::net::{Ipv4Addr, TcpListener};
 use std::process::ExitCode;
 use std::rt::Files;
-use std::{fs, io};
+use std::{fs, io, time};
 use store::{Book, BookFault};
 use takeover::migrate_on;
+use texts::{HELP, VERSION};
+use wires::Log;
 use zonefile::ZoneFault;
 
 /// Answers the script that standard input is.
@@ -32,19 +41,36 @@ fn run(rt: &(impl Files + Input + Print + AllocGlobal), policy: &str) -> Result<
 }
 
 /// Does a job with the registry of a database.
-fn work_on(rt: &HostRuntime, policy: &str, database: &str, job: &Job) -> Result<(), Exit> {
+fn work_on(
+    rt: &HostRuntime,
+    policy: &str,
+    database: &str,
+    job: &Job,
+    settings: &Settings,
+) -> Result<(), Exit> {
     let policy = policy_in(rt, policy)?;
     if is_in_memory(database) {
-        work_over(rt, sqlbook::in_memory(rt.alloc()), policy, job)
+        work_over(rt, sqlbook::in_memory(rt.alloc()), policy, job, settings)
     } else {
-        work_in_file(rt, database, policy, job)
+        work_in_file(rt, database, policy, job, settings)
     }
 }
 
 /// The same over a file. It hands on what opening gave: a call with a book of a known kind costs the prover
 /// much.
-fn work_in_file(rt: &HostRuntime, path: &str, policy: Policy, job: &Job) -> Result<(), Exit> {
-    work_with(rt, restarts::registry_in(rt, path, Unknown, policy), job)
+fn work_in_file(
+    rt: &HostRuntime,
+    path: &str,
+    policy: Policy,
+    job: &Job,
+    settings: &Settings,
+) -> Result<(), Exit> {
+    work_with(
+        rt,
+        restarts::registry_in(rt, path, Unknown, policy),
+        job,
+        settings,
+    )
 }
 
 /// The same over a book, if it was made, in which no transaction is open.
@@ -53,11 +79,12 @@ fn work_over<B: Book + Drop>(
     made: Result<B, BookFault>,
     policy: Policy,
     job: &Job,
+    settings: &Settings,
 ) -> Result<(), Exit>
     requires { IfOk made (λ book. (B.state book).is_open ≡ false) }
 {
     let registry = open(rt.alloc(), made, policy)?;
-    work(rt, registry, job)
+    work(rt, registry, job, settings)
 }
 
 /// The same with a registry, if it was opened.
@@ -65,17 +92,45 @@ fn work_with<B: Book + Drop>(
     rt: &HostRuntime,
     opened: Result<Registry<B>, OpenFault>,
     job: &Job,
+    settings: &Settings,
 ) -> Result<(), Exit> {
     match opened {
-        Ok(registry) => work(rt, registry, job),
+        Ok(registry) => work(rt, registry, job, settings),
         Err(fault) => Err(Exit::Open(fault)),
     }
 }
 
-/// Does a job with a registry.
-fn work<B: Book + Drop>(rt: &HostRuntime, registry: Registry<B>, job: &Job) -> Result<(), Exit> {
+/// Does a job with a registry, if its moment is no further from the registry's clock than it may be.
+fn work<B: Book + Drop>(
+    rt: &HostRuntime,
+    registry: Registry<B>,
+    job: &Job,
+    settings: &Settings,
+) -> Result<(), Exit> {
+    let mut registry = registry;
+    if let Some(days) = settings.within {
+        require_near(&mut registry, moment_of(rt, job), days)?;
+    }
+    work_then(rt, registry, job, settings)
+}
+
+/// The moment of a job. That of `serve` is the machine's.
+fn moment_of(machine: &impl time::Clock, job: &Job) -> Moment {
     match job {
-        Job::Serve { port } => serve(rt, registry, *port),
+        Job::Serve { .. } => MachineClock::new(machine).moment(),
+        Job::Zone { moment } | Job::Deposit { moment, .. } | Job::Order { moment, .. } => *moment,
+    }
+}
+
+/// Does a job with a registry, whatever its moment.
+fn work_then<B: Book + Drop>(
+    rt: &HostRuntime,
+    registry: Registry<B>,
+    job: &Job,
+    settings: &Settings,
+) -> Result<(), Exit> {
+    match job {
+        Job::Serve { port } => serve(rt, registry, *port, settings),
         Job::Zone { moment } => zone(rt, registry, *moment),
         Job::Deposit {
             moment,
@@ -87,13 +142,19 @@ fn work<B: Book + Drop>(rt: &HostRuntime, registry: Registry<B>, job: &Job) -> R
 }
 
 /// Serves connections to a port of this machine, which ends only where none can be accepted.
-fn serve<B: Book + Drop>(rt: &HostRuntime, registry: Registry<B>, port: u16) -> Result<(), Exit>
+fn serve<B: Book + Drop>(
+    rt: &HostRuntime,
+    registry: Registry<B>,
+    port: u16,
+    settings: &Settings,
+) -> Result<(), Exit>
     ensures { result ≡ Err Exit.Network }
 {
     let Ok(listener) = TcpListener::bind(rt, (Ipv4Addr::LOCALHOST, port)) else {
         return Err(Exit::Network);
     };
-    serve_each(rt.alloc(), &listener, &mut MachineClock::new(rt), registry);
+    let log = Log::new(rt.alloc(), rt, settings.is_quiet);
+    serve_port(rt.alloc(), rt, &listener, &settings.limits, &log, registry);
     Err(Exit::Network)
 }
 
@@ -185,8 +246,17 @@ fn migrate_to<S: Alter + Drop, T: Alter + Drop>(
     }
 }
 
+/// Prints a text of the program's own.
+fn print(rt: &impl Print, text: &str) -> Result<(), Exit> {
+    println!(rt; "{text}")?;
+    Ok(())
+}
+
 fn perform(rt: &HostRuntime) -> Result<(), Exit> {
-    match read_task(rt)? {
+    let Asked { task, settings } = read_task(rt)?;
+    match task {
+        Task::Help => print(rt, HELP),
+        Task::Version => print(rt, VERSION),
         Task::Run { policy } => run(rt, policy.as_str()),
         Task::Migrate { policy, from, to } => {
             migrate(rt, policy.as_str(), from.as_str(), to.as_str())
@@ -195,7 +265,7 @@ fn perform(rt: &HostRuntime) -> Result<(), Exit> {
             policy,
             database,
             job,
-        } => work_on(rt, policy.as_str(), database.as_str(), &job),
+        } => work_on(rt, policy.as_str(), database.as_str(), &job, &settings),
     }
 }
 

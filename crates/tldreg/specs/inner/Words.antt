@@ -13,7 +13,7 @@ use Rattle.script.specs.declared.exit.Exit.TheVariants.{Usage}
 use Rattle.tldreg.specs.declared.command_line.Job.{Job}
 use Rattle.tldreg.specs.declared.command_line.Job.TheVariants.{Serve, Zone, Deposit, Order}
 use Rattle.tldreg.specs.declared.command_line.Task.{Task}
-use Rattle.tldreg.specs.declared.command_line.Task.TheVariants.{Run, Migrate, OnDatabase}
+use Rattle.tldreg.specs.declared.command_line.Task.TheVariants.{Help, Version, Run, Migrate, OnDatabase}
 
 -- ---- what a word is
 
@@ -50,6 +50,8 @@ AsksJob words policy database (Order moment json) =
 
 -- the words behind the program's name ask for this task
 abbrev pub Asks : List (List ℕ) → Task → Type 0
+Asks words Help = words ≡ codes "--help" ∷ []
+Asks words Version = words ≡ codes "--version" ∷ []
 Asks words (Run policy) = words ≡ codes "run" ∷ string_bytes policy ∷ []
 Asks words (Migrate policy from to) =
     words ≡ codes "migrate" ∷ string_bytes policy ∷ string_bytes from ∷ string_bytes to ∷ []

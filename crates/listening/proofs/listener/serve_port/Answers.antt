@@ -1,0 +1,21 @@
+use Rattle.std.proofs.Common.{◌∙◌}
+use Rattle.eppwire.proofs.FollowLemmas.{follows_on}
+use Rattle.policy.specs.Rules.{PolicyRules}
+use Rattle.store.specs.Book.{BookState}
+use Rattle.server.proofs.ListeningLemmas.{one_more}
+use Rattle.listening.proofs.listener.serve_port.Goals as goal
+
+pub turns-preserved : goal.turns-preserved
+turns-preserved g c =
+    let p : PolicyRules = c.args.registry.policy in
+    let q : PolicyRules = c.turns.registry.policy in
+    let old : BookState = g.B.Book.state c.args.registry.book in
+    let between : BookState = g.B.Book.state c.turns.registry.book in
+    let new : BookState = g.B.Book.state c.serve_stream-registry.result.book in
+    let before = c.turns.invariant in
+    let one = c.serve_stream-registry.ensures in
+    record {
+      served = one_more p q old between new before.policy before.served one.served;
+      follows = follows_on old between new before.follows one.follows;
+      policy = one.policy ∙ before.policy;
+    }

@@ -1,0 +1,35 @@
+//! Moments that are far from a registry's clock, as a slip makes them.
+ghost use Rattle.std.specs.Prelude.{◌≡◌, true, OnOk};
+ghost use Rattle.tldreg.specs.inner.Nearness as spec;
+
+use calendar::Moment;
+use registry::{Fault, Registry};
+use script::Exit;
+use store::Book;
+
+/// The seconds of a day.
+const DAY: u64 = 86_400;
+
+/// Refuses a moment that is further from a registry's clock than so many days. Nothing is changed: a registry
+/// that is asked at the first moment of all tells its clock.
+pub fn require_near<B: Book + Drop>(
+    registry: &mut Registry<B>,
+    moment: Moment,
+    days: u32,
+) -> Result<(), Exit> {
+    match registry.greet(Moment::first()) {
+        Ok(clock) if is_far(clock, moment, days) => Err(Exit::Registry(Fault::Moment)),
+        Ok(_) => Ok(()),
+        Err(fault) => Err(Exit::Registry(fault)),
+    }
+}
+
+/// Whether a moment is further from a clock than so many days. From the clock of a new registry, which shows
+/// the first moment, none is.
+fn is_far(clock: Moment, moment: Moment, days: u32) -> bool
+    ensures { result ≡ spec.is_far clock moment days }
+{
+    let (first, most) = (Moment::first().secs() as u64, u64::from(days) * DAY);
+    let (clock, moment) = (clock.secs() as u64, moment.secs() as u64);
+    clock != first && clock.abs_diff(moment) > most
+}

@@ -1,0 +1,151 @@
+//! The options of a command line: `--NAME VALUE`, and `--quiet`, among its other words.
+ghost use Rattle.std.specs.Prelude.{◌≡◌, ◌⊎◌, ◌≤◌, ◌<◌, IfErr, IfOk};
+ghost use Rattle.script.specs.declared.exit.Exit.TheVariants as exits;
+
+use script::Exit;
+use std::alloc::Global;
+use std::env::Args;
+use std::time::Duration;
+use wires::Limits;
+
+/// The most seconds of a limit: a day.
+const MOST_SECONDS: u32 = 86_400;
+
+/// The most days between a moment and the registry's clock: two hundred years.
+const MOST_DAYS: u32 = 73_049;
+
+/// Which options are meant: each kind has those of the ones before it.
+#[derive(Clone, Copy, Debug, PartialEq, Eq, PartialOrd, Ord)]
+pub enum OptionKind {
+    /// None at all.
+    None,
+    /// Those of a job with the registry of a database.
+    OnDatabase,
+    /// Those of `serve`.
+    Serving,
+}
+
+/// What the options of a command line say.
+#[derive(Clone, Copy)]
+pub struct Settings {
+    /// How many days a moment may be from the registry's clock.
+    pub within: Option<u32>,
+    /// Whether no log is printed.
+    pub is_quiet: bool,
+    /// How long a connection may take.
+    pub limits: Limits,
+    kind: OptionKind,
+}
+
+impl Settings {
+    /// Those of a command line without options.
+    fn usual() -> Settings {
+        Settings {
+            within: None,
+            is_quiet: false,
+            limits: Limits::usual(),
+            kind: OptionKind::None,
+        }
+    }
+
+    /// Which options there were.
+    pub fn kind(&self) -> OptionKind {
+        self.kind
+    }
+
+    /// Takes an option with its value.
+    fn set(&mut self, name: &str, value: &str) -> Result<(), Exit>
+        ensures { IfErr result (λ exit. (exit ≡ exits.Usage) ⊎ (exit ≡ exits.Memory)) }
+    {
+        if name == "--within" {
+            self.within = Some(number_of(value, MOST_DAYS)?);
+            self.kind = self.kind.max(OptionKind::OnDatabase);
+            return Ok(());
+        }
+        let time = Duration::from_secs(u64::from(number_of(value, MOST_SECONDS)?));
+        self.kind = OptionKind::Serving;
+        self.set_limit(name, time)
+    }
+
+    /// Takes a limit.
+    fn set_limit(&mut self, name: &str, time: Duration) -> Result<(), Exit>
+        ensures { IfErr result (λ exit. (exit ≡ exits.Usage) ⊎ (exit ≡ exits.Memory)) }
+    {
+        match name {
+            "--first" => self.limits.first = time,
+            "--head" => self.limits.head = time,
+            "--frame" => self.limits.frame = time,
+            "--login" => self.limits.login = time,
+            "--pause" => self.limits.pause = time,
+            "--still" => self.limits.still = time,
+            "--session" => self.limits.session = time,
+            _ => return Err(Exit::Usage),
+        }
+        Ok(())
+    }
+
+    /// Takes an option without a value.
+    fn set_quiet(&mut self) {
+        self.is_quiet = true;
+        self.kind = OptionKind::Serving;
+    }
+}
+
+/// A command line without its options, and what they say.
+#[derive(Drop)]
+pub struct Split {
+    pub plain: Vec<String>,
+    pub settings: Settings,
+}
+
+/// Takes the options out of the words of a command line.
+pub fn split_of(alloc: Global, words: Args) -> Result<Split, Exit>
+    ensures { IfErr result (λ exit. (exit ≡ exits.Usage) ⊎ (exit ≡ exits.Memory)) }
+{
+    let mut words = words;
+    let mut split = Split {
+        plain: Vec::new(alloc),
+        settings: Settings::usual(),
+    };
+    'words: for _ in 0..u64::MAX {
+        let Some(word) = words.next() else {
+            return Ok(split);
+        };
+        take_word(&mut split, word, &mut words)?;
+    }
+    Err(Exit::Usage)
+}
+
+/// Takes one word, and its value where it is an option that has one.
+fn take_word(split: &mut Split, word: String, words: &mut Args) -> Result<(), Exit>
+    ensures { IfErr result (λ exit. (exit ≡ exits.Usage) ⊎ (exit ≡ exits.Memory)) }
+{
+    if !is_option(word.as_str()) {
+        split.plain.push(word)?;
+        return Ok(());
+    }
+    if word.as_str() == "--quiet" {
+        split.settings.set_quiet();
+        return Ok(());
+    }
+    let Some(value) = words.next() else {
+        return Err(Exit::Usage);
+    };
+    split.settings.set(word.as_str(), value.as_str())
+}
+
+/// Whether a word is an option. Those that ask for a text alone are words.
+fn is_option(word: &str) -> bool {
+    word.starts_with("--") && word != "--help" && word != "--version"
+}
+
+/// A number from 1 to the most.
+fn number_of(word: &str, most: u32) -> Result<u32, Exit>
+    ensures number { IfOk result (λ number. (0 < number) × (number ≤ most)) }
+    ensures fault { IfErr result (λ exit. exit ≡ exits.Usage) }
+{
+    match word.parse::<u32>() {
+        Ok(number) if number > 0 && number <= most => Ok(number),
+        _ => Err(Exit::Usage),
+    }
+}

@@ -1,0 +1,68 @@
+//! Waiting until somebody comes.
+
+use crate::room::{Next, Room};
+use mio::unix::SourceFd;
+use mio::{Events, Interest, Poll, Registry, Token};
+use std::alloc::Global;
+use std::net::{Net, TcpListener, TcpStream};
+use std::os::fd::AsRawFd;
+use std::time::{self, Duration};
+use std::{io, thread};
+
+/// How many milliseconds nobody is waited for at once.
+const LONGEST_WAIT: u64 = 1_000;
+
+/// How many milliseconds something that is wanting is waited for.
+const WANT: u64 = 100;
+
+/// How many events are taken at once. They only tell that it is worth while to look.
+const EVENTS: usize = 16;
+
+/// What tells that somebody comes.
+#[derive(Drop)]
+pub struct Door {
+    poll: Poll,
+    events: Events<Global>,
+}
+
+impl Door {
+    /// The door of a listener.
+    pub fn new(alloc: Global, net: &impl Net, listener: &TcpListener) -> io::Result<Door> {
+        listener.set_nonblocking(true)?;
+        let poll = Poll::new(net)?;
+        let events = Events::with_capacity(alloc, EVENTS)?;
+        let number = listener.as_raw_fd();
+        poll.registry()
+            .register(&mut SourceFd(&number), Token(0), Interest::READABLE)?;
+        Ok(Door { poll, events })
+    }
+
+    /// What a room of this door has its connections watched by.
+    pub fn watch(&self) -> io::Result<Registry> {
+        self.poll.registry().try_clone()
+    }
+
+    /// Waits until somebody may have come.
+    fn wait(&mut self) -> io::Result<()> {
+        let longest = Duration::from_millis(LONGEST_WAIT);
+        self.poll.poll(&mut self.events, Some(longest))
+    }
+}
+
+/// The next connection whose turn it is. None where there can't be one any more.
+pub fn next_turn<M: time::Clock>(
+    machine: &M,
+    room: &Room<'_>,
+    door: &mut Door,
+) -> Option<TcpStream> {
+    'waits: for _ in 0..u64::MAX {
+        let now = machine.monotonic().ok()?;
+        match room.next(now) {
+            Next::Turn(stream) => return Some(stream),
+            Next::Nobody => door.wait().ok()?,
+            Next::Want => thread::sleep(machine, Duration::from_millis(WANT)),
+            Next::Fault => return None,
+        }
+    }
+    None
+}
