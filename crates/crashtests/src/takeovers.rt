@@ -3,12 +3,12 @@
 use crate::policies::{Under, policy_under};
 use crate::registries::{KeepsFiles, Left, NOT_OPENED, NOT_TAKEN_UP};
 use oldrows::OldRows;
-use sqlbook::{MigrateFault, migrate};
 use sqlite::{Alter, Connection, Error, Files, MemStore, Options};
 use sqlite_disk::Disk;
 use sqltables::{RowStore, Unadopted, create_first};
 use std::alloc::Global;
 use std::test::Fail;
+use takeover::{MigrateFault, migrate};
 
 /// What is printed where all was taken over, and where what keeps one of the two refused.
 pub const TAKEN_OVER: &str = "taken over\n";

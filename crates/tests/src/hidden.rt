@@ -2,7 +2,8 @@
 //! both, byte for byte.
 
 use fixtures::POLICY;
-use script::{Exit, run_script};
+use memory::run_script;
+use script::Exit;
 use std::alloc::Global;
 use std::process::Abort;
 use std::str;

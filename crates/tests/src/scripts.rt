@@ -1,8 +1,9 @@
 //! What no transcript can say: input and output that fail, lines that aren't text, and statuses.
 
 use fixtures::{POLICY, registry_of};
+use memory::run_script;
 use registry::Registry;
-use script::{Exit, run_on, run_script};
+use script::{Exit, run_on};
 use std::alloc::Global;
 use std::io::{self, Read, Write};
 use std::process::Abort;
