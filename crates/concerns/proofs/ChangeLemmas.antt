@@ -56,7 +56,7 @@ use Rattle.model.proofs.LapseLaws.{all-due-lapse-as-all, lapses-on-from-some}
 use Rattle.model.proofs.SweepLemmas.{gives, left, registry}
 use Rattle.rules.specs.declared.change.Change.{Change}
 use Rattle.rules.specs.declared.change.Change.TheVariants.{MoveClock, OpenAccount, PutContact, DropContact, PutDomain, DropDomain, PutHost, DropHost, RenameHost, LapseContact, LapseDomain, Post}
-use Rattle.rules.specs.Changes.{changed, changed_all, with_account, with_host_renamed}
+use Rattle.rules.specs.Changes.{changed, changed_all, host_renamed, may_rename, with_account, with_host_renamed}
 use Rattle.concerns.specs.declared.given.Names.{Names}
 use Rattle.concerns.specs.Concerns.{IsSettledIn, concerned, is_about, without}
 use Rattle.concerns.proofs.PostedLemmas.{AllPost, IsElsewhere, contact-elsewhere, domain-elsewhere, post-both, post-given, post-weaker}
@@ -249,7 +249,7 @@ module _ (p : PolicyRules) (r : Option ℕ) (g : Names) (u : Registry) where
   Suits (DropDomain name) = chosen.domains name ≡ true
   Suits (PutHost h) = Unit {0}
   Suits (DropHost name) = Unit {0}
-  Suits (RenameHost old new) = Unit {0}
+  Suits (RenameHost old h) = Unit {0}
   Suits (LapseContact name left) = ⊥
   Suits (LapseDomain name left) = ⊥
   Suits (Post q what) = (r ≡ Some q) ⊎ SuitsAny what
@@ -304,11 +304,11 @@ module _ (p : PolicyRules) (r : Option ℕ) (g : Names) (u : Registry) where
   }
   rest-changed (PutHost h) suits v is = record { contacts = is.contacts; domains = is.domains; roids = is.roids }
   rest-changed (DropHost name) suits v is = record { contacts = is.contacts; domains = is.domains; roids = is.roids }
-  rest-changed (RenameHost old new) suits v is = record {
+  rest-changed (RenameHost old h) suits v is = cond_both (may_rename v.hosts old h.name) (host_renamed old h v) v (IsRest p r g u) (λ may. record {
     contacts = is.contacts;
-    domains = λ name e at none. let was = remade-cases (with_host_renamed old new) v.domains name e at in subst (λ (z : Domain). is_about r z.sponsor z.transfer ≡ false) was.2 (is.domains name was.0 was.1 none);
-    roids = λ name e at none roid named. let was = remade-cases (with_host_renamed old new) v.domains name e at in subst (λ (z : Domain). is_same_roid z.roid roid ≡ false) was.2 (is.roids name was.0 was.1 none roid named);
-  }
+    domains = λ name e at none. let was = remade-cases (with_host_renamed old h.name) v.domains name e at in subst (λ (z : Domain). is_about r z.sponsor z.transfer ≡ false) was.2 (is.domains name was.0 was.1 none);
+    roids = λ name e at none roid named. let was = remade-cases (with_host_renamed old h.name) v.domains name e at in subst (λ (z : Domain). is_same_roid z.roid roid ≡ false) was.2 (is.roids name was.0 was.1 none roid named);
+  }) (λ else. is)
   rest-changed (LapseContact name left) suits v is = absurd suits
   rest-changed (LapseDomain name left) suits v is = absurd suits
   rest-changed (Post q what) suits v is = record { contacts = is.contacts; domains = is.domains; roids = is.roids }
@@ -411,6 +411,13 @@ module _ (p : PolicyRules) (r : Option ℕ) (g : Names) (u : Registry) where
         ∙ same (fold posted v.accounts (given (gives fc) v.contacts))
         ∙ sym (fold_append posted v.accounts (given (gives fc) v.contacts) (given (gives fd) v.domains))) i) v.clock
 
+    renamed-rest : (old : List ℕ) (h : Host) (v : Registry) (b : Bool) → lapsed_rest (cond b (host_renamed old h v) v) ≡ cond b (host_renamed old h (lapsed_rest v)) (lapsed_rest v)
+    renamed-rest old h v true =
+        with-domains (record v { hosts = insert (remove v.hosts old) h.name h }) (map_values (λ name. with_host_renamed old h.name) v.domains) (map_values (λ name. with_host_renamed old h.name) (kept (left fd) v.domains))
+        (kept-mapped fd (with_host_renamed old h.name) (λ name d. if-renamed p t old h.name (to_lapse.domains name) d) v.domains)
+        (λ a. ap (fold posted a) (given-mapped fd (with_host_renamed old h.name) (λ name d. if-renamed p t old h.name (to_lapse.domains name) d) v.domains))
+    renamed-rest old h v false = refl
+
     commutes : (change : Change) → Suits p r g u change → (v : Registry) → IsRest p r g u v → lapsed_rest (changed p change v) ≡ changed p change (lapsed_rest v)
     commutes (MoveClock m) suits v is = absurd suits
     commutes (OpenAccount q) suits v is = absurd suits
@@ -424,9 +431,7 @@ module _ (p : PolicyRules) (r : Option ℕ) (g : Names) (u : Registry) where
         (kept-remove fd v.domains name (domain-alone name suits)) (given-removed fd v.domains name (domain-alone name suits))
     commutes (PutHost h) suits v is = refl
     commutes (DropHost name) suits v is = refl
-    commutes (RenameHost old new) suits v is = with-domains v (map_values (λ name. with_host_renamed old new) v.domains) (map_values (λ name. with_host_renamed old new) (kept (left fd) v.domains))
-        (kept-mapped fd (with_host_renamed old new) (λ name d. if-renamed p t old new (to_lapse.domains name) d) v.domains)
-        (λ a. ap (fold posted a) (given-mapped fd (with_host_renamed old new) (λ name d. if-renamed p t old new (to_lapse.domains name) d) v.domains))
+    commutes (RenameHost old h) suits v is = renamed-rest old h v (may_rename v.hosts old h.name)
     commutes (LapseContact name left) suits v is = absurd suits
     commutes (LapseDomain name left) suits v is = absurd suits
     commutes (Post q what) suits v is = ap (λ (m : FinMap nat_cmp Account). record (lapsed_rest v) { accounts = m }) (give-posted q what (rest_postings v) (fits v is q what suits) v.accounts)
@@ -446,7 +451,7 @@ module _ (p : PolicyRules) (r : Option ℕ) (g : Names) (u : Registry) where
   clock-stands (DropDomain name) suits v = refl
   clock-stands (PutHost h) suits v = refl
   clock-stands (DropHost name) suits v = refl
-  clock-stands (RenameHost old new) suits v = refl
+  clock-stands (RenameHost old h) suits v = cond_both (may_rename v.hosts old h.name) (host_renamed old h v) v (λ (w : Registry). w.clock ≡ v.clock) (λ may. refl) (λ else. refl)
   clock-stands (LapseContact name left) suits v = absurd suits
   clock-stands (LapseDomain name left) suits v = absurd suits
   clock-stands (Post q what) suits v = refl

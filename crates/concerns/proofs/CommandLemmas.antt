@@ -188,7 +188,7 @@ module _ (p : PolicyRules) (r : ℕ) (cl_trid : Option (List ℕ)) (u : Registry
 
   renamed : (q : Request) (old : List ℕ) (h : Host) (given : Option RequestedName) → Fit q (renaming old h given)
   renamed q old h None = (tt, tt)
-  renamed q old h (Some name) = (tt, (tt, (tt, tt)))
+  renamed q old h (Some name) = (tt, tt)
 
   host-updated : (x : HostUpdate) (seen : Option Host) → Fit (requests.UpdateHost x) (host_changes p.zone r t x seen)
   host-updated x None = tt

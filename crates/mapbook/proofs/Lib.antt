@@ -3,3 +3,4 @@ pub mod LedgerLemmas
 pub mod QuietLemmas
 pub mod PlainLemmas
 pub mod HeldLemmas
+mod RenameLemmas

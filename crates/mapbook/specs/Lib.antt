@@ -3,3 +3,4 @@ pub mod Edits
 pub mod Plain
 pub mod Quiet
 pub mod inner
+pub mod Renaming

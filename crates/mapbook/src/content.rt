@@ -5,9 +5,10 @@ ghost use Rattle.facts.specs.Facts as facts;
 ghost use Rattle.rules.specs.Changes as changes;
 ghost use Rattle.store.specs.Faces as faces;
 ghost use Rattle.mapbook.specs.Plain.{registry_in};
-ghost use Rattle.store.specs.Tables.{domains_naming};
+ghost use Rattle.mapbook.specs.Renaming.{domains_naming};
 
 use crate::ledgers::Ledgers;
+use crate::renamed::with_host_renamed;
 use basis::list::Seq;
 use basis::maps::NameMap;
 use basis::registrar::RegistrarNo;
@@ -17,7 +18,6 @@ use facts::{HOLDING_LIMIT, Superordinate};
 use objects::{Contact, Domain, Host, is_below};
 use policy::Terms;
 use std::alloc::{AllocError, Global};
-use store::with_host_renamed;
 
 #[derive(Drop)]
 pub(crate) struct Content {
@@ -62,6 +62,13 @@ impl Content {
             }
         }
         Ok(names)
+    }
+
+    /// Whether there is a host of the one name, and none of the other.
+    pub fn may_rename(&self, from: &Text, to: &Text) -> bool
+        ensures { result ≡ changes.may_rename (registry_in self.now).hosts from.now to.now }
+    {
+        self.hosts.get(from).is_some() && self.hosts.get(to).is_none()
     }
 
     /// The domain under a name, as it names a host by its new name.

@@ -13,6 +13,8 @@ mod ledgers;
 mod plain;
 mod quiet;
 mod records;
+mod renamed;
+mod renaming;
 mod transaction;
 
 pub use plain::{Plain, PlainBook, never_refuses};

@@ -151,11 +151,6 @@ impl Records for Plain {
         Ok(self.content.subordinate(domain)?)
     }
 
-    fn domains_naming(&mut self, host: &Text) -> Result<Seq<Text>, BookFault> {
-        self.settle()?;
-        Ok(self.content.domains_naming(host)?)
-    }
-
     fn is_at_holding_limit(&mut self, registrar: RegistrarNo) -> Result<bool, BookFault> {
         self.settle()?;
         Ok(self.content.is_at_holding_limit(registrar))
@@ -251,22 +246,8 @@ impl Records for Plain {
         self.set(Edit::Host(name, None))
     }
 
-    fn rename_host(
-        &mut self,
-        domain: &Text,
-        from: &Text,
-        to: &Text,
-        policy: &Policy,
-    ) -> Result<(), BookFault> {
-        let name = domain.clone()?;
-        match self.content.host_renamed_at(domain, from, to)? {
-            None => Ok(()),
-            Some(renamed) => self.set_domain(name, renamed, policy),
-        }
-    }
-
-    fn move_host(&mut self, _from: &Text, _host: &Host) -> Result<bool, BookFault> {
-        Ok(false)
+    fn rename_host(&mut self, from: Text, host: Host, policy: &Policy) -> Result<(), BookFault> {
+        self.rename(from, host, policy)
     }
 
     fn begin(&mut self) -> Result<(), BookFault> {

@@ -21,7 +21,7 @@ use Rattle.objects.specs.declared.domain.Domain.{Domain}
 use Rattle.policy.specs.Rules.{PolicyRules}
 use Rattle.rules.specs.declared.change.Change.{Change}
 use Rattle.rules.specs.declared.change.Change.TheVariants.{MoveClock, OpenAccount, PutContact, DropContact, PutDomain, DropDomain, PutHost, DropHost, RenameHost, LapseContact, LapseDomain, Post}
-use Rattle.rules.specs.Changes.{changed, changed_all, itself, with_host_renamed}
+use Rattle.rules.specs.Changes.{changed, changed_all, host_renamed, itself, may_rename, with_host_renamed}
 use Rattle.privacy.specs.Redaction.{Objects, AreOne, is_charge, redacted, redacted_account, redacted_contact, redacted_domain, without_deposits}
 use Rattle.privacy.proofs.AccountLemmas.{account-changed, account-entered, deposited-left}
 use Rattle.privacy.proofs.RedactionLemmas.{account-found}
@@ -140,6 +140,13 @@ module _ (p : PolicyRules) (r : ℕ) (touched : Objects) where
       map_values-twice (slice_cmp nat_cmp) nat_list_cmp_total names_apart (λ name. with_host_renamed old new) (λ name. redacted_domain r touched) (λ name d. redacted_domain r touched (with_host_renamed old new d)) (λ name d. refl) m
       ∙ sym (map_values-twice (slice_cmp nat_cmp) nat_list_cmp_total names_apart (λ name. redacted_domain r touched) (λ name. with_host_renamed old new) (λ name d. redacted_domain r touched (with_host_renamed old new d)) (λ name d. refl) m)
 
+  renamed-alike : (old : List ℕ) (h : Host) (s t : Registry) → AreOne r touched s t → (b : Bool) → AreOne r touched (cond b (host_renamed old h s) s) (cond b (host_renamed old h t) t)
+  renamed-alike old h s t one true =
+      ap (λ (m : Named Domain). record (redacted r touched s) { hosts = insert (remove s.hosts old) h.name h; domains = m }) (domains-renamed old h.name s.domains)
+      ∙ (λ i. record (one i) { hosts = insert (remove (one i).hosts old) h.name h; domains = map_values (λ name. with_host_renamed old h.name) (one i).domains })
+      ∙ sym (ap (λ (m : Named Domain). record (redacted r touched t) { hosts = insert (remove t.hosts old) h.name h; domains = m }) (domains-renamed old h.name t.domains))
+  renamed-alike old h s t one false = one
+
   -- the same change in both
   same-left : (x : Change) (s t : Registry) → AreOne r touched s t → AreOne r touched (changed p x s) (changed p x t)
   same-left (MoveClock u) s t one = λ i. record (one i) { clock = max u (one i).clock }
@@ -152,10 +159,8 @@ module _ (p : PolicyRules) (r : ℕ) (touched : Objects) where
   same-left (DropDomain name) s t one = domain-left-by name None s t one
   same-left (PutHost h) s t one = λ i. record (one i) { hosts = insert (one i).hosts h.name h }
   same-left (DropHost name) s t one = λ i. record (one i) { hosts = remove (one i).hosts name }
-  same-left (RenameHost old new) s t one =
-      ap (λ (m : Named Domain). record (redacted r touched s) { domains = m }) (domains-renamed old new s.domains)
-      ∙ (λ i. record (one i) { domains = map_values (λ name. with_host_renamed old new) (one i).domains })
-      ∙ sym (ap (λ (m : Named Domain). record (redacted r touched t) { domains = m }) (domains-renamed old new t.domains))
+  same-left (RenameHost old h) s t one = subst (λ (b : Bool). AreOne r touched (cond (may_rename s.hosts old h.name) (host_renamed old h s) s) (cond b (host_renamed old h t) t))
+      (ap (λ (z : Registry). may_rename z.hosts old h.name) one) (renamed-alike old h s t one (may_rename s.hosts old h.name))
   same-left (LapseContact name left) s t one = contact-left-by name left s t one
   same-left (LapseDomain name left) s t one = domain-left-by name left s t one
   same-left (Post q what) s t one = (give-alike q what what (given-alike p r q what)).leaves s t one

@@ -124,7 +124,7 @@ module _ (p : PolicyRules) (r : ℕ) (cl_trid : Option (List ℕ)) (s : Registry
         → P (requests.UpdateHost u) (PutHost (host_with p r s.clock u None h) ∷ [])
     pub host_renamed : (u : HostUpdate) (name : RequestedName) (h : Host) → IsHostUpdateOf p s u (Some name) h
         → is_some (get s.hosts (name_of name)) ≡ false → IsBased p s (name_of name)
-        → P (requests.UpdateHost u) (PutHost (host_with p r s.clock u (Some name) h) ∷ RenameHost (name_of u.name) (name_of name) ∷ DropHost (name_of u.name) ∷ [])
+        → P (requests.UpdateHost u) (RenameHost (name_of u.name) (host_with p r s.clock u (Some name) h) ∷ [])
     pub renewed : (name : RequestedName) (expires : List ℕ) (years : ℕ) (d : Domain) → let q : Request = requests.RenewDomain name expires years in
         IsPayable p r cl_trid s q (name_of name) d → nat_lt (plus_years s.clock 10) (renewed_expiry years d) ≡ false
         → P q (PutDomain (renewed_domain s.clock years d) ∷ charged lines.Renew q d.roid ∷ [])

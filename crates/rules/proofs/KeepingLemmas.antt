@@ -1,7 +1,7 @@
 -- Each change keeps a registry well formed, where what it puts or takes away fits.
 use Rattle.std.proofs.Common.{◌≡◌, ◌≢◌, ◌↔◌, ◌⊎◌, inl, inr, ⊎_elim, ℕ, ◌≤◌, Bool, true, false, cond, not, List, filter, Some, IsSome, is_some, refl, sym, ap, subst, ◌∙◌, arith}
 use Rattle.std.proofs.lemmas.Bool.{and_parts, not-true, or_cases}
-use Rattle.rules.proofs.Words.{Account, account_of, AreApart, bytes_decides, bytes_eq, changed, Contact, Domain, domain_roid, DropContact}
+use Rattle.rules.proofs.Words.{host_renamed, may_rename, Account, account_of, AreApart, bytes_decides, bytes_eq, changed, Contact, Domain, domain_roid, DropContact}
 use Rattle.rules.proofs.Words.{DropDomain, DropHost, eq_by_cmp, eq_by_cmp_equiv, Equal-is, FinMap, get, get-insert, has_name, HasObjects}
 use Rattle.rules.proofs.Words.{Host, insert, IsContactOf, IsDomainOf, IsHostOf, IsRegistrar, map_values, names_contact, names_host, nat_cmp}
 use Rattle.rules.proofs.Words.{nat_cmp-IsAntisymmetric, nat_cmp_total, PolicyRules, precedes, PutContact, PutDomain, PutHost, Registry}
@@ -9,7 +9,7 @@ use Rattle.rules.proofs.Words.{remove, renamed, RenameHost, Roid, slice_cmp, sup
 use Rattle.rules.proofs.Words.{add, any-add, contact_roid, host_roid, links_with_host_renamed}
 use Rattle.rules.proofs.GrowthLemmas.{Grows, contact-grown, domain-grown, host-grown, host-grown-below}
 use Rattle.rules.proofs.LinkLemmas.{has_name-filter}
-use Rattle.rules.proofs.NamedLemmas.{drop-cases, drop-keeps, drop-there, is-there, put-cases, put-is, put-keeps, put-there, remade-cases, remade-keeps, swap-names}
+use Rattle.rules.proofs.NamedLemmas.{drop-cases, drop-keeps, drop-there, is-there, put-cases, put-is, put-keeps, put-there, remade-cases, remade-keeps}
 use Rattle.rules.proofs.NamedLemmas.{at-put}
 use Rattle.rules.proofs.ViewLemmas.{account-keep}
 
@@ -197,7 +197,7 @@ renamed-listed old new hosts n e = by (has_name hosts old) refl e
 module _ (p : PolicyRules) (s : Registry) (is : HasObjects p s) where
   -- A host goes from one name to another, and domains that named it name it still.
   renamed-apart : (old : List ℕ) (o h : Host) → get s.hosts old ≡ Some o → h.roid ≡ o.roid → IsHostOf p s h.name h → IsUndeleted p s h.name
-      → HasObjects p (with_objects s.contacts (insert (remove s.hosts old) h.name h) (map_values (λ name. with_host_renamed old h.name) s.domains) s)
+      → HasObjects p (host_renamed old h s)
   renamed-apart old o h at-old same fits free =
       let left : Hosts = remove s.hosts old in
       let hosts : Hosts = insert left h.name h in
@@ -229,8 +229,6 @@ module _ (p : PolicyRules) (s : Registry) (is : HasObjects p s) where
         domains = λ n d at. let before = remade-cases (with_host_renamed old h.name) s.domains n d at in subst (IsDomainOf p t n) before.2 (one n before.0 before.1);
       }
 
-  -- it stands under both names until the domains name it anew
-  pub rename-host : (old : List ℕ) (o h : Host) → get s.hosts old ≡ Some o → h.name ≢ old → h.roid ≡ o.roid → IsHostOf p s h.name h → IsUndeleted p s h.name
-      → HasObjects p (changed p (DropHost old) (changed p (RenameHost old h.name) (changed p (PutHost h) s)))
-  rename-host old o h at-old other same fits free =
-      subst (λ (hosts : Hosts). HasObjects p (with_objects s.contacts hosts (map_values (λ name. with_host_renamed old h.name) s.domains) s)) (swap-names s.hosts old h.name h other) (renamed-apart old o h at-old same fits free)
+  pub rename-host : (old : List ℕ) (o h : Host) → get s.hosts old ≡ Some o → h.roid ≡ o.roid → IsHostOf p s h.name h → IsUndeleted p s h.name
+      → HasObjects p (changed p (RenameHost old h) s)
+  rename-host old o h at-old same fits free = cond_both (may_rename s.hosts old h.name) (host_renamed old h s) s (HasObjects p) (λ may. renamed-apart old o h at-old same fits free) (λ else. is)

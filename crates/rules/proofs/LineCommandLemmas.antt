@@ -165,7 +165,7 @@ module _ (p : PolicyRules) (r : ℕ) (cl_trid : Option (List ℕ)) (s : Registry
     contact_updated = λ u c at. inl (tt, tt);
     domain_updated = λ u d it linked. inl (put-again (name_of u.name) d (updated_domain s.clock u d) it.at (as-before refl refl refl refl refl), tt);
     host_updated = λ u h it. inl (tt, tt);
-    host_renamed = λ u name h it free based. inl (tt, (tt, (tt, tt)));
+    host_renamed = λ u name h it free based. inl (tt, tt);
     renewed = λ name expires years d it fits.
         let q : Request = requests.RenewDomain name expires years in
         inl (put-charged (name_of name) d (renewed_domain s.clock years d) (charge_line lines.Renew p s.clock d.roid q (known p r cl_trid s q)) it.at refl (as-before refl refl refl refl refl) it.own refl refl (omega arith) (omega arith) tt);

@@ -1,6 +1,6 @@
 -- Each change keeps what a well-formed registry says of lines, where what it puts or charges fits.
 use Rattle.std.proofs.Common.{◌≡◌, ◌⊎◌, ⊎_elim, ℕ, ◌≤◌, Bool, true, false, cond, not, List, Option, Some, None, is_some, unwrap_or, refl, sym, ap, subst, ◌∙◌, arith}
-use Rattle.rules.proofs.Words.{Account, account_of, AccountChange, All, AllByRecursion, begins_after, Change, changed, changed_all}
+use Rattle.rules.proofs.Words.{host_renamed, may_rename, Account, account_of, AccountChange, All, AllByRecursion, begins_after, Change, changed, changed_all}
 use Rattle.rules.proofs.Words.{Charge, charges_waiting, Domain, DropDomain, get, Post, HasBeen, HasLines, HasLinesOn}
 use Rattle.rules.proofs.Words.{is_begun_after, is_for_transfer, is_on, is_pending_state, IsLineOf, Lapse, LapseContact, LapseDomain, Line}
 use Rattle.rules.proofs.Words.{list_any, MoveClock, OpenAccount, PolicyRules, PutDomain, RefundRunning, RefundTransfer}
@@ -255,9 +255,11 @@ lines-changed p (MoveClock t) s fits is = absurd fits
 lines-changed p (OpenAccount r) s fits is = lines-counted p s r itself (λ a. refl) (λ a. omega arith) is
 lines-changed p (PutDomain d) s fits is = lines-objects p s _ refl refl (at-put (λ n. HasLinesOn s) s.domains d.name d fits is.domains) is
 lines-changed p (DropDomain dropped) s fits is = lines-objects p s _ refl refl (λ name e at. is.domains name e (drop-cases s.domains dropped name e at).1) is
-lines-changed p (RenameHost old new) s fits is = lines-objects p s _ refl refl (λ name e at.
-    let was = remade-cases (with_host_renamed old new) s.domains name e at in
-    subst (HasLinesOn s) was.2 (on-as-before s was.0 (with_host_renamed old new was.0) (as-before refl refl refl refl refl) (is.domains name was.0 was.1))) is
+lines-changed p (RenameHost old h) s fits is = cond_both (may_rename s.hosts old h.name) (host_renamed old h s) s (HasLines p)
+    (λ may. lines-objects p s (host_renamed old h s) refl refl (λ name e at.
+    let was = remade-cases (with_host_renamed old h.name) s.domains name e at in
+    subst (HasLinesOn s) was.2 (on-as-before s was.0 (with_host_renamed old h.name was.0) (as-before refl refl refl refl refl) (is.domains name was.0 was.1))) is)
+    (λ else. is)
 lines-changed p (LapseContact name left) s fits is = absurd fits
 lines-changed p (LapseDomain name left) s fits is = absurd fits
 lines-changed p (Post r what) s fits is = lines-account p r what s fits is

@@ -31,7 +31,7 @@ module _ (p : PolicyRules) (sound : IsSound p) (r : ℕ) (cl_trid : Option (List
     contact_updated = λ u c at. (tt, tt);
     domain_updated = λ u d it linked. (again (name_of u.name) d (updated_domain s.clock u d) it.at refl refl refl, tt);
     host_updated = λ u h it. (tt, tt);
-    host_renamed = λ u name h it free based. (tt, (tt, (tt, tt)));
+    host_renamed = λ u name h it free based. (tt, tt);
     renewed = λ name expires years d it fits. (again (name_of name) d (renewed_domain s.clock years d) it.at refl refl refl, (inl refl, tt));
     restoring = λ name d at. (again (name_of name) d (restoring_domain s.clock d) at refl refl refl, tt);
     restored = λ name del_time res_time d it. (again (name_of name) d (restored_domain s.clock d) it.at refl refl refl, (inl refl, tt));

@@ -120,7 +120,7 @@ module _ (p : PolicyRules) (r : ℕ) (s : Registry) where
     contact_updated = λ u c at. (tt, tt);
     domain_updated = λ u d it linked. (tt, tt);
     host_updated = λ u h it. (tt, tt);
-    host_renamed = λ u name h it free based. (tt, (tt, (tt, tt)));
+    host_renamed = λ u name h it free based. (tt, tt);
     renewed = λ name expires years d it fits. (tt, ((refl, payable _ it.paid), tt));
     restoring = λ name d at. (tt, tt);
     restored = λ name del_time res_time d it. (tt, ((refl, payable _ it.paid), tt));

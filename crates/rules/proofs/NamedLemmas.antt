@@ -66,19 +66,6 @@ module _ {X : Type 0} (m : FinMap (slice_cmp nat_cmp) X) (k : List ℕ) where
       let found = there-is (get (remove m k) n) there in
       is-there (get m n) found.0 (drop-cases n found.0 found.1).1
 
-  -- a name goes and another comes, in either order
-  pub swap-names : (n : List ℕ) (v : X) → n ≢ k → insert (remove m k) n v ≡ remove (insert m n v) k
-  swap-names n v other = same_map nat_list_cmp_total (slice_cmp-IsAntisymmetric nat_cmp-IsAntisymmetric) (insert (remove m k) n v) (remove (insert m n v) k)
-      (λ q. get-insert nat_list_cmp_total (remove m k) n v q
-      ∙ ap (λ (o : Option X). cond (eq_by_cmp (slice_cmp nat_cmp) q n) (Some v) o) (get-remove nat_list_cmp_total m k q)
-      ∙ by q (eq_by_cmp (slice_cmp nat_cmp) q n) (eq_by_cmp (slice_cmp nat_cmp) q k) refl refl
-      ∙ ap (λ (o : Option X). cond (eq_by_cmp (slice_cmp nat_cmp) q k) None o) (sym (get-insert nat_list_cmp_total m n v q))
-      ∙ sym (get-remove nat_list_cmp_total (insert m n v) k q))
-    where
-      by : (q : List ℕ) (a b : Bool) → eq_by_cmp (slice_cmp nat_cmp) q n ≡ a → eq_by_cmp (slice_cmp nat_cmp) q k ≡ b → cond a (Some v) (cond b None (get m q)) ≡ cond b None (cond a (Some v) (get m q))
-      by q true true first second = absurd (other (sym (same_name q n first) ∙ same_name q k second))
-      by q a b first second = refl
-
 -- what is so of all at their names and of what is put
 pub at-put : {X : Type 0} (P : List ℕ → X → Type 0) (m : FinMap (slice_cmp nat_cmp) X) (k : List ℕ) (v : X) → P k v
     → ((n : List ℕ) (x : X) → get m n ≡ Some x → P n x) → (n : List ℕ) (x : X) → get (insert m k v) n ≡ Some x → P n x

@@ -1,6 +1,6 @@
 -- What a command or an order leaves of a registry in which nothing is due has nothing due in it.
 use Rattle.std.proofs.Common.{◌≡◌, inl, inr, ℕ, ◌+◌, ◌<◌, ◌≤◌, max, nat_le, Bool, false, cond, List, Option, Some, None, option_map, refl, sym, ap, subst, ◌∙◌, arith}
-use Rattle.rules.proofs.Words.{Asked, Bad, Change, changed, changed_all, ClientApproved, ClientCancelled, ClientRejected, Command, Contact}
+use Rattle.rules.proofs.Words.{host_renamed, may_rename, Asked, Bad, Change, changed, changed_all, ClientApproved, ClientCancelled, ClientRejected, Command, Contact}
 use Rattle.rules.proofs.Words.{decision, Deletion, Domain, domain_with_transfer, DropContact, DropDomain, due_by, effect, end}
 use Rattle.rules.proofs.Words.{ended, expiry, gained, get, handed_over, is_pending, IsDeletion, IsSettled, IsSound, LapseContact}
 use Rattle.rules.proofs.Words.{LapseDomain, last_clock, MoveClock, name_of, Order, order_decision, order_effect, ordered}
@@ -99,18 +99,21 @@ settled-changed p (DropDomain dropped) s none is = record {
   contacts = is.contacts;
   domains = λ name x at. is.domains name x (drop-cases s.domains dropped name x at).1;
 }
-settled-changed p (RenameHost old new) s none is = record {
-  contacts = is.contacts;
-  domains = λ name x at.
-      let was = remade-cases (with_host_renamed old new) s.domains name x at in
-      subst (λ (y : Domain). s.clock < due_at p y) was.2 (due-no-earlier p s.clock was.0 (with_host_renamed old new was.0) refl refl refl (omega arith) (is.domains name was.0 was.1));
-}
+settled-changed p (RenameHost old h) s none is = cond_both (may_rename s.hosts old h.name) (host_renamed old h s) s (IsSettled p)
+    (λ may. record {
+      contacts = is.contacts;
+      domains = λ name x at.
+          let was = remade-cases (with_host_renamed old h.name) s.domains name x at in
+          subst (λ (y : Domain). s.clock < due_at p y) was.2 (due-no-earlier p s.clock was.0 (with_host_renamed old h.name was.0) refl refl refl (omega arith) (is.domains name was.0 was.1));
+    })
+    (λ else. is)
 settled-changed p (LapseContact name left) s none is = absurd none
 settled-changed p (LapseDomain name left) s none is = absurd none
 settled-changed p _ s none is = record { contacts = is.contacts; domains = is.domains }
 
 stays : (p : PolicyRules) (t : ℕ) (change : Change) (s : Registry) → PutsNothingDue p t change → (changed p change s).clock ≡ s.clock
 stays p t (MoveClock u) s none = absurd none
+stays p t (RenameHost old h) s none = cond_both (may_rename s.hosts old h.name) (host_renamed old h s) s (λ (u : Registry). u.clock ≡ s.clock) (λ may. refl) (λ else. refl)
 stays p t _ s none = refl
 
 -- by the clock of the registry that the changes are made to
@@ -176,7 +179,7 @@ commands-settled p sound r cl_trid s early formed is = record {
   contact_updated = λ u c at. (is.contacts u.name c at, tt);
   domain_updated = λ u d it linked. (due-no-earlier p s.clock d (updated_domain s.clock u d) refl refl refl (omega arith) (is.domains (name_of u.name) d it.at), tt);
   host_updated = λ u h it. (tt, tt);
-  host_renamed = λ u name h it free based. (tt, (tt, (tt, tt)));
+  host_renamed = λ u name h it free based. (tt, tt);
   renewed = λ name expires years d it fits. (due-no-earlier p s.clock d (renewed_domain s.clock years d) refl refl refl (omega arith) (is.domains (name_of name) d it.at), (tt, tt));
   restoring = λ name d at. (restoring-ahead p sound s.clock d (is.domains (name_of name) d at), tt);
   restored = λ name del_time res_time d it. (restored-ahead p s s.clock d (formed (name_of name) d it.at) (is.domains (name_of name) d it.at), (tt, tt));

@@ -2,7 +2,7 @@
 use Rattle.std.proofs.Common.{◌≡◌, ℕ, ◌-◌, ◌<◌, ◌≤◌, max, nat_lt, true, false, List, length, Option, Some, None, IsSome, is_some, refl, sym, subst, ◌∙◌, arith}
 use Rattle.std.proofs.Common.{inl, inr, zero, suc, ◌+◌, ◌/◌, min}
 use Rattle.std.specs.Option.{IfSome}
-use Rattle.rules.proofs.Words.{adds_what_is_there, AreSetsWithin, CanBeAsked, cases_lt, Change, changed, changed_all}
+use Rattle.rules.proofs.Words.{host_renamed, may_rename, adds_what_is_there, AreSetsWithin, CanBeAsked, cases_lt, Change, changed, changed_all}
 use Rattle.rules.proofs.Words.{Asked, Bad, ClientApproved, ClientCancelled, ClientRejected, Command, decision, deleted_domain, Domain}
 use Rattle.rules.proofs.Words.{changes_after, cond_both, domains_at, DropDomain, DropHost, expiry, false_from_ne_true}
 use Rattle.rules.proofs.Words.{domain_with_transfer, DomainUpdate, effect, ended, Facts, gained, get, RequestedName, handed_over, has_name}
@@ -109,7 +109,7 @@ renewed-end t created years more early fits h =
 abbrev pub FitsShapes : PolicyRules → Change → Registry → Type 0
 FitsShapes p (PutDomain d) s = IsShaped p.zone d
 FitsShapes p (PutHost h) s = IsShapedHost p.zone h
-FitsShapes p (RenameHost old new) s = (name : List ℕ) (d : Domain) → get s.domains name ≡ Some d → has_name d.links.hosts new ≡ false
+FitsShapes p (RenameHost old h) s = IsShapedHost p.zone h × ((name : List ℕ) (d : Domain) → get s.domains name ≡ Some d → has_name d.links.hosts h.name ≡ false)
 FitsShapes p (LapseDomain name left) s = ⊥
 FitsShapes p _ s = Unit {0}
 
@@ -131,12 +131,14 @@ shapes-changed p (DropDomain dropped) s fits is = record { domains = λ name e a
 shapes-changed p (PutHost h) s fits is =
     record { domains = is.domains; hosts = at-put (λ n. IsShapedHost p.zone) s.hosts h.name h fits is.hosts }
 shapes-changed p (DropHost dropped) s fits is = record { domains = is.domains; hosts = λ name g at. is.hosts name g (drop-cases s.hosts dropped name g at).1 }
-shapes-changed p (RenameHost old new) s fits is = record {
-  domains = λ name e at.
-      let was = remade-cases (with_host_renamed old new) s.domains name e at in
-      subst (IsShaped p.zone) was.2 (shape-renamed p.zone old new was.0 (fits name was.0 was.1) (is.domains name was.0 was.1));
-  hosts = is.hosts;
-}
+shapes-changed p (RenameHost old h) s fits is = cond_both (may_rename s.hosts old h.name) (host_renamed old h s) s (HasShapes p.zone)
+    (λ may. record {
+      domains = λ name e at.
+          let was = remade-cases (with_host_renamed old h.name) s.domains name e at in
+          subst (IsShaped p.zone) was.2 (shape-renamed p.zone old h.name was.0 (fits.1 name was.0 was.1) (is.domains name was.0 was.1));
+      hosts = at-put (λ n. IsShapedHost p.zone) (remove s.hosts old) h.name h fits.0 (λ name g at. is.hosts name g (drop-cases s.hosts old name g at).1);
+    })
+    (λ else. is)
 shapes-changed p (LapseDomain name left) s fits is = absurd fits
 shapes-changed p _ s fits is = record { domains = is.domains; hosts = is.hosts }
 
@@ -263,7 +265,7 @@ commands-fit p r cl_trid s is has early = record {
   contact_updated = λ u c at askable. (tt, tt);
   domain_updated = λ u d it linked askable. (shape-updated p.zone s.clock s u d it (has.domains (name_of u.name) d it.at), tt);
   host_updated = λ u h it askable. (shape-host p r s u None h askable it (has.hosts (name_of u.name) h it.at), tt);
-  host_renamed = λ u name h it free based askable. (shape-host p r s u (Some name) h askable it (has.hosts (name_of u.name) h it.at), (unnamed p s is (name_of name) free, (tt, tt)));
+  host_renamed = λ u name h it free based askable. ((shape-host p r s u (Some name) h askable it (has.hosts (name_of u.name) h it.at), unnamed p s is (name_of name) free), tt);
   renewed = λ name expires years d it fits askable. (again p s has (name_of name) d (renewed_domain s.clock years d) it.at refl refl (renewed-end s.clock d.created d.years years early fits), (tt, tt));
   restoring = λ name d at askable. (again p s has (name_of name) d (restoring_domain s.clock d) at refl refl (λ h. h), tt);
   restored = λ name del_time res_time d it askable. (again p s has (name_of name) d (restored_domain s.clock d) it.at refl refl (turns-end d s.clock early), (tt, tt));

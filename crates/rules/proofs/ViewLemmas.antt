@@ -1,6 +1,6 @@
 -- The facts of a command lie in the view, and each change is seen by the view alone.
 use Rattle.std.proofs.Common.{◌≡◌, ◌⊎◌, ⊎_elim, ℕ, ◌≤◌, ◌+◌, ◌==◌, suc, Bool, true, false, cond, List, [], ◌∷◌, map, filter, length, Option, Some, None, refl, sym, ap, subst, ◌∙◌, arith}
-use Rattle.rules.proofs.Words.{Account, account_of, Change, changed, changed_all, Command, Contact, contact_as, Domain, domain_sight}
+use Rattle.rules.proofs.Words.{host_renamed, may_rename, Account, account_of, Change, changed, changed_all, Command, Contact, contact_as, Domain, domain_sight}
 use Rattle.rules.proofs.Words.{DomainFace, DropContact, DropDomain, DropHost, entries, eq_by_cmp, eq_by_cmp_equiv, Equal-is, facts, FinMap}
 use Rattle.rules.proofs.Words.{FullDomain, get, get-insert, Post, Graces, graces_of, insert, is_below, is_party, LapseContact, LapseDomain}
 use Rattle.rules.proofs.Words.{Line, Links, list_any, lookups, map_values, MoveClock, names_contact, names_host, nat_cmp}
@@ -150,6 +150,10 @@ own_graces p r clock lines sponsor roid transferred g = cond (eq_by_cmp nat_cmp 
 abbrev with_seen_account : PolicyRules → ℕ → Account → View → View
 with_seen_account p r a v = record v { account = a; domains = map_values (λ name. regraced (own_graces p r v.clock a.lines)) v.domains }
 
+-- a host under a new name
+abbrev seen_renamed : List ℕ → Host → View → View
+seen_renamed old h v = record v { hosts = insert (remove v.hosts old) h.name h; domains = map_values (λ name. relinked_seen old h.name) v.domains }
+
 seen_change : PolicyRules → ℕ → Change → View → View
 seen_change p r (OpenAccount other) v = record v { account = own r other itself v.account }
 seen_change p r (PutContact c) v = record v { contacts = insert v.contacts c.name (contact_as r None c) }
@@ -158,7 +162,7 @@ seen_change p r (PutDomain d) v = record v { domains = insert v.domains d.name (
 seen_change p r (DropDomain name) v = record v { domains = remove v.domains name }
 seen_change p r (PutHost h) v = record v { hosts = insert v.hosts h.name h }
 seen_change p r (DropHost name) v = record v { hosts = remove v.hosts name }
-seen_change p r (RenameHost old new) v = record v { domains = map_values (λ name. relinked_seen old new) v.domains }
+seen_change p r (RenameHost old h) v = cond (may_rename v.hosts old h.name) (seen_renamed old h v) v
 seen_change p r (Post other what) v = with_seen_account p r (own r other (account_changed p what) v.account) v
 seen_change p r _ v = v
 
@@ -266,6 +270,11 @@ relinked-view p r s old new m =
     ∙ sym (map_values-twice (slice_cmp nat_cmp) nat_list_cmp_total names_apart (λ name. domain_sight p r s None) (λ name. relinked_seen old new) (λ name d. domain_sight p r s None (with_host_renamed old new d))
     (λ name d. sym (seen-relinked r None old new (standing_of p s d) d)) m)
 
+view-renamed : (p : PolicyRules) (r : ℕ) (s : Registry) (old : List ℕ) (h : Host) (b : Bool) → view p r (cond b (host_renamed old h s) s) ≡ cond b (seen_renamed old h (view p r s)) (view p r s)
+view-renamed p r s old h true =
+    ap (λ (m : FinMap (slice_cmp nat_cmp) (Seen FullDomain DomainFace)). record (view p r s) { hosts = insert (remove s.hosts old) h.name h; domains = m }) (relinked-view p r s old h.name s.domains)
+view-renamed p r s old h false = refl
+
 -- ---- each change, by what is seen
 
 -- What is asked of a change in a registry: a domain that is put has the graces that can be told from
@@ -287,7 +296,7 @@ view-changed p r (OpenAccount other) s meets = view-account p r other itself (λ
 view-changed p r (PutContact c) s meets = ap (λ m. record (view p r s) { contacts = m }) (map_values-insert (slice_cmp nat_cmp) nat_list_cmp_total names_apart (λ name. contact_as r None) s.contacts c.name c)
 view-changed p r (DropContact name) s meets = ap (λ m. record (view p r s) { contacts = m }) (map_values-remove (slice_cmp nat_cmp) nat_list_cmp_total names_apart (λ name. contact_as r None) s.contacts name)
 view-changed p r (DropDomain name) s meets = ap (λ (m : FinMap (slice_cmp nat_cmp) (Seen FullDomain DomainFace)). record (view p r s) { domains = m }) (map_values-remove (slice_cmp nat_cmp) nat_list_cmp_total names_apart (λ name. domain_sight p r s None) s.domains name)
-view-changed p r (RenameHost old new) s meets = ap (λ m. record (view p r s) { domains = m }) (relinked-view p r s old new s.domains)
+view-changed p r (RenameHost old h) s meets = view-renamed p r s old h (may_rename s.hosts old h.name)
 view-changed p r (PutDomain d) s meets =
     ap (λ (m : FinMap (slice_cmp nat_cmp) (Seen FullDomain DomainFace)). record (view p r s) { domains = m })
     (map_values-insert (slice_cmp nat_cmp) nat_list_cmp_total names_apart (λ name. domain_sight p r s None) s.domains d.name d

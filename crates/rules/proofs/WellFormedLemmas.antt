@@ -293,10 +293,6 @@ module _ (p : PolicyRules) (r : ℕ) (cl_trid : Option (List ℕ)) (s : Registry
       (updated-hosts (λ name. is_some (get s.contacts name)) (λ name. is_some (get s.hosts name)) u d.links linked k.stands.hosts)
       (kept.domains (name_of u.name) d it.at))
 
-  -- a name at which no host is isn't this host's
-  other-name : (name : List ℕ) (h : Host) → get s.hosts name ≡ Some h → (new : List ℕ) → is_some (get s.hosts new) ≡ false → new ≢ name
-  other-name name h at new free = λ same. let no : true ≡ false = sym (is-there (get s.hosts name) h at) ∙ ap (λ (n : List ℕ). is_some (get s.hosts n)) (sym same) ∙ free in cc
-
   -- ---- what is renewed and restored
 
   renewed : (name : List ℕ) (d : Domain) (years : ℕ) → get s.domains name ≡ Some d → HasObjects p (changed p (PutDomain (renewed_domain s.clock years d)) counted)
@@ -348,7 +344,7 @@ module _ (p : PolicyRules) (r : ℕ) (cl_trid : Option (List ℕ)) (s : Registry
         kept-put-host p counted kept (name_of u.name) h (host_with p r s.clock u None h) it.at refl (record { named = refl; roid = k.roid; belongs = k.belongs; created = k.created; updated = omega arith });
     host_renamed = λ u name h it free based.
         let k = kept.hosts (name_of u.name) h it.at in
-        rename-host p counted kept (name_of u.name) h (host_with p r s.clock u (Some name) h) it.at (other-name (name_of u.name) h it.at (name_of name) free) refl
+        rename-host p counted kept (name_of u.name) h (host_with p r s.clock u (Some name) h) it.at refl
         (record { named = refl; roid = k.roid; belongs = belongs-new p r s place is (name_of name) based; created = k.created; updated = omega arith }) (undeleted-new p r s place is (name_of name) based);
     renewed = λ name expires years d it fits.
         let q : Request = requests.RenewDomain name expires years in

@@ -105,7 +105,7 @@ pub use Rattle.protocol.specs.declared.command.Request.{Request}
 pub use Rattle.protocol.specs.declared.order.Order.{Order}
 pub use Rattle.protocol.specs.declared.transfer.TransferOp.{TransferOp}
 pub use Rattle.rules.specs.Askable.{CanBeAsked, IsAskable}
-pub use Rattle.rules.specs.Changes.{changed, changed_all, renamed, with_account, with_host_renamed, links_with_host_renamed}
+pub use Rattle.rules.specs.Changes.{changed, changed_all, host_renamed, may_rename, renamed, with_account, with_host_renamed, links_with_host_renamed}
 pub use Rattle.rules.specs.Decisions.{charge, charge_line, deleted_domain, new_domain, renewed_domain, restored_domain, restoring_domain, updated_domain, decided, more_years, updated_contact}
 unfoldable pub use Rattle.rules.specs.Decisions.{changes_of, changes_after}
 pub use Rattle.rules.specs.Orders.{order_decision, order_effect, ordered, cents_of, deposit_line, deposited, deposited_to, order_changes}

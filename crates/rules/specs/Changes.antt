@@ -1,6 +1,6 @@
 -- The changes of a registry.
-use Rattle.std.specs.Prelude.{ℕ, List, filter, not, fold, max, if◌then◌else◌}
-use Rattle.std.specs.FinMap.{insert, remove}
+use Rattle.std.specs.Prelude.{◌&&◌, ℕ, Bool, List, filter, not, fold, is_some, max, if◌then◌else◌}
+use Rattle.std.specs.FinMap.{FinMap, get, insert, remove}
 use Rattle.std.specs.Ordering.{nat_cmp}
 use Rattle.std.specs.Cmp.Lexicographic.{slice_cmp}
 use Rattle.std.specs.Str.{bytes_eq}
@@ -11,6 +11,7 @@ use Rattle.basis.specs.Bag.{add, precedes}
 use Rattle.basis.specs.Maps.{map_values}
 use Rattle.objects.specs.declared.domain.Domain.{Domain}
 use Rattle.objects.specs.declared.domain.Links.{Links}
+use Rattle.objects.specs.declared.host.Host.{Host}
 use Rattle.objects.specs.Links.{has_name}
 use Rattle.rules.specs.declared.change.Change.{Change}
 use Rattle.rules.specs.declared.change.Change.TheVariants.{MoveClock, OpenAccount, PutContact, DropContact, PutDomain, DropDomain, PutHost, DropHost, RenameHost, LapseContact, LapseDomain, Post}
@@ -34,6 +35,17 @@ links_with_host_renamed old new links = record links { hosts = renamed old new l
 abbrev pub with_host_renamed : List ℕ → List ℕ → Domain → Domain
 with_host_renamed old new d = record d { links = links_with_host_renamed old new d.links }
 
+-- there is a host of the one name, and none of the other
+abbrev pub may_rename : FinMap (slice_cmp nat_cmp) Host → List ℕ → List ℕ → Bool
+may_rename hosts old new = is_some (get hosts old) && not (is_some (get hosts new))
+
+-- a host under a new name, which every domain that named it has in the old one's place
+abbrev pub host_renamed : List ℕ → Host → Registry → Registry
+host_renamed old h s = record s {
+  hosts = insert (remove s.hosts old) h.name h;
+  domains = map_values (λ name. with_host_renamed old h.name) s.domains;
+}
+
 -- One change. The clock moves and nothing else: what lapses is a list of changes of its own. An
 -- account that is opened and was there stays as it is.
 abbrev pub changed : PolicyRules → Change → Registry → Registry
@@ -45,8 +57,7 @@ changed p (PutDomain d) s = record s { domains = insert s.domains d.name d }
 changed p (DropDomain name) s = record s { domains = remove s.domains name }
 changed p (PutHost h) s = record s { hosts = insert s.hosts h.name h }
 changed p (DropHost name) s = record s { hosts = remove s.hosts name }
-changed p (RenameHost old new) s =
-    record s { domains = map_values (λ name. with_host_renamed old new) s.domains }
+changed p (RenameHost old h) s = if may_rename s.hosts old h.name then host_renamed old h s else s
 changed p (LapseContact name left) s = record s { contacts = put_or_drop s.contacts name left }
 changed p (LapseDomain name left) s = record s { domains = put_or_drop s.domains name left }
 changed p (Post r what) s = with_account r (account_changed p what) s

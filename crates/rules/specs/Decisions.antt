@@ -253,10 +253,10 @@ abbrev pub deletion_at : ℕ → ℕ → Option DomainFacts → List Change
 deletion_at r t None = []
 deletion_at r t (Some known) = deletion_changes r t known known.seen
 
--- A host gets a new name: it stands under both until the domains that named it name it anew.
+-- a host is put under its name, or goes to it from the one that it had
 abbrev pub renaming : List ℕ → Host → Option RequestedName → List Change
 renaming old h None = PutHost h ∷ []
-renaming old h (Some name) = PutHost h ∷ RenameHost old (name_of name) ∷ DropHost old ∷ []
+renaming old h (Some name) = RenameHost old h ∷ []
 
 abbrev pub host_changes : ZoneRules → ℕ → ℕ → HostUpdate → Option Host → List Change
 host_changes zone r t u None = []

@@ -24,8 +24,9 @@ pub enum Change {
     PutHost(HostRecord),
     /// There is no such host any more.
     DropHost(Text),
-    /// Every domain that names the host of the one name names that of the other in its place.
-    RenameHost { from: Text, to: Text },
+    /// Where there is a host of the one name and none of this one's, this one takes its place, and every domain that
+    /// named it by that name names it by its new one.
+    RenameHost { from: Text, host: HostRecord },
     /// What time left under a contact's name: the contact, or none.
     LapseContact(Text, Option<ContactRecord>),
     /// What time left under a domain's name: the domain, or none.

@@ -457,7 +457,7 @@ fn update_host(
     put_host(alloc, update.name.text(), updated, update.new_name.as_ref())
 }
 
-/// A host gets a new name: it stands under both until the domains that named it name it anew.
+/// A host is put under its name, or goes to it from the one that it had.
 fn put_host(
     alloc: Global,
     old: &Text,
@@ -467,13 +467,9 @@ fn put_host(
     ensures { IfOk result (λ changes. changes.items
         ≡ spec.renaming old.now host (option_copied new_name.entry)) }
 {
-    let Some(new) = new_name else {
+    if new_name.is_none() {
         return only(alloc, Change::PutHost(host));
-    };
-    let (dropped, from, to) = (old.clone()?, old.clone()?, new.text().clone()?);
-    Ok(vec![in alloc;
-        Change::PutHost(host),
-        Change::RenameHost { from, to },
-        Change::DropHost(dropped),
-    ]?)
+    }
+    let from = old.clone()?;
+    only(alloc, Change::RenameHost { from, host })
 }

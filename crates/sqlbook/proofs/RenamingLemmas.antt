@@ -22,7 +22,8 @@ use Rattle.policy.specs.declared.schedule.Schedule.{Schedule}
 use Rattle.rules.specs.Changes.{renamed, with_host_renamed}
 use Rattle.store.specs.Book.{Stored}
 use Rattle.store.specs.Ledgers as store
-use Rattle.store.specs.Tables.{host_moved, host_put, with_domains}
+use Rattle.store.specs.Tables.{host_put, with_domains}
+use Rattle.sqlbook.specs.inner.Renaming.{renamed_there}
 use Rattle.sqltables.specs.Account as account_table
 use Rattle.sqltables.specs.Content.{Content}
 use Rattle.sqltables.specs.Domain as table
@@ -97,7 +98,7 @@ module _ (from : List ℕ) (h : Host) (xs ys : Content) (it : IsRowRenamed from 
       may_be_numbered (it.metas i)
       && (sums_are_right (record ys { accounts = it.accounts i; lines = it.lines i; messages = it.messages i }) && (helds i && (dues i && it.sponsors i)))
 
-  pub row-changed : stored_of ys ≡ with_domains (map_values (λ name. after) (domains_of xs)) (host_put h.name (Some h) (host_put from None (stored_of xs)))
+  row-changed : stored_of ys ≡ with_domains (map_values (λ name. after) (domains_of xs)) (host_put h.name (Some h) (host_put from None (stored_of xs)))
   row-changed = λ i. record {
     registry = record {
       contacts = it.contacts i;
@@ -109,23 +110,5 @@ module _ (from : List ℕ) (h : Host) (xs ys : Content) (it : IsRowRenamed from 
     terms = terms_of (record ys { metas = it.metas i; days = it.days i; accounts = it.accounts i });
   }
 
--- ---- the host leaves its old name before or after it gets the new one
-
-module _ (m : Hosts) (from to : List ℕ) (x : Host) (apart : from ≡ to → ⊥) where
-  at-each : (q : List ℕ) (b c : Bool) → bytes_eq q from ≡ b → bytes_eq q to ≡ c → cond c (Some x) (cond b None (get m q)) ≡ cond b None (cond c (Some x) (get m q))
-  at-each q true true e f = absurd (apart (sym (bytes_is q from e) ∙ bytes_is q to f))
-  at-each q true false e f = refl
-  at-each q false true e f = refl
-  at-each q false false e f = refl
-
-  swapped : store.put (store.put m from None) to (Some x) ≡ store.put (store.put m to (Some x)) from None
-  swapped = same_map nat_list_cmp_total names_apart _ _ (λ q.
-      get-insert nat_list_cmp_total (store.put m from None) to x q
-      ∙ ap (λ o. cond (bytes_eq q to) (Some x) o) (get-remove nat_list_cmp_total m from q)
-      ∙ at-each q (bytes_eq q from) (bytes_eq q to) refl refl
-      ∙ sym (get-remove nat_list_cmp_total (store.put m to (Some x)) from q ∙ ap (λ o. cond (bytes_eq q from) None o) (get-insert nat_list_cmp_total m to x q)))
-
-pub row-moved : (from : List ℕ) (h : Host) (xs ys : Content) → IsRowRenamed from h xs ys → stored_of ys ≡ host_moved from h (stored_of xs)
-row-moved from h xs ys it =
-    row-changed from h xs ys it
-    ∙ (λ i. record (host_moved from h (stored_of xs)) { registry = record ((host_moved from h (stored_of xs)).registry) { hosts = swapped (hosts_of xs) from h.name h it.apart i } })
+pub row-renamed : (from : List ℕ) (h : Host) (xs ys : Content) → IsRowRenamed from h xs ys → stored_of ys ≡ renamed_there from h (stored_of xs)
+row-renamed from h xs ys it = row-changed from h xs ys it

@@ -4,7 +4,7 @@ ghost use Rattle.store.specs.Tables as tables;
 ghost use Rattle.sqlrows.specs.Meanings.{Changes};
 ghost use Rattle.transactions.specs.States.{FindsSome};
 ghost use Rattle.sqlbook.specs.Meaning.{are_right, stored_of};
-ghost use Rattle.sqlbook.specs.inner.Replacing.{IsCheckedDomain, IsExchanged, IsExchangedThere, IsReplaced, due_with, with_renamed};
+ghost use Rattle.sqlbook.specs.inner.Replacing.{IsCheckedDomain, IsExchanged, IsExchangedThere, IsReplaced, due_with};
 ghost use Rattle.sqlbook.specs.AsBook.{MakesAs};
 ghost use Rattle.sqldomains.specs.inner.Changes.{IsDomainPut, sponsor_in};
 
@@ -18,7 +18,6 @@ use sqlobjects::set_sponsor_below;
 use sqlsums::{checked_domain, due_of_domain, recount, same_days};
 use sqltables::RowStore;
 use std::alloc::Global;
-use store::with_host_renamed;
 use transactions::BookFault;
 
 /// The domain stands under this name, which has to be its own. Refused is a policy with other days than
@@ -50,47 +49,6 @@ pub fn drop_domain<S: Alter>(
         (tables.domain_put name None (stored_of store.old.content)) store.old store.new }
 {
     replace(store, alloc, &name, &None, Moment::first(), policy)
-}
-
-/// The domain that stands under a name, if there is one, names the host of the one name by the other.
-pub fn rename_host<S: Alter>(
-    store: &mut RowStore<S>,
-    alloc: Global,
-    domain: &Text,
-    from: &Text,
-    to: &Text,
-    policy: &Policy,
-) -> Result<(), BookFault>
-    requires { store.old.is_open ≡ true }
-    ensures { MakesAs result stored_of are_right (tables.host_renamed from.now to.now domain.now
-        (stored_of store.old.content)) store.old store.new }
-{
-    let before = sqldomains::domain(store, alloc, domain)?;
-    let renamed = put_renamed(store, alloc, domain, &before, from, to, policy);
-    drop(before);
-    renamed
-}
-
-/// The same, told what stands under the name.
-fn put_renamed<S: Alter>(
-    store: &mut RowStore<S>,
-    alloc: Global,
-    name: &Text,
-    before: &Option<Domain>,
-    from: &Text,
-    to: &Text,
-    policy: &Policy,
-) -> Result<(), BookFault>
-    requires { store.old.is_open ≡ true }
-    ensures { MakesAs result stored_of are_right (with_renamed from.now to.now name.now before.now
-        (stored_of store.old.content)) store.old store.new }
-{
-    let Some(before) = before else {
-        return Ok(());
-    };
-    let name = name.clone()?;
-    let renamed = with_host_renamed(alloc, from, to, before)?;
-    put_domain(store, alloc, name, renamed, policy)
 }
 
 /// The domain that stands under a name, whose row was right, under the days that were put down.

@@ -200,11 +200,6 @@ impl<S: Alter, O: Provenance<S>> Records for SqlRecords<S, O> {
         rollback_on_fault::<S, O, _>(&mut self.store, said)
     }
 
-    fn domains_naming(&mut self, host: &Text) -> Result<Seq<Text>, BookFault> {
-        let said = sqldomains::domains_naming(&mut self.store, self.alloc, host);
-        rollback_on_fault::<S, O, _>(&mut self.store, said)
-    }
-
     fn is_at_holding_limit(&mut self, registrar: RegistrarNo) -> Result<bool, BookFault> {
         let said = sqlsums::is_at_holding_limit(&mut self.store, registrar, HOLDING_LIMIT);
         rollback_on_fault::<S, O, _>(&mut self.store, said)
@@ -300,26 +295,8 @@ impl<S: Alter, O: Provenance<S>> Records for SqlRecords<S, O> {
         rollback_on_fault::<S, O, _>(&mut self.store, said)
     }
 
-    fn rename_host(
-        &mut self,
-        domain: &Text,
-        from: &Text,
-        to: &Text,
-        policy: &Policy,
-    ) -> Result<(), BookFault> {
-        let said = changed_domains::rename_host(
-            &mut self.store,
-            self.alloc,
-            domain,
-            from,
-            to,
-            policy,
-        );
-        rollback_on_fault::<S, O, _>(&mut self.store, said)
-    }
-
-    fn move_host(&mut self, from: &Text, host: &Host) -> Result<bool, BookFault> {
-        let said = renaming::move_host(&mut self.store, self.alloc, from, host);
+    fn rename_host(&mut self, from: Text, host: Host, _policy: &Policy) -> Result<(), BookFault> {
+        let said = renaming::rename_host(&mut self.store, self.alloc, &from, &host);
         rollback_on_fault::<S, O, _>(&mut self.store, said)
     }
 

@@ -1,7 +1,7 @@
 -- A stored registry with another value at one key.
-use Rattle.std.specs.Prelude.{ℕ, if◌then◌else◌, List, map, filter, fold, Option, Some, None}
+use Rattle.std.specs.Prelude.{ℕ, if◌then◌else◌, List, fold, Option, Some, None}
 use Rattle.std.specs.Cmp.Lexicographic.{slice_cmp}
-use Rattle.std.specs.FinMap.{FinMap, entries, get, insert}
+use Rattle.std.specs.FinMap.{FinMap}
 use Rattle.std.specs.Ordering.{nat_cmp}
 use Rattle.std.specs.Str.{bytes_eq}
 use Rattle.accounts.specs.declared.account.Account.{Account}
@@ -9,17 +9,14 @@ use Rattle.accounts.specs.declared.line.Line.{Line}
 use Rattle.accounts.specs.declared.line.LineSwap.{LineSwap}
 use Rattle.accounts.specs.declared.message.Message.{Message}
 use Rattle.accounts.specs.Messages.{message_id}
-use Rattle.basis.specs.Maps.{map_values}
 use Rattle.objects.specs.declared.contact.Contact.{Contact}
 use Rattle.objects.specs.declared.domain.Domain.{Domain}
 use Rattle.objects.specs.declared.host.Host.{Host}
-use Rattle.objects.specs.Links.{names_host}
-use Rattle.rules.specs.Changes.{itself, with_account, with_host_renamed}
+use Rattle.rules.specs.Changes.{host_renamed as registry_renamed, itself, may_rename, with_account}
 use Rattle.accounts.specs.declared.counters.Counters.{Counters}
 use Rattle.store.specs.Book.{Stored}
 use Rattle.store.specs.Ledgers.{put, with_counted, with_line, with_notice, without_line, without_notice}
 use Rattle.model.specs.Lapse.{put_or_drop}
-use Rattle.model.specs.Registry.{Registry}
 
 abbrev pub clock_set : ℕ → Stored → Stored
 clock_set t s = record s { registry = record s.registry { clock = t } }
@@ -84,27 +81,7 @@ contact_left name left s = record s { registry = record s.registry { contacts = 
 abbrev pub domain_left : List ℕ → Option Domain → Stored → Stored
 domain_left name left s = with_domains (put_or_drop s.registry.domains name left) s
 
--- ---- a host's new name
-
--- the domains that name a host, by name
-abbrev pub domains_naming : List ℕ → Registry → List (List ℕ)
-domains_naming host s = map (λ e. e.0) (filter (λ e. names_host host e.1.links) (entries s.domains))
-
--- a value, where there is one, is another
-abbrev pub amended : {X : Type 0} → (X → X) → FinMap (slice_cmp nat_cmp) X → List ℕ → Option X
-    → FinMap (slice_cmp nat_cmp) X
-amended f m name None = m
-amended f m name (Some x) = insert m name (f x)
-
--- one domain names a host by its new name
-abbrev pub host_renamed : List ℕ → List ℕ → List ℕ → Stored → Stored
-host_renamed old new name s = with_domains (amended (with_host_renamed old new) s.registry.domains name (get s.registry.domains name)) s
-
--- domains name a host by its new name, one after another
-abbrev pub host_renamed_in : List ℕ → List ℕ → List (List ℕ) → Stored → Stored
-host_renamed_in old new names s = fold (λ s name. host_renamed old new name s) s names
-
--- a host goes to its new name, and each domain that named it names it by that: what `renaming` of the rules makes
-abbrev pub host_moved : List ℕ → Host → Stored → Stored
-host_moved from host s =
-    host_put from None (with_domains (map_values (λ name. with_host_renamed from host.name) s.registry.domains) (host_put host.name (Some host) s))
+-- a host goes to its new name, where there is such a host and no other has that
+abbrev pub host_renamed : List ℕ → Host → Stored → Stored
+host_renamed from host s =
+    record s { registry = if may_rename s.registry.hosts from host.name then registry_renamed from host s.registry else s.registry }

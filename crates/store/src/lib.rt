@@ -11,11 +11,9 @@ mod kept;
 mod once;
 mod posting;
 mod records;
-mod renamed;
 
 pub use book::Book;
 pub use kept::Kept;
 pub use once::OnceBook;
 pub use records::Records;
-pub use renamed::with_host_renamed;
 pub use transactions::{BookFault, Ready};

@@ -34,7 +34,7 @@ use transactions::{BookFault, Ready};
 /// content but where `back` leads. Each question is answered by a key or an index, and each change is
 /// one row put or dropped, but where its text says that all records are gone through.
 pub trait Records {
-    ghost use Rattle.store.specs.Records.{MayMake, RecordsState};
+    ghost use Rattle.store.specs.Records.{RecordsState};
     ghost use Rattle.transactions.specs.States.{IsIdle};
 
     /// How they stand.
@@ -136,10 +136,6 @@ pub trait Records {
     fn hosts_below(&mut self, domain: &Text) -> Result<Seq<Text>, BookFault>
         ensures { Finds result (facts.subordinate (kept self.old).content.registry domain.now) (kept self.old) (kept self.new) };
 
-    /// The domains that name a host, in the order of their names.
-    fn domains_naming(&mut self, host: &Text) -> Result<Seq<Text>, BookFault>
-        ensures { Finds result (tables.domains_naming host.now (kept self.old).content.registry) (kept self.old) (kept self.new) };
-
     /// Whether the registrar holds as many domains as it may.
     fn is_at_holding_limit(&mut self, registrar: RegistrarNo) -> Result<bool, BookFault>
         ensures { Finds result (nat_le HOLDING_LIMIT (facts.held registrar (kept self.old).content.registry)) (kept self.old) (kept self.new) };
@@ -228,23 +224,11 @@ pub trait Records {
         requires { (kept self.old).is_open ≡ true }
         ensures { Makes result (tables.host_put name None (kept self.old).content) (kept self.old) (kept self.new) };
 
-    /// The domain that stands under a name, if there is one, names the host of the one name by the
-    /// other.
-    fn rename_host(
-        &mut self,
-        domain: &Text,
-        from: &Text,
-        to: &Text,
-        policy: &Policy,
-    ) -> Result<(), BookFault>
+    /// A host goes from one name to that of its own, and each domain that named it names it by that. Where there is
+    /// no host of the one name, or one of the other, nothing is changed.
+    fn rename_host(&mut self, from: Text, host: Host, policy: &Policy) -> Result<(), BookFault>
         requires { (kept self.old).is_open ≡ true }
-        ensures { Makes result (tables.host_renamed from.now to.now domain.now (kept self.old).content) (kept self.old) (kept self.new) };
-
-    /// A host goes to its new name, and each domain that named it names it by that, where the records can
-    /// make it at once: whether they did. What they don't is made by the calls above, one after another.
-    fn move_host(&mut self, from: &Text, host: &Host) -> Result<bool, BookFault>
-        requires { (kept self.old).is_open ≡ true }
-        ensures { MayMake result (tables.host_moved from.now host.now (kept self.old).content) (kept self.old) (kept self.new) };
+        ensures { Makes result (tables.host_renamed from host (kept self.old).content) (kept self.old) (kept self.new) };
 
     // ---- transactions
 

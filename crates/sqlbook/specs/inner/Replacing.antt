@@ -4,9 +4,6 @@ use Rattle.std.specs.FinMap.{get}
 use Rattle.sqlite_rules.specs.Lists.{Has}
 use Rattle.objects.specs.declared.domain.Domain.{Domain}
 use Rattle.policy.specs.declared.schedule.Schedule.{Schedule}
-use Rattle.rules.specs.Changes.{with_host_renamed}
-use Rattle.store.specs.Book.{Stored}
-use Rattle.store.specs.Tables.{amended, with_domains}
 use Rattle.sqltables.specs.Content.{Content}
 use Rattle.sqltables.specs.Domain as table
 use Rattle.sqltables.specs.inner.Whole.{IsWhole}
@@ -28,11 +25,6 @@ pub record IsCheckedDomain (name : List ℕ) (days : Schedule) (xs : Content) (d
 abbrev pub due_with : Option Domain → ℕ → Option ℕ
 due_with None due = None
 due_with (Some domain) due = Some due
-
--- what stands under a name, a domain or none, names the host of the one name by the other
-abbrev pub with_renamed : List ℕ → List ℕ → List ℕ → Option Domain → Stored → Stored
-with_renamed from to name before s =
-    with_domains (amended (with_host_renamed from to) s.registry.domains name before) s
 
 -- the registrars' domains are counted anew, and then the one is put in the place of the other
 pub record IsExchanged (name : List ℕ) (before after : Option Domain) (due : ℕ) (old new : Content) : Type 0 where

@@ -2,7 +2,7 @@ use Rattle.std.proofs.Common.{◌≡◌, ℕ, ◌++◌, List, filter, map}
 use Rattle.objects.specs.declared.domain.Domain.{Domain}
 use Rattle.objects.specs.Links.{names_host}
 use Rattle.mapbook.specs.Plain.{registry_in}
-use Rattle.store.specs.Tables.{domains_naming}
+use Rattle.mapbook.specs.Renaming.{domains_naming}
 use Rattle.mapbook.proofs.content.Content.domains_naming.Given as goal
 
 -- the names found, and those of what is left

@@ -1,12 +1,10 @@
 -- To give a host its new name in the domains that name it, one after another, is to give it in all.
-use Rattle.std.proofs.Common.{◌≡◌, ℕ, Bool, true, false, cond, not, ◌&&◌, T, map, filter, List, [], ◌∷◌, ◌++◌, take, drop, Option, Some, None, Result, refl, sym, ap, subst, ◌∙◌}
+use Rattle.std.proofs.Common.{◌≡◌, ℕ, Bool, true, false, cond, not, ◌&&◌, T, map, filter, List, [], ◌∷◌, Option, Some, None, refl, sym, ap, subst, ◌∙◌}
 use Rattle.std.specs.Prelude.{option_map}
 use Rattle.std.specs.Ordering.{is_lt}
 use Rattle.std.specs.Str.{bytes_eq}
 use Rattle.std.specs.declared.cmp.Ordering.{Ordering}
 use Rattle.std.specs.declared.cmp.Ordering.TheVariants.{Less, Equal, Greater}
-use Rattle.std.proofs.lemmas.List.{take-append-drop}
-use Rattle.std.proofs.lemmas.Slice.Eq.{bytes_eq-Decides}
 use Rattle.std.specs.Cmp.{Equal-is, eq_by_cmp_equiv}
 use Rattle.std.specs.Cmp.Lexicographic.{slice_cmp, nat_list_cmp_total}
 use Rattle.std.specs.FinMap.{FinMap, entries, entries_sorted, find, get, get-entries, insert, is_sorted, get-insert, same_map}
@@ -16,18 +14,11 @@ use Rattle.basis.specs.Bag.{add, precedes}
 use Rattle.basis.specs.Maps.{map_values}
 use Rattle.basis.proofs.MapLemmas.{names_apart, get-map_values}
 use Rattle.objects.specs.declared.domain.Domain.{Domain}
-use Rattle.objects.specs.declared.host.Host.{Host}
 use Rattle.objects.specs.Links.{names_host}
-use Rattle.policy.specs.Rules.{PolicyRules}
 use Rattle.rules.specs.Changes.{with_host_renamed}
-use Rattle.rules.specs.declared.change.Change.{Change}
-use Rattle.rules.specs.declared.change.Change.TheVariants.{DropHost, PutHost, RenameHost}
-use Rattle.transactions.specs.declared.fault.BookFault.{BookFault}
-use Rattle.store.specs.Book.{Stored, with_changes}
-use Rattle.store.specs.Records.{MayMake, RecordsState}
-use Rattle.transactions.specs.States.{Makes, Reads, Writes}
-use Rattle.store.specs.Tables.{amended, domains_naming, host_moved, host_renamed, host_renamed_in, with_domains}
-use Rattle.store.proofs.RecordsLemmas.{makes-on}
+use Rattle.store.specs.Book.{Stored}
+use Rattle.store.specs.Tables.{with_domains}
+use Rattle.mapbook.specs.Renaming.{amended, domains_naming, host_renamed_at, host_renamed_in}
 
 -- ---- entries in order
 
@@ -133,47 +124,12 @@ named-after test f (e ∷ es) h n at = by (test e.1) refl (named-after test f es
 in-domains : (old new : List ℕ) (names : List (List ℕ)) (s : Stored) → host_renamed_in old new names s ≡ with_domains (amended_all (with_host_renamed old new) s.registry.domains names) s
 unfolding amended_all
 in-domains old new [] s = refl
-in-domains old new (name ∷ names) s = in-domains old new names (host_renamed old new name s)
+in-domains old new (name ∷ names) s = in-domains old new names (host_renamed_at old new name s)
 
-all-renamed : (p : PolicyRules) (old new : List ℕ) (s : Stored) → host_renamed_in old new (domains_naming old s.registry) s ≡ with_changes p (RenameHost old new ∷ []) s
-all-renamed p old new s =
+-- in those that name it, one after another, is in all
+pub all-renamed : (old new : List ℕ) (s : Stored) → host_renamed_in old new (domains_naming old s.registry) s ≡ with_domains (map_values (λ name. with_host_renamed old new) s.registry.domains) s
+all-renamed old new s =
     in-domains old new (domains_naming old s.registry) s
     ∙ ap (λ (m : FinMap (slice_cmp nat_cmp) Domain). with_domains m s)
     (named-after (λ (d : Domain). names_host old d.links) (with_host_renamed old new) (entries s.registry.domains) (entries_sorted s.registry.domains) s.registry.domains (λ q d found. get-entries s.registry.domains q ∙ found)
     ∙ mapped (λ (d : Domain). names_host old d.links) (with_host_renamed old new) (not-linked old new) s.registry.domains)
-
--- ---- as it is made in records
-
-pub renames-found : {A : Type 0} (result : Result A BookFault) (p : PolicyRules) (old new : List ℕ) (names : List (List ℕ)) (s m t : RecordsState)
-    → Reads s m × (m.is_clean ≡ true → names ≡ domains_naming old s.content.registry) → Makes result (host_renamed_in old new names m.content) m t
-    → Makes result (with_changes p (RenameHost old new ∷ []) s.content) s t
-renames-found result p old new names s m t read made =
-    makes-on result s m t (host_renamed_in old new names m.content) (with_changes p (RenameHost old new ∷ []) s.content) read.0.clean read.0.before read.0.answers read.0.leaves
-    (λ e.
-    ap (λ (ns : List (List ℕ)). host_renamed_in old new ns m.content) (read.1 e) ∙ ap (host_renamed_in old new (domains_naming old s.content.registry)) (read.0.content e)
-    ∙ all-renamed p old new s.content) made
-
--- ---- at once
-
-pub moved-at-once : (result : Result Bool BookFault) (p : PolicyRules) (put renamed dropped : Change) (host : Host) (old new gone : List ℕ) (held : Stored) (s t : RecordsState)
-    → put ≡ PutHost host → renamed ≡ RenameHost old new → dropped ≡ DropHost gone → bytes_eq host.name new ≡ true → bytes_eq old gone ≡ true
-    → MayMake result (host_moved old host held) s t → MayMake result (with_changes p (put ∷ renamed ∷ dropped ∷ []) held) s t
-moved-at-once result p put renamed dropped host old new gone held s t one two three named same =
-    let second : RenameHost old host.name ≡ renamed = ap (RenameHost old) ((bytes_eq-Decides host.name new).0 named) ∙ sym two in
-    let third : DropHost old ≡ dropped = ap DropHost ((bytes_eq-Decides old gone).0 same) ∙ sym three in
-    subst (λ (after : Stored). MayMake result after s t) (λ i. with_changes p (sym one i ∷ second i ∷ third i ∷ []) held)
-
--- ---- a list of changes in two parts
-
-with_both : (p : PolicyRules) (first last : List Change) (held : Stored) → with_changes p (first ++ last) held ≡ with_changes p last (with_changes p first held)
-with_both p [] last held = refl
-with_both p (change ∷ first) last held = with_both p first last (with_changes p (change ∷ []) held)
-
-pub makes-both : {A : Type 0} (result : Result A BookFault) (p : PolicyRules) (n : ℕ) (changes first last : List Change) (s m t : RecordsState)
-    → first ≡ take n changes → last ≡ drop n changes → Writes (with_changes p first s.content) s m → Makes result (with_changes p last m.content) m t
-    → Makes result (with_changes p changes s.content) s t
-makes-both result p n changes first last s m t one two made more =
-    makes-on result s m t (with_changes p last m.content) (with_changes p changes s.content) made.clean made.before made.answers made.leaves
-    (λ e.
-    ap (with_changes p last) (made.content e) ∙ sym (with_both p first last s.content)
-    ∙ ap (λ (all : List Change). with_changes p all s.content) ((λ i. one i ++ two i) ∙ take-append-drop n changes)) more

@@ -1,0 +1,88 @@
+//! A host's new name in ordered maps.
+ghost use Rattle.std.specs.Prelude.{◌≡◌, true};
+ghost use Rattle.mapbook.specs.Plain.{plain_records};
+ghost use Rattle.mapbook.specs.Renaming as spec;
+ghost use Rattle.store.specs.Tables.{host_put, host_renamed};
+ghost use Rattle.transactions.specs.States.{Makes};
+
+use crate::edit::Edit;
+use crate::plain::Plain;
+use basis::text::Text;
+use objects::Host;
+use policy::Policy;
+use transactions::BookFault;
+
+impl Plain {
+    /// A host goes from one name to that of its own, and each domain that named it names it by that. Where there is
+    /// no host of the one name, or one of the other, nothing is changed.
+    pub(crate) fn rename(
+        &mut self,
+        from: Text,
+        host: Host,
+        policy: &Policy,
+    ) -> Result<(), BookFault>
+        requires { self.old.is_open ≡ true }
+        ensures { Makes result (host_renamed from host (plain_records self.old).content)
+            (plain_records self.old) (plain_records self.new) }
+    {
+        if !self.content.may_rename(&from, &host.name) {
+            return Ok(());
+        }
+        self.rename_there(from, host, policy)
+    }
+
+    /// The same where it can.
+    fn rename_there(
+        &mut self,
+        from: Text,
+        host: Host,
+        policy: &Policy,
+    ) -> Result<(), BookFault>
+        requires { self.old.is_open ≡ true }
+        ensures { Makes result (spec.renamed_there from host (plain_records self.old).content)
+            (plain_records self.old) (plain_records self.new) }
+    {
+        let names = self.content.domains_naming(&from)?;
+        let to = host.name.clone()?;
+        self.rename_in(&from, &to, names.as_slice(), policy)?;
+        self.set(Edit::Host(from, None))?;
+        self.set(Edit::Host(to, Some(host)))
+    }
+
+    /// Each of these domains names the host of the one name by the other.
+    fn rename_in(
+        &mut self,
+        from: &Text,
+        to: &Text,
+        names: &[Text],
+        policy: &Policy,
+    ) -> Result<(), BookFault>
+        requires { self.old.is_open ≡ true }
+        ensures { Makes result (spec.host_renamed_in from.now to.now names.now
+            (plain_records self.old).content) (plain_records self.old) (plain_records self.new) }
+    {
+        for name in names {
+            self.rename_at(name, from, to, policy)?;
+        }
+        Ok(())
+    }
+
+    /// The domain of a name, if there is one, names the host of the one name by the other.
+    fn rename_at(
+        &mut self,
+        domain: &Text,
+        from: &Text,
+        to: &Text,
+        policy: &Policy,
+    ) -> Result<(), BookFault>
+        requires { self.old.is_open ≡ true }
+        ensures { Makes result (spec.host_renamed_at from.now to.now domain.now
+            (plain_records self.old).content) (plain_records self.old) (plain_records self.new) }
+    {
+        let name = domain.clone()?;
+        match self.content.host_renamed_at(domain, from, to)? {
+            None => Ok(()),
+            Some(renamed) => self.set_domain(name, renamed, policy),
+        }
+    }
+}
