@@ -15,7 +15,9 @@ use Rattle.basis.specs.Maps.{map_values}
 use Rattle.basis.proofs.MapLemmas.{names_apart, get-map_values}
 use Rattle.objects.specs.declared.domain.Domain.{Domain}
 use Rattle.objects.specs.Links.{names_host}
-use Rattle.rules.specs.Changes.{with_host_renamed}
+use Rattle.rules.specs.Changes.{may_rename, with_host_renamed}
+use Rattle.mapbook.specs.declared.plain.Plain.{Plain}
+use Rattle.mapbook.specs.Plain.{at_begin, content_of, plain_records, registry_in}
 use Rattle.store.specs.Book.{Stored}
 use Rattle.objects.specs.declared.host.Host.{Host}
 use Rattle.store.specs.Tables.{host_moved, with_domains}
@@ -143,3 +145,11 @@ pub moved : (from to : List ℕ) (names : List (List ℕ)) (h : Host) (s : Store
 moved from to names h s same named =
     (λ i. edited (edit.Host (same i) (Some h)) (edited (edit.Host from None) (host_renamed_in from (same i) (named i) s)))
     ∙ ap (λ (x : Stored). edited (edit.Host h.name (Some h)) (edited (edit.Host from None) x)) (all-renamed from h.name s)
+
+-- ---- while a transaction is open
+
+pub held-open : (b : Plain) (from to : List ℕ) → b.is_open ≡ true → may_rename (plain_records b).content.registry.hosts from to ≡ may_rename (registry_in b.content).hosts from to
+held-open b from to open = ap (λ (o : Bool). let s : Stored = cond o (content_of b.content) (at_begin b) in may_rename s.registry.hosts from to) open
+
+pub naming-open : (b : Plain) (from : List ℕ) → b.is_open ≡ true → domains_naming from (registry_in b.content) ≡ domains_naming from (plain_records b).content.registry
+naming-open b from open = ap (λ (o : Bool). let s : Stored = cond o (content_of b.content) (at_begin b) in domains_naming from s.registry) (sym open)
