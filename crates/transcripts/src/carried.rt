@@ -47,8 +47,14 @@ impl<'a> Wire<'a> {
             Kind::Connection => self.connected(registry),
             Kind::Session => self.in_session(registry),
             Kind::Bars => (registry, self.in_bars()),
-            Kind::Sums => (registry, self.told(sums_of(self.alloc, &exchange.sent))),
-            Kind::Moments => (registry, self.told(texts_of(self.alloc, &exchange.sent))),
+            Kind::Sums => {
+                let sums = sums_of(self.alloc, &exchange.sent);
+                (registry, self.told(sums))
+            }
+            Kind::Moments => {
+                let texts = texts_of(self.alloc, &exchange.sent);
+                (registry, self.told(texts))
+            }
             _ => {
                 let mut registry = registry;
                 let said = self.asked(exchange, way, &mut registry);

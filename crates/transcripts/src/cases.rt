@@ -45,26 +45,17 @@ pub fn cut(line: &[u8]) -> (&[u8], &[u8]) {
     (mark, rest.strip_prefix(b" ").unwrap_or(rest))
 }
 
-/// Runs a case over both books: in each of its ways over ordered maps, and in the first over the rows of a
-/// database in memory. Gives how many ways there are, and what differs.
+/// Runs a case over both books: in each of its ways over ordered maps, and in the first and the last over the
+/// rows of a database in memory. Gives how many ways there are, and what differs.
 pub fn run_over_both(alloc: Global, policy: &[u8], case: &Case) -> Result<(usize, Vec<u8>)> {
     let mut differences = Vec::new(alloc);
     let ways = case.ways(alloc)?;
-    for way in ways.iter().copied() {
-        add_differences(
-            alloc,
-            Kind::Maps,
-            Job::Case(policy, case, way),
-            &mut differences,
-        )?;
-    }
-    if let Some(way) = ways.first() {
-        add_differences(
-            alloc,
-            Kind::Rows,
-            Job::Case(policy, case, *way),
-            &mut differences,
-        )?;
+    for (place, way) in ways.iter().copied().enumerate() {
+        let job = Job::Case(policy, case, way);
+        add_differences(alloc, Kind::Maps, job, &mut differences)?;
+        if place == 0 || place.saturating_add(1) == ways.len() {
+            add_differences(alloc, Kind::Rows, job, &mut differences)?;
+        }
     }
     Ok((ways.len(), differences))
 }

@@ -1,6 +1,6 @@
 //! Runs what lies in files as data: transcripts, which are scripts with the replies that must follow; cases, of
-//! what comes over connections and what must be told; and lines of which each call on the book is refused.
-//! `docs/TRANSCRIPTS.md` describes the three kinds of files.
+//! what comes over connections and what must be told; lines of which each call on the book is refused; and pairs
+//! of scripts that differ in what others hide. `docs/TRANSCRIPTS.md` describes the four kinds of files.
 //!
 //! The arguments name the files, and each is run by what its name ends with. The status is 1 where anything
 //! differs. `find FILE rows|maps PLACE [stops]` sends one line of a file of refusals, while memory may be refused
@@ -228,7 +228,11 @@ fn run_files(rt: &(impl Env + Files + Print + AllocGlobal)) -> Result<bool> {
 /// Sends the line that the arguments name, or runs their files.
 fn run(rt: &(impl Env + Files + Print + AllocGlobal)) -> Result<bool> {
     let mut words = env::args(rt)?.skip(1);
-    if words.next().as_deref() != Some("find") {
+    let is_find = match words.next() {
+        Some(word) => word.as_str() == "find",
+        None => false,
+    };
+    if !is_find {
         return run_files(rt);
     }
     let (Some(file), Some(kind), Some(place)) = (words.next(), words.next(), words.next()) else {

@@ -84,10 +84,9 @@ impl Read for Pieces<'_> {
         self.reads -= 1;
         let most = self.most().min(self.way.step).min(buf.len());
         let count = most.min(self.left.len());
-        for (place, byte) in buf[..count].iter_mut().zip(self.left.iter()) {
-            *place = *byte;
-        }
-        self.left = &self.left[count..];
+        let (bytes, others) = self.left.split_at(count);
+        buf[..count].copy_from_slice(bytes);
+        self.left = others;
         self.given = self.given.saturating_add(count);
         Ok(count)
     }
