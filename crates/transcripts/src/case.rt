@@ -49,15 +49,18 @@ impl Case {
         })
     }
 
+    /// Whether each block of it has its end.
+    pub fn is_whole(&self) -> bool {
+        self.begun.is_none()
+    }
+
     /// Takes a line of the case.
     pub fn take(&mut self, alloc: Global, number: usize, mark: &[u8], text: &[u8]) -> Result<()> {
         if let Some(begun) = &mut self.begun {
             if begun.take(alloc, mark, text)? {
                 return Ok(());
             }
-        }
-        if mark == b"end".as_slice() {
-            return self.end(alloc, text);
+            return self.end(alloc, mark, text);
         }
         if let Some(kind) = Kind::read(mark) {
             self.begun = Some(Exchange::new(alloc, kind, number));
@@ -66,17 +69,19 @@ impl Case {
         self.take_way(alloc, mark, str::from_utf8(text)?)
     }
 
-    /// Ends a block.
-    fn end(&mut self, alloc: Global, text: &[u8]) -> Result<()> {
-        let Some(exchange) = self.begun.take() else {
-            bail!("no block ends here");
-        };
-        let end = String::from_str(alloc, str::from_utf8(text)?)?;
-        self.steps.push(Step { exchange, end })?;
+    /// Ends the block that has begun.
+    fn end(&mut self, alloc: Global, mark: &[u8], text: &[u8]) -> Result<()> {
+        if mark != b"end".as_slice() {
+            bail!("no mark of a block");
+        }
+        if let Some(exchange) = self.begun.take() {
+            let end = String::from_str(alloc, str::from_utf8(text)?)?;
+            self.steps.push(Step { exchange, end })?;
+        }
         Ok(())
     }
 
-    /// Takes a line before its blocks.
+    /// Takes a line before a block.
     fn take_way(&mut self, alloc: Global, mark: &[u8], text: &str) -> Result<()> {
         match mark {
             b"policy" => self.policy = String::from_str(alloc, text)?,

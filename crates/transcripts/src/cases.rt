@@ -12,7 +12,16 @@ pub fn cases_of(alloc: Global, text: &[u8]) -> Result<Vec<Case>> {
         let number = index.saturating_add(1);
         add_line(alloc, &mut cases, number, line).context(format_args!("line {number}"))?;
     }
+    end_case(&cases)?;
     Ok(cases)
+}
+
+/// Refuses a last case of which a block has no end.
+fn end_case(cases: &[Case]) -> Result<()> {
+    match cases.last() {
+        Some(case) if !case.is_whole() => bail!("a block without an end"),
+        _ => Ok(()),
+    }
 }
 
 /// Begins a case by a line, or adds the line to the last one.
@@ -22,6 +31,7 @@ fn add_line(alloc: Global, cases: &mut Vec<Case>, number: usize, line: &[u8]) ->
     }
     let (mark, text) = cut(line);
     if mark == b"case".as_slice() {
+        end_case(cases.as_slice())?;
         cases.push(Case::new(alloc, text)?)?;
         return Ok(());
     }
