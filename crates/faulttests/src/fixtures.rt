@@ -1,9 +1,8 @@
 //! A policy, and registries that are opened under it.
 
 ghost use Rattle.std.specs.Prelude.{◌≡◌, false};
-ghost use Rattle.mapbook.specs.Plain.{plain_state};
 
-use mapbook::PlainBook;
+use mapbook::{PlainBook, new_book};
 use policy::Policy;
 use registry::Registry;
 use std::alloc::Global;
@@ -50,13 +49,6 @@ pub fn policy_of(alloc: Global, text: &str) -> Result<Policy, &'static str> {
     }
 }
 
-/// The book of the tests, which is new.
-pub fn new_book(alloc: Global) -> PlainBook
-    ensures { (plain_state result).is_open ≡ false }
-{
-    mapbook::new_book(alloc)
-}
-
 /// A registry that is opened over a book.
 pub fn registry_over<B: Book + Drop>(alloc: Global, book: B) -> Result<Registry<B>, &'static str>
     requires { (B.state book).is_open ≡ false }
@@ -68,7 +60,7 @@ pub fn registry_over<B: Book + Drop>(alloc: Global, book: B) -> Result<Registry<
     }
 }
 
-/// A registry that is new, over the book of the tests.
+/// A registry that is new, in ordered maps.
 pub fn registry_of(alloc: Global) -> Result<Registry<PlainBook>, &'static str> {
     registry_over(alloc, new_book(alloc))
 }

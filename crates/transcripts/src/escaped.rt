@@ -68,28 +68,24 @@ fn with_hexadecimal<'a>(bytes: &mut Vec<u8>, text: &'a [u8]) -> Result<&'a [u8]>
 /// A text with what is to be repeated as often as it is.
 fn repeated(alloc: Global, text: &str) -> Result<String> {
     let mut whole = String::new(alloc);
-    for (index, piece) in text.split("~)").enumerate() {
-        match piece.rsplit_once('(') {
-            Some((front, part)) if text.contains("~)") && begins_part(front) => {
-                add_parts(alloc, &mut whole, front, part)?;
+    let last = match text.rsplit_once("~)") {
+        Some((pieces, last)) => {
+            for piece in pieces.split("~)") {
+                add_piece(alloc, &mut whole, piece)?;
             }
-            _ if index == 0 || !piece.is_empty() => whole.push_str(piece)?,
-            _ => {}
+            last
         }
-    }
+        None => text,
+    };
+    whole.push_str(last)?;
     Ok(whole)
 }
 
-/// Whether a text ends by `~` and numbers.
-fn begins_part(front: &str) -> bool {
-    match front.rsplit_once('~') {
-        Some((_, times)) => range_of(times).is_ok(),
-        None => false,
-    }
-}
-
 /// Adds what stands before a part, and the part as often as it is.
-fn add_parts(alloc: Global, whole: &mut String, front: &str, part: &str) -> Result<()> {
+fn add_piece(alloc: Global, whole: &mut String, piece: &str) -> Result<()> {
+    let Some((front, part)) = piece.rsplit_once('(') else {
+        bail!("nothing begins before ~)");
+    };
     let Some((front, times)) = front.rsplit_once('~') else {
         bail!("no ~ before a parenthesis");
     };
