@@ -1,25 +1,35 @@
-//! Runs transcripts: scripts with the replies that must follow. A line of one is
+//! Runs what lies in files as data: transcripts, which are scripts with the replies that must follow; cases, of
+//! what comes over connections and what must be told; lines of which each call on the book is refused; and pairs
+//! of scripts that differ in what others hide. `docs/TRANSCRIPTS.md` describes the four kinds of files.
 //!
-//! - `transcript: NAME`: a transcript begins, over an empty registry,
-//! - `policy: FILE`: the policy that it runs under,
-//! - `change: OLD => NEW`: a text of that policy, and what takes its place,
-//! - `reopen: FILE`: the book is opened again, under the policy of that file,
-//! - `prelude: FILE`: the transcripts whose lines are sent first,
-//! - `C: LINE`: a line of the script, and below it
-//! - `S: LINE`: its reply,
-//! - `ends: TEXT`: the line of standard error at the end, where there is one,
-//! - empty, or a remark that begins with `#`.
-//!
-//! `docs/TRANSCRIPTS.md` says more. The arguments name the files. Each transcript prints how many of its
-//! replies were as written, below what wasn't. The status is 1 where anything differs.
+//! The arguments name the files, and each is run by what its name ends with. The status is 1 where anything
+//! differs. `find FILE rows|maps PLACE [stops]` sends one line of a file of refusals, while memory may be refused
+//! to it from outside, and prints what was found then (`.ci/refused`); with `stops`, it stops before the line.
 #![tactic(auto)]
 
+mod bars;
+mod books;
+mod carried;
+mod case;
+mod cases;
 mod chapter;
+mod escaped;
+mod exchange;
 mod line;
+mod moments;
+mod pairs;
+mod pieces;
+mod refusals;
+mod refused;
 mod transcript;
 
-use anyhow::{Context, Result};
-use line::{Line, Mark, lines_of};
+use anyhow::{Context, Result, bail};
+use books::Kind;
+use case::Case;
+use cases::{cases_of, run_over_both};
+use line::{Mark, lines_of};
+use pairs::Pairs;
+use refusals::{Trial, Trials};
 use std::io::Write;
 use std::process::ExitCode;
 use std::rt::{Env, Files};
@@ -69,8 +79,92 @@ fn tell(rt: &impl Print, file: &str, name: &[u8], outcome: &Outcome) -> Result<(
     Ok(())
 }
 
+/// Runs a case in each of its ways, and says whether all is as written.
+fn run_case_of(rt: &(impl Files + Print + AllocGlobal), file: &str, case: &Case) -> Result<bool> {
+    let policy = read_named(rt, case.policy.as_bytes())?;
+    let (ways, differences) = run_over_both(rt.alloc(), &policy, case)?;
+    io::writer(rt).write_all(&differences)?;
+    let (name, steps) = (case.name.as_str(), case.steps.len());
+    let is_well = differences.is_empty();
+    let said = if is_well { "as written" } else { "otherwise" };
+    println!(rt; "{file}: {name}: {steps} steps in {ways} ways {said}")?;
+    Ok(is_well)
+}
+
+/// Runs the cases of a file, and says whether all is as written.
+fn run_cases(rt: &(impl Files + Print + AllocGlobal), file: &str) -> Result<bool> {
+    let text = read_named(rt, file.as_bytes())?;
+    let cases = cases_of(rt.alloc(), &text).context(format_args!("{file}"))?;
+    let mut all_well = true;
+    for case in &cases {
+        let name = case.name.as_str();
+        let is_well = run_case_of(rt, file, case).context(format_args!("{file}: {name}"))?;
+        all_well = all_well && is_well;
+    }
+    Ok(all_well)
+}
+
+/// Refuses the calls of a line over both books, and prints how many there are.
+fn run_trial(
+    rt: &(impl Print + AllocGlobal),
+    file: &str,
+    trials: &Trials,
+    policy: &[u8],
+    trial: &Trial,
+) -> Result<()> {
+    let (alloc, name) = (rt.alloc(), trial.name.as_str());
+    if trial.is_thrice() {
+        trials.refuse_thrice(alloc, Kind::Rows, policy, trial)?;
+        trials.refuse_thrice(alloc, Kind::Maps, policy, trial)?;
+        println!(rt; "{file}: {name}: as worked out by hand")?;
+        return Ok(());
+    }
+    let over_rows = trials.refuse_each(alloc, Kind::Rows, policy, trial)?;
+    let over_maps = trials.refuse_each(alloc, Kind::Maps, policy, trial)?;
+    println!(rt; "{file}: {name}: {over_rows} calls over rows, {over_maps} over ordered maps")?;
+    Ok(())
+}
+
+/// The lines of a file of refusals, and their policy.
+fn trials_of(rt: &(impl Files + AllocGlobal), file: &str) -> Result<(Trials, Vec<u8>)> {
+    let text = read_named(rt, file.as_bytes())?;
+    let trials = Trials::read(rt.alloc(), &text).context(format_args!("{file}"))?;
+    let policy = read_named(rt, &trials.policy)?;
+    Ok((trials, policy))
+}
+
+/// Refuses each call of the lines of a file. One of which something is left ends the program.
+fn run_refusals(rt: &(impl Files + Print + AllocGlobal), file: &str) -> Result<bool> {
+    let (trials, policy) = trials_of(rt, file)?;
+    for trial in &trials.trials {
+        let name = trial.name.as_str();
+        run_trial(rt, file, &trials, &policy, trial).context(format_args!("{file}: {name}"))?;
+    }
+    Ok(true)
+}
+
+/// Sends one line of a file of refusals, while memory may be refused, and prints what was found.
+fn find_one(
+    rt: &(impl Files + Print + AllocGlobal),
+    file: &str,
+    kind: &str,
+    place: &str,
+    stops: bool,
+) -> Result<bool> {
+    let kind = match kind {
+        "rows" => Kind::Rows,
+        "maps" => Kind::Maps,
+        _ => bail!("neither rows nor maps"),
+    };
+    let (trials, policy) = trials_of(rt, file)?;
+    let place = place.parse::<usize>()?;
+    let found = trials.find(rt.alloc(), kind, &policy, place, stops)?;
+    println!(rt; "{}", found.word())?;
+    Ok(true)
+}
+
 /// Runs the transcripts of a file, and says whether all is as written.
-fn run_file(rt: &(impl Files + Print + AllocGlobal), file: &str) -> Result<bool> {
+fn run_transcripts(rt: &(impl Files + Print + AllocGlobal), file: &str) -> Result<bool> {
     let text = read_named(rt, file.as_bytes())?;
     let lines = lines_of(rt.alloc(), &text).context(format_args!("{file}"))?;
     let mut all_well = true;
@@ -84,6 +178,44 @@ fn run_file(rt: &(impl Files + Print + AllocGlobal), file: &str) -> Result<bool>
     Ok(all_well)
 }
 
+/// Runs the pairs of a file, and says whether alfa is told the same by both of each.
+fn run_pairs(rt: &(impl Files + Print + AllocGlobal), file: &str) -> Result<bool> {
+    let alloc = rt.alloc();
+    let text = read_named(rt, file.as_bytes())?;
+    let pairs = Pairs::read(alloc, &text).context(format_args!("{file}"))?;
+    let policy = read_named(rt, &pairs.policy)?;
+    let mut all_well = true;
+    for pair in &pairs.pairs {
+        let name = pair.name.as_str();
+        let is_well = pair
+            .is_hidden(alloc, &policy)
+            .context(format_args!("{file}: {name}"))?;
+        let said = if is_well {
+            "told the same"
+        } else {
+            "told otherwise"
+        };
+        println!(rt; "{file}: {name}: {said}")?;
+        all_well = all_well && is_well;
+    }
+    Ok(all_well)
+}
+
+/// Runs a file, by what its name ends with, and says whether all is as written.
+fn run_file(rt: &(impl Files + Print + AllocGlobal), file: &str) -> Result<bool> {
+    if file.ends_with(".cases") {
+        return run_cases(rt, file);
+    }
+    if file.ends_with(".refusals") {
+        return run_refusals(rt, file);
+    }
+    if file.ends_with(".pairs") {
+        return run_pairs(rt, file);
+    }
+    run_transcripts(rt, file)
+}
+
+/// Runs the files that the arguments name.
 fn run_files(rt: &(impl Env + Files + Print + AllocGlobal)) -> Result<bool> {
     let mut all_well = true;
     for file in env::args(rt)?.skip(1) {
@@ -93,8 +225,25 @@ fn run_files(rt: &(impl Env + Files + Print + AllocGlobal)) -> Result<bool> {
     Ok(all_well)
 }
 
+/// Sends the line that the arguments name, or runs their files.
+fn run(rt: &(impl Env + Files + Print + AllocGlobal)) -> Result<bool> {
+    let mut words = env::args(rt)?.skip(1);
+    let is_find = match words.next() {
+        Some(word) => word.as_str() == "find",
+        None => false,
+    };
+    if !is_find {
+        return run_files(rt);
+    }
+    let (Some(file), Some(kind), Some(place)) = (words.next(), words.next(), words.next()) else {
+        bail!("find FILE rows|maps PLACE [stops]");
+    };
+    let stops = words.next().is_some();
+    find_one(rt, file.as_str(), kind.as_str(), place.as_str(), stops)
+}
+
 fn main(rt: HostRuntime) -> ExitCode {
-    match run_files(&rt) {
+    match run(&rt) {
         Ok(true) => ExitCode::from(0),
         Ok(false) => ExitCode::from(1),
         Err(error) => {

@@ -3,17 +3,14 @@ ghost use Rattle.std.specs.Prelude.{◌≡◌, ◌==◌};
 ghost use Rattle.std.specs.List.{before_first, after_first, position};
 ghost use Rattle.transcripts.specs.declared.transcript.TheConstants.{LINE_FEED};
 
-use crate::chapter::{Chapter, run_chapters};
+use crate::books::{Done, Job, Kind, over};
+use crate::chapter::Chapter;
 use crate::line::{Line, Mark};
 use anyhow::{Context, Result, bail};
-use mapbook::PlainBook;
 use memory::run_script;
-use registry::OpenFault;
 use script::Exit;
-use sqlbook::in_memory;
 use std::alloc::Global;
 use std::str;
-use store::BookFault;
 
 const LINE_FEED: u8 = b'\n';
 
@@ -216,11 +213,9 @@ impl<'a> Run<'a> {
     /// what differs is added.
     fn compared(self, alloc: Global, differences: &mut Vec<u8>) -> Result<usize> {
         let chapters = self.chapters(alloc)?;
-        let mut printed = Vec::new(alloc);
-        let exit = run_over_rows(alloc, &chapters, &mut printed);
+        let (printed, exit) = run_over_rows(alloc, &chapters)?;
         let over_rows = self.judge(alloc, &printed, exit, differences)?;
-        let mut printed = Vec::new(alloc);
-        let exit = run_chapters(alloc, mapbook::new_book(alloc), &chapters, &mut printed);
+        let (printed, exit) = run_over(alloc, Kind::Maps, &chapters)?;
         let over_maps = self.judge(alloc, &printed, exit, differences)?;
         Ok(over_rows.min(over_maps))
     }
@@ -264,14 +259,21 @@ impl<'a> Run<'a> {
 }
 
 /// Answers the scripts over the rows of a database in memory, which starts empty; one alone as the program does.
-fn run_over_rows(alloc: Global, chapters: &[Chapter<'_>], printed: &mut Vec<u8>) -> Exit {
+fn run_over_rows(alloc: Global, chapters: &[Chapter<'_>]) -> Result<(Vec<u8>, Exit)> {
     if let [chapter] = chapters {
-        return run_script(alloc, chapter.policy, chapter.script.as_slice(), printed);
+        let mut printed = Vec::new(alloc);
+        let script = chapter.script.as_slice();
+        let exit = run_script(alloc, chapter.policy, script, &mut printed);
+        return Ok((printed, exit));
     }
-    match in_memory(alloc) {
-        Ok(book) => run_chapters(alloc, book, chapters, printed),
-        Err(BookFault::Memory) => Exit::Open(OpenFault::Memory),
-        Err(BookFault::Store) => Exit::Open(OpenFault::Store),
+    run_over(alloc, Kind::Rows, chapters)
+}
+
+/// Answers the scripts over a book of a kind, which starts empty.
+fn run_over(alloc: Global, kind: Kind, chapters: &[Chapter<'_>]) -> Result<(Vec<u8>, Exit)> {
+    match over(alloc, kind, Job::Chapters(chapters))? {
+        Done::Printed(printed, exit) => Ok((printed, exit)),
+        _ => bail!("nothing was printed"),
     }
 }
 

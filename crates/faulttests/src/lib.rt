@@ -1,0 +1,40 @@
+//! What no contract says and no file of data can show (`docs/TRANSCRIPTS.md`): disks in memory that stop or
+//! fail, sockets, and what lies in the tables of a database.
+#![tactic(auto)]
+
+#[cfg(test)]
+mod cases;
+#[cfg(test)]
+mod database_written;
+#[cfg(test)]
+mod disks;
+#[cfg(test)]
+mod exits;
+#[cfg(test)]
+mod fixtures;
+#[cfg(test)]
+mod lines;
+#[cfg(test)]
+mod log_left;
+#[cfg(test)]
+mod log_written_back;
+#[cfg(test)]
+mod policies;
+#[cfg(test)]
+mod registries;
+#[cfg(test)]
+mod row_stores;
+#[cfg(test)]
+mod rows;
+#[cfg(test)]
+mod sockets;
+#[cfg(test)]
+mod stops;
+#[cfg(test)]
+mod stored_sums;
+#[cfg(test)]
+mod stumbling;
+#[cfg(test)]
+mod takeovers;
+#[cfg(test)]
+mod typed_rows;
