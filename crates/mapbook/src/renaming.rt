@@ -32,12 +32,7 @@ impl Plain {
     }
 
     /// The same where there is such a host, and no other has that name.
-    fn move_host(
-        &mut self,
-        from: Text,
-        host: Host,
-        policy: &Policy,
-    ) -> Result<(), BookFault>
+    fn move_host(&mut self, from: Text, host: Host, policy: &Policy) -> Result<(), BookFault>
         requires { self.old.is_open ≡ true }
         ensures { Makes result (host_moved from host (plain_records self.old).content)
             (plain_records self.old) (plain_records self.new) }

@@ -8,7 +8,7 @@ ghost use Rattle.store.specs.Book.{Follows, BookReads, LeavesSame, BookWrites, w
 ghost use Rattle.model.specs.Objects.{object_at};
 
 use crate::fault::Fault;
-use crate::passing::{settle_nothing, settle_for_name};
+use crate::passing::{settle_for_name, settle_nothing};
 use crate::transaction::{apply, object_at, or_rollback};
 use crate::work::Work;
 use basis::text::Text;
