@@ -2,7 +2,7 @@ use Rattle.std.proofs.lemmas.Result.{on_ok_weaker}
 use Rattle.std.specs.Prelude.{None}
 use Rattle.concerns.specs.Names.{named_of}
 use Rattle.registry.proofs.PassingSteps.{catches-up}
-use Rattle.registry.proofs.passing.catch_up.Goals as goal
+use Rattle.registry.proofs.passing.settle_object.Goals as goal
 
 pub returns-clause-moved : goal.returns-clause-moved
 returns-clause-moved g c = on_ok_weaker c.lapse_each.result (λ lapsed.

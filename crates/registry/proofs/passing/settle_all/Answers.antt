@@ -1,5 +1,5 @@
 use Rattle.registry.proofs.LapseSteps.{passed}
-use Rattle.registry.proofs.transaction.advance_clock.Goals as goal
+use Rattle.registry.proofs.passing.settle_all.Goals as goal
 
 pub returns-clause-moved : goal.returns-clause-moved
 returns-clause-moved g c =

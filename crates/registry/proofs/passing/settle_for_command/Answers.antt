@@ -1,7 +1,7 @@
 use Rattle.std.specs.Prelude.{Some}
 use Rattle.concerns.specs.Names.{named_by}
 use Rattle.registry.proofs.PassingSteps.{passes}
-use Rattle.registry.proofs.passing.pass_for.Goals as goal
+use Rattle.registry.proofs.passing.settle_for_command.Goals as goal
 
 pub returns-clause-moved : goal.returns-clause-moved
 returns-clause-moved g c =

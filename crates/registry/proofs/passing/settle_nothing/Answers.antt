@@ -1,5 +1,5 @@
 use Rattle.registry.proofs.PassingSteps.{alone-passes}
-use Rattle.registry.proofs.passing.pass_alone.Goals as goal
+use Rattle.registry.proofs.passing.settle_nothing.Goals as goal
 
 pub returns-clause-moved : goal.returns-clause-moved
 returns-clause-moved g c =
