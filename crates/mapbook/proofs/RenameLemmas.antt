@@ -149,7 +149,7 @@ moved from to names h s same named =
 -- ---- while a transaction is open
 
 pub held-open : (b : Plain) (from to : List ℕ) → b.is_open ≡ true → may_rename (plain_records b).content.registry.hosts from to ≡ may_rename (registry_in b.content).hosts from to
-held-open b from to open = ap (λ (o : Bool). let s : Stored = cond o (content_of b.content) (at_begin b) in may_rename s.registry.hosts from to) open
+held-open b from to opened = ap (λ (o : Bool). let s : Stored = cond o (content_of b.content) (at_begin b) in may_rename s.registry.hosts from to) opened
 
 pub naming-open : (b : Plain) (from : List ℕ) → b.is_open ≡ true → domains_naming from (registry_in b.content) ≡ domains_naming from (plain_records b).content.registry
-naming-open b from open = ap (λ (o : Bool). let s : Stored = cond o (content_of b.content) (at_begin b) in domains_naming from s.registry) (sym open)
+naming-open b from opened = ap (λ (o : Bool). let s : Stored = cond o (content_of b.content) (at_begin b) in domains_naming from s.registry) (sym opened)

@@ -7,7 +7,7 @@ use Rattle.mapbook.specs.declared.edit.Edit.TheVariants as edit
 use Rattle.mapbook.specs.Edits.{edited}
 use Rattle.mapbook.specs.Plain.{plain_records}
 use Rattle.mapbook.proofs.RenameLemmas.{moved, naming-open}
-use Rattle.mapbook.proofs.renaming.Plain.move_host.Goals as goal
+use Rattle.mapbook.proofs.plain.Plain.move_host.Goals as goal
 
 pub returns : goal.returns
 returns c =

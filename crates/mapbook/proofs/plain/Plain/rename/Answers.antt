@@ -5,7 +5,7 @@ use Rattle.transactions.proofs.LeavingLemmas.{leaves-refl}
 use Rattle.transactions.specs.States.{Makes}
 use Rattle.mapbook.specs.Plain.{plain_records}
 use Rattle.mapbook.proofs.RenameLemmas.{held-open}
-use Rattle.mapbook.proofs.renaming.Plain.rename.Goals as goal
+use Rattle.mapbook.proofs.plain.Plain.rename.Goals as goal
 
 pub returns : goal.returns
 returns c =
