@@ -10,6 +10,7 @@ use crate::plain::Plain;
 use basis::text::Text;
 use objects::Host;
 use policy::Policy;
+use store::Records;
 use transactions::BookFault;
 
 impl Plain {
@@ -38,10 +39,9 @@ impl Plain {
             (plain_records self.old) (plain_records self.new) }
     {
         let names = self.content.domains_naming(&from)?;
-        let to = host.name.clone()?;
-        self.rename_in(&from, &to, names.as_slice(), policy)?;
+        self.rename_in(&from, &host.name, names.as_slice(), policy)?;
         self.set(Edit::Host(from, None))?;
-        self.set(Edit::Host(to, Some(host)))
+        self.put_host(host)
     }
 
     /// Each of these domains names the host of the one name by the other.
