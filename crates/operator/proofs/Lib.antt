@@ -1,1 +1,2 @@
+mod HeardLemmas
 mod TokenLemmas
