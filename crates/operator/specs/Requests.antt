@@ -59,12 +59,12 @@ ordered None = Refused refusals.Length
 ordered (Some n) = if nat_le n most_body then Order n else Refused refusals.Size
 
 abbrev pub got : List ℕ → Asked → Asked
-got method asked = if bytes_eq method (codes "GET") then asked else Refused refusals.Method
+got method asked = if bytes_eq method (codes "GET") then asked else Refused refusals.OnlyGet
 
 -- of who has the token, by method and target (RFC 9110, 15.5.5 and 15.5.6)
 abbrev pub routed : List ℕ → List ℕ → Option ℕ → Asked
 routed method target length =
-    if bytes_eq target (codes "/orders") then (if bytes_eq method (codes "POST") then ordered length else Refused refusals.Method)
+    if bytes_eq target (codes "/orders") then (if bytes_eq method (codes "POST") then ordered length else Refused refusals.OnlyPost)
     else (if bytes_eq target (codes "/zone") then got method Zone
     else (if bytes_eq target (codes "/metrics") then got method Metrics
     else Refused refusals.Target))

@@ -31,14 +31,14 @@ pub enum Asked {
 /// Why a request is refused.
 #[derive(Clone, Copy, Debug, PartialEq, Eq)]
 pub enum Refusal {
-    /// It begins with no head.
-    Head,
     /// It doesn't have the token.
     Token,
     /// There is no such target.
     Target,
-    /// The target has another method.
-    Method,
+    /// Its target has the method GET alone.
+    OnlyGet,
+    /// Its target has the method POST alone.
+    OnlyPost,
     /// It doesn't say how long its body is.
     Length,
     /// Its body is longer than an order may be.
@@ -84,7 +84,7 @@ fn routed(method: &[u8], target: &[u8], length: Option<usize>) -> Asked
         if method == b"POST".as_slice() {
             ordered(length)
         } else {
-            Asked::Refused(Refusal::Method)
+            Asked::Refused(Refusal::OnlyPost)
         }
     } else if target == b"/zone".as_slice() {
         got(method, Asked::Zone)
@@ -101,7 +101,7 @@ fn got(method: &[u8], asked: Asked) -> Asked
     if method == b"GET".as_slice() {
         asked
     } else {
-        Asked::Refused(Refusal::Method)
+        Asked::Refused(Refusal::OnlyGet)
     }
 }
 
