@@ -1,5 +1,5 @@
 -- What a request of the operator's asks for: its token (RFC 6750), its method and its target (RFC 9110, 9112).
-use Rattle.std.specs.Prelude.{◌≡◌, ℕ, ◌≤◌, Bool, true, false, List, [], ◌∷◌, ◌++◌, drop, length, map, if◌then◌else◌, nat_le, bytes_eq, codes, Option, None, Some, IfSome}
+use Rattle.std.specs.Prelude.{◌≡◌, ◌⊎◌, ℕ, ◌≤◌, Bool, true, false, List, [], ◌∷◌, ◌++◌, drop, length, map, if◌then◌else◌, nat_le, bytes_eq, codes, Option, None, Some, IfSome}
 use Rattle.std.specs.List.{list_any}
 use Rattle.std.specs.Char.{to_ascii_lowercase}
 use Rattle.std.specs.Str.Parse.{IsNumeral, digits_value}
@@ -9,6 +9,7 @@ use Rattle.operator.specs.declared.request.Asked.{Asked}
 use Rattle.operator.specs.declared.request.Asked.TheVariants.{Order, Zone, Metrics, Refused}
 use Rattle.operator.specs.declared.request.Refusal.TheVariants as refusals
 use Rattle.operator.specs.declared.request.TheConstants.{MOST_BODY}
+use Rattle.operator.specs.declared.token.TheConstants.{LEAST_TOKEN}
 
 -- ---- fields, as names and values
 
@@ -24,9 +25,24 @@ only_value name (f ∷ fields) =
 
 -- ---- the token
 
+-- the token of a file is its bytes, without the line feed at their end
+abbrev pub IsTokenOf : List ℕ → List ℕ → Type 0
+IsTokenOf file token = (file ≡ token) ⊎ (file ≡ token ++ (10 ∷ []))
+
+-- the fewest bytes of a token
+abbrev pub least_token : ℕ
+least_token = LEAST_TOKEN
+
 -- what the field Authorization says of a token (RFC 6750, 2.1)
 abbrev pub credentials_of : List ℕ → List ℕ
 credentials_of token = codes "Bearer " ++ token
+
+-- a token that may open the port, and what is said of it
+pub record IsToldOf (file told : List ℕ) : Type 0 where
+  pub token : List ℕ
+  pub of_file : IsTokenOf file token
+  pub long : least_token ≤ length token
+  pub told_is : told ≡ credentials_of token
 
 -- whether the only field Authorization says so, whole
 abbrev pub is_right : List ℕ → Option (List ℕ) → Bool
