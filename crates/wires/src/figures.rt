@@ -4,7 +4,7 @@ use crate::counts::Tally;
 use crate::log::{Log, plain};
 use crate::rooms::Rooms;
 use std::alloc::{AllocError, Global};
-use std::time;
+use std::time::{self, Duration};
 
 /// The code of a login that opens a session.
 const COMPLETED: u16 = 1_000;
@@ -50,12 +50,23 @@ fn write_connections<M: time::Clock + Print>(
 ) -> Result<(), AllocError> {
     let (turns, waiting) = (log.turns(), rooms.count() as u64);
     let (heard, sent) = (log.heard_bytes(), log.sent_bytes());
-    let waited = log.waited().as_millis() as u64;
     write_number(alloc, "tldreg_connections_total", "counter", turns, text)?;
-    write_number(alloc, "tldreg_connections_waited_milliseconds_total", "counter", waited, text)?;
+    write_time(alloc, "tldreg_connections_waited_seconds_total", log.waited(), text)?;
     write_number(alloc, "tldreg_connections_waiting", "gauge", waiting, text)?;
     write_number(alloc, "tldreg_received_bytes_total", "counter", heard, text)?;
     write_number(alloc, "tldreg_sent_bytes_total", "counter", sent, text)
+}
+
+/// Writes how long something took in all.
+fn write_time(
+    alloc: Global,
+    name: &'static str,
+    time: Duration,
+    text: &mut String,
+) -> Result<(), AllocError> {
+    let (secs, millis) = (time.as_secs(), time.subsec_millis());
+    let line = format!(in alloc; "# TYPE {name} counter\n{name} {secs}.{millis:03}\n")?;
+    text.push_str(line.as_str())
 }
 
 /// Writes one number with its kind.
