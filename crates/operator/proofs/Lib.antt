@@ -1,2 +1,3 @@
 mod HeardLemmas
+mod OperationLemmas
 mod TokenLemmas

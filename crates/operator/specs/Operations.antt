@@ -16,6 +16,8 @@ use Rattle.policy.specs.Rules.{PolicyRules}
 use Rattle.protocol.specs.declared.code.Code.{Code}
 use Rattle.protocol.specs.declared.code.Code.TheVariants.{Completed}
 use Rattle.registry.specs.Execution.{IsUnchanged}
+use Rattle.script.specs.declared.exit.Exit.{Exit}
+use Rattle.script.specs.declared.exit.Exit.TheVariants as exits
 use Rattle.script.specs.Deposits.{IsCarriedOut}
 use Rattle.script.specs.Orders.{IsOrdered, IsTold}
 use Rattle.server.specs.Http.{Passes}
@@ -28,17 +30,22 @@ abbrev pub outcome_of_code : Code → Outcome
 outcome_of_code Completed = outcomes.Done
 outcome_of_code _ = outcomes.Conflict
 
+-- an order that wasn't told of: what is no order is 400 (RFC 9110, 15.5.1), and all else 500 (RFC 9110, 15.6.1)
+abbrev pub outcome_of_exit : Exit → Outcome
+outcome_of_exit (exits.Script n) = outcomes.Malformed
+outcome_of_exit _ = outcomes.Failed
+
 -- the body is an order that takes its step at the moment, and the text is what `tldreg order` prints of it
 abbrev pub IsAnsweredOrder : PolicyRules → List ℕ → ℕ → Outcome → List ℕ → BookState → BookState → Type 0
 IsAnsweredOrder p body moment outcome text old new =
     IsOrdered body (λ request. (code : Code) × (outcome ≡ outcome_of_code code) × IsTold p request moment code old new (Some []) (Some text))
 
--- the body is no order (RFC 9110, 15.5.1), and nothing is changed
+-- the body is no order, and nothing is changed
 abbrev pub IsNoOrder : List ℕ → Outcome → BookState → BookState → Type 0
 IsNoOrder body outcome old new =
     (outcome ≡ outcomes.Malformed) × (order_in body ≡ None) × IsUnchanged old new
 
--- the registry gave up, or there was no memory (RFC 9110, 15.6.1): nothing is changed, or the order took its step
+-- the registry gave up, or there was no memory: nothing is changed, or the order took its step
 abbrev pub IsFailedOrder : PolicyRules → List ℕ → ℕ → Outcome → BookState → BookState → Type 0
 IsFailedOrder p body moment outcome old new =
     (outcome ≡ outcomes.Failed)

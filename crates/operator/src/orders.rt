@@ -37,14 +37,19 @@ pub(crate) fn order_at<B: Book + Drop>(
             outcome: outcome_of_code(code),
             text,
         },
-        Err(Exit::Script(_)) => Ordered {
-            outcome: Outcome::Malformed,
+        Err(exit) => Ordered {
+            outcome: outcome_of_exit(exit),
             text,
         },
-        Err(_) => Ordered {
-            outcome: Outcome::Failed,
-            text,
-        },
+    }
+}
+
+fn outcome_of_exit(exit: Exit) -> Outcome
+    ensures { result ≡ spec.outcome_of_exit exit }
+{
+    match exit {
+        Exit::Script(_) => Outcome::Malformed,
+        _ => Outcome::Failed,
     }
 }
 

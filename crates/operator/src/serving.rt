@@ -169,14 +169,22 @@ fn answer_metrics<W: Write, F: Figures, B: Book + Drop>(
     ensures follows { Follows (B.state registry.old.book) (B.state registry.new.book) }
     ensures policy { registry.new.policy ≡ registry.old.policy }
 {
-    let told = registry.greet(Moment::first());
-    let Ok(now) = told else {
+    let Some(now) = clock_of(registry) else {
         return refuse(alloc, Outcome::Failed, writer);
     };
     match figures_of(alloc, figures, now) {
         Ok(text) => send(alloc, Outcome::Done, Kind::Figures, text.as_bytes(), writer),
         Err(_) => refuse(alloc, Outcome::Failed, writer),
     }
+}
+
+/// The registry's clock: what it tells at the first moment of all.
+fn clock_of<B: Book + Drop>(registry: &mut Registry<B>) -> Option<Moment>
+    ensures passes { Passes registry.old.policy first_moment (B.state registry.old.book)
+        (B.state registry.new.book) }
+    ensures policy { registry.new.policy ≡ registry.old.policy }
+{
+    registry.greet(Moment::first()).ok()
 }
 
 /// Answers that nothing is done.
