@@ -3,7 +3,7 @@ use Rattle.std.specs.Prelude.{ℕ, List, [], ◌∷◌, ◌++◌, codes, decimal
 use Rattle.operator.specs.declared.answer.Outcome.{Outcome}
 use Rattle.operator.specs.declared.answer.Outcome.TheVariants.{Done, Malformed, Unauthorized, NotFound, OnlyGet, OnlyPost, Conflict, LengthRequired, TooLarge, Failed}
 use Rattle.operator.specs.declared.answer.Kind.{Kind}
-use Rattle.operator.specs.declared.answer.Kind.TheVariants.{Json, Plain, Figures}
+use Rattle.operator.specs.declared.answer.Kind.TheVariants.{Json, Plain, Prometheus}
 use Rattle.operator.specs.declared.request.Refusal.{Refusal}
 use Rattle.operator.specs.declared.request.Refusal.TheVariants as refusals
 
@@ -36,7 +36,7 @@ field_of Failed = []
 abbrev pub type_of : Kind → List ℕ
 type_of Json = codes "application/json"
 type_of Plain = codes "text/plain"
-type_of Figures = codes "text/plain; version=0.0.4"
+type_of Prometheus = codes "text/plain; version=0.0.4"
 
 -- the pieces, one after the other
 abbrev pub joined : List (List ℕ) → List ℕ

@@ -27,7 +27,7 @@ pub enum Outcome {
 pub enum Kind {
     Json,
     Plain,
-    Figures,
+    Prometheus,
 }
 
 impl Outcome {
@@ -69,7 +69,7 @@ impl Kind {
         match self {
             Kind::Json => "application/json",
             Kind::Plain => "text/plain",
-            Kind::Figures => "text/plain; version=0.0.4",
+            Kind::Prometheus => "text/plain; version=0.0.4",
         }
     }
 }

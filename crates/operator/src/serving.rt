@@ -173,7 +173,7 @@ fn answer_metrics<W: Write, F: Figures, B: Book + Drop>(
         return refuse(alloc, Outcome::Failed, writer);
     };
     match figures_of(alloc, figures, now) {
-        Ok(text) => send(alloc, Outcome::Done, Kind::Figures, text.as_bytes(), writer),
+        Ok(text) => send(alloc, Outcome::Done, Kind::Prometheus, text.as_bytes(), writer),
         Err(_) => refuse(alloc, Outcome::Failed, writer),
     }
 }
