@@ -32,7 +32,7 @@ use std::{fs, io, time};
 use store::{Book, BookFault};
 use takeover::migrate_on;
 use texts::{HELP, VERSION};
-use token::credentials_of;
+use token::{End, credentials_of, ended};
 use wires::Log;
 use zonefile::ZoneFault;
 
@@ -56,7 +56,7 @@ fn work_on(
     database: &str,
     job: &Job,
     settings: &Settings,
-) -> Result<(), Exit> {
+) -> Result<(), End> {
     let policy = policy_in(rt, policy)?;
     let credentials = credentials_of(rt, job)?;
     let means = Means {
@@ -64,9 +64,10 @@ fn work_on(
         credentials: &credentials,
     };
     if is_in_memory(database) {
-        work_over(rt, sqlbook::in_memory(rt.alloc()), policy, job, &means)
+        let made = sqlbook::in_memory(rt.alloc());
+        ended(work_over(rt, made, policy, job, &means))
     } else {
-        work_in_file(rt, database, policy, job, &means)
+        ended(work_in_file(rt, database, policy, job, &means))
     }
 }
 
@@ -297,14 +298,14 @@ fn print(rt: &impl Print, text: &str) -> Result<(), Exit> {
     Ok(())
 }
 
-fn perform(rt: &HostRuntime) -> Result<(), Exit> {
+fn perform(rt: &HostRuntime) -> Result<(), End> {
     let Asked { task, settings } = read_task(rt)?;
     match task {
-        Task::Help => print(rt, HELP),
-        Task::Version => print(rt, VERSION),
-        Task::Run { policy } => run(rt, policy.as_str()),
+        Task::Help => ended(print(rt, HELP)),
+        Task::Version => ended(print(rt, VERSION)),
+        Task::Run { policy } => ended(run(rt, policy.as_str())),
         Task::Migrate { policy, from, to } => {
-            migrate(rt, policy.as_str(), from.as_str(), to.as_str())
+            ended(migrate(rt, policy.as_str(), from.as_str(), to.as_str()))
         }
         Task::OnDatabase {
             policy,
@@ -317,11 +318,15 @@ fn perform(rt: &HostRuntime) -> Result<(), Exit> {
 fn main(rt: HostRuntime) -> ExitCode {
     match perform(&rt) {
         Ok(()) => ExitCode::from(0),
-        Err(exit) => {
+        Err(End::Exit(exit)) => {
             if exit.has_line() {
                 let _ = eprintln!(rt; "{exit}");
             }
             ExitCode::from(exit.status())
+        }
+        Err(End::Token(unfit)) => {
+            let _ = eprintln!(rt; "{}", unfit.text());
+            ExitCode::from(1)
         }
     }
 }
