@@ -57,15 +57,14 @@ fn work_on(
     job: &Job,
     settings: &Settings,
 ) -> Result<(), End> {
-    let policy = policy_in(rt, policy)?;
     let credentials = credentials_of(rt, job)?;
+    let policy = policy_in(rt, policy)?;
     let means = Means {
         settings,
         credentials: &credentials,
     };
     if is_in_memory(database) {
-        let made = sqlbook::in_memory(rt.alloc());
-        ended(work_over(rt, made, policy, job, &means))
+        ended(work_over(rt, sqlbook::in_memory(rt.alloc()), policy, job, &means))
     } else {
         ended(work_in_file(rt, database, policy, job, &means))
     }
