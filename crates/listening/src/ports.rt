@@ -14,7 +14,10 @@ use std::alloc::{AllocError, Global};
 use std::net::{Net, TcpListener};
 use std::time;
 use store::Book;
-use wires::{Door, Limits, Log, Port, Room, Rooms, Turn, Wire, WireReader, WireWriter, next_turn, write_figures};
+use wires::{
+    Door, Limits, Log, Port, Room, Rooms, Turn, Wire, WireReader, WireWriter, next_turn,
+    write_figures,
+};
 
 /// The operator's port, and what is said there by whoever has its token.
 #[derive(Clone, Copy)]
@@ -57,7 +60,15 @@ pub fn serve_ports<M: time::Clock + Print + Net, B: Book + Drop>(
             return registry;
         };
         registry = serve_turn(
-            alloc, &routes, machine, &rooms, limits, log, credentials, &turn, registry,
+            alloc,
+            &routes,
+            machine,
+            &rooms,
+            limits,
+            log,
+            credentials,
+            &turn,
+            registry,
         );
     }
     registry
@@ -81,11 +92,16 @@ fn serve_turn<M: time::Clock + Print, B: Book + Drop>(
     ensures policy { result.policy ≡ registry.policy }
 {
     match turn.port {
-        Port::Public => serve_public(
-            alloc, routes, machine, rooms, limits, log, turn, registry,
-        ),
+        Port::Public => serve_public(alloc, routes, machine, rooms, limits, log, turn, registry),
         Port::Office => serve_office(
-            alloc, machine, rooms, limits, log, credentials, turn, registry,
+            alloc,
+            machine,
+            rooms,
+            limits,
+            log,
+            credentials,
+            turn,
+            registry,
         ),
     }
 }

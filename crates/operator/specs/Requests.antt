@@ -98,5 +98,5 @@ pub record IsAskedBy (credentials : List ℕ) (h : RequestHead) (asked : Asked) 
 
 -- the bytes begin with a head by which this is asked, and which ends behind so many of them
 abbrev pub HasHead : List ℕ → List ℕ → Asked → ℕ → Type 0
-HasHead credentials bytes asked len = 
+HasHead credentials bytes asked len =
     (h : RequestHead) × ReadsRequest bytes h (drop len bytes) × (len ≤ length bytes) × IsAskedBy credentials h asked

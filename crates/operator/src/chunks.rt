@@ -5,7 +5,8 @@ use std::io::{self, Write};
 use streams::write_all;
 
 /// What goes out before the zone's text, whose media type RFC 4027 has.
-const ZONE_HEAD: &str = "HTTP/1.1 200 OK\r\nContent-Type: text/dns\r\nTransfer-Encoding: chunked\r\nConnection: close\r\n\r\n";
+const ZONE_HEAD: &str =
+    "HTTP/1.1 200 OK\r\nContent-Type: text/dns\r\nTransfer-Encoding: chunked\r\nConnection: close\r\n\r\n";
 
 /// The last chunk.
 const END: &str = "0\r\n\r\n";

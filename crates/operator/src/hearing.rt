@@ -31,11 +31,7 @@ pub enum Unheard {
 }
 
 /// Reads a request: its head, and behind it the body of an order.
-pub fn hear<R: Read>(
-    alloc: Global,
-    credentials: &[u8],
-    reader: &mut R,
-) -> Result<Heard, Unheard>
+pub fn hear<R: Read>(alloc: Global, credentials: &[u8], reader: &mut R) -> Result<Heard, Unheard>
     ensures { IfOk result (λ heard. IsHeard credentials.now (R.remaining reader.old) heard.asked
         heard.body.items) }
 {

@@ -173,7 +173,13 @@ fn answer_metrics<W: Write, F: Figures, B: Book + Drop>(
         return refuse(alloc, Outcome::Failed, writer);
     };
     match figures_of(alloc, figures, now) {
-        Ok(text) => send(alloc, Outcome::Done, Kind::Prometheus, text.as_bytes(), writer),
+        Ok(text) => send(
+            alloc,
+            Outcome::Done,
+            Kind::Prometheus,
+            text.as_bytes(),
+            writer,
+        ),
         Err(_) => refuse(alloc, Outcome::Failed, writer),
     }
 }
@@ -189,7 +195,13 @@ fn clock_of<B: Book + Drop>(registry: &mut Registry<B>) -> Option<Moment>
 
 /// Answers that nothing is done.
 fn refuse<W: Write>(alloc: Global, outcome: Outcome, writer: &mut W) -> RequestEnd {
-    send(alloc, outcome, Kind::Plain, outcome.status().as_bytes(), writer)
+    send(
+        alloc,
+        outcome,
+        Kind::Plain,
+        outcome.status().as_bytes(),
+        writer,
+    )
 }
 
 /// Sends an answer.

@@ -38,7 +38,13 @@ fn write_counts(alloc: Global, counts: &[Tally], text: &mut String) -> Result<()
             refused = refused.wrapping_add(times);
         }
     }
-    write_number(alloc, "tldreg_logins_refused_total", "counter", refused, text)
+    write_number(
+        alloc,
+        "tldreg_logins_refused_total",
+        "counter",
+        refused,
+        text,
+    )
 }
 
 /// Writes what is told of connections.
@@ -51,7 +57,12 @@ fn write_connections<M: time::Clock + Print>(
     let (turns, waiting) = (log.turns(), rooms.count() as u64);
     let (heard, sent) = (log.heard_bytes(), log.sent_bytes());
     write_number(alloc, "tldreg_connections_total", "counter", turns, text)?;
-    write_time(alloc, "tldreg_connections_waited_seconds_total", log.waited(), text)?;
+    write_time(
+        alloc,
+        "tldreg_connections_waited_seconds_total",
+        log.waited(),
+        text,
+    )?;
     write_number(alloc, "tldreg_connections_waiting", "gauge", waiting, text)?;
     write_number(alloc, "tldreg_received_bytes_total", "counter", heard, text)?;
     write_number(alloc, "tldreg_sent_bytes_total", "counter", sent, text)

@@ -226,7 +226,10 @@ impl<'l, M: time::Clock + Print> Log<'l, M> {
     }
 
     fn print_line(&self, line: &Line<'_>, took: Duration) -> io::Result<()> {
-        let (name, sv_trid) = (plain(self.alloc, line.name)?, plain(self.alloc, line.sv_trid)?);
+        let (name, sv_trid) = (
+            plain(self.alloc, line.name)?,
+            plain(self.alloc, line.sv_trid)?,
+        );
         let (connection, registrar) = (self.connection.get(), self.registrar()?);
         let (at, code) = (self.moment()?, line.code.unwrap_or(0));
         let Line {
@@ -298,7 +301,6 @@ impl<'l, M: time::Clock + Print> Log<'l, M> {
             Err(_) => Ok(Moment::first().text(self.alloc)?),
         }
     }
-
 }
 
 /// A text of bytes that a client sent: of letters, digits and few signs, with a question mark for others.
