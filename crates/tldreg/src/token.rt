@@ -51,8 +51,8 @@ impl From<io::Error> for End {
 }
 
 /// The same end, of what can end so alone.
-pub fn ended(result: Result<(), Exit>) -> Result<(), End> {
-    match result {
+pub fn ended(done: Result<(), Exit>) -> Result<(), End> {
+    match done {
         Ok(()) => Ok(()),
         Err(exit) => Err(End::Exit(exit)),
     }
