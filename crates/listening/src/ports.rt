@@ -145,6 +145,7 @@ fn serve_office<M: time::Clock + Print, B: Book + Drop>(
 }
 
 /// What the program tells of itself.
+#[derive(Drop)]
 struct Told<'t, M: time::Clock + Print> {
     log: &'t Log<'t, M>,
     rooms: &'t Rooms<'t>,
