@@ -1,5 +1,5 @@
 -- What a look at the clock leaves.
-use Rattle.std.proofs.Common.{◌≡◌, ℕ, inl, inr, ap, true}
+use Rattle.std.proofs.Common.{ℕ, inl, inr, ap}
 use Rattle.std.specs.Prelude.{Result, Ok, Err, IfErr, IfOk}
 use Rattle.policy.specs.Rules.{PolicyRules}
 use Rattle.privacy.specs.Runs.{Answer, Question}

@@ -1,4 +1,4 @@
-use Rattle.std.proofs.Common.{rules, ◌≡◌, length, add-one, arith}
+use Rattle.std.proofs.Common.{rules, ◌≡◌, length, add-one}
 use Rattle.operator.proofs.TokenLemmas.{one_more}
 use Rattle.operator.proofs.token.is_same.Goals as goal
 
