@@ -16,7 +16,7 @@ GROUPS = [
     ("the wire", "#f3eefa", ["protocol", "eppforms", "eppcommands", "jsonobjects", "eppreplies", "streams", "frames"]),
     ("the rules", "#e3f3e6", ["model", "facts", "verdict", "rules", "privacy", "concerns"]),
     ("the book and the registry", "#fbf0e3", ["transactions", "store", "mapbook", "registry", "runs", "eppwire"]),
-    ("the public", "#e6f4f4", ["zonefile", "rdap", "wires", "server", "listening"]),
+    ("the public", "#e6f4f4", ["zonefile", "rdap", "wires", "server", "operator", "listening"]),
 ]
 
 

@@ -11,7 +11,7 @@ use std::alloc::Global;
 use std::net::{Net, TcpListener, TcpStream};
 use std::time;
 use store::Book;
-use wires::{Door, Limits, Log, Room, Wire, WireReader, WireWriter, next_turn};
+use wires::{Door, Limits, Log, Port, Room, Rooms, Turn, Wire, WireReader, WireWriter, next_turn};
 
 /// Serves connections without end, one after the other. Returns where no connection can be accepted any
 /// more, or where the machine has no way to wait for one.
@@ -33,28 +33,29 @@ pub fn serve_port<M: time::Clock + Print + Net, B: Book + Drop>(
     let (Ok(routes), Ok(watch)) = (Routes::new(alloc), door.watch()) else {
         return registry;
     };
-    let room = Room::new(alloc, listener, &watch, limits.first);
+    let room = Room::new(alloc, Port::Public, listener, &watch, limits.first);
+    let rooms = Rooms::new(room, None);
     let mut registry = registry;
     'turns: for _ in 0..u64::MAX {
-        let Some(stream) = next_turn(machine, &room, &mut door) else {
+        let Some(turn) = next_turn(machine, &rooms, &mut door) else {
             return registry;
         };
-        registry = serve_stream(
-            alloc, &routes, machine, &room, limits, log, &stream, registry,
+        registry = serve_public(
+            alloc, &routes, machine, &rooms, limits, log, &turn, registry,
         );
     }
     registry
 }
 
 /// Serves a connection until it ends, and hands the registry back.
-fn serve_stream<M: time::Clock + Print, B: Book + Drop>(
+pub(crate) fn serve_public<M: time::Clock + Print, B: Book + Drop>(
     alloc: Global,
     routes: &Routes,
     machine: &M,
-    room: &Room<'_>,
+    rooms: &Rooms<'_>,
     limits: &Limits,
     log: &Log<'_, M>,
-    stream: &TcpStream,
+    turn: &Turn,
     registry: Registry<B>,
 ) -> Registry<B>
     ensures served { ServesUnknown registry.policy (B.state registry.book) (B.state result.book) }
@@ -62,7 +63,7 @@ fn serve_stream<M: time::Clock + Print, B: Book + Drop>(
     ensures policy { result.policy ≡ registry.policy }
 {
     // Where it can't be bounded how long a peer is waited for, it isn't served.
-    let Ok(wire) = Wire::new(machine, room, limits, log, stream) else {
+    let Ok(wire) = Wire::new(machine, rooms, limits, log, turn) else {
         return registry;
     };
     let (mut reader, mut writer) = (WireReader(&wire), WireWriter(&wire));
@@ -76,7 +77,7 @@ fn serve_stream<M: time::Clock + Print, B: Book + Drop>(
         registry,
     );
     wire.end(word_of(served.end, wire.is_late()));
-    end_of_turn(alloc, stream, wire.is_late(), served.end);
+    end_of_turn(alloc, &turn.stream, wire.is_late(), served.end);
     served.registry
 }
 

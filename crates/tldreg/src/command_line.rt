@@ -41,6 +41,12 @@ pub enum Job {
     Serve {
         port: u16,
     },
+    /// `serve POLICY DB PORT OPERATOR_PORT TOKEN_FILE`
+    ServeBoth {
+        port: u16,
+        operator_port: u16,
+        token_file: String,
+    },
     /// `zone POLICY DB MOMENT`
     Zone {
         moment: Moment,
@@ -83,7 +89,7 @@ pub fn read_task(rt: &(impl Env + AllocGlobal)) -> Result<Asked, Exit>
 fn options_of(task: &Task) -> OptionKind {
     match task {
         Task::OnDatabase {
-            job: Job::Serve { .. },
+            job: Job::Serve { .. } | Job::ServeBoth { .. },
             ..
         } => OptionKind::Serving,
         Task::OnDatabase { .. } => OptionKind::OnDatabase,
@@ -154,7 +160,7 @@ fn migrate_of(words: Args) -> Result<Task, Exit>
     Ok(Task::Migrate { policy, from, to })
 }
 
-/// `serve POLICY DB PORT`
+/// `serve POLICY DB PORT`, and maybe `OPERATOR_PORT TOKEN_FILE`
 fn serve_of(words: Args) -> Result<Task, Exit>
     ensures { spec.Reads (spec.Asks (codes "serve" ∷ spec.texts words)) result }
 {
@@ -162,15 +168,31 @@ fn serve_of(words: Args) -> Result<Task, Exit>
     let policy = next_word(&mut words)?;
     let database = next_word(&mut words)?;
     let port = next_word(&mut words)?;
-    end_of_words(words)?;
-    let job = Job::Serve {
-        port: port_of(port.as_str())?,
-    };
+    let job = serving_of(port_of(port.as_str())?, words)?;
     Ok(Task::OnDatabase {
         policy,
         database,
         job,
     })
+}
+
+/// A port to serve, and what the words behind it say of the operator's.
+fn serving_of(port: u16, words: Args) -> Result<Job, Exit>
+    ensures { spec.Reads (spec.AsksServing port (spec.texts words)) result }
+{
+    let mut words = words;
+    match words.next() {
+        None => Ok(Job::Serve { port }),
+        Some(operator_port) => {
+            let token_file = next_word(&mut words)?;
+            end_of_words(words)?;
+            Ok(Job::ServeBoth {
+                port,
+                operator_port: port_of(operator_port.as_str())?,
+                token_file,
+            })
+        }
+    }
 }
 
 /// `zone POLICY DB MOMENT`

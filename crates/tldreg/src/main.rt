@@ -9,12 +9,13 @@ mod database;
 mod nearness;
 mod settings;
 mod texts;
+mod token;
 
 use calendar::Moment;
 use command_line::{Asked, Job, Task, read_task};
 use database::{is_in_memory, open, policy_in};
 use frames::Clock;
-use listening::serve_port;
+use listening::{Office, serve_port, serve_ports};
 use memory::run_script;
 use nearness::require_near;
 use policy::Policy;
@@ -31,6 +32,7 @@ use std::{fs, io, time};
 use store::{Book, BookFault};
 use takeover::migrate_on;
 use texts::{HELP, VERSION};
+use token::{End, credentials_of, ended};
 use wires::Log;
 use zonefile::ZoneFault;
 
@@ -40,6 +42,13 @@ fn run(rt: &(impl Files + Input + Print + AllocGlobal), policy: &str) -> Result<
     run_script(rt.alloc(), &policy, rt.reader(), &mut io::writer(rt)).result()
 }
 
+/// How a job is done: what the options say, and what is said by whoever has the operator's token.
+#[derive(Clone, Copy)]
+struct Means<'m> {
+    settings: &'m Settings,
+    credentials: &'m [u8],
+}
+
 /// Does a job with the registry of a database.
 fn work_on(
     rt: &HostRuntime,
@@ -47,12 +56,17 @@ fn work_on(
     database: &str,
     job: &Job,
     settings: &Settings,
-) -> Result<(), Exit> {
+) -> Result<(), End> {
+    let credentials = credentials_of(rt, job)?;
     let policy = policy_in(rt, policy)?;
+    let means = Means {
+        settings,
+        credentials: &credentials,
+    };
     if is_in_memory(database) {
-        work_over(rt, sqlbook::in_memory(rt.alloc()), policy, job, settings)
+        ended(work_over(rt, sqlbook::in_memory(rt.alloc()), policy, job, &means))
     } else {
-        work_in_file(rt, database, policy, job, settings)
+        ended(work_in_file(rt, database, policy, job, &means))
     }
 }
 
@@ -63,13 +77,13 @@ fn work_in_file(
     path: &str,
     policy: Policy,
     job: &Job,
-    settings: &Settings,
+    means: &Means<'_>,
 ) -> Result<(), Exit> {
     work_with(
         rt,
         restarts::registry_in(rt, path, Unknown, policy),
         job,
-        settings,
+        means,
     )
 }
 
@@ -79,12 +93,12 @@ fn work_over<B: Book + Drop>(
     made: Result<B, BookFault>,
     policy: Policy,
     job: &Job,
-    settings: &Settings,
+    means: &Means<'_>,
 ) -> Result<(), Exit>
     requires { IfOk made (λ book. (B.state book).is_open ≡ false) }
 {
     let registry = open(rt.alloc(), made, policy)?;
-    work(rt, registry, job, settings)
+    work(rt, registry, job, means)
 }
 
 /// The same with a registry, if it was opened.
@@ -92,10 +106,10 @@ fn work_with<B: Book + Drop>(
     rt: &HostRuntime,
     opened: Result<Registry<B>, OpenFault>,
     job: &Job,
-    settings: &Settings,
+    means: &Means<'_>,
 ) -> Result<(), Exit> {
     match opened {
-        Ok(registry) => work(rt, registry, job, settings),
+        Ok(registry) => work(rt, registry, job, means),
         Err(fault) => Err(Exit::Open(fault)),
     }
 }
@@ -105,19 +119,19 @@ fn work<B: Book + Drop>(
     rt: &HostRuntime,
     registry: Registry<B>,
     job: &Job,
-    settings: &Settings,
+    means: &Means<'_>,
 ) -> Result<(), Exit> {
     let mut registry = registry;
-    if let Some(days) = settings.within {
+    if let Some(days) = means.settings.within {
         require_near(&mut registry, moment_of(rt, job), days)?;
     }
-    work_then(rt, registry, job, settings)
+    work_then(rt, registry, job, means)
 }
 
 /// The moment of a job. That of `serve` is the machine's.
 fn moment_of(machine: &impl time::Clock, job: &Job) -> Moment {
     match job {
-        Job::Serve { .. } => MachineClock::new(machine).moment(),
+        Job::Serve { .. } | Job::ServeBoth { .. } => MachineClock::new(machine).moment(),
         Job::Zone { moment } | Job::Deposit { moment, .. } | Job::Order { moment, .. } => *moment,
     }
 }
@@ -127,10 +141,15 @@ fn work_then<B: Book + Drop>(
     rt: &HostRuntime,
     registry: Registry<B>,
     job: &Job,
-    settings: &Settings,
+    means: &Means<'_>,
 ) -> Result<(), Exit> {
     match job {
-        Job::Serve { port } => serve(rt, registry, *port, settings),
+        Job::Serve { port } => serve(rt, registry, *port, means.settings),
+        Job::ServeBoth {
+            port,
+            operator_port,
+            ..
+        } => serve_both(rt, registry, *port, *operator_port, means),
         Job::Zone { moment } => zone(rt, registry, *moment),
         Job::Deposit {
             moment,
@@ -153,8 +172,34 @@ fn serve<B: Book + Drop>(
     let Ok(listener) = TcpListener::bind(rt, (Ipv4Addr::LOCALHOST, port)) else {
         return Err(Exit::Network);
     };
-    let log = Log::new(rt.alloc(), rt, settings.is_quiet);
+    let log = Log::new(rt.alloc(), rt, settings.is_quiet, false);
     serve_port(rt.alloc(), rt, &listener, &settings.limits, &log, registry);
+    Err(Exit::Network)
+}
+
+/// The same with the operator's port.
+fn serve_both<B: Book + Drop>(
+    rt: &HostRuntime,
+    registry: Registry<B>,
+    port: u16,
+    operator_port: u16,
+    means: &Means<'_>,
+) -> Result<(), Exit>
+    ensures { result ≡ Err Exit.Network }
+{
+    let Ok(public) = TcpListener::bind(rt, (Ipv4Addr::LOCALHOST, port)) else {
+        return Err(Exit::Network);
+    };
+    let Ok(listener) = TcpListener::bind(rt, (Ipv4Addr::LOCALHOST, operator_port)) else {
+        return Err(Exit::Network);
+    };
+    let log = Log::new(rt.alloc(), rt, means.settings.is_quiet, true);
+    let office = Office {
+        listener: &listener,
+        credentials: means.credentials,
+    };
+    let limits = &means.settings.limits;
+    serve_ports(rt.alloc(), rt, &public, &office, limits, &log, registry);
     Err(Exit::Network)
 }
 
@@ -252,14 +297,14 @@ fn print(rt: &impl Print, text: &str) -> Result<(), Exit> {
     Ok(())
 }
 
-fn perform(rt: &HostRuntime) -> Result<(), Exit> {
+fn perform(rt: &HostRuntime) -> Result<(), End> {
     let Asked { task, settings } = read_task(rt)?;
     match task {
-        Task::Help => print(rt, HELP),
-        Task::Version => print(rt, VERSION),
-        Task::Run { policy } => run(rt, policy.as_str()),
+        Task::Help => ended(print(rt, HELP)),
+        Task::Version => ended(print(rt, VERSION)),
+        Task::Run { policy } => ended(run(rt, policy.as_str())),
         Task::Migrate { policy, from, to } => {
-            migrate(rt, policy.as_str(), from.as_str(), to.as_str())
+            ended(migrate(rt, policy.as_str(), from.as_str(), to.as_str()))
         }
         Task::OnDatabase {
             policy,
@@ -272,11 +317,15 @@ fn perform(rt: &HostRuntime) -> Result<(), Exit> {
 fn main(rt: HostRuntime) -> ExitCode {
     match perform(&rt) {
         Ok(()) => ExitCode::from(0),
-        Err(exit) => {
+        Err(End::Exit(exit)) => {
             if exit.has_line() {
                 let _ = eprintln!(rt; "{exit}");
             }
             ExitCode::from(exit.status())
+        }
+        Err(End::Token(unfit)) => {
+            let _ = eprintln!(rt; "{}", unfit.text());
+            ExitCode::from(1)
         }
     }
 }

@@ -7,7 +7,9 @@ pub const VERSION: &str = "tldreg 1.0.0";
 pub const HELP: &str = "tldreg: the registry of a top-level domain
 
 tldreg run POLICY                                    answer the script that standard input is
-tldreg serve POLICY DB PORT                          serve registrars (EPP) and the public (RDAP) on 127.0.0.1
+tldreg serve POLICY DB PORT [OPERATOR_PORT TOKEN_FILE]
+                                                     serve registrars (EPP) and the public (RDAP) on 127.0.0.1,
+                                                     and the operator (HTTP) who has the token of the file
 tldreg zone POLICY DB MOMENT                         print the zone
 tldreg deposit POLICY DB MOMENT REGISTRAR CENTS      enter what a registrar has paid
 tldreg order POLICY DB MOMENT JSON                   carry out an order of the operator

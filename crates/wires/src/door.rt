@@ -1,10 +1,12 @@
 //! Waiting until somebody comes.
 
-use crate::room::{Next, Room};
+use crate::room::Next;
+use crate::rooms::Rooms;
+use crate::turn::Turn;
 use mio::unix::SourceFd;
 use mio::{Events, Interest, Poll, Registry, Token};
 use std::alloc::Global;
-use std::net::{Net, TcpListener, TcpStream};
+use std::net::{Net, TcpListener};
 use std::os::fd::AsRawFd;
 use std::time::{self, Duration};
 use std::{io, thread};
@@ -28,13 +30,20 @@ pub struct Door {
 impl Door {
     /// The door of a listener.
     pub fn new(alloc: Global, net: &impl Net, listener: &TcpListener) -> io::Result<Door> {
-        listener.set_nonblocking(true)?;
         let poll = Poll::new(net)?;
         let events = Events::with_capacity(alloc, EVENTS)?;
+        let door = Door { poll, events };
+        door.add(listener)?;
+        Ok(door)
+    }
+
+    /// Makes it the door of another listener too.
+    pub fn add(&self, listener: &TcpListener) -> io::Result<()> {
+        listener.set_nonblocking(true)?;
         let number = listener.as_raw_fd();
-        poll.registry()
-            .register(&mut SourceFd(&number), Token(0), Interest::READABLE)?;
-        Ok(Door { poll, events })
+        self.poll
+            .registry()
+            .register(&mut SourceFd(&number), Token(0), Interest::READABLE)
     }
 
     /// What a room of this door has its connections watched by.
@@ -50,15 +59,11 @@ impl Door {
 }
 
 /// The next connection whose turn it is. None where there can't be one any more.
-pub fn next_turn<M: time::Clock>(
-    machine: &M,
-    room: &Room<'_>,
-    door: &mut Door,
-) -> Option<TcpStream> {
+pub fn next_turn<M: time::Clock>(machine: &M, rooms: &Rooms<'_>, door: &mut Door) -> Option<Turn> {
     'waits: for _ in 0..u64::MAX {
         let now = machine.monotonic().ok()?;
-        match room.next(now) {
-            Next::Turn(stream) => return Some(stream),
+        match rooms.next(now) {
+            Next::Turn(turn) => return Some(turn),
             Next::Nobody => door.wait().ok()?,
             Next::Want => thread::sleep(machine, Duration::from_millis(WANT)),
             Next::Fault => return None,

@@ -1,9 +1,11 @@
-//! A log: a line for each command and for each connection, of what is asked and told.
+//! A log: a line for each command and for each connection, of what is asked and told; and counts of these.
 
 use crate::asks::{Members, members_of, target_of};
+use crate::counts::{Tally, count};
 use crate::replies::{code_of, http_code_of, sv_trid_of};
+use crate::turn::Port;
 use calendar::Moment;
-use std::alloc::Global;
+use std::alloc::{AllocError, Global};
 use std::cell::Cell;
 use std::io::{self, Write};
 use std::time::{self, Duration};
@@ -23,6 +25,8 @@ const OPERATIONS: &[&str] = &[
     "ack", "approve", "cancel", "query", "reject", "report", "req", "request",
 ];
 
+const OFFICE_TARGETS: &[&str] = &["/orders", "/zone", "/metrics"];
+
 /// The most bytes of a frame or of a head that are kept: those of a frame.
 const MOST_ASKED: usize = 65_540;
 
@@ -41,42 +45,65 @@ pub struct Log<'l, M: time::Clock + Print> {
     alloc: Global,
     machine: &'l M,
     is_quiet: bool,
-    /// The number of the connection whose turn it is, how many commands it sent, and when its turn began.
+    is_counting: bool,
+    /// The number of the connection whose turn it is, by which port it came, how many commands it sent, and when
+    /// its turn began.
     connection: Cell<u64>,
+    port: Cell<Port>,
     commands: Cell<u64>,
     began: Cell<Duration>,
     /// The frame or the head that came last, and who is logged in.
     asked: Cell<Vec<u8>>,
     registrar: Cell<Vec<u8>>,
+    /// How often what was answered, for how long connections waited, and how many bytes came and went.
+    counts: Cell<Vec<Tally>>,
+    waited: Cell<Duration>,
+    heard: Cell<u64>,
+    sent: Cell<u64>,
 }
 
 impl<'l, M: time::Clock + Print> Log<'l, M> {
-    /// A log, of which a quiet one prints nothing.
-    pub fn new(alloc: Global, machine: &'l M, is_quiet: bool) -> Log<'l, M> {
+    /// A log, of which a quiet one prints nothing. Answers are counted by one that counts.
+    pub fn new(alloc: Global, machine: &'l M, is_quiet: bool, is_counting: bool) -> Log<'l, M> {
         Log {
             alloc,
             machine,
             is_quiet,
+            is_counting,
             connection: Cell::new(0),
+            port: Cell::new(Port::Public),
             commands: Cell::new(0),
             began: Cell::new(Duration::ZERO),
             asked: Cell::new(Vec::new(alloc)),
             registrar: Cell::new(Vec::new(alloc)),
+            counts: Cell::new(Vec::new(alloc)),
+            waited: Cell::new(Duration::ZERO),
+            heard: Cell::new(0),
+            sent: Cell::new(0),
         }
     }
 
-    /// A connection's turn begins.
-    pub(crate) fn begin(&self, now: Duration) {
+    /// The turn of a connection of a port begins, which waited so long.
+    pub(crate) fn begin(&self, port: Port, waited: Duration, now: Duration) {
         self.connection.set(self.connection.get().wrapping_add(1));
+        self.port.set(port);
+        self.waited.set(self.waited.get().saturating_add(waited));
         self.commands.set(0);
         self.began.set(now);
         self.asked.set(Vec::new(self.alloc));
         self.registrar.set(Vec::new(self.alloc));
     }
 
+    /// Whether nothing is made of what is asked and told.
+    fn is_idle(&self) -> bool {
+        self.is_quiet && !self.is_counting
+    }
+
     /// Keeps bytes of a frame or of a head, which may begin with them.
     pub(crate) fn hear(&self, bytes: &[u8], is_begin: bool) {
-        if self.is_quiet {
+        self.heard
+            .set(self.heard.get().wrapping_add(bytes.len() as u64));
+        if self.is_idle() {
             return;
         }
         let mut asked = self.asked.replace(Vec::new(self.alloc));
@@ -92,31 +119,53 @@ impl<'l, M: time::Clock + Print> Log<'l, M> {
     /// Logs the reply to the frame that came last.
     pub(crate) fn reply(&self, reply: &[u8], took: Duration) {
         self.commands.set(self.commands.get().wrapping_add(1));
-        if self.is_quiet {
+        if self.is_idle() {
             return;
         }
         let asked = self.asked.replace(Vec::new(self.alloc));
-        let _ = self.print_reply(&asked, reply, took);
+        let _ = self.note_reply(&asked, reply, took);
         self.asked.set(asked);
     }
 
     /// Logs the answer to the head that came.
     pub(crate) fn answer(&self, answer: &[u8], took: Duration) {
         self.commands.set(self.commands.get().wrapping_add(1));
-        if self.is_quiet {
+        if self.is_idle() {
             return;
         }
         let asked = self.asked.replace(Vec::new(self.alloc));
         let line = Line {
-            command: "rdap",
+            command: self.service(),
             operation: "-",
             object: "-",
-            name: target_of(&asked),
+            name: self.name_of(&asked),
             code: http_code_of(answer),
             sv_trid: b"",
         };
-        let _ = self.print_line(&line, took);
+        let _ = self.note_line(&line, took);
         self.asked.set(asked);
+    }
+
+    /// What answers over HTTP.
+    fn service(&self) -> &'static str {
+        match self.port.get() {
+            Port::Public => "rdap",
+            Port::Office => "operator",
+        }
+    }
+
+    /// The target that a head asks for. On the operator's port one that there isn't may be a slip, so it isn't told.
+    fn name_of<'h>(&self, head: &'h [u8]) -> &'h [u8] {
+        let target = target_of(head);
+        match self.port.get() {
+            Port::Office if !is_office_target(target) => b"",
+            _ => target,
+        }
+    }
+
+    /// Counts bytes that went.
+    pub(crate) fn gave(&self, count: usize) {
+        self.sent.set(self.sent.get().wrapping_add(count as u64));
     }
 
     /// Logs that a connection's turn ended so.
@@ -126,7 +175,7 @@ impl<'l, M: time::Clock + Print> Log<'l, M> {
         }
     }
 
-    fn print_reply(&self, asked: &[u8], reply: &[u8], took: Duration) -> io::Result<()> {
+    fn note_reply(&self, asked: &[u8], reply: &[u8], took: Duration) -> io::Result<()> {
         let members = members_of(asked.get(HEADER..).unwrap_or(b""));
         let code = code_of(reply);
         let sv_trid = sv_trid_of(reply);
@@ -144,7 +193,28 @@ impl<'l, M: time::Clock + Print> Log<'l, M> {
             code,
             sv_trid,
         };
-        self.print_line(&line, took)
+        self.note_line(&line, took)
+    }
+
+    /// Counts what a line says, and prints it unless the log is quiet.
+    fn note_line(&self, line: &Line<'_>, took: Duration) -> io::Result<()> {
+        if self.is_counting {
+            self.count(line)?;
+        }
+        if self.is_quiet {
+            return Ok(());
+        }
+        self.print_line(line, took)
+    }
+
+    fn count(&self, line: &Line<'_>) -> Result<(), AllocError> {
+        let registrar = self.registrar.replace(Vec::new(self.alloc));
+        let mut counts = self.take_counts();
+        let (command, code) = (line.command, line.code.unwrap_or(0));
+        let counted = count(self.alloc, &mut counts, &registrar, command, code);
+        self.keep_counts(counts);
+        self.registrar.set(registrar);
+        counted
     }
 
     /// Keeps who is logged in.
@@ -156,7 +226,10 @@ impl<'l, M: time::Clock + Print> Log<'l, M> {
     }
 
     fn print_line(&self, line: &Line<'_>, took: Duration) -> io::Result<()> {
-        let (name, sv_trid) = (self.plain(line.name)?, self.plain(line.sv_trid)?);
+        let (name, sv_trid) = (
+            plain(self.alloc, line.name)?,
+            plain(self.alloc, line.sv_trid)?,
+        );
         let (connection, registrar) = (self.connection.get(), self.registrar()?);
         let (at, code) = (self.moment()?, line.code.unwrap_or(0));
         let Line {
@@ -188,9 +261,36 @@ impl<'l, M: time::Clock + Print> Log<'l, M> {
 
     fn registrar(&self) -> io::Result<String> {
         let registrar = self.registrar.replace(Vec::new(self.alloc));
-        let text = self.plain(&registrar);
+        let text = plain(self.alloc, &registrar);
         self.registrar.set(registrar);
-        text
+        Ok(text?)
+    }
+
+    /// What was counted, until it is given back.
+    pub(crate) fn take_counts(&self) -> Vec<Tally> {
+        self.counts.replace(Vec::new(self.alloc))
+    }
+
+    pub(crate) fn keep_counts(&self, counts: Vec<Tally>) {
+        self.counts.set(counts);
+    }
+
+    /// How many connections had their turn, and for how long they waited.
+    pub(crate) fn turns(&self) -> u64 {
+        self.connection.get()
+    }
+
+    pub(crate) fn waited(&self) -> Duration {
+        self.waited.get()
+    }
+
+    /// How many bytes came and went.
+    pub(crate) fn heard_bytes(&self) -> u64 {
+        self.heard.get()
+    }
+
+    pub(crate) fn sent_bytes(&self) -> u64 {
+        self.sent.get()
     }
 
     /// The clock's moment.
@@ -201,18 +301,18 @@ impl<'l, M: time::Clock + Print> Log<'l, M> {
             Err(_) => Ok(Moment::first().text(self.alloc)?),
         }
     }
+}
 
-    /// A text of bytes that a client sent: of letters, digits and few signs, with a question mark for others.
-    fn plain(&self, bytes: &[u8]) -> io::Result<String> {
-        let mut text = String::new(self.alloc);
-        for byte in bytes.iter().take(MOST_NAME) {
-            text.push(plain_of(*byte))?;
-        }
-        if bytes.is_empty() {
-            text.push('-')?;
-        }
-        Ok(text)
+/// A text of bytes that a client sent: of letters, digits and few signs, with a question mark for others.
+pub(crate) fn plain(alloc: Global, bytes: &[u8]) -> Result<String, AllocError> {
+    let mut text = String::new(alloc);
+    for byte in bytes.iter().take(MOST_NAME) {
+        text.push(plain_of(*byte))?;
     }
+    if bytes.is_empty() {
+        text.push('-')?;
+    }
+    Ok(text)
 }
 
 /// What a line says of a command.
@@ -224,6 +324,16 @@ struct Line<'p> {
     name: &'p [u8],
     code: Option<u16>,
     sv_trid: &'p [u8],
+}
+
+/// Whether the operator's port has such a target.
+fn is_office_target(target: &[u8]) -> bool {
+    for known in OFFICE_TARGETS.iter() {
+        if known.as_bytes() == target {
+            return true;
+        }
+    }
+    false
 }
 
 /// Whether a command had another form than it may, so that a secret may stand in the place of a name.

@@ -73,11 +73,13 @@ pub(crate) struct Progress {
     /// When its last frame was whole, or its head began.
     asked: Duration,
     is_logged_in: bool,
+    /// Whether an answer goes in pieces, each with the time that a whole one has elsewhere.
+    has_pieces: bool,
 }
 
 impl Progress {
     /// That of a connection whose turn begins.
-    pub fn begun(now: Duration) -> Progress {
+    pub fn begun(now: Duration, has_pieces: bool) -> Progress {
         Progress {
             phase: Phase::First,
             part: Part::none(),
@@ -86,6 +88,7 @@ impl Progress {
             moved: now,
             asked: now,
             is_logged_in: false,
+            has_pieces,
         }
     }
 
@@ -116,6 +119,7 @@ impl Progress {
     /// These bytes are to go, and answers what begins with them. What it took to make a reply counts for nobody.
     pub fn give(&mut self, bytes: &[u8], now: Duration) -> Given {
         if self.phase == Phase::Answer {
+            self.begin_piece(now);
             return Given::Part;
         }
         if self.phase == Phase::Head {
@@ -139,6 +143,14 @@ impl Progress {
     fn begin(&mut self, phase: Phase, now: Duration) {
         self.turn_to(phase, now);
         self.moved = now;
+    }
+
+    /// The next piece of an answer begins to go. What it took to make it counts for nobody.
+    fn begin_piece(&mut self, now: Duration) {
+        if self.has_pieces {
+            self.since = now;
+            self.moved = now;
+        }
     }
 
     /// How long it took until a reply began to go.

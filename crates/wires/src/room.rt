@@ -1,6 +1,7 @@
 //! Connections that wait for their turn.
 ghost use Rattle.std.specs.Prelude.{◌<◌, IfSome, length};
 
+use crate::turn::{Port, Turn};
 use mio::unix::SourceFd;
 use mio::{Interest, Registry, Token};
 use std::alloc::Global;
@@ -40,9 +41,10 @@ impl Waiting {
 }
 
 /// What is to be done next.
+#[derive(Drop)]
 pub(crate) enum Next {
     /// To serve this connection.
-    Turn(TcpStream),
+    Turn(Turn),
     /// To wait until somebody comes.
     Nobody,
     /// To wait until a descriptor or memory is given back.
@@ -67,6 +69,7 @@ enum Entered {
 #[derive(Drop)]
 pub struct Room<'l> {
     alloc: Global,
+    port: Port,
     listener: &'l TcpListener,
     registry: &'l Registry,
     first: Duration,
@@ -76,12 +79,14 @@ pub struct Room<'l> {
 impl<'l> Room<'l> {
     pub fn new(
         alloc: Global,
+        port: Port,
         listener: &'l TcpListener,
         registry: &'l Registry,
         first: Duration,
     ) -> Room<'l> {
         Room {
             alloc,
+            port,
             listener,
             registry,
             first,
@@ -96,9 +101,21 @@ impl<'l> Room<'l> {
         let turn = take_ready(&mut waiting);
         self.waiting.set(waiting);
         match turn {
-            Some(stream) => Next::Turn(stream),
+            Some(Waiting { stream, came }) => Next::Turn(Turn {
+                port: self.port,
+                stream,
+                waited: now.saturating_sub(came),
+            }),
             None => next_of(entered),
         }
+    }
+
+    /// How many wait.
+    pub(crate) fn count(&self) -> usize {
+        let waiting = self.waiting.replace(Vec::new(self.alloc));
+        let count = waiting.len();
+        self.waiting.set(waiting);
+        count
     }
 
     /// Lets in who came, and says whether somebody's turn could come.
@@ -165,10 +182,9 @@ fn ready_place(waiting: &[Waiting]) -> Option<usize>
 }
 
 /// Takes the first one whose turn can come.
-fn take_ready(waiting: &mut Vec<Waiting>) -> Option<TcpStream> {
+fn take_ready(waiting: &mut Vec<Waiting>) -> Option<Waiting> {
     let place = ready_place(waiting)?;
-    let Waiting { stream, came: _ } = waiting.remove(place);
-    Some(stream)
+    Some(waiting.remove(place))
 }
 
 /// Lets the oldest one go of which no byte came. Answers whether there was one.

@@ -3,7 +3,9 @@
 use crate::limits::Limits;
 use crate::log::Log;
 use crate::progress::{Given, Progress};
-use crate::room::{Room, is_passing};
+use crate::room::is_passing;
+use crate::rooms::Rooms;
+use crate::turn::{Port, Turn};
 use std::cell::Cell;
 use std::io::{self, ErrorKind, Read, Write};
 use std::net::TcpStream;
@@ -16,7 +18,7 @@ const TICK: u64 = 250;
 pub struct Wire<'w, M: time::Clock + Print> {
     stream: &'w TcpStream,
     machine: &'w M,
-    room: &'w Room<'w>,
+    rooms: &'w Rooms<'w>,
     limits: &'w Limits,
     log: &'w Log<'w, M>,
     progress: Cell<Progress>,
@@ -32,7 +34,7 @@ impl<M: time::Clock + Print> Drop for Wire<'_, M> {
         let Wire {
             stream: _,
             machine: _,
-            room: _,
+            rooms: _,
             limits: _,
             log: _,
             progress: _,
@@ -48,21 +50,22 @@ impl<'w, M: time::Clock + Print> Wire<'w, M> {
     /// waited for.
     pub fn new(
         machine: &'w M,
-        room: &'w Room<'w>,
+        rooms: &'w Rooms<'w>,
         limits: &'w Limits,
         log: &'w Log<'w, M>,
-        stream: &'w TcpStream,
+        turn: &'w Turn,
     ) -> io::Result<Wire<'w, M>> {
+        let stream = &turn.stream;
         set_up(stream)?;
         let now = machine.monotonic()?;
-        log.begin(now);
+        log.begin(turn.port, turn.waited, now);
         Ok(Wire {
             stream,
             machine,
-            room,
+            rooms,
             limits,
             log,
-            progress: Cell::new(Progress::begun(now)),
+            progress: Cell::new(Progress::begun(now, turn.port == Port::Office)),
             is_awaited: Cell::new(false),
             looked: Cell::new(Duration::ZERO),
             is_late: Cell::new(false),
@@ -86,7 +89,7 @@ impl<'w, M: time::Clock + Print> Wire<'w, M> {
         let now = self.machine.monotonic()?;
         if now.saturating_sub(self.looked.get()) >= Duration::from_millis(TICK) {
             self.looked.set(now);
-            self.is_awaited.set(self.room.is_awaited(now));
+            self.is_awaited.set(self.rooms.is_awaited(now));
         }
         if self.is_late.get()
             || self
@@ -125,6 +128,7 @@ impl<'w, M: time::Clock + Print> Wire<'w, M> {
     /// Tells that bytes went.
     fn gave(&self, bytes: &[u8]) -> io::Result<()> {
         let mut progress = self.progress.get();
+        self.log.gave(bytes.len());
         progress.gave(bytes, self.machine.monotonic()?);
         self.progress.set(progress);
         Ok(())

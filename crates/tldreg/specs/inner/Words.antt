@@ -11,7 +11,7 @@ use Rattle.calendar.specs.Text.{moment_text}
 use Rattle.script.specs.declared.exit.Exit.{Exit}
 use Rattle.script.specs.declared.exit.Exit.TheVariants.{Usage}
 use Rattle.tldreg.specs.declared.command_line.Job.{Job}
-use Rattle.tldreg.specs.declared.command_line.Job.TheVariants.{Serve, Zone, Deposit, Order}
+use Rattle.tldreg.specs.declared.command_line.Job.TheVariants.{Serve, ServeBoth, Zone, Deposit, Order}
 use Rattle.tldreg.specs.declared.command_line.Task.{Task}
 use Rattle.tldreg.specs.declared.command_line.Task.TheVariants.{Help, Version, Run, Migrate, OnDatabase}
 
@@ -35,10 +35,23 @@ IsCents word cents =
 
 -- ---- what words ask for
 
+-- the words behind the port ask for this with it: nothing more, or the operator's port and the file of its token
+abbrev pub AsksServing : ℕ → List (List ℕ) → Job → Type 0
+AsksServing port words (Serve served) = (words ≡ []) × (served ≡ port)
+AsksServing port words (ServeBoth served operator_port token_file) =
+    (word : List ℕ) × (words ≡ word ∷ string_bytes token_file ∷ []) × IsPort word operator_port × (served ≡ port)
+AsksServing port words (Zone moment) = ⊥
+AsksServing port words (Deposit moment registrar cents) = ⊥
+AsksServing port words (Order moment json) = ⊥
+
 -- the words ask for this job with the registry of a database
 abbrev pub AsksJob : List (List ℕ) → (policy database : List ℕ) → Job → Type 0
 AsksJob words policy database (Serve port) =
     (word : List ℕ) × (words ≡ codes "serve" ∷ policy ∷ database ∷ word ∷ []) × IsPort word port
+AsksJob words policy database (ServeBoth port operator_port token_file) =
+    (word second : List ℕ)
+    × (words ≡ codes "serve" ∷ policy ∷ database ∷ word ∷ second ∷ string_bytes token_file ∷ [])
+    × IsPort word port × IsPort second operator_port
 AsksJob words policy database (Zone moment) =
     (word : List ℕ) × (words ≡ codes "zone" ∷ policy ∷ database ∷ word ∷ []) × IsMomentText word moment
 AsksJob words policy database (Deposit moment registrar cents) =

@@ -11,9 +11,9 @@ turns-preserved g c =
     let q : PolicyRules = c.turns.registry.policy in
     let old : BookState = g.B.Book.state c.args.registry.book in
     let between : BookState = g.B.Book.state c.turns.registry.book in
-    let new : BookState = g.B.Book.state c.serve_stream-registry.result.book in
+    let new : BookState = g.B.Book.state c.serve_public-registry.result.book in
     let before = c.turns.invariant in
-    let one = c.serve_stream-registry.ensures in
+    let one = c.serve_public-registry.ensures in
     record {
       served = one_more p q old between new before.policy before.served one.served;
       follows = follows_on old between new before.follows one.follows;

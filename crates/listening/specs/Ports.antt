@@ -1,0 +1,34 @@
+-- Connections of two ports, one after the other: sessions and look-ups by the one, the operator's requests by the
+-- other. Of what a socket gives and takes nothing is known; so this tells what becomes of the registry.
+use Rattle.std.specs.Prelude.{◌≡◌, ℕ, List, [], ◌∷◌, None}
+use Rattle.operator.specs.Operations.{Operates}
+use Rattle.operator.specs.declared.serving.RequestEnd.{RequestEnd}
+use Rattle.policy.specs.Rules.{PolicyRules}
+use Rattle.server.specs.Connections.{Serves}
+use Rattle.server.specs.declared.connection.ConnectionEnd.{ConnectionEnd}
+use Rattle.store.specs.Book.{BookState}
+
+-- by which port a connection came, and how it ended
+pub data PortTurn : Type 0 where
+  public : ConnectionEnd → PortTurn
+  office : RequestEnd → PortTurn
+
+-- what a connection leaves: what a session's steps or a look-up do, or what a request does that was made with these
+-- credentials
+abbrev pub Leaves : PolicyRules → List ℕ → PortTurn → BookState → BookState → Type 0
+Leaves p credentials (public end) old new = Serves p None None old None None None new end
+Leaves p credentials (office end) old new =
+    Operates p credentials None None old None None None new end
+
+abbrev pub LeavesOne : PolicyRules → List ℕ → BookState → BookState → Type 0
+LeavesOne p credentials old new = (turn : PortTurn) × Leaves p credentials turn old new
+
+-- connections, the last one first: each begins with what the one before it left
+abbrev pub Turns : PolicyRules → List ℕ → List PortTurn → BookState → BookState → Type 0
+Turns p credentials [] old new = new ≡ old
+Turns p credentials (turn ∷ earlier) old new =
+    (between : BookState) × Turns p credentials earlier old between
+    × Leaves p credentials turn between new
+
+abbrev pub ServesPorts : PolicyRules → List ℕ → BookState → BookState → Type 0
+ServesPorts p credentials old new = (turns : List PortTurn) × Turns p credentials turns old new

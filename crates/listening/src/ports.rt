@@ -1,0 +1,170 @@
+//! Connections of two ports.
+ghost use Rattle.std.specs.Prelude.{◌≡◌, None};
+ghost use Rattle.listening.specs.Ports.{LeavesOne, ServesPorts};
+ghost use Rattle.operator.specs.Operations.{Operates};
+ghost use Rattle.operator.specs.declared.serving.RequestEnd.{RequestEnd};
+ghost use Rattle.store.specs.Book.{Follows};
+
+use crate::listener::serve_public;
+use operator::{Figures, RequestEnd, serve_request};
+use rdap::Routes;
+use registry::Registry;
+use server::{MachineClock, let_go_with_more};
+use std::alloc::{AllocError, Global};
+use std::net::{Net, TcpListener};
+use std::time;
+use store::Book;
+use wires::{
+    Door, Limits, Log, Port, Room, Rooms, Turn, Wire, WireReader, WireWriter, next_turn,
+    write_figures,
+};
+
+/// The operator's port, and what is said there by whoever has its token.
+#[derive(Clone, Copy)]
+pub struct Office<'o> {
+    pub listener: &'o TcpListener,
+    pub credentials: &'o [u8],
+}
+
+/// Serves connections of two ports without end, one after the other: those of registrars and of the public, and the
+/// operator's. Returns where no connection can be accepted any more, or where the machine has no way to wait for one.
+pub fn serve_ports<M: time::Clock + Print + Net, B: Book + Drop>(
+    alloc: Global,
+    machine: &M,
+    public: &TcpListener,
+    office: &Office<'_>,
+    limits: &Limits,
+    log: &Log<'_, M>,
+    registry: Registry<B>,
+) -> Registry<B>
+    ensures served { ServesPorts registry.policy office.now.credentials.now (B.state registry.book)
+        (B.state result.book) }
+    ensures follows { Follows (B.state registry.book) (B.state result.book) }
+    ensures policy { result.policy ≡ registry.policy }
+{
+    let Ok(mut door) = Door::new(alloc, machine, public) else {
+        return registry;
+    };
+    let added = door.add(office.listener);
+    let (Ok(()), Ok(routes), Ok(watch)) = (added, Routes::new(alloc), door.watch()) else {
+        return registry;
+    };
+    let rooms = Rooms::new(
+        Room::new(alloc, Port::Public, public, &watch, limits.first),
+        Some(Room::new(alloc, Port::Office, office.listener, &watch, limits.first)),
+    );
+    let credentials = office.credentials;
+    let mut registry = registry;
+    'turns: for _ in 0..u64::MAX {
+        let Some(turn) = next_turn(machine, &rooms, &mut door) else {
+            return registry;
+        };
+        registry = serve_turn(
+            alloc,
+            &routes,
+            machine,
+            &rooms,
+            limits,
+            log,
+            credentials,
+            &turn,
+            registry,
+        );
+    }
+    registry
+}
+
+/// Serves a connection until it ends, and hands the registry back.
+fn serve_turn<M: time::Clock + Print, B: Book + Drop>(
+    alloc: Global,
+    routes: &Routes,
+    machine: &M,
+    rooms: &Rooms<'_>,
+    limits: &Limits,
+    log: &Log<'_, M>,
+    credentials: &[u8],
+    turn: &Turn,
+    registry: Registry<B>,
+) -> Registry<B>
+    ensures served { LeavesOne registry.policy credentials.now (B.state registry.book)
+        (B.state result.book) }
+    ensures follows { Follows (B.state registry.book) (B.state result.book) }
+    ensures policy { result.policy ≡ registry.policy }
+{
+    match turn.port {
+        Port::Public => serve_public(alloc, routes, machine, rooms, limits, log, turn, registry),
+        Port::Office => serve_office(
+            alloc,
+            machine,
+            rooms,
+            limits,
+            log,
+            credentials,
+            turn,
+            registry,
+        ),
+    }
+}
+
+/// Serves a connection of the operator's.
+fn serve_office<M: time::Clock + Print, B: Book + Drop>(
+    alloc: Global,
+    machine: &M,
+    rooms: &Rooms<'_>,
+    limits: &Limits,
+    log: &Log<'_, M>,
+    credentials: &[u8],
+    turn: &Turn,
+    registry: Registry<B>,
+) -> Registry<B>
+    ensures served { (end : RequestEnd) × Operates registry.policy credentials.now None None
+        (B.state registry.book) None None None (B.state result.book) end }
+    ensures follows { Follows (B.state registry.book) (B.state result.book) }
+    ensures policy { result.policy ≡ registry.policy }
+{
+    // Where it can't be bounded how long a peer is waited for, it isn't served.
+    let Ok(wire) = Wire::new(machine, rooms, limits, log, turn) else {
+        return registry;
+    };
+    let (mut reader, mut writer) = (WireReader(&wire), WireWriter(&wire));
+    let mut clock = MachineClock::new(machine);
+    let told = Told { log, rooms };
+    let mut registry = registry;
+    let end = serve_request(
+        alloc,
+        credentials,
+        &told,
+        &mut reader,
+        &mut writer,
+        &mut clock,
+        &mut registry,
+    );
+    wire.end(word_of(end, wire.is_late()));
+    let_go_with_more(alloc, &turn.stream);
+    registry
+}
+
+/// What the program tells of itself.
+#[derive(Drop)]
+struct Told<'t, M: time::Clock + Print> {
+    log: &'t Log<'t, M>,
+    rooms: &'t Rooms<'t>,
+}
+
+impl<M: time::Clock + Print> Figures for Told<'_, M> {
+    fn write(&self, alloc: Global, text: &mut String) -> Result<(), AllocError> {
+        write_figures(alloc, self.log, self.rooms, text)
+    }
+}
+
+/// How a connection ended, in a word.
+fn word_of(end: RequestEnd, is_late: bool) -> &'static str {
+    if is_late {
+        return "late";
+    }
+    match end {
+        RequestEnd::Answered => "answered",
+        RequestEnd::Cut => "broken",
+        RequestEnd::Unanswered => "unanswered",
+    }
+}

@@ -1,0 +1,32 @@
+-- What a look at the clock leaves.
+use Rattle.std.proofs.Common.{ℕ, inl, inr, ap}
+use Rattle.std.specs.Prelude.{Result, Ok, Err, IfErr, IfOk}
+use Rattle.policy.specs.Rules.{PolicyRules}
+use Rattle.privacy.specs.Runs.{Answer, Question}
+use Rattle.registry.specs.Calls.{CallKeeps}
+use Rattle.registry.specs.Execution.{Fails, Greets, IsUnchanged}
+use Rattle.registry.specs.declared.fault.Fault.{Fault}
+use Rattle.registry.specs.declared.fault.Fault.TheVariants as faults
+use Rattle.server.specs.Http.{Passes}
+use Rattle.store.specs.Book.{BookState, Stored}
+
+unchanged : (fault : Fault) (old new : BookState) → Fails fault old new → IsUnchanged old new
+unchanged faults.Memory old new fails = fails.0
+unchanged faults.Store old new fails = fails.0
+unchanged faults.Moment old new fails = fails.0
+
+-- a look at it changes nothing but that time passes
+pub looked : (p : PolicyRules) (moment : ℕ) (x : Question) (told : ℕ → Answer) (makes : Stored → Stored → Type 0) (result : Result ℕ Fault) (after : PolicyRules) (old new : BookState) → IfOk result (λ date. Greets p moment date old new)
+    → IfErr result (λ fault. Fails fault old new) → CallKeeps p moment x told makes result after old new → Passes p moment old new
+looked p moment x told makes (Ok date) after old new greets fails keeps = record {
+  registry = λ clean. inr (greets clean).left;
+  terms = keeps.answered.terms;
+  follows = keeps.follows;
+}
+looked p moment x told makes (Err fault) after old new greets fails keeps =
+    let kept : IsUnchanged old new = unchanged fault old new fails in
+    record {
+      registry = λ clean. inl (ap (λ (held : Stored). held.registry) (kept.content clean));
+      terms = λ clean. ap (λ (held : Stored). held.terms) (kept.content clean);
+      follows = keeps.follows;
+    }

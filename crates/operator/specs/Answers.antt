@@ -1,0 +1,65 @@
+-- Answers on the operator's port (RFC 9112, 4 to 6).
+use Rattle.std.specs.Prelude.{ℕ, List, [], ◌∷◌, ◌++◌, codes, decimal, length}
+use Rattle.operator.specs.declared.answer.Outcome.{Outcome}
+use Rattle.operator.specs.declared.answer.Outcome.TheVariants.{Done, Malformed, Unauthorized, NotFound, OnlyGet, OnlyPost, Conflict, LengthRequired, TooLarge, Failed}
+use Rattle.operator.specs.declared.answer.Kind.{Kind}
+use Rattle.operator.specs.declared.answer.Kind.TheVariants.{Json, Plain, Prometheus}
+use Rattle.operator.specs.declared.request.Refusal.{Refusal}
+use Rattle.operator.specs.declared.request.Refusal.TheVariants as refusals
+
+-- code and reason (RFC 9110, 15)
+abbrev pub status_of : Outcome → List ℕ
+status_of Done = codes "200 OK"
+status_of Malformed = codes "400 Bad Request"
+status_of Unauthorized = codes "401 Unauthorized"
+status_of NotFound = codes "404 Not Found"
+status_of OnlyGet = codes "405 Method Not Allowed"
+status_of OnlyPost = codes "405 Method Not Allowed"
+status_of Conflict = codes "409 Conflict"
+status_of LengthRequired = codes "411 Length Required"
+status_of TooLarge = codes "413 Content Too Large"
+status_of Failed = codes "500 Internal Server Error"
+
+-- the scheme that is asked for (RFC 9110, 11.6.1; RFC 6750, 3), and the method that there is (RFC 9110, 10.2.1)
+abbrev pub field_of : Outcome → List ℕ
+field_of Unauthorized = codes "WWW-Authenticate: Bearer\r\n"
+field_of OnlyGet = codes "Allow: GET\r\n"
+field_of OnlyPost = codes "Allow: POST\r\n"
+field_of Done = []
+field_of Malformed = []
+field_of NotFound = []
+field_of Conflict = []
+field_of LengthRequired = []
+field_of TooLarge = []
+field_of Failed = []
+
+abbrev pub type_of : Kind → List ℕ
+type_of Json = codes "application/json"
+type_of Plain = codes "text/plain"
+type_of Prometheus = codes "text/plain; version=0.0.4"
+
+-- the pieces, one after the other
+abbrev pub joined : List (List ℕ) → List ℕ
+joined [] = []
+joined (piece ∷ pieces) = piece ++ joined pieces
+
+-- the status line, the fields and an empty line, for a body of that length
+abbrev pub head : Outcome → Kind → ℕ → List ℕ
+head outcome kind len = joined (
+    codes "HTTP/1.1 " ∷ status_of outcome
+    ∷ codes "\r\nContent-Type: " ∷ type_of kind ∷ codes "\r\nContent-Length: " ∷ decimal len
+    ∷ codes "\r\n" ∷ field_of outcome ∷ codes "Connection: close\r\n\r\n" ∷ []
+    )
+
+abbrev pub response : Outcome → Kind → List ℕ → List ℕ
+response outcome kind body = head outcome kind (length body) ++ body
+
+-- ---- refusals
+
+abbrev pub outcome_of : Refusal → Outcome
+outcome_of refusals.Token = Unauthorized
+outcome_of refusals.Target = NotFound
+outcome_of refusals.OnlyGet = OnlyGet
+outcome_of refusals.OnlyPost = OnlyPost
+outcome_of refusals.Length = LengthRequired
+outcome_of refusals.Size = TooLarge

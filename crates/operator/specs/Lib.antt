@@ -1,0 +1,4 @@
+pub mod Requests
+pub mod Heard
+pub mod Answers
+pub mod Operations

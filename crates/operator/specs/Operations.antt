@@ -1,0 +1,96 @@
+-- What a request of the operator's does to a registry, and what it is answered.
+use Rattle.std.specs.Prelude.{◌≡◌, ◌⊎◌, ℕ, List, [], take, Option, Some, None}
+use Rattle.std.specs.Io.KnownBytes.{Appends}
+use Rattle.eppcommands.specs.Order.{order_in}
+use Rattle.frames.specs.Clocks.{Tells, first_moment}
+use Rattle.operator.specs.Answers.{response}
+use Rattle.operator.specs.Heard.{IsHeard}
+use Rattle.operator.specs.declared.answer.Kind.TheVariants as kinds
+use Rattle.operator.specs.declared.answer.Outcome.{Outcome}
+use Rattle.operator.specs.declared.answer.Outcome.TheVariants as outcomes
+use Rattle.operator.specs.declared.request.Asked.{Asked}
+use Rattle.operator.specs.declared.request.Asked.TheVariants.{Order, Zone, Metrics, Refused}
+use Rattle.operator.specs.declared.serving.RequestEnd.{RequestEnd}
+use Rattle.operator.specs.declared.serving.RequestEnd.TheVariants as ends
+use Rattle.policy.specs.Rules.{PolicyRules}
+use Rattle.protocol.specs.declared.code.Code.{Code}
+use Rattle.protocol.specs.declared.code.Code.TheVariants.{Completed}
+use Rattle.registry.specs.Execution.{IsUnchanged}
+use Rattle.script.specs.declared.exit.Exit.{Exit}
+use Rattle.script.specs.declared.exit.Exit.TheVariants as exits
+use Rattle.script.specs.Deposits.{IsCarriedOut}
+use Rattle.script.specs.Orders.{IsOrdered, IsTold}
+use Rattle.server.specs.Http.{Passes}
+use Rattle.store.specs.Book.{BookState}
+
+-- ---- orders
+
+-- 1000 is 200, and an order that the rules refuse is 409 (RFC 9110, 15.5.10)
+abbrev pub outcome_of_code : Code → Outcome
+outcome_of_code Completed = outcomes.Done
+outcome_of_code _ = outcomes.Conflict
+
+-- an order that wasn't told of: what is no order is 400 (RFC 9110, 15.5.1), and all else 500 (RFC 9110, 15.6.1)
+abbrev pub outcome_of_exit : Exit → Outcome
+outcome_of_exit (exits.Script n) = outcomes.Malformed
+outcome_of_exit _ = outcomes.Failed
+
+-- the body is an order that takes its step at the moment, and the text is what `tldreg order` prints of it
+abbrev pub IsAnsweredOrder : PolicyRules → List ℕ → ℕ → Outcome → List ℕ → BookState → BookState → Type 0
+IsAnsweredOrder p body moment outcome text old new =
+    IsOrdered body (λ request. (code : Code) × (outcome ≡ outcome_of_code code) × IsTold p request moment code old new (Some []) (Some text))
+
+-- the body is no order, and nothing is changed
+abbrev pub IsNoOrder : List ℕ → Outcome → BookState → BookState → Type 0
+IsNoOrder body outcome old new =
+    (outcome ≡ outcomes.Malformed) × (order_in body ≡ None) × IsUnchanged old new
+
+-- the registry gave up, or there was no memory: nothing is changed, or the order took its step
+abbrev pub IsFailedOrder : PolicyRules → List ℕ → ℕ → Outcome → BookState → BookState → Type 0
+IsFailedOrder p body moment outcome old new =
+    (outcome ≡ outcomes.Failed)
+    × (IsUnchanged old new ⊎ IsOrdered body (λ request. IsCarriedOut p request moment old new))
+
+-- what becomes of a body, and its answer
+abbrev pub Orders : PolicyRules → List ℕ → ℕ → Outcome → List ℕ → BookState → BookState → Type 0
+Orders p body moment outcome text old new =
+    IsAnsweredOrder p body moment outcome text old new
+    ⊎ (IsNoOrder body outcome old new ⊎ IsFailedOrder p body moment outcome old new)
+
+-- ---- what is sent
+
+-- the answer goes out, whole or a beginning of it; where there is no memory for it, nothing
+abbrev pub IsSent : List ℕ → (before after : Option (List ℕ)) → RequestEnd → Type 0
+IsSent answer before after ends.Answered = Appends before after answer
+IsSent answer before after ends.Cut = (n : ℕ) × Appends before after (take n answer)
+IsSent answer before after ends.Unanswered = Appends before after []
+
+-- ---- requests
+
+-- an order at one moment of the clock, which is kept before its answer goes out
+abbrev pub DoesOrder : PolicyRules → List ℕ → (clock later : Option (List ℕ)) → (old new : BookState)
+    → (before after : Option (List ℕ)) → RequestEnd → Type 0
+DoesOrder p body clock later old new before after end =
+    (moment : ℕ) × Tells clock later moment
+    × (outcome : Outcome) × (text : List ℕ) × Orders p body moment outcome text old new
+    × IsSent (response outcome kinds.Json text) before after end
+
+-- a zone at one moment, which changes nothing but that time passes
+abbrev pub DoesZone : PolicyRules → (clock later : Option (List ℕ)) → (old new : BookState) → Type 0
+DoesZone p clock later old new = (moment : ℕ) × Tells clock later moment × Passes p moment old new
+
+-- What is done for what is asked. For figures the registry's clock is looked at, and what is refused does nothing.
+abbrev pub Does : PolicyRules → Asked → List ℕ → (clock later : Option (List ℕ)) → (old new : BookState)
+    → (before after : Option (List ℕ)) → RequestEnd → Type 0
+Does p (Order n) body clock later old new before after end = DoesOrder p body clock later old new before after end
+Does p Zone body clock later old new before after end = DoesZone p clock later old new
+Does p Metrics body clock later old new before after end =
+    (later ≡ clock) × Passes p first_moment old new
+Does p (Refused why) body clock later old new before after end = (later ≡ clock) × (new ≡ old)
+
+-- A request: what is done is what its head asks for, of who has the token. Where none is heard nothing is done.
+abbrev pub Operates : PolicyRules → List ℕ → (input clock : Option (List ℕ)) → BookState
+    → (before after later : Option (List ℕ)) → BookState → RequestEnd → Type 0
+Operates p credentials input clock old before after later new end =
+    ((later ≡ clock) × (new ≡ old))
+    ⊎ ((asked : Asked) × (body : List ℕ) × IsHeard credentials input asked body × Does p asked body clock later old new before after end)

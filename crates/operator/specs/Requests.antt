@@ -1,0 +1,102 @@
+-- What a request of the operator's asks for: its token (RFC 6750), its method and its target (RFC 9110, 9112).
+use Rattle.std.specs.Prelude.{◌≡◌, ◌⊎◌, ℕ, ◌≤◌, Bool, true, false, List, [], ◌∷◌, ◌++◌, drop, length, map, if◌then◌else◌, nat_le, bytes_eq, codes, Option, None, Some, IfSome}
+use Rattle.std.specs.List.{list_any}
+use Rattle.std.specs.Char.{to_ascii_lowercase}
+use Rattle.std.specs.Str.Parse.{IsNumeral, digits_value}
+use Rattle.httparse.specs.Grammar.{ReadsRequest, RequestHead}
+use Rattle.httparse.specs.Spans.{name_and_value}
+use Rattle.operator.specs.declared.request.Asked.{Asked}
+use Rattle.operator.specs.declared.request.Asked.TheVariants.{Order, Zone, Metrics, Refused}
+use Rattle.operator.specs.declared.request.Refusal.TheVariants as refusals
+use Rattle.operator.specs.declared.request.TheConstants.{MOST_BODY}
+use Rattle.operator.specs.declared.token.TheConstants.{LEAST_TOKEN}
+
+-- ---- fields, as names and values
+
+-- names are compared without regard to case (RFC 9110, 5.1)
+abbrev pub is_named : List ℕ → List ℕ × List ℕ → Bool
+is_named name f = bytes_eq (map to_ascii_lowercase f.0) (map to_ascii_lowercase name)
+
+-- the value of the only field of a name
+abbrev pub only_value : List ℕ → List (List ℕ × List ℕ) → Option (List ℕ)
+only_value name [] = None
+only_value name (f ∷ fields) =
+    if is_named name f then (if list_any (is_named name) fields then None else Some f.1) else only_value name fields
+
+-- ---- the token
+
+-- the token of a file is its bytes, without the line feed at their end
+abbrev pub IsTokenOf : List ℕ → List ℕ → Type 0
+IsTokenOf file token = (file ≡ token) ⊎ (file ≡ token ++ (10 ∷ []))
+
+-- the fewest bytes of a token
+abbrev pub least_token : ℕ
+least_token = LEAST_TOKEN
+
+-- what the field Authorization says of a token (RFC 6750, 2.1)
+abbrev pub credentials_of : List ℕ → List ℕ
+credentials_of token = codes "Bearer " ++ token
+
+-- a token that may open the port, and what is said of it
+pub record IsToldOf (file told : List ℕ) : Type 0 where
+  pub token : List ℕ
+  pub of_file : IsTokenOf file token
+  pub long : least_token ≤ length token
+  pub told_is : told ≡ credentials_of token
+
+-- whether the only field Authorization says so, whole
+abbrev pub is_right : List ℕ → Option (List ℕ) → Bool
+is_right credentials None = false
+is_right credentials (Some value) = bytes_eq value credentials
+
+abbrev pub bears : List ℕ → List (List ℕ × List ℕ) → Bool
+bears credentials fields = is_right credentials (only_value (codes "Authorization") fields)
+
+-- ---- the length of the body
+
+-- the most bytes of an order: those of a frame's payload
+abbrev pub most_body : ℕ
+most_body = MOST_BODY
+
+-- a number in digits
+abbrev pub IsNumber : List ℕ → ℕ → Type 0
+IsNumber digits n = IsNumeral 10 digits × (digits_value 10 digits ≡ n)
+
+-- the only field Content-Length is this number in digits (RFC 9110, 8.6)
+abbrev pub IsLength : List (List ℕ × List ℕ) → ℕ → Type 0
+IsLength fields n =
+    (digits : List ℕ) × (only_value (codes "Content-Length") fields ≡ Some digits) × IsNumber digits n
+
+-- ---- what is asked
+
+-- a body of that length comes; without a length there is none (RFC 9110, 15.5.12 and 15.5.14)
+abbrev pub ordered : Option ℕ → Asked
+ordered None = Refused refusals.Length
+ordered (Some n) = if nat_le n most_body then Order n else Refused refusals.Size
+
+abbrev pub got : List ℕ → Asked → Asked
+got method asked = if bytes_eq method (codes "GET") then asked else Refused refusals.OnlyGet
+
+-- of who has the token, by method and target (RFC 9110, 15.5.5 and 15.5.6)
+abbrev pub routed : List ℕ → List ℕ → Option ℕ → Asked
+routed method target length =
+    if bytes_eq target (codes "/orders") then (if bytes_eq method (codes "POST") then ordered length else Refused refusals.OnlyPost)
+    else (if bytes_eq target (codes "/zone") then got method Zone
+    else (if bytes_eq target (codes "/metrics") then got method Metrics
+    else Refused refusals.Target))
+
+-- who doesn't have it is refused, whatever is asked (RFC 9110, 15.5.2)
+abbrev pub asked_by : Bool → List ℕ → List ℕ → Option ℕ → Asked
+asked_by false method target length = Refused refusals.Token
+asked_by true method target length = routed method target length
+
+-- what is asked by a head, of who has these credentials
+pub record IsAskedBy (credentials : List ℕ) (h : RequestHead) (asked : Asked) : Type 0 where
+  pub length : Option ℕ
+  pub told : IfSome length (IsLength (map name_and_value h.fields))
+  pub is : asked ≡ asked_by (bears credentials (map name_and_value h.fields)) h.method h.target length
+
+-- the bytes begin with a head by which this is asked, and which ends behind so many of them
+abbrev pub HasHead : List ℕ → List ℕ → Asked → ℕ → Type 0
+HasHead credentials bytes asked len =
+    (h : RequestHead) × ReadsRequest bytes h (drop len bytes) × (len ≤ length bytes) × IsAskedBy credentials h asked

@@ -1,0 +1,225 @@
+//! A connection of the operator's: one request.
+ghost use Rattle.std.specs.Prelude.{◌≡◌, ◌≤◌, OnOk};
+ghost use Rattle.operator.specs.Answers.{response};
+ghost use Rattle.operator.specs.Operations.{Does, IsSent, Operates};
+ghost use Rattle.operator.specs.Operations as spec;
+ghost use Rattle.server.specs.Http.{Passes};
+ghost use Rattle.frames.specs.Clocks.{Tells, first_moment};
+ghost use Rattle.store.specs.Book.{Follows};
+
+use crate::answer::{Kind, Outcome, outcome_of, response};
+use crate::chunks::Chunks;
+use crate::figures::{Figures, figures_of};
+use crate::hearing::{Heard, Unheard, hear};
+use crate::orders::order_at;
+use crate::request::Asked;
+use calendar::Moment;
+use frames::Clock;
+use registry::Registry;
+use server::{ZoneExportFault, zone_on};
+use std::alloc::Global;
+use std::io::{Read, Write};
+use store::Book;
+use streams::{WriteFault, write_whole};
+
+/// How a connection of the operator's ended.
+#[derive(Clone, Copy, Debug, PartialEq, Eq)]
+pub enum RequestEnd {
+    /// Its request was answered.
+    Answered,
+    /// A beginning of the answer went out.
+    Cut,
+    /// Nothing was answered.
+    Unanswered,
+}
+
+/// Serves one request of whoever has these credentials, up to its answer. What it asks for is done, and kept,
+/// before its answer goes out. Who doesn't have them is told so, and nothing is done.
+pub fn serve_request<R: Read, W: Write, C: Clock, F: Figures, B: Book + Drop>(
+    alloc: Global,
+    credentials: &[u8],
+    figures: &F,
+    reader: &mut R,
+    writer: &mut W,
+    clock: &mut C,
+    registry: &mut Registry<B>,
+) -> RequestEnd
+    ensures served { Operates registry.old.policy credentials.now (R.remaining reader.old)
+        (C.moments clock.old) (B.state registry.old.book) (W.contents writer.old)
+        (W.contents writer.new) (C.moments clock.new) (B.state registry.new.book) result }
+    ensures follows { Follows (B.state registry.old.book) (B.state registry.new.book) }
+    ensures policy { registry.new.policy ≡ registry.old.policy }
+{
+    match hear(alloc, credentials, reader) {
+        Ok(heard) => {
+            let Heard { asked, body } = heard;
+            answer(alloc, figures, asked, &body, writer, clock, registry)
+        }
+        Err(Unheard::Headless) => refuse(alloc, Outcome::Malformed, writer),
+        Err(Unheard::Lost) => RequestEnd::Unanswered,
+    }
+}
+
+/// Does what is asked, and answers.
+fn answer<W: Write, C: Clock, F: Figures, B: Book + Drop>(
+    alloc: Global,
+    figures: &F,
+    asked: Asked,
+    body: &[u8],
+    writer: &mut W,
+    clock: &mut C,
+    registry: &mut Registry<B>,
+) -> RequestEnd
+    ensures does { Does registry.old.policy asked body.now (C.moments clock.old)
+        (C.moments clock.new) (B.state registry.old.book) (B.state registry.new.book)
+        (W.contents writer.old) (W.contents writer.new) result }
+    ensures follows { Follows (B.state registry.old.book) (B.state registry.new.book) }
+    ensures policy { registry.new.policy ≡ registry.old.policy }
+{
+    match asked {
+        Asked::Order(_) => answer_order(alloc, body, writer, clock, registry),
+        Asked::Zone => answer_zone(alloc, writer, clock, registry),
+        Asked::Metrics => answer_metrics(alloc, figures, writer, registry),
+        Asked::Refused(why) => refuse(alloc, outcome_of(why), writer),
+    }
+}
+
+/// Carries out an order at the clock's moment, and answers.
+fn answer_order<W: Write, C: Clock, B: Book + Drop>(
+    alloc: Global,
+    body: &[u8],
+    writer: &mut W,
+    clock: &mut C,
+    registry: &mut Registry<B>,
+) -> RequestEnd
+    ensures does { spec.DoesOrder registry.old.policy body.now (C.moments clock.old)
+        (C.moments clock.new) (B.state registry.old.book) (B.state registry.new.book)
+        (W.contents writer.old) (W.contents writer.new) result }
+    ensures follows { Follows (B.state registry.old.book) (B.state registry.new.book) }
+    ensures policy { registry.new.policy ≡ registry.old.policy }
+{
+    let moment = clock.moment();
+    let ordered = order_at(alloc, registry, moment, body);
+    send(alloc, ordered.outcome, Kind::Json, &ordered.text, writer)
+}
+
+/// Sends the zone at the clock's moment, in pieces.
+fn answer_zone<W: Write, C: Clock, B: Book + Drop>(
+    alloc: Global,
+    writer: &mut W,
+    clock: &mut C,
+    registry: &mut Registry<B>,
+) -> RequestEnd
+    ensures does { spec.DoesZone registry.old.policy (C.moments clock.old) (C.moments clock.new)
+        (B.state registry.old.book) (B.state registry.new.book) }
+    ensures follows { Follows (B.state registry.old.book) (B.state registry.new.book) }
+    ensures policy { registry.new.policy ≡ registry.old.policy }
+{
+    let moment = clock.moment();
+    match write_zone(alloc, registry, moment, writer) {
+        Written::Whole => RequestEnd::Answered,
+        Written::Cut => RequestEnd::Cut,
+        Written::Nothing => refuse(alloc, Outcome::Failed, writer),
+    }
+}
+
+/// How much of a zone was sent.
+#[derive(Clone, Copy)]
+enum Written {
+    Whole,
+    Cut,
+    Nothing,
+}
+
+/// Sends the zone of a moment, in pieces.
+fn write_zone<W: Write, B: Book + Drop>(
+    alloc: Global,
+    registry: &mut Registry<B>,
+    moment: Moment,
+    writer: &mut W,
+) -> Written
+    ensures passes { Passes registry.old.policy moment (B.state registry.old.book)
+        (B.state registry.new.book) }
+    ensures policy { registry.new.policy ≡ registry.old.policy }
+{
+    let mut chunks = Chunks::new(alloc, writer);
+    let told = zone_on(alloc, registry, moment, &mut chunks);
+    end_of_zone(told, chunks)
+}
+
+/// Sends the end of a zone, if it was told whole.
+fn end_of_zone<W: Write + Drop>(told: Result<(), ZoneExportFault>, chunks: Chunks<W>) -> Written {
+    let mut chunks = chunks;
+    match told {
+        Ok(()) if chunks.end().is_ok() => Written::Whole,
+        _ if chunks.is_begun() => Written::Cut,
+        _ => Written::Nothing,
+    }
+}
+
+/// Sends figures of the program and of the registry's clock.
+fn answer_metrics<W: Write, F: Figures, B: Book + Drop>(
+    alloc: Global,
+    figures: &F,
+    writer: &mut W,
+    registry: &mut Registry<B>,
+) -> RequestEnd
+    ensures passes { Passes registry.old.policy first_moment (B.state registry.old.book)
+        (B.state registry.new.book) }
+    ensures follows { Follows (B.state registry.old.book) (B.state registry.new.book) }
+    ensures policy { registry.new.policy ≡ registry.old.policy }
+{
+    let Some(now) = clock_of(registry) else {
+        return refuse(alloc, Outcome::Failed, writer);
+    };
+    match figures_of(alloc, figures, now) {
+        Ok(text) => send(
+            alloc,
+            Outcome::Done,
+            Kind::Prometheus,
+            text.as_bytes(),
+            writer,
+        ),
+        Err(_) => refuse(alloc, Outcome::Failed, writer),
+    }
+}
+
+/// The registry's clock: what it tells at the first moment of all.
+fn clock_of<B: Book + Drop>(registry: &mut Registry<B>) -> Option<Moment>
+    ensures passes { Passes registry.old.policy first_moment (B.state registry.old.book)
+        (B.state registry.new.book) }
+    ensures policy { registry.new.policy ≡ registry.old.policy }
+{
+    registry.greet(Moment::first()).ok()
+}
+
+/// Answers that nothing is done.
+fn refuse<W: Write>(alloc: Global, outcome: Outcome, writer: &mut W) -> RequestEnd {
+    send(
+        alloc,
+        outcome,
+        Kind::Plain,
+        outcome.status().as_bytes(),
+        writer,
+    )
+}
+
+/// Sends an answer.
+fn send<W: Write>(
+    alloc: Global,
+    outcome: Outcome,
+    kind: Kind,
+    body: &[u8],
+    writer: &mut W,
+) -> RequestEnd
+    ensures { IsSent (response outcome kind body.now) (W.contents writer.old) (W.contents writer.new)
+        result }
+{
+    let Ok(answer) = response(alloc, outcome, kind, body) else {
+        return RequestEnd::Unanswered;
+    };
+    match write_whole(writer, &answer) {
+        Ok(()) => RequestEnd::Answered,
+        Err(WriteFault) => RequestEnd::Cut,
+    }
+}

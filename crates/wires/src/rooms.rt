@@ -1,0 +1,80 @@
+//! The rooms of a program's ports.
+
+use crate::room::{Next, Room};
+use crate::turn::{Port, Turn};
+use std::cell::Cell;
+use std::time::Duration;
+
+/// The room of one port, or those of two. Where connections of both wait, they have their turns one by one, so
+/// neither port keeps the other waiting.
+#[derive(Drop)]
+pub struct Rooms<'l> {
+    public: Room<'l>,
+    office: Option<Room<'l>>,
+    /// Whose turn was the last one.
+    last: Cell<Port>,
+}
+
+impl<'l> Rooms<'l> {
+    pub fn new(public: Room<'l>, office: Option<Room<'l>>) -> Rooms<'l> {
+        Rooms {
+            public,
+            office,
+            last: Cell::new(Port::Office),
+        }
+    }
+
+    /// Lets in who came, and says what is to be done next.
+    pub(crate) fn next(&self, now: Duration) -> Next {
+        match &self.office {
+            Some(office) => self.next_of(office, now),
+            None => self.public.next(now),
+        }
+    }
+
+    /// The same where there are two ports.
+    fn next_of(&self, office: &Room<'l>, now: Duration) -> Next {
+        let next = match self.last.get() {
+            Port::Public => next_of_two(office, &self.public, now),
+            Port::Office => next_of_two(&self.public, office, now),
+        };
+        if let Next::Turn(turn) = &next {
+            self.last.set(turn.port);
+        }
+        next
+    }
+
+    /// Lets in who came, and says whether somebody's turn could come.
+    pub(crate) fn is_awaited(&self, now: Duration) -> bool {
+        let is_awaited = self.public.is_awaited(now);
+        match &self.office {
+            Some(office) => office.is_awaited(now) || is_awaited,
+            None => is_awaited,
+        }
+    }
+
+    /// How many wait.
+    pub(crate) fn count(&self) -> usize {
+        match &self.office {
+            Some(office) => self.public.count().saturating_add(office.count()),
+            None => self.public.count(),
+        }
+    }
+}
+
+/// What is to be done next, where the first of two rooms comes first.
+fn next_of_two(first: &Room<'_>, second: &Room<'_>, now: Duration) -> Next {
+    match first.next(now) {
+        Next::Nobody => second.next(now),
+        Next::Want => want_or(second.next(now)),
+        next => next,
+    }
+}
+
+/// The same where something is wanting for the first.
+fn want_or(next: Next) -> Next {
+    match next {
+        Next::Nobody => Next::Want,
+        next => next,
+    }
+}
