@@ -1,8 +1,7 @@
 -- What time enters into accounts commutes.
-use Rattle.std.proofs.Common.{◌≡◌, ℕ, Bool, true, false, not, cond, ◌&&◌, List, [], ◌∷◌, map, Option, Some, None, refl, sym, ap, ◌∙◌, arith, Result, Ok, Err}
+use Rattle.std.proofs.Common.{◌≡◌, ℕ, Bool, true, false, not, cond, ◌&&◌, List, [], ◌∷◌, map, Option, Some, None, refl, sym, ap, ◌∙◌, arith}
 use Rattle.std.proofs.lemmas.Bool.Decides.{nat_tests}
 use Rattle.std.proofs.lemmas.Cmp.{alike_right, nat_cmp_total}
-use Rattle.std.specs.Result.{OnOk}
 use Rattle.std.specs.BTreeSet.{insert_key}
 use Rattle.std.specs.Cmp.{IsTotalOrder}
 use Rattle.std.specs.FinMap.{FinMap, IsAntisymmetric, nat_cmp-IsAntisymmetric}
@@ -20,7 +19,7 @@ use Rattle.accounts.specs.declared.line.Line.{Line}
 use Rattle.accounts.specs.declared.line.TransferStart.{TransferStart}
 use Rattle.accounts.specs.declared.message.Message.{Message}
 use Rattle.accounts.specs.Account.{empty_account}
-use Rattle.accounts.specs.Entries.{Commutes, entered, posted, renewal_line}
+use Rattle.accounts.specs.Entries.{entered, posted, renewal_line}
 use Rattle.accounts.specs.Lines.{begins_by, in_order, is_for_transfer, transfer_started}
 use Rattle.accounts.specs.MessageOrder.{message_cmp_total}
 use Rattle.accounts.specs.Messages.{message_cmp}
@@ -186,7 +185,3 @@ entries-swap (Notice m) (Notice n) a = ap (λ (ms : List Message). let b : Accou
 -- what time posts into accounts makes the same of them in whatever order
 pub postings_commute : (accounts : FinMap nat_cmp Account) (g h : Posting) → posted (posted accounts g) h ≡ posted (posted accounts h) g
 postings_commute accounts g h = change_at-commutes nat_cmp nat_cmp_total nat_cmp-IsAntisymmetric empty_account accounts h.registrar g.registrar (entered h.what) (entered g.what) (λ same a. entries-swap h.what g.what a)
-
-pub entry-result : {X E : Type 0} (what : LapseEntry) (before after : Account) (r : Result X E) → OnOk r (after ≡ entered what before) → OnOk r (Commutes what before after)
-entry-result what before after (Ok x) e = λ other. ap (entered other) e ∙ entries-swap other what before
-entry-result what before after (Err x) e = e

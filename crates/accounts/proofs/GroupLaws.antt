@@ -4,8 +4,8 @@ use Rattle.std.specs.Prelude.{unwrap_or}
 use Rattle.std.proofs.lemmas.Bool.Decides.{nat_tests}
 use Rattle.std.proofs.lemmas.Cmp.{nat_list_cmp_total}
 use Rattle.std.proofs.lemmas.Int.{ints}
-use Rattle.std.proofs.lemmas.List.{append-nil, length-map, map-append}
-use Rattle.std.proofs.lemmas.List.Elements.{filter-append, recursion_from_All}
+use Rattle.std.proofs.lemmas.List.{append-nil, map-append}
+use Rattle.std.proofs.lemmas.List.Elements.{filter-append}
 use Rattle.std.proofs.lemmas.List.Folds.{list_any-append}
 use Rattle.std.proofs.lemmas.Map.{NonePasses, none_passes_from_lookup}
 use Rattle.std.proofs.lemmas.Map.Entries.{none_past_head}
@@ -15,7 +15,7 @@ use Rattle.std.specs.BTreeMap.{insert_entry, is_at}
 use Rattle.std.specs.Cmp.{Equal-is, IsEquivalence, eq_by_cmp_equiv}
 use Rattle.std.specs.Cmp.Lexicographic.{slice_cmp}
 use Rattle.std.specs.FinMap.{nat_cmp-IsAntisymmetric, slice_cmp-IsAntisymmetric}
-use Rattle.std.specs.List.{All, AllByRecursion, IsDistinct, filter, list_any}
+use Rattle.std.specs.List.{AllByRecursion, IsDistinct, filter, list_any}
 use Rattle.std.specs.List.Sorted.{IsStrictlySortedBy}
 use Rattle.std.specs.Int.{saturate_signed, w128}
 use Rattle.std.specs.Result.{OnErr, OnOk}
@@ -298,40 +298,7 @@ swaps-found roid f elsewhere key gs ls swaps h k e made =
     ∙ swaps-made f ls (bag (all_lines (set_value (at key) gs []))) ∙ sym (set-apart key (map f ls) gs ls (sym e))
     ∙ remade-found roid f elsewhere key gs (set_value (at key) gs (map f ls)) ls (map f ls) h k e refl refl
 
--- ---- what a group adds to the balance
-
-gained-at : (key : List ℕ) (w : List Line) (g : List ℕ × List Line) (gs : List (List ℕ × List Line)) (ls : List Line) (b : Bool) → cond b (Some g.1) (lookup (at key) gs) ≡ Some ls
-    → (lookup (at key) gs ≡ Some ls → balance (all_lines (set_value (at key) gs w)) ≡ balance (all_lines gs) +ℤ (balance w -ℤ balance ls))
-    → balance (all_lines (cond b ((g.0, w) ∷ gs) (g ∷ set_value (at key) gs w))) ≡ balance (g.1 ++ all_lines gs) +ℤ (balance w -ℤ balance ls)
-gained-at key w g gs ls true e ih =
-    let same : balance ls ≡ balance g.1 = cc in
-    omega (arith, ints, same, balance-append w (all_lines gs), balance-append g.1 (all_lines gs))
-gained-at key w g gs ls false e ih =
-    omega (arith, ints, ih e, balance-append g.1 (all_lines (set_value (at key) gs w)), balance-append g.1 (all_lines gs))
-
-gained-all : (key : List ℕ) (w : List Line) (gs : List (List ℕ × List Line)) (ls : List Line) → lookup (at key) gs ≡ Some ls
-    → balance (all_lines (set_value (at key) gs w)) ≡ balance (all_lines gs) +ℤ (balance w -ℤ balance ls)
-gained-all key w [] ls e = cc
-gained-all key w (g ∷ gs) ls e = gained-at key w g gs ls (at key g.0) e (gained-all key w gs ls)
-
-pub gained : (key : List ℕ) (gs ns : List (List ℕ × List Line)) (ls ms : List Line) → Some ls ≡ lookup (at key) gs → ns ≡ set_value (at key) gs ms
-    → balance ms -ℤ balance ls ≡ balance (bag (all_lines ns)) -ℤ balance (bag (all_lines gs))
-gained key gs ns ls ms e n =
-    let after : balance (bag (all_lines ns)) ≡ balance (all_lines (set_value (at key) gs ms)) = balance-bag_of (all_lines ns) ∙ ap (λ (m : List (List ℕ × List Line)). balance (all_lines m)) n in
-    omega (arith, ints, after, gained-all key ms gs ls (sym e), balance-bag_of (all_lines gs))
-
 -- ---- sums fit
-
-few-at : (g : List ℕ × List Line) (gs : List (List ℕ × List Line)) (key : List ℕ) (ls : List Line) (b : Bool) → cond b (Some g.1) (lookup (at key) gs) ≡ Some ls
-    → (lookup (at key) gs ≡ Some ls → length ls ≤ length (all_lines gs)) → length ls ≤ length (g.1 ++ all_lines gs)
-few-at g gs key ls true e ih =
-    let same : length ls ≡ length g.1 = cc in
-    omega (arith, same, length-append g.1 (all_lines gs))
-few-at g gs key ls false e ih = omega (arith, ih e, length-append g.1 (all_lines gs))
-
-few-all : (key : List ℕ) (gs : List (List ℕ × List Line)) (ls : List Line) → lookup (at key) gs ≡ Some ls → length ls ≤ length (all_lines gs)
-few-all key [] ls e = cc
-few-all key (g ∷ gs) ls e = few-at g gs key ls (at key g.0) e (few-all key gs ls)
 
 length-add-step : (b : Bool) (x y : Line) (ys zs : List Line) → length zs ≡ length ys + 1 → length (cond b (x ∷ y ∷ ys) (y ∷ zs)) ≡ length (y ∷ ys) + 1
 length-add-step true x y ys zs e = omega arith
@@ -346,13 +313,6 @@ pub length-bag_of : (ls : List Line) → length (bag ls) ≡ length ls
 unfolding bag_of
 length-bag_of [] = refl
 length-bag_of (l ∷ ls) = length-add l (bag ls) ∙ omega (arith, length-bag_of ls)
-
-pub length-remade : (f : Line → Line) (ls : List Line) → length (remade in_order f ls) ≡ length ls
-length-remade f ls = length-bag_of (map f ls) ∙ length-map ls f
-
--- a group has no more lines than the bag
-pub few-found : (key : List ℕ) (gs : List (List ℕ × List Line)) (ls : List Line) → Some ls ≡ lookup (at key) gs → length ls ≤ length (bag (all_lines gs))
-few-found key gs ls e = omega (arith, few-all key gs ls (sym e), length-bag_of (all_lines gs))
 
 bounded-under : (key : List ℕ) (ls rest : List Line) → AllByRecursion (IsUnder key) ls → IsBounded rest → IsBounded (ls ++ rest)
 bounded-under key [] rest group h = h
@@ -406,18 +366,6 @@ insert-grouped key x gs ns ms h n sorted under e =
 
 pub insert-bag : (key : List ℕ) (x : Line) (gs ns : List (List ℕ × List Line)) (ms : List Line) → None ≡ lookup (at key) gs → ns ≡ insert_entry by_numbers gs key ms → ms ≡ x ∷ [] → bag (all_lines ns) ≡ add in_order x (bag (all_lines gs))
 insert-bag key x gs ns ms none n e = ap (λ (m : List (List ℕ × List Line)). bag (all_lines m)) (n ∙ ap (insert_entry by_numbers gs key) e) ∙ inserted key x gs (sym none)
-
--- in which each line was made anew
-all-under : (f : Line → Line) → ((l : Line) → (f l).roid ≡ l.roid) → (key : List ℕ) (ls : List Line) → AllByRecursion (IsUnder key) ls → AllByRecursion IsSmall (map f ls) → AllByRecursion (IsUnder key) (map f ls)
-all-under f stays key [] group small = tt
-all-under f stays key (l ∷ ls) group small = (record { domain = ap roid_numbers (stays l) ∙ group.0.domain; small = small.0 }, all-under f stays key ls group.1 small.1)
-
-pub remade-grouped : (f : Line → Line) → ((l : Line) → (f l).roid ≡ l.roid) → (key : List ℕ) (gs ns : List (List ℕ × List Line)) (ls ms : List Line) → IsGrouped gs → Some ls ≡ lookup (at key) gs → ns ≡ set_value (at key) gs ms
-    → IsStrictlySortedBy by_numbers (keys_of ns) → ms ≡ map f ls → All IsSmall ms → IsGrouped ns
-remade-grouped f stays key gs ns ls ms h e n sorted made small =
-    let smalls : AllByRecursion IsSmall (map f ls) = recursion_from_All IsSmall (map f ls) (subst (All IsSmall) made small) in
-    let group : AllByRecursion (IsUnder key) ms = subst (AllByRecursion (IsUnder key)) (sym made) (all-under f stays key ls (found key gs ls h.under (sym e)) smalls) in
-    record { sorted = sorted; under = subst (AllByRecursion IsGroup) (sym n) (groups-set_value key ms gs h.under group) }
 
 -- ---- a line taken back
 
@@ -539,14 +487,6 @@ module _ (x : Line) where
           taken-there ∙ bag-absent (all_lines gs) (any-found gs ls h.under apart (by_key (Some ls) e) ∙ sym there ∙ is)
 
 -- ---- sums in 128 bits
-
--- what a few lines gain
-pub gain-fits : (old new : List Line) (a b r : ℤ) → length old < 4_611_686_018_427_387_904 → length new ≡ length old → All IsSmall old → All IsSmall new
-    → a ≡ balance old → b ≡ balance new → r ≡ saturate_signed w128 (b -ℤ a) → r ≡ balance new -ℤ balance old
-gain-fits old new a b r few same small-old small-new e f sat =
-    let before : IsBounded old = bounded-small old (recursion_from_All IsSmall old small-old) in
-    let after : IsBounded new = bounded-small new (recursion_from_All IsSmall new small-new) in
-    sat ∙ ap (saturate_signed w128) (λ i. f i -ℤ e i) ∙ fits (balance new -ℤ balance old) (omega (arith, ints, before.low, before.high, after.low, after.high, few, same)) (omega (arith, ints, before.low, before.high, after.low, after.high, few, same))
 
 -- a sum is kept by what is gained
 pub sum-fits : (old new : List Line) (all gain r : ℤ) → length new < 4_611_686_018_427_387_904 → IsBounded new → all ≡ balance old → balance new ≡ balance old +ℤ gain → r ≡ saturate_signed w128 (all +ℤ gain) → r ≡ balance new

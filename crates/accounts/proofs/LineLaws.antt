@@ -1,11 +1,10 @@
 -- Lines stand in an order, and balances are sums.
 use Rattle.std.proofs.Common.{◌≡◌, ℕ, ◌+◌, ◌<◌, ◌==◌, Bool, true, false, cond, ◌&&◌, nat_eq, List, [], ◌∷◌, ◌++◌, length, take, get_or, Option, Some, None, is_some, refl, sym, ap, subst, ◌∙◌, arith, ℤ, pos, negsuc, ◌+ℤ◌, ◌-ℤ◌, ◌≤ℤ◌}
 use Rattle.std.specs.Int.{saturate_signed, w128}
-use Rattle.std.specs.List.{All, AllByRecursion}
+use Rattle.std.specs.List.{AllByRecursion}
 use Rattle.std.proofs.lemmas.Bool.Decides.{nat_tests}
 use Rattle.std.proofs.lemmas.Int.{ints}
-use Rattle.std.proofs.lemmas.List.{length-take-le, take_more}
-use Rattle.std.proofs.lemmas.List.Elements.{All-more, All-nil, recursion_from_All}
+use Rattle.std.proofs.lemmas.List.{take_more}
 use Rattle.std.proofs.lemmas.Cmp.{nat_list_cmp_total}
 use Rattle.std.specs.Cmp.{IsTotalOrder}
 use Rattle.std.specs.Cmp.Lexicographic.{slice_cmp}
@@ -260,25 +259,3 @@ bounded-small (l ∷ ls) small = bounded-cons l ls small.0 (bounded-small ls sma
 pub fits : (z : ℤ) → (pos 0 -ℤ pos 170_141_183_460_469_231_731_687_303_715_884_105_728) ≤ℤ z → z ≤ℤ pos 170_141_183_460_469_231_731_687_303_715_884_105_727 → saturate_signed w128 z ≡ z
 fits (pos n) low high = ap pos (omega (arith, ints, high))
 fits (negsuc n) low high = ap negsuc (omega (arith, ints, low))
-
--- the sum of the lines so far, and that none is of more cents than fit
-pub record IsSum (lines : List Line) (i : ℕ) (all : ℤ) : Type 0 where
-  pub small : All IsSmall (take i lines)
-  pub sum : length lines < 4_611_686_018_427_387_904 → all ≡ balance (take i lines)
-
-pub sum-begins : (lines : List Line) → IsSum lines 0 (pos 0)
-unfolding balance
-sum-begins lines = record { small = All-nil IsSmall; sum = λ few. refl }
-
--- the step, in the words of the code
-pub sum-step : (lines : List Line) (i : ℕ) (l : Line) (all a r : ℤ) → i < length lines → l ≡ get_or lines i l → IsSmall l → a ≡ amount l → r ≡ saturate_signed w128 (all +ℤ a) → IsSum lines i all → IsSum lines (i + 1) r
-sum-step lines i l all a r lt e small same sat h =
-    let smalls : All IsSmall (take (i + 1) lines) = All-more IsSmall lines i l lt h.small (subst IsSmall e small) in
-    let bounded : IsBounded (take (i + 1) lines) = bounded-small (take (i + 1) lines) (recursion_from_All IsSmall (take (i + 1) lines) smalls) in
-    let many : length (take (i + 1) lines) ≡ i + 1 = length-take-le (i + 1) lines (omega (arith, lt)) in
-    record {
-      small = smalls;
-      sum = λ few.
-          let more : balance (take (i + 1) lines) ≡ all +ℤ a = balance-more lines i l lt e ∙ (λ j. sym (h.sum few) j +ℤ sym same j) in
-          sat ∙ ap (saturate_signed w128) (sym more) ∙ fits (balance (take (i + 1) lines)) (omega (arith, ints, bounded.low, many, few, lt)) (omega (arith, ints, bounded.high, many, few, lt));
-    }

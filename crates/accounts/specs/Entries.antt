@@ -32,10 +32,6 @@ entered (Renewal r) a = with_lines (add in_order (renewal_line r)) a
 entered (Start s) a = with_lines (remade in_order (transfer_started s)) a
 entered (Notice m) a = with_queue (put m) a
 
--- another entry after this one makes the same of the account as before it
-abbrev pub Commutes : LapseEntry → Account → Account → Type 0
-Commutes what before after = (other : LapseEntry) → entered other after ≡ entered what (entered other before)
-
 -- the accounts with an entry in one registrar's
 abbrev pub posted : FinMap nat_cmp Account → Posting → FinMap nat_cmp Account
 posted accounts p = change_at empty_account p.registrar (entered p.what) accounts

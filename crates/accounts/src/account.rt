@@ -1,6 +1,6 @@
 //! A registrar's account.
 ghost use Rattle.std.specs.Prelude.{◌≡◌};
-ghost use Rattle.accounts.specs.Account.{saturating_next, empty_account, with_command, with_serial};
+ghost use Rattle.accounts.specs.Account.{empty_account, saturating_next};
 
 use crate::lines::Lines;
 use crate::queue::Queue;
@@ -44,19 +44,5 @@ impl Account {
             messages: 0,
             serial: 0,
         }
-    }
-
-    /// Counts a command.
-    pub fn count_command(&mut self)
-        ensures { self.new ≡ with_command self.old }
-    {
-        self.commands = saturating_next(self.commands);
-    }
-
-    /// Counts an object.
-    pub fn take_serial(&mut self)
-        ensures { self.new ≡ with_serial self.old }
-    {
-        self.serial = saturating_next(self.serial);
     }
 }

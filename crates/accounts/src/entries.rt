@@ -1,15 +1,13 @@
 //! What time alone enters into accounts. Entries commute, so that the order in which objects are
 //! looked at makes no difference.
-ghost use Rattle.std.specs.Prelude.{◌≡◌, OnOk, OnErr};
+ghost use Rattle.std.specs.Prelude.{◌≡◌};
 ghost use Rattle.accounts.specs.Entries as spec;
 
-use crate::account::Account;
 use crate::line::{Line, LineKind, TransferStart};
 use crate::message::Message;
 use basis::registrar::RegistrarNo;
 use calendar::Moment;
 use objects::Roid;
-use std::alloc::AllocError;
 
 /// The charge of an automatic year, whose grace begins at once.
 #[derive(Clone, Copy, Drop)]
@@ -49,32 +47,6 @@ impl AutoRenewal {
             cents: self.cents,
             started: Some(self.moment),
             refunded: None,
-        }
-    }
-}
-
-impl Account {
-    /// Makes an entry that time brings. It makes no difference whether another one came before it or
-    /// comes after.
-    pub fn enter(&mut self, what: LapseEntry) -> Result<(), AllocError>
-        ensures ok { OnOk result (self.new ≡ spec.entered what self.old) }
-        ensures commutes { OnOk result (spec.Commutes what self.old self.new) }
-        ensures err { OnErr result (self.new ≡ self.old) }
-    {
-        self.enter_any(what)
-    }
-
-    fn enter_any(&mut self, what: LapseEntry) -> Result<(), AllocError>
-        ensures ok { OnOk result (self.new ≡ spec.entered what self.old) }
-        ensures err { OnErr result (self.new ≡ self.old) }
-    {
-        match what {
-            LapseEntry::Renewal(renewal) => self.lines.add(renewal.line()),
-            LapseEntry::Start(start) => {
-                self.lines.remake(&start);
-                Ok(())
-            }
-            LapseEntry::Notice(message) => self.queue.push(message),
         }
     }
 }

@@ -1,6 +1,6 @@
 //! Lines by the domains that they are for.
-ghost use Rattle.std.specs.Prelude.{◌≡◌, ◌<◌, ◌++◌, ◌∷◌, [], length, map, true, false, IfOk, IfSome, OnOk, OnErr, ◌-ℤ◌};
-ghost use Rattle.std.specs.List.{All, filter, list_any, position};
+ghost use Rattle.std.specs.Prelude.{◌≡◌, ◌<◌, ◌++◌, ◌∷◌, [], length, true, false, IfOk, IfSome, OnOk, OnErr};
+ghost use Rattle.std.specs.List.{filter, list_any, position};
 ghost use Rattle.basis.specs.Bag.{add, bag_of, remade, same, taken};
 ghost use Rattle.accounts.specs.Groups.{IsBounded, IsSmall};
 ghost use Rattle.accounts.specs.Lines as spec;
@@ -79,18 +79,6 @@ impl Group {
     {
         place_of(&self.lines, line).is_some()
     }
-
-    /// Makes each line what the change makes of it, and gives what that adds to their sum.
-    fn remake<C: LineChange>(&mut self, change: &C) -> i128
-        ensures value { self.new ≡ map (C.changed change.now) self.old }
-        ensures small { All IsSmall self.new }
-        ensures gain { length self.old < 4_611_686_018_427_387_904
-            → result ≡ spec.balance self.new -ℤ spec.balance self.old }
-    {
-        let before = sum(&self.lines);
-        remake_each(&mut self.lines, change);
-        sum(&self.lines).saturating_sub(before)
-    }
 }
 
 /// The index of a line.
@@ -99,26 +87,6 @@ fn place_of(lines: &[Line], line: &Line) -> Option<usize>
     ensures bound { IfSome result (λ at. at < length lines.now) }
 {
     lines.iter().position(|it| line.is(it))
-}
-
-fn remake_each<C: LineChange>(lines: &mut [Line], change: &C)
-    ensures { lines.new ≡ map (C.changed change.now) lines.old }
-{
-    for line in lines.iter_mut() {
-        *line = change.changed(*line);
-    }
-}
-
-/// What the lines add up to.
-fn sum(lines: &[Line]) -> i128
-    ensures small { All IsSmall lines.now }
-    ensures sum { length lines.now < 4_611_686_018_427_387_904 → result ≡ spec.balance lines.now }
-{
-    let mut all: i128 = 0;
-    for line in lines {
-        all = all.saturating_add(line.amount());
-    }
-    all
 }
 
 /// The lines that a change makes others of, each with what it makes of it.
@@ -255,19 +223,5 @@ impl Groups {
             return false;
         };
         group.take(line)
-    }
-
-    /// Makes each line what the change makes of it, and gives what that adds to their sum. It goes
-    /// over the lines of the change's domain alone.
-    pub(crate) fn remake<C: LineChange>(&mut self, change: &C) -> i128
-        ensures value { self.new ≡ remade in_order (C.changed change.now) self.old }
-        ensures bounded { IsBounded self.new }
-        ensures gain { length self.old < 4_611_686_018_427_387_904
-            → result ≡ spec.balance self.new -ℤ spec.balance self.old }
-    {
-        let Some(group) = self.groups.get_mut(&key_of(&Some(change.domain()))) else {
-            return 0;
-        };
-        group.remake(change)
     }
 }

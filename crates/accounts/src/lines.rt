@@ -95,14 +95,6 @@ impl Lines {
         }
     }
 
-    /// Makes each line what the change makes of it. It goes over those of the change's domain alone.
-    pub fn remake<C: LineChange>(&mut self, change: &C)
-        ensures { self.new ≡ remade in_order (C.changed change.now) self.old }
-    {
-        let gain = self.groups.remake(change);
-        self.balance = self.balance.saturating_add(gain);
-    }
-
     /// Deposits less charges plus refunds.
     pub fn balance(&self) -> i128
         ensures { result ≡ spec.balance self.now }

@@ -6,7 +6,7 @@ use Rattle.std.specs.Cmp.Lexicographic.{slice_cmp, nat_list_cmp_total}
 use Rattle.std.specs.FinMap.{FinMap, entries, get, insert, remove, get-insert, get-remove, nat_cmp-IsAntisymmetric, same_map}
 use Rattle.std.specs.Option.{option_map_or}
 use Rattle.std.specs.Ordering.{eq_by_cmp, nat_cmp}
-use Rattle.std.proofs.lemmas.Bool.{or_parts}
+use Rattle.std.proofs.lemmas.Bool.{cond_both, or_parts}
 use Rattle.accounts.specs.declared.account.Account.{Account}
 use Rattle.accounts.specs.declared.entries.LapseEntry.{LapseEntry}
 use Rattle.accounts.specs.declared.entries.LapseEntry.TheVariants.{Notice, Renewal, Start}
@@ -45,6 +45,7 @@ use Rattle.lifecycle.specs.Turns.{turns}
 use Rattle.objects.specs.declared.contact.Contact.{Contact}
 use Rattle.objects.specs.declared.domain.Deletion.{Deletion}
 use Rattle.objects.specs.declared.domain.Domain.{Domain}
+use Rattle.objects.specs.declared.host.Host.{Host}
 use Rattle.objects.specs.declared.roid.Roid.{Roid}
 use Rattle.objects.specs.declared.transfer.Transfer.{Transfer}
 use Rattle.policy.specs.Rules.{PolicyRules}

@@ -1,17 +1,15 @@
-//! What commands, orders and time do to an account.
-ghost use Rattle.std.specs.Prelude.{◌≡◌, OnOk, OnErr};
+//! What commands, orders and time do to an account: words, and the one change that looks at the policy.
+ghost use Rattle.std.specs.Prelude.{◌≡◌};
 ghost use Rattle.lifecycle.specs.Changes as spec;
 
 use crate::grace::runs;
 use accounts::{
-    Account, CommandNotice, LapseEntry, Line, LineChange, Message, Origin, Subject, TransferRefund,
-    saturating_next,
+    CommandNotice, LapseEntry, Line, LineChange, Message, Origin, Subject, TransferRefund,
 };
 use basis::text::Text;
 use calendar::Moment;
 use objects::Roid;
 use policy::Policy;
-use std::alloc::{AllocError, Global};
 
 /// A domain that is deleted at a moment: each line whose grace runs is given back.
 #[derive(Clone, Copy, Drop)]
@@ -96,64 +94,5 @@ impl LineChange for RefundUnder<'_> {
             line.refunded = Some(refund.moment);
         }
         line
-    }
-}
-
-/// Puts a message with the recipient's next number into the queue.
-fn tell(notification: Notification, account: &mut Account) -> Result<(), AllocError>
-    ensures ok { OnOk result (account.new ≡ spec.notified notification account.old) }
-    ensures err { OnErr result (account.new ≡ account.old) }
-{
-    let number = saturating_next(account.messages);
-    account.queue.push(notification.numbered(number))?;
-    account.messages = number;
-    Ok(())
-}
-
-fn refund_running(refund: RunningRefund, account: &mut Account, policy: &Policy)
-    ensures { account.new ≡ spec.with_running_refunded policy.now refund account.old }
-{
-    account.lines.remake(&RefundUnder { refund, policy });
-}
-
-fn ack(alloc: Global, id: &Text, account: &mut Account) -> Result<(), AllocError>
-    ensures ok { OnOk result (account.new ≡ spec.with_acked id.now account.old) }
-    ensures err { OnErr result (account.new ≡ account.old) }
-{
-    account.queue.ack(alloc, id)?;
-    Ok(())
-}
-
-/// Makes the change.
-pub fn change_account(
-    alloc: Global,
-    account: &mut Account,
-    what: AccountChange,
-    policy: &Policy,
-) -> Result<(), AllocError>
-    ensures ok { OnOk result (account.new ≡ spec.changed policy.now what account.old) }
-    ensures err { OnErr result (account.new ≡ account.old) }
-{
-    match what {
-        AccountChange::Charge(line) => account.lines.add(line),
-        AccountChange::RefundRunning(refund) => {
-            refund_running(refund, account, policy);
-            Ok(())
-        }
-        AccountChange::RefundTransfer(refund) => {
-            account.lines.remake(&refund);
-            Ok(())
-        }
-        AccountChange::Lapse(what) => account.enter(what),
-        AccountChange::Notify(notification) => tell(notification, account),
-        AccountChange::Ack(id) => ack(alloc, &id, account),
-        AccountChange::CountCommand => {
-            account.count_command();
-            Ok(())
-        }
-        AccountChange::TakeSerial => {
-            account.take_serial();
-            Ok(())
-        }
     }
 }

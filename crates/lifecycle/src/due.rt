@@ -93,13 +93,6 @@ fn expired_by(domain: &Domain, moment: Moment) -> Option<Moment>
     come(moment, end)
 }
 
-/// When a contact is due, if it ever is.
-pub fn contact_due_at(contact: &Contact) -> Option<Moment>
-    ensures { result ≡ spec.completes_at contact.now.transfer }
-{
-    completes_at(&contact.transfer)
-}
-
 /// When a contact is due, if that is by the moment.
 pub fn contact_due_by(contact: &Contact, moment: Moment) -> Option<Moment>
     ensures { result ≡ option_and_then (passed moment) (spec.completes_at contact.now.transfer) }

@@ -19,11 +19,11 @@ mod renewal;
 mod restoration;
 mod transfer;
 
-pub use change::{AccountChange, Notification, RefundUnder, RunningRefund, change_account};
+pub use change::{AccountChange, Notification, RefundUnder, RunningRefund};
 pub use contact::lapse_contact;
 pub use deletion::{phase, purged_under};
 pub use domain::lapse;
-pub use due::{contact_due_at, contact_due_by, due_at, due_by};
+pub use due::{contact_due_by, due_at, due_by};
 pub use due_object::Due;
 pub use grace::{graces, period_of, runs, standing};
 pub use lapsed::Lapsed;

@@ -15,9 +15,14 @@ use Rattle.basis.specs.Maps.{map_values}
 use Rattle.basis.proofs.MapLemmas.{names_apart, get-map_values}
 use Rattle.objects.specs.declared.domain.Domain.{Domain}
 use Rattle.objects.specs.Links.{names_host}
-use Rattle.rules.specs.Changes.{with_host_renamed}
+use Rattle.rules.specs.Changes.{may_rename, with_host_renamed}
+use Rattle.mapbook.specs.declared.plain.Plain.{Plain}
+use Rattle.mapbook.specs.Plain.{at_begin, content_of, plain_records, registry_in}
 use Rattle.store.specs.Book.{Stored}
-use Rattle.store.specs.Tables.{with_domains}
+use Rattle.objects.specs.declared.host.Host.{Host}
+use Rattle.store.specs.Tables.{host_moved, with_domains}
+use Rattle.mapbook.specs.declared.edit.Edit.TheVariants as edit
+use Rattle.mapbook.specs.Edits.{edited}
 use Rattle.mapbook.specs.Renaming.{amended, domains_naming, host_renamed_at, host_renamed_in}
 
 -- ---- entries in order
@@ -133,3 +138,18 @@ all-renamed old new s =
     ∙ ap (λ (m : FinMap (slice_cmp nat_cmp) Domain). with_domains m s)
     (named-after (λ (d : Domain). names_host old d.links) (with_host_renamed old new) (entries s.registry.domains) (entries_sorted s.registry.domains) s.registry.domains (λ q d found. get-entries s.registry.domains q ∙ found)
     ∙ mapped (λ (d : Domain). names_host old d.links) (with_host_renamed old new) (not-linked old new) s.registry.domains)
+
+-- then it is taken from under the one name and put under the other
+pub moved : (from to : List ℕ) (names : List (List ℕ)) (h : Host) (s : Stored) → to ≡ h.name → names ≡ domains_naming from s.registry
+    → edited (edit.Host to (Some h)) (edited (edit.Host from None) (host_renamed_in from to names s)) ≡ host_moved from h s
+moved from to names h s same named =
+    (λ i. edited (edit.Host (same i) (Some h)) (edited (edit.Host from None) (host_renamed_in from (same i) (named i) s)))
+    ∙ ap (λ (x : Stored). edited (edit.Host h.name (Some h)) (edited (edit.Host from None) x)) (all-renamed from h.name s)
+
+-- ---- while a transaction is open
+
+pub held-open : (b : Plain) (from to : List ℕ) → b.is_open ≡ true → may_rename (plain_records b).content.registry.hosts from to ≡ may_rename (registry_in b.content).hosts from to
+held-open b from to opened = ap (λ (o : Bool). let s : Stored = cond o (content_of b.content) (at_begin b) in may_rename s.registry.hosts from to) opened
+
+pub naming-open : (b : Plain) (from : List ℕ) → b.is_open ≡ true → domains_naming from (registry_in b.content) ≡ domains_naming from (plain_records b).content.registry
+naming-open b from opened = ap (λ (o : Bool). let s : Stored = cond o (content_of b.content) (at_begin b) in domains_naming from s.registry) (sym opened)

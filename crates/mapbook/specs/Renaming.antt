@@ -5,8 +5,7 @@ use Rattle.std.specs.FinMap.{FinMap, entries, get, insert}
 use Rattle.std.specs.Ordering.{nat_cmp}
 use Rattle.model.specs.Registry.{Registry}
 use Rattle.objects.specs.Links.{names_host}
-use Rattle.objects.specs.declared.host.Host.{Host}
-use Rattle.rules.specs.Changes.{host_renamed, with_host_renamed}
+use Rattle.rules.specs.Changes.{with_host_renamed}
 use Rattle.store.specs.Book.{Stored}
 use Rattle.store.specs.Tables.{with_domains}
 
@@ -27,7 +26,3 @@ host_renamed_at old new name s = with_domains (amended (with_host_renamed old ne
 -- domains name a host by its new name, one after another
 abbrev pub host_renamed_in : List ℕ → List ℕ → List (List ℕ) → Stored → Stored
 host_renamed_in old new names s = fold (λ s name. host_renamed_at old new name s) s names
-
--- a host goes to its new name, wherever it was
-abbrev pub renamed_there : List ℕ → Host → Stored → Stored
-renamed_there from host s = record s { registry = host_renamed from host s.registry }

@@ -2,7 +2,7 @@
 ghost use Rattle.std.specs.Prelude.{◌≡◌, true};
 ghost use Rattle.mapbook.specs.Plain.{plain_records};
 ghost use Rattle.mapbook.specs.Renaming as spec;
-ghost use Rattle.store.specs.Tables.{host_put, host_renamed};
+ghost use Rattle.store.specs.Tables.{host_moved, host_renamed};
 ghost use Rattle.transactions.specs.States.{Makes};
 
 use crate::edit::Edit;
@@ -28,18 +28,13 @@ impl Plain {
         if !self.content.may_rename(&from, &host.name) {
             return Ok(());
         }
-        self.rename_there(from, host, policy)
+        self.move_host(from, host, policy)
     }
 
-    /// The same where it can.
-    fn rename_there(
-        &mut self,
-        from: Text,
-        host: Host,
-        policy: &Policy,
-    ) -> Result<(), BookFault>
+    /// The same where there is such a host, and no other has that name.
+    fn move_host(&mut self, from: Text, host: Host, policy: &Policy) -> Result<(), BookFault>
         requires { self.old.is_open ≡ true }
-        ensures { Makes result (spec.renamed_there from host (plain_records self.old).content)
+        ensures { Makes result (host_moved from host (plain_records self.old).content)
             (plain_records self.old) (plain_records self.new) }
     {
         let names = self.content.domains_naming(&from)?;

@@ -9,7 +9,7 @@ ghost use Rattle.verdict.specs.ResponseData.{id_of};
 ghost use Rattle.protocol.specs.Requests.{cl_trid_of};
 
 use crate::fault::Fault;
-use crate::passing::pass_for;
+use crate::passing::settle_for_command;
 use crate::transaction::{apply, facts_for, or_rollback};
 use crate::work::Work;
 use basis::list::Seq;
@@ -59,7 +59,7 @@ fn execute_in<B: Book>(
     ensures follows { Follows (B.state book.old) (B.state book.new) }
     ensures leaves { LeavesSame (B.state book.old) (B.state book.new) }
 {
-    let now = pass_for(book, alloc, caller, command, moment, policy)?;
+    let now = settle_for_command(book, alloc, caller, command, moment, policy)?;
     let prepared = prepare(book, alloc, caller, command, now, policy)?;
     make_prepared(book, prepared, policy)
 }

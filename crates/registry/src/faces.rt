@@ -6,8 +6,8 @@ ghost use Rattle.store.specs.Book.{Follows, BookReads, LeavesSame};
 ghost use Rattle.store.specs.Faces.{contact_face_at, domain_face_at, domain_names, host_addresses_at, host_face_at};
 
 use crate::fault::Fault;
-use crate::passing::{catch_up, pass_alone, pass_with};
-use crate::transaction::{advance_clock, or_rollback};
+use crate::passing::{settle_all, settle_for_object, settle_nothing, settle_object};
+use crate::transaction::or_rollback;
 use crate::work::Work;
 use basis::list::Seq;
 use basis::text::Text;
@@ -76,7 +76,7 @@ impl LookUp for DomainAt<'_> {
         moment: Moment,
         policy: &Policy,
     ) -> Result<(), Fault> {
-        pass_with(book, alloc, ObjectKind::Domain, self.0, moment, policy)?;
+        settle_for_object(book, alloc, ObjectKind::Domain, self.0, moment, policy)?;
         Ok(())
     }
 
@@ -101,7 +101,7 @@ impl LookUp for HostAt<'_> {
         moment: Moment,
         policy: &Policy,
     ) -> Result<(), Fault> {
-        pass_with(book, alloc, ObjectKind::Host, self.0, moment, policy)?;
+        settle_for_object(book, alloc, ObjectKind::Host, self.0, moment, policy)?;
         Ok(())
     }
 
@@ -126,7 +126,7 @@ impl LookUp for ContactAt<'_> {
         moment: Moment,
         policy: &Policy,
     ) -> Result<(), Fault> {
-        pass_with(book, alloc, ObjectKind::Contact, self.0, moment, policy)?;
+        settle_for_object(book, alloc, ObjectKind::Contact, self.0, moment, policy)?;
         Ok(())
     }
 
@@ -151,7 +151,7 @@ impl LookUp for DomainNames {
         moment: Moment,
         policy: &Policy,
     ) -> Result<(), Fault> {
-        advance_clock(book, alloc, moment, policy)?;
+        settle_all(book, alloc, moment, policy)?;
         Ok(())
     }
 
@@ -176,7 +176,7 @@ impl LookUp for AddressesAt<'_> {
         moment: Moment,
         policy: &Policy,
     ) -> Result<(), Fault> {
-        pass_with(book, alloc, ObjectKind::Host, self.0, moment, policy)?;
+        settle_for_object(book, alloc, ObjectKind::Host, self.0, moment, policy)?;
         Ok(())
     }
 
@@ -226,7 +226,7 @@ impl Work for DomainsWork<'_> {
         alloc: Global,
         policy: &Policy,
     ) -> Result<Seq<Option<DomainFace>>, Fault> {
-        let now = pass_alone(book, alloc, self.moment, policy)?;
+        let now = settle_nothing(book, alloc, self.moment, policy)?;
         domains_at(book, alloc, self.names, now, policy)
     }
 }
@@ -279,6 +279,6 @@ fn domain_at<B: Book>(
     ensures follows { Follows (B.state book.old) (B.state book.new) }
     ensures leaves { LeavesSame (B.state book.old) (B.state book.new) }
 {
-    catch_up(book, alloc, ObjectKind::Domain, name, moment, policy)?;
+    settle_object(book, alloc, ObjectKind::Domain, name, moment, policy)?;
     DomainAt(name).look(book, policy)
 }

@@ -2,7 +2,7 @@
 ghost use Rattle.registry.specs.Execution.{IsGreetingStep};
 
 use crate::fault::Fault;
-use crate::passing::pass_alone;
+use crate::passing::settle_nothing;
 use crate::work::Work;
 use calendar::Moment;
 use policy::Policy;
@@ -21,6 +21,6 @@ impl Work for GreetingWork {
     ghost step = { λ it p before after date. IsGreetingStep p it.moment before after date };
 
     fn work<B: Book>(&self, book: &mut B, alloc: Global, policy: &Policy) -> Result<Moment, Fault> {
-        pass_alone(book, alloc, self.moment, policy)
+        settle_nothing(book, alloc, self.moment, policy)
     }
 }

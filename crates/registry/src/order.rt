@@ -8,7 +8,7 @@ ghost use Rattle.store.specs.Book.{Follows, BookReads, LeavesSame, BookWrites, w
 ghost use Rattle.model.specs.Objects.{object_at};
 
 use crate::fault::Fault;
-use crate::passing::{pass_alone, pass_at};
+use crate::passing::{settle_for_name, settle_nothing};
 use crate::transaction::{apply, object_at, or_rollback};
 use crate::work::Work;
 use basis::text::Text;
@@ -79,7 +79,7 @@ fn set_statuses_at<B: Book>(
     ensures leaves { LeavesSame (B.state book.old) (B.state book.new) }
 {
     let name = or_rollback(book, order.object_name(alloc, policy.zone()))?;
-    pass_at(book, alloc, order.kind, &name, moment, policy)?;
+    settle_for_name(book, alloc, order.kind, &name, moment, policy)?;
     set_statuses(book, alloc, order, &name, policy)
 }
 
@@ -100,7 +100,7 @@ fn deposit_at<B: Book>(
     ensures follows { Follows (B.state book.old) (B.state book.new) }
     ensures leaves { LeavesSame (B.state book.old) (B.state book.new) }
 {
-    let now = pass_alone(book, alloc, moment, policy)?;
+    let now = settle_nothing(book, alloc, moment, policy)?;
     deposit(book, alloc, registrar, cents, now, policy)
 }
 

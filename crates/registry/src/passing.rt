@@ -2,12 +2,12 @@
 //! behind the clock until it is asked for or settled.
 ghost use Rattle.std.specs.Prelude.{◌≡◌, max, true, Some, None, IfOk, IfErr, OnOk};
 ghost use Rattle.concerns.specs.Names.{named_by, no_names};
-ghost use Rattle.registry.specs.Execution.{GoesBack};
+ghost use Rattle.registry.specs.Execution.{GoesBack, at_moment};
 ghost use Rattle.registry.specs.inner.Passing.{Passes, names_at};
-ghost use Rattle.store.specs.Book.{Follows, LeavesSame};
+ghost use Rattle.store.specs.Book.{BookWrites, Follows, LeavesSame};
 
 use crate::fault::Fault;
-use crate::lapse::{due_at, due_for, lapse_each};
+use crate::lapse::{due_at, due_for, lapse_all, lapse_each};
 use crate::transaction::move_clock;
 use basis::registrar::RegistrarNo;
 use basis::text::Text;
@@ -19,7 +19,7 @@ use std::alloc::Global;
 use store::Book;
 
 /// Lets time pass up to a moment, lets what concerns a registrar's command lapse, and gives the clock.
-pub(crate) fn pass_for<B: Book>(
+pub(crate) fn settle_for_command<B: Book>(
     book: &mut B,
     alloc: Global,
     caller: RegistrarNo,
@@ -43,7 +43,7 @@ pub(crate) fn pass_for<B: Book>(
 }
 
 /// The same for what an info of an object concerns, if its name is there; else nothing lapses.
-pub(crate) fn pass_at<B: Book>(
+pub(crate) fn settle_for_name<B: Book>(
     book: &mut B,
     alloc: Global,
     kind: ObjectKind,
@@ -61,13 +61,13 @@ pub(crate) fn pass_at<B: Book>(
     ensures leaves { LeavesSame (B.state book.old) (B.state book.new) }
 {
     match name {
-        None => pass_alone(book, alloc, moment, policy),
-        Some(name) => pass_with(book, alloc, kind, name, moment, policy),
+        None => settle_nothing(book, alloc, moment, policy),
+        Some(name) => settle_for_object(book, alloc, kind, name, moment, policy),
     }
 }
 
-/// Lets time pass up to a moment, and gives the clock. Nothing lapses.
-pub(crate) fn pass_alone<B: Book>(
+/// Lets time pass up to a moment, lets nothing lapse, and gives the clock.
+pub(crate) fn settle_nothing<B: Book>(
     book: &mut B,
     alloc: Global,
     moment: Moment,
@@ -86,7 +86,7 @@ pub(crate) fn pass_alone<B: Book>(
 }
 
 /// The same for what an info of an object concerns.
-pub(crate) fn pass_with<B: Book>(
+pub(crate) fn settle_for_object<B: Book>(
     book: &mut B,
     alloc: Global,
     kind: ObjectKind,
@@ -104,12 +104,33 @@ pub(crate) fn pass_with<B: Book>(
     ensures leaves { LeavesSame (B.state book.old) (B.state book.new) }
 {
     let now = move_clock(book, alloc, moment, policy)?;
-    catch_up(book, alloc, kind, name, now, policy)?;
+    settle_object(book, alloc, kind, name, now, policy)?;
+    Ok(now)
+}
+
+/// Lets time pass up to a moment, lets all that is due by then lapse, and gives the clock.
+pub(crate) fn settle_all<B: Book>(
+    book: &mut B,
+    alloc: Global,
+    moment: Moment,
+    policy: &Policy,
+) -> Result<Moment, Fault>
+    requires { (B.state book.old).is_open ≡ true }
+    ensures moved { OnOk result (BookWrites (B.state book.old) (B.state book.new)
+        (at_moment policy.now moment (B.state book.old).content)) }
+    ensures clock { IfOk result (λ clock. (B.state book.new).is_clean ≡ true
+        → clock ≡ max moment (B.state book.old).content.registry.clock) }
+    ensures fault { IfErr result (λ fault. GoesBack fault (B.state book.old) (B.state book.new)) }
+    ensures follows { Follows (B.state book.old) (B.state book.new) }
+    ensures leaves { LeavesSame (B.state book.old) (B.state book.new) }
+{
+    let now = move_clock(book, alloc, moment, policy)?;
+    lapse_all(book, alloc, now, policy)?;
     Ok(now)
 }
 
 /// Lets what an info of an object concerns lapse, where the clock stands at the moment.
-pub(crate) fn catch_up<B: Book>(
+pub(crate) fn settle_object<B: Book>(
     book: &mut B,
     alloc: Global,
     kind: ObjectKind,

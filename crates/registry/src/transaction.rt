@@ -1,12 +1,11 @@
 //! The steps of a transaction, each with one kind of fault: it then went back.
 ghost use Rattle.std.specs.Prelude.{◌≡◌, ◌∷◌, [], max, true, IfOk, IfErr, OnOk, Ok};
-ghost use Rattle.registry.specs.Execution.{GoesBack, at_moment};
+ghost use Rattle.registry.specs.Execution.{GoesBack};
 ghost use Rattle.store.specs.Book.{BookKeeps, Follows, BookReads, LeavesHeld, LeavesSame, BookWrites, with_changes, with_terms};
 ghost use Rattle.facts.specs.Facts.{facts};
 ghost use Rattle.model.specs.Objects.{object_at};
 
 use crate::fault::Fault;
-use crate::lapse::lapse_all;
 use basis::list::Seq;
 use basis::registrar::RegistrarNo;
 use basis::text::Text;
@@ -136,28 +135,6 @@ pub(crate) fn commit<B: Book>(book: &mut B) -> Result<(), Fault>
     ensures leaves { LeavesHeld result (B.state book.old) (B.state book.new) }
 {
     Ok(book.commit()?)
-}
-
-/// Lets time pass up to a moment in an open transaction, with what is due by then, and gives the
-/// clock.
-pub(crate) fn advance_clock<B: Book>(
-    book: &mut B,
-    alloc: Global,
-    moment: Moment,
-    policy: &Policy,
-) -> Result<Moment, Fault>
-    requires { (B.state book.old).is_open ≡ true }
-    ensures moved { OnOk result (BookWrites (B.state book.old) (B.state book.new)
-        (at_moment policy.now moment (B.state book.old).content)) }
-    ensures clock { IfOk result (λ clock. (B.state book.new).is_clean ≡ true
-        → clock ≡ max moment (B.state book.old).content.registry.clock) }
-    ensures fault { IfErr result (λ fault. GoesBack fault (B.state book.old) (B.state book.new)) }
-    ensures follows { Follows (B.state book.old) (B.state book.new) }
-    ensures leaves { LeavesSame (B.state book.old) (B.state book.new) }
-{
-    let now = move_clock(book, alloc, moment, policy)?;
-    lapse_all(book, alloc, now, policy)?;
-    Ok(now)
 }
 
 /// Moves the clock in an open transaction, and gives it.

@@ -1,7 +1,7 @@
 -- Each change keeps a registry well formed, where what it puts or takes away fits.
 use Rattle.std.proofs.Common.{◌≡◌, ◌≢◌, ◌↔◌, ◌⊎◌, inl, inr, ⊎_elim, ℕ, ◌≤◌, Bool, true, false, cond, not, List, filter, Some, IsSome, is_some, refl, sym, ap, subst, ◌∙◌, arith}
 use Rattle.std.proofs.lemmas.Bool.{and_parts, not-true, or_cases}
-use Rattle.rules.proofs.Words.{host_renamed, may_rename, Account, account_of, AreApart, bytes_decides, bytes_eq, changed, Contact, Domain, domain_roid, DropContact}
+use Rattle.rules.proofs.Words.{cond_both, host_renamed, may_rename, Account, account_of, AreApart, bytes_decides, bytes_eq, changed, Contact, Domain, domain_roid, DropContact}
 use Rattle.rules.proofs.Words.{DropDomain, DropHost, eq_by_cmp, eq_by_cmp_equiv, Equal-is, FinMap, get, get-insert, has_name, HasObjects}
 use Rattle.rules.proofs.Words.{Host, insert, IsContactOf, IsDomainOf, IsHostOf, IsRegistrar, map_values, names_contact, names_host, nat_cmp}
 use Rattle.rules.proofs.Words.{nat_cmp-IsAntisymmetric, nat_cmp_total, PolicyRules, precedes, PutContact, PutDomain, PutHost, Registry}

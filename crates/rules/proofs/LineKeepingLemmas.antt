@@ -1,6 +1,6 @@
 -- Each change keeps what a well-formed registry says of lines, where what it puts or charges fits.
 use Rattle.std.proofs.Common.{◌≡◌, ◌⊎◌, ⊎_elim, ℕ, ◌≤◌, Bool, true, false, cond, not, List, Option, Some, None, is_some, unwrap_or, refl, sym, ap, subst, ◌∙◌, arith}
-use Rattle.rules.proofs.Words.{host_renamed, may_rename, Account, account_of, AccountChange, All, AllByRecursion, begins_after, Change, changed, changed_all}
+use Rattle.rules.proofs.Words.{cond_both, host_renamed, may_rename, Account, account_of, AccountChange, All, AllByRecursion, begins_after, Change, changed, changed_all}
 use Rattle.rules.proofs.Words.{Charge, charges_waiting, Domain, DropDomain, get, Post, HasBeen, HasLines, HasLinesOn}
 use Rattle.rules.proofs.Words.{is_begun_after, is_for_transfer, is_on, is_pending_state, IsLineOf, Lapse, LapseContact, LapseDomain, Line}
 use Rattle.rules.proofs.Words.{list_any, MoveClock, OpenAccount, PolicyRules, PutDomain, RefundRunning, RefundTransfer}

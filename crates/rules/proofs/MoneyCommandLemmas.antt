@@ -2,6 +2,7 @@
 use Rattle.std.proofs.Common.{◌≡◌, ◌⊎◌, inl, inr, ℕ, nat_lt, true, false, ◌&&◌, List, Option, Some, refl, sym, subst, ◌∙◌, arith, ℤ, pos, int_lt, ◌+ℤ◌, ◌-ℤ◌, ◌≤ℤ◌}
 use Rattle.std.proofs.Common.{◌≤◌, None}
 use Rattle.std.proofs.lemmas.Int.{ints}
+use Rattle.rules.proofs.Words.{cond_both, host_renamed, may_rename, RenameHost}
 use Rattle.rules.proofs.Words.{account_of, Asked, Bad, balance, Change, changed_all, ClientCancelled, ClientRejected, Command, decision}
 use Rattle.rules.proofs.Words.{Domain, domain_with_transfer, ended, Facts, facts, get, IsRefundable, Line, name_of, Order, order_decision}
 use Rattle.rules.proofs.Words.{PolicyRules, Registry, runs, Transfer, TransferState, waits, with_account, with_command, with_serial}
@@ -54,6 +55,7 @@ module _ (L : ℕ → ℕ → Line → Type 0) (u : ℕ) (p : PolicyRules) (q : 
   change-follows (Post r what) s fits h = lines-keep s r (account_changed p what) Follow q
       (λ own h. own-follows what (account_of q s) (subst (λ (n : ℕ). FitsAccount L u p n what (account_of n s).lines) own fits) h) h
   change-follows (OpenAccount r) s fits h = lines-keep s r itself Follow q (λ own h. h) h
+  change-follows (RenameHost old host) s fits h = cond_both (may_rename s.hosts old host.name) (host_renamed old host s) s (λ (t : Registry). Follow (account_of q t).lines) (λ may. h) (λ else. h)
   change-follows _ s fits h = h
 
   pub changes-follow : (changes : List Change) (s : Registry) → AllFitMoney L u p changes s → Follow (account_of q s).lines → Follow (account_of q (changed_all p changes s)).lines

@@ -1,6 +1,7 @@
 -- Each step of the rules, and time alone, keep a registry well formed, with its clock, its objects, its lines, its messages and its shapes.
-use Rattle.std.proofs.Common.{ℕ, ◌≤◌, ◌<◌, max, sym, subst, arith, List, [], ◌∷◌, ◌≡◌, refl}
+use Rattle.std.proofs.Common.{cond, ℕ, ◌≤◌, ◌<◌, max, sym, subst, arith, List, [], ◌∷◌, ◌≡◌, refl}
 use Rattle.std.proofs.Common.{◌∙◌}
+use Rattle.rules.proofs.Words.{Host, host_renamed, may_rename, RenameHost}
 use Rattle.rules.proofs.Words.{account_of, All, Command, decision, effect, IsRefundable, IsRegistrar, IsRegistry, IsSettled, IsSound}
 use Rattle.rules.proofs.Words.{lapsed, last_clock, now, Order, order_decision, order_effect, PolicyRules, Registry}
 use Rattle.rules.proofs.Words.{Account, AccountChange, Ack, bytes_eq, Change, changed, changed_all, entered, Post}
@@ -24,9 +25,13 @@ use Rattle.accounts.specs.Queue.{acked}
 
 -- ---- commands and orders leave the clock where it stands
 
+renamed-clock : (old : List ℕ) (h : Host) (s : Registry) → (cond (may_rename s.hosts old h.name) (host_renamed old h s) s).clock ≡ s.clock
+renamed-clock old h s = cond_both (may_rename s.hosts old h.name) (host_renamed old h s) s (λ (t : Registry). t.clock ≡ s.clock) (λ may. refl) (λ else. refl)
+
 -- what a registrar's view is told of its changes
 clock-met : (p : PolicyRules) (r : ℕ) (change : Change) (s : Registry) → Meets p r change s → (changed p change s).clock ≡ s.clock
 clock-met p r (MoveClock t) s meets = absurd meets
+clock-met p r (RenameHost old h) s meets = renamed-clock old h s
 clock-met p r _ s meets = refl
 
 pub clock-effect : (p : PolicyRules) → IsSound p → (r : ℕ) (c : Command) (s : Registry) → IsRegistry p s → (effect p r c s).clock ≡ s.clock
@@ -36,6 +41,7 @@ clock-effect p sound r c s is = all-kept p (Meets p r) (λ t. t.clock ≡ s.cloc
 -- what an order changes fits the lines
 clock-fit : (p : PolicyRules) (change : Change) (s : Registry) → FitsLines p change s → (changed p change s).clock ≡ s.clock
 clock-fit p (MoveClock t) s fits = absurd fits
+clock-fit p (RenameHost old h) s fits = renamed-clock old h s
 clock-fit p _ s fits = refl
 
 pub clock-order : (p : PolicyRules) (order : Order) (s : Registry) → HasLines p s → (order_effect p order s).clock ≡ s.clock
@@ -66,6 +72,7 @@ module _ (L : ℕ → ℕ → Line → Type 0) (u : ℕ) (p : PolicyRules) (q : 
   change-told (Post r what) s fits h = account-keep (λ (a : Account). Told a.queue) s r (account_changed p what) q
       (λ own h. own-told what (account_of q s) (subst (λ (n : ℕ). FitsAccount L u p n what (account_of n s).lines) own fits) h) h
   change-told (OpenAccount r) s fits h = account-keep (λ (a : Account). Told a.queue) s r itself q (λ own h. h) h
+  change-told (RenameHost old host) s fits h = cond_both (may_rename s.hosts old host.name) (host_renamed old host s) s (λ (t : Registry). Told (account_of q t).queue) (λ may. h) (λ else. h)
   change-told _ s fits h = h
 
   pub changes-told : (changes : List Change) (s : Registry) → AllFitMoney L u p changes s → Told (account_of q s).queue → Told (account_of q (changed_all p changes s)).queue

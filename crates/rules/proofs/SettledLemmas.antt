@@ -1,6 +1,6 @@
 -- What a command or an order leaves of a registry in which nothing is due has nothing due in it.
 use Rattle.std.proofs.Common.{◌≡◌, inl, inr, ℕ, ◌+◌, ◌<◌, ◌≤◌, max, nat_le, Bool, false, cond, List, Option, Some, None, option_map, refl, sym, ap, subst, ◌∙◌, arith}
-use Rattle.rules.proofs.Words.{host_renamed, may_rename, Asked, Bad, Change, changed, changed_all, ClientApproved, ClientCancelled, ClientRejected, Command, Contact}
+use Rattle.rules.proofs.Words.{cond_both, host_renamed, may_rename, Asked, Bad, Change, changed, changed_all, ClientApproved, ClientCancelled, ClientRejected, Command, Contact}
 use Rattle.rules.proofs.Words.{decision, Deletion, Domain, domain_with_transfer, DropContact, DropDomain, due_by, effect, end}
 use Rattle.rules.proofs.Words.{ended, expiry, gained, get, handed_over, is_pending, IsDeletion, IsSettled, IsSound, LapseContact}
 use Rattle.rules.proofs.Words.{LapseDomain, last_clock, MoveClock, name_of, Order, order_decision, order_effect, ordered}

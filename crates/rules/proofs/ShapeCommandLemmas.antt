@@ -10,7 +10,7 @@ use Rattle.rules.proofs.Words.{final_name, has_twice, HostUpdate, is_over, IsAsk
 use Rattle.rules.proofs.Words.{HasObjects, Host, IsRegistry, last_clock, name_of, new_domain, NewDomain, NewHost, Order, order_decision}
 use Rattle.rules.proofs.Words.{lapse_registry, LapseDomain, left-of, more_years, moved, nat_tests, or_else, or_parts}
 use Rattle.rules.proofs.Words.{order_effect, ordered, PolicyRules, Registry, renewed_domain, requested, restored_domain, restoring_domain}
-use Rattle.rules.proofs.Words.{plus_years, PutDomain, PutHost, raised, RenameHost, Transfer, turns, turns-are}
+use Rattle.rules.proofs.Words.{plus_years, PutDomain, PutHost, raised, remove, RenameHost, Transfer, turns, turns-are}
 use Rattle.rules.proofs.Words.{updated_domain, with_account, with_command, with_host_renamed, years_later, ZoneRules}
 use Rattle.model.specs.Shapes.{HasShapes, IsDomainName, IsHostName, IsSetWithin, IsShaped, IsShapedHost, end_of_expiries}
 use Rattle.names.specs.Canonical.{IsCanonical}

@@ -1,6 +1,6 @@
 -- The facts of a command lie in the view, and each change is seen by the view alone.
 use Rattle.std.proofs.Common.{◌≡◌, ◌⊎◌, ⊎_elim, ℕ, ◌≤◌, ◌+◌, ◌==◌, suc, Bool, true, false, cond, List, [], ◌∷◌, map, filter, length, Option, Some, None, refl, sym, ap, subst, ◌∙◌, arith}
-use Rattle.rules.proofs.Words.{host_renamed, may_rename, Account, account_of, Change, changed, changed_all, Command, Contact, contact_as, Domain, domain_sight}
+use Rattle.rules.proofs.Words.{Host, host_renamed, may_rename, Account, account_of, Change, changed, changed_all, Command, Contact, contact_as, Domain, domain_sight}
 use Rattle.rules.proofs.Words.{DomainFace, DropContact, DropDomain, DropHost, entries, eq_by_cmp, eq_by_cmp_equiv, Equal-is, facts, FinMap}
 use Rattle.rules.proofs.Words.{FullDomain, get, get-insert, Post, Graces, graces_of, insert, is_below, is_party, LapseContact, LapseDomain}
 use Rattle.rules.proofs.Words.{Line, Links, list_any, lookups, map_values, MoveClock, names_contact, names_host, nat_cmp}

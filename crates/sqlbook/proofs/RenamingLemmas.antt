@@ -22,8 +22,7 @@ use Rattle.policy.specs.declared.schedule.Schedule.{Schedule}
 use Rattle.rules.specs.Changes.{renamed, with_host_renamed}
 use Rattle.store.specs.Book.{Stored}
 use Rattle.store.specs.Ledgers as store
-use Rattle.store.specs.Tables.{host_put, with_domains}
-use Rattle.sqlbook.specs.inner.Renaming.{renamed_there}
+use Rattle.store.specs.Tables.{host_moved, host_put, with_domains}
 use Rattle.sqltables.specs.Account as account_table
 use Rattle.sqltables.specs.Content.{Content}
 use Rattle.sqltables.specs.Domain as table
@@ -110,5 +109,5 @@ module _ (from : List ℕ) (h : Host) (xs ys : Content) (it : IsRowRenamed from 
     terms = terms_of (record ys { metas = it.metas i; days = it.days i; accounts = it.accounts i });
   }
 
-pub row-renamed : (from : List ℕ) (h : Host) (xs ys : Content) → IsRowRenamed from h xs ys → stored_of ys ≡ renamed_there from h (stored_of xs)
+pub row-renamed : (from : List ℕ) (h : Host) (xs ys : Content) → IsRowRenamed from h xs ys → stored_of ys ≡ host_moved from h (stored_of xs)
 row-renamed from h xs ys it = row-changed from h xs ys it

@@ -1,4 +1,3 @@
 -- Words that this crate's own functions are told by, and that no promise of the registry names.
-pub mod Renaming
 pub mod Replacing
 pub mod Suiting

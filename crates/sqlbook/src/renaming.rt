@@ -2,11 +2,10 @@
 //! and no row of a domain is written, however many name the host.
 ghost use Rattle.std.specs.Prelude.{◌≡◌, true};
 ghost use Rattle.rules.specs.Changes.{may_rename};
-ghost use Rattle.store.specs.Tables.{host_renamed};
+ghost use Rattle.store.specs.Tables.{host_moved, host_renamed};
 ghost use Rattle.transactions.specs.States.{Finds};
 ghost use Rattle.sqlbook.specs.Meaning.{are_right, stored_of};
 ghost use Rattle.sqlbook.specs.AsBook.{MakesAs};
-ghost use Rattle.sqlbook.specs.inner.Renaming.{renamed_there};
 
 use basis::text::Text;
 use objects::Host;
@@ -30,7 +29,8 @@ pub(crate) fn rename_host<S: Alter>(
     if !may_rename(store, alloc, from, &host.name)? {
         return Ok(());
     }
-    rename_row(store, alloc, from, host)
+    rename_row(store, alloc, from, host)?;
+    Ok(())
 }
 
 /// Whether there is a host of the one name, and none of the other.
@@ -58,7 +58,7 @@ fn rename_row<S: Alter>(
     host: &Host,
 ) -> Result<(), BookFault>
     requires { store.old.is_open ≡ true }
-    ensures { MakesAs result stored_of are_right (renamed_there from.now host.now
+    ensures { MakesAs result stored_of are_right (host_moved from.now host.now
         (stored_of store.old.content)) store.old store.new }
 {
     sqlobjects::rename_row(store, alloc, from, host)

@@ -1,42 +1,35 @@
 -- Names that rows give, gathered one by one, are those of the values that pass, in their order.
-use Rattle.std.proofs.Common.{◌≡◌, ◌⊎◌, inl, inr, ℕ, ℤ, Bool, true, false, cond, List, [], ◌∷◌, map, filter, Option, Some, None, option_map, refl, sym, ap, subst, ◌∙◌, true≢false}
+use Rattle.std.proofs.Common.{◌≡◌, ◌⊎◌, inl, inr, ℕ, Bool, true, false, cond, List, [], ◌∷◌, map, filter, Option, Some, None, option_map, refl, sym, ap, subst, ◌∙◌}
 use Rattle.std.specs.Cmp.{eq_by_cmp_equiv}
 use Rattle.std.specs.Cmp.Lexicographic.{nat_list_cmp_total, slice_cmp}
 use Rattle.std.specs.FinMap.{FinMap, empty, entries, get, get-empty, get-insert, insert, keys, nat_cmp-IsAntisymmetric, same_map, slice_cmp-IsAntisymmetric}
 use Rattle.std.specs.Option.{option_map_or}
 use Rattle.std.specs.Ordering.{eq_by_cmp, nat_cmp}
-use Rattle.sqlite_keyed.specs.Keyed.{get_by}
-use Rattle.sqlite_keyed.proofs.KeyedLemmas.{same_int}
 use Rattle.sqlite_rules.specs.Lists.{Has}
 use Rattle.basis.specs.Maps.{map_values}
 use Rattle.basis.specs.Sweeps.{kept, kept_list}
 use Rattle.basis.proofs.ApartLaws.{get-kept}
-use Rattle.basis.proofs.MapLemmas.{entries-from_entries, entries-map_values, get-map_values}
+use Rattle.basis.proofs.MapLemmas.{entries-map_values, get-map_values}
 use Rattle.basis.proofs.SweepLaws.{entries-kept}
 use Rattle.objects.specs.declared.domain.Domain.{Domain}
-use Rattle.objects.specs.Links.{names_host}
 use Rattle.sqlcolumns.specs.Domains.{columns_of, deletion_in}
 use Rattle.sqlcolumns.specs.Numbers.{years_in}
 use Rattle.sqlcolumns.specs.Registrations.{registration_in}
-use Rattle.sqlcolumns.specs.Steps.{◌>>=◌}
 use Rattle.sqlcolumns.specs.Texts.{statuses_in}
 use Rattle.sqlcolumns.proofs.ReadLemmas.{same_some, step}
 use Rattle.objects.specs.declared.roid.ObjectKind.TheVariants as kinds
 use Rattle.sqltables.specs.Content.{Content}
 use Rattle.sqltables.specs.Domain as table
 use Rattle.sqltables.specs.inner.Domain as inner_table
-use Rattle.sqltables.specs.Link.{Link, link_with_domain, link_with_host}
 use Rattle.sqltables.specs.Transfer.{transfer_with_domain}
 use Rattle.sqltables.specs.inner.Whole.{IsWhole}
 use Rattle.sqlrows.specs.Read.{first_read, or_else}
 use Rattle.sqlobjects.specs.Objects.{last_transfer}
-use Rattle.sqlobjects.proofs.PutLemmas.{bytes_is, filter-has, get_by-has, has-filter, has-get_by, only_named}
+use Rattle.sqlobjects.proofs.PutLemmas.{bytes_is, has-filter, only_named}
 use Rattle.sqldomains.specs.Domains.{domain_of, domains_of, links_of}
-use Rattle.sqldomains.specs.inner.Links.{IsNumberOfHost}
-use Rattle.sqldomains.specs.inner.Names.{NameSet, domain_names, domains_naming, if_named, name_in, name_naming, with_one, with_read}
-use Rattle.sqldomains.proofs.AnswerLemmas.{equal, nowhere-host, only-host}
+use Rattle.sqldomains.specs.inner.Names.{NameSet, domain_names, name_in, with_one, with_read}
 use Rattle.sqldomains.proofs.FoundLemmas.{domain-named}
-use Rattle.sqldomains.proofs.LinkedLemmas.{LeadsToHost, Naming, all-rows, first-has, host-more, naming}
+use Rattle.sqldomains.proofs.LinkedLemmas.{first-has}
 
 firsts : {X Y : Type 0} (f : List ℕ → X → Y) (es : List (List ℕ × X)) → map (λ (e : List ℕ × Y). e.0) (map (λ (e : List ℕ × X). (e.0, f e.0 e.1)) es) ≡ map (λ (e : List ℕ × X). e.0) es
 firsts f [] = refl
@@ -212,78 +205,3 @@ names-listed xs names whole e =
           sym other.2 ∙ name-read xs row.0 other.0 other.1 ∙ row.3,
     ))
     ∙ ap (map (λ (e : List ℕ × Domain). e.0)) (all-pass (entries (domains_of xs)))
-
--- ---- domains that name a host
-
-no-keys : keys (empty {X = Unit {0}} {R = slice_cmp nat_cmp}) ≡ []
-no-keys = ap (map (λ (e : List ℕ × Unit {0}). e.0)) (entries-from_entries (slice_cmp nat_cmp) nat_list_cmp_total (slice_cmp-IsAntisymmetric nat_cmp-IsAntisymmetric) [] tt)
-
-record Naming-it (host : List ℕ) (xs : Content) (link : Link) (n : List ℕ) : Type 0 where
-  row : table.Domain
-  row_is : get_by inner_table.domains.key xs.domains link.domain ≡ Some row
-  domain : Domain
-  reads : domain_of xs row ≡ Some domain
-  names_it : names_host host domain.links ≡ true
-  name_is : domain.name ≡ n
-
-if-named : (host : List ℕ) (d : Domain) (n : List ℕ) → if_named host d ≡ Some n → (names_host host d.links ≡ true) × (d.name ≡ n)
-if-named host d n e = go (names_host host d.links) refl e
-  where
-    go : (b : Bool) → names_host host d.links ≡ b → cond b (Some d.name) None ≡ Some n → (names_host host d.links ≡ true) × (d.name ≡ n)
-    go true is f = (is, same_some d.name n f)
-    go false is f = cc
-
-naming-it : (host : List ℕ) (xs : Content) (link : Link) (n : List ℕ) → name_naming host xs link ≡ Some n → Naming-it host xs link n
-naming-it host xs link n e =
-    let row = step (get_by inner_table.domains.key xs.domains link.domain) (λ r. domain_of xs r >>= (λ d. if_named host d)) n e in
-    let domain = step (domain_of xs row.given) (λ d. if_named host d) n row.rest in
-    let both = if-named host domain.given n domain.rest in
-    record { row = row.given; row_is = row.is; domain = domain.given; reads = domain.is; names_it = both.0; name_is = both.1 }
-
-module _ (host : List ℕ) (xs : Content) (whole : IsWhole xs) where
-  -- what a link that is read says
-  link-stands : (link : Link) (n : List ℕ) → name_naming host xs link ≡ Some n → (d : Domain) × (get (domains_of xs) n ≡ Some d) × (names_host host d.links ≡ true)
-  link-stands link n e =
-      let it = naming-it host xs link n e in
-      let there = has-get_by inner_table.domains.key xs.domains link.domain it.row it.row_is in
-      (it.domain, ap (get (domains_of xs)) (sym it.name_is ∙ name-read xs it.row it.domain it.reads) ∙ stands-there xs it.row it.domain whole there it.reads, it.names_it)
-
-  -- the link by which a domain names the host
-  link-under : (n : List ℕ) (d : Domain) → get (domains_of xs) n ≡ Some d → names_host host d.links ≡ true
-      → (link : Link) × Has xs.links link × LeadsToHost xs host link × ((k : List ℕ) → name_naming host xs link ≡ Some k → k ≡ n)
-  link-under n d is names =
-      let row = row-under xs n d is in
-      let named = naming xs row.0 d row.2 in
-      go row named (all-rows xs host (λ l. l.hosts) (LeadsToHost xs host) (host-more xs host) (filter (link_with_domain row.0.id) xs.links) _ d.links named.all names)
-    where
-      go : (row : (r : table.Domain) × Has xs.domains r × (domain_of xs r ≡ Some d) × (r.name ≡ n)) → Naming xs row.0 d.links
-          → (false ≡ true) ⊎ ((r : Link) × Has (filter (link_with_domain row.0.id) xs.links) r × LeadsToHost xs host r)
-          → (link : Link) × Has xs.links link × LeadsToHost xs host link × ((k : List ℕ) → name_naming host xs link ≡ Some k → k ≡ n)
-      go row named (inl never) = absurd (true≢false (sym never))
-      go row named (inr found) =
-          let link = has-filter (link_with_domain row.0.id) xs.links found.0 found.1 in (
-            found.0,
-            link.0,
-            found.2,
-            λ k reads.
-                let it = naming-it host xs found.0 k reads in
-                let same : row.0 ≡ it.row = same_some row.0 it.row (sym (get_by-has inner_table.domains.key xs.domains row.0 whole.keyed.domains row.1) ∙ ap (get_by inner_table.domains.key xs.domains) (sym (same_int found.0.domain row.0.id link.1)) ∙ it.row_is) in
-                sym it.name_is ∙ name-read xs it.row it.domain it.reads ∙ sym (ap (λ (r : table.Domain). r.name) same) ∙ row.3,
-          )
-
-  pub naming-listed : (id : ℤ) (names : NameSet) → IsNumberOfHost xs host (Some id) → with_read (name_naming host xs) empty (filter (link_with_host id) xs.links) ≡ Some names → keys names ≡ domains_naming host xs
-  naming-listed id names number e =
-      by-rows (name_naming host xs) (filter (link_with_host id) xs.links) names (domains_of xs) (λ (d : List ℕ × Domain). names_host host d.1.links) e
-      (λ link there n is. link-stands link n is)
-      (λ n d is passes.
-      let it = link-under n d is passes in
-      let lead = it.2 in
-      (it.0, filter-has (link_with_host id) xs.links it.0 it.1 (subst (λ h. link_with_host id (record it.0 { host = h }) ≡ true) (sym lead.1) (equal lead.0 id (only-host xs host whole id number lead.0 lead.2))), it.3))
-
-  pub none-listed : IsNumberOfHost xs host None → [] ≡ domains_naming host xs
-  none-listed none =
-      sym no-keys ∙ by-rows (name_naming host xs) [] empty (domains_of xs) (λ (d : List ℕ × Domain). names_host host d.1.links) refl
-      (λ link there n is. absurd there)
-      (λ n d is passes.
-      let it = link-under n d is passes in
-      absurd (nowhere-host xs host whole none it.2.0 it.2.2))

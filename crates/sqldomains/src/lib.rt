@@ -19,4 +19,4 @@ pub use below::hosts_below;
 pub use domain_changes::{drop_domain, put_domain};
 pub use domains::{domain, domain_of};
 pub use linked::{is_linked_contact, is_linked_host};
-pub use names_in_order::{domain_names, domains_naming};
+pub use names_in_order::domain_names;

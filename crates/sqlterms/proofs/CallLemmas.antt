@@ -18,3 +18,14 @@ became-through mid way h a b c d e reads makes turns looks is = record {
   answers = λ was. looks.answers (turns.answers (makes.answers (reads.answers was)));
   leaves = leaves-on a d e (leaves-on a c d (leaves-on a b c reads.leaves makes.leaves) turns.leaves) looks.leaves;
 }
+
+-- what was looked at is changed
+pub became-on : {X : Type 0} (way : X → X → Type 0) (a b c : StateOf X) → Reads a b → HasChanged way b c → HasChanged way a c
+became-on way a b c reads turns = record {
+  clean = λ t. reads.clean (turns.clean t);
+  before = λ t. turns.before t ∙ reads.before (turns.clean t);
+  opened = turns.opened;
+  content = λ t. subst (λ x. way x c.content) (reads.content (turns.clean t)) (turns.content t);
+  answers = λ was. turns.answers (reads.answers was);
+  leaves = leaves-on a b c reads.leaves turns.leaves;
+}

@@ -60,3 +60,16 @@ terms_are_set xs ys o value labels new first is written beside read =
       numbered = ap (λ (s : Content). may_be_numbered s.metas) rest ∙ same_number xs o is new (ap (λ (r : Meta). r.id) (sym written)) (ap (λ (r : Meta). r.version) written);
       others = ap (λ (s : Content). record s { metas = xs.metas }) rest;
     }
+
+-- terms that are there already are set
+pub terms_are_there : (xs : Content) (value : Terms) → terms_of xs ≡ Some value → IsTermsSet value xs xs
+terms_are_there xs value read = record {
+  terms = read;
+  days = terms-days (meta_of xs) xs.days xs.accounts value read;
+  clock = refl;
+  accounts = refl;
+  sums = refl;
+  rows = refl;
+  numbered = refl;
+  others = refl;
+}

@@ -36,10 +36,30 @@ pub fn set_clock<S: Alter>(
 }
 
 /// Puts terms down: the row of `meta`, the tables of lengths that aren't there yet, and the ident of each
-/// account whose registrar has a place among the ids. Refused are terms that don't read back as they
-/// are, such as those with a label that has a line feed, with an id of a registrar without an account,
-/// or with other tables than those that are there.
+/// account whose registrar has a place among the ids. Nothing is written where these terms are there
+/// already. Refused are terms that don't read back as they are, such as those with a label that has a
+/// line feed, with an id of a registrar without an account, or with other tables than those that are
+/// there.
 pub fn set_terms<S: Alter>(
+    store: &mut RowStore<S>,
+    alloc: Global,
+    value: &Terms,
+) -> Result<(), BookFault>
+    requires { store.old.is_open ≡ true }
+    ensures { Changes result (IsTermsSet value.now) store.old store.new }
+{
+    let there = terms(store, alloc)?;
+    if are(&there, value) {
+        drop(there);
+        return Ok(());
+    }
+    drop(there);
+    write_terms(store, alloc, value)?;
+    Ok(())
+}
+
+/// Puts terms down, whatever is there.
+fn write_terms<S: Alter>(
     store: &mut RowStore<S>,
     alloc: Global,
     value: &Terms,

@@ -2,6 +2,7 @@ pub mod PutLemmas
 pub mod RecordsLemmas
 pub mod FoundLemmas
 pub mod LinesOnLemmas
+pub mod RenameLemmas
 pub mod OnceLemmas
 pub mod KeptLemmas
 pub mod PostingLemmas

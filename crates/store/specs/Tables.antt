@@ -81,7 +81,11 @@ contact_left name left s = record s { registry = record s.registry { contacts = 
 abbrev pub domain_left : List ℕ → Option Domain → Stored → Stored
 domain_left name left s = with_domains (put_or_drop s.registry.domains name left) s
 
--- a host goes to its new name, where there is such a host and no other has that
+-- a host goes to its new name
+abbrev pub host_moved : List ℕ → Host → Stored → Stored
+host_moved from host s = record s { registry = registry_renamed from host s.registry }
+
+-- the same where there is such a host, and no other has that name
 abbrev pub host_renamed : List ℕ → Host → Stored → Stored
 host_renamed from host s =
     record s { registry = if may_rename s.registry.hosts from host.name then registry_renamed from host s.registry else s.registry }

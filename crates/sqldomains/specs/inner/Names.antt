@@ -1,29 +1,20 @@
 -- Names of domains and hosts, in the order of their bytes.
-use Rattle.std.specs.Prelude.{ℕ, ◌==◌, nat_lt, Bool, count_by, List, [], ◌∷◌, map, filter, Option, Some, None, if◌then◌else◌, is_some, option_map}
+use Rattle.std.specs.Prelude.{ℕ, ◌==◌, nat_lt, Bool, count_by, List, [], ◌∷◌, filter, Option, Some, None, if◌then◌else◌, is_some, option_map}
 use Rattle.std.specs.Cmp.Lexicographic.{slice_cmp}
-use Rattle.std.specs.FinMap.{FinMap, entries, get, insert, keys}
+use Rattle.std.specs.FinMap.{FinMap, get, insert, keys}
 use Rattle.std.specs.Ordering.{nat_cmp}
-use Rattle.sqlite_keyed.specs.Keyed.{get_by}
 use Rattle.objects.specs.declared.domain.Domain.{Domain}
 use Rattle.objects.specs.Hosts.{is_below}
-use Rattle.objects.specs.Links.{names_host}
 use Rattle.sqlcolumns.specs.Above.{above}
 use Rattle.sqlcolumns.specs.Steps.{◌>>=◌}
 use Rattle.sqltables.specs.Content.{Content}
 use Rattle.sqltables.specs.Domain as table
-use Rattle.sqltables.specs.inner.Domain as inner_table
 use Rattle.sqltables.specs.Host.{Host, host_with_above}
-use Rattle.sqltables.specs.Link.{Link}
 use Rattle.sqlobjects.specs.Objects.{hosts_of}
 use Rattle.sqldomains.specs.Domains.{domain_of, domains_of}
 
 abbrev pub domain_names : Content → List (List ℕ)
 domain_names xs = keys (domains_of xs)
-
--- the domains that name a host
-abbrev pub domains_naming : List ℕ → Content → List (List ℕ)
-domains_naming host xs =
-    map (λ e. e.0) (filter (λ e. names_host host e.1.links) (entries (domains_of xs)))
 
 -- ---- read row by row
 
@@ -44,16 +35,6 @@ with_read read m (row ∷ rows) = do
 -- the name of the domain of a row, if it reads
 abbrev pub name_in : Content → table.Domain → Option (List ℕ)
 name_in xs row = option_map (λ (d : Domain). d.name) (domain_of xs row)
-
-abbrev pub if_named : List ℕ → Domain → Option (List ℕ)
-if_named host d = if names_host host d.links then Some d.name else None
-
--- the name of the domain to which a link belongs, if it reads and names the host
-abbrev pub name_naming : List ℕ → Content → Link → Option (List ℕ)
-name_naming host xs link = do
-  row ← get_by inner_table.domains.key xs.domains link.domain
-  d ← domain_of xs row
-  if_named host d
 
 -- ---- hosts
 

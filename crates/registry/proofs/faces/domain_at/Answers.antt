@@ -11,6 +11,6 @@ returns-clause-found g c =
     let p = c.args.policy.now in
     let name = c.args.name.now in
     looks-up p (λ (s : Registry). domain_face_at p s name) c.args.moment c.look.result
-    (g.B.Book.state c.args.book.now) (g.B.Book.state c.catch_up.new.book) (g.B.Book.state c.look.new.book)
-    (reached-by p (λ (s : Registry). domain_face_at p s name) (named_of kinds.Domain name) c.args.moment (g.B.Book.state c.args.book.now) (g.B.Book.state c.catch_up.new.book) (domain-face-now p name) c.in_ok-catch_up.ensures.moved)
+    (g.B.Book.state c.args.book.now) (g.B.Book.state c.settle_object.new.book) (g.B.Book.state c.look.new.book)
+    (reached-by p (λ (s : Registry). domain_face_at p s name) (named_of kinds.Domain name) c.args.moment (g.B.Book.state c.args.book.now) (g.B.Book.state c.settle_object.new.book) (domain-face-now p name) c.in_ok-settle_object.ensures.moved)
     c.look.ensures.follows c.look.ensures.same c.look.ensures.found

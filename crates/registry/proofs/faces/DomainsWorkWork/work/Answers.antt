@@ -8,5 +8,5 @@ domains_at-requires-clause-clock g c = λ clean. (c.in_ok-now.ensures.moved.pass
 pub returns-clause-done : goal.returns-clause-done
 returns-clause-done g c =
     moved-before c.args.policy.now c.args.self.now.moment c.in_ok-now.now c.args.self.now.names.now c.domains_at.result
-    (g.B.Book.state c.args.book.now) (g.B.Book.state c.pass_alone.new.book) (g.B.Book.state c.domains_at.new.book)
+    (g.B.Book.state c.args.book.now) (g.B.Book.state c.settle_nothing.new.book) (g.B.Book.state c.domains_at.new.book)
     c.in_ok-now.ensures.moved c.in_ok-now.ensures.clock c.domains_at.ensures.follows c.domains_at.ensures.found
