@@ -20,7 +20,7 @@ use Rattle.mapbook.specs.declared.plain.Plain.{Plain}
 use Rattle.mapbook.specs.Plain.{at_begin, content_of, plain_records, registry_in}
 use Rattle.store.specs.Book.{Stored}
 use Rattle.objects.specs.declared.host.Host.{Host}
-use Rattle.store.specs.Tables.{host_moved, with_domains}
+use Rattle.store.specs.Tables.{host_moved, host_put, with_domains}
 use Rattle.mapbook.specs.declared.edit.Edit.TheVariants as edit
 use Rattle.mapbook.specs.Edits.{edited}
 use Rattle.mapbook.specs.Renaming.{amended, domains_naming, host_renamed_at, host_renamed_in}
@@ -140,11 +140,11 @@ all-renamed old new s =
     ∙ mapped (λ (d : Domain). names_host old d.links) (with_host_renamed old new) (not-linked old new) s.registry.domains)
 
 -- then it is taken from under the one name and put under the other
-pub moved : (from to : List ℕ) (names : List (List ℕ)) (h : Host) (s : Stored) → to ≡ h.name → names ≡ domains_naming from s.registry
-    → edited (edit.Host to (Some h)) (edited (edit.Host from None) (host_renamed_in from to names s)) ≡ host_moved from h s
-moved from to names h s same named =
-    (λ i. edited (edit.Host (same i) (Some h)) (edited (edit.Host from None) (host_renamed_in from (same i) (named i) s)))
-    ∙ ap (λ (x : Stored). edited (edit.Host h.name (Some h)) (edited (edit.Host from None) x)) (all-renamed from h.name s)
+pub moved : (from : List ℕ) (names : List (List ℕ)) (h : Host) (s : Stored) → names ≡ domains_naming from s.registry
+    → host_put h.name (Some h) (edited (edit.Host from None) (host_renamed_in from h.name names s)) ≡ host_moved from h s
+moved from names h s named =
+    (λ i. host_put h.name (Some h) (edited (edit.Host from None) (host_renamed_in from h.name (named i) s)))
+    ∙ ap (λ (x : Stored). host_put h.name (Some h) (edited (edit.Host from None) x)) (all-renamed from h.name s)
 
 -- ---- while a transaction is open
 

@@ -238,8 +238,7 @@ impl Records for Plain {
     }
 
     fn put_host(&mut self, host: Host) -> Result<(), BookFault> {
-        let name = host.name.clone()?;
-        self.set(Edit::Host(name, Some(host)))
+        self.put_named(host)
     }
 
     fn drop_host(&mut self, name: Text) -> Result<(), BookFault> {

@@ -1,8 +1,8 @@
 //! A host's new name in ordered maps.
-ghost use Rattle.std.specs.Prelude.{◌≡◌, true};
+ghost use Rattle.std.specs.Prelude.{◌≡◌, true, Some};
 ghost use Rattle.mapbook.specs.Plain.{plain_records};
 ghost use Rattle.mapbook.specs.Renaming as spec;
-ghost use Rattle.store.specs.Tables.{host_moved, host_renamed};
+ghost use Rattle.store.specs.Tables.{host_moved, host_put, host_renamed};
 ghost use Rattle.transactions.specs.States.{Makes};
 
 use crate::edit::Edit;
@@ -38,10 +38,19 @@ impl Plain {
             (plain_records self.old) (plain_records self.new) }
     {
         let names = self.content.domains_naming(&from)?;
-        let to = host.name.clone()?;
-        self.rename_in(&from, &to, names.as_slice(), policy)?;
+        self.rename_in(&from, &host.name, names.as_slice(), policy)?;
         self.set(Edit::Host(from, None))?;
-        self.set(Edit::Host(to, Some(host)))
+        self.put_named(host)
+    }
+
+    /// A host stands under its name.
+    pub(crate) fn put_named(&mut self, host: Host) -> Result<(), BookFault>
+        requires { self.old.is_open ≡ true }
+        ensures { Makes result (host_put host.name (Some host) (plain_records self.old).content)
+            (plain_records self.old) (plain_records self.new) }
+    {
+        let name = host.name.clone()?;
+        self.set(Edit::Host(name, Some(host)))
     }
 
     /// Each of these domains names the host of the one name by the other.

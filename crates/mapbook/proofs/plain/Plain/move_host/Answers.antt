@@ -1,6 +1,5 @@
 use Rattle.std.proofs.Common.{◌≡◌, ◌∙◌, Some, None, ap, sym}
-use Rattle.store.specs.Book.{Stored}
-use Rattle.store.specs.Tables.{host_moved}
+use Rattle.store.specs.Tables.{host_moved, host_put}
 use Rattle.store.proofs.RecordsLemmas.{makes-on}
 use Rattle.transactions.proofs.LeavingLemmas.{leaves-on}
 use Rattle.mapbook.specs.declared.edit.Edit.TheVariants as edit
@@ -16,12 +15,12 @@ returns c =
     let s = plain_records c.args.self.now in
     let one = plain_records c.rename_in.new.self in
     let two = plain_records c.set.new.self in
-    let three = plain_records c.set-2.new.self in
+    let three = plain_records c.put_named.new.self in
     let first = c.in_ok-rename_in.ensures {u = tt} in
     let second = c.in_ok-set.ensures {u = tt} in
-    makes-on c.set-2.result s two three (edited (edit.Host c.in_ok-to.to (Some h)) two.content) (host_moved from h s.content)
+    makes-on c.put_named.result s two three (host_put h.name (Some h) two.content) (host_moved from h s.content)
     (λ e. first.clean (second.clean e)) (λ e. second.before e ∙ first.before (second.clean e)) (λ was. second.answers (first.answers was)) (leaves-on s one two first.leaves second.leaves)
     (λ e.
-    ap (edited (edit.Host c.in_ok-to.to (Some h))) (second.content e ∙ ap (edited (edit.Host from None)) (first.content (second.clean e)))
-    ∙ moved from c.in_ok-to.to c.as_slice.result.now h s.content (c.in_ok-to.ensures {u = tt}) (c.as_slice.ensures ∙ c.in_ok-names.ensures {u = tt} ∙ naming-open c.args.self.now from c.requires))
-    c.set-2.ensures
+    ap (host_put h.name (Some h)) (second.content e ∙ ap (edited (edit.Host from None)) (first.content (second.clean e)))
+    ∙ moved from c.as_slice.result.now h s.content (c.as_slice.ensures ∙ c.in_ok-names.ensures {u = tt} ∙ naming-open c.args.self.now from c.requires))
+    c.put_named.ensures
