@@ -33,8 +33,7 @@ pub fn serve_port<M: time::Clock + Print + Net, B: Book + Drop>(
     let (Ok(routes), Ok(watch)) = (Routes::new(alloc), door.watch()) else {
         return registry;
     };
-    let room = Room::new(alloc, Port::Public, listener, &watch, limits.first);
-    let rooms = Rooms::new(room, None);
+    let rooms = Rooms::of_one(Room::new(alloc, Port::Public, listener, &watch, limits.first));
     let mut registry = registry;
     'turns: for _ in 0..u64::MAX {
         let Some(turn) = next_turn(machine, &rooms, &mut door) else {

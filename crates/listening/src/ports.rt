@@ -49,9 +49,9 @@ pub fn serve_ports<M: time::Clock + Print + Net, B: Book + Drop>(
     let (Ok(()), Ok(routes), Ok(watch)) = (added, Routes::new(alloc), door.watch()) else {
         return registry;
     };
-    let rooms = Rooms::new(
+    let rooms = Rooms::of_two(
         Room::new(alloc, Port::Public, public, &watch, limits.first),
-        Some(Room::new(alloc, Port::Office, office.listener, &watch, limits.first)),
+        Room::new(alloc, Port::Office, office.listener, &watch, limits.first),
     );
     let credentials = office.credentials;
     let mut registry = registry;

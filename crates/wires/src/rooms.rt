@@ -16,10 +16,18 @@ pub struct Rooms<'l> {
 }
 
 impl<'l> Rooms<'l> {
-    pub fn new(public: Room<'l>, office: Option<Room<'l>>) -> Rooms<'l> {
+    pub fn of_one(public: Room<'l>) -> Rooms<'l> {
         Rooms {
             public,
-            office,
+            office: None,
+            last: Cell::new(Port::Office),
+        }
+    }
+
+    pub fn of_two(public: Room<'l>, office: Room<'l>) -> Rooms<'l> {
+        Rooms {
+            public,
+            office: Some(office),
             last: Cell::new(Port::Office),
         }
     }
