@@ -193,14 +193,32 @@ fn serve_both<B: Book + Drop>(
     let Ok(listener) = TcpListener::bind(rt, (Ipv4Addr::LOCALHOST, operator_port)) else {
         return Err(Exit::Network);
     };
-    let log = Log::new(rt.alloc(), rt, means.settings.is_quiet, true);
     let office = Office {
         listener: &listener,
         credentials: means.credentials,
     };
-    let limits = &means.settings.limits;
-    serve_ports(rt.alloc(), rt, &public, &office, limits, &log, registry);
+    serve_office(rt, registry, &public, &office, means.settings);
     Err(Exit::Network)
+}
+
+/// Serves connections to both ports.
+fn serve_office<B: Book + Drop>(
+    rt: &HostRuntime,
+    registry: Registry<B>,
+    public: &TcpListener,
+    office: &Office<'_>,
+    settings: &Settings,
+) {
+    let log = Log::new(rt.alloc(), rt, settings.is_quiet, true);
+    serve_ports(
+        rt.alloc(),
+        rt,
+        public,
+        office,
+        &settings.limits,
+        &log,
+        registry,
+    );
 }
 
 /// Prints the zone at a moment.

@@ -10,7 +10,7 @@ const MOST_COUNTS: usize = 10_000;
 #[derive(Drop)]
 pub(crate) struct Tally {
     pub registrar: Vec<u8>,
-    pub command: &'static str,
+    pub command: String,
     /// 0 of a greeting.
     pub code: u16,
     pub times: u64,
@@ -18,7 +18,9 @@ pub(crate) struct Tally {
 
 impl Tally {
     fn is_of(&self, registrar: &[u8], command: &str, code: u16) -> bool {
-        self.code == code && self.command == command && self.registrar.as_slice() == registrar
+        self.code == code
+            && self.command.as_str() == command
+            && self.registrar.as_slice() == registrar
     }
 }
 
@@ -27,7 +29,7 @@ pub(crate) fn count(
     alloc: Global,
     counts: &mut Vec<Tally>,
     registrar: &[u8],
-    command: &'static str,
+    command: &str,
     code: u16,
 ) -> Result<(), AllocError> {
     if let Some(place) = place_of(counts, registrar, command, code) {
@@ -37,6 +39,7 @@ pub(crate) fn count(
     }
     if counts.len() < MOST_COUNTS {
         let registrar = Vec::from_slice(alloc, registrar)?;
+        let command = String::from_str(alloc, command)?;
         counts.push(Tally {
             registrar,
             command,

@@ -28,7 +28,7 @@ fn write_counts(alloc: Global, counts: &[Tally], text: &mut String) -> Result<()
     text.push_str("# TYPE tldreg_commands_total counter\n")?;
     let mut refused = 0u64;
     for it in counts {
-        let (registrar, command) = (plain(alloc, it.registrar.as_slice())?, it.command);
+        let (registrar, command) = (plain(alloc, it.registrar.as_slice())?, it.command.as_str());
         let (code, times) = (it.code, it.times);
         let line = format!(in alloc;
             "tldreg_commands_total{{registrar=\"{registrar}\",command=\"{command}\",code=\"{code}\"}} {times}\n"
