@@ -46,10 +46,10 @@ pub struct Log<'l, M: time::Clock + Print> {
     machine: &'l M,
     is_quiet: bool,
     is_counting: bool,
-    /// The number of the connection whose turn it is, by which port it came, how many commands it sent, and when
-    /// its turn began.
+    /// The number of the connection whose turn it is, whether it came by the operator's port, how many commands it
+    /// sent, and when its turn began.
     connection: Cell<u64>,
-    port: Cell<Port>,
+    is_office: Cell<bool>,
     commands: Cell<u64>,
     began: Cell<Duration>,
     /// The frame or the head that came last, and who is logged in.
@@ -71,7 +71,7 @@ impl<'l, M: time::Clock + Print> Log<'l, M> {
             is_quiet,
             is_counting,
             connection: Cell::new(0),
-            port: Cell::new(Port::Public),
+            is_office: Cell::new(false),
             commands: Cell::new(0),
             began: Cell::new(Duration::ZERO),
             asked: Cell::new(Vec::new(alloc)),
@@ -86,7 +86,7 @@ impl<'l, M: time::Clock + Print> Log<'l, M> {
     /// The turn of a connection of a port begins, which waited so long.
     pub(crate) fn begin(&self, port: Port, waited: Duration, now: Duration) {
         self.connection.set(self.connection.get().wrapping_add(1));
-        self.port.set(port);
+        self.is_office.set(port == Port::Office);
         self.waited.set(self.waited.get().saturating_add(waited));
         self.commands.set(0);
         self.began.set(now);
@@ -148,18 +148,20 @@ impl<'l, M: time::Clock + Print> Log<'l, M> {
 
     /// What answers over HTTP.
     fn service(&self) -> &'static str {
-        match self.port.get() {
-            Port::Public => "rdap",
-            Port::Office => "operator",
+        if self.is_office.get() {
+            "operator"
+        } else {
+            "rdap"
         }
     }
 
     /// The target that a head asks for. On the operator's port one that there isn't may be a slip, so it isn't told.
     fn name_of<'h>(&self, head: &'h [u8]) -> &'h [u8] {
         let target = target_of(head);
-        match self.port.get() {
-            Port::Office if !is_office_target(target) => b"",
-            _ => target,
+        if self.is_office.get() && !is_office_target(target) {
+            b""
+        } else {
+            target
         }
     }
 
