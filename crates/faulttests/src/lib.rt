@@ -3,9 +3,9 @@
 #![tactic(auto)]
 
 #[cfg(test)]
-mod cases;
+mod all_or_nothing;
 #[cfg(test)]
-mod database_written;
+mod cases;
 #[cfg(test)]
 mod disks;
 #[cfg(test)]
@@ -14,10 +14,6 @@ mod exits;
 mod fixtures;
 #[cfg(test)]
 mod lines;
-#[cfg(test)]
-mod log_left;
-#[cfg(test)]
-mod log_written_back;
 #[cfg(test)]
 mod policies;
 #[cfg(test)]

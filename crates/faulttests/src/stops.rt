@@ -20,13 +20,13 @@ const STORE_FAULT: &str = "store fault\n";
 const MANY: u64 = 2000;
 
 #[derive(Clone, Copy, Debug)]
-pub enum Which {
+enum Which {
     Log,
     Database,
 }
 
 #[derive(Clone, Copy, Debug)]
-pub enum How {
+enum How {
     /// Each call after so many fails.
     Stops,
     /// One does, and what comes then is answered or not.
@@ -35,12 +35,22 @@ pub enum How {
 
 /// Pages in the log at which these are written back to the database file: so many that none is here, or each
 /// at once.
-pub const LATER: usize = 1000;
+const LATER: usize = 1000;
 
-pub const AT_ONCE: usize = 1;
+const AT_ONCE: usize = 1;
 
 /// Which file fails, and how, and when the log is written back.
-pub type Trouble = (Which, How, usize);
+type Trouble = (Which, How, usize);
+
+/// The database file is written to only where the log is written back.
+const TROUBLES: [Trouble; 6] = [
+    (Which::Log, How::Stops, LATER),
+    (Which::Log, How::Stumbles, LATER),
+    (Which::Log, How::Stops, AT_ONCE),
+    (Which::Log, How::Stumbles, AT_ONCE),
+    (Which::Database, How::Stops, AT_ONCE),
+    (Which::Database, How::Stumbles, AT_ONCE),
+];
 
 fn limits(how: How, calls: u64) -> Limits {
     match how {
@@ -284,20 +294,27 @@ fn fail_after_each(
     Err(Fail::from("never passes"))
 }
 
-/// Lets a file fail in this way, after each number of calls.
-pub fn leaves_all_or_nothing(
+/// Lets a file fail in each way, after each number of calls.
+fn fail_in_each_way(
     rt: &(impl Abort + AllocGlobal),
     case: &Case,
-    trouble: Trouble,
+    findings: &mut Findings,
 ) -> Result<(), Fail> {
+    for trouble in TROUBLES {
+        fail_after_each(rt, case, trouble, findings)?;
+    }
+    Ok(())
+}
+
+/// Lets a file fail in each way, and compares what is found.
+pub fn leaves_all_or_nothing(rt: &(impl Abort + AllocGlobal), case: &Case) -> Result<(), Fail> {
     let alloc = rt.alloc();
-    let earlier = earlier_image(alloc, case)?;
     let mut findings = Findings {
-        earlier,
+        earlier: earlier_image(alloc, case)?,
         written: Found::nothing(alloc),
         synchronised: Found::nothing(alloc),
     };
-    let failed = fail_after_each(rt, case, trouble, &mut findings);
+    let failed = fail_in_each_way(rt, case, &mut findings);
     drop(findings);
     failed
 }
